@@ -1,0 +1,103 @@
+ghost use Rattle.std.specs.Prelude.{◌≡◌, ◌+◌, ◌<◌, ◌≤◌, [], ◌++◌, length, max, IfOk, OnOk, OnErr};
+
+use crate::NoMemory;
+use std::alloc::Global;
+use std::marker::Model;
+
+/// A list of bytes with room for more: appending within the room takes no memory.
+#[derive(Debug, Drop)]
+pub struct Bytes {
+    items: Vec<u8>,
+    room: usize,
+}
+
+impl Model for Bytes {
+    ghost use Rattle.std.specs.Prelude.{◌+◌, ◌≤◌, vec_len, vec_capacity};
+    ghost use Rattle.vt_base.specs.Bytes.{Text};
+
+    ghost Value = { Text };
+
+    ghost view = { λ b. record { bytes = b.items.items; room = b.room } };
+
+    ghost invariant = { λ b. vec_len b.items + b.room ≤ vec_capacity b.items };
+}
+
+impl Bytes {
+    /// A copy of the bytes of `b`, with no room.
+    pub fn from_slice(alloc: Global, b: &[u8]) -> Result<Bytes, NoMemory>
+        ensures bytes { IfOk result (λ text. text.bytes ≡ b.now) }
+        ensures room { IfOk result (λ text. text.room ≡ 0) }
+    {
+        let items = Vec::from_slice(alloc, b)?;
+        Ok(Bytes { items, room: 0 })
+    }
+
+    /// No bytes, and room for `n`.
+    pub fn with_room(alloc: Global, n: usize) -> Result<Bytes, NoMemory>
+        ensures bytes { IfOk result (λ text. text.bytes ≡ []) }
+        ensures room { IfOk result (λ text. text.room ≡ n) }
+    {
+        let items = Vec::with_capacity(alloc, n)?;
+        Ok(Bytes { items, room: n })
+    }
+
+    /// The bytes in order.
+    pub fn as_slice(&self) -> &[u8]
+        ensures { result.now ≡ self.now.bytes }
+    {
+        self.items.as_slice()
+    }
+
+    /// How many more bytes fit.
+    pub fn room(&self) -> usize
+        ensures { result ≡ self.now.room }
+    {
+        self.room
+    }
+
+    /// Adds the bytes of `b` at the end, in the room that is there.
+    pub fn append(&mut self, b: &[u8])
+        requires { length b.now ≤ self.old.room }
+        ensures bytes { self.new.bytes ≡ self.old.bytes ++ b.now }
+        ensures room { self.new.room + length b.now ≡ self.old.room }
+    {
+        let added = self.items.extend_from_slice(b);
+        prove!(added.is_ok());
+        let _ = added;
+        self.room -= b.len();
+    }
+
+    /// Makes room for at least `n` more bytes. Where they fit already it takes no memory.
+    pub fn grow(&mut self, alloc: Global, n: usize) -> Result<(), NoMemory>
+        ensures bytes { self.new.bytes ≡ self.old.bytes }
+        ensures ok { OnOk result (self.new.room ≡ max self.old.room n) }
+        ensures err { OnErr result ((self.old.room < n) × (self.new ≡ self.old)) }
+    {
+        let _ = alloc;
+        if n <= self.room {
+            return Ok(());
+        }
+        self.items.reserve(n)?;
+        self.room = n;
+        Ok(())
+    }
+}
+
+#[cfg(test)]
+mod tests {
+    use super::*;
+    use std::test::Fail;
+
+    #[test]
+    fn grows_by_what_is_asked(rt: HostRuntime) -> Result<(), Fail> {
+        let mut text = Bytes::from_slice(rt.alloc(), b"ab")?;
+        assert_eq!(rt; text.room(), 0);
+        text.grow(rt.alloc(), 3)?;
+        text.append(b"c");
+        assert_eq!(rt; text.as_slice(), b"abc".as_slice());
+        assert_eq!(rt; text.room(), 2);
+        assert_eq!(rt; Bytes::with_room(rt.alloc(), 5)?.room(), 5);
+        assert_eq!(rt; NoMemory.to_string(rt.alloc())?.as_str(), "no memory");
+        Ok(())
+    }
+}

@@ -1,0 +1,13 @@
+//! The laws of a run, which hold of every screen and every text.
+ghost use Rattle.vt_grid.specs.Run.{AnyCutJoins, AnyCutParts, OneResult};
+
+/// The bytes alone decide what a run makes of a screen.
+pub fn one_result()
+    ensures { OneResult }
+{}
+
+/// However a text is cut into parts, running the parts in turn is running the whole.
+pub fn any_cut()
+    ensures joins { AnyCutJoins }
+    ensures parts { AnyCutParts }
+{}

@@ -1,0 +1,50 @@
+ghost use Rattle.std.specs.Prelude.{◌≡◌, ◌<◌, [], ◌∷◌, ◌++◌, length};
+
+use arrayvec::ArrayVec;
+use std::marker::Model;
+
+/// The bytes of a report, of which there are at most 16.
+#[derive(Debug, Drop)]
+pub struct ReportText {
+    bytes: ArrayVec<u8, 16>,
+}
+
+impl Model for ReportText {
+    ghost use Rattle.std.specs.Prelude.{ℕ, List};
+
+    ghost Value = { List ℕ };
+
+    ghost view = { λ t. t.bytes.items };
+}
+
+impl ReportText {
+    /// No bytes yet.
+    pub fn new() -> ReportText
+        ensures { result ≡ [] }
+    {
+        ReportText {
+            bytes: ArrayVec::new(),
+        }
+    }
+
+    /// Adds a byte at the end.
+    pub fn push(&mut self, b: u8)
+        requires { length self.old < 16 }
+        ensures { self.new ≡ self.old ++ b ∷ [] }
+    {
+        self.bytes.push(b);
+    }
+
+    /// The bytes in order.
+    pub fn as_slice(&self) -> &[u8]
+        ensures { result.now ≡ self.now }
+    {
+        self.bytes.as_slice()
+    }
+}
+
+impl Default for ReportText {
+    fn default() -> ReportText {
+        ReportText::new()
+    }
+}

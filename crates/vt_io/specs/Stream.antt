@@ -1,0 +1,16 @@
+-- What the layers above know of a source or a sink.
+use Rattle.std.specs.Prelude.{ℕ, ◌<◌, ◌≤◌, List, length, take, Option, Result, IfOk}
+use Rattle.std.specs.Io.KnownBytes.{Appends}
+
+-- the bytes that are left or held, where the stream tells them, and its count of faults
+pub record Stream : Type 0 where
+  pub told : Option (List ℕ)
+  pub faults : ℕ
+
+-- the bytes held have grown by a prefix of the text
+abbrev pub GrowsByPrefix : Option (List ℕ) → Option (List ℕ) → List ℕ → Type 0
+GrowsByPrefix old new text = (n : ℕ) × Appends old new (take n text)
+
+-- a write of a piece that isn't empty takes at least one byte of it
+abbrev pub MovesOn : {E : Type 0} → Result ℕ E → List ℕ → Type 0
+MovesOn result piece = 0 < length piece → IfOk result (λ n. 1 ≤ n)

@@ -1,0 +1,24 @@
+//! Where bytes come from and go to: sources and sinks, in memory and over the real streams.
+#![tactic(auto)]
+
+mod cursor;
+mod failed;
+mod mem_sink;
+mod mem_source;
+mod no_fault_source;
+mod retries;
+mod sink;
+mod source;
+mod std_sink;
+mod std_source;
+#[cfg(test)]
+mod tests;
+
+pub use failed::Failed;
+pub use mem_sink::MemSink;
+pub use mem_source::MemSource;
+pub use no_fault_source::NoFaultSource;
+pub use sink::Sink;
+pub use source::Source;
+pub use std_sink::StdSink;
+pub use std_source::StdSource;

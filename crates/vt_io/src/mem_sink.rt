@@ -1,0 +1,83 @@
+ghost use Rattle.std.specs.Prelude.{Some, ◌≡◌};
+ghost use Rattle.std.specs.Io.{WritesAtMost};
+ghost use Rattle.std.specs.Io.KnownBytes.{WriteAppends};
+ghost use Rattle.vt_io.specs.Faults.{HasCause};
+ghost use Rattle.vt_io.specs.Memory.{Writes};
+ghost use Rattle.vt_io.specs.Stream.{MovesOn};
+
+use crate::cursor::Cursor;
+use crate::{Failed, Sink};
+use std::marker::Model;
+use vt_base::Bytes;
+
+/// A sink in memory: it keeps what fits its room, and has a fault at each call that is named for
+/// one and where a piece finds no room.
+#[derive(Debug, Drop)]
+pub struct MemSink {
+    bytes: Bytes,
+    fails: Cursor,
+    faults: u64,
+}
+
+impl Model for MemSink {
+    ghost use Rattle.vt_io.specs.Memory.{SinkState};
+
+    ghost Value = { SinkState };
+
+    ghost view = { λ s. record {
+      held = s.bytes.bytes;
+      room = s.bytes.room;
+      fails = s.fails;
+      faults = s.faults;
+    } };
+}
+
+impl MemSink {
+    /// A sink that keeps at most the bytes that `room` has room for, behind those that `room` has
+    /// already. Of its calls, from 0, call k fails where byte k of `fails` is there and isn't 0.
+    pub fn new(room: Bytes, fails: Bytes) -> MemSink
+        ensures held { result.held ≡ room.bytes }
+        ensures room { result.room ≡ room.room }
+        ensures fails { result.fails ≡ fails.bytes }
+        ensures faults { result.faults ≡ 0 }
+    {
+        MemSink {
+            bytes: room,
+            fails: Cursor::new(fails),
+            faults: 0,
+        }
+    }
+
+    /// The bytes that it holds, in order.
+    pub fn held(&self) -> &[u8]
+        ensures { result.now ≡ self.now.held }
+    {
+        self.bytes.as_slice()
+    }
+}
+
+impl Sink for MemSink {
+    ghost held = { λ s. Some s.held };
+
+    ghost faults = { λ s. s.faults };
+
+    fn write(&mut self, buf: &[u8]) -> Result<usize, Failed>
+        ensures bound { WritesAtMost result buf.now }
+        ensures bytes { WriteAppends (Some self.old.held) (Some self.new.held) result buf.now }
+        ensures moves { MovesOn result buf.now }
+        ensures cause { HasCause self.old.faults self.new.faults result }
+        ensures exact { Writes self.old self.new buf.now result }
+    {
+        if self.fails.take_flag() {
+            self.faults = self.faults.saturating_add(1);
+            return Err(Failed);
+        }
+        let count = buf.len().min(self.bytes.room());
+        if count == 0 && !buf.is_empty() {
+            self.faults = self.faults.saturating_add(1);
+            return Err(Failed);
+        }
+        self.bytes.append(&buf[..count]);
+        Ok(count)
+    }
+}

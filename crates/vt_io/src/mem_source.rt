@@ -1,0 +1,61 @@
+ghost use Rattle.std.specs.Prelude.{Some, ◌≡◌};
+ghost use Rattle.std.specs.Io.{ReadsAtMost};
+ghost use Rattle.std.specs.Io.KnownBytes.{ReadConsumes};
+ghost use Rattle.vt_io.specs.Faults.{HasCause};
+ghost use Rattle.vt_io.specs.Memory.{Reads};
+
+use crate::cursor::Cursor;
+use crate::{Failed, Source};
+use std::marker::Model;
+use vt_base::Bytes;
+
+/// A source in memory: its bytes in order, and a fault at each call that is named for one.
+#[derive(Debug, Drop)]
+pub struct MemSource {
+    left: Cursor,
+    fails: Cursor,
+    faults: u64,
+}
+
+impl Model for MemSource {
+    ghost use Rattle.vt_io.specs.Memory.{SourceState};
+
+    ghost Value = { SourceState };
+
+    ghost view = { λ s. record { left = s.left; fails = s.fails; faults = s.faults } };
+}
+
+impl MemSource {
+    /// A source of `bytes`, of whose calls, from 0, call k fails exactly where byte k of `fails` is
+    /// there and isn't 0.
+    pub fn new(bytes: Bytes, fails: Bytes) -> MemSource
+        ensures left { result.left ≡ bytes.bytes }
+        ensures fails { result.fails ≡ fails.bytes }
+        ensures faults { result.faults ≡ 0 }
+    {
+        MemSource {
+            left: Cursor::new(bytes),
+            fails: Cursor::new(fails),
+            faults: 0,
+        }
+    }
+}
+
+impl Source for MemSource {
+    ghost left = { λ s. Some s.left };
+
+    ghost faults = { λ s. s.faults };
+
+    fn read(&mut self, buf: &mut [u8]) -> Result<usize, Failed>
+        ensures bound { ReadsAtMost result buf.new }
+        ensures bytes { ReadConsumes (Some self.old.left) (Some self.new.left) result buf.new }
+        ensures cause { HasCause self.old.faults self.new.faults result }
+        ensures exact { Reads self.old self.new buf.old buf.new result }
+    {
+        if self.fails.take_flag() {
+            self.faults = self.faults.saturating_add(1);
+            return Err(Failed);
+        }
+        Ok(self.left.read(buf))
+    }
+}

@@ -1,0 +1,23 @@
+ghost use Rattle.std.specs.Prelude.{ℕ, List, Option};
+ghost use Rattle.std.specs.Io.{WritesAtMost};
+ghost use Rattle.std.specs.Io.KnownBytes.{WriteAppends};
+ghost use Rattle.vt_io.specs.Faults.{HasCause};
+ghost use Rattle.vt_io.specs.Stream.{MovesOn};
+
+use crate::Failed;
+
+/// Where bytes go to.
+pub trait Sink {
+    // The bytes held, where they are known.
+    ghost held: { Self → Option (List ℕ) };
+
+    ghost faults: { Self → ℕ };
+
+    /// Takes bytes from the front of `buf` and gives their number, at least 1 where `buf` isn't
+    /// empty. A write that fails takes nothing.
+    fn write(&mut self, buf: &[u8]) -> Result<usize, Failed>
+        ensures bound { WritesAtMost result buf.now }
+        ensures bytes { WriteAppends (held self.old) (held self.new) result buf.now }
+        ensures moves { MovesOn result buf.now }
+        ensures cause { HasCause (faults self.old) (faults self.new) result };
+}

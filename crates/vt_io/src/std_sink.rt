@@ -1,0 +1,67 @@
+ghost use Rattle.std.specs.Prelude.{None, ◌≡◌, MatchResult};
+ghost use Rattle.std.specs.Io.{WritesAtMost};
+ghost use Rattle.std.specs.Io.KnownBytes.{WriteAppends};
+ghost use Rattle.vt_io.specs.Faults.{HasCause, one_more};
+ghost use Rattle.vt_io.specs.Stream.{MovesOn};
+
+use crate::retries::RETRIES;
+use crate::{Failed, Sink};
+use std::io::{ErrorKind, Write};
+use std::marker::Model;
+
+/// A sink over a writer of std, which tells nothing of its bytes. A write that was interrupted is
+/// tried again as a source's read is. A write that takes no byte of a piece that has some is a
+/// fault.
+#[derive(Debug, Drop)]
+pub struct StdSink<W> {
+    writer: W,
+    faults: u64,
+}
+
+impl<W> Model for StdSink<W> {
+    ghost use Rattle.std.specs.Prelude.{ℕ};
+
+    // The count of faults.
+    ghost Value = { ℕ };
+
+    ghost view = { λ s. s.faults };
+}
+
+impl<W> StdSink<W> {
+    /// A sink over `w`, with no fault counted.
+    pub fn new(w: W) -> StdSink<W>
+        ensures { result ≡ 0 }
+    {
+        StdSink {
+            writer: w,
+            faults: 0,
+        }
+    }
+}
+
+impl<W: Write> Sink for StdSink<W> {
+    ghost held = { λ _. None };
+
+    ghost faults = { λ count. count };
+
+    fn write(&mut self, buf: &[u8]) -> Result<usize, Failed>
+        ensures bound { WritesAtMost result buf.now }
+        ensures bytes { WriteAppends None None result buf.now }
+        ensures moves { MovesOn result buf.now }
+        ensures cause { HasCause self.old self.new result }
+        ensures count { MatchResult result
+            (λ _. self.new ≡ self.old)
+            (λ _. self.new ≡ one_more self.old) }
+    {
+        for _ in 0..=RETRIES {
+            match self.writer.write(buf) {
+                Ok(0) if !buf.is_empty() => break,
+                Ok(count) => return Ok(count),
+                Err(error) if error.kind() == ErrorKind::Interrupted => {}
+                Err(_) => break,
+            }
+        }
+        self.faults = self.faults.saturating_add(1);
+        Err(Failed)
+    }
+}

@@ -1,0 +1,64 @@
+ghost use Rattle.std.specs.Prelude.{None, ◌≡◌, MatchResult};
+ghost use Rattle.std.specs.Io.{ReadsAtMost};
+ghost use Rattle.std.specs.Io.KnownBytes.{ReadConsumes};
+ghost use Rattle.vt_io.specs.Faults.{HasCause, one_more};
+
+use crate::retries::RETRIES;
+use crate::{Failed, Source};
+use std::io::{ErrorKind, Read};
+use std::marker::Model;
+
+/// A source over a reader of std, which tells nothing of its bytes. A read that was interrupted is
+/// tried again, at most [`RETRIES`] times in a call; one more interruption, and every other error,
+/// is a fault.
+#[derive(Debug, Drop)]
+pub struct StdSource<R> {
+    reader: R,
+    faults: u64,
+}
+
+impl<R> Model for StdSource<R> {
+    ghost use Rattle.std.specs.Prelude.{ℕ};
+
+    // The count of faults.
+    ghost Value = { ℕ };
+
+    ghost view = { λ s. s.faults };
+}
+
+impl<R> StdSource<R> {
+    /// A source over `r`, with no fault counted.
+    pub fn new(r: R) -> StdSource<R>
+        ensures { result ≡ 0 }
+    {
+        StdSource {
+            reader: r,
+            faults: 0,
+        }
+    }
+}
+
+impl<R: Read> Source for StdSource<R> {
+    ghost left = { λ _. None };
+
+    ghost faults = { λ count. count };
+
+    fn read(&mut self, buf: &mut [u8]) -> Result<usize, Failed>
+        ensures bound { ReadsAtMost result buf.new }
+        ensures bytes { ReadConsumes None None result buf.new }
+        ensures cause { HasCause self.old self.new result }
+        ensures count { MatchResult result
+            (λ _. self.new ≡ self.old)
+            (λ _. self.new ≡ one_more self.old) }
+    {
+        for _ in 0..=RETRIES {
+            match self.reader.read(buf) {
+                Ok(count) => return Ok(count),
+                Err(error) if error.kind() == ErrorKind::Interrupted => {}
+                Err(_) => break,
+            }
+        }
+        self.faults = self.faults.saturating_add(1);
+        Err(Failed)
+    }
+}

@@ -1,0 +1,126 @@
+-- A run is complete: where a known command's input is there and no fault comes, the run has its
+-- outcome.
+use Rattle.std.proofs.Common.{◌≡◌, ℕ, ◌⊎◌, inl, inr, List, [], ◌∷◌, ◌++◌, length, Option, Some, None, sym, ap, ◌∙◌, subst, append-nil, arith, length-append, ⊎_elim}
+use Rattle.std.specs.Prelude.{codes, decimal}
+use Rattle.std.proofs.lemmas.Fmt.{decimal_injective}
+use Rattle.std.specs.Io.KnownBytes.{Appends, Consumes, IsAtEnd}
+use Rattle.vt_io.specs.Faults.{Rose}
+use Rattle.vt_io.specs.Stream.{Stream}
+use Rattle.vt_tool.specs.Input.{intake_of, ReadsAll, StopsAtFault, PassesLimit, Offers}
+use Rattle.vt_tool.specs.Outcome.{Outcome, Gives}
+use Rattle.vt_tool.specs.Run.{Answers, Begins, Tells, ProgramRun, Completes}
+use Rattle.vt_tool.specs.Words.{AreWordsOf}
+use Rattle.vt_tool.specs.declared.command.Command.{Command}
+use Rattle.vt_tool.specs.declared.command.Command.TheVariants.{Screen}
+use Rattle.vt_tool.specs.declared.intake.Intake.{Intake}
+use Rattle.vt_tool.specs.declared.intake.Intake.TheVariants.{ToEnd}
+use Rattle.vt_tool.specs.declared.status.Status.{Status}
+use Rattle.vt_tool.specs.declared.status.Status.TheVariants.{Fine, Usage, ReadFault, WriteFault, NoMemory, Refused, TooLong}
+
+-- two commands of the same words are one
+one_command : (a b : Command) (words : List (List ℕ)) → AreWordsOf a words → AreWordsOf b words
+    → a ≡ b
+one_command (Screen rows cols) (Screen rows' cols') words first second =
+    let same : codes "screen" ∷ decimal rows ∷ decimal cols ∷ []
+    ≡ codes "screen" ∷ decimal rows' ∷ decimal cols' ∷ [] =
+    sym first.spelled ∙ second.spelled in
+    let tall : decimal rows ≡ decimal rows' = cc in
+    let wide : decimal cols ≡ decimal cols' = cc in
+    let fit = first.fit in
+    let fit' = second.fit in
+    let same_rows : rows ≡ rows' =
+    decimal_injective rows rows' (omega (arith, fit.0.1)) (omega (arith, fit'.0.1)) tall in
+    let same_cols : cols ≡ cols' =
+    decimal_injective cols cols' (omega (arith, fit.1.1)) (omega (arith, fit'.1.1)) wide in
+    λ i. Screen (same_rows i) (same_cols i)
+
+-- a source that stopped at a fault has counted it
+stop-rose : (i : Intake) (src src' : Stream) → StopsAtFault i src src' → Rose src.faults src'.faults
+stop-rose (ToEnd limit) src src' stops = stops.0
+
+-- the bytes taken of known ones are a prefix of these
+taken-prefix : (known : List ℕ) (told told' : Option (List ℕ)) (taken : List ℕ)
+    → told ≡ Some known → Consumes told told' taken
+    → (rest : List ℕ) × (known ≡ taken ++ rest)
+taken-prefix known None told' taken is gave =
+    let clash : None ≡ Some known = is in
+    absurd (let impossible : ⊥ = cc in impossible)
+taken-prefix known (Some xs) None taken is gave = absurd gave
+taken-prefix known (Some xs) (Some ys) taken is gave = (ys, (let e : known ≡ xs = cc in e) ∙ gave)
+
+-- no more bytes than offered are taken
+not-past : (i : Intake) (src src' : Stream) (input : List ℕ) → Offers i src input
+    → PassesLimit i src src' → ⊥
+not-past (ToEnd limit) src src' input offered (taken, gave, past) =
+    let (rest, whole) = taken-prefix input src.told src'.told taken offered.0 gave in
+    omega (arith, length-append taken rest, ap length whole, past, offered.1)
+
+-- what was read to the end is what was offered
+whole-input : (known input : List ℕ) (told told' : Option (List ℕ)) → told ≡ Some known
+    → Consumes told told' input → IsAtEnd told' → input ≡ known
+whole-input known input None told' is gave end =
+    let clash : None ≡ Some known = is in
+    absurd (let impossible : ⊥ = cc in impossible)
+whole-input known input (Some xs) None is gave end = absurd gave
+whole-input known input (Some xs) (Some ys) is gave end =
+    sym ((let e : known ≡ xs = cc in e) ∙ gave ∙ ap (λ rest. input ++ rest) end ∙ append-nil input)
+
+read-offered : (i : Intake) (src src' : Stream) (known input : List ℕ) → Offers i src known
+    → ReadsAll i src src' input → input ≡ known
+read-offered (ToEnd limit) src src' known input offered read =
+    whole-input known input src.told src'.told offered.0 read.0 read.1
+
+-- where err had no fault, the status is the first one
+tells-first : (first : Status) (err err' : Stream) (status : Status)
+    → ¬ Rose err.faults err'.faults → Tells first err err' status → status ≡ first
+tells-first first err err' status none tells =
+    ⊎_elim (λ told. told.0) (λ failed. absurd (none failed.2)) tells
+
+module _ (IsKnown : Command → Type 0) (words : List (List ℕ)) (src src' out out' : Stream)
+    (status : Status) (command : Command) (input : List ℕ) (known : IsKnown command)
+    (spelled : AreWordsOf command words) (offered : Offers (intake_of command) src input)
+    (no_read : ¬ Rose src.faults src'.faults) (no_write : ¬ Rose out.faults out'.faults)
+  where
+    -- the run has an outcome of the command
+    abbrev HasOutcome : Type 0
+    HasOutcome =
+        (outcome : Outcome) × Gives command input outcome × (status ≡ outcome.status)
+        × Appends out.told out'.told outcome.text
+
+    answered : (other : Command) (first : Status) → status ≡ first → AreWordsOf other words
+        → Answers other src src' out out' first → HasOutcome
+    answered other first is spelled' answers =
+        let same : other ≡ command = one_command other command words spelled' spelled in
+        let read : ReadsAll (intake_of command) src src' answers.input =
+        subst (λ (c : Command). ReadsAll (intake_of c) src src' answers.input) same answers.read in
+        let all : answers.input ≡ input =
+        read-offered (intake_of command) src src' input answers.input offered read in
+        let outcome : Outcome = record { status = first; text = answers.text } in
+        let gives : Gives command input outcome =
+        subst (λ (bytes : List ℕ). Gives command bytes outcome) all
+        (subst (λ (c : Command). Gives c answers.input outcome) same answers.gives) in
+        (outcome, gives, is, answers.written)
+
+    pub completed : (first : Status) → status ≡ first → Begins IsKnown words src src' out out' first
+        → (status ≡ NoMemory) ⊎ HasOutcome
+    completed Usage is begins = absurd (begins.0 command known spelled)
+    completed ReadFault is (other, known', spelled', holds) =
+        absurd (no_read (stop-rose (intake_of other) src src' holds.0))
+    completed TooLong is (other, known', spelled', holds) =
+        let same : other ≡ command = one_command other command words spelled' spelled in
+        absurd (not-past (intake_of command) src src' input offered
+        (subst (λ (c : Command). PassesLimit (intake_of c) src src') same holds.0))
+    completed NoMemory is begins = inl is
+    completed WriteFault is (other, known', spelled', holds) = absurd (no_write holds.0)
+    completed Fine is (other, known', spelled', holds) = inr (answered other Fine is spelled' holds)
+    completed (Refused code a b) is (other, known', spelled', holds) =
+        inr (answered other (Refused code a b) is spelled' holds)
+
+pub run-completes : (IsKnown : Command → Type 0) (words : List (List ℕ))
+    (src src' out out' err err' : Stream) (status : Status)
+    → ProgramRun IsKnown words src src' out out' err err' status
+    → Completes IsKnown words src src' out out' err err' status
+run-completes IsKnown words src src' out out' err err' status run command input known spelled
+    offered no_read no_write no_tell =
+    completed IsKnown words src src' out out' status command input known spelled offered no_read
+    no_write run.first (tells-first run.first err err' status no_tell run.tells) run.begins

@@ -1,0 +1,80 @@
+-- Words and the decimal digits of numbers.
+use Rattle.std.proofs.Common.{◌≡◌, ◌≢◌, ℕ, zero, suc, ◌+◌, ◌*◌, ◌-◌, ◌<◌, ◌≤◌, ◌^◌, Bool, true, false, eqb, true≢false, ◌⊎◌, ⊎_elim, refl, List, [], ◌∷◌, length, get_or, sym, ap, ◌∙◌, arith, rules, lit<}
+use Rattle.std.specs.Prelude.{decimal, Result, Ok, Err, IfSome, IfNone}
+use Rattle.std.specs.Bool.{OnFalse}
+use Rattle.std.specs.Result.{result_ok}
+use Rattle.std.specs.Str.Parse.{ParsesUnsigned}
+use Rattle.std.specs.Str.{all_ascii_digits}
+use Rattle.std.proofs.lemmas.Fmt.{decimal_digit, decimal_nonempty, decimal_injective, first_decimal, decimal-digits_value, parse-decimal}
+use Rattle.std.proofs.lemmas.Str.Parse.{IsNumeralModel, numerals_by_fold, parse_plain}
+use Rattle.vt_tool.specs.Words.{IsSide}
+use Rattle.vt_tool.specs.Number.{IsNoNumber, IsPlain}
+
+-- the number that digits write
+pub read_on : ℕ → List ℕ → ℕ
+read_on n [] = n
+read_on n (c ∷ cs) = read_on (10 * n + (c - 48)) cs
+
+pub numerals : IsNumeralModel (λ ds. all_ascii_digits ds ≡ true) (read_on 0)
+unfolding read_on
+numerals = numerals_by_fold _ (search rules) read_on (search rules)
+
+-- no number is spelled by no digit
+pub none_without_digits : (word : List ℕ) → length word ≡ 0 → IsNoNumber word
+none_without_digits word empty n fits is = omega (arith, decimal_nonempty n fits, ap length is)
+
+-- the first digit of a number
+first-digit : (n : ℕ) → n < 2 ^ 64 → 48 ≤ get_or (decimal n) 0 0
+first-digit zero fits = omega (arith, ap (λ ds. get_or ds 0 0) (decimal_digit 0 (lit< tt)))
+first-digit (suc n) fits = omega (arith, first_decimal (suc n) (omega arith) fits)
+
+-- no number is spelled with a plus
+pub none_with_plus : (word : List ℕ) → get_or word 0 0 ≡ 43 → IsNoNumber word
+none_with_plus word plus n fits is = omega (arith, first-digit n fits, ap (λ ds. get_or ds 0 0) is)
+
+-- no number but 0 is spelled with a leading zero
+pub none_with_zero : (word : List ℕ) → get_or word 0 0 ≡ 48 → length word ≢ 1 → IsNoNumber word
+none_with_zero word leading long zero fits is =
+    long (sym (ap length is) ∙ ap length (decimal_digit 0 (lit< tt)))
+none_with_zero word leading long (suc n) fits is =
+    omega (arith, first_decimal (suc n) (omega arith) fits, ap (λ ds. get_or ds 0 0) is)
+
+-- what parse reads of a plain word is the number that it spells
+pub found_by_parse : (E : Type 0) (word : List ℕ) (r : Result ℕ E) → ParsesUnsigned 64 10 word r
+    → IsPlain word → IfSome (result_ok r) (λ n. decimal n ≡ word)
+found_by_parse E word (Ok n) parsed plain =
+    let read = parse_plain numerals {E = E} 64 word (Ok n) parsed plain.no_plus in
+    ap decimal read.1
+    ∙ decimal-digits_value numerals word read.0.0 plain.some plain.no_zero read.0.2
+found_by_parse E word (Err e) parsed plain = tt
+
+-- and where parse reads none, it spells none
+pub none_by_parse : (E : Type 0) (word : List ℕ) (r : Result ℕ E) → ParsesUnsigned 64 10 word r
+    → IfNone (result_ok r) (IsNoNumber word)
+none_by_parse E word (Ok n) parsed = tt
+none_by_parse E word (Err e) parsed =
+    λ n fits is.
+    let clash : Err e ≡ Ok n =
+    parse-decimal {E = E} 64 n word (Err e) fits fits (sym is) parsed in
+    cc
+
+-- a word that spells a number out of the range spells none in it
+pub no_side : (word : List ℕ) (n : ℕ) → n < 2 ^ 64 → decimal n ≡ word
+    → ((n ≡ 0) ⊎ ((n ≢ 0) × (255 < n))) → (side : ℕ) → IsSide side → decimal side ≢ word
+no_side word n fits spelled out side in_range is =
+    let same : side ≡ n =
+    decimal_injective side n (omega (arith, in_range.1)) fits (is ∙ sym spelled) in
+    ⊎_elim
+    (λ none. let impossible : ⊥ = omega (arith, none, same, in_range.0) in impossible)
+    (λ more. let impossible : ⊥ = omega (arith, more.1, same, in_range.1) in impossible)
+    out
+
+-- the same, where the test is made
+pub none_with_zero_and_more : (word : List ℕ) → get_or word 0 0 ≡ 48
+    → OnFalse (eqb (length word) 1) (IsNoNumber word)
+none_with_zero_and_more word leading = by_test (eqb (length word) 1) refl
+  where
+    by_test : (b : Bool) → eqb (length word) 1 ≡ b → OnFalse b (IsNoNumber word)
+    by_test true is = tt
+    by_test false is =
+        none_with_zero word leading (λ one. true≢false (sym (ap (λ n. eqb n 1) one) ∙ is))

@@ -1,0 +1,4 @@
+mod Complete
+mod Decimals
+pub mod Streams
+mod Texts

@@ -1,0 +1,18 @@
+use Rattle.std.proofs.Common.{sym, subst}
+use Rattle.vt_io.specs.Stream.{Stream}
+use Rattle.vt_tool.specs.Run.{Tells}
+use Rattle.vt_tool.specs.declared.status.Status.{Status}
+use Rattle.vt_tool.proofs.telling.tell.Goals as goal
+
+pub returns-in-Refused : goal.returns-in-Refused
+returns-in-Refused g c =
+    let err : Stream = record {
+      told = g.E.Sink.held c.args.err.now;
+      faults = g.E.Sink.faults c.args.err.now;
+    } in
+    let err' : Stream = record {
+      told = g.E.Sink.held c.say-in-Refused.new.err;
+      faults = g.E.Sink.faults c.say-in-Refused.new.err;
+    } in
+    subst (λ (first : Status). Tells first err err' c.say-in-Refused.result)
+    (sym c.in-Refused.is) c.say-in-Refused.ensures

@@ -1,0 +1,48 @@
+-- What a command reads of the source: one case for each way of reading.
+use Rattle.std.specs.Prelude.{◌≡◌, ℕ, ◌<◌, ◌≤◌, List, length, Some}
+use Rattle.std.specs.Io.KnownBytes.{Consumes, IsAtEnd}
+use Rattle.vt_io.specs.Faults.{Rose}
+use Rattle.vt_io.specs.Stream.{Stream}
+use Rattle.vt_tool.specs.declared.command.Command.{Command}
+use Rattle.vt_tool.specs.declared.command.Command.TheVariants.{Screen}
+use Rattle.vt_tool.specs.declared.intake.Intake.{Intake}
+use Rattle.vt_tool.specs.declared.intake.Intake.TheVariants.{ToEnd}
+
+-- the most bytes of input that `screen` reads; this project's own
+abbrev pub screen_limit : ℕ
+screen_limit = 67108864
+
+-- how much of the source a command reads, one case for each command
+abbrev pub intake_of : Command → Intake
+intake_of (Screen rows cols) = ToEnd screen_limit
+
+-- the input isn't longer than the command takes
+abbrev pub IsWithin : Intake → List ℕ → Type 0
+IsWithin (ToEnd limit) input = length input ≤ limit
+
+-- the source has given these bytes, and they stay read
+abbrev pub Takes : Stream → Stream → List ℕ → Type 0
+Takes src src' bytes = Consumes src.told src'.told bytes
+
+-- the whole input was read, to the source's end
+abbrev pub ReadsAll : Intake → Stream → Stream → List ℕ → Type 0
+ReadsAll (ToEnd limit) src src' input =
+    Takes src src' input × IsAtEnd src'.told × IsWithin (ToEnd limit) input
+
+-- some of the input was read
+abbrev pub ReadsSome : Intake → Stream → Stream → Type 0
+ReadsSome (ToEnd limit) src src' = (taken : List ℕ) × Takes src src' taken
+
+-- the count of faults rose, and no more bytes than the limit were taken
+abbrev pub StopsAtFault : Intake → Stream → Stream → Type 0
+StopsAtFault (ToEnd limit) src src' =
+    Rose src.faults src'.faults × (taken : List ℕ) × Takes src src' taken × (length taken ≤ limit)
+
+-- the bytes passed the limit
+abbrev pub PassesLimit : Intake → Stream → Stream → Type 0
+PassesLimit (ToEnd limit) src src' =
+    (taken : List ℕ) × Takes src src' taken × (limit < length taken)
+
+-- the source has this input to give, and no more than the command takes
+abbrev pub Offers : Intake → Stream → List ℕ → Type 0
+Offers (ToEnd limit) src input = (src.told ≡ Some input) × IsWithin (ToEnd limit) input

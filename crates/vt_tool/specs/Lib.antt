@@ -1,0 +1,9 @@
+pub mod Input
+pub mod Number
+pub mod Outcome
+pub mod Reading
+pub mod Rows
+pub mod Run
+pub mod Status
+pub mod Words
+pub mod Writing

@@ -1,0 +1,37 @@
+-- What a command may give for an input, this project's own: one case for each command.
+use Rattle.std.specs.Prelude.{◌≡◌, ℕ, ◌+◌, not, List, [], Option, Some, None, position}
+use Rattle.vt_grid.specs.Run.{Runs}
+use Rattle.vt_grid.specs.Screen.{Screen, start_screen}
+use Rattle.vt_grid.specs.Units.{is_built}
+use Rattle.vt_tool.specs.Rows.{rows_text}
+use Rattle.vt_tool.specs.declared.command.Command.{Command}
+use Rattle.vt_tool.specs.declared.command.Command.TheVariants as command
+use Rattle.vt_tool.specs.declared.status.Status.{Status}
+use Rattle.vt_tool.specs.declared.status.Status.TheVariants.{Fine, Refused}
+
+-- the status that the run has, if no fault comes, and the defined text
+pub record Outcome : Type 0 where
+  pub status : Status
+  pub text : List ℕ
+
+-- the fault of a byte that the machine doesn't read
+abbrev pub unbuilt : ℕ
+unbuilt = 90
+
+-- the place of the first byte that isn't built, from 0
+abbrev pub first_unbuilt : List ℕ → Option ℕ
+first_unbuilt input = position (λ byte. not (is_built byte)) input
+
+-- the rows of a blank screen after the input; or the fault of the first byte that isn't built,
+-- counted from 1
+abbrev pub GivesRows : ℕ → ℕ → List ℕ → Option ℕ → Outcome → Type 0
+GivesRows rows cols input (Some k) outcome =
+    outcome ≡ record { status = Refused unbuilt (k + 1) 0; text = [] }
+GivesRows rows cols input None outcome =
+    (after : Screen) × Runs (start_screen rows cols) input after
+    × (outcome ≡ record { status = Fine; text = rows_text after.sheet.cells })
+
+-- the outcome that a command gives for an input
+abbrev pub Gives : Command → List ℕ → Outcome → Type 0
+Gives (command.Screen rows cols) input outcome =
+    GivesRows rows cols input (first_unbuilt input) outcome

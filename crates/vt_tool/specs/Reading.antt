@@ -1,0 +1,15 @@
+-- How the reading of an input ends.
+use Rattle.std.specs.Prelude.{Result, Ok, Err}
+use Rattle.vt_base.specs.Bytes.{Text}
+use Rattle.vt_io.specs.Stream.{Stream}
+use Rattle.vt_tool.specs.Input.{ReadsAll, ReadsSome, StopsAtFault, PassesLimit}
+use Rattle.vt_tool.specs.declared.intake.Intake.{Intake}
+use Rattle.vt_tool.specs.declared.read_end.ReadEnd.{ReadEnd}
+use Rattle.vt_tool.specs.declared.read_end.ReadEnd.TheVariants.{Fault, TooLong, NoMemory}
+
+-- the whole input, or why it isn't there
+abbrev pub EndsReading : Intake → Stream → Stream → Result Text ReadEnd → Type 0
+EndsReading intake src src' (Ok input) = ReadsAll intake src src' input.bytes
+EndsReading intake src src' (Err Fault) = StopsAtFault intake src src'
+EndsReading intake src src' (Err TooLong) = PassesLimit intake src src'
+EndsReading intake src src' (Err NoMemory) = ReadsSome intake src src'

@@ -1,0 +1,26 @@
+-- How a run of the program ends, this project's own: one case for each status.
+use Rattle.std.specs.Prelude.{ℕ, List, [], ◌++◌, codes, decimal}
+use Rattle.vt_tool.specs.declared.status.Status.{Status}
+use Rattle.vt_tool.specs.declared.status.Status.TheVariants.{Fine, Usage, ReadFault, WriteFault, NoMemory, Refused, TooLong}
+
+-- the exit status
+abbrev pub number_of : Status → ℕ
+number_of Fine = 0
+number_of Usage = 1
+number_of ReadFault = 2
+number_of WriteFault = 3
+number_of NoMemory = 4
+number_of (Refused code a b) = 5
+number_of TooLong = 6
+
+-- the line on err, nothing where all went well
+abbrev pub line_of : Status → List ℕ
+line_of Fine = []
+line_of Usage = codes "vt: usage: screen R C | keys | type | play | race | check | drill N SEED\n"
+line_of ReadFault = codes "vt: read failed\n"
+line_of WriteFault = codes "vt: write failed\n"
+line_of NoMemory = codes "vt: no memory\n"
+line_of (Refused code a b) =
+    codes "vt: refused "
+    ++ (decimal code ++ (codes " at " ++ (decimal a ++ (codes ":" ++ (decimal b ++ codes "\n")))))
+line_of TooLong = codes "vt: input too long\n"

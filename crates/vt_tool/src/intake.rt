@@ -1,0 +1,23 @@
+ghost use Rattle.std.specs.Prelude.{◌≡◌};
+ghost use Rattle.vt_tool.specs.Input.{intake_of};
+
+use crate::command::Command;
+
+/// The most bytes of input that `screen` reads. This project's own.
+const SCREEN_LIMIT: usize = 67_108_864;
+
+/// What a command reads of the source.
+#[derive(Clone, Copy)]
+pub enum Intake {
+    /// All of it to its end, of at most so many bytes.
+    ToEnd(usize),
+}
+
+/// How much of the source the command reads.
+pub fn intake_for(command: Command) -> Intake
+    ensures { result ≡ intake_of command }
+{
+    match command {
+        Command::Screen { .. } => Intake::ToEnd(SCREEN_LIMIT),
+    }
+}

@@ -1,0 +1,23 @@
+//! The program's commands: words, input and output, and what each command makes of them.
+#![tactic(auto)]
+
+mod answer;
+mod command;
+mod intake;
+mod number;
+mod read_end;
+mod reading;
+mod rows;
+mod screen;
+mod status;
+mod telling;
+#[cfg(test)]
+mod tests;
+mod tool;
+mod words;
+mod writing;
+
+pub use rows::plain::plain_text;
+pub use rows::text_rows;
+pub use status::Status;
+pub use tool::vt_command;

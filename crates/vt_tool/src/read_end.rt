@@ -1,0 +1,32 @@
+ghost use Rattle.std.specs.Prelude.{◌≡◌};
+ghost use Rattle.vt_tool.specs.declared.read_end.ReadEnd.TheVariants.{Fault, NoMemory};
+
+use vt_base::NoMemory;
+use vt_io::Failed;
+
+/// Why an input wasn't read whole.
+#[derive(Clone, Copy, Debug, PartialEq, Eq)]
+pub enum ReadEnd {
+    /// The source failed.
+    Fault,
+    /// The source gives more bytes than are read.
+    TooLong,
+    /// Memory ran out.
+    NoMemory,
+}
+
+impl From<Failed> for ReadEnd {
+    ghost from_gives = { λ _ end. end ≡ Fault };
+
+    fn from(_failed: Failed) -> ReadEnd {
+        ReadEnd::Fault
+    }
+}
+
+impl From<NoMemory> for ReadEnd {
+    ghost from_gives = { λ _ end. end ≡ NoMemory };
+
+    fn from(_no_memory: NoMemory) -> ReadEnd {
+        ReadEnd::NoMemory
+    }
+}

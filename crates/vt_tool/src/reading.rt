@@ -1,0 +1,41 @@
+ghost use Rattle.vt_tool.specs.Reading.{EndsReading};
+
+use crate::intake::Intake;
+use crate::read_end::ReadEnd;
+use std::alloc::Global;
+use vt_base::Bytes;
+use vt_io::Source;
+
+/// The bytes that one read asks for at most.
+const READ_BYTES: usize = 65_536;
+
+/// Reads what a command takes of the source.
+pub fn read_input<S: Source>(alloc: Global, src: &mut S, intake: Intake) -> Result<Bytes, ReadEnd>
+    ensures { EndsReading intake
+        (record { told = S.left src.old; faults = S.faults src.old })
+        (record { told = S.left src.new; faults = S.faults src.new }) result }
+{
+    match intake {
+        Intake::ToEnd(limit) => read_to_end(alloc, src, limit),
+    }
+}
+
+fn read_to_end<S: Source>(alloc: Global, src: &mut S, limit: usize) -> Result<Bytes, ReadEnd>
+    ensures { EndsReading (Intake.ToEnd limit)
+        (record { told = S.left src.old; faults = S.faults src.old })
+        (record { told = S.left src.new; faults = S.faults src.new }) result }
+{
+    let mut piece = [0; READ_BYTES];
+    let mut input = Bytes::with_room(alloc, 0)?;
+    'reads: loop {
+        let count = src.read(&mut piece)?;
+        if count == 0 {
+            return Ok(input);
+        }
+        if count > limit - input.as_slice().len() {
+            return Err(ReadEnd::TooLong);
+        }
+        input.grow(alloc, count)?;
+        input.append(&piece[..count]);
+    }
+}

@@ -1,0 +1,39 @@
+ghost use Rattle.std.specs.Prelude.{◌≡◌};
+ghost use Rattle.vt_tool.specs.Status.{number_of};
+
+/// How a run of the program ended.
+#[derive(Clone, Copy, Debug, PartialEq, Eq)]
+pub enum Status {
+    /// The defined text is written whole.
+    Fine,
+    /// The words are none of the forms.
+    Usage,
+    /// The source failed.
+    ReadFault,
+    /// Out or err failed.
+    WriteFault,
+    /// Memory ran out.
+    NoMemory,
+    /// The input isn't in the command's grammar: the kind of the first fault, and its place. Of
+    /// `screen` that is the number of the byte, counted from 1, and 0.
+    Refused { code: u16, a: u32, b: u32 },
+    /// The source gives more bytes than the command reads.
+    TooLong,
+}
+
+impl Status {
+    /// The exit status of the program.
+    pub fn number(self) -> u8
+        ensures { result ≡ number_of self }
+    {
+        match self {
+            Status::Fine => 0,
+            Status::Usage => 1,
+            Status::ReadFault => 2,
+            Status::WriteFault => 3,
+            Status::NoMemory => 4,
+            Status::Refused { .. } => 5,
+            Status::TooLong => 6,
+        }
+    }
+}

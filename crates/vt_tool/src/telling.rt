@@ -1,0 +1,65 @@
+ghost use Rattle.std.specs.Prelude.{◌≡◌, ◌≢◌, []};
+ghost use Rattle.vt_tool.specs.Run.{Tells};
+ghost use Rattle.vt_tool.specs.Status.{line_of};
+
+use crate::status::Status;
+use crate::writing::write_all;
+use arrayvec::ArrayString;
+use itoa::Buffer;
+use vt_io::Sink;
+
+/// Room for the line of a refusal: its text, and three numbers of at most 40 bytes each.
+const LINE_BYTES: usize = 160;
+
+/// Writes the status's line on err, and gives the status that the run then has.
+pub fn tell<E: Sink>(err: &mut E, first: Status) -> Status
+    ensures { Tells first
+        (record { told = E.held err.old; faults = E.faults err.old })
+        (record { told = E.held err.new; faults = E.faults err.new }) result }
+{
+    match first {
+        Status::Fine => Status::Fine,
+        Status::Usage => say(
+            err,
+            first,
+            b"vt: usage: screen R C | keys | type | play | race | check | drill N SEED\n",
+        ),
+        Status::ReadFault => say(err, first, b"vt: read failed\n"),
+        Status::WriteFault => say(err, first, b"vt: write failed\n"),
+        Status::NoMemory => say(err, first, b"vt: no memory\n"),
+        Status::Refused { code, a, b } => {
+            let line = refusal_line(code, a, b);
+            say(err, first, line.as_str().as_bytes())
+        }
+        Status::TooLong => say(err, first, b"vt: input too long\n"),
+    }
+}
+
+fn say<E: Sink>(err: &mut E, first: Status, line: &[u8]) -> Status
+    requires line { line.now ≡ line_of first }
+    requires some { line_of first ≢ [] }
+    ensures { Tells first
+        (record { told = E.held err.old; faults = E.faults err.old })
+        (record { told = E.held err.new; faults = E.faults err.new }) result }
+{
+    match write_all(err, line) {
+        Ok(()) => first,
+        Err(_) => Status::WriteFault,
+    }
+}
+
+// The line of a refusal, made with no memory.
+fn refusal_line(code: u16, a: u32, b: u32) -> ArrayString<LINE_BYTES>
+    ensures { result.bytes ≡ line_of (Status.Refused code a b) }
+{
+    let mut number = Buffer::new();
+    let mut line = ArrayString::new();
+    line.push_str("vt: refused ");
+    line.push_str(number.format(code));
+    line.push_str(" at ");
+    line.push_str(number.format(a));
+    line.push_str(":");
+    line.push_str(number.format(b));
+    line.push_str("\n");
+    line
+}

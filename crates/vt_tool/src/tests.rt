@@ -1,0 +1,292 @@
+//! The commands over sources and sinks in memory. Expected texts were reckoned by hand from the
+//! rules of the commands.
+use crate::{plain_text, text_rows, vt_command};
+use std::alloc::Global;
+use std::process::Abort;
+use std::test::Fail;
+use vt_base::{Bytes, NoMemory, Size};
+use vt_grid::{Cell, Grid};
+use vt_io::{MemSink, MemSource};
+
+const USAGE: &[u8] = b"vt: usage: screen R C | keys | type | play | race | check | drill N SEED\n";
+
+// A run of the program: its words, the bytes of the source and the calls that fail, the room of the
+// sinks and the calls that fail, and what is to come of it.
+#[derive(Clone, Copy)]
+struct Case {
+    line: &'static str,
+    input: &'static [u8],
+    read_fails: &'static [u8],
+    out_room: usize,
+    out_fails: &'static [u8],
+    err_room: usize,
+    err_fails: &'static [u8],
+    number: u8,
+    out: &'static [u8],
+    err: &'static [u8],
+}
+
+// Ample room, no faults, and nothing to come.
+const PLAIN: Case = Case {
+    line: "screen 2 5",
+    input: b"",
+    read_fails: b"",
+    out_room: 1_000,
+    out_fails: b"",
+    err_room: 1_000,
+    err_fails: b"",
+    number: 0,
+    out: b"",
+    err: b"",
+};
+
+fn words_of(alloc: Global, line: &str) -> Result<Vec<String>, NoMemory> {
+    let mut words = Vec::new(alloc);
+    for word in line.split(' ') {
+        words.push(String::from_str(alloc, word)?)?;
+    }
+    Ok(words)
+}
+
+fn source(alloc: Global, input: &[u8], fails: &[u8]) -> Result<MemSource, NoMemory> {
+    let bytes = Bytes::from_slice(alloc, input)?;
+    Ok(MemSource::new(bytes, Bytes::from_slice(alloc, fails)?))
+}
+
+fn sink(alloc: Global, room: usize, fails: &[u8]) -> Result<MemSink, NoMemory> {
+    let room = Bytes::with_room(alloc, room)?;
+    Ok(MemSink::new(room, Bytes::from_slice(alloc, fails)?))
+}
+
+fn check(rt: &impl Abort, alloc: Global, case: Case) -> Result<(), NoMemory> {
+    let line = case.line;
+    let input = case.input;
+    let words = words_of(alloc, line)?;
+    let mut src = source(alloc, case.input, case.read_fails)?;
+    let mut out = sink(alloc, case.out_room, case.out_fails)?;
+    let mut err = sink(alloc, case.err_room, case.err_fails)?;
+    let status = vt_command(alloc, words.as_slice(), &mut src, &mut out, &mut err);
+    assert_eq!(rt; status.number(), case.number, "{line}, {input:?}");
+    assert_eq!(rt; out.held(), case.out, "{line}, {input:?}");
+    assert_eq!(rt; err.held(), case.err, "{line}, {input:?}");
+    Ok(())
+}
+
+#[test]
+fn draws_the_rows(rt: HostRuntime) -> Result<(), Fail> {
+    let cases: [(&'static str, &'static [u8], &'static [u8]); 12] = [
+        ("screen 2 5", b"", b"|     |\n|     |\n"),
+        ("screen 2 5", b"abcde", b"|abcde|\n|     |\n"),
+        ("screen 2 5", b"abcdef", b"|abcde|\n|f    |\n"),
+        ("screen 2 5", b"abcdefghijk", b"|fghij|\n|k    |\n"),
+        ("screen 1 3", b"a\x08b", b"|b  |\n"),
+        ("screen 1 3", b"a\rbc", b"|bc |\n"),
+        ("screen 1 3", b"\x08\x08a", b"|a  |\n"),
+        ("screen 1 3", b"abc\x08d", b"|adc|\n"),
+        ("screen 1 3", b"abc\rd", b"|dbc|\n"),
+        ("screen 2 3", b"abc\nd", b"|abc|\n|  d|\n"),
+        ("screen 2 3", b"a\nb\nc", b"| b |\n|  c|\n"),
+        ("screen 1 1", b"ab", b"|b|\n"),
+    ];
+    for (line, input, out) in cases {
+        let case = Case {
+            line,
+            input,
+            out,
+            ..PLAIN
+        };
+        check(&rt, rt.alloc(), case)?;
+    }
+    Ok(())
+}
+
+#[test]
+fn refuses_what_it_cannot_read(rt: HostRuntime) -> Result<(), Fail> {
+    let cases: [(&'static [u8], &'static [u8]); 3] = [
+        (b"a\x1B", b"vt: refused 90 at 2:0\n"),
+        (b"\x7F\x07", b"vt: refused 90 at 1:0\n"),
+        (b"abcdefghi\x80", b"vt: refused 90 at 10:0\n"),
+    ];
+    for (input, err) in cases {
+        let case = Case {
+            line: "screen 1 3",
+            input,
+            number: 5,
+            err,
+            ..PLAIN
+        };
+        check(&rt, rt.alloc(), case)?;
+    }
+    Ok(())
+}
+
+#[test]
+fn tries_no_read_again(rt: HostRuntime) -> Result<(), Fail> {
+    let cases: [(&'static [u8], &'static [u8]); 3] = [
+        (b"abcdefghij", b"\x00\x01"),
+        (b"abc", b"\x01"),
+        (b"a\x1B", b"\x00\x01"),
+    ];
+    for (input, read_fails) in cases {
+        let case = Case {
+            input,
+            read_fails,
+            number: 2,
+            err: b"vt: read failed\n",
+            ..PLAIN
+        };
+        check(&rt, rt.alloc(), case)?;
+    }
+    Ok(())
+}
+
+#[test]
+fn knows_one_spelling(rt: HostRuntime) -> Result<(), Fail> {
+    let cases: [&'static str; 16] = [
+        "screen 2",
+        "screen 2 5 1",
+        "screen 0 5",
+        "screen 5 0",
+        "screen 256 5",
+        "screen 5 256",
+        "screen 02 5",
+        "screen +2 5",
+        "screen 2 -5",
+        "screen 2 5x",
+        "screen  5",
+        "screen 18446744073709551618 5",
+        "Screen 2 5",
+        "--help",
+        "keys",
+        "",
+    ];
+    for line in cases {
+        let case = Case {
+            line,
+            read_fails: b"\x01",
+            number: 1,
+            err: USAGE,
+            ..PLAIN
+        };
+        check(&rt, rt.alloc(), case)?;
+    }
+    Ok(())
+}
+
+#[test]
+fn keeps_what_a_sink_takes(rt: HostRuntime) -> Result<(), Fail> {
+    let rows = b"|     |\n|     |\n";
+    for out_room in 0..=rows.len() {
+        let whole = out_room == rows.len();
+        let case = Case {
+            out_room,
+            number: if whole { 0 } else { 3 },
+            out: &rows[..out_room],
+            err: if whole { b"" } else { b"vt: write failed\n" },
+            ..PLAIN
+        };
+        check(&rt, rt.alloc(), case)?;
+    }
+    Ok(())
+}
+
+#[test]
+fn tries_no_write_again(rt: HostRuntime) -> Result<(), Fail> {
+    let out_fails = Case {
+        out_fails: b"\x01",
+        number: 3,
+        err: b"vt: write failed\n",
+        ..PLAIN
+    };
+    let err_fails = Case {
+        line: "no form",
+        err_fails: b"\x01",
+        number: 3,
+        ..PLAIN
+    };
+    let err_is_short = Case {
+        line: "no form",
+        err_room: 7,
+        number: 3,
+        err: b"vt: usa",
+        ..PLAIN
+    };
+    for case in [out_fails, err_fails, err_is_short] {
+        check(&rt, rt.alloc(), case)?;
+    }
+    Ok(())
+}
+
+// The status on `screen 1 3` of so many bytes, one and then `a` alone, and the sinks.
+fn of_length(alloc: Global, first: u8, len: usize) -> Result<(u8, MemSink, MemSink), NoMemory> {
+    let piece = [b'a'; 65_536];
+    let mut input = Bytes::with_room(alloc, len)?;
+    if input.room() > 0 {
+        input.append(&[first]);
+    }
+    for _ in 0..=len / piece.len() {
+        let count = input.room().min(piece.len());
+        input.append(&piece[..count]);
+    }
+    let words = words_of(alloc, "screen 1 3")?;
+    let mut src = MemSource::new(input, Bytes::with_room(alloc, 0)?);
+    let mut out = sink(alloc, 1_000, b"")?;
+    let mut err = sink(alloc, 1_000, b"")?;
+    let status = vt_command(alloc, words.as_slice(), &mut src, &mut out, &mut err);
+    Ok((status.number(), out, err))
+}
+
+#[test]
+fn takes_the_greatest_input(rt: HostRuntime) -> Result<(), Fail> {
+    let cases: [(u8, usize, u8, &'static [u8], &'static [u8]); 4] = [
+        (b'b', 67_108_863, 0, b"|aaa|\n", b""),
+        (b'b', 67_108_864, 0, b"|a  |\n", b""),
+        (b'b', 67_108_865, 6, b"", b"vt: input too long\n"),
+        (0x1B, 67_108_865, 6, b"", b"vt: input too long\n"),
+    ];
+    for (first, len, number, rows, line) in cases {
+        let (status, out, err) = of_length(rt.alloc(), first, len)?;
+        assert_eq!(rt; status, number, "{len}");
+        assert_eq!(rt; out.held(), rows, "{len}");
+        assert_eq!(rt; err.held(), line, "{len}");
+    }
+    Ok(())
+}
+
+// Whether both forms of the text of one cell are this one.
+fn is_shown_as(alloc: Global, code: u32, shown: &[u8]) -> Result<bool, NoMemory> {
+    let size = Size { rows: 1, cols: 1 };
+    let grid = Grid::blank(alloc, size, Cell { code, attr: 7 })?;
+    let mut row = Bytes::with_room(alloc, 7)?;
+    row.append(b"|");
+    row.grow(alloc, shown.len() + 2)?;
+    row.append(shown);
+    row.append(b"|\n");
+    let text = text_rows(alloc, &grid)?;
+    let plain = plain_text(alloc, &grid)?;
+    Ok(text.as_slice() == row.as_slice() && plain.as_bytes() == row.as_slice())
+}
+
+#[test]
+fn shows_each_code(rt: HostRuntime) -> Result<(), Fail> {
+    let cases: [(u32, &'static [u8]); 14] = [
+        (0x00, b"?"),
+        (0x1F, b"?"),
+        (0x20, b" "),
+        (0x7E, b"~"),
+        (0x7F, b"?"),
+        (0x9F, b"?"),
+        (0xA0, b"\xC2\xA0"),
+        (0xD7FF, b"\xED\x9F\xBF"),
+        (0xD800, b"?"),
+        (0xDFFF, b"?"),
+        (0xE000, b"\xEE\x80\x80"),
+        (0xFFFD, b"\xEF\xBF\xBD"),
+        (0x10FFFF, b"\xF4\x8F\xBF\xBF"),
+        (0x110000, b"?"),
+    ];
+    for (code, shown) in cases {
+        assert!(rt; is_shown_as(rt.alloc(), code, shown)?, "{code}");
+    }
+    Ok(())
+}
