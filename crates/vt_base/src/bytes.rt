@@ -1,4 +1,4 @@
-ghost use Rattle.std.specs.Prelude.{◌≡◌, ◌+◌, ◌<◌, ◌≤◌, [], ◌++◌, length, max, IfOk, OnOk, OnErr};
+ghost use Rattle.std.specs.Prelude.{◌≡◌, ◌+◌, ◌<◌, ◌≤◌, [], ◌++◌, length, max, take, IfOk, OnOk, OnErr};
 
 use crate::NoMemory;
 use std::alloc::Global;
@@ -41,6 +41,15 @@ impl Bytes {
         Ok(Bytes { items, room: n })
     }
 
+    /// No bytes, and no room. It takes no memory.
+    pub fn new(alloc: Global) -> Bytes
+        ensures bytes { result.bytes ≡ [] }
+        ensures room { result.room ≡ 0 }
+    {
+        let items = Vec::new(alloc);
+        Bytes { items, room: 0 }
+    }
+
     /// The bytes in order.
     pub fn as_slice(&self) -> &[u8]
         ensures { result.now ≡ self.now.bytes }
@@ -65,6 +74,17 @@ impl Bytes {
         prove!(added.is_ok());
         let _ = added;
         self.room -= b.len();
+    }
+
+    /// Takes away all bytes behind the first `n`; they leave their room.
+    pub fn truncate(&mut self, n: usize)
+        ensures bytes { self.new.bytes ≡ take n self.old.bytes }
+        ensures room { self.new.room + length self.new.bytes ≡ self.old.room + length self.old.bytes }
+    {
+        if n < self.items.len() {
+            self.room += self.items.len() - n;
+            self.items.truncate(n);
+        }
     }
 
     /// Makes room for at least `n` more bytes. Where they fit already it takes no memory.

@@ -1,4 +1,4 @@
 mod Complete
-mod Decimals
+mod Sides
 pub mod Streams
 mod Texts

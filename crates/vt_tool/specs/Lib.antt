@@ -1,5 +1,4 @@
 pub mod Input
-pub mod Number
 pub mod Outcome
 pub mod Reading
 pub mod Rows

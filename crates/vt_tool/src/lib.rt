@@ -4,7 +4,6 @@
 mod answer;
 mod command;
 mod intake;
-mod number;
 mod read_end;
 mod reading;
 mod rows;

@@ -2,7 +2,7 @@ ghost use Rattle.std.specs.Prelude.{◌≡◌, ◌≢◌, ℕ, ◌∷◌, codes,
 ghost use Rattle.vt_tool.specs.Words.{AreNone, AreWordsOf, IsSerial, IsSide};
 
 use crate::command::Command;
-use crate::number::parse_number;
+use vt_base::parse_decimal;
 
 /// The command that the words spell.
 pub fn parse_words(words: &[String]) -> Option<Command>
@@ -34,8 +34,8 @@ fn parse_side(word: &str) -> Option<u8>
     ensures found { IfSome result (λ side. IsSide side × (decimal side ≡ word.now)) }
     ensures none { IfNone result ((side : ℕ) → IsSide side → decimal side ≢ word.now) }
 {
-    let side = parse_number(word)?;
-    if side == 0 || side > 255 {
+    let side = parse_decimal(word.as_bytes(), 255)?;
+    if side == 0 {
         return None;
     }
     Some(side as u8)

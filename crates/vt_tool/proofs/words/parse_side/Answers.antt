@@ -1,8 +1,9 @@
-use Rattle.std.proofs.Common.{◌<◌, ◌^◌, rules}
-use Rattle.vt_tool.proofs.Decimals.{no_side}
+use Rattle.std.proofs.Common.{ap, sym, ◌∙◌}
+use Rattle.std.specs.Prelude.{decimal}
+use Rattle.vt_tool.proofs.Sides.{no_side}
 use Rattle.vt_tool.proofs.words.parse_side.Goals as goal
 
 pub returns-then-side-eq0-clause-none : goal.returns-then-side-eq0-clause-none
 returns-then-side-eq0-clause-none c =
-    let fits : c.in_ok-side.side < 2 ^ 64 = search rules in
-    no_side c.args.word.now c.in_ok-side.side fits c.in_ok-side.ensures.found c.then-side-eq0.either
+    no_side c.args.word.now
+    (ap decimal (sym c.if-side-eq0.true) ∙ c.in_ok-side.ensures.found.1 ∙ c.as_bytes.ensures.value)

@@ -1,7 +1,7 @@
 use Rattle.std.proofs.Common.{length, sym, ◌∙◌}
 use Rattle.std.proofs.lemmas.Bool.{eqb-true}
-use Rattle.vt_tool.proofs.Decimals.{none_without_digits, none_with_plus, none_with_zero_and_more}
-use Rattle.vt_tool.proofs.number.is_plain.Goals as goal
+use Rattle.vt_base.proofs.Decimals.{none_without_digits, none_with_plus, none_with_zero_and_more}
+use Rattle.vt_base.proofs.decimal.is_plain.Goals as goal
 
 pub returns-then-is_empty-clause-other : goal.returns-then-is_empty-clause-other
 returns-then-is_empty-clause-other c =

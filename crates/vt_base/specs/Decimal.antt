@@ -1,5 +1,9 @@
 -- Words that spell a number: digits without sign and without leading zeros.
-use Rattle.std.specs.Prelude.{◌≡◌, ◌≢◌, ℕ, ◌<◌, ◌^◌, List, length, slice_index, decimal}
+use Rattle.std.specs.Prelude.{◌≡◌, ◌≢◌, ℕ, ◌<◌, ◌≤◌, ◌^◌, List, length, slice_index, decimal}
+
+-- no number up to the greatest is spelled so
+abbrev pub IsNoNumberTo : ℕ → List ℕ → Type 0
+IsNoNumberTo most word = (n : ℕ) → n ≤ most → decimal n ≢ word
 
 -- no number of 64 bits is spelled so
 abbrev pub IsNoNumber : List ℕ → Type 0

@@ -1,14 +1,14 @@
 -- Words and the decimal digits of numbers.
-use Rattle.std.proofs.Common.{◌≡◌, ◌≢◌, ℕ, zero, suc, ◌+◌, ◌*◌, ◌-◌, ◌<◌, ◌≤◌, ◌^◌, Bool, true, false, eqb, true≢false, ◌⊎◌, ⊎_elim, refl, List, [], ◌∷◌, length, get_or, sym, ap, ◌∙◌, arith, rules, lit<}
+use Rattle.std.proofs.Common.{◌≡◌, ◌≢◌, ℕ, zero, suc, ◌+◌, ◌*◌, ◌-◌, ◌<◌, ◌≤◌, ◌^◌, Bool, true, false, eqb, true≢false, ◌⊎◌, ⊎_elim, refl, List, [], ◌∷◌, length, get_or, sym, ap, ◌∙◌, subst, arith, rules, lit<}
 use Rattle.std.specs.Prelude.{decimal, Result, Ok, Err, IfSome, IfNone}
 use Rattle.std.specs.Bool.{OnFalse}
 use Rattle.std.specs.Result.{result_ok}
 use Rattle.std.specs.Str.Parse.{ParsesUnsigned}
-use Rattle.std.specs.Str.{all_ascii_digits}
-use Rattle.std.proofs.lemmas.Fmt.{decimal_digit, decimal_nonempty, decimal_injective, first_decimal, decimal-digits_value, parse-decimal}
+use Rattle.std.specs.Str.{IsUtf8, all_ascii_digits}
+use Rattle.std.proofs.lemmas.Str.{IsUtf8-from_ascii}
+use Rattle.std.proofs.lemmas.Fmt.{IsAscii-decimal, decimal_digit, decimal_nonempty, decimal_injective, first_decimal, decimal-digits_value, parse-decimal}
 use Rattle.std.proofs.lemmas.Str.Parse.{IsNumeralModel, numerals_by_fold, parse_plain}
-use Rattle.vt_tool.specs.Words.{IsSide}
-use Rattle.vt_tool.specs.Number.{IsNoNumber, IsPlain}
+use Rattle.vt_base.specs.Decimal.{IsNoNumber, IsNoNumberTo, IsPlain}
 
 -- the number that digits write
 pub read_on : ℕ → List ℕ → ℕ
@@ -58,18 +58,20 @@ none_by_parse E word (Err e) parsed =
     parse-decimal {E = E} 64 n word (Err e) fits fits (sym is) parsed in
     cc
 
--- a word that spells a number out of the range spells none in it
-pub no_side : (word : List ℕ) (n : ℕ) → n < 2 ^ 64 → decimal n ≡ word
-    → ((n ≡ 0) ⊎ ((n ≢ 0) × (255 < n))) → (side : ℕ) → IsSide side → decimal side ≢ word
-no_side word n fits spelled out side in_range is =
-    let same : side ≡ n =
-    decimal_injective side n (omega (arith, in_range.1)) fits (is ∙ sym spelled) in
-    ⊎_elim
-    (λ none. let impossible : ⊥ = omega (arith, none, same, in_range.0) in impossible)
-    (λ more. let impossible : ⊥ = omega (arith, more.1, same, in_range.1) in impossible)
-    out
+-- a word that spells a greater number spells none up to this one
+pub none_to : (word : List ℕ) (most n : ℕ) → n < 2 ^ 64 → most < n → decimal n ≡ word
+    → IsNoNumberTo most word
+none_to word most n fits greater spelled other within is =
+    let same : other ≡ n = decimal_injective other n (omega arith) fits (is ∙ sym spelled) in
+    let impossible : ⊥ = omega (arith, same) in
+    impossible
 
--- the same, where the test is made
+-- no number is spelled by bytes that are no text
+pub none_without_text : (word : List ℕ) → ¬ IsUtf8 word → IsNoNumber word
+none_without_text word no_text n fits is =
+    no_text (subst IsUtf8 is (IsUtf8-from_ascii (decimal n) (IsAscii-decimal n fits)))
+
+-- no number but 0 is spelled with a leading zero, where the test is made
 pub none_with_zero_and_more : (word : List ℕ) → get_or word 0 0 ≡ 48
     → OnFalse (eqb (length word) 1) (IsNoNumber word)
 none_with_zero_and_more word leading = by_test (eqb (length word) 1) refl

@@ -1,0 +1,43 @@
+ghost use Rattle.std.specs.Prelude.{◌≡◌, ◌≤◌};
+ghost use Rattle.vt_base.specs.Range.{in_range};
+
+use std::marker::Model;
+
+/// The number of a console, from 1 to 63.
+#[derive(Clone, Copy, Debug, PartialEq, Eq)]
+pub struct ConsoleNo {
+    n: u8,
+}
+
+impl Model for ConsoleNo {
+    ghost use Rattle.std.specs.Prelude.{ℕ, ◌≤◌};
+
+    ghost Value = { ℕ };
+
+    ghost view = { λ c. c.n };
+
+    ghost invariant = { λ c. (1 ≤ c.n) × (c.n ≤ 63) };
+
+    ghost inverse = { λ n. record { n = n } };
+}
+
+impl ConsoleNo {
+    /// The console of this number, where there is one.
+    pub fn new(n: u16) -> Option<ConsoleNo>
+        ensures { result ≡ in_range 1 63 n }
+    {
+        if n < 1 || 63 < n {
+            return None;
+        }
+        Some(ConsoleNo { n: n as u8 })
+    }
+
+    /// The number.
+    pub fn get(self) -> u16
+        ensures same { result ≡ self }
+        ensures low { 1 ≤ result }
+        ensures high { result ≤ 63 }
+    {
+        u16::from(self.n)
+    }
+}

@@ -1,0 +1,42 @@
+ghost use Rattle.std.specs.Prelude.{◌≡◌, ◌≤◌};
+ghost use Rattle.vt_base.specs.Range.{in_range};
+
+use std::marker::Model;
+
+/// A descriptor of a process, from 0 to 15.
+#[derive(Clone, Copy, Debug, PartialEq, Eq)]
+pub struct Fd {
+    n: u8,
+}
+
+impl Model for Fd {
+    ghost use Rattle.std.specs.Prelude.{ℕ, ◌≤◌};
+
+    ghost Value = { ℕ };
+
+    ghost view = { λ c. c.n };
+
+    ghost invariant = { λ c. c.n ≤ 15 };
+
+    ghost inverse = { λ n. record { n = n } };
+}
+
+impl Fd {
+    /// The descriptor of this number, where there is one.
+    pub fn new(n: u16) -> Option<Fd>
+        ensures { result ≡ in_range 0 15 n }
+    {
+        if 15 < n {
+            return None;
+        }
+        Some(Fd { n: n as u8 })
+    }
+
+    /// The number.
+    pub fn get(self) -> u16
+        ensures same { result ≡ self }
+        ensures high { result ≤ 15 }
+    {
+        u16::from(self.n)
+    }
+}
