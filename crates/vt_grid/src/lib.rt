@@ -1,8 +1,7 @@
-//! The cells of a screen, the edits that text makes to them, and the machine that reads the text.
+//! The cells of a screen, and the edits that text makes to them.
 #![tactic(auto)]
 
 mod cell;
-pub mod emu;
 mod grid;
 mod kept;
 mod row;

@@ -1,0 +1,73 @@
+ghost use Rattle.std.specs.Prelude.{◌≡◌, ◌<◌, [], ◌∷◌, ◌++◌, length};
+
+use crate::Out;
+use arrayvec::ArrayVec;
+use std::marker::Model;
+
+/// What a run of bytes said, in order: a byte says at most one thing, so 64 bytes say at most 64.
+#[derive(Debug, Drop)]
+pub struct Outs {
+    items: ArrayVec<Out, 64>,
+}
+
+impl Model for Outs {
+    ghost use Rattle.std.specs.Prelude.{List};
+    ghost use Rattle.vt_screen.specs.declared.out.Out.{Out};
+
+    ghost Value = { List Out };
+
+    ghost view = { λ o. o.items.items };
+}
+
+impl Outs {
+    /// Nothing said yet.
+    pub fn new() -> Outs
+        ensures { result ≡ [] }
+    {
+        Outs {
+            items: ArrayVec::new(),
+        }
+    }
+
+    /// Adds what was said last.
+    pub fn push(&mut self, out: Out)
+        requires { length self.old < 64 }
+        ensures { self.new ≡ self.old ++ out ∷ [] }
+    {
+        self.items.push(out);
+    }
+
+    /// What was said, in order.
+    pub fn as_slice(&self) -> &[Out]
+        ensures { result.now ≡ self.now }
+    {
+        self.items.as_slice()
+    }
+}
+
+impl Default for Outs {
+    fn default() -> Outs {
+        Outs::new()
+    }
+}
+
+#[cfg(test)]
+mod tests {
+    use super::*;
+    use crate::ReportText;
+
+    #[test]
+    fn keeps_what_is_said(rt: HostRuntime) {
+        let mut text = ReportText::new();
+        text.push(0x1B);
+        text.push(b'c');
+        assert_eq!(rt; text.as_slice(), b"\x1Bc".as_slice());
+        let mut outs = Outs::new();
+        outs.push(Out::Bell);
+        outs.push(Out::Report(text));
+        assert_eq!(rt; outs.as_slice().len(), 2);
+        assert!(rt; matches!(&outs.as_slice()[0], Out::Bell));
+        assert!(rt; ReportText::default().as_slice().is_empty());
+        assert!(rt; Outs::default().as_slice().is_empty());
+    }
+}
