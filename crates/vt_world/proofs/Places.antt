@@ -1,0 +1,134 @@
+-- Consoles and screens are alike, and stay so.
+use Rattle.std.proofs.Common.{◌≡◌, ℕ, zero, suc, ◌+◌, ◌<◌, Bool, true, false, true≢false, cond, arith, List, [], ◌∷◌, ◌++◌, get_or, set, map, Option, Some, None, refl, sym, ap, ◌∙◌}
+use Rattle.std.proofs.lemmas.List.{map-set, set-get_or}
+use Rattle.std.proofs.lemmas.List.FromFn.{get_or-map-range_with_len, map-range_with_len_more}
+use Rattle.std.proofs.Math.ListN.{get_or-map}
+use Rattle.std.proofs.Math.Seq.{map-set_same}
+use Rattle.std.specs.List.{range_with_len}
+use Rattle.std.specs.Prelude.{◌==◌, is_some, option_map, if◌then◌else◌}
+use Rattle.vt_screen.specs.Screen.{Screen}
+use Rattle.vt_screen.specs.Value.{run}
+use Rattle.vt_world.specs.Display.{Display, found, is_allocated}
+use Rattle.vt_world.specs.Rows.{allocating}
+use Rattle.vt_world.specs.Screens.{begun, or_start, screen_at, written}
+use Rattle.vt_world.specs.Start.{for_each, is_among}
+use Rattle.vt_world.specs.State.{W, IsAlike, all_done}
+use Rattle.vt_world.specs.Switch.{after_mode, handled}
+use Rattle.vt_world.specs.declared.switch.console.Console.{Console}
+use Rattle.vt_world.specs.declared.switch.handling.Handling.{Handling}
+
+-- whether a place is taken isn't changed by changing what it has
+kept : {A : Type 0} (f : A → A) (o : Option A) → is_some (option_map f o) ≡ is_some o
+kept f None = refl
+kept f (Some a) = refl
+
+-- whether two lists of places are taken alike is the same after a place of each is taken
+both_set : {A B : Type 0} (xs : List (Option A)) (ys : List (Option B)) (n : ℕ) (a : A) (b : B)
+    → map is_some xs ≡ map is_some ys
+    → map is_some (set xs n (Some a)) ≡ map is_some (set ys n (Some b))
+both_set xs ys n a b alike =
+    map-set is_some xs n (Some a)
+    ∙ ap (λ taken. set taken n true) alike
+    ∙ sym (map-set is_some ys n (Some b))
+
+-- a write leaves the consoles that have a screen
+pub written_alike : (n : ℕ) (bytes : List ℕ) (screens : List (Option Screen))
+    → map is_some (written n bytes screens) ≡ map is_some screens
+written_alike n bytes screens =
+    map-set_same is_some screens n (option_map (λ s. run s bytes) (screen_at screens n)) None
+    (kept (λ s. run s bytes) (screen_at screens n))
+
+either : (b : Bool) (d e : Display) → d.consoles ≡ e.consoles
+    → (cond b d e).consoles ≡ e.consoles
+either true d e same = same
+either false d e same = refl
+
+-- a set mode leaves the consoles that are allocated
+pub mode_alike : (d : Display) (c : ℕ) (handling : Option Handling)
+    → map is_some (after_mode d c handling).consoles ≡ map is_some d.consoles
+mode_alike d c None = refl
+mode_alike d c (Some handling) =
+    let new : Console → Console = λ console. record console { handling = handling } in
+    ap (map is_some)
+    (either (c == d.front) (record (handled d c handling) { pending = None }) (handled d c handling)
+    refl)
+    ∙ map-set_same is_some d.consoles c (option_map new (get_or d.consoles c None)) None
+    (kept new (get_or d.consoles c None))
+
+-- consoles that are allocated have a screen begun beside
+pub allocated_alike : (n rows cols : ℕ) (consoles : List (Option Console))
+    (screens : List (Option Screen)) → map is_some screens ≡ map is_some consoles
+    → map is_some (begun n rows cols screens)
+    ≡ map is_some (set consoles n (Some (found (get_or consoles n None))))
+allocated_alike n rows cols consoles screens alike =
+    both_set screens consoles n (or_start rows cols (get_or screens n None))
+    (found (get_or consoles n None)) alike
+
+found_again : (o : Option Console) → is_some o ≡ true → Some (found o) ≡ o
+found_again None taken = absurd (true≢false (sym taken))
+found_again (Some console) taken = refl
+
+start_again : (rows cols : ℕ) (o : Option Screen) → is_some o ≡ true → Some (or_start rows cols o) ≡ o
+start_again rows cols None taken = absurd (true≢false (sym taken))
+start_again rows cols (Some s) taken = refl
+
+-- the same place of both lists is taken alike
+pub taken_alike : {A B : Type 0} (xs : List (Option A)) (ys : List (Option B)) (n : ℕ)
+    → map is_some xs ≡ map is_some ys → is_some (get_or xs n None) ≡ is_some (get_or ys n None)
+taken_alike xs ys n alike =
+    sym (get_or-map is_some xs n None)
+    ∙ ap (λ taken. get_or taken n false) alike
+    ∙ get_or-map is_some ys n None
+
+-- to allocate a console again changes nothing
+pub allocating_same : (w : W) (n : ℕ) → IsAlike w → is_allocated w.display n ≡ true
+    → w ≡ all_done w (allocating n [])
+allocating_same w n alike taken =
+    let consoles = w.display.consoles in
+    let has_screen : is_some (get_or w.screens n None) ≡ true =
+    taken_alike w.screens consoles n alike ∙ taken in
+    let same_consoles : set consoles n (Some (found (get_or consoles n None))) ≡ consoles =
+    ap (set consoles n) (found_again (get_or consoles n None) taken) ∙ set-get_or consoles n None in
+    let same_screens : begun n w.rows w.cols w.screens ≡ w.screens =
+    ap (set w.screens n) (start_again w.rows w.cols (get_or w.screens n None) has_screen)
+    ∙ set-get_or w.screens n None in
+    λ i. record w {
+      display = record w.display { consoles = sym same_consoles i };
+      screens = sym same_screens i;
+    }
+
+-- a console of the set is at its place
+pub among_taken : {A : Type 0} (consoles n : ℕ) (a : A) → n < 64 → is_among consoles n ≡ true
+    → is_some (get_or (for_each consoles a) n None) ≡ true
+among_taken consoles n a within among =
+    ap is_some
+    (get_or-map-range_with_len (λ k. if is_among consoles k then Some a else None) 0 64 n n None
+    within (omega arith))
+    ∙ ap (λ b. is_some (if b then Some a else None)) among
+
+taken_if : {A : Type 0} (b : Bool) (a : A) → is_some (if b then Some a else None) ≡ b
+taken_if true a = refl
+taken_if false a = refl
+
+taken_among : {A : Type 0} (consoles : ℕ) (a : A) (at n : ℕ)
+    → map is_some (map (λ k. if is_among consoles k then Some a else None) (range_with_len at n))
+    ≡ map (is_among consoles) (range_with_len at n)
+taken_among consoles a at zero = refl
+taken_among consoles a at (suc n) =
+    λ i. taken_if (is_among consoles at) a i ∷ taken_among consoles a (at + 1) n i
+
+-- the places of a set are taken alike, whatever they have
+pub each_alike : {A B : Type 0} (consoles : ℕ) (a : A) (b : B)
+    → map is_some (for_each consoles a) ≡ map is_some (for_each consoles b)
+each_alike consoles a b = taken_among consoles a 0 64 ∙ sym (taken_among consoles b 0 64)
+
+-- one place more of a set
+pub places_more : {A : Type 0} (consoles n : ℕ) (a : A) (old new : List (Option A)) (o : Option A)
+    → old ≡ map (λ k. if is_among consoles k then Some a else None) (range_with_len 0 n)
+    → new ≡ old ++ o ∷ [] → o ≡ (if is_among consoles n then Some a else None)
+    → new ≡ map (λ k. if is_among consoles k then Some a else None) (range_with_len 0 (n + 1))
+places_more consoles n a old new o before added is =
+    added
+    ∙ (λ i. before i ++ is i ∷ [])
+    ∙ sym (map-range_with_len_more (λ k. if is_among consoles k then Some a else None) 0 n n
+    (omega arith))

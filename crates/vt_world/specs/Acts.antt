@@ -1,0 +1,39 @@
+-- The acts of the switch: every change of the display, of what is pending and of who handles the
+-- switches of a console is a list of these.
+use Rattle.std.specs.Prelude.{ℕ, Option, Some, None, Result, Ok, Err}
+use Rattle.vt_base.specs.declared.vt_mode.VtMode.{VtMode}
+use Rattle.vt_base.specs.declared.inval.Inval.{Inval}
+use Rattle.vt_world.specs.Display.{Display}
+use Rattle.vt_world.specs.Switch.{allocate, asked, release, released, request, set_mode}
+use Rattle.vt_world.specs.declared.switch.asked.Asked.{Asked}
+use Rattle.vt_world.specs.declared.switch.asked.Asked.TheVariants.{Hopped, Signalled, Ignored}
+use Rattle.vt_world.specs.declared.switch.hop.Hop.{Hop}
+
+pub data Act : Type 0 where
+  Allocate : ℕ → Act
+  Ask : ℕ → Act
+  Release : ℕ → ℕ → ℕ → Act
+  SetMode : ℕ → ℕ → VtMode → Act
+
+-- what an act leaves; one that is refused leaves all as it was
+abbrev pub after : Display → Act → Display
+after d (Allocate n) = allocate d n
+after d (Ask n) = request d n
+after d (Release c p arg) = release d c p arg
+after d (SetMode c p m) = set_mode d c p m
+
+abbrev pub hop_of_asked : Asked → Option Hop
+hop_of_asked (Hopped hop) = Some hop
+hop_of_asked (Signalled owner signal) = None
+hop_of_asked Ignored = None
+
+abbrev pub hop_of_released : Result (Option Hop) Inval → Option Hop
+hop_of_released (Ok hop) = hop
+hop_of_released (Err refused) = None
+
+-- the hop that an act makes, with its cause
+abbrev pub hop_of : Display → Act → Option Hop
+hop_of d (Allocate n) = None
+hop_of d (Ask n) = hop_of_asked (asked d n)
+hop_of d (Release c p arg) = hop_of_released (released d c p arg)
+hop_of d (SetMode c p m) = None

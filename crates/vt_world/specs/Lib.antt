@@ -1,0 +1,11 @@
+pub mod Acts
+pub mod Display
+pub mod History
+pub mod People
+pub mod Rows
+pub mod Screens
+pub mod Spare
+pub mod Start
+pub mod State
+pub mod Step
+pub mod Switch

@@ -1,0 +1,93 @@
+-- The table of events: what refuses each of them, in order, and what it answers and does where
+-- nothing does (ioctl_console(2)). The order of refusals is this project's own.
+use Rattle.std.specs.Prelude.{ℕ, ◌==◌, ◌||◌, Bool, true, false, not, nat_lt, List, [], ◌∷◌, length, Result, Ok, Err, is_some, unwrap_or, if◌then◌else◌}
+use Rattle.vt_base.specs.declared.errno.Errno.{Errno}
+use Rattle.vt_base.specs.declared.errno.Errno.TheVariants.{Nxio, Badf, Busy, Inval, Perm}
+use Rattle.vt_base.specs.declared.vt_mode.VtMode.{VtMode}
+use Rattle.vt_events.specs.declared.event.Event.{Event}
+use Rattle.vt_events.specs.declared.event.Event.TheVariants as event
+use Rattle.vt_events.specs.declared.reply.Reply.{Reply}
+use Rattle.vt_events.specs.declared.reply.Reply.TheVariants as reply
+use Rattle.vt_world.specs.Acts.{Allocate, Ask, Release, SetMode}
+use Rattle.vt_world.specs.People.{console_of, free_fd, person}
+use Rattle.vt_world.specs.State.{W, Deed, By, Own, Begins, Opens, Writes}
+use Rattle.vt_world.specs.Switch.{handling_of, released}
+
+-- a test that refuses with an error where it fails
+pub record Test : Type 0 where
+  pub fails : Bool
+  pub with : Errno
+
+abbrev pub test : Bool → Errno → Test
+test fails with = record { fails = fails; with = with }
+
+-- an answer, and what is done
+pub record Row : Type 0 where
+  pub reply : Reply
+  pub deeds : List Deed
+
+abbrev pub row_of : Reply → List Deed → Row
+row_of reply deeds = record { reply = reply; deeds = deeds }
+
+-- the console of p's descriptor, 0 where that isn't open
+abbrev pub target : W → ℕ → ℕ → ℕ
+target w p fd = unwrap_or (console_of w.people p fd) 0
+
+-- EBADF: the descriptor isn't open
+abbrev pub is_shut : W → ℕ → ℕ → Test
+is_shut w p fd = test (not (is_some (console_of w.people p fd))) Badf
+
+-- EPERM: p is neither privileged, nor is the descriptor's console its home
+abbrev pub may_not_handle : W → ℕ → ℕ → Test
+may_not_handle w p fd =
+    test (not ((person w.people p).privileged || target w p fd == (person w.people p).home)) Perm
+
+-- ENXIO: no console has the number
+abbrev pub is_no_console : ℕ → Test
+is_no_console n = test (n == 0 || nat_lt 63 n) Nxio
+
+abbrev pub is_refused : {T E : Type 0} → Result T E → Bool
+is_refused (Ok value) = false
+is_refused (Err refused) = true
+
+-- the console that `open` names: 0 is the one in front
+abbrev pub named : W → ℕ → ℕ
+named w n = if n == 0 then w.display.front else n
+
+abbrev pub mode_of : ℕ → ℕ → ℕ → ℕ → ℕ → VtMode
+mode_of m w r a f = record { mode = m; waitv = w; relsig = r; acqsig = a; frsig = f }
+
+-- the most bytes of one write
+abbrev pub write_limit : ℕ
+write_limit = 4096
+
+-- what refuses an event, in order
+abbrev pub own_tests : W → ℕ → Event → List Test
+own_tests w p (event.OpenCon n) =
+    test (nat_lt 63 n) Nxio ∷ test (not (is_some (free_fd w.people p))) Busy ∷ []
+own_tests w p (event.Write fd b) =
+    is_shut w p fd ∷ test (nat_lt write_limit (length b.bytes)) Inval ∷ []
+own_tests w p (event.Activate fd n) =
+    is_shut w p fd ∷ may_not_handle w p fd ∷ is_no_console n ∷ test w.display.locked Busy ∷ []
+own_tests w p (event.SetMode fd m wait r a f) =
+    is_shut w p fd ∷ may_not_handle w p fd
+    ∷ test (not (is_some (handling_of p (mode_of m wait r a f)))) Inval ∷ []
+own_tests w p (event.RelDisp fd arg) =
+    is_shut w p fd ∷ may_not_handle w p fd
+    ∷ test (is_refused (released w.display (target w p fd) p arg)) Inval ∷ []
+
+-- console n is allocated, if it isn't yet, and has a screen
+abbrev pub allocating : ℕ → List Deed → List Deed
+allocating n deeds = By (Allocate n) ∷ Own (Begins n) ∷ deeds
+
+-- what an event answers and does
+abbrev pub row : W → ℕ → Event → Row
+row w p (event.OpenCon n) =
+    row_of (reply.Num (unwrap_or (free_fd w.people p) 0))
+    (allocating (named w n) (Own (Opens p (named w n)) ∷ []))
+row w p (event.Write fd b) =
+    row_of (reply.Num (length b.bytes)) (Own (Writes (target w p fd) b.bytes) ∷ [])
+row w p (event.Activate fd n) = row_of reply.Done (allocating n (By (Ask n) ∷ []))
+row w p (event.SetMode fd m wait r a f) =
+    row_of reply.Done (By (SetMode (target w p fd) p (mode_of m wait r a f)) ∷ [])
+row w p (event.RelDisp fd arg) = row_of reply.Done (By (Release (target w p fd) p arg) ∷ [])

@@ -1,0 +1,17 @@
+//! The console of one thread: it takes the calls of its callers one by one, and answers each.
+#![tactic(auto)]
+
+mod config;
+mod console_set;
+mod procs;
+mod rows;
+mod screens;
+mod spare;
+mod step;
+mod switch;
+mod world;
+
+pub use config::Config;
+pub use procs::{ProcList, ProcStart};
+pub use spare::{Spare, spare_for};
+pub use world::World;

@@ -1,0 +1,9 @@
+//! The table of events: one method for each, which refuses it or does it.
+
+mod activate;
+mod mode;
+mod open;
+mod permission;
+mod refusals;
+mod release;
+mod write;

@@ -1,0 +1,27 @@
+ghost use Rattle.std.specs.Prelude.{◌≡◌};
+ghost use Rattle.vt_events.specs.declared.event.Event.TheVariants as event;
+ghost use Rattle.vt_world.specs.Step.{Gives, own_step};
+
+use crate::World;
+use crate::rows::refusals::{INVALID, NO_PERMISSION, NOT_OPEN};
+use vt_base::{CallerNo, VtMode};
+use vt_events::Reply;
+
+impl World {
+    /// Sets who handles the switches of the descriptor's console (ioctl_console(2), VT_SETMODE).
+    pub(crate) fn set_mode(&mut self, p: CallerNo, fd: u16, m: VtMode) -> Reply
+        ensures { Gives (own_step self.old p
+            (event.SetMode fd m.mode m.waitv m.relsig m.acqsig m.frsig)) self.new result }
+    {
+        let Some(c) = self.procs.console_of(p, fd) else {
+            return NOT_OPEN;
+        };
+        if !self.may_handle(p, c) {
+            return NO_PERMISSION;
+        }
+        match self.switch.set_mode(c, p, m) {
+            Ok(()) => Reply::Done,
+            Err(_) => INVALID,
+        }
+    }
+}

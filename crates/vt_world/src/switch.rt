@@ -1,0 +1,23 @@
+//! Which console has the display, who handles its switches, and how the display changes hands
+//! (ioctl_console(2)).
+
+mod asked;
+mod cause;
+mod console;
+mod handling;
+mod handshake;
+mod hop;
+mod mode;
+mod release;
+mod request;
+mod state;
+mod words;
+
+pub use asked::Asked;
+pub use cause::Cause;
+pub use console::Console;
+pub use handling::Handling;
+pub use handshake::Handshake;
+pub use hop::Hop;
+pub use state::Switch;
+pub use words::Words;

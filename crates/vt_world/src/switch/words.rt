@@ -1,0 +1,8 @@
+/// The words of a mode beside its first, as they were given.
+#[derive(Clone, Copy, Debug)]
+pub struct Words {
+    pub waitv: u16,
+    pub relsig: u16,
+    pub acqsig: u16,
+    pub frsig: u16,
+}

@@ -1,0 +1,86 @@
+ghost use Rattle.std.specs.Prelude.{◌≡◌, IfOk, is_some, option_copied};
+ghost use Rattle.vt_world.specs.Display.{is_allocated};
+ghost use Rattle.vt_world.specs.Screens.{screen_at};
+ghost use Rattle.vt_world.specs.Start.{IsFitSet, opening};
+
+use crate::config::Config;
+use crate::procs::Procs;
+use crate::screens::Screens;
+use crate::switch::Switch;
+use std::alloc::Global;
+use std::marker::Model;
+use vt_base::{ConsoleNo, NoMemory, Size};
+use vt_screen::Emu;
+
+/// All consoles with their screens, the display, and the callers.
+#[derive(Debug, Drop)]
+pub struct World {
+    pub(crate) size: Size,
+    pub(crate) switch: Switch,
+    pub(crate) procs: Procs,
+    pub(crate) screens: Screens,
+}
+
+impl Model for World {
+    ghost use Rattle.vt_world.specs.State.{W};
+
+    ghost Value = { W };
+
+    ghost view = { λ w. record {
+      rows = w.size.rows;
+      cols = w.size.cols;
+      display = w.switch;
+      people = w.procs;
+      screens = w.screens;
+    } };
+
+    ghost use Rattle.vt_world.specs.State.{IsAlike};
+
+    ghost invariant = { λ w. IsAlike (record {
+      rows = w.size.rows;
+      cols = w.size.cols;
+      display = w.switch;
+      people = w.procs;
+      screens = w.screens;
+    }) };
+}
+
+impl World {
+    /// All consoles of the set are new, and every process lives and has nothing open.
+    pub fn start(alloc: Global, c: &Config) -> Result<World, NoMemory>
+        requires { IsFitSet c.now.consoles c.now.front }
+        ensures { IfOk result (λ w. w ≡ opening c.now.size.rows c.now.size.cols c.now.consoles
+            c.now.front c.now.procs) }
+    {
+        let screens = Screens::start(alloc, c.size, c.consoles)?;
+        Ok(World {
+            size: c.size,
+            switch: Switch::start(c.front, c.consoles),
+            procs: Procs::start(c.procs.as_slice()),
+            screens,
+        })
+    }
+
+    /// The console that has the display.
+    pub fn display(&self) -> ConsoleNo
+        ensures { result ≡ self.now.display.front }
+    {
+        self.switch.front()
+    }
+
+    /// The screen of the console, where it is allocated.
+    pub fn screen(&self, c: ConsoleNo) -> Option<&Emu>
+        ensures screen { option_copied result ≡ screen_at self.now.screens c }
+        ensures allocated { is_some result ≡ is_allocated self.now.display c }
+    {
+        self.screens.at(c)
+    }
+
+    /// The rows and columns of every new screen.
+    pub fn size(&self) -> Size
+        ensures rows { result.rows ≡ self.now.rows }
+        ensures cols { result.cols ≡ self.now.cols }
+    {
+        self.size
+    }
+}
