@@ -6,17 +6,17 @@ use Rattle.vt_screen.specs.Run.{Runs}
 use Rattle.vt_screen.specs.Screen.{Screen}
 use Rattle.vt_screen.specs.Units.{is_built}
 
--- what bytes make of a screen: the effects of their units, in order
+-- what bytes that are built make of a screen: the effects of their units, in order
 abbrev pub run : Screen → List ℕ → Screen
 run s bytes = effects (map unit_of bytes) s
 
--- bytes that are built run to it
+-- it is a run of bytes that are built
 abbrev pub BuiltRuns : Type 0
 BuiltRuns =
     (s : Screen) (bytes : List ℕ) → All (λ byte. IsTrue (is_built byte)) bytes
     → Runs s bytes (run s bytes)
 
--- and to nothing else
+-- and there is no other
 abbrev pub OnlyRun : Type 0
 OnlyRun =
     (s after : Screen) (bytes : List ℕ) → Runs s bytes after → after ≡ run s bytes

@@ -1,8 +1,8 @@
 -- What a command may give for an input, this project's own: one case for each command.
 use Rattle.std.specs.Prelude.{◌≡◌, ℕ, ◌+◌, not, List, [], Option, Some, None, position}
-use Rattle.vt_grid.specs.Run.{Runs}
-use Rattle.vt_grid.specs.Screen.{Screen, start_screen}
-use Rattle.vt_grid.specs.Units.{is_built}
+use Rattle.vt_screen.specs.Run.{Runs}
+use Rattle.vt_screen.specs.Screen.{Screen, start_screen}
+use Rattle.vt_screen.specs.Units.{is_built}
 use Rattle.vt_tool.specs.Rows.{rows_text}
 use Rattle.vt_tool.specs.declared.command.Command.{Command}
 use Rattle.vt_tool.specs.declared.command.Command.TheVariants as command

@@ -1,7 +1,7 @@
 ghost use Rattle.std.specs.Prelude.{◌≡◌, ◌≤◌, length, IfOk, IfNone, All, IsTrue};
-ghost use Rattle.vt_grid.specs.Run.{Runs};
-ghost use Rattle.vt_grid.specs.Screen.{start_screen};
-ghost use Rattle.vt_grid.specs.Units.{is_built};
+ghost use Rattle.vt_screen.specs.Run.{Runs};
+ghost use Rattle.vt_screen.specs.Screen.{start_screen};
+ghost use Rattle.vt_screen.specs.Units.{is_built};
 ghost use Rattle.vt_tool.specs.Input.{screen_limit};
 ghost use Rattle.vt_tool.specs.Outcome.{GivesRows, first_unbuilt};
 
@@ -11,7 +11,7 @@ use crate::status::Status;
 use std::alloc::Global;
 use vt_base::{Bytes, NoMemory, Size};
 use vt_grid::Grid;
-use vt_grid::emu::{self, BLANK, Emu, FEED_BYTES, Outs};
+use vt_screen::{BLANK, Emu, run_is_a_run};
 
 /// The fault of a byte that the machine doesn't read. This project's own.
 const UNBUILT: u16 = 90;
@@ -44,21 +44,15 @@ fn first_unbuilt(input: &[u8]) -> Option<usize>
     ensures place { result ≡ first_unbuilt input.now }
     ensures none { IfNone result (All (λ byte. IsTrue (is_built byte)) input.now) }
 {
-    input.iter().position(|byte| !emu::is_built(*byte))
+    input.iter().position(|byte| !vt_screen::is_built(*byte))
 }
 
 fn draw(alloc: Global, size: Size, input: &[u8]) -> Result<Emu, NoMemory>
     requires { All (λ byte. IsTrue (is_built byte)) input.now }
     ensures { IfOk result (λ emu. Runs (start_screen size.rows size.cols) input.now emu) }
 {
+    run_is_a_run();
     let mut emu = Emu::new(Grid::blank(alloc, size, BLANK)?);
-    let mut outs = Outs::new();
-    emu::any_cut();
-    let mut at = 0;
-    while at < input.len() {
-        let end = input.len().min(at + FEED_BYTES);
-        emu.feed(&input[at..end], &mut outs);
-        at = end;
-    }
+    emu.write(input);
     Ok(emu)
 }
