@@ -1,0 +1,43 @@
+-- Lines, made word by word.
+use Rattle.std.proofs.Common.{◌≡◌, ℕ, ◌+◌, ◌<◌, List, [], ◌∷◌, ◌++◌, length, map, take, get_or, sym, ap, ◌∙◌, add-one, append_assoc}
+use Rattle.std.proofs.lemmas.List.Concat.{flat_map-append}
+use Rattle.std.proofs.Math.Seq.{take-suc}
+use Rattle.std.proofs.lemmas.List.{append-nil, map-append}
+use Rattle.std.specs.List.{flat_map}
+use Rattle.vt_events.specs.declared.entry.Entry.{Entry}
+use Rattle.vt_journal.specs.Journal.{entry_words, line_text}
+use Rattle.vt_journal.specs.Text.{spaced}
+use Rattle.vt_journal.specs.Words.{spelled}
+
+-- words with blanks between are the first word, and the others each behind a blank
+pub spelled-cons : (word : List ℕ) (words : List (List ℕ))
+    → spelled (word ∷ words) ≡ word ++ spaced words
+spelled-cons word [] = sym (append-nil word)
+spelled-cons word (next ∷ words) =
+    ap (λ text. word ++ (0x20 ∷ text)) (spelled-cons next words)
+
+-- the line of an entry, from its pieces
+pub entry_line : (caller seq sign : List ℕ) (call answer : List (List ℕ))
+    (t0 t1 t2 t3 t4 t5 t6 : List ℕ)
+    → t1 ≡ t0 ++ caller → t2 ≡ t1 ++ 0x20 ∷ seq → t3 ≡ t2 ++ spaced call → t4 ≡ t3 ++ 0x20 ∷ sign
+    → t5 ≡ t4 ++ spaced answer → t6 ≡ t5 ++ 0x0A ∷ []
+    → t6 ≡ t0 ++ line_text (caller ∷ seq ∷ call ++ sign ∷ answer)
+entry_line caller seq sign call answer t0 t1 t2 t3 t4 t5 t6 is1 is2 is3 is4 is5 is6 =
+    let others = flat_map-append (λ (word : List ℕ). 0x20 ∷ word) call (sign ∷ answer) in
+    let whole = spelled-cons caller (seq ∷ call ++ sign ∷ answer) in
+    rw whole (rw others (simp (is6, is5, is4, is3, is2, is1, append_assoc)))
+
+-- one more line, after those of the first entries
+pub lines_more : (head : List (List ℕ)) (entries : List Entry) (i : ℕ) (entry : Entry)
+    (old text more : List ℕ) → i < length entries → entry ≡ get_or entries i entry
+    → text ≡ old ++ flat_map line_text (head ∷ map entry_words (take i entries))
+    → more ≡ text ++ line_text (entry_words entry)
+    → more ≡ old ++ flat_map line_text (head ∷ map entry_words (take (i + 1) entries))
+lines_more head entries i entry old text more within is so_far added =
+    let next : take (i + 1) entries ≡ take i entries ++ entry ∷ [] =
+    ap (λ n. take n entries) (add-one i)
+    ∙ take-suc entries i entry within
+    ∙ ap (λ e. take i entries ++ e ∷ []) (sym is) in
+    rw (next, map-append entry_words (take i entries) (entry ∷ []))
+    (rw (flat_map-append line_text (map entry_words (take i entries)) (entry_words entry ∷ []))
+    (simp (added, so_far, append_assoc, append-nil)))

@@ -1,0 +1,11 @@
+use Rattle.std.proofs.Common.{◌≡◌, ◌∷◌, [], ◌++◌, codes, take, map}
+use Rattle.std.specs.List.{flat_map}
+use Rattle.vt_journal.specs.Journal.{entry_words, line_text}
+use Rattle.vt_journal.specs.Text.{Begins}
+use Rattle.vt_journal.proofs.printing.add_lines.Given as goal
+
+abbrev pub invariant-loop-entry : goal.invariant-loop-entry
+invariant-loop-entry l =
+    (l.rest.bytes
+    ≡ l.fn.rest.bytes ++ flat_map line_text ((codes "%journal" ∷ codes "1" ∷ []) ∷ map entry_words (take l.entry-index l.entries)))
+    × Begins l.fn.rest.bytes l.rest.bytes

@@ -1,0 +1,32 @@
+-- The journal text: the one spelling of entries and how they end. This project's own.
+use Rattle.std.specs.Prelude.{ℕ, List, [], ◌∷◌, ◌++◌, codes, decimal, map}
+use Rattle.std.specs.List.{flat_map}
+use Rattle.vt_events.specs.declared.entry.Entry.{Entry}
+use Rattle.vt_journal.specs.declared.tail.Tail.{Tail}
+use Rattle.vt_journal.specs.declared.tail.Tail.TheVariants as tail
+use Rattle.vt_journal.specs.Words.{event_words, reply_words, spelled}
+
+-- the caller, its count of earlier calls, the call, and the answer behind an equals sign
+abbrev pub entry_words : Entry → List (List ℕ)
+entry_words entry =
+    decimal entry.caller ∷ decimal entry.seq
+    ∷ event_words entry.event ++ codes "=" ∷ reply_words entry.reply
+
+-- the numbers of entries and of their bytes; where no room was found, the charge that found none
+abbrev pub tail_words : Tail → List (List ℕ)
+tail_words (tail.End events bytes) = codes "%end" ∷ decimal events ∷ decimal bytes ∷ []
+tail_words (tail.Full full) =
+    codes "%full" ∷ decimal full.events ∷ decimal full.bytes ∷ decimal full.charge ∷ []
+
+-- the lines of a journal, each as its words
+abbrev pub journal_lines : List Entry → Tail → List (List (List ℕ))
+journal_lines entries end =
+    (codes "%journal" ∷ codes "1" ∷ []) ∷ map entry_words entries ++ tail_words end ∷ []
+
+-- words as a line of text
+abbrev pub line_text : List (List ℕ) → List ℕ
+line_text words = spelled words ++ 0x0A ∷ []
+
+-- the text of a journal
+abbrev pub journal_text : List Entry → Tail → List ℕ
+journal_text entries end = flat_map line_text (journal_lines entries end)

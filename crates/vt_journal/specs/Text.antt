@@ -1,0 +1,11 @@
+-- Texts that grow.
+use Rattle.std.specs.Prelude.{◌≡◌, ℕ, List, ◌∷◌, length, take}
+use Rattle.std.specs.List.{flat_map}
+
+-- a text begins with what was there before
+pub record Begins (before text : List ℕ) : Type 0 where
+  pub front : take (length before) text ≡ before
+
+-- words, each behind a blank
+abbrev pub spaced : List (List ℕ) → List ℕ
+spaced words = flat_map (λ word. 0x20 ∷ word) words

@@ -1,0 +1,17 @@
+//! The journal of a console's calls: a log of entries within limits, and its text.
+#![tactic(auto)]
+
+mod adding;
+mod full;
+mod hex;
+mod limits;
+mod log;
+mod printing;
+mod tail;
+
+pub use full::Full;
+pub use hex::add_hex;
+pub use limits::Limits;
+pub use log::Log;
+pub use printing::print;
+pub use tail::Tail;

@@ -1,0 +1,86 @@
+ghost use Rattle.std.specs.Prelude.{◌≡◌, ◌<◌, ◌≤◌, [], ◌∷◌, ◌++◌, length, IsTrue, ◌↔◌, IfOk};
+ghost use Rattle.vt_events.specs.Charge.{charge_of};
+ghost use Rattle.vt_journal.specs.Log.{HasRoom, charge_of_all};
+
+use crate::Limits;
+use std::alloc::Global;
+use std::marker::Model;
+use vt_base::NoMemory;
+use vt_events::{Entry, charge};
+
+/// The entries of a journal. The room of all that its limits allow is reserved when it is made.
+#[derive(Debug, Drop)]
+pub struct Log {
+    entries: Vec<Entry>,
+    limits: Limits,
+    bytes: u64,
+}
+
+impl Model for Log {
+    ghost use Rattle.std.specs.Prelude.{vec_capacity};
+    ghost use Rattle.vt_journal.specs.Log.{IsLog, Logged};
+
+    ghost Value = { Logged };
+
+    ghost view = { λ log. record { entries = log.entries.items; limits = log.limits } };
+
+    ghost invariant = { λ log.
+        IsLog (record { entries = log.entries.items; limits = log.limits })
+        (vec_capacity log.entries) log.bytes };
+}
+
+impl Log {
+    /// No entries yet, and room for all that the limits allow.
+    pub fn with_room(alloc: Global, events: u32, bytes: u64) -> Result<Log, NoMemory>
+        requires events { events ≤ 1_000_000 }
+        requires least { 64 ≤ bytes }
+        requires most { bytes ≤ 1_073_741_824 }
+        ensures entries { IfOk result (λ log. log.entries ≡ []) }
+        ensures limits { IfOk result (λ log. log.limits ≡ record { events = events; bytes = bytes }) }
+    {
+        let entries = Vec::with_capacity(alloc, events as usize)?;
+        let limits = Limits { events, bytes };
+        Ok(Log {
+            entries,
+            limits,
+            bytes: 0,
+        })
+    }
+
+    /// One more entry of this charge is within the limits.
+    pub fn room(&self, charge: u32) -> bool
+        ensures { IsTrue result ↔ HasRoom self.now charge }
+    {
+        self.entries.len() < self.limits.events as usize
+            && self.bytes + u64::from(charge) <= self.limits.bytes
+    }
+
+    /// Adds an entry, in the room that is there.
+    pub fn push(&mut self, e: Entry)
+        requires { HasRoom self.old (charge_of e.event) }
+        ensures { self.new ≡ record self.old { entries = self.old.entries ++ e ∷ [] } }
+    {
+        self.bytes += u64::from(charge(&e.event));
+        let added = self.entries.push(e);
+        prove!(added.is_ok());
+        let _ = added;
+    }
+
+    /// The entries in order.
+    pub fn entries(&self) -> &[Entry]
+        ensures same { result.now ≡ self.now.entries }
+        ensures within { length result.now ≤ self.now.limits.events }
+        ensures most { length result.now ≤ 1_000_000 }
+    {
+        self.entries.as_slice()
+    }
+
+    /// The bytes that the entries count for.
+    pub fn bytes(&self) -> u64
+        ensures sum { result ≡ charge_of_all self.now.entries }
+        ensures within { result ≤ self.now.limits.bytes }
+        ensures most { result ≤ 1_073_741_824 }
+    {
+        self.bytes
+    }
+}

@@ -1,0 +1,134 @@
+//! The text of a journal.
+ghost use Rattle.std.specs.Prelude.{◌≡◌, ◌∷◌, ◌++◌, [], decimal, map, OnOk, OnErr};
+ghost use Rattle.vt_journal.specs.Hex.{hex_text};
+ghost use Rattle.vt_journal.specs.Journal.{entry_words, journal_text, line_text, tail_words};
+ghost use Rattle.vt_journal.specs.Text.{Begins, spaced};
+ghost use Rattle.vt_journal.specs.Words.{event_words, reply_words};
+
+use crate::adding::{add, add_bytes, add_call, add_next, add_number, add_word};
+use crate::{Full, Tail};
+use std::alloc::Global;
+use vt_base::{Bytes, NoMemory};
+use vt_events::{Entry, Event, Reply};
+
+/// Adds the journal text of the entries and of how they end.
+pub fn print(alloc: Global, entries: &[Entry], end: &Tail, rest: &mut Bytes) -> Result<(), NoMemory>
+    ensures ok { OnOk result (rest.new.bytes ≡ rest.old.bytes ++ journal_text entries.now end.now) }
+    ensures err { OnErr result (rest.new.bytes ≡ rest.old.bytes) }
+{
+    let before = rest.as_slice().len();
+    let added = add_lines(alloc, entries, end, rest);
+    if added.is_err() {
+        rest.truncate(before);
+    }
+    added
+}
+
+fn add_lines(alloc: Global, entries: &[Entry], end: &Tail, rest: &mut Bytes) -> Result<(), NoMemory>
+    ensures ok { OnOk result (rest.new.bytes ≡ rest.old.bytes ++ journal_text entries.now end.now) }
+    ensures kept { Begins rest.old.bytes rest.new.bytes }
+{
+    add(alloc, rest, b"%journal 1\n")?;
+    for entry in entries {
+        add_entry(alloc, rest, entry)?;
+    }
+    add_tail(alloc, rest, end)?;
+    Ok(())
+}
+
+fn add_entry(alloc: Global, text: &mut Bytes, entry: &Entry) -> Result<(), NoMemory>
+    ensures ok { OnOk result (text.new.bytes ≡ text.old.bytes ++ line_text (entry_words entry.now)) }
+    ensures kept { Begins text.old.bytes text.new.bytes }
+{
+    add_number(alloc, text, u64::from(entry.caller.get()))?;
+    add_next(alloc, text, u64::from(entry.seq))?;
+    add_event(alloc, text, &entry.event)?;
+    add_word(alloc, text, b"=")?;
+    add_reply(alloc, text, &entry.reply)?;
+    add(alloc, text, b"\n")?;
+    Ok(())
+}
+
+fn add_tail(alloc: Global, text: &mut Bytes, end: &Tail) -> Result<(), NoMemory>
+    ensures ok { OnOk result (text.new.bytes ≡ text.old.bytes ++ line_text (tail_words end.now)) }
+    ensures kept { Begins text.old.bytes text.new.bytes }
+{
+    match end {
+        Tail::End { events, bytes } => {
+            add(alloc, text, b"%end")?;
+            add_next(alloc, text, u64::from(*events))?;
+            add_next(alloc, text, *bytes)?;
+        }
+        Tail::Full(
+            Full {
+                events,
+                bytes,
+                charge,
+            },
+        ) => {
+            add(alloc, text, b"%full")?;
+            add_next(alloc, text, u64::from(*events))?;
+            add_next(alloc, text, *bytes)?;
+            add_next(alloc, text, u64::from(*charge))?;
+        }
+    }
+    add(alloc, text, b"\n")?;
+    Ok(())
+}
+
+// The words of a call, each behind a blank.
+fn add_event(alloc: Global, text: &mut Bytes, e: &Event) -> Result<(), NoMemory>
+    ensures ok { OnOk result (text.new.bytes ≡ text.old.bytes ++ spaced (event_words e.now)) }
+    ensures kept { Begins text.old.bytes text.new.bytes }
+{
+    match e {
+        Event::OpenCon(n) => add_call(alloc, text, b"open", &[*n]),
+        Event::Write(fd, b) => add_call_with(alloc, text, b"write", &[*fd], b.as_slice()),
+        Event::Activate(fd, n) => add_call(alloc, text, b"activate", &[*fd, *n]),
+        Event::SetMode(fd, mode, waitv, relsig, acqsig, frsig) => {
+            let numbers = [*fd, *mode, *waitv, *relsig, *acqsig, *frsig];
+            add_call(alloc, text, b"setmode", &numbers)
+        }
+        Event::RelDisp(fd, arg) => add_call(alloc, text, b"reldisp", &[*fd, *arg]),
+    }
+}
+
+// The name, the numbers and the bytes, each behind a blank.
+fn add_call_with(
+    alloc: Global,
+    text: &mut Bytes,
+    name: &[u8],
+    numbers: &[u16],
+    b: &[u8],
+) -> Result<(), NoMemory>
+    ensures ok { OnOk result (text.new.bytes ≡ text.old.bytes
+        ++ spaced (name.now ∷ map decimal numbers.now ++ hex_text b.now ∷ [])) }
+    ensures kept { Begins text.old.bytes text.new.bytes }
+{
+    add_call(alloc, text, name, numbers)?;
+    add_bytes(alloc, text, b)?;
+    Ok(())
+}
+
+// The words of an answer, each behind a blank.
+fn add_reply(alloc: Global, text: &mut Bytes, r: &Reply) -> Result<(), NoMemory>
+    ensures ok { OnOk result (text.new.bytes ≡ text.old.bytes ++ spaced (reply_words r.now)) }
+    ensures kept { Begins text.old.bytes text.new.bytes }
+{
+    match r {
+        Reply::Done => add_word(alloc, text, b"ok")?,
+        Reply::Num(n) => {
+            add_word(alloc, text, b"num")?;
+            add_next(alloc, text, u64::from(*n))?;
+        }
+        Reply::Text(b) => {
+            add_word(alloc, text, b"bytes")?;
+            add_bytes(alloc, text, b.as_slice())?;
+        }
+        Reply::Err(errno) => {
+            add_word(alloc, text, b"err")?;
+            add_next(alloc, text, u64::from(errno.number()))?;
+        }
+    }
+    Ok(())
+}
