@@ -1,2 +1,4 @@
+pub mod Arguments
+pub mod Cuts
 pub mod Lines
 pub mod Texts

@@ -4,10 +4,13 @@
 mod adding;
 mod full;
 mod hex;
+mod kind;
 mod limits;
 mod log;
+mod numbers;
 mod printing;
 mod tail;
+mod words;
 
 pub use full::Full;
 pub use hex::add_hex;

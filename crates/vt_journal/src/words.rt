@@ -1,0 +1,53 @@
+ghost use Rattle.std.specs.Prelude.{◌≡◌, ◌==◌, [], ◌∷◌, MatchOption, position};
+ghost use Rattle.vt_journal.specs.Cut.{cut};
+
+use std::marker::Model;
+
+/// The words of a text that are still to be read: it is cut at each blank.
+#[derive(Drop)]
+pub struct Words<'a> {
+    rest: Option<&'a [u8]>,
+}
+
+impl<'a> Model for Words<'a> {
+    ghost use Rattle.std.specs.Prelude.{ℕ, List};
+    ghost use Rattle.vt_journal.specs.Cut.{cut_of};
+
+    ghost Value = { List (List ℕ) };
+
+    ghost view = { λ words. cut_of words.rest };
+}
+
+impl<'a> Words<'a> {
+    /// All words of the text.
+    pub fn of(text: &'a [u8]) -> Words<'a>
+        ensures { result ≡ cut text.now }
+    {
+        Words { rest: Some(text) }
+    }
+
+    /// The next word, where there is one.
+    pub fn next(&mut self) -> Option<&'a [u8]>
+        ensures { MatchOption result ((self.old ≡ []) × (self.new ≡ []))
+            (λ word. self.old ≡ word.now ∷ self.new) }
+    {
+        let rest = self.rest?;
+        match first_blank(rest) {
+            Some(i) => {
+                self.rest = Some(&rest[i + 1..]);
+                Some(&rest[..i])
+            }
+            None => {
+                self.rest = None;
+                Some(rest)
+            }
+        }
+    }
+}
+
+// Where the first blank is.
+fn first_blank(text: &[u8]) -> Option<usize>
+    ensures { result ≡ position (λ b. b == 0x20) text.now }
+{
+    text.iter().position(|&b| b == b' ')
+}
