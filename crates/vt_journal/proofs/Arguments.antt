@@ -1,5 +1,5 @@
 -- Words that are numbers.
-use Rattle.std.proofs.Common.{◌≡◌, ◌≢◌, ℕ, zero, suc, ◌+◌, ◌<◌, ◌≤◌, ◌^◌, List, [], ◌∷◌, ◌++◌, length, map, take, drop, set, get_or, decimal, arith, sym, ap, refl, ◌∙◌, append_assoc, add-one, length-set}
+use Rattle.std.proofs.Common.{◌≡◌, ◌≢◌, ℕ, suc, ◌+◌, ◌<◌, ◌^◌, List, [], ◌∷◌, ◌++◌, length, map, take, set, decimal, arith, ap, ◌∙◌, append_assoc, add-one, length-set}
 use Rattle.std.proofs.Math.Seq.{take-length, take-suc-set}
 use Rattle.std.proofs.lemmas.List.{length-map, map-append}
 use Rattle.std.specs.List.{All}
@@ -30,9 +30,10 @@ pub numbers_more : (whole words more : List (List ℕ)) (ns : List ℕ) (i n : �
     → (whole ≡ map decimal (take (i + 1) (set ns i n)) ++ more) × (length (set ns i n) ≡ many)
 numbers_more whole words more ns i n within so_far next many is =
     let longer : take (i + 1) (set ns i n) ≡ take i ns ++ n ∷ [] =
-    ap (λ j. take j (set ns i n)) (add-one i) ∙ take-suc-set ns i n within in
-    (rw (longer, map-append decimal (take i ns) (n ∷ [])) (simp (so_far, next, append_assoc)),
-      length-set ns i n ∙ is)
+    ap (λ j. take j (set ns i n)) (add-one i) ∙ take-suc-set ns i n within in (
+      rw (longer, map-append decimal (take i ns) (n ∷ [])) (simp (so_far, next, append_assoc)),
+      length-set ns i n ∙ is,
+    )
 
 -- all numbers were read
 pub numbers_all : (whole words : List (List ℕ)) (ns : List ℕ) (i : ℕ) → i ≡ length ns

@@ -1,7 +1,7 @@
 -- Texts cut into words at their blanks.
-use Rattle.std.proofs.Common.{◌≡◌, ℕ, ◌+◌, ◌<◌, Bool, true, false, eqb, cond, ltb, Option, Some, None, List, [], ◌∷◌, length, take, drop, length-drop, ◌-◌, refl, sym, ap, ◌∙◌, arith}
+use Rattle.std.proofs.Common.{◌≡◌, ℕ, ◌+◌, Bool, true, false, eqb, cond, ltb, Some, None, List, [], ◌∷◌, length, take, drop, length-drop, ◌-◌, refl, sym, ap, ◌∙◌}
 use Rattle.std.proofs.Math.Seq.{take-length}
-use Rattle.std.specs.List.{onto_first, position, position_from, position_or_len, slice_split}
+use Rattle.std.specs.List.{onto_first, position, position_from, position_or_len}
 use Rattle.std.proofs.lemmas.Bool.{ltb-true}
 use Rattle.std.proofs.lemmas.List.Splits.{slice_split_first, slice_split-cons_no}
 use Rattle.std.proofs.lemmas.Iterator.Adapters.{position_from-zero}
@@ -14,6 +14,7 @@ cut_at text i is = by_test (ltb n (length text)) refl is
   where
     n : ℕ
     n = position_or_len (λ b. eqb b 0x20) text
+
     by_test : (b : Bool) → ltb n (length text) ≡ b → Some i ≡ cond b (Some n) None
         → cut text ≡ take i text ∷ cut (drop (i + 1) text)
     by_test true within here =

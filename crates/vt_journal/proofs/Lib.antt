@@ -1,4 +1,5 @@
 pub mod Arguments
 pub mod Cuts
 pub mod Lines
+pub mod Pairs
 pub mod Texts

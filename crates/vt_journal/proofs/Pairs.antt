@@ -1,0 +1,87 @@
+-- Bytes and their hexadecimal digits.
+use Rattle.std.proofs.Common.{◌≡◌, ◌≢◌, ℕ, zero, suc, ◌+◌, ◌*◌, ◌/◌, ◌%◌, ◌<◌, ◌^◌, true, false, eqb, Option, Some, None, Result, Ok, Err, List, [], ◌∷◌, ◌++◌, codes, length, take, get_or, arith, sym, ap, refl, ◌∙◌, append_assoc}
+use Rattle.std.specs.Prelude.{IfOk, IfNone}
+use Rattle.std.specs.Cmp.Lexicographic.{pointwise}
+use Rattle.std.specs.List.{All, flat_map}
+use Rattle.std.proofs.Math.Seq.{take-suc}
+use Rattle.std.proofs.lemmas.List.Concat.{flat_map-append}
+use Rattle.std.proofs.lemmas.List.Elements.{All-cons}
+use Rattle.vt_journal.specs.Hex.{hex_byte, hex_digit, hex_text}
+
+-- each byte has two digits
+pub length-hex : (bytes : List ℕ) → length (flat_map hex_byte bytes) ≡ 2 * length bytes
+length-hex [] = refl
+length-hex (b ∷ bytes) = omega (arith, length-hex bytes)
+
+-- bytes that are not none are spelled by their digits alone
+pub hex_some : (word bytes : List ℕ) → word ≢ codes "-" → hex_text bytes ≡ word
+    → (0 < length bytes) × (flat_map hex_byte bytes ≡ word)
+hex_some word [] some is = absurd (some (sym is))
+hex_some word (b ∷ bytes) some is = (omega arith, is)
+
+-- the digits at the place of a byte are its own
+hex_at : (bytes : List ℕ) (i : ℕ) → i < length bytes
+    → (get_or (flat_map hex_byte bytes) (2 * i) 0 ≡ hex_digit (get_or bytes i 0 / 16))
+    × (get_or (flat_map hex_byte bytes) (2 * i + 1) 0 ≡ hex_digit (get_or bytes i 0 % 16))
+hex_at [] i within = absurd (omega arith)
+hex_at (b ∷ bytes) zero within = (refl, refl)
+hex_at (b ∷ bytes) (suc i) within =
+    let high : 2 * suc i ≡ suc (suc (2 * i)) = omega arith in
+    let low : 2 * suc i + 1 ≡ suc (suc (2 * i + 1)) = omega arith in
+    let others = hex_at bytes i (omega arith) in (
+      ap (λ n. get_or (flat_map hex_byte (b ∷ bytes)) n 0) high ∙ others.0,
+      ap (λ n. get_or (flat_map hex_byte (b ∷ bytes)) n 0) low ∙ others.1,
+    )
+
+-- so a word with no byte's digits at a place spells no bytes
+pub no_hex : (word bytes : List ℕ) (i : ℕ) → i < length word / 2 → All (λ x. x < 2 ^ 8) bytes
+    → flat_map hex_byte bytes ≡ word
+    → ((b : ℕ) → b < 2 ^ 8
+    → hex_byte b ≢ get_or word (2 * i) 0 ∷ get_or word (2 * i + 1) 0 ∷ [])
+    → ⊥
+no_hex word bytes i within fit is none =
+    let inside : i < length bytes = omega (arith, length-hex bytes, ap length is) in
+    let here = hex_at bytes i inside in
+    none (get_or bytes i 0) (fit i 0 inside)
+    (sym
+    (ap (λ d. d ∷ get_or word (2 * i + 1) 0 ∷ []) (sym (ap (λ w. get_or w (2 * i) 0) is) ∙ here.0)
+    ∙ ap (λ d. hex_digit (get_or bytes i 0 / 16) ∷ d ∷ []) (sym (ap (λ w. get_or w (2 * i + 1) 0) is) ∙ here.1)))
+
+-- one more byte was read
+pub hex_more : (word bytes : List ℕ) (i b : ℕ) → 2 * i + 1 < length word
+    → flat_map hex_byte bytes ≡ take (2 * i) word
+    → hex_byte b ≡ get_or word (2 * i) 0 ∷ get_or word (2 * i + 1) 0 ∷ []
+    → flat_map hex_byte (bytes ++ b ∷ []) ≡ take (2 * (i + 1)) word
+hex_more word bytes i b within so_far is =
+    let twice : 2 * (i + 1) ≡ suc (suc (2 * i)) = omega arith in
+    let next : 2 * i + 1 ≡ suc (2 * i) = omega arith in
+    let longer : take (2 * (i + 1)) word ≡ take (2 * i) word ++ (get_or word (2 * i) 0 ∷ get_or word (2 * i + 1) 0 ∷ []) =
+    ap (λ n. take n word) twice
+    ∙ take-suc word (suc (2 * i)) 0 (omega arith)
+    ∙ (λ j. take-suc word (2 * i) 0 (omega arith) j ++ get_or word (sym next j) 0 ∷ [])
+    ∙ append_assoc (take (2 * i) word) (get_or word (2 * i) 0 ∷ []) (get_or word (2 * i + 1) 0 ∷ []) in
+    flat_map-append hex_byte bytes (b ∷ [])
+    ∙ (λ j. so_far j ++ is j)
+    ∙ sym longer
+
+-- all bytes so far are bytes
+pub All-more : (bytes : List ℕ) (b : ℕ) → b < 2 ^ 8 → All (λ x. x < 2 ^ 8) bytes
+    → All (λ x. x < 2 ^ 8) (bytes ++ b ∷ [])
+All-more [] b fit all = All-cons (λ x. x < 2 ^ 8) b [] fit all
+All-more (x ∷ bytes) b fit all =
+    All-cons (λ x. x < 2 ^ 8) x (bytes ++ b ∷ []) (all 0 0 (omega arith))
+    (All-more bytes b fit (λ k d inside. all (suc k) d (omega arith)))
+
+-- where nothing was found, what follows from there being none
+pub none_then : {X E P Q : Type 0} (r : Result (Option X) E) → (P → Q)
+    → IfOk r (λ found. IfNone found P) → IfOk r (λ found. IfNone found Q)
+none_then (Ok None) more none = more none
+none_then (Ok (Some x)) more none = tt
+none_then (Err e) more none = tt
+
+-- what compares otherwise than the dash is no dash
+pub no_dash : (word dash : List ℕ) → dash ≡ codes "-" → false ≡ pointwise eqb word dash
+    → word ≢ codes "-"
+no_dash word dash is apart same =
+    let equal : pointwise eqb word dash ≡ true = λ j. pointwise eqb (same j) (is j) in
+    cc

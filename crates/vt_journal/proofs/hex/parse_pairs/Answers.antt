@@ -1,0 +1,17 @@
+use Rattle.std.proofs.Common.{◌<◌, ◌^◌, subst, sym, arith, rules}
+use Rattle.std.specs.List.{All}
+use Rattle.vt_journal.proofs.Pairs.{no_hex, hex_more, All-more}
+use Rattle.vt_journal.proofs.hex.parse_pairs.Goals as goal
+
+pub returns-in_default-clause-none : goal.returns-in_default-clause-none
+returns-in_default-clause-none c =
+    λ bytes fit is.
+    no_hex c.args.word.now bytes c.loop-i.i c.loop-i-test.true fit is c.in_default.ensures.none
+
+pub loop-i-preserved : goal.loop-i-preserved
+loop-i-preserved c =
+    let fit : c.in-Some.b < 2 ^ 8 = search rules in (
+      rw c.append.ensures.bytes (hex_more c.args.word.now c.loop-i.bytes.bytes c.loop-i.i c.in-Some.b (omega arith) c.loop-i.invariant.0 c.in-Some.ensures.found),
+      subst (All (λ x. x < 2 ^ 8)) (sym c.append.ensures.bytes) (All-more c.loop-i.bytes.bytes c.in-Some.b fit c.loop-i.invariant.1),
+      omega arith,
+    )
