@@ -8,11 +8,11 @@ use Rattle.std.specs.List.{range_with_len}
 use Rattle.std.specs.Prelude.{◌==◌, is_some, option_map, if◌then◌else◌}
 use Rattle.vt_screen.specs.Screen.{Screen}
 use Rattle.vt_screen.specs.Value.{run}
-use Rattle.vt_world.specs.Display.{Display, found, is_allocated}
+use Rattle.vt_world.specs.Display.{Display, or_fresh, is_allocated}
 use Rattle.vt_world.specs.Rows.{allocating}
-use Rattle.vt_world.specs.Screens.{begun, or_start, screen_at, written}
-use Rattle.vt_world.specs.Start.{for_each, is_among}
-use Rattle.vt_world.specs.State.{W, IsAlike, all_done}
+use Rattle.vt_world.specs.Screens.{with_start, or_start, screen_at, written}
+use Rattle.vt_world.specs.Start.{at_each, is_among}
+use Rattle.vt_world.specs.State.{WorldState, HasScreens, all_done}
 use Rattle.vt_world.specs.Switch.{after_mode, handled}
 use Rattle.vt_world.specs.declared.switch.console.Console.{Console}
 use Rattle.vt_world.specs.declared.switch.handling.Handling.{Handling}
@@ -55,16 +55,16 @@ mode_alike d c (Some handling) =
     ∙ map-set_same is_some d.consoles c (option_map new (get_or d.consoles c None)) None
     (kept new (get_or d.consoles c None))
 
--- consoles that are allocated have a screen begun beside
+-- consoles that are allocated have a screen with_start beside
 pub allocated_alike : (n rows cols : ℕ) (consoles : List (Option Console))
     (screens : List (Option Screen)) → map is_some screens ≡ map is_some consoles
-    → map is_some (begun n rows cols screens)
-    ≡ map is_some (set consoles n (Some (found (get_or consoles n None))))
+    → map is_some (with_start n rows cols screens)
+    ≡ map is_some (set consoles n (Some (or_fresh (get_or consoles n None))))
 allocated_alike n rows cols consoles screens alike =
     both_set screens consoles n (or_start rows cols (get_or screens n None))
-    (found (get_or consoles n None)) alike
+    (or_fresh (get_or consoles n None)) alike
 
-found_again : (o : Option Console) → is_some o ≡ true → Some (found o) ≡ o
+found_again : (o : Option Console) → is_some o ≡ true → Some (or_fresh o) ≡ o
 found_again None taken = absurd (true≢false (sym taken))
 found_again (Some console) taken = refl
 
@@ -81,15 +81,15 @@ taken_alike xs ys n alike =
     ∙ get_or-map is_some ys n None
 
 -- to allocate a console again changes nothing
-pub allocating_same : (w : W) (n : ℕ) → IsAlike w → is_allocated w.display n ≡ true
+pub allocating_same : (w : WorldState) (n : ℕ) → HasScreens w → is_allocated w.display n ≡ true
     → w ≡ all_done w (allocating n [])
 allocating_same w n alike taken =
     let consoles = w.display.consoles in
     let has_screen : is_some (get_or w.screens n None) ≡ true =
     taken_alike w.screens consoles n alike ∙ taken in
-    let same_consoles : set consoles n (Some (found (get_or consoles n None))) ≡ consoles =
+    let same_consoles : set consoles n (Some (or_fresh (get_or consoles n None))) ≡ consoles =
     ap (set consoles n) (found_again (get_or consoles n None) taken) ∙ set-get_or consoles n None in
-    let same_screens : begun n w.rows w.cols w.screens ≡ w.screens =
+    let same_screens : with_start n w.rows w.cols w.screens ≡ w.screens =
     ap (set w.screens n) (start_again w.rows w.cols (get_or w.screens n None) has_screen)
     ∙ set-get_or w.screens n None in
     λ i. record w {
@@ -99,7 +99,7 @@ allocating_same w n alike taken =
 
 -- a console of the set is at its place
 pub among_taken : {A : Type 0} (consoles n : ℕ) (a : A) → n < 64 → is_among consoles n ≡ true
-    → is_some (get_or (for_each consoles a) n None) ≡ true
+    → is_some (get_or (at_each consoles a) n None) ≡ true
 among_taken consoles n a within among =
     ap is_some
     (get_or-map-range_with_len (λ k. if is_among consoles k then Some a else None) 0 64 n n None
@@ -119,7 +119,7 @@ taken_among consoles a at (suc n) =
 
 -- the places of a set are taken alike, whatever they have
 pub each_alike : {A B : Type 0} (consoles : ℕ) (a : A) (b : B)
-    → map is_some (for_each consoles a) ≡ map is_some (for_each consoles b)
+    → map is_some (at_each consoles a) ≡ map is_some (at_each consoles b)
 each_alike consoles a b = taken_among consoles a 0 64 ∙ sym (taken_among consoles b 0 64)
 
 -- one place more of a set

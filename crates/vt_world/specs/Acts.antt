@@ -1,6 +1,6 @@
 -- The acts of the switch: every change of the display, of what is pending and of who handles the
 -- switches of a console is a list of these.
-use Rattle.std.specs.Prelude.{ℕ, Option, Some, None, Result, Ok, Err}
+use Rattle.std.specs.Prelude.{◌≡◌, ℕ, Option, Some, None, Result, Ok, Err}
 use Rattle.vt_base.specs.declared.vt_mode.VtMode.{VtMode}
 use Rattle.vt_base.specs.declared.inval.Inval.{Inval}
 use Rattle.vt_world.specs.Display.{Display}
@@ -9,16 +9,16 @@ use Rattle.vt_world.specs.declared.switch.asked.Asked.{Asked}
 use Rattle.vt_world.specs.declared.switch.asked.Asked.TheVariants.{Hopped, Signalled, Ignored}
 use Rattle.vt_world.specs.declared.switch.hop.Hop.{Hop}
 
-pub data Act : Type 0 where
-  Allocate : ℕ → Act
-  Ask : ℕ → Act
-  Release : ℕ → ℕ → ℕ → Act
-  SetMode : ℕ → ℕ → VtMode → Act
+pub data SwitchAct : Type 0 where
+  Allocate : ℕ → SwitchAct
+  Request : ℕ → SwitchAct
+  Release : ℕ → ℕ → ℕ → SwitchAct
+  SetMode : ℕ → ℕ → VtMode → SwitchAct
 
 -- what an act leaves; one that is refused leaves all as it was
-abbrev pub after : Display → Act → Display
+abbrev pub after : Display → SwitchAct → Display
 after d (Allocate n) = allocate d n
-after d (Ask n) = request d n
+after d (Request n) = request d n
 after d (Release c p arg) = release d c p arg
 after d (SetMode c p m) = set_mode d c p m
 
@@ -32,8 +32,19 @@ hop_of_released (Ok hop) = hop
 hop_of_released (Err refused) = None
 
 -- the hop that an act makes, with its cause
-abbrev pub hop_of : Display → Act → Option Hop
+abbrev pub hop_of : Display → SwitchAct → Option Hop
 hop_of d (Allocate n) = None
-hop_of d (Ask n) = hop_of_asked (asked d n)
+hop_of d (Request n) = hop_of_asked (asked d n)
 hop_of d (Release c p arg) = hop_of_released (released d c p arg)
 hop_of d (SetMode c p m) = None
+
+-- from one display to the next: without a hop the console in front stays; with one the display goes
+-- from the front to the hop's target, the old front is the previous one, and nothing is pending
+abbrev pub Switches : Display → Display → Option Hop → Type 0
+Switches d e None = e.front ≡ d.front
+Switches d e (Some hop) =
+    (hop.from ≡ d.front) × (e.front ≡ hop.to) × (e.last ≡ hop.from) × (e.pending ≡ None)
+
+-- the display switches by hops alone
+abbrev pub OnlyHopsSwitch : Type 0
+OnlyHopsSwitch = (d : Display) (act : SwitchAct) → Switches d (after d act) (hop_of d act)

@@ -1,5 +1,5 @@
 -- The display and the consoles, as the switch keeps them.
-use Rattle.std.specs.Prelude.{◌≡◌, ℕ, Bool, true, false, List, Option, Some, None, IfSome, option_map, slice_index_or, slice_set, is_some}
+use Rattle.std.specs.Prelude.{◌≡◌, ◌==◌, ℕ, Bool, true, false, List, Option, Some, None, IfSome, option_map, slice_index_or, slice_set, is_some}
 use Rattle.vt_world.specs.declared.switch.console.Console.{Console}
 use Rattle.vt_world.specs.declared.switch.handling.Handling.{Handling}
 use Rattle.vt_world.specs.declared.switch.handling.Handling.TheVariants.{Auto, Process}
@@ -13,7 +13,7 @@ pub record Display : Type 0 where
   pub pending : Option ℕ
   pub consoles : List (Option Console)
 
--- what a new console has: text, and nobody who handles its switches
+-- what a new console has: text, and no_caller who handles its switches
 abbrev pub fresh : Console
 fresh = record {
   graphics = false;
@@ -21,15 +21,15 @@ fresh = record {
 }
 
 -- a console that isn't allocated counts as a new one
-abbrev pub found : Option Console → Console
-found None = fresh
-found (Some console) = console
+abbrev pub or_fresh : Option Console → Console
+or_fresh None = fresh
+or_fresh (Some console) = console
 
 abbrev pub place : Display → ℕ → Option Console
 place d n = slice_index_or d.consoles n None
 
 abbrev pub console : Display → ℕ → Console
-console d n = found (place d n)
+console d n = or_fresh (place d n)
 
 abbrev pub is_allocated : Display → ℕ → Bool
 is_allocated d n = is_some (place d n)
@@ -44,7 +44,13 @@ abbrev pub with_console : Display → ℕ → (Console → Console) → Display
 with_console d n change =
     record d { consoles = slice_set d.consoles n (option_map change (place d n)) }
 
--- in every display the console in front is allocated, and so is the one that waits
+-- console n is allocated and isn't in front, and a process handles the switches of the front
+pub record MayWait (d : Display) (n : ℕ) : Type 0 where
+  pub is_there : is_allocated d n ≡ true
+  pub apart : (n == d.front) ≡ false
+  pub asked : is_some (owner_of (console d d.front).handling) ≡ true
+
+-- in every display the console in front is allocated, and one that waits may wait
 pub record IsSound (d : Display) : Type 0 where
   pub has_front : is_allocated d d.front ≡ true
-  pub has_pending : IfSome d.pending (λ n. is_allocated d n ≡ true)
+  pub has_pending : IfSome d.pending (MayWait d)

@@ -1,24 +1,40 @@
 -- Histories of the console: lists of entries.
-use Rattle.std.specs.Prelude.{◌≡◌, ℕ, ◌==◌, List, [], ◌∷◌, take, count_by, Some, slice_get}
+use Rattle.std.specs.Prelude.{◌≡◌, ℕ, ◌==◌, List, [], ◌∷◌, ◌++◌, take, count_by, Some, slice_get}
 use Rattle.vt_events.specs.Plain.{plain_reply}
 use Rattle.vt_events.specs.declared.entry.Entry.{Entry}
-use Rattle.vt_world.specs.State.{W}
+use Rattle.vt_world.specs.State.{WorldState}
 use Rattle.vt_world.specs.Step.{step}
 
 -- replay: the console after the events of the entries, one after another
-abbrev pub replay : W → List Entry → W
+abbrev pub replay : WorldState → List Entry → WorldState
 replay w [] = w
 replay w (entry ∷ entries) = replay (step w entry.caller entry.event).world entries
 
 -- the entry is right behind these: its answer is the console's, and its number counts its caller's
 -- calls
-pub record IsNext (start : W) (before : List Entry) (entry : Entry) : Type 0 where
+pub record IsNext (start : WorldState) (before : List Entry) (entry : Entry) : Type 0 where
   pub answer :
       plain_reply entry.reply ≡ (step (replay start before) entry.caller entry.event).reply
   pub number : entry.seq ≡ count_by (λ earlier. earlier.caller == entry.caller) before
 
 -- legal: each entry is right at its place
-abbrev pub IsLegal : W → List Entry → Type 0
+abbrev pub IsLegal : WorldState → List Entry → Type 0
 IsLegal start entries =
     (k : ℕ) (entry : Entry) → slice_get entries k ≡ Some entry
     → IsNext start (take k entries) entry
+
+-- a history without entries is legal, and so is a legal one with the next entry behind it
+abbrev pub LegalGrows : Type 0
+LegalGrows =
+    (start : WorldState) (entries : List Entry) (entry : Entry) → IsLegal start entries
+    → IsNext start entries entry → IsLegal start (entries ++ entry ∷ [])
+
+abbrev pub NothingIsLegal : Type 0
+NothingIsLegal = (start : WorldState) → IsLegal start []
+
+-- to replay one entry more is one step more
+abbrev pub ReplayGrows : Type 0
+ReplayGrows =
+    (start : WorldState) (entries : List Entry) (entry : Entry)
+    → replay start (entries ++ entry ∷ [])
+    ≡ (step (replay start entries) entry.caller entry.event).world

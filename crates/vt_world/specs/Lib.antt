@@ -1,7 +1,7 @@
 pub mod Acts
+pub mod Callers
 pub mod Display
 pub mod History
-pub mod People
 pub mod Rows
 pub mod Screens
 pub mod Spare

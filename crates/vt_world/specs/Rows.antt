@@ -8,9 +8,9 @@ use Rattle.vt_events.specs.declared.event.Event.{Event}
 use Rattle.vt_events.specs.declared.event.Event.TheVariants as event
 use Rattle.vt_events.specs.declared.reply.Reply.{Reply}
 use Rattle.vt_events.specs.declared.reply.Reply.TheVariants as reply
-use Rattle.vt_world.specs.Acts.{Allocate, Ask, Release, SetMode}
-use Rattle.vt_world.specs.People.{console_of, free_fd, person}
-use Rattle.vt_world.specs.State.{W, Deed, By, Own, Begins, Opens, Writes}
+use Rattle.vt_world.specs.Acts.{Allocate, Request, Release, SetMode}
+use Rattle.vt_world.specs.Callers.{console_of, free_fd, caller_at}
+use Rattle.vt_world.specs.State.{WorldState, Deed, By, Own, Starts, Opens, Writes}
 use Rattle.vt_world.specs.Switch.{handling_of, released}
 
 -- a test that refuses with an error where it fails
@@ -29,65 +29,65 @@ pub record Row : Type 0 where
 abbrev pub row_of : Reply → List Deed → Row
 row_of reply deeds = record { reply = reply; deeds = deeds }
 
--- the console of p's descriptor, 0 where that isn't open
-abbrev pub target : W → ℕ → ℕ → ℕ
-target w p fd = unwrap_or (console_of w.people p fd) 0
+-- the console of p's descriptor; 0 where that isn't open, and every event that asks is refused
+abbrev pub target : WorldState → ℕ → ℕ → ℕ
+target w p fd = unwrap_or (console_of w.callers p fd) 0
 
 -- EBADF: the descriptor isn't open
-abbrev pub is_shut : W → ℕ → ℕ → Test
-is_shut w p fd = test (not (is_some (console_of w.people p fd))) Badf
+abbrev pub needs_open : WorldState → ℕ → ℕ → Test
+needs_open w p fd = test (not (is_some (console_of w.callers p fd))) Badf
 
 -- EPERM: p is neither privileged, nor is the descriptor's console its home
-abbrev pub may_not_handle : W → ℕ → ℕ → Test
-may_not_handle w p fd =
-    test (not ((person w.people p).privileged || target w p fd == (person w.people p).home)) Perm
+abbrev pub needs_right : WorldState → ℕ → ℕ → Test
+needs_right w p fd =
+    test (not ((caller_at w.callers p).privileged || target w p fd == (caller_at w.callers p).home)) Perm
 
 -- ENXIO: no console has the number
-abbrev pub is_no_console : ℕ → Test
-is_no_console n = test (n == 0 || nat_lt 63 n) Nxio
+abbrev pub needs_console : ℕ → Test
+needs_console n = test (n == 0 || nat_lt 63 n) Nxio
 
 abbrev pub is_refused : {T E : Type 0} → Result T E → Bool
 is_refused (Ok value) = false
 is_refused (Err refused) = true
 
 -- the console that `open` names: 0 is the one in front
-abbrev pub named : W → ℕ → ℕ
+abbrev pub named : WorldState → ℕ → ℕ
 named w n = if n == 0 then w.display.front else n
 
 abbrev pub mode_of : ℕ → ℕ → ℕ → ℕ → ℕ → VtMode
 mode_of m w r a f = record { mode = m; waitv = w; relsig = r; acqsig = a; frsig = f }
 
--- the most bytes of one write
+-- the most bytes of one write; this project's own
 abbrev pub write_limit : ℕ
 write_limit = 4096
 
 -- what refuses an event, in order
-abbrev pub own_tests : W → ℕ → Event → List Test
+abbrev pub own_tests : WorldState → ℕ → Event → List Test
 own_tests w p (event.OpenCon n) =
-    test (nat_lt 63 n) Nxio ∷ test (not (is_some (free_fd w.people p))) Busy ∷ []
+    test (nat_lt 63 n) Nxio ∷ test (not (is_some (free_fd w.callers p))) Busy ∷ []
 own_tests w p (event.Write fd b) =
-    is_shut w p fd ∷ test (nat_lt write_limit (length b.bytes)) Inval ∷ []
+    needs_open w p fd ∷ test (nat_lt write_limit (length b.bytes)) Inval ∷ []
 own_tests w p (event.Activate fd n) =
-    is_shut w p fd ∷ may_not_handle w p fd ∷ is_no_console n ∷ test w.display.locked Busy ∷ []
+    needs_open w p fd ∷ needs_right w p fd ∷ needs_console n ∷ test w.display.locked Busy ∷ []
 own_tests w p (event.SetMode fd m wait r a f) =
-    is_shut w p fd ∷ may_not_handle w p fd
+    needs_open w p fd ∷ needs_right w p fd
     ∷ test (not (is_some (handling_of p (mode_of m wait r a f)))) Inval ∷ []
 own_tests w p (event.RelDisp fd arg) =
-    is_shut w p fd ∷ may_not_handle w p fd
+    needs_open w p fd ∷ needs_right w p fd
     ∷ test (is_refused (released w.display (target w p fd) p arg)) Inval ∷ []
 
 -- console n is allocated, if it isn't yet, and has a screen
 abbrev pub allocating : ℕ → List Deed → List Deed
-allocating n deeds = By (Allocate n) ∷ Own (Begins n) ∷ deeds
+allocating n deeds = By (Allocate n) ∷ Own (Starts n) ∷ deeds
 
 -- what an event answers and does
-abbrev pub row : W → ℕ → Event → Row
+abbrev pub row : WorldState → ℕ → Event → Row
 row w p (event.OpenCon n) =
-    row_of (reply.Num (unwrap_or (free_fd w.people p) 0))
+    row_of (reply.Num (unwrap_or (free_fd w.callers p) 0))
     (allocating (named w n) (Own (Opens p (named w n)) ∷ []))
 row w p (event.Write fd b) =
     row_of (reply.Num (length b.bytes)) (Own (Writes (target w p fd) b.bytes) ∷ [])
-row w p (event.Activate fd n) = row_of reply.Done (allocating n (By (Ask n) ∷ []))
+row w p (event.Activate fd n) = row_of reply.Done (allocating n (By (Request n) ∷ []))
 row w p (event.SetMode fd m wait r a f) =
     row_of reply.Done (By (SetMode (target w p fd) p (mode_of m wait r a f)) ∷ [])
 row w p (event.RelDisp fd arg) = row_of reply.Done (By (Release (target w p fd) p arg) ∷ [])

@@ -11,11 +11,12 @@ or_start rows cols None = start_screen rows cols
 or_start rows cols (Some s) = s
 
 -- console n has a screen: the start screen, where it had none
-abbrev pub begun : ℕ → ℕ → ℕ → List (Option Screen) → List (Option Screen)
-begun n rows cols screens =
+abbrev pub with_start : ℕ → ℕ → ℕ → List (Option Screen) → List (Option Screen)
+with_start n rows cols screens =
     slice_set screens n (Some (or_start rows cols (screen_at screens n)))
 
--- these bytes are run on the screen of console n, if it has one
+-- these bytes are run on the screen of console n, if it has one: `run` gives the run of its bytes as a
+-- value
 abbrev pub written : ℕ → List ℕ → List (Option Screen) → List (Option Screen)
 written n bytes screens =
     slice_set screens n (option_map (λ s. run s bytes) (screen_at screens n))

@@ -1,5 +1,5 @@
 -- What an event needs beside the world, taken before.
-use Rattle.std.specs.Prelude.{◌≡◌, ◌≤◌, ℕ, Bool, false, ◌&&◌, nat_le, IsTrue, Option, Some, None}
+use Rattle.std.specs.Prelude.{◌≡◌, ◌≤◌, ℕ, Bool, false, ◌&&◌, nat_le, IsTrue, Option, Some, None, []}
 use Rattle.vt_base.specs.Bytes.{Text}
 use Rattle.vt_events.specs.Charge.{greatest_reply}
 use Rattle.vt_events.specs.declared.event.Event.{Event}
@@ -11,6 +11,14 @@ pub record SpareView : Type 0 where
   pub grid : Option Sheet
   pub reply : Text
   pub unused : Text
+
+-- no bytes, and room for n
+abbrev pub empty_with : ℕ → Text
+empty_with n = record { bytes = []; room = n }
+
+-- nothing
+abbrev pub no_spare : SpareView
+no_spare = record { grid = None; reply = empty_with 0; unused = empty_with 0 }
 
 -- the number of a console that may have to be allocated
 abbrev pub is_console : ℕ → Bool

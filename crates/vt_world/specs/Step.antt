@@ -1,4 +1,5 @@
--- The console step: what one event of one caller makes of the console, and what it is answered.
+-- The console step: what one event of one caller makes of the console, and what it is answered. The
+-- order of refusals is this project's own.
 use Rattle.std.specs.Prelude.{◌≡◌, ℕ, ◌==◌, not, List, [], ◌∷◌, Option, Some, None, All, IsTrue, ⊤, if◌then◌else◌}
 use Rattle.vt_base.specs.declared.errno.Errno.{Errno}
 use Rattle.vt_base.specs.declared.errno.Errno.TheVariants.{Srch, Notty}
@@ -8,13 +9,13 @@ use Rattle.vt_events.specs.declared.event.Event.TheVariants as event
 use Rattle.vt_events.specs.declared.reply.Reply.{Reply}
 use Rattle.vt_events.specs.declared.reply.Reply.TheVariants as reply
 use Rattle.vt_screen.specs.Units.{is_built}
-use Rattle.vt_world.specs.People.{person}
+use Rattle.vt_world.specs.Callers.{caller_at}
 use Rattle.vt_world.specs.Rows.{Row, Test, own_tests, row, test}
-use Rattle.vt_world.specs.State.{W, all_done}
+use Rattle.vt_world.specs.State.{WorldState, all_done}
 
 -- the console after an event, and its answer
 pub record Outcome : Type 0 where
-  pub world : W
+  pub world : WorldState
   pub reply : Reply
 
 -- the error of the first test that fails
@@ -22,28 +23,26 @@ abbrev pub first_failing : List Test → Option Errno
 first_failing [] = None
 first_failing (t ∷ tests) = if t.fails then Some t.with else first_failing tests
 
--- what refuses every event: its caller isn't live, or can't make it (the keyboard makes none of
--- them)
-abbrev pub common_tests : W → ℕ → List Test
-common_tests w p = test (not (person w.people p).live) Srch ∷ test (p == 0) Notty ∷ []
+-- what refuses an event, in order: its caller isn't live; it is the keyboard, which makes none of
+-- them; and the event's own tests
+abbrev pub tests : WorldState → ℕ → Event → List Test
+tests w p e =
+    test (not (caller_at w.callers p).live) Srch ∷ test (p == 0) Notty ∷ own_tests w p e
 
 -- a refused event changes nothing; else its deeds are done
-abbrev pub answered : W → Option Errno → Row → Outcome
+abbrev pub answered : WorldState → Option Errno → Row → Outcome
 answered w (Some errno) r = record { world = w; reply = reply.Err errno }
 answered w None r = record { world = all_done w r.deeds; reply = r.reply }
 
-abbrev pub own_step : W → ℕ → Event → Outcome
+abbrev pub step : WorldState → ℕ → Event → Outcome
+step w p e = answered w (first_failing (tests w p e)) (row w p e)
+
+-- the step of a caller that may make the event
+abbrev pub own_step : WorldState → ℕ → Event → Outcome
 own_step w p e = answered w (first_failing (own_tests w p e)) (row w p e)
 
-abbrev pub after_common : W → ℕ → Event → Option Errno → Outcome
-after_common w p e (Some errno) = record { world = w; reply = reply.Err errno }
-after_common w p e None = own_step w p e
-
-abbrev pub step : W → ℕ → Event → Outcome
-step w p e = after_common w p e (first_failing (common_tests w p))
-
 -- the world and the answer are those of the outcome
-abbrev pub Gives : Outcome → W → Reply → Type 0
+abbrev pub Gives : Outcome → WorldState → Reply → Type 0
 Gives outcome w r = outcome ≡ record { world = w; reply = plain_reply r }
 
 -- the bytes that the event writes are ones that the machine reads

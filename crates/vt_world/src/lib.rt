@@ -3,6 +3,7 @@
 
 mod config;
 mod console_set;
+mod laws;
 mod procs;
 mod rows;
 mod screens;
@@ -12,6 +13,7 @@ mod switch;
 mod world;
 
 pub use config::Config;
+pub use laws::{legal_grows, only_hops_switch};
 pub use procs::{ProcList, ProcStart};
 pub use spare::{Spare, spare_for};
 pub use world::World;

@@ -1,8 +1,8 @@
 ghost use Rattle.std.specs.Prelude.{◌≡◌, Some, None, IsTrue, IfOk, All, is_some, option_copied, if◌then◌else◌};
 ghost use Rattle.vt_screen.specs.Screen.{start_screen};
 ghost use Rattle.vt_screen.specs.Units.{is_built};
-ghost use Rattle.vt_world.specs.Screens.{begun, screen_at, written};
-ghost use Rattle.vt_world.specs.Start.{for_each};
+ghost use Rattle.vt_world.specs.Screens.{with_start, screen_at, written};
+ghost use Rattle.vt_world.specs.Start.{at_each};
 
 use crate::console_set::is_among;
 use std::alloc::Global;
@@ -35,7 +35,7 @@ impl Screens {
     /// A start screen for each console of the set.
     pub fn start(alloc: Global, size: Size, consoles: u64) -> Result<Screens, NoMemory>
         ensures { IfOk result (λ screens. screens
-            ≡ for_each consoles (start_screen size.rows size.cols)) }
+            ≡ at_each consoles (start_screen size.rows size.cols)) }
     {
         let mut places = Vec::with_capacity(alloc, PLACES)?;
         for n in 0..PLACES {
@@ -54,7 +54,7 @@ impl Screens {
 
     /// Gives the console a start screen on this grid, where it has none.
     pub fn begin(&mut self, c: ConsoleNo, grid: Grid)
-        ensures { self.new ≡ begun c grid.rows grid.cols self.old }
+        ensures { self.new ≡ with_start c grid.rows grid.cols self.old }
     {
         let place = &mut self.places[usize::from(c.get())];
         if place.is_none() {

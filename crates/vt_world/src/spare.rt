@@ -1,7 +1,6 @@
-ghost use Rattle.std.specs.Prelude.{◌≡◌, ℕ, false, IfOk, IsTrue};
+ghost use Rattle.std.specs.Prelude.{◌≡◌, IfOk, IsTrue, is_some};
 ghost use Rattle.vt_events.specs.Charge.{greatest_reply};
-ghost use Rattle.vt_world.specs.Spare.{Fits, HasSize, allocates};
-ghost use Rattle.vt_events.specs.declared.event.Event.{Event};
+ghost use Rattle.vt_world.specs.Spare.{Fits, HasSize, allocates, empty_with, no_spare};
 
 use std::alloc::Global;
 use std::marker::Model;
@@ -27,10 +26,10 @@ impl Model for Spare {
 }
 
 impl Spare {
-    /// Nothing. It serves every call that allocates nothing and whose answer has no bytes.
+    /// No grid and no room. It serves every call that allocates nothing and whose answer has no
+    /// bytes.
     pub fn none(alloc: Global) -> Spare
-        ensures { (rows cols : ℕ) (e : Event) → allocates e ≡ false → greatest_reply e ≡ 0
-            → Fits rows cols e result }
+        ensures { result ≡ no_spare }
     {
         Spare {
             grid: None,
@@ -42,7 +41,10 @@ impl Spare {
 
 /// What the call may need in a world of this size.
 pub fn spare_for(alloc: Global, e: &Event, size: Size) -> Result<Spare, NoMemory>
-    ensures { IfOk result (λ spare. Fits size.rows size.cols e.now spare) }
+    ensures fits { IfOk result (λ spare. Fits size.rows size.cols e.now spare) }
+    ensures grid { IfOk result (λ spare. is_some spare.grid ≡ allocates e.now) }
+    ensures buffers { IfOk result (λ spare. (spare.reply ≡ empty_with (greatest_reply e.now))
+        × (spare.unused ≡ empty_with (greatest_reply e.now))) }
 {
     let grid = grid_for(alloc, e, size)?;
     let bytes = reply_bytes(e);
@@ -54,7 +56,8 @@ pub fn spare_for(alloc: Global, e: &Event, size: Size) -> Result<Spare, NoMemory
 }
 
 fn grid_for(alloc: Global, e: &Event, size: Size) -> Result<Option<Grid>, NoMemory>
-    ensures { IfOk result (λ grid. IsTrue (allocates e.now) → HasSize size.rows size.cols grid) }
+    ensures size { IfOk result (λ grid. IsTrue (allocates e.now) → HasSize size.rows size.cols grid) }
+    ensures some { IfOk result (λ grid. is_some grid ≡ allocates e.now) }
 {
     if !allocates(e) {
         return Ok(None);

@@ -1,6 +1,6 @@
 ghost use Rattle.std.specs.Prelude.{◌≡◌, IsTrue};
 ghost use Rattle.vt_world.specs.Spare.{Fits, HasSize, allocates};
-ghost use Rattle.vt_world.specs.Step.{Gives, IsBuiltEvent, common_tests, first_failing, own_step, step};
+ghost use Rattle.vt_world.specs.Step.{Gives, IsBuiltEvent, own_step, step};
 
 use crate::spare::Spare;
 use crate::world::World;
@@ -21,24 +21,14 @@ impl World {
         ensures unused { result.1 ≡ spare.unused }
     {
         let Spare { grid, unused, .. } = spare;
-        let reply = match self.refusal(caller) {
-            Some(errno) => Reply::Err(errno),
-            None => self.carry_out(caller, event, grid),
+        let reply = if !self.procs.live(caller) {
+            Reply::Err(Errno::Srch)
+        } else if caller.get() == KEYBOARD {
+            Reply::Err(Errno::Notty)
+        } else {
+            self.carry_out(caller, event, grid)
         };
         (reply, unused)
-    }
-
-    // What refuses every event of the caller.
-    fn refusal(&self, caller: CallerNo) -> Option<Errno>
-        ensures { result ≡ first_failing (common_tests self.now caller) }
-    {
-        if !self.procs.live(caller) {
-            return Some(Errno::Srch);
-        }
-        if caller.get() == KEYBOARD {
-            return Some(Errno::Notty);
-        }
-        None
     }
 
     fn carry_out(&mut self, p: CallerNo, event: &Event, grid: Option<Grid>) -> Reply

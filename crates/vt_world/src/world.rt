@@ -22,25 +22,25 @@ pub struct World {
 }
 
 impl Model for World {
-    ghost use Rattle.vt_world.specs.State.{W};
+    ghost use Rattle.vt_world.specs.State.{WorldState};
 
-    ghost Value = { W };
+    ghost Value = { WorldState };
 
     ghost view = { λ w. record {
       rows = w.size.rows;
       cols = w.size.cols;
       display = w.switch;
-      people = w.procs;
+      callers = w.procs;
       screens = w.screens;
     } };
 
-    ghost use Rattle.vt_world.specs.State.{IsAlike};
+    ghost use Rattle.vt_world.specs.State.{HasScreens};
 
-    ghost invariant = { λ w. IsAlike (record {
+    ghost invariant = { λ w. HasScreens (record {
       rows = w.size.rows;
       cols = w.size.cols;
       display = w.switch;
-      people = w.procs;
+      callers = w.procs;
       screens = w.screens;
     }) };
 }

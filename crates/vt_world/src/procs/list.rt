@@ -1,5 +1,5 @@
 ghost use Rattle.std.specs.Prelude.{◌≡◌};
-ghost use Rattle.vt_world.specs.People.{console_of, free_fd, opened, people_of, person, starting};
+ghost use Rattle.vt_world.specs.Callers.{console_of, free_fd, opened, callers_of, caller_at, starting};
 
 use crate::procs::opens::NO_OPENS;
 use crate::procs::{ProcStart, Process};
@@ -10,7 +10,7 @@ use vt_base::{CallerNo, ConsoleNo, Fd};
 const PLACES: usize = 65;
 
 /// Who never lived.
-const NOBODY: Process = Process {
+const NO_CALLER: Process = Process {
     live: false,
     home: 0,
     privileged: false,
@@ -27,7 +27,7 @@ const KEYBOARD: Process = Process {
 /// All callers.
 #[derive(Debug, Drop)]
 pub struct Procs {
-    people: [Process; PLACES],
+    callers: [Process; PLACES],
 }
 
 impl Model for Procs {
@@ -36,47 +36,47 @@ impl Model for Procs {
 
     ghost Value = { List Process };
 
-    ghost view = { λ p. p.people };
+    ghost view = { λ p. p.callers };
 }
 
 impl Procs {
     /// The keyboard, and these processes.
     pub fn start(list: &[ProcStart]) -> Procs
-        ensures { result ≡ people_of list.now }
+        ensures { result ≡ callers_of list.now }
     {
-        let mut people = [NOBODY; PLACES];
+        let mut callers = [NO_CALLER; PLACES];
         for p in 0..PLACES {
-            people[p] = starting(list, p);
+            callers[p] = starting(list, p);
         }
-        Procs { people }
+        Procs { callers }
     }
 
     /// Whether `p` lives.
     pub fn live(&self, p: CallerNo) -> bool
-        ensures { result ≡ (person self.now p).live }
+        ensures { result ≡ (caller_at self.now p).live }
     {
-        self.people[usize::from(p.get())].live
+        self.callers[usize::from(p.get())].live
     }
 
     /// The console that `p` may handle without privilege, or 0.
     pub fn home(&self, p: CallerNo) -> u8
-        ensures { result ≡ (person self.now p).home }
+        ensures { result ≡ (caller_at self.now p).home }
     {
-        self.people[usize::from(p.get())].home
+        self.callers[usize::from(p.get())].home
     }
 
     /// Whether `p` may handle every console.
     pub fn privileged(&self, p: CallerNo) -> bool
-        ensures { result ≡ (person self.now p).privileged }
+        ensures { result ≡ (caller_at self.now p).privileged }
     {
-        self.people[usize::from(p.get())].privileged
+        self.callers[usize::from(p.get())].privileged
     }
 
     /// The console of the descriptor, where that is open.
     pub fn console_of(&self, p: CallerNo, fd: u16) -> Option<ConsoleNo>
         ensures { result ≡ console_of self.now p fd }
     {
-        let process = &self.people[usize::from(p.get())];
+        let process = &self.callers[usize::from(p.get())];
         process.opens.at(fd)
     }
 
@@ -85,7 +85,7 @@ impl Procs {
         ensures answer { result ≡ free_fd self.old p }
         ensures state { self.new ≡ opened p c self.old }
     {
-        let process = &mut self.people[usize::from(p.get())];
+        let process = &mut self.callers[usize::from(p.get())];
         process.opens.add(c)
     }
 }
@@ -104,6 +104,6 @@ fn starting(list: &[ProcStart], p: usize) -> Process
             privileged: start.privileged,
             opens: NO_OPENS,
         },
-        None => NOBODY,
+        None => NO_CALLER,
     }
 }

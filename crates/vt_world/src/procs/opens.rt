@@ -1,5 +1,5 @@
 ghost use Rattle.std.specs.Prelude.{◌≡◌, ◌<◌, IfSome, length, slice_index_or, None};
-ghost use Rattle.vt_world.specs.People.{lowest_free, with_open};
+ghost use Rattle.vt_world.specs.Callers.{lowest_free, with_open};
 
 use std::marker::Model;
 use vt_base::{ConsoleNo, Fd};

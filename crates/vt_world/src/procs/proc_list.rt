@@ -45,9 +45,3 @@ impl ProcList {
         self.items.as_slice()
     }
 }
-
-impl Default for ProcList {
-    fn default() -> ProcList {
-        ProcList::new()
-    }
-}

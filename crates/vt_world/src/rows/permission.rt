@@ -1,7 +1,7 @@
 //! Who may handle a console, and how one gets allocated.
 ghost use Rattle.std.specs.Prelude.{◌≡◌, ◌==◌, ◌||◌, [], false, IfSome, IsTrue, Some, None, nat_lt, if◌then◌else◌};
 ghost use Rattle.vt_world.specs.Display.{is_allocated};
-ghost use Rattle.vt_world.specs.People.{person};
+ghost use Rattle.vt_world.specs.Callers.{caller_at};
 ghost use Rattle.vt_world.specs.Rows.{allocating, named};
 ghost use Rattle.vt_world.specs.Spare.{HasSize, is_console};
 ghost use Rattle.vt_world.specs.State.{all_done};
@@ -13,8 +13,8 @@ use vt_grid::Grid;
 impl World {
     /// Whether `p` is privileged, or the console is its home.
     pub(crate) fn may_handle(&self, p: CallerNo, c: ConsoleNo) -> bool
-        ensures { result ≡ ((person self.now.people p).privileged
-            || c == (person self.now.people p).home) }
+        ensures { result ≡ ((caller_at self.now.callers p).privileged
+            || c == (caller_at self.now.callers p).home) }
     {
         self.procs.privileged(p) || c.get() == u16::from(self.procs.home(p))
     }

@@ -29,7 +29,7 @@ impl Switch {
             return Asked::Ignored;
         }
         let Some(front) = &self.consoles[usize::from(self.front.get())] else {
-            return Asked::Hopped(self.hop_to(to, Cause::Free));
+            unreachable!()
         };
         match &front.handling {
             Handling::Process(handshake) => Asked::Signalled {

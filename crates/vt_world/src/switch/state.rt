@@ -1,6 +1,6 @@
 ghost use Rattle.std.specs.Prelude.{◌≡◌, true, length};
 ghost use Rattle.vt_world.specs.Display.{fresh, is_allocated};
-ghost use Rattle.vt_world.specs.Start.{IsFitSet, first_display, for_each};
+ghost use Rattle.vt_world.specs.Start.{IsFitSet, first_display, at_each};
 ghost use Rattle.vt_world.specs.Switch.{allocate};
 
 use crate::console_set::is_among;
@@ -60,7 +60,7 @@ impl Switch {
     /// These consoles are allocated and new, and one of them is in front.
     pub fn start(front: ConsoleNo, allocated: u64) -> Switch
         requires { IsFitSet allocated front }
-        ensures { result ≡ first_display front allocated }
+        ensures { result ≡ first_display allocated front }
     {
         let _front = front.get();
         let mut consoles = [None; PLACES];
@@ -109,7 +109,7 @@ impl Switch {
 // A new console at the place of each that is allocated.
 fn fill(consoles: &mut [Option<Console>], allocated: u64)
     requires { length consoles.old ≡ 64 }
-    ensures { consoles.new ≡ for_each allocated fresh }
+    ensures { consoles.new ≡ at_each allocated fresh }
 {
     for n in 0..PLACES {
         consoles[n] = if is_among(allocated, n) {

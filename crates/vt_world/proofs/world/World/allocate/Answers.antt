@@ -3,20 +3,20 @@ use Rattle.std.specs.Prelude.{is_some}
 use Rattle.vt_world.proofs.Places.{allocated_alike, allocating_same}
 use Rattle.vt_world.specs.Display.{Display}
 use Rattle.vt_world.specs.Rows.{allocating}
-use Rattle.vt_world.specs.State.{W, all_done}
+use Rattle.vt_world.specs.State.{WorldState, all_done}
 use Rattle.vt_world.proofs.world.World.allocate.Goals as goal
 
 pub returns-then-allocated : goal.returns-then-allocated
 returns-then-allocated c =
     let inside = c.self.inside in
-    let w : W = record {
+    let w : WorldState = record {
       rows = inside.size.rows;
       cols = inside.size.cols;
       display = inside.switch;
-      people = inside.procs;
+      callers = inside.procs;
       screens = inside.screens;
     } in
-    subst (λ (v : W). v ≡ all_done v (allocating c.args.c [])) c.self.view_is
+    subst (λ (v : WorldState). v ≡ all_done v (allocating c.args.c [])) c.self.view_is
     (allocating_same w c.args.c c.self.invariant (sym c.allocated.ensures ∙ c.if-allocated.true))
 
 pub invariant_of-self : goal.invariant_of-self
