@@ -1,5 +1,5 @@
 -- Words and the decimal digits of numbers.
-use Rattle.std.proofs.Common.{◌≡◌, ◌≢◌, ℕ, zero, suc, ◌+◌, ◌*◌, ◌-◌, ◌<◌, ◌≤◌, ◌^◌, Bool, true, false, eqb, true≢false, ◌⊎◌, ⊎_elim, refl, List, [], ◌∷◌, length, get_or, sym, ap, ◌∙◌, subst, arith, rules, lit<}
+use Rattle.std.proofs.Common.{◌≡◌, ◌≢◌, ℕ, zero, suc, ◌+◌, ◌*◌, ◌-◌, ◌<◌, ◌≤◌, ◌^◌, Bool, true, false, eqb, true≢false, refl, List, [], ◌∷◌, length, get_or, sym, ap, ◌∙◌, subst, arith, rules, lit<}
 use Rattle.std.specs.Prelude.{decimal, Result, Ok, Err, IfSome, IfNone}
 use Rattle.std.specs.Bool.{OnFalse}
 use Rattle.std.specs.Result.{result_ok}

@@ -1,6 +1,6 @@
 -- Calls, answers and entries as they are meant: the room that their bytes happen to have is nothing
 -- of theirs, and counts as none.
-use Rattle.std.specs.Prelude.{List, ℕ, map}
+use Rattle.std.specs.Prelude.{List, ℕ}
 use Rattle.vt_base.specs.Bytes.{Text}
 use Rattle.vt_events.specs.declared.entry.Entry.{Entry}
 use Rattle.vt_events.specs.declared.event.Event.{Event}

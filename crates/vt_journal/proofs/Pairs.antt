@@ -1,9 +1,10 @@
 -- Bytes and their hexadecimal digits.
-use Rattle.std.proofs.Common.{◌≡◌, ◌≢◌, ℕ, zero, suc, ◌+◌, ◌*◌, ◌/◌, ◌%◌, ◌<◌, ◌^◌, true, false, eqb, Option, Some, None, Result, Ok, Err, List, [], ◌∷◌, ◌++◌, codes, length, take, get_or, arith, sym, ap, refl, ◌∙◌, append_assoc}
+use Rattle.std.proofs.Common.{◌≡◌, ◌≢◌, ℕ, zero, suc, ◌+◌, ◌*◌, ◌/◌, ◌%◌, ◌<◌, ◌^◌, ◌-◌, true, false, cond, eqb, ltb, Option, Some, None, Result, Ok, Err, List, [], ◌∷◌, ◌++◌, codes, length, take, get_or, arith, sym, ap, refl, ◌∙◌, append_assoc}
 use Rattle.std.specs.Prelude.{IfOk, IfNone}
 use Rattle.std.specs.Cmp.Lexicographic.{pointwise}
 use Rattle.std.specs.List.{All, flat_map}
 use Rattle.std.proofs.Math.Seq.{take-suc}
+use Rattle.std.proofs.lemmas.Bool.Decides.{nat_tests}
 use Rattle.std.proofs.lemmas.List.Concat.{flat_map-append}
 use Rattle.std.proofs.lemmas.List.Elements.{All-cons}
 use Rattle.vt_journal.specs.Hex.{hex_byte, hex_digit, hex_text}
@@ -45,7 +46,8 @@ no_hex word bytes i within fit is none =
     none (get_or bytes i 0) (fit i 0 inside)
     (sym
     (ap (λ d. d ∷ get_or word (2 * i + 1) 0 ∷ []) (sym (ap (λ w. get_or w (2 * i) 0) is) ∙ here.0)
-    ∙ ap (λ d. hex_digit (get_or bytes i 0 / 16) ∷ d ∷ []) (sym (ap (λ w. get_or w (2 * i + 1) 0) is) ∙ here.1)))
+    ∙ ap (λ d. hex_digit (get_or bytes i 0 / 16) ∷ d ∷ [])
+    (sym (ap (λ w. get_or w (2 * i + 1) 0) is) ∙ here.1)))
 
 -- one more byte was read
 pub hex_more : (word bytes : List ℕ) (i b : ℕ) → 2 * i + 1 < length word
@@ -55,11 +57,13 @@ pub hex_more : (word bytes : List ℕ) (i b : ℕ) → 2 * i + 1 < length word
 hex_more word bytes i b within so_far is =
     let twice : 2 * (i + 1) ≡ suc (suc (2 * i)) = omega arith in
     let next : 2 * i + 1 ≡ suc (2 * i) = omega arith in
-    let longer : take (2 * (i + 1)) word ≡ take (2 * i) word ++ (get_or word (2 * i) 0 ∷ get_or word (2 * i + 1) 0 ∷ []) =
+    let high = get_or word (2 * i) 0 in
+    let low = get_or word (2 * i + 1) 0 in
+    let longer : take (2 * (i + 1)) word ≡ take (2 * i) word ++ (high ∷ low ∷ []) =
     ap (λ n. take n word) twice
     ∙ take-suc word (suc (2 * i)) 0 (omega arith)
     ∙ (λ j. take-suc word (2 * i) 0 (omega arith) j ++ get_or word (sym next j) 0 ∷ [])
-    ∙ append_assoc (take (2 * i) word) (get_or word (2 * i) 0 ∷ []) (get_or word (2 * i + 1) 0 ∷ []) in
+    ∙ append_assoc (take (2 * i) word) (high ∷ []) (low ∷ []) in
     flat_map-append hex_byte bytes (b ∷ [])
     ∙ (λ j. so_far j ++ is j)
     ∙ sym longer
@@ -85,3 +89,49 @@ pub no_dash : (word dash : List ℕ) → dash ≡ codes "-" → false ≡ pointw
 no_dash word dash is apart same =
     let equal : pointwise eqb word dash ≡ true = λ j. pointwise eqb (same j) (is j) in
     cc
+
+-- the number of a digit
+unhex : ℕ → ℕ
+unhex d = cond (ltb d 0x40) (d - 0x30) (d - 0x57)
+
+unhex-hex_digit : (n : ℕ) → n < 16 → unhex (hex_digit n) ≡ n
+unfolding unhex
+unhex-hex_digit n below = grind (arith, nat_tests)
+
+hex_byte_injective : (a b : ℕ) → a < 2 ^ 8 → b < 2 ^ 8 → hex_digit (a / 16) ≡ hex_digit (b / 16)
+    → hex_digit (a % 16) ≡ hex_digit (b % 16) → a ≡ b
+hex_byte_injective a b fit_a fit_b high low =
+    let highs : a / 16 ≡ b / 16 =
+    sym (unhex-hex_digit (a / 16) (omega arith))
+    ∙ ap unhex high
+    ∙ unhex-hex_digit (b / 16) (omega arith) in
+    let lows : a % 16 ≡ b % 16 =
+    sym (unhex-hex_digit (a % 16) (omega arith))
+    ∙ ap unhex low
+    ∙ unhex-hex_digit (b % 16) (omega arith) in
+    omega (arith, highs, lows)
+
+pairs_injective : (xs ys : List ℕ) → All (λ x. x < 2 ^ 8) xs → All (λ x. x < 2 ^ 8) ys
+    → flat_map hex_byte xs ≡ flat_map hex_byte ys → xs ≡ ys
+pairs_injective [] [] fit_a fit_b same = refl
+pairs_injective [] (b ∷ ys) fit_a fit_b same = cc
+pairs_injective (a ∷ xs) [] fit_a fit_b same = cc
+pairs_injective (a ∷ xs) (b ∷ ys) fit_a fit_b same =
+    let high : hex_digit (a / 16) ≡ hex_digit (b / 16) = cc in
+    let low : hex_digit (a % 16) ≡ hex_digit (b % 16) = cc in
+    let others : flat_map hex_byte xs ≡ flat_map hex_byte ys = cc in
+    let head : a ≡ b =
+    hex_byte_injective a b (fit_a 0 0 (omega arith)) (fit_b 0 0 (omega arith)) high low in
+    let tail : xs ≡ ys =
+    pairs_injective xs ys (λ k d within. fit_a (suc k) d (omega arith))
+    (λ k d within. fit_b (suc k) d (omega arith)) others in
+    λ j. head j ∷ tail j
+
+-- bytes are read back from their digits
+pub hex_injective : (xs ys : List ℕ) → All (λ x. x < 2 ^ 8) xs → All (λ x. x < 2 ^ 8) ys
+    → hex_text xs ≡ hex_text ys → xs ≡ ys
+hex_injective [] [] fit_a fit_b same = refl
+hex_injective [] (b ∷ ys) fit_a fit_b same = cc
+hex_injective (a ∷ xs) [] fit_a fit_b same = cc
+hex_injective (a ∷ xs) (b ∷ ys) fit_a fit_b same =
+    pairs_injective (a ∷ xs) (b ∷ ys) fit_a fit_b same

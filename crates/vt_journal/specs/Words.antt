@@ -1,9 +1,10 @@
 -- The words of calls and answers. This project's own: one case for each call, and one for each
 -- answer; `decimal` is a number's digits, without sign or leading zeros.
-use Rattle.std.specs.Prelude.{ℕ, ◌<◌, ◌^◌, List, [], ◌∷◌, codes, decimal}
+use Rattle.std.specs.Prelude.{◌≡◌, ℕ, ◌<◌, ◌^◌, List, [], ◌∷◌, codes, decimal}
 use Rattle.std.specs.List.{All, join_with_byte}
 use Rattle.vt_base.specs.Errno.{number_of}
 use Rattle.vt_events.specs.Charge.{text_of_event}
+use Rattle.vt_events.specs.Plain.{plain_event}
 use Rattle.vt_events.specs.declared.event.Event.{Event}
 use Rattle.vt_events.specs.declared.event.Event.TheVariants as event
 use Rattle.vt_events.specs.declared.reply.Reply.{Reply}
@@ -44,3 +45,9 @@ numbers_of (event.RelDisp fd arg) = fd ∷ arg ∷ []
 pub record IsFit (e : Event) : Type 0 where
   pub numbers : All (λ n. n < 2 ^ 16) (numbers_of e)
   pub bytes : All (λ b. b < 2 ^ 8) (text_of_event e)
+
+-- the text is the one spelling of the call, which is fit and has no room
+pub record Spells (text : List ℕ) (e : Event) : Type 0 where
+  pub fit : IsFit e
+  pub plain : plain_event e ≡ e
+  pub spelled : spelled (event_words e) ≡ text

@@ -47,7 +47,8 @@ pub fn parse_hex(alloc: Global, word: &[u8]) -> Result<Option<Bytes>, NoMemory>
 fn parse_pairs(alloc: Global, word: &[u8]) -> Result<Option<Bytes>, NoMemory>
     requires some { 0 < length word.now }
     requires even { length word.now % 2 ≡ 0 }
-    ensures found { IfOk result (λ found. IfSome found (λ b. flat_map hex_byte b.bytes ≡ word.now)) }
+    ensures found { IfOk result
+        (λ found. IfSome found (λ b. flat_map hex_byte b.bytes ≡ word.now)) }
     ensures fit { IfOk result (λ found. IfSome found (λ b. All (λ x. x < 2 ^ 8) b.bytes)) }
     ensures room { IfOk result (λ found. IfSome found (λ b. b.room ≡ 0)) }
     ensures none { IfOk result (λ found. IfNone found

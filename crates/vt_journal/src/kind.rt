@@ -1,6 +1,15 @@
-ghost use Rattle.std.specs.Prelude.{◌≡◌, ◌≢◌, IfSome, IfNone};
-ghost use Rattle.vt_journal.specs.Kinds.{name_of};
+ghost use Rattle.std.specs.Prelude.{◌≡◌, ◌≢◌, ◌≤◌, [], length, if◌then◌else◌, IfSome, IfNone};
+ghost use Rattle.vt_events.specs.Charge.{text_of_event};
+ghost use Rattle.vt_events.specs.Plain.{plain_event};
+ghost use Rattle.vt_journal.specs.Kinds.{count_of, holds_bytes, kind_of, name_of};
+ghost use Rattle.vt_journal.specs.Words.{numbers_of};
 ghost use Rattle.vt_journal.specs.declared.kind.Kind.{Kind};
+
+use vt_base::Bytes;
+use vt_events::Event;
+
+/// The most numbers of a call.
+pub const NUMBERS: usize = 6;
 
 /// Which call it is.
 #[derive(Clone, Copy, Debug, PartialEq, Eq)]
@@ -26,5 +35,42 @@ impl Kind {
             b"reldisp" => Kind::RelDisp,
             _ => return None,
         })
+    }
+
+    /// How many numbers follow the name.
+    pub fn count(self) -> usize
+        ensures same { result ≡ count_of self }
+        ensures most { result ≤ NUMBERS }
+    {
+        match self {
+            Kind::OpenCon | Kind::Write => 1,
+            Kind::Activate | Kind::RelDisp => 2,
+            Kind::SetMode => 6,
+        }
+    }
+
+    /// Whether bytes follow them.
+    pub fn holds_bytes(self) -> bool
+        ensures { result ≡ holds_bytes self }
+    {
+        matches!(self, Kind::Write)
+    }
+
+    /// The call of these numbers, which holds these bytes where it holds any.
+    pub fn call(self, n: &[u16], b: Bytes) -> Event
+        requires many { length n.now ≡ count_of self }
+        requires room { b.room ≡ 0 }
+        ensures kind { kind_of result ≡ self }
+        ensures numbers { numbers_of result ≡ n.now }
+        ensures bytes { text_of_event result ≡ (if holds_bytes self then b.bytes else []) }
+        ensures plain { plain_event result ≡ result }
+    {
+        match self {
+            Kind::OpenCon => Event::OpenCon(n[0]),
+            Kind::Write => Event::Write(n[0], b),
+            Kind::Activate => Event::Activate(n[0], n[1]),
+            Kind::SetMode => Event::SetMode(n[0], n[1], n[2], n[3], n[4], n[5]),
+            Kind::RelDisp => Event::RelDisp(n[0], n[1]),
+        }
     }
 }

@@ -9,12 +9,17 @@ mod limits;
 mod log;
 mod numbers;
 mod printing;
+mod reading;
 mod tail;
+#[cfg(test)]
+mod tests;
 mod words;
 
+pub use adding::{add, add_next, add_word};
 pub use full::Full;
 pub use hex::add_hex;
 pub use limits::Limits;
 pub use log::Log;
 pub use printing::print;
+pub use reading::read_event;
 pub use tail::Tail;

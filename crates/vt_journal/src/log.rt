@@ -36,7 +36,8 @@ impl Log {
         requires least { 64 ≤ bytes }
         requires most { bytes ≤ 1_073_741_824 }
         ensures entries { IfOk result (λ log. log.entries ≡ []) }
-        ensures limits { IfOk result (λ log. log.limits ≡ record { events = events; bytes = bytes }) }
+        ensures limits { IfOk result
+            (λ log. log.limits ≡ record { events = events; bytes = bytes }) }
     {
         let entries = Vec::with_capacity(alloc, events as usize)?;
         let limits = Limits { events, bytes };

@@ -37,7 +37,8 @@ fn add_lines(alloc: Global, entries: &[Entry], end: &Tail, rest: &mut Bytes) -> 
 }
 
 fn add_entry(alloc: Global, text: &mut Bytes, entry: &Entry) -> Result<(), NoMemory>
-    ensures ok { OnOk result (text.new.bytes ≡ text.old.bytes ++ line_text (entry_words entry.now)) }
+    ensures ok { OnOk result
+        (text.new.bytes ≡ text.old.bytes ++ line_text (entry_words entry.now)) }
     ensures kept { Begins text.old.bytes text.new.bytes }
 {
     add_number(alloc, text, u64::from(entry.caller.get()))?;

@@ -1,6 +1,6 @@
 -- A run is complete: where a known command's input is there and no fault comes, the run has its
 -- outcome.
-use Rattle.std.proofs.Common.{◌≡◌, ℕ, ◌⊎◌, inl, inr, List, [], ◌∷◌, ◌++◌, length, Option, Some, None, sym, ap, ◌∙◌, subst, append-nil, arith, length-append, ⊎_elim}
+use Rattle.std.proofs.Common.{◌≡◌, ℕ, ◌⊎◌, inl, inr, List, [], ◌∷◌, ◌++◌, length, Option, Some, None, refl, sym, ap, ◌∙◌, subst, append-nil, arith, length-append, ⊎_elim}
 use Rattle.std.specs.Prelude.{codes, decimal}
 use Rattle.std.proofs.lemmas.Fmt.{decimal_injective}
 use Rattle.std.specs.Io.KnownBytes.{Appends, Consumes, IsAtEnd}
@@ -11,11 +11,11 @@ use Rattle.vt_tool.specs.Outcome.{Outcome, Gives}
 use Rattle.vt_tool.specs.Run.{Answers, Begins, Tells, ProgramRun, Completes}
 use Rattle.vt_tool.specs.Words.{AreWordsOf}
 use Rattle.vt_tool.specs.declared.command.Command.{Command}
-use Rattle.vt_tool.specs.declared.command.Command.TheVariants.{Screen}
+use Rattle.vt_tool.specs.declared.command.Command.TheVariants.{Screen, Play}
 use Rattle.vt_tool.specs.declared.intake.Intake.{Intake}
 use Rattle.vt_tool.specs.declared.intake.Intake.TheVariants.{ToEnd}
 use Rattle.vt_tool.specs.declared.status.Status.{Status}
-use Rattle.vt_tool.specs.declared.status.Status.TheVariants.{Fine, Usage, ReadFault, WriteFault, NoMemory, Refused, TooLong}
+use Rattle.vt_tool.specs.declared.status.Status.TheVariants.{Fine, Usage, ReadFault, WriteFault, NoMemory, Refused, TooLong, JournalFull}
 
 -- two commands of the same words are one
 one_command : (a b : Command) (words : List (List ℕ)) → AreWordsOf a words → AreWordsOf b words
@@ -33,6 +33,16 @@ one_command (Screen rows cols) (Screen rows' cols') words first second =
     let same_cols : cols ≡ cols' =
     decimal_injective cols cols' (omega (arith, fit.1.1)) (omega (arith, fit'.1.1)) wide in
     λ i. Screen (same_rows i) (same_cols i)
+
+one_command (Screen rows cols) Play words first second =
+    let same : codes "screen" ∷ decimal rows ∷ decimal cols ∷ [] ≡ codes "play" ∷ [] =
+    sym first.spelled ∙ second.spelled in
+    absurd (let impossible : ⊥ = cc in impossible)
+one_command Play (Screen rows cols) words first second =
+    let same : codes "play" ∷ [] ≡ codes "screen" ∷ decimal rows ∷ decimal cols ∷ [] =
+    sym first.spelled ∙ second.spelled in
+    absurd (let impossible : ⊥ = cc in impossible)
+one_command Play Play words first second = refl
 
 -- a source that stopped at a fault has counted it
 stop-rose : (i : Intake) (src src' : Stream) → StopsAtFault i src src' → Rose src.faults src'.faults
@@ -115,6 +125,8 @@ module _ (IsKnown : Command → Type 0) (words : List (List ℕ)) (src src' out 
     completed Fine is (other, known', spelled', holds) = inr (answered other Fine is spelled' holds)
     completed (Refused code a b) is (other, known', spelled', holds) =
         inr (answered other (Refused code a b) is spelled' holds)
+    completed (JournalFull full) is (other, known', spelled', holds) =
+        inr (answered other (JournalFull full) is spelled' holds)
 
 pub run-completes : (IsKnown : Command → Type 0) (words : List (List ℕ))
     (src src' out out' err err' : Stream) (status : Status)

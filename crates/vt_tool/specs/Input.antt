@@ -4,7 +4,7 @@ use Rattle.std.specs.Io.KnownBytes.{Consumes, IsAtEnd}
 use Rattle.vt_io.specs.Faults.{Rose}
 use Rattle.vt_io.specs.Stream.{Stream}
 use Rattle.vt_tool.specs.declared.command.Command.{Command}
-use Rattle.vt_tool.specs.declared.command.Command.TheVariants.{Screen}
+use Rattle.vt_tool.specs.declared.command.Command.TheVariants.{Screen, Play}
 use Rattle.vt_tool.specs.declared.intake.Intake.{Intake}
 use Rattle.vt_tool.specs.declared.intake.Intake.TheVariants.{ToEnd}
 
@@ -12,9 +12,14 @@ use Rattle.vt_tool.specs.declared.intake.Intake.TheVariants.{ToEnd}
 abbrev pub screen_limit : ℕ
 screen_limit = 67108864
 
+-- the most bytes of input that the other commands read; this project's own
+abbrev pub text_limit : ℕ
+text_limit = 16777216
+
 -- how much of the source a command reads, one case for each command
 abbrev pub intake_of : Command → Intake
 intake_of (Screen rows cols) = ToEnd screen_limit
+intake_of Play = ToEnd text_limit
 
 -- the input isn't longer than the command takes
 abbrev pub IsWithin : Intake → List ℕ → Type 0

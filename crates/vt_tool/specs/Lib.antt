@@ -1,5 +1,9 @@
+pub mod Calls
+pub mod Final
 pub mod Input
 pub mod Outcome
+pub mod Play
+pub mod Playing
 pub mod Reading
 pub mod Rows
 pub mod Run

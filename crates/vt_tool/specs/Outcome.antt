@@ -1,8 +1,12 @@
 -- What a command may give for an input, this project's own: one case for each command.
-use Rattle.std.specs.Prelude.{◌≡◌, ℕ, ◌+◌, not, List, [], Option, Some, None, position}
+use Rattle.std.specs.Prelude.{◌≡◌, ◌⊎◌, ℕ, ◌+◌, not, List, [], Option, Some, None, position}
 use Rattle.vt_screen.specs.Run.{Runs}
 use Rattle.vt_screen.specs.Screen.{Screen, start_screen}
 use Rattle.vt_screen.specs.Units.{is_built}
+use Rattle.vt_events.specs.declared.entry.Entry.{Entry}
+use Rattle.vt_journal.specs.declared.tail.Tail.{Tail}
+use Rattle.vt_tool.specs.Calls.{CallText, HasFaultAt, IsGood, call_text}
+use Rattle.vt_tool.specs.Play.{IsPlay, opening_of, play_text, status_of}
 use Rattle.vt_tool.specs.Rows.{rows_text}
 use Rattle.vt_tool.specs.declared.command.Command.{Command}
 use Rattle.vt_tool.specs.declared.command.Command.TheVariants as command
@@ -31,7 +35,26 @@ GivesRows rows cols input None outcome =
     (after : Screen) × Runs (start_screen rows cols) input after
     × (outcome ≡ record { status = Fine; text = rows_text after.sheet.cells })
 
+-- the text of a play of the input's calls; its journal is their legal history
+pub record GivesPlayed (input : List ℕ) (outcome : Outcome) : Type 0 where
+  pub text : CallText
+  pub history : List Entry
+  pub end : Tail
+  pub spelled : input ≡ call_text text
+  pub good : IsGood text
+  pub played : IsPlay (opening_of text.heading) text.calls history end
+  pub status : outcome.status ≡ status_of end
+  pub written : outcome.text ≡ play_text (opening_of text.heading) history end
+
+-- the first line of the input that has a fault
+pub record GivesFault (input : List ℕ) (outcome : Outcome) : Type 0 where
+  pub code : ℕ
+  pub line : ℕ
+  pub fault : HasFaultAt input code line
+  pub refused : outcome ≡ record { status = Refused code line 1; text = [] }
+
 -- the outcome that a command gives for an input
 abbrev pub Gives : Command → List ℕ → Outcome → Type 0
 Gives (command.Screen rows cols) input outcome =
     GivesRows rows cols input (first_unbuilt input) outcome
+Gives command.Play input outcome = GivesPlayed input outcome ⊎ GivesFault input outcome

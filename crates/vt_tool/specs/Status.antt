@@ -1,7 +1,7 @@
 -- How a run of the program ends, this project's own: one case for each status.
 use Rattle.std.specs.Prelude.{ℕ, List, [], ◌++◌, codes, decimal}
 use Rattle.vt_tool.specs.declared.status.Status.{Status}
-use Rattle.vt_tool.specs.declared.status.Status.TheVariants.{Fine, Usage, ReadFault, WriteFault, NoMemory, Refused, TooLong}
+use Rattle.vt_tool.specs.declared.status.Status.TheVariants.{Fine, Usage, ReadFault, WriteFault, NoMemory, Refused, TooLong, JournalFull}
 
 -- the exit status
 abbrev pub number_of : Status → ℕ
@@ -12,6 +12,7 @@ number_of WriteFault = 3
 number_of NoMemory = 4
 number_of (Refused code a b) = 5
 number_of TooLong = 6
+number_of (JournalFull full) = 7
 
 -- the line on err, nothing where all went well
 abbrev pub line_of : Status → List ℕ
@@ -24,3 +25,7 @@ line_of (Refused code a b) =
     codes "vt: refused "
     ++ (decimal code ++ (codes " at " ++ (decimal a ++ (codes ":" ++ (decimal b ++ codes "\n")))))
 line_of TooLong = codes "vt: input too long\n"
+line_of (JournalFull full) =
+    codes "vt: journal full "
+    ++ (decimal full.events ++ (codes " " ++ (decimal full.bytes ++ (codes " "
+    ++ (decimal full.charge ++ codes "\n")))))

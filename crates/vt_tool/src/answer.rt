@@ -4,6 +4,7 @@ ghost use Rattle.vt_tool.specs.Input.{intake_of, IsWithin};
 ghost use Rattle.vt_tool.specs.Words.{IsFit};
 
 use crate::command::Command;
+use crate::play_answer::play_answer;
 use crate::screen::screen_answer;
 use crate::status::Status;
 use std::alloc::Global;
@@ -24,5 +25,6 @@ pub fn answer_to(alloc: Global, command: Command, input: &[u8]) -> Result<Answer
 {
     match command {
         Command::Screen { rows, cols } => screen_answer(alloc, Size { rows, cols }, input),
+        Command::Play => play_answer(alloc, input),
     }
 }

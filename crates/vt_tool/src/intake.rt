@@ -6,6 +6,9 @@ use crate::command::Command;
 /// The most bytes of input that `screen` reads. This project's own.
 const SCREEN_LIMIT: usize = 67_108_864;
 
+/// The most bytes of input that the other commands read. This project's own.
+const TEXT_LIMIT: usize = 16_777_216;
+
 /// What a command reads of the source.
 #[derive(Clone, Copy)]
 pub enum Intake {
@@ -19,5 +22,6 @@ pub fn intake_for(command: Command) -> Intake
 {
     match command {
         Command::Screen { .. } => Intake::ToEnd(SCREEN_LIMIT),
+        Command::Play => Intake::ToEnd(TEXT_LIMIT),
     }
 }

@@ -2,8 +2,12 @@
 #![tactic(auto)]
 
 mod answer;
+mod calls;
 mod command;
+mod final_text;
 mod intake;
+mod play;
+mod play_answer;
 mod read_end;
 mod reading;
 mod rows;

@@ -5,6 +5,7 @@ ghost use Rattle.vt_grid.specs.Grid.{row_at};
 use std::alloc::Global;
 use vt_base::{Bytes, NoMemory};
 use vt_grid::{Cell, Grid};
+use vt_journal::add;
 
 pub mod plain;
 
@@ -19,13 +20,22 @@ const FRAME_BYTES: usize = 3;
 pub fn text_rows(alloc: Global, g: &Grid) -> Result<Bytes, NoMemory>
     ensures { IfOk result (λ text. text.bytes ≡ rows_text g.now.cells) }
 {
+    let mut text = Bytes::new(alloc);
+    add_rows(alloc, &mut text, g)?;
+    Ok(text)
+}
+
+/// Adds the text of the rows.
+pub fn add_rows(alloc: Global, text: &mut Bytes, g: &Grid) -> Result<(), NoMemory>
+    ensures { OnOk result (text.new.bytes ≡ text.old.bytes ++ rows_text g.now.cells) }
+{
     let size = g.size();
     let row = usize::from(size.cols) * CELL_BYTES + FRAME_BYTES;
-    let mut text = Bytes::with_room(alloc, usize::from(size.rows) * row)?;
+    text.grow(alloc, usize::from(size.rows) * row)?;
     for y in 0..size.rows {
-        add_row(alloc, &mut text, g, y)?;
+        add_row(alloc, text, g, y)?;
     }
-    Ok(text)
+    Ok(())
 }
 
 fn add_row(alloc: Global, text: &mut Bytes, g: &Grid, y: u8) -> Result<(), NoMemory>
@@ -55,13 +65,4 @@ fn is_shown(c: char) -> bool
     ensures { result ≡ is_shown c }
 {
     matches!(c, ' '..='~' | '\u{A0}'..)
-}
-
-// Appends the bytes, with room for them.
-fn add(alloc: Global, text: &mut Bytes, b: &[u8]) -> Result<(), NoMemory>
-    ensures { OnOk result (text.new.bytes ≡ text.old.bytes ++ b.now) }
-{
-    text.grow(alloc, b.len())?;
-    text.append(b);
-    Ok(())
 }

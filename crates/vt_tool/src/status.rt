@@ -1,6 +1,8 @@
 ghost use Rattle.std.specs.Prelude.{◌≡◌};
 ghost use Rattle.vt_tool.specs.Status.{number_of};
 
+use vt_journal::Full;
+
 /// How a run of the program ended.
 #[derive(Clone, Copy, Debug, PartialEq, Eq)]
 pub enum Status {
@@ -19,6 +21,8 @@ pub enum Status {
     Refused { code: u16, a: u32, b: u32 },
     /// The source gives more bytes than the command reads.
     TooLong,
+    /// A call found no room in the journal.
+    JournalFull(Full),
 }
 
 impl Status {
@@ -34,6 +38,7 @@ impl Status {
             Status::NoMemory => 4,
             Status::Refused { .. } => 5,
             Status::TooLong => 6,
+            Status::JournalFull(_) => 7,
         }
     }
 }

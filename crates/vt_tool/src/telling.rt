@@ -7,8 +7,9 @@ use crate::writing::write_all;
 use arrayvec::ArrayString;
 use itoa::Buffer;
 use vt_io::Sink;
+use vt_journal::Full;
 
-/// Room for the line of a refusal: its text, and three numbers of at most 40 bytes each.
+/// Room for a line with three numbers of at most 40 bytes each.
 const LINE_BYTES: usize = 160;
 
 /// Writes the status's line on err, and gives the status that the run then has.
@@ -32,6 +33,10 @@ pub fn tell<E: Sink>(err: &mut E, first: Status) -> Status
             say(err, first, line.as_str().as_bytes())
         }
         Status::TooLong => say(err, first, b"vt: input too long\n"),
+        Status::JournalFull(full) => {
+            let line = full_line(&full);
+            say(err, first, line.as_str().as_bytes())
+        }
     }
 }
 
@@ -60,6 +65,22 @@ fn refusal_line(code: u16, a: u32, b: u32) -> ArrayString<LINE_BYTES>
     line.push_str(number.format(a));
     line.push_str(":");
     line.push_str(number.format(b));
+    line.push_str("\n");
+    line
+}
+
+// The line of a full journal, made with no memory.
+fn full_line(full: &Full) -> ArrayString<LINE_BYTES>
+    ensures { result.bytes ≡ line_of (Status.JournalFull full.now) }
+{
+    let mut number = Buffer::new();
+    let mut line = ArrayString::new();
+    line.push_str("vt: journal full ");
+    line.push_str(number.format(full.events));
+    line.push_str(" ");
+    line.push_str(number.format(full.bytes));
+    line.push_str(" ");
+    line.push_str(number.format(full.charge));
     line.push_str("\n");
     line
 }

@@ -8,6 +8,8 @@ use vt_base::{Bytes, NoMemory, Size};
 use vt_grid::{Cell, Grid};
 use vt_io::{MemSink, MemSource};
 
+mod play;
+
 const USAGE: &[u8] = b"vt: usage: screen R C | keys | type | play | race | check | drill N SEED\n";
 
 // A run of the program: its words, the bytes of the source and the calls that fail, the room of the

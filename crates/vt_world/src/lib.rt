@@ -10,6 +10,8 @@ mod screens;
 mod spare;
 mod step;
 mod switch;
+#[cfg(test)]
+mod tests;
 mod world;
 
 pub use config::Config;

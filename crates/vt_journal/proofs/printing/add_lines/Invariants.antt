@@ -7,5 +7,7 @@ use Rattle.vt_journal.proofs.printing.add_lines.Given as goal
 abbrev pub invariant-loop-entry : goal.invariant-loop-entry
 invariant-loop-entry l =
     (l.rest.bytes
-    ≡ l.fn.rest.bytes ++ flat_map line_text ((codes "%journal" ∷ codes "1" ∷ []) ∷ map entry_words (take l.entry-index l.entries)))
+    ≡ l.fn.rest.bytes
+    ++ flat_map line_text
+    ((codes "%journal" ∷ codes "1" ∷ []) ∷ map entry_words (take l.entry-index l.entries)))
     × Begins l.fn.rest.bytes l.rest.bytes

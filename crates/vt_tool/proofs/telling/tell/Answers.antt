@@ -16,3 +16,16 @@ returns-in-Refused g c =
     } in
     subst (λ (first : Status). Tells first err err' c.say-in-Refused.result)
     (sym c.in-Refused.is) c.say-in-Refused.ensures
+
+pub returns-in-JournalFull : goal.returns-in-JournalFull
+returns-in-JournalFull g c =
+    let err : Stream = record {
+      told = g.E.Sink.held c.args.err.now;
+      faults = g.E.Sink.faults c.args.err.now;
+    } in
+    let err' : Stream = record {
+      told = g.E.Sink.held c.say-in-JournalFull.new.err;
+      faults = g.E.Sink.faults c.say-in-JournalFull.new.err;
+    } in
+    subst (λ (first : Status). Tells first err err' c.say-in-JournalFull.result)
+    (sym c.in-JournalFull.is) c.say-in-JournalFull.ensures

@@ -1,0 +1,61 @@
+use Rattle.std.proofs.Common.{[], sym, ◌∙◌}
+use Rattle.std.proofs.lemmas.List.{append-nil}
+use Rattle.vt_journal.specs.Words.{Spells}
+use Rattle.vt_journal.proofs.Spellings.{bytes_are, cut_parts, held_end, kind_is, none_next, some_next, spelled_once, spells_call}
+use Rattle.vt_journal.proofs.reading.read_event.Goals as goal
+
+pub returns-in_default-clause-none : goal.returns-in_default-clause-none
+returns-in_default-clause-none c =
+    λ e s. c.in_default.ensures.none _ _ (c.of-words.ensures ∙ cut_parts c.args.words.now e s)
+
+pub returns-in_default-read_numbers-clause-none : goal.returns-in_default-read_numbers-clause-none
+returns-in_default-read_numbers-clause-none c =
+    λ e s.
+    let is =
+    kind_is c.args.words.now e c.in-Some.kind c.read_kind.new.words s
+    (sym c.of-words.ensures ∙ c.in-Some.ensures.found) in
+    c.in_default-read_numbers.ensures.none _ _ (is.many ∙ sym c.count.ensures.same) s.fit.numbers
+    is.words
+
+pub returns-in_default-2-clause-none : goal.returns-in_default-2-clause-none
+returns-in_default-2-clause-none c =
+    λ e s.
+    let are =
+    bytes_are c.args.words.now e c.in-Some.kind c.in-Some-read_numbers.numbers.items
+    c.holds_bytes.result c.read_kind.new.words c.read_numbers.new.words s
+    (sym c.of-words.ensures ∙ c.in-Some.ensures.found) c.in-Some-read_numbers.ensures.found
+    (c.in-Some-read_numbers.ensures.many ∙ c.count.ensures.same) c.holds_bytes.ensures in
+    let none = rw c.in_default-2.is at c.in_ok-bytes.ensures.none in
+    none _ [] s.fit.bytes (are ∙ sym (append-nil _))
+
+pub returns-then-is_some-clause-none : goal.returns-then-is_some-clause-none
+returns-then-is_some-clause-none c =
+    λ e s.
+    let are =
+    bytes_are c.args.words.now e c.in-Some.kind c.in-Some-read_numbers.numbers.items
+    c.holds_bytes.result c.read_kind.new.words c.read_numbers.new.words s
+    (sym c.of-words.ensures ∙ c.in-Some.ensures.found) c.in-Some-read_numbers.ensures.found
+    (c.in-Some-read_numbers.ensures.many ∙ c.count.ensures.same) c.holds_bytes.ensures in
+    let found = rw c.in-Some-2.is at c.in_ok-bytes.ensures.found in
+    some_next c.next.result c.read_bytes.new.words _ c.next.ensures (sym c.if-is_some.ensures)
+    (held_end c.holds_bytes.result c.in-Some-2.bytes.bytes _ _ (sym found ∙ are))
+
+spelled : (c : goal.After-call) → Spells c.args.words.now c.call.result
+spelled c =
+    let found = rw c.in-Some-2.is at c.in_ok-bytes.ensures.found in
+    let fit = rw c.in-Some-2.is at c.in_ok-bytes.ensures.fit in
+    spells_call c.args.words.now c.in-Some.kind c.in-Some-read_numbers.numbers.items
+    c.in-Some-2.bytes.bytes c.holds_bytes.result c.call.result c.read_kind.new.words
+    c.read_numbers.new.words c.read_bytes.new.words
+    (sym c.of-words.ensures ∙ c.in-Some.ensures.found) c.in-Some-read_numbers.ensures.found found
+    (none_next c.next.result c.read_bytes.new.words _ c.next.ensures (sym c.if-is_some.ensures))
+    c.holds_bytes.ensures c.call.ensures.kind
+    (c.call.ensures.numbers ∙ c.as_slice.ensures.value) c.call.ensures.bytes
+    c.in-Some-read_numbers.ensures.fit fit c.call.ensures.plain
+
+pub returns-clause-found : goal.returns-clause-found
+returns-clause-found c = spelled c
+
+pub returns-clause-one : goal.returns-clause-one
+returns-clause-one c =
+    λ other s. spelled_once c.args.words.now other c.call.result s (spelled c)

@@ -1,0 +1,68 @@
+//! Calls read from their words.
+ghost use Rattle.std.specs.Prelude.{◌≡◌, ◌≢◌, ℕ, ◌<◌, ◌^◌, List, ◌∷◌, ◌++◌, IfOk, IfSome, IfNone};
+ghost use Rattle.std.specs.List.{All};
+ghost use Rattle.vt_events.specs.declared.event.Event.{Event};
+ghost use Rattle.vt_journal.specs.Cut.{held_words};
+ghost use Rattle.vt_journal.specs.Kinds.{name_of};
+ghost use Rattle.vt_journal.specs.Words.{Spells};
+ghost use Rattle.vt_journal.specs.declared.kind.Kind.{Kind};
+
+use crate::hex::parse_hex;
+use crate::kind::Kind;
+use crate::numbers::read_numbers;
+use crate::words::Words;
+use std::alloc::Global;
+use vt_base::{Bytes, NoMemory};
+use vt_events::Event;
+
+/// The call that the words spell.
+pub fn read_event(alloc: Global, words: &[u8]) -> Result<Option<Event>, NoMemory>
+    ensures found { IfOk result (λ found. IfSome found (Spells words.now)) }
+    ensures none { IfOk result (λ found. IfNone found ((e : Event) → ¬ Spells words.now e)) }
+    ensures one { IfOk result
+        (λ found. IfSome found (λ e. (other : Event) → Spells words.now other → other ≡ e)) }
+{
+    let mut words = Words::of(words);
+    let Some(kind) = read_kind(&mut words) else {
+        return Ok(None);
+    };
+    let Some(numbers) = read_numbers(&mut words, kind.count()) else {
+        return Ok(None);
+    };
+    let Some(bytes) = read_bytes(alloc, &mut words, kind.holds_bytes())? else {
+        return Ok(None);
+    };
+    if words.next().is_some() {
+        return Ok(None);
+    }
+    Ok(Some(kind.call(numbers.as_slice(), bytes)))
+}
+
+// The next word as the name of a kind.
+fn read_kind(words: &mut Words) -> Option<Kind>
+    ensures found { IfSome result (λ kind. words.old ≡ name_of kind ∷ words.new) }
+    ensures none { IfNone result
+        ((kind : Kind) (rest : List (List ℕ)) → words.old ≢ name_of kind ∷ rest) }
+{
+    let name = words.next()?;
+    Kind::named(name)
+}
+
+// The next word as bytes in hexadecimal, where the call holds any; else none, and no word.
+fn read_bytes(alloc: Global, words: &mut Words, holds: bool) -> Result<Option<Bytes>, NoMemory>
+    ensures found { IfOk result
+        (λ found. IfSome found (λ b. words.old ≡ held_words holds b.bytes ++ words.new)) }
+    ensures fit { IfOk result (λ found. IfSome found (λ b. All (λ x. x < 2 ^ 8) b.bytes)) }
+    ensures room { IfOk result (λ found. IfSome found (λ b. b.room ≡ 0)) }
+    ensures none { IfOk result (λ found. IfNone found
+        ((bytes : List ℕ) (rest : List (List ℕ)) → All (λ x. x < 2 ^ 8) bytes
+        → words.old ≢ held_words holds bytes ++ rest)) }
+{
+    if !holds {
+        return Ok(Some(Bytes::new(alloc)));
+    }
+    let Some(word) = words.next() else {
+        return Ok(None);
+    };
+    parse_hex(alloc, word)
+}

@@ -1,0 +1,39 @@
+-- The final text: the display, and each console with its screen. This project's own.
+use Rattle.std.specs.Prelude.{ℕ, List, [], ◌∷◌, ◌++◌, codes, decimal, map, Option, Some, None}
+use Rattle.std.specs.List.{flat_map, range_with_len}
+use Rattle.vt_journal.specs.Hex.{hex_text}
+use Rattle.vt_journal.specs.Journal.{line_text}
+use Rattle.vt_screen.specs.Screen.{Screen}
+use Rattle.vt_tool.specs.Rows.{rows_text}
+use Rattle.vt_world.specs.Screens.{screen_at}
+use Rattle.vt_world.specs.State.{WorldState}
+
+-- a console's screen: its number, rows, columns, the cursor's column and row, and the bells, of which
+-- none rings yet
+abbrev pub screen_words : ℕ → Screen → List (List ℕ)
+screen_words n s =
+    codes "%screen" ∷ map decimal (n ∷ s.sheet.rows ∷ s.sheet.cols ∷ s.x ∷ s.y ∷ 0 ∷ [])
+
+-- its queue: the number of the console, how many bytes were dropped, and those that it has. Nothing
+-- puts bytes into a queue yet
+abbrev pub queue_words : ℕ → List (List ℕ)
+queue_words n = codes "%queue" ∷ decimal n ∷ decimal 0 ∷ hex_text [] ∷ []
+
+-- a console: these two lines, and between them the rows of its screen
+abbrev pub console_text : ℕ → Screen → List ℕ
+console_text n s =
+    line_text (screen_words n s) ++ (rows_text s.sheet.cells ++ line_text (queue_words n))
+
+abbrev pub place_text : ℕ → Option Screen → List ℕ
+place_text n None = []
+place_text n (Some s) = console_text n s
+
+-- the allocated consoles in rising order
+abbrev pub consoles_text : WorldState → ℕ → ℕ → List ℕ
+consoles_text w from len =
+    flat_map (λ n. place_text n (screen_at w.screens n)) (range_with_len from len)
+
+abbrev pub final_text : WorldState → List ℕ
+final_text w =
+    line_text (codes "%display" ∷ decimal w.display.front ∷ [])
+    ++ (consoles_text w 1 63 ++ line_text (codes "%done" ∷ []))

@@ -1,0 +1,85 @@
+ghost use Rattle.std.specs.Prelude.{◌≡◌, ◌≤◌, ◌∷◌, ◌++◌, codes, decimal, map, OnOk};
+ghost use Rattle.vt_journal.specs.Journal.{line_text};
+ghost use Rattle.vt_tool.specs.Final.{console_text, consoles_text, final_text, place_text, queue_words};
+ghost use Rattle.vt_world.specs.Screens.{screen_at};
+
+use crate::rows::add_rows;
+use std::alloc::Global;
+use vt_base::{Bytes, ConsoleNo, NoMemory};
+use vt_journal::{add, add_next};
+use vt_screen::Emu;
+use vt_world::World;
+
+/// Adds the final text: the display, and each allocated console in rising order with its screen and
+/// its queue.
+pub fn add_final_text(alloc: Global, text: &mut Bytes, world: &World) -> Result<(), NoMemory>
+    ensures { OnOk result (text.new.bytes ≡ text.old.bytes ++ final_text world.now) }
+{
+    add(alloc, text, b"%display")?;
+    add_next(alloc, text, u64::from(world.display().get()))?;
+    add(alloc, text, b"\n")?;
+    add_consoles(alloc, text, world)?;
+    add(alloc, text, b"%done\n")?;
+    Ok(())
+}
+
+fn add_consoles(alloc: Global, text: &mut Bytes, world: &World) -> Result<(), NoMemory>
+    ensures { OnOk result (text.new.bytes ≡ text.old.bytes ++ consoles_text world.now 1 63) }
+{
+    for n in 1..64 {
+        add_place(alloc, text, world, n)?;
+    }
+    Ok(())
+}
+
+// Adds the text of console `n`, if it is allocated.
+fn add_place(alloc: Global, text: &mut Bytes, world: &World, n: u16) -> Result<(), NoMemory>
+    requires low { 1 ≤ n }
+    requires high { n ≤ 63 }
+    ensures { OnOk result (text.new.bytes
+        ≡ text.old.bytes ++ place_text n (screen_at world.now.screens n)) }
+{
+    let Some(c) = ConsoleNo::new(n) else {
+        unreachable!()
+    };
+    match world.screen(c) {
+        Some(screen) => add_console(alloc, text, n, screen),
+        None => Ok(()),
+    }
+}
+
+fn add_console(alloc: Global, text: &mut Bytes, n: u16, screen: &Emu) -> Result<(), NoMemory>
+    ensures { OnOk result (text.new.bytes ≡ text.old.bytes ++ console_text n screen.now) }
+{
+    let size = screen.grid().size();
+    let state = screen.state();
+    let (rows, cols) = (u16::from(size.rows), u16::from(size.cols));
+    add_screen_line(alloc, text, &[n, rows, cols, u16::from(state.x), u16::from(state.y), 0])?;
+    add_rows(alloc, text, screen.grid())?;
+    add_queue_line(alloc, text, n)?;
+    Ok(())
+}
+
+// The line before the rows.
+fn add_screen_line(alloc: Global, text: &mut Bytes, numbers: &[u16]) -> Result<(), NoMemory>
+    ensures { OnOk result (text.new.bytes
+        ≡ text.old.bytes ++ line_text (codes "%screen" ∷ map decimal numbers.now)) }
+{
+    add(alloc, text, b"%screen")?;
+    for n in numbers {
+        add_next(alloc, text, u64::from(*n))?;
+    }
+    add(alloc, text, b"\n")?;
+    Ok(())
+}
+
+// The line behind the rows.
+fn add_queue_line(alloc: Global, text: &mut Bytes, n: u16) -> Result<(), NoMemory>
+    ensures { OnOk result (text.new.bytes ≡ text.old.bytes ++ line_text (queue_words n)) }
+{
+    add(alloc, text, b"%queue")?;
+    add_next(alloc, text, u64::from(n))?;
+    add_next(alloc, text, 0)?;
+    add(alloc, text, b" -\n")?;
+    Ok(())
+}

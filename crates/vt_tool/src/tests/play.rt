@@ -1,0 +1,293 @@
+//! `play` over call texts. Expected journals and screens were reckoned by hand from the table of events.
+use super::{Case, PLAIN, check, sink, words_of};
+use crate::vt_command;
+use std::alloc::Global;
+use std::test::Fail;
+use vt_base::{Bytes, NoMemory};
+use vt_io::{MemSink, MemSource};
+
+#[test]
+fn plays_calls(rt: HostRuntime) -> Result<(), Fail> {
+    let cases: [(&'static [u8], &'static [u8]); 5] = [
+        (SWITCH, SWITCH_JOURNAL),
+        (OWNER, OWNER_JOURNAL),
+        (REFUSED, REFUSED_JOURNAL),
+        (HANDSHAKE, HANDSHAKE_JOURNAL),
+        (OPENS, OPENS_JOURNAL),
+    ];
+    for (input, out) in cases {
+        let case = Case {
+            line: "play",
+            input,
+            out_room: 10_000,
+            out,
+            ..PLAIN
+        };
+        check(&rt, rt.alloc(), case)?;
+    }
+    Ok(())
+}
+
+#[test]
+fn refuses_call_texts(rt: HostRuntime) -> Result<(), Fail> {
+    let cases: [(&'static [u8], &'static [u8]); 8] = [
+        (b"", b"vt: refused 91 at 1:1\n"),
+        (b"%calls 2 5 2 2", b"vt: refused 91 at 1:1\n"),
+        (b"%calls 2 5 9 2\n1 open 1\n", b"vt: refused 91 at 1:1\n"),
+        (b"%calls 2 5 2 2\n1 open 1\n1 open 2", b"vt: refused 91 at 3:1\n"),
+        (b"%calls 2 5 2 2\n0 open 1\n", b"vt: refused 91 at 2:1\n"),
+        (b"%calls 2 5 2 2\n1 open  1\n", b"vt: refused 91 at 2:1\n"),
+        (b"%calls 2 5 2 2\n1 write 0 1b\n1 no\n", b"vt: refused 90 at 2:1\n"),
+        (b"%calls 2 5 2 2\n1 open 1\n1 no\n1 write 0 1b\n", b"vt: refused 91 at 3:1\n"),
+    ];
+    for (input, err) in cases {
+        let case = Case {
+            line: "play",
+            input,
+            number: 5,
+            err,
+            ..PLAIN
+        };
+        check(&rt, rt.alloc(), case)?;
+    }
+    Ok(())
+}
+
+// What `play` ends with on a first line, and so many times a piece.
+fn play_of(alloc: Global, first: &[u8], piece: &[u8], times: usize, last: &[u8])
+    -> Result<(u8, MemSink, MemSink), NoMemory>
+{
+    let mut input = Bytes::from_slice(alloc, first)?;
+    for _ in 0..times {
+        input.grow(alloc, piece.len())?;
+        input.append(piece);
+    }
+    input.grow(alloc, last.len())?;
+    input.append(last);
+    let words = words_of(alloc, "play")?;
+    let mut src = MemSource::new(input, Bytes::with_room(alloc, 0)?);
+    let mut out = sink(alloc, 10_000_000, b"")?;
+    let mut err = sink(alloc, 1_000, b"")?;
+    let status = vt_command(alloc, words.as_slice(), &mut src, &mut out, &mut err);
+    Ok((status.number(), out, err))
+}
+
+#[test]
+fn stops_at_a_full_journal(rt: HostRuntime) -> Result<(), Fail> {
+    let cases: [(&'static [u8], &'static [u8], usize, &'static [u8], u8, &'static [u8], &'static [u8]); 3] = [
+        (
+            b"%calls 1 1 1 1\n",
+            b"1 reldisp 0 0\n",
+            65_537,
+            b"",
+            7,
+            b" 65535 reldisp 0 0 = err 9\n%full 65536 4194304 64\n%display 1\n%screen 1 1 1 0 0 0\n| |\n%queue 1 0 -\n%done\n",
+            b"vt: journal full 65536 4194304 64\n",
+        ),
+        (
+            b"%calls 1 1 1 1\n1 open 1\n1 write 0 ",
+            b"61",
+            4_097,
+            b"\n",
+            0,
+            b"61 = err 22\n%end 2 4225\n%display 1\n%screen 1 1 1 0 0 0\n| |\n%queue 1 0 -\n%done\n",
+            b"",
+        ),
+        (
+            b"%calls 1 1 1 1\n1 open 1\n1 write 0 ",
+            b"61",
+            4_096,
+            b"\n",
+            0,
+            b"61 = num 4096\n%end 2 4224\n%display 1\n%screen 1 1 1 0 0 0\n|a|\n%queue 1 0 -\n%done\n",
+            b"",
+        ),
+    ];
+    for (first, piece, times, last, number, end, line) in cases {
+        let (status, out, err) = play_of(rt.alloc(), first, piece, times, last)?;
+        assert_eq!(rt; status, number, "{times}");
+        assert!(rt; out.held().ends_with(end), "{times}");
+        assert_eq!(rt; err.held(), line, "{times}");
+    }
+    Ok(())
+}
+
+// The display changes hands with its owner's leave.
+const SWITCH: &[u8] = b"%calls 2 5 2 2
+1 open 1
+2 open 2
+1 write 0 6869
+1 setmode 0 1 0 10 12 0
+2 activate 0 2
+1 reldisp 0 1
+";
+
+const SWITCH_JOURNAL: &[u8] = b"%journal 1
+1 0 open 1 = num 0
+2 0 open 2 = num 0
+1 1 write 0 6869 = num 2
+1 2 setmode 0 1 0 10 12 0 = ok
+2 1 activate 0 2 = ok
+1 3 reldisp 0 1 = ok
+%end 6 386
+%display 2
+%screen 1 2 5 2 0 0
+|hi   |
+|     |
+%queue 1 0 -
+%screen 2 2 5 0 0 0
+|     |
+|     |
+%queue 2 0 -
+%done
+";
+
+// An owner from whom nobody asked anything.
+const OWNER: &[u8] = b"%calls 1 1 1 1
+1 open 1
+1 setmode 0 1 0 10 12 0
+1 reldisp 0 1
+1 reldisp 0 2
+1 reldisp 0 3
+1 reldisp 0 0
+";
+
+const OWNER_JOURNAL: &[u8] = b"%journal 1
+1 0 open 1 = num 0
+1 1 setmode 0 1 0 10 12 0 = ok
+1 2 reldisp 0 1 = err 22
+1 3 reldisp 0 2 = ok
+1 4 reldisp 0 3 = err 22
+1 5 reldisp 0 0 = err 22
+%end 6 384
+%display 1
+%screen 1 1 1 0 0 0
+| |
+%queue 1 0 -
+%done
+";
+
+// Numbers out of their ranges, and a caller that doesn't live.
+const REFUSED: &[u8] = b"%calls 1 1 1 1
+1 open 0
+1 activate 0 0
+1 activate 0 64
+1 activate 0 63
+1 open 64
+1 write 9 -
+1 write 0 -
+1 setmode 0 2 0 10 12 0
+1 setmode 0 1 0 0 12 0
+1 setmode 0 1 0 10 9 0
+1 setmode 0 1 0 65 12 0
+2 open 1
+";
+
+const REFUSED_JOURNAL: &[u8] = b"%journal 1
+1 0 open 0 = num 0
+1 1 activate 0 0 = err 6
+1 2 activate 0 64 = err 6
+1 3 activate 0 63 = ok
+1 4 open 64 = err 6
+1 5 write 9 - = err 9
+1 6 write 0 - = num 0
+1 7 setmode 0 2 0 10 12 0 = err 22
+1 8 setmode 0 1 0 0 12 0 = err 22
+1 9 setmode 0 1 0 10 9 0 = err 22
+1 10 setmode 0 1 0 65 12 0 = err 22
+2 0 open 1 = err 3
+%end 12 768
+%display 63
+%screen 1 1 1 0 0 0
+| |
+%queue 1 0 -
+%screen 63 1 1 0 0 0
+| |
+%queue 63 0 -
+%done
+";
+
+// A switch that is refused, asked for again, and dropped by a new mode.
+const HANDSHAKE: &[u8] = b"%calls 1 1 2 2
+1 open 1
+1 setmode 0 1 7 10 12 0
+2 open 2
+2 activate 0 2
+1 reldisp 0 0
+1 reldisp 0 1
+2 activate 0 2
+2 reldisp 0 1
+1 setmode 0 0 1 2 3 4
+1 reldisp 0 1
+2 activate 0 2
+";
+
+const HANDSHAKE_JOURNAL: &[u8] = b"%journal 1
+1 0 open 1 = num 0
+1 1 setmode 0 1 7 10 12 0 = ok
+2 0 open 2 = num 0
+2 1 activate 0 2 = ok
+1 2 reldisp 0 0 = ok
+1 3 reldisp 0 1 = err 22
+2 2 activate 0 2 = ok
+2 3 reldisp 0 1 = err 22
+1 4 setmode 0 0 1 2 3 4 = ok
+1 5 reldisp 0 1 = err 22
+2 4 activate 0 2 = ok
+%end 11 704
+%display 2
+%screen 1 1 1 0 0 0
+| |
+%queue 1 0 -
+%screen 2 1 1 0 0 0
+| |
+%queue 2 0 -
+%done
+";
+
+// The seventeenth descriptor.
+const OPENS: &[u8] = b"%calls 1 1 1 1
+1 open 1
+1 open 1
+1 open 1
+1 open 1
+1 open 1
+1 open 1
+1 open 1
+1 open 1
+1 open 1
+1 open 1
+1 open 1
+1 open 1
+1 open 1
+1 open 1
+1 open 1
+1 open 1
+1 open 1
+";
+
+const OPENS_JOURNAL: &[u8] = b"%journal 1
+1 0 open 1 = num 0
+1 1 open 1 = num 1
+1 2 open 1 = num 2
+1 3 open 1 = num 3
+1 4 open 1 = num 4
+1 5 open 1 = num 5
+1 6 open 1 = num 6
+1 7 open 1 = num 7
+1 8 open 1 = num 8
+1 9 open 1 = num 9
+1 10 open 1 = num 10
+1 11 open 1 = num 11
+1 12 open 1 = num 12
+1 13 open 1 = num 13
+1 14 open 1 = num 14
+1 15 open 1 = num 15
+1 16 open 1 = err 16
+%end 17 1088
+%display 1
+%screen 1 1 1 0 0 0
+| |
+%queue 1 0 -
+%done
+";
