@@ -1,12 +1,11 @@
 -- A play that makes one call more.
-use Rattle.std.proofs.Common.{◌≡◌, ℕ, ◌+◌, ◌-◌, ◌^◌, ◌<◌, ◌≤◌, min, Bool, true, false, cond, ⊎_elim, arith, List, [], ◌∷◌, ◌++◌, length, get_or, set, replicate, refl, sym, ap, ◌∙◌, subst}
+use Rattle.std.proofs.Common.{◌≡◌, ℕ, ◌+◌, ◌-◌, ◌^◌, ◌≤◌, min, Bool, true, false, cond, ⊎_elim, arith, List, [], ◌∷◌, ◌++◌, length, get_or, set, replicate, sym, ap, ◌∙◌, subst}
 use Rattle.std.proofs.lemmas.Bool.Decides.{eqb_tells}
 use Rattle.std.proofs.lemmas.List.{get_or-replicate, get_or-set_same, get_or-set_other, length-replicate, length-set}
 use Rattle.std.proofs.lemmas.List.Sums.{count_by-le-length, sum_by-append}
 use Rattle.std.specs.Prelude.{◌==◌, count_by}
 use Rattle.vt_events.specs.Plain.{plain_reply}
 use Rattle.vt_events.specs.declared.entry.Entry.{Entry}
-use Rattle.vt_journal.specs.Log.{Logged}
 use Rattle.vt_tool.specs.Playing.{Playing, IsFrom}
 use Rattle.vt_world.specs.History.{IsLegal, IsNext, LegalGrows, NothingIsLegal, ReplayGrows, replay}
 use Rattle.vt_world.specs.State.{WorldState}

@@ -1,14 +1,12 @@
 -- What `play` makes of a call text: a legal history of its calls, as far as they find room. This
 -- project's own.
-use Rattle.std.specs.Prelude.{◌≡◌, ◌⊎◌, ℕ, ◌+◌, ◌-◌, ◌^◌, ◌<◌, ◌≤◌, true, List, ◌∷◌, ◌++◌, length, map, take, replicate, slice_get, Some}
+use Rattle.std.specs.Prelude.{◌≡◌, ◌⊎◌, ℕ, ◌+◌, ◌-◌, ◌^◌, ◌<◌, ◌≤◌, true, List, ◌++◌, length, map, take, replicate, slice_get, Some}
 use Rattle.vt_events.specs.Charge.{charge_of}
 use Rattle.vt_events.specs.declared.entry.Entry.{Entry}
 use Rattle.vt_journal.specs.Journal.{journal_text}
 use Rattle.vt_journal.specs.Log.{charge_of_all}
-use Rattle.vt_journal.specs.declared.full.Full.{Full}
 use Rattle.vt_journal.specs.declared.tail.Tail.{Tail}
 use Rattle.vt_journal.specs.declared.tail.Tail.TheVariants as tail
-use Rattle.vt_tool.specs.Calls.{CallText}
 use Rattle.vt_tool.specs.Final.{final_text}
 use Rattle.vt_tool.specs.declared.calls.call.Call.{Call}
 use Rattle.vt_tool.specs.declared.calls.heading.Heading.{Heading}

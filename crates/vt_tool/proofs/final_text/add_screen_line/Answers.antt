@@ -1,4 +1,4 @@
-use Rattle.std.proofs.Common.{◌++◌, List, ℕ, codes, arith}
+use Rattle.std.proofs.Common.{◌++◌, codes, arith}
 use Rattle.vt_tool.proofs.FinalTexts.{numbers_all, numbers_line, numbers_more, numbers_text}
 use Rattle.vt_tool.proofs.final_text.add_screen_line.Goals as goal
 

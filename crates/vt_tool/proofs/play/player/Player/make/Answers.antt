@@ -1,4 +1,4 @@
-use Rattle.std.proofs.Common.{◌≡◌, ◌≤◌, ap, length, subst, sym, arith}
+use Rattle.std.proofs.Common.{◌≤◌, ap, length, subst, sym, arith}
 use Rattle.vt_events.specs.declared.entry.Entry.{Entry}
 use Rattle.vt_journal.specs.Log.{Logged}
 use Rattle.vt_tool.proofs.Plays.{from_more}

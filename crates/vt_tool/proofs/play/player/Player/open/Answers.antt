@@ -1,4 +1,3 @@
-use Rattle.std.proofs.Common.{refl}
 use Rattle.vt_tool.proofs.Plays.{from_start}
 use Rattle.vt_tool.specs.Play.{opening_of}
 use Rattle.vt_tool.specs.Playing.{Playing}
