@@ -5,7 +5,8 @@ use Rattle.std.proofs.lemmas.Bool.Decides.{nat_tests}
 use Rattle.std.proofs.lemmas.Fmt.{decimal_by_steps}
 use Rattle.std.proofs.lemmas.List.Folds.{list_all-append}
 use Rattle.std.proofs.lemmas.List.Splits.{slice_split_at, slice_split_none}
-use Rattle.vt_journal.specs.Cut.{cut, held_words}
+use Rattle.vt_journal.specs.Cut.{cut}
+use Rattle.vt_journal.specs.Words.{held_words}
 use Rattle.vt_journal.specs.Hex.{hex_byte, hex_digit}
 use Rattle.vt_journal.specs.Kinds.{name_of}
 use Rattle.vt_journal.specs.Words.{spelled}

@@ -6,7 +6,7 @@ use Rattle.vt_events.specs.Charge.{text_of_event}
 use Rattle.vt_events.specs.Plain.{plain_event, text}
 use Rattle.vt_events.specs.declared.event.Event.{Event}
 use Rattle.vt_events.specs.declared.event.Event.TheVariants as event
-use Rattle.vt_journal.specs.Cut.{held_words}
+use Rattle.vt_journal.specs.Words.{held_words}
 use Rattle.vt_journal.specs.Kinds.{count_of, holds_bytes, kind_of, name_of}
 use Rattle.vt_journal.specs.Words.{event_words, numbers_of}
 use Rattle.vt_journal.specs.declared.kind.Kind.{Kind}
@@ -17,11 +17,7 @@ pub event_words-parts : (e : Event)
     → event_words e
     ≡ name_of (kind_of e)
     ∷ (map decimal (numbers_of e) ++ held_words (holds_bytes (kind_of e)) (text_of_event e))
-event_words-parts (event.OpenCon n) = refl
-event_words-parts (event.Write fd b) = refl
-event_words-parts (event.Activate fd n) = refl
-event_words-parts (event.SetMode fd mode waitv relsig acqsig frsig) = refl
-event_words-parts (event.RelDisp fd arg) = refl
+event_words-parts e = refl
 
 -- and it has as many numbers as its kind
 pub length-numbers : (e : Event) → length (numbers_of e) ≡ count_of (kind_of e)

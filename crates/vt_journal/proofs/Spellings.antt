@@ -10,7 +10,8 @@ use Rattle.std.proofs.lemmas.List.Splits.{join_with_byte-slice_split}
 use Rattle.vt_events.specs.Charge.{text_of_event}
 use Rattle.vt_events.specs.Plain.{plain_event}
 use Rattle.vt_events.specs.declared.event.Event.{Event}
-use Rattle.vt_journal.specs.Cut.{cut, held_words}
+use Rattle.vt_journal.specs.Cut.{cut}
+use Rattle.vt_journal.specs.Words.{held_words}
 use Rattle.vt_journal.specs.Hex.{hex_text}
 use Rattle.vt_journal.specs.Kinds.{count_of, holds_bytes, kind_of, name_of}
 use Rattle.vt_journal.specs.Words.{Spells, event_words, numbers_of, spelled}

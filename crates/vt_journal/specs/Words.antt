@@ -1,6 +1,6 @@
--- The words of calls and answers. This project's own: one case for each call, and one for each
--- answer; `decimal` is a number's digits, without sign or leading zeros.
-use Rattle.std.specs.Prelude.{◌≡◌, ℕ, ◌<◌, ◌^◌, List, [], ◌∷◌, codes, decimal}
+-- The words of calls and answers. This project's own; `decimal` is a number's digits, without sign or
+-- leading zeros.
+use Rattle.std.specs.Prelude.{◌≡◌, ℕ, ◌<◌, ◌^◌, Bool, true, false, List, [], ◌∷◌, ◌++◌, codes, decimal, map}
 use Rattle.std.specs.List.{All, join_with_byte}
 use Rattle.vt_base.specs.Errno.{number_of}
 use Rattle.vt_events.specs.Charge.{text_of_event}
@@ -10,16 +10,27 @@ use Rattle.vt_events.specs.declared.event.Event.TheVariants as event
 use Rattle.vt_events.specs.declared.reply.Reply.{Reply}
 use Rattle.vt_events.specs.declared.reply.Reply.TheVariants as reply
 use Rattle.vt_journal.specs.Hex.{hex_text}
+use Rattle.vt_journal.specs.Kinds.{holds_bytes, kind_of, name_of}
+
+-- the numbers among the words of a call, in order
+abbrev pub numbers_of : Event → List ℕ
+numbers_of (event.OpenCon n) = n ∷ []
+numbers_of (event.Write fd b) = fd ∷ []
+numbers_of (event.Activate fd n) = fd ∷ n ∷ []
+numbers_of (event.SetMode fd mode waitv relsig acqsig frsig) =
+    fd ∷ mode ∷ waitv ∷ relsig ∷ acqsig ∷ frsig ∷ []
+numbers_of (event.RelDisp fd arg) = fd ∷ arg ∷ []
+
+-- the word of the bytes that a call holds, where its kind has one
+abbrev pub held_words : Bool → List ℕ → List (List ℕ)
+held_words true bytes = hex_text bytes ∷ []
+held_words false bytes = []
 
 -- the words of a call: its name, its numbers, and the bytes that it holds
 abbrev pub event_words : Event → List (List ℕ)
-event_words (event.OpenCon n) = codes "open" ∷ decimal n ∷ []
-event_words (event.Write fd b) = codes "write" ∷ decimal fd ∷ hex_text b.bytes ∷ []
-event_words (event.Activate fd n) = codes "activate" ∷ decimal fd ∷ decimal n ∷ []
-event_words (event.SetMode fd mode waitv relsig acqsig frsig) =
-    codes "setmode" ∷ decimal fd ∷ decimal mode ∷ decimal waitv ∷ decimal relsig ∷ decimal acqsig
-    ∷ decimal frsig ∷ []
-event_words (event.RelDisp fd arg) = codes "reldisp" ∷ decimal fd ∷ decimal arg ∷ []
+event_words e =
+    name_of (kind_of e)
+    ∷ (map decimal (numbers_of e) ++ held_words (holds_bytes (kind_of e)) (text_of_event e))
 
 -- the words of an answer
 abbrev pub reply_words : Reply → List (List ℕ)
@@ -31,15 +42,6 @@ reply_words (reply.Err errno) = codes "err" ∷ decimal (number_of errno) ∷ []
 -- words with one blank between each and the next
 abbrev pub spelled : List (List ℕ) → List ℕ
 spelled words = join_with_byte 0x20 words
-
--- the numbers of a call
-abbrev pub numbers_of : Event → List ℕ
-numbers_of (event.OpenCon n) = n ∷ []
-numbers_of (event.Write fd b) = fd ∷ []
-numbers_of (event.Activate fd n) = fd ∷ n ∷ []
-numbers_of (event.SetMode fd mode waitv relsig acqsig frsig) =
-    fd ∷ mode ∷ waitv ∷ relsig ∷ acqsig ∷ frsig ∷ []
-numbers_of (event.RelDisp fd arg) = fd ∷ arg ∷ []
 
 -- the numbers of a call have 16 bits, and the bytes that it holds have 8
 pub record IsFit (e : Event) : Type 0 where

@@ -15,7 +15,7 @@ mod tail;
 mod tests;
 mod words;
 
-pub use adding::{add, add_next, add_word};
+pub use adding::{add, add_next};
 pub use full::Full;
 pub use hex::add_hex;
 pub use limits::Limits;

@@ -33,8 +33,7 @@ impl Log {
     /// No entries yet, and room for all that the limits allow.
     pub fn with_room(alloc: Global, events: u32, bytes: u64) -> Result<Log, NoMemory>
         requires events { events ≤ 1_000_000 }
-        requires least { 64 ≤ bytes }
-        requires most { bytes ≤ 1_073_741_824 }
+        requires bytes { bytes ≤ 1_073_741_824 }
         ensures entries { IfOk result (λ log. log.entries ≡ []) }
         ensures limits { IfOk result
             (λ log. log.limits ≡ record { events = events; bytes = bytes }) }

@@ -2,7 +2,7 @@
 ghost use Rattle.std.specs.Prelude.{◌≡◌, ◌≢◌, ℕ, ◌<◌, ◌^◌, List, ◌∷◌, ◌++◌, IfOk, IfSome, IfNone};
 ghost use Rattle.std.specs.List.{All};
 ghost use Rattle.vt_events.specs.declared.event.Event.{Event};
-ghost use Rattle.vt_journal.specs.Cut.{held_words};
+ghost use Rattle.vt_journal.specs.Words.{held_words};
 ghost use Rattle.vt_journal.specs.Kinds.{name_of};
 ghost use Rattle.vt_journal.specs.Words.{Spells};
 ghost use Rattle.vt_journal.specs.declared.kind.Kind.{Kind};

@@ -33,7 +33,6 @@ one_command (Screen rows cols) (Screen rows' cols') words first second =
     let same_cols : cols ≡ cols' =
     decimal_injective cols cols' (omega (arith, fit.1.1)) (omega (arith, fit'.1.1)) wide in
     λ i. Screen (same_rows i) (same_cols i)
-
 one_command (Screen rows cols) Play words first second =
     let same : codes "screen" ∷ decimal rows ∷ decimal cols ∷ [] ≡ codes "play" ∷ [] =
     sym first.spelled ∙ second.spelled in

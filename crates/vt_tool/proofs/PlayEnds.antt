@@ -1,7 +1,6 @@
 -- How a play ends.
-use Rattle.std.proofs.Common.{◌≡◌, ℕ, ◌+◌, ◌<◌, ◌≤◌, ⊎_elim, inl, inr, arith, List, [], ◌∷◌, ◌++◌, length, map, take, get_or, Some, sym, ap, ◌∙◌, subst, append-nil, length-append}
+use Rattle.std.proofs.Common.{◌≡◌, ℕ, ◌≤◌, inl, inr, arith, List, [], ◌∷◌, ◌++◌, length, map, take, get_or, Some, sym, ap, ◌∙◌, subst, append-nil, length-append}
 use Rattle.std.proofs.Math.Seq.{get_or-append_seam, take-append_seam}
-use Rattle.std.proofs.lemmas.Bool.{cases_lt}
 use Rattle.std.proofs.lemmas.List.{length-map}
 use Rattle.std.proofs.lemmas.Option.{slice_get-get_or}
 use Rattle.std.specs.Prelude.{slice_get}
@@ -9,8 +8,8 @@ use Rattle.vt_events.specs.Charge.{charge_of}
 use Rattle.vt_events.specs.declared.entry.Entry.{Entry}
 use Rattle.vt_journal.specs.Log.{Logged, HasRoom, charge_of_all}
 use Rattle.vt_journal.specs.declared.tail.Tail.{Tail}
-use Rattle.vt_tool.specs.Play.{HasNoRoom, IsPlay, IsWithinLimits, call_of, end_tail, full_tail, most_bytes, most_events}
-use Rattle.vt_tool.specs.Playing.{HasPlayLimits, Playing, IsFrom}
+use Rattle.vt_tool.specs.Play.{HasNoRoom, IsPlay, IsWithinLimits, call_of, end_tail, full_tail}
+use Rattle.vt_tool.specs.Player.{HasPlayLimits, PlayerView, IsFrom}
 use Rattle.vt_tool.specs.declared.calls.call.Call.{Call}
 use Rattle.vt_world.specs.State.{WorldState}
 
@@ -42,22 +41,14 @@ within log limits few light = record {
   bytes = subst (λ l. charge_of_all log.entries ≤ l.bytes) limits light;
 }
 
--- where a log has no room, it is at one of the limits
-no_room : (log : Logged) (charge : ℕ) → HasPlayLimits log → IsWithinLimits log.entries
-    → ¬ HasRoom log charge → HasNoRoom log.entries charge
-no_room log charge limits inside none = ⊎_elim
-    (λ few. ⊎_elim
-    (λ heavy. inr heavy)
-    (λ light. absurd (none (record {
-      entries = subst (λ l. length log.entries < l.events) (sym limits) few;
-      bytes = subst (λ l. charge_of_all log.entries + charge ≤ l.bytes) (sym limits) light;
-    })))
-    (cases_lt most_bytes (charge_of_all log.entries + charge)))
-    (λ many. inl (omega (arith, many, inside.events)))
-    (cases_lt (length log.entries) most_events)
+-- where a log has no room, neither have its entries within the limits of a play
+no_room : (log : Logged) (charge : ℕ) → HasPlayLimits log → ¬ HasRoom log charge
+    → HasNoRoom log.entries charge
+no_room log charge limits none =
+    subst (λ l. ¬ HasRoom (record { entries = log.entries; limits = l }) charge) limits none
 
 -- a play that stops at a call without room
-pub stops : (start : WorldState) (p : Playing) (call : Call) (rest calls : List Call) (end : Tail)
+pub stops : (start : WorldState) (p : PlayerView) (call : Call) (rest calls : List Call) (end : Tail)
     → IsFrom start p → HasPlayLimits p.log → length p.log.entries ≤ p.log.limits.events
     → charge_of_all p.log.entries ≤ p.log.limits.bytes → ¬ HasRoom p.log (charge_of call.event)
     → map call_of p.log.entries ++ call ∷ rest ≡ calls
@@ -71,13 +62,13 @@ stops start p call rest calls end from limits few light none order is =
       ends = inr (record {
         call = call;
         next = is_next p.log.entries call rest calls order;
-        no_room = no_room p.log (charge_of call.event) limits inside none;
+        no_room = no_room p.log (charge_of call.event) limits none;
         numbers = is;
       });
     }
 
 -- a play that makes all calls
-pub finishes : (start : WorldState) (p : Playing) (calls : List Call) (end : Tail)
+pub finishes : (start : WorldState) (p : PlayerView) (calls : List Call) (end : Tail)
     → IsFrom start p → HasPlayLimits p.log → length p.log.entries ≤ p.log.limits.events
     → charge_of_all p.log.entries ≤ p.log.limits.bytes → map call_of p.log.entries ++ [] ≡ calls
     → end ≡ end_tail p.log.entries → IsPlay start calls p.log.entries end

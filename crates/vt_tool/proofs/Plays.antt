@@ -6,7 +6,7 @@ use Rattle.std.proofs.lemmas.List.Sums.{count_by-le-length, sum_by-append}
 use Rattle.std.specs.Prelude.{◌==◌, count_by}
 use Rattle.vt_events.specs.Plain.{plain_reply}
 use Rattle.vt_events.specs.declared.entry.Entry.{Entry}
-use Rattle.vt_tool.specs.Playing.{Playing, IsFrom}
+use Rattle.vt_tool.specs.Player.{PlayerView, IsFrom}
 use Rattle.vt_world.specs.History.{IsLegal, IsNext, LegalGrows, NothingIsLegal, ReplayGrows, replay}
 use Rattle.vt_world.specs.State.{WorldState}
 use Rattle.vt_world.specs.Step.{Outcome, step}
@@ -24,7 +24,7 @@ count_more caller entries entry =
     omega (arith, added)
 
 -- what a play is after one call more
-pub from_more : (start : WorldState) (p : Playing) (entry : Entry) (after : Playing)
+pub from_more : (start : WorldState) (p : PlayerView) (entry : Entry) (after : PlayerView)
     → LegalGrows → ReplayGrows → IsFrom start p
     → step p.world entry.caller entry.event
     ≡ record { world = after.world; reply = plain_reply entry.reply }
@@ -85,7 +85,7 @@ from_more start p entry after legal_grows replay_grows from stepped logged numbe
     }
 
 -- a play before its first call
-pub from_start : (start : WorldState) (p : Playing) → NothingIsLegal → p.world ≡ start
+pub from_start : (start : WorldState) (p : PlayerView) → NothingIsLegal → p.world ≡ start
     → p.log.entries ≡ [] → p.counts ≡ replicate 65 0 → IsFrom start p
 from_start start p nothing opened empty zero = record {
   legal = subst (IsLegal start) (sym empty) (nothing start);

@@ -59,7 +59,7 @@ pub record IsGood (t : CallText) : Type 0 where
   pub heading : IsFitHeading t.heading
   pub calls : All IsGoodCall t.calls
 
--- so many lines of a text are good
+-- the text is so many good lines
 abbrev pub AreGoodLines : List ℕ → ℕ → Type 0
 AreGoodLines text zero = text ≡ []
 AreGoodLines text (suc n) = (t : CallText) × (text ≡ call_text t) × IsGood t × (length t.calls ≡ n)
@@ -85,17 +85,17 @@ pub record BeginsUnbuilt (text : List ℕ) : Type 0 where
 abbrev pub formless : ℕ
 formless = 91
 
-abbrev pub unbuilt_write : ℕ
-unbuilt_write = 90
+abbrev pub unbuilt : ℕ
+unbuilt = 90
 
--- a text doesn't begin with a first line that can be played
+-- the fault of a text that doesn't begin with a first line
 abbrev pub IsHeadingFault : List ℕ → ℕ → Type 0
 IsHeadingFault text code = (code ≡ formless) × BeginsNoHeading text
 
--- a text doesn't begin with a call that can be played
+-- the fault of a text that doesn't begin with a call that can be played
 abbrev pub IsCallFault : List ℕ → ℕ → Type 0
 IsCallFault text code =
-    ((code ≡ formless) × BeginsNoCall text) ⊎ ((code ≡ unbuilt_write) × BeginsUnbuilt text)
+    ((code ≡ formless) × BeginsNoCall text) ⊎ ((code ≡ unbuilt) × BeginsUnbuilt text)
 
 -- what is left behind so many lines begins with a line of that fault
 abbrev pub IsFaulty : ℕ → List ℕ → ℕ → Type 0

@@ -3,7 +3,7 @@ pub mod Final
 pub mod Input
 pub mod Outcome
 pub mod Play
-pub mod Playing
+pub mod Player
 pub mod Reading
 pub mod Rows
 pub mod Run

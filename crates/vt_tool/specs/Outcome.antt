@@ -5,7 +5,7 @@ use Rattle.vt_screen.specs.Screen.{Screen, start_screen}
 use Rattle.vt_screen.specs.Units.{is_built}
 use Rattle.vt_events.specs.declared.entry.Entry.{Entry}
 use Rattle.vt_journal.specs.declared.tail.Tail.{Tail}
-use Rattle.vt_tool.specs.Calls.{CallText, HasFaultAt, IsGood, call_text}
+use Rattle.vt_tool.specs.Calls.{CallText, HasFaultAt, IsGood, call_text, unbuilt}
 use Rattle.vt_tool.specs.Play.{IsPlay, opening_of, play_text, status_of}
 use Rattle.vt_tool.specs.Rows.{rows_text}
 use Rattle.vt_tool.specs.declared.command.Command.{Command}
@@ -17,10 +17,6 @@ use Rattle.vt_tool.specs.declared.status.Status.TheVariants.{Fine, Refused}
 pub record Outcome : Type 0 where
   pub status : Status
   pub text : List ℕ
-
--- the fault of a byte that the machine doesn't read
-abbrev pub unbuilt : ℕ
-unbuilt = 90
 
 -- the place of the first byte that isn't built, from 0
 abbrev pub first_unbuilt : List ℕ → Option ℕ

@@ -1,10 +1,10 @@
 -- What `play` makes of a call text: a legal history of its calls, as far as they find room. This
 -- project's own.
-use Rattle.std.specs.Prelude.{◌≡◌, ◌⊎◌, ℕ, ◌+◌, ◌-◌, ◌^◌, ◌<◌, ◌≤◌, true, List, ◌++◌, length, map, take, replicate, slice_get, Some}
+use Rattle.std.specs.Prelude.{◌≡◌, ◌⊎◌, ℕ, ◌+◌, ◌-◌, ◌^◌, ◌≤◌, true, List, ◌++◌, length, map, take, replicate, slice_get, Some}
 use Rattle.vt_events.specs.Charge.{charge_of}
 use Rattle.vt_events.specs.declared.entry.Entry.{Entry}
 use Rattle.vt_journal.specs.Journal.{journal_text}
-use Rattle.vt_journal.specs.Log.{charge_of_all}
+use Rattle.vt_journal.specs.Log.{HasRoom, charge_of_all}
 use Rattle.vt_journal.specs.declared.tail.Tail.{Tail}
 use Rattle.vt_journal.specs.declared.tail.Tail.TheVariants as tail
 use Rattle.vt_tool.specs.Final.{final_text}
@@ -43,10 +43,13 @@ pub record IsWithinLimits (history : List Entry) : Type 0 where
   pub events : length history ≤ most_events
   pub bytes : charge_of_all history ≤ most_bytes
 
--- one more entry that counts for so much isn't
+-- there is no room for one more entry that counts for so much
 abbrev pub HasNoRoom : List Entry → ℕ → Type 0
 HasNoRoom history charge =
-    (length history ≡ most_events) ⊎ (most_bytes < charge_of_all history + charge)
+    ¬ HasRoom (record {
+      entries = history;
+      limits = record { events = most_events; bytes = most_bytes };
+    }) charge
 
 -- the end of a journal where all calls stand, and where a call of that charge found no room
 abbrev pub end_tail : List Entry → Tail

@@ -2,6 +2,7 @@
 ghost use Rattle.std.specs.Prelude.{◌≡◌, ◌≢◌, ◌≤◌, ◌↔◌, List, ◌++◌, codes, length, All, IsTrue, IfOk, IfErr, IfSome, IfNone};
 ghost use Rattle.vt_tool.specs.Calls.{BeginsNoCall, BeginsNoHeading, IsFitCall, IsFitHeading, IsGood, IsGoodCall, IsPlainCall, StopsAtLine, StopsReading, call_line, call_text, heading_words};
 ghost use Rattle.vt_journal.specs.Journal.{line_text};
+ghost use Rattle.vt_tool.specs.Input.{text_limit};
 ghost use Rattle.vt_world.specs.Step.{IsBuiltEvent};
 
 use call::Call;
@@ -33,7 +34,7 @@ const UNBUILT_WRITE: u16 = 90;
 
 /// The heading and the calls of the text; or the first line with a fault.
 pub fn read_calls(alloc: Global, input: &[u8]) -> Result<CallText, CallsEnd>
-    requires { length input.now ≤ 16_777_216 }
+    requires { length input.now ≤ text_limit }
     ensures read { IfOk result (λ t. input.now
         ≡ call_text (record { heading = t.heading; calls = t.calls.items })) }
     ensures good { IfOk result (λ t.

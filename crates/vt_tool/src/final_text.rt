@@ -54,7 +54,11 @@ fn add_console(alloc: Global, text: &mut Bytes, n: u16, screen: &Emu) -> Result<
     let size = screen.grid().size();
     let state = screen.state();
     let (rows, cols) = (u16::from(size.rows), u16::from(size.cols));
-    add_screen_line(alloc, text, &[n, rows, cols, u16::from(state.x), u16::from(state.y), 0])?;
+    add_screen_line(
+        alloc,
+        text,
+        &[n, rows, cols, u16::from(state.x), u16::from(state.y), 0],
+    )?;
     add_rows(alloc, text, screen.grid())?;
     add_queue_line(alloc, text, n)?;
     Ok(())

@@ -20,6 +20,7 @@ mod tool;
 mod words;
 mod writing;
 
+pub use calls::laws::one_answer;
 pub use rows::plain::plain_text;
 pub use rows::text_rows;
 pub use status::Status;

@@ -13,7 +13,7 @@ pub record Display : Type 0 where
   pub pending : Option ℕ
   pub consoles : List (Option Console)
 
--- what a new console has: text, and no_caller who handles its switches
+-- what a new console has: text, and nobody who handles its switches
 abbrev pub fresh : Console
 fresh = record {
   graphics = false;

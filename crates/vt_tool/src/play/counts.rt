@@ -25,7 +25,9 @@ impl Counts {
     pub fn new() -> Counts
         ensures { result ≡ replicate 65 0 }
     {
-        Counts { places: [0; PLACES] }
+        Counts {
+            places: [0; PLACES],
+        }
     }
 
     /// How many calls the caller made so far; from then on it made one more. The greatest count

@@ -3,7 +3,7 @@ ghost use Rattle.vt_events.specs.Charge.{charge_of};
 ghost use Rattle.vt_journal.specs.Log.{HasRoom, charge_of_all};
 ghost use Rattle.vt_tool.specs.Calls.{IsGoodCall, IsFitHeading};
 ghost use Rattle.vt_tool.specs.Play.{IsPlay, call_of, end_tail, full_tail, opening_of};
-ghost use Rattle.vt_tool.specs.Playing.{HasPlayLimits, IsFrom};
+ghost use Rattle.vt_tool.specs.Player.{HasPlayLimits, IsFrom};
 ghost use Rattle.vt_world.specs.History.{replay};
 ghost use Rattle.vt_world.specs.State.{WorldState};
 ghost use Rattle.vt_world.specs.Step.{IsBuiltEvent};
@@ -35,9 +35,9 @@ struct Player {
 }
 
 impl Model for Player {
-    ghost use Rattle.vt_tool.specs.Playing.{Playing};
+    ghost use Rattle.vt_tool.specs.Player.{PlayerView};
 
-    ghost Value = { Playing };
+    ghost Value = { PlayerView };
 
     ghost view = { λ p. record { world = p.world; log = p.log; counts = p.counts } };
 }

@@ -34,11 +34,20 @@ fn refuses_call_texts(rt: HostRuntime) -> Result<(), Fail> {
         (b"", b"vt: refused 91 at 1:1\n"),
         (b"%calls 2 5 2 2", b"vt: refused 91 at 1:1\n"),
         (b"%calls 2 5 9 2\n1 open 1\n", b"vt: refused 91 at 1:1\n"),
-        (b"%calls 2 5 2 2\n1 open 1\n1 open 2", b"vt: refused 91 at 3:1\n"),
+        (
+            b"%calls 2 5 2 2\n1 open 1\n1 open 2",
+            b"vt: refused 91 at 3:1\n",
+        ),
         (b"%calls 2 5 2 2\n0 open 1\n", b"vt: refused 91 at 2:1\n"),
         (b"%calls 2 5 2 2\n1 open  1\n", b"vt: refused 91 at 2:1\n"),
-        (b"%calls 2 5 2 2\n1 write 0 1b\n1 no\n", b"vt: refused 90 at 2:1\n"),
-        (b"%calls 2 5 2 2\n1 open 1\n1 no\n1 write 0 1b\n", b"vt: refused 91 at 3:1\n"),
+        (
+            b"%calls 2 5 2 2\n1 write 0 1b\n1 no\n",
+            b"vt: refused 90 at 2:1\n",
+        ),
+        (
+            b"%calls 2 5 2 2\n1 open 1\n1 no\n1 write 0 1b\n",
+            b"vt: refused 91 at 3:1\n",
+        ),
     ];
     for (input, err) in cases {
         let case = Case {
@@ -54,9 +63,13 @@ fn refuses_call_texts(rt: HostRuntime) -> Result<(), Fail> {
 }
 
 // What `play` ends with on a first line, and so many times a piece.
-fn play_of(alloc: Global, first: &[u8], piece: &[u8], times: usize, last: &[u8])
-    -> Result<(u8, MemSink, MemSink), NoMemory>
-{
+fn play_of(
+    alloc: Global,
+    first: &[u8],
+    piece: &[u8],
+    times: usize,
+    last: &[u8],
+) -> Result<(u8, MemSink, MemSink), NoMemory> {
     let mut input = Bytes::from_slice(alloc, first)?;
     for _ in 0..times {
         input.grow(alloc, piece.len())?;
@@ -74,7 +87,15 @@ fn play_of(alloc: Global, first: &[u8], piece: &[u8], times: usize, last: &[u8])
 
 #[test]
 fn stops_at_a_full_journal(rt: HostRuntime) -> Result<(), Fail> {
-    let cases: [(&'static [u8], &'static [u8], usize, &'static [u8], u8, &'static [u8], &'static [u8]); 3] = [
+    let cases: [(
+        &'static [u8],
+        &'static [u8],
+        usize,
+        &'static [u8],
+        u8,
+        &'static [u8],
+        &'static [u8],
+    ); 3] = [
         (
             b"%calls 1 1 1 1\n",
             b"1 reldisp 0 0\n",

@@ -5,7 +5,7 @@ use Rattle.vt_events.specs.Charge.{charge_of}
 use Rattle.vt_journal.specs.Log.{Logged, HasRoom}
 use Rattle.vt_tool.proofs.PlayEnds.{stops, finishes}
 use Rattle.vt_tool.specs.Play.{IsPlay, call_of, full_tail, opening_of}
-use Rattle.vt_tool.specs.Playing.{Playing}
+use Rattle.vt_tool.specs.Player.{PlayerView}
 use Rattle.vt_tool.specs.declared.calls.call.Call.{Call}
 use Rattle.vt_world.specs.History.{replay}
 use Rattle.vt_world.specs.State.{WorldState}
@@ -17,7 +17,7 @@ none_left (x ∷ xs) none = absurd (let impossible : ⊥ = omega (arith, none) i
 
 pub returns-then-not-room-clause-play : goal.returns-then-not-room-clause-play
 returns-then-not-room-clause-play c =
-    let player : Playing = c.loop-call.player in
+    let player : PlayerView = c.loop-call.player in
     let start : WorldState = opening_of c.args.heading in
     let rest : List Call = into_iter_items c.next.new.self in
     let call : Call = c.in-Some.call in
@@ -28,7 +28,7 @@ returns-then-not-room-clause-play c =
     λ room.
     let here : HasRoom c.player.inside.log c.charge-charge.result =
     subst (HasRoom c.player.inside.log) (sym c.charge-charge.ensures)
-    (subst (λ (p : Playing). HasRoom p.log (charge_of call.event)) (sym c.player.view_is) room) in
+    (subst (λ (p : PlayerView). HasRoom p.log (charge_of call.event)) (sym c.player.view_is) room) in
     false≢true (sym c.if-not-room.true ∙ c.room.ensures.1 here) in
     let numbers : c.stop.result.end ≡ full_tail player.log.entries (charge_of call.event) =
     c.stop.ensures.end ∙ ap (full_tail player.log.entries) c.charge-charge.ensures in
@@ -62,7 +62,7 @@ loop-call-preserved c = record {
 
 pub returns-clause-play : goal.returns-clause-play
 returns-clause-play c =
-    let player : Playing = c.loop-call.player in
+    let player : PlayerView = c.loop-call.player in
     let order : map call_of player.log.entries ++ [] ≡ c.args.calls.items =
     ap (λ more. map call_of player.log.entries ++ more)
     (none_left (into_iter_items c.loop-call.call-iterator)

@@ -1,7 +1,7 @@
 use Rattle.std.proofs.Common.{◌≡◌, ◌++◌, length, map}
 use Rattle.std.specs.Vec.Iter.{into_iter_items, into_iter_len}
 use Rattle.vt_tool.specs.Play.{call_of, opening_of}
-use Rattle.vt_tool.specs.Playing.{HasPlayLimits, IsFrom}
+use Rattle.vt_tool.specs.Player.{HasPlayLimits, IsFrom}
 use Rattle.vt_tool.proofs.play.player.play.Given as goal
 
 abbrev pub invariant-loop-call : goal.invariant-loop-call

@@ -2,7 +2,7 @@ use Rattle.std.proofs.Common.{◌≤◌, ap, length, subst, sym, arith}
 use Rattle.vt_events.specs.declared.entry.Entry.{Entry}
 use Rattle.vt_journal.specs.Log.{Logged}
 use Rattle.vt_tool.proofs.Plays.{from_more}
-use Rattle.vt_tool.specs.Playing.{Playing, IsFrom}
+use Rattle.vt_tool.specs.Player.{PlayerView, IsFrom}
 use Rattle.vt_tool.proofs.play.player.Player.make.Goals as goal
 
 pub returns-clause-from : goal.returns-clause-from
@@ -13,12 +13,12 @@ returns-clause-from c = λ start from.
       event = c.args.call.event;
       reply = c.step-reply.result.0;
     } in
-    let before : Playing = record {
+    let before : PlayerView = record {
       world = c.self.inside.world;
       log = c.self.inside.log;
       counts = c.self.inside.counts;
     } in
-    let after : Playing = record {
+    let after : PlayerView = record {
       world = c.step-reply.new.self;
       log = c.push.new.self;
       counts = c.next-seq.new.self;

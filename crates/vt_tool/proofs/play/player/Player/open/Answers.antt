@@ -1,11 +1,11 @@
 use Rattle.vt_tool.proofs.Plays.{from_start}
 use Rattle.vt_tool.specs.Play.{opening_of}
-use Rattle.vt_tool.specs.Playing.{Playing}
+use Rattle.vt_tool.specs.Player.{PlayerView}
 use Rattle.vt_tool.proofs.play.player.Player.open.Goals as goal
 
 pub returns-clause-from : goal.returns-clause-from
 returns-clause-from c =
-    let player : Playing = record {
+    let player : PlayerView = record {
       world = c.in_ok-world.world;
       log = c.in_ok-log.log;
       counts = c.new.result;

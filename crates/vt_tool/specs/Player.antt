@@ -6,13 +6,13 @@ use Rattle.vt_world.specs.History.{IsLegal, replay}
 use Rattle.vt_world.specs.State.{WorldState}
 
 -- a console, its journal, and how many calls each caller made
-pub record Playing : Type 0 where
+pub record PlayerView : Type 0 where
   pub world : WorldState
   pub log : Logged
   pub counts : List ℕ
 
 -- the journal is a legal history, the console is its replay, and the counts are those of its entries
-pub record IsFrom (start : WorldState) (p : Playing) : Type 0 where
+pub record IsFrom (start : WorldState) (p : PlayerView) : Type 0 where
   pub legal : IsLegal start p.log.entries
   pub replayed : p.world ≡ replay start p.log.entries
   pub places : length p.counts ≡ 65
