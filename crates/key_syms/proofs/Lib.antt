@@ -1,0 +1,7 @@
+pub mod Computed
+pub mod Digits
+pub mod Halves
+pub mod Listed
+pub mod Places
+pub mod Ranks
+pub mod Rows

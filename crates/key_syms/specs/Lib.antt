@@ -1,0 +1,5 @@
+pub mod Act
+pub mod Index
+pub mod Names
+pub mod Numbers
+pub mod Symbols

@@ -1,0 +1,20 @@
+//! What a key does, and the names of it: the symbols of a keymap, both ways.
+#![tactic(auto)]
+
+mod action;
+mod index;
+pub mod kind;
+mod name;
+mod numeral;
+mod pair;
+mod search;
+mod symbol;
+mod table;
+#[cfg(test)]
+mod tests;
+
+pub use action::Action;
+pub use name::name_of;
+pub use numeral::number;
+pub use pair::Pair;
+pub use symbol::{by_bytes, by_name};

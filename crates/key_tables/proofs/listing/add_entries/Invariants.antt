@@ -1,0 +1,6 @@
+use Rattle.std.proofs.Common.{◌≡◌, ◌++◌, take}
+use Rattle.key_tables.specs.Listing.{map_text, texts_from}
+use Rattle.key_tables.proofs.listing.add_entries.Given as goal
+
+abbrev pub invariant-loop-t : goal.invariant-loop-t
+invariant-loop-t l = l.text.bytes ≡ l.initial.text.bytes ++ texts_from map_text 0 (take l.t l.maps)

@@ -1,0 +1,171 @@
+ghost use Rattle.std.specs.Prelude.{◌≡◌, ◌≢◌, ◌≤◌, ◌==◌, ◌&&◌, ℕ, [], None, Some, cond, length, replicate, IsTrue, IfOk};
+ghost use Rattle.key_tables.specs.Listing.{listing_of};
+ghost use Rattle.key_tables.specs.Tables.{IsEmpty, IsWhole, AreHoles, hole, entry_of, exists_in, found_in, func_of, with_entry, with_func, with_pairs};
+
+use crate::func_text::FuncText;
+use crate::listing;
+use crate::table::Table;
+use key_syms::{Action, Pair};
+use std::alloc::Global;
+use std::marker::Model;
+use vt_base::{Bytes, NoMemory};
+
+/// How many tables there may be, and how many function keys and pairs.
+const COUNT: usize = 256;
+
+/// Which tables exist and what each keycode does in them, the strings of the function keys, and the
+/// pairs. All memory is taken at the start.
+#[derive(Debug, Drop)]
+pub struct KeyTables {
+    maps: Vec<Table>,
+    funcs: Vec<FuncText>,
+    pairs: Vec<Pair>,
+}
+
+impl Model for KeyTables {
+    ghost use Rattle.std.specs.Prelude.{◌≤◌, vec_capacity};
+    ghost use Rattle.key_tables.specs.Tables.{IsWhole, Tables, tables_of};
+
+    ghost Value = { Tables };
+
+    ghost view = { λ k. tables_of k.maps.items k.funcs.items k.pairs.items };
+
+    ghost invariant = { λ k.
+        IsWhole (tables_of k.maps.items k.funcs.items k.pairs.items) × (256 ≤ vec_capacity k.pairs) };
+}
+
+impl KeyTables {
+    /// Tables of holes for these numbers, with no strings and no pairs.
+    pub fn empty(alloc: Global, declared: &[u8]) -> Result<KeyTables, NoMemory>
+        ensures { IfOk result (IsEmpty declared.now) }
+    {
+        Ok(KeyTables {
+            maps: empty_maps(alloc, declared)?,
+            funcs: empty_funcs(alloc)?,
+            pairs: Vec::with_capacity(alloc, COUNT)?,
+        })
+    }
+
+    /// Whether there is a table.
+    pub fn exists(&self, t: u8) -> bool
+        ensures value { result ≡ exists_in self.now t }
+        ensures whole { IsWhole self.now }
+    {
+        self.maps[usize::from(t)].exists()
+    }
+
+    /// What a keycode does in a table.
+    pub fn entry(&self, t: u8, c: u8) -> Option<Action>
+        ensures { result ≡ entry_of self.now t c }
+    {
+        self.maps[usize::from(t)].at(c)
+    }
+
+    /// Sets what a keycode does in a table.
+    #[tactic(auto, using(crate::proofs::Entries::in_map))]
+    pub fn set_entry(&mut self, t: u8, c: u8, a: Action)
+        requires exists { IsTrue (exists_in self.old t) }
+        requires key { c ≢ 0 }
+        ensures tables { self.new ≡ with_entry self.old t c a }
+        ensures entries { (u d : ℕ) → entry_of self.new u d
+            ≡ cond (u == t && d == c) (Some a) (entry_of self.old u d) }
+    {
+        let table = &mut self.maps[usize::from(t)];
+        table.put(c, a);
+    }
+
+    /// The string of a function key.
+    pub fn func(&self, i: u8) -> &[u8]
+        ensures { result.now ≡ func_of self.now i }
+    {
+        self.funcs[usize::from(i)].as_slice()
+    }
+
+    /// Sets the string of a function key.
+    #[tactic(auto, using(crate::proofs::Entries::in_map))]
+    pub fn set_func(&mut self, i: u8, text: &[u8])
+        requires { length text.now ≤ 255 }
+        ensures tables { self.new ≡ with_func self.old i text.now }
+        ensures funcs { (j : ℕ) → func_of self.new j
+            ≡ cond (j == i) text.now (func_of self.old j) }
+    {
+        let kept = &mut self.funcs[usize::from(i)];
+        kept.set(text);
+    }
+
+    /// What an accent and a base make: the result of the first such pair.
+    pub fn find(&self, a: u16, b: u16) -> Option<u16>
+        ensures { result ≡ found_in self.now.pairs a b }
+    {
+        self.pairs
+            .iter()
+            .find(|pair| pair.accent == a && pair.base == b)
+            .map(|pair| pair.result)
+    }
+
+    /// Sets the pairs. Equal ones are kept.
+    pub fn set_pairs(&mut self, pairs: &[Pair])
+        requires { length pairs.now ≤ 256 }
+        ensures { self.new ≡ with_pairs self.old pairs.now }
+    {
+        self.pairs.clear();
+        let kept = self.pairs.extend_from_slice(pairs);
+        prove!(kept.is_ok());
+        let _ = kept;
+    }
+
+    /// The pairs in order.
+    pub fn pairs(&self) -> &[Pair]
+        ensures { result.now ≡ self.now.pairs }
+    {
+        self.pairs.as_slice()
+    }
+
+    /// The tables as text: the line `maps` with the tables that exist, `map T C K V` for each entry
+    /// that isn't a hole, `func I B` for each string that isn't empty, and `pair A B C`.
+    pub fn listing(&self, alloc: Global) -> Result<Bytes, NoMemory>
+        ensures { IfOk result (λ text. text.bytes ≡ listing_of self.now) }
+    {
+        let mut text = Bytes::with_room(alloc, 0)?;
+        let maps = self.maps.as_slice();
+        listing::add_tables(
+            alloc,
+            &mut text,
+            maps,
+            self.funcs.as_slice(),
+            self.pairs.as_slice(),
+        )?;
+        Ok(text)
+    }
+}
+
+// The tables from 0 to 255.
+fn empty_maps(alloc: Global, declared: &[u8]) -> Result<Vec<Table>, NoMemory>
+    ensures { IfOk result (λ maps. AreHoles declared.now maps.items) }
+{
+    let mut maps = Vec::with_capacity(alloc, COUNT)?;
+    for t in 0..COUNT {
+        maps.push(empty_map(alloc, declared.contains(&(t as u8)))?)?;
+    }
+    Ok(maps)
+}
+
+fn empty_map(alloc: Global, exists: bool) -> Result<Table, NoMemory>
+    ensures { IfOk result (λ map. map ≡ cond exists (Some (replicate 256 hole)) None) }
+{
+    if exists {
+        Table::holes(alloc)
+    } else {
+        Ok(Table::none(alloc))
+    }
+}
+
+fn empty_funcs(alloc: Global) -> Result<Vec<FuncText>, NoMemory>
+    ensures { IfOk result (λ funcs. funcs.items ≡ replicate 256 []) }
+{
+    let mut funcs = Vec::with_capacity(alloc, COUNT)?;
+    for _i in 0..COUNT {
+        funcs.push(FuncText::empty())?;
+    }
+    Ok(funcs)
+}

@@ -1,0 +1,11 @@
+//! Key tables: the actions of keycodes by table, the function strings and the pairs.
+#![tactic(auto)]
+
+mod func_text;
+mod key_tables;
+mod listing;
+mod table;
+#[cfg(test)]
+mod tests;
+
+pub use key_tables::KeyTables;

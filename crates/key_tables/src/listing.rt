@@ -1,0 +1,167 @@
+ghost use Rattle.std.specs.Prelude.{◌≡◌, ◌++◌, ◌≤◌, length, OnOk};
+ghost use Rattle.std.specs.List.{flat_map};
+ghost use Rattle.key_tables.specs.Listing.{entry_text, func_text, hex_byte, hex_digit, listing_of, map_text, maps_text, number_text, numbers_line, pair_text, table_text, texts_from};
+ghost use Rattle.key_tables.specs.Tables.{tables_of};
+
+use crate::func_text::FuncText;
+use crate::table::Table;
+use itoa::Buffer;
+use key_syms::{Action, Pair, kind};
+use std::alloc::Global;
+use vt_base::{Bytes, NoMemory};
+
+/// Adds the whole listing.
+#[tactic(auto, using(crate::proofs::Texts::four_more), unfolding(crate::specs::Listing::listing_of))]
+pub fn add_tables(
+    alloc: Global,
+    text: &mut Bytes,
+    maps: &[Table],
+    funcs: &[FuncText],
+    pairs: &[Pair],
+) -> Result<(), NoMemory>
+    requires maps { length maps.now ≤ 256 }
+    requires funcs { length funcs.now ≤ 256 }
+    ensures { OnOk result (text.new.bytes
+        ≡ text.old.bytes ++ listing_of (tables_of maps.now funcs.now pairs.now)) }
+{
+    add_maps(alloc, text, maps)?;
+    add_entries(alloc, text, maps)?;
+    add_funcs(alloc, text, funcs)?;
+    add_pairs(alloc, text, pairs)
+}
+
+/// Adds the line of the tables that exist.
+fn add_maps(alloc: Global, text: &mut Bytes, maps: &[Table]) -> Result<(), NoMemory>
+    requires { length maps.now ≤ 256 }
+    ensures { OnOk result (text.new.bytes ≡ text.old.bytes ++ maps_text maps.now) }
+{
+    add(alloc, text, b"maps")?;
+    for t in 0..maps.len() {
+        add_table(alloc, text, t as u16, &maps[t])?;
+    }
+    add(alloc, text, b"\n")
+}
+
+fn add_table(alloc: Global, text: &mut Bytes, t: u16, map: &Table) -> Result<(), NoMemory>
+    ensures { OnOk result (text.new.bytes ≡ text.old.bytes ++ table_text t map.now) }
+{
+    if map.exists() {
+        return add_number(alloc, text, t);
+    }
+    Ok(())
+}
+
+/// Adds a line for each entry that isn't a hole.
+fn add_entries(alloc: Global, text: &mut Bytes, maps: &[Table]) -> Result<(), NoMemory>
+    requires { length maps.now ≤ 256 }
+    ensures { OnOk result (text.new.bytes ≡ text.old.bytes ++ texts_from map_text 0 maps.now) }
+{
+    for t in 0..maps.len() {
+        add_map(alloc, text, t as u16, &maps[t])?;
+    }
+    Ok(())
+}
+
+fn add_map(alloc: Global, text: &mut Bytes, t: u16, map: &Table) -> Result<(), NoMemory>
+    ensures { OnOk result (text.new.bytes ≡ text.old.bytes ++ map_text t map.now) }
+{
+    let entries = map.entries();
+    for c in 0..entries.len() {
+        add_entry(alloc, text, t, c as u16, entries[c])?;
+    }
+    Ok(())
+}
+
+fn add_entry(alloc: Global, text: &mut Bytes, t: u16, c: u16, a: Action) -> Result<(), NoMemory>
+    ensures { OnOk result (text.new.bytes ≡ text.old.bytes ++ entry_text t c a) }
+{
+    if a.kind == kind::HOLE {
+        return Ok(());
+    }
+    add_line(alloc, text, b"map", &[t, c, u16::from(a.kind), a.value])
+}
+
+/// Adds a line for each string that isn't empty.
+fn add_funcs(alloc: Global, text: &mut Bytes, funcs: &[FuncText]) -> Result<(), NoMemory>
+    requires { length funcs.now ≤ 256 }
+    ensures { OnOk result (text.new.bytes ≡ text.old.bytes ++ texts_from func_text 0 funcs.now) }
+{
+    for i in 0..funcs.len() {
+        let func = &funcs[i];
+        add_func(alloc, text, i as u16, func.as_slice())?;
+    }
+    Ok(())
+}
+
+fn add_func(alloc: Global, text: &mut Bytes, i: u16, func: &[u8]) -> Result<(), NoMemory>
+    ensures { OnOk result (text.new.bytes ≡ text.old.bytes ++ func_text i func.now) }
+{
+    if func.is_empty() {
+        return Ok(());
+    }
+    add(alloc, text, b"func")?;
+    add_number(alloc, text, i)?;
+    add(alloc, text, b" ")?;
+    add_hex(alloc, text, func)?;
+    add(alloc, text, b"\n")
+}
+
+fn add_hex(alloc: Global, text: &mut Bytes, bytes: &[u8]) -> Result<(), NoMemory>
+    ensures { OnOk result (text.new.bytes ≡ text.old.bytes ++ flat_map hex_byte bytes.now) }
+{
+    for b in bytes {
+        add(alloc, text, &[hex_digit(*b / 16), hex_digit(*b % 16)])?;
+    }
+    Ok(())
+}
+
+fn hex_digit(d: u8) -> u8
+    requires { d ≤ 15 }
+    ensures { result ≡ hex_digit d }
+{
+    if d < 10 { b'0' + d } else { b'a' + (d - 10) }
+}
+
+/// Adds a line for each pair.
+fn add_pairs(alloc: Global, text: &mut Bytes, pairs: &[Pair]) -> Result<(), NoMemory>
+    ensures { OnOk result (text.new.bytes ≡ text.old.bytes ++ flat_map pair_text pairs.now) }
+{
+    for pair in pairs {
+        add_pair(alloc, text, *pair)?;
+    }
+    Ok(())
+}
+
+fn add_pair(alloc: Global, text: &mut Bytes, pair: Pair) -> Result<(), NoMemory>
+    ensures { OnOk result (text.new.bytes ≡ text.old.bytes ++ pair_text pair) }
+{
+    add_line(alloc, text, b"pair", &[pair.accent, pair.base, pair.result])
+}
+
+fn add_line(alloc: Global, text: &mut Bytes, word: &[u8], numbers: &[u16]) -> Result<(), NoMemory>
+    ensures { OnOk result
+        (text.new.bytes ≡ text.old.bytes ++ numbers_line word.now numbers.now) }
+{
+    add(alloc, text, word)?;
+    for n in numbers {
+        add_number(alloc, text, *n)?;
+    }
+    add(alloc, text, b"\n")
+}
+
+fn add_number(alloc: Global, text: &mut Bytes, n: u16) -> Result<(), NoMemory>
+    ensures { OnOk result (text.new.bytes ≡ text.old.bytes ++ number_text n) }
+{
+    let mut buffer = Buffer::new();
+    add(alloc, text, b" ")?;
+    add(alloc, text, buffer.format(n).as_bytes())
+}
+
+// Appends the bytes, with room for them.
+fn add(alloc: Global, text: &mut Bytes, b: &[u8]) -> Result<(), NoMemory>
+    ensures { OnOk result (text.new.bytes ≡ text.old.bytes ++ b.now) }
+{
+    text.grow(alloc, b.len())?;
+    text.append(b);
+    Ok(())
+}

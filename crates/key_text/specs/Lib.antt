@@ -1,0 +1,14 @@
+pub mod Adds
+pub mod Cut
+pub mod Fault
+pub mod Fields
+pub mod Included
+pub mod Lines
+pub mod Quoted
+pub mod Reading
+pub mod Rows
+pub mod Sayings
+pub mod Tables
+pub mod Told
+pub mod View
+pub mod Words

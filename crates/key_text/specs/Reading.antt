@@ -1,0 +1,92 @@
+-- The lines of a keymap: those of its rows in order, with the texts that it includes (keymaps(5)).
+use Rattle.std.specs.Prelude.{ℕ, zero, suc, ◌+◌, cond, nat_le, Option, Some, None, unwrap_or, Result, Ok, Err, List, [], ◌∷◌, ◌++◌}
+use Rattle.key_text.specs.Fault.{fault, ◌>>=◌}
+use Rattle.key_text.specs.Included.{Named, text_named}
+use Rattle.key_text.specs.Lines.{Said, nothing, tells, includes, said_from}
+use Rattle.key_text.specs.Rows.{Row, rows_of}
+use Rattle.key_text.specs.Told.{Told}
+use Rattle.key_text.specs.View.{told}
+use Rattle.key_text.specs.Words.{spot, word_at}
+use Rattle.key_text.specs.declared.fault.KeyFault.{KeyFault}
+use Rattle.key_text.specs.declared.fault_kind.TheConstants.{NOT_GIVEN, TOO_DEEP, TOO_MANY_INCLUDES}
+use Rattle.key_text.specs.declared.placed.Place.{Place}
+use Rattle.key_text.specs.declared.placed.Placed.{Placed}
+
+-- lines, and how many texts were included up to the last of them
+pub record Got : Type 0 where
+  pub lines : List Told
+  pub count : ℕ
+
+abbrev pub got : List Told → ℕ → Got
+got lines count = record { lines = lines; count = count }
+
+-- where a text begins
+abbrev pub start : Place
+start = record { line = 1; column = 1 }
+
+-- a fault in an included text is at the outermost include line
+abbrev pub blamed : {A : Type 0} → Option Place → Result A KeyFault → Result A KeyFault
+blamed outer (Ok x) = Ok x
+blamed outer (Err f) =
+    Err (fault f.kind (unwrap_or outer (record { line = f.line; column = f.column })))
+
+-- the text of an include line, read by `deeper`; the place is that of the quoted name
+abbrev pub included : (List ℕ → Result Got KeyFault) → Place → Option (List ℕ) → Result Got KeyFault
+included deeper quoted None = Err (fault NOT_GIVEN quoted)
+included deeper quoted (Some text) = deeper text
+
+-- how a text is read at a place: where the quoted name stands, where the include line starts, and
+-- how many texts were included before
+abbrev pub Deeper : Type 0
+Deeper = Place → Place → ℕ → List ℕ → Result Got KeyFault
+
+-- what a row gives that starts at this place
+abbrev pub given : Deeper → List Named → Option Place → Place → ℕ → Said → Result Got KeyFault
+given deeper texts outer first count nothing = Ok (got [] count)
+given deeper texts outer first count (tells telling) =
+    let at = unwrap_or outer first in
+    Ok (got (told telling at.line at.column ∷ []) count)
+given deeper texts outer first count (includes name quoted) =
+    let at = unwrap_or outer quoted in
+    included (deeper at (unwrap_or outer first) count) at (text_named name texts)
+
+-- what a row gives by its first word; without one it gives nothing
+abbrev pub read_row_by : Deeper → List Named → Option Place → ℕ → Place → Option (List Placed × List Placed) → Result Got KeyFault
+read_row_by deeper texts outer count end None = Ok (got [] count)
+read_row_by deeper texts outer count end (Some word) =
+    blamed outer (said_from end word) >>= λ said. given deeper texts outer (spot word.0) count said
+
+unfoldable pub read_row : Deeper → List Named → Option Place → ℕ → Place → List Placed → Result Got KeyFault
+read_row deeper texts outer count end items =
+    read_row_by deeper texts outer count end (word_at items)
+
+-- lines before those that are read
+abbrev pub with_lines : List Told → Result Got KeyFault → Result Got KeyFault
+with_lines front read = read >>= λ g. Ok (got (front ++ g.lines) g.count)
+
+-- what rows give, one behind another
+abbrev pub read_rows : Deeper → List Named → Option Place → ℕ → List Row → Result Got KeyFault
+read_rows deeper texts outer count [] = Ok (got [] count)
+read_rows deeper texts outer count (row ∷ rows) =
+    read_row deeper texts outer count row.end row.items >>= λ g.
+    with_lines g.lines (read_rows deeper texts outer g.count rows)
+
+-- the most texts that are included
+abbrev pub most_includes : ℕ
+most_includes = 1000
+
+-- an included text, where texts may be included this deep
+abbrev pub within : ℕ → List Named → Deeper
+within zero texts quoted first count text = Err (fault TOO_DEEP first)
+within (suc n) texts quoted first count text =
+    cond (nat_le most_includes count) (Err (fault TOO_MANY_INCLUDES quoted))
+    (read_rows (within n texts) texts (Some first) (count + 1) (rows_of start text))
+
+-- how deep texts may be included
+abbrev pub most_deep : ℕ
+most_deep = 8
+
+-- the lines of a text that may include these
+unfoldable pub lines_of : List Named → List ℕ → Result (List Told) KeyFault
+lines_of texts text =
+    read_rows (within most_deep texts) texts None 0 (rows_of start text) >>= λ g. Ok g.lines

@@ -1,0 +1,8 @@
+-- Sets of tables.
+use Rattle.std.specs.Prelude.{◌≡◌, ℕ, Bool, true, List, length}
+use Rattle.std.specs.List.{list_any}
+
+-- for each table from 0 to 255 whether the set has it, which holds of one at least
+pub record IsTableSet (tables : List Bool) : Type 0 where
+  pub full : length tables ≡ 256
+  pub some : list_any (λ has. has) tables ≡ true

@@ -1,0 +1,21 @@
+-- What the lines that are read tell.
+use Rattle.std.specs.Prelude.{ℕ, Bool, true, List}
+use Rattle.key_text.specs.Lines.{Said, nothing, tells, includes}
+use Rattle.key_text.specs.Told.{Telling, Told, is_fit, keymaps, keys, one, string, compose, alt_is_meta, usual_strings, usual_pairs}
+use Rattle.key_text.specs.declared.line_kind.LineKind.{LineKind}
+use Rattle.key_text.specs.declared.line_kind.LineKind.TheVariants as kinds
+
+-- what a line tells
+abbrev pub telling_of : LineKind → Telling
+telling_of (kinds.Keymaps tables) = keymaps tables
+telling_of (kinds.Keys code syms) = keys code syms
+telling_of (kinds.One table code action) = one table code action
+telling_of (kinds.Text func bytes) = string func bytes.bytes
+telling_of (kinds.Compose pair) = compose pair
+telling_of kinds.AltIsMeta = alt_is_meta
+telling_of kinds.UsualStrings = usual_strings
+telling_of kinds.UsualPairs = usual_pairs
+
+-- a line that tells this, and its place
+abbrev pub told : Telling → ℕ → ℕ → Told
+told telling line column = record { telling = telling; line = line; column = column }

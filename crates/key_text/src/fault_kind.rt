@@ -1,0 +1,37 @@
+//! The kinds of faults in a keymap, by the numbers of docs/KEYS.md.
+
+/// A word that isn't the one that must stand there.
+pub const UNKNOWN_WORD: u16 = 1;
+
+/// A symbol that isn't known there.
+pub const UNKNOWN_SYMBOL: u16 = 2;
+
+/// A number out of its range, or a range in reverse.
+pub const OUT_OF_RANGE: u16 = 3;
+
+/// No symbols, or more than there are tables.
+pub const WRONG_COUNT: u16 = 4;
+
+/// A keymaps line behind a key line.
+pub const LATE_KEYMAPS: u16 = 5;
+
+/// A bad quoted text, or bytes that aren't UTF-8.
+pub const BAD_TEXT: u16 = 6;
+
+/// An include text that isn't given.
+pub const NOT_GIVEN: u16 = 7;
+
+/// Include texts that include each other too deep.
+pub const TOO_DEEP: u16 = 8;
+
+/// Something behind the line's end.
+pub const LEFT_OVER: u16 = 9;
+
+/// Too many pairs.
+pub const TOO_MANY_PAIRS: u16 = 10;
+
+/// A string that is too long.
+pub const LONG_STRING: u16 = 11;
+
+/// Too many included texts.
+pub const TOO_MANY_INCLUDES: u16 = 12;

@@ -1,0 +1,151 @@
+ghost use Rattle.std.specs.Prelude.{◌≡◌, ◌+◌, [], ◌∷◌, length, IfOk, IsTrue};
+ghost use Rattle.key_text.specs.Fault.{Gives};
+ghost use Rattle.key_text.specs.Lines.{keycode_by, keys_line, modified_line, modifiers_at, weight_of};
+ghost use Rattle.key_text.specs.Fields.{symbols_at, with_actions};
+ghost use Rattle.key_text.specs.Sayings.{is_fit_said, said};
+
+use crate::fault::KeyError;
+use crate::fault_kind::{UNKNOWN_WORD, WRONG_COUNT};
+use crate::fields::{action_of, code_at, ended, keyword_at};
+use crate::line_kind::LineKind;
+use crate::placed::{Place, Placed};
+use crate::saying::Saying;
+use crate::syms::Syms;
+use crate::words::{fault, is_word, next, spot, whole, word_at};
+use key_syms::Action;
+use std::alloc::{AllocError, Global};
+
+/// `keycode N =` and symbols.
+#[tactic(auto, unfolding(crate::specs::Lines::keys_line, crate::specs::Fields::symbol_at))]
+pub fn keys_line(alloc: Global, end: Place, items: &[Placed]) -> Result<Saying, KeyError>
+    ensures value { Gives said result (keys_line end items.now) }
+    ensures fit { IfOk result (λ s. IsTrue (is_fit_said (said s))) }
+{
+    let (code, rest) = code_at(alloc, end, items)?;
+    let rest = keyword_at(alloc, b"=", end, rest)?;
+    let (word, rest) = next(alloc, WRONG_COUNT, end, rest)?;
+    let first = action_of(alloc, word)?;
+    let syms = symbols(alloc, first, rest)?;
+    Ok(Saying::Tells(LineKind::Keys { code, syms }))
+}
+
+/// The symbols up to the row's end, behind a first one.
+fn symbols(alloc: Global, first: Action, items: &[Placed]) -> Result<Syms, KeyError>
+    ensures { Gives (λ syms. syms) result
+        (with_actions (first ∷ []) (symbols_at (length items.now) items.now)) }
+{
+    let mut actions = Vec::new(alloc);
+    actions.push(first)?;
+    let mut rest = items;
+    for _turn in 0..items.len() {
+        let (word, left) = match word_at(rest) {
+            Some(found) => found,
+            None => return Ok(Syms::of(actions)),
+        };
+        let (word, left) = whole(alloc, word, left)?;
+        let action = action_of(alloc, word)?;
+        actions.push(action)?;
+        rest = left;
+    }
+    Ok(Syms::of(actions))
+}
+
+/// Modifier words, of which the first weighs this, before `keycode N =` and one symbol.
+#[tactic(auto, unfolding(crate::specs::Lines::modified_line, crate::specs::Fields::symbol_at))]
+pub fn modified_line(
+    alloc: Global,
+    weight: u8,
+    end: Place,
+    items: &[Placed],
+) -> Result<Saying, KeyError>
+    ensures value { Gives said result (modified_line weight end items.now) }
+    ensures fit { IfOk result (λ s. IsTrue (is_fit_said (said s))) }
+{
+    let (table, rest) = modifiers_at(alloc, weight, end, items)?;
+    let (code, rest) = code_at(alloc, end, rest)?;
+    let rest = keyword_at(alloc, b"=", end, rest)?;
+    let (word, rest) = next(alloc, WRONG_COUNT, end, rest)?;
+    let action = action_of(alloc, word)?;
+    ended(alloc, rest)?;
+    Ok(Saying::Tells(LineKind::One {
+        table,
+        code,
+        action,
+    }))
+}
+
+/// Modifier words up to `keycode`: the union of their weights, and what follows.
+fn modifiers_at(
+    alloc: Global,
+    weight: u8,
+    end: Place,
+    items: &[Placed],
+) -> Result<(u8, &[Placed]), KeyError>
+    ensures { Gives (λ x. (x.0, x.1.now)) result
+        (modifiers_at (length items.now + 1) weight end items.now) }
+{
+    let mut table = weight;
+    let mut rest = items;
+    for _turn in 0..items.len() + 1 {
+        let (word, left) = next(alloc, UNKNOWN_WORD, end, rest)?;
+        match weight_of(alloc, word)? {
+            Some(weight) => {
+                table |= weight;
+                rest = left;
+                continue;
+            }
+            None => return keycode_by(alloc, table, word, left),
+        }
+    }
+    Err(fault(UNKNOWN_WORD, end))
+}
+
+fn keycode_by<'a>(
+    alloc: Global,
+    table: u8,
+    word: &'a [Placed],
+    rest: &'a [Placed],
+) -> Result<(u8, &'a [Placed]), KeyError>
+    ensures { Gives (λ x. (x.0, x.1.now)) result
+        (keycode_by table (word.entry.now, rest.entry.now)) }
+{
+    if is_word(alloc, b"keycode", word)? {
+        return Ok((table, rest));
+    }
+    Err(fault(UNKNOWN_WORD, spot(word)))
+}
+
+/// The weight of a modifier word: 2 to its number, as key_syms has it, and 0 for `plain`.
+#[tactic(auto, unfolding(crate::specs::Lines::weight_of))]
+pub fn weight_of(alloc: Global, word: &[Placed]) -> Result<Option<u8>, AllocError>
+    ensures { IfOk result (λ weight. weight ≡ weight_of word.now) }
+{
+    if is_word(alloc, b"plain", word)? {
+        return Ok(Some(0));
+    }
+    if is_word(alloc, b"shift", word)? {
+        return Ok(Some(1));
+    }
+    if is_word(alloc, b"altgr", word)? {
+        return Ok(Some(2));
+    }
+    if is_word(alloc, b"control", word)? {
+        return Ok(Some(4));
+    }
+    if is_word(alloc, b"alt", word)? {
+        return Ok(Some(8));
+    }
+    if is_word(alloc, b"shiftl", word)? {
+        return Ok(Some(16));
+    }
+    if is_word(alloc, b"shiftr", word)? {
+        return Ok(Some(32));
+    }
+    if is_word(alloc, b"ctrll", word)? {
+        return Ok(Some(64));
+    }
+    if is_word(alloc, b"ctrlr", word)? {
+        return Ok(Some(128));
+    }
+    Ok(None)
+}

@@ -1,0 +1,143 @@
+ghost use Rattle.std.specs.Prelude.{◌≡◌, ℕ, ◌<◌, ◌≤◌, ◌||◌, false, length, slice_index_or, take, drop, replicate, IfOk, IsTrue};
+ghost use Rattle.key_text.specs.Fault.{Gives};
+ghost use Rattle.key_text.specs.Lines.{before, covers, in_order, keymaps_line, range_by, range_of, table_of, tables_in};
+ghost use Rattle.key_text.specs.Sayings.{is_fit_said, said};
+
+use crate::fault::KeyError;
+use crate::fault_kind::{OUT_OF_RANGE, UNKNOWN_WORD};
+use crate::fields::{ended, ranged};
+use crate::line_kind::LineKind;
+use crate::placed::{Place, Placed};
+use crate::saying::Saying;
+use crate::table_set::TableSet;
+use crate::words::{bytes, fault, next, spot};
+use key_syms::number;
+use std::alloc::{AllocError, Global};
+
+/// How many tables there may be.
+const TABLES: usize = 256;
+
+/// Tables from a first to a last one.
+#[derive(Clone, Copy, Debug)]
+pub struct TableRange {
+    pub low: u8,
+    pub high: u8,
+}
+
+/// `keymaps` and ranges.
+#[tactic(auto, unfolding(crate::specs::Lines::keymaps_line))]
+pub fn keymaps_line(alloc: Global, end: Place, items: &[Placed]) -> Result<Saying, KeyError>
+    ensures value { Gives said result (keymaps_line end items.now) }
+    ensures fit { IfOk result (λ s. IsTrue (is_fit_said (said s))) }
+{
+    let (word, rest) = next(alloc, UNKNOWN_WORD, end, items)?;
+    let text = bytes(alloc, word)?;
+    let tables = tables_in(alloc, word, text.as_slice())?;
+    ended(alloc, rest)?;
+    Ok(Saying::Tells(LineKind::Keymaps(tables)))
+}
+
+/// The tables of a word of ranges, whose bytes are the text.
+fn tables_in(alloc: Global, word: &[Placed], text: &[u8]) -> Result<TableSet, KeyError>
+    ensures { Gives (λ tables. tables) result (tables_in word.now text.now) }
+{
+    let mut tables = no_tables(alloc)?;
+    let mut rest = text;
+    'pieces: loop {
+        let n = before(b',', rest);
+        let range = range_of(word, start_of(rest, n))?;
+        mark(&mut tables, range);
+        if n == rest.len() {
+            return Ok(TableSet::of(tables));
+        }
+        rest = rest_of(rest, n + 1);
+    }
+}
+
+fn no_tables(alloc: Global) -> Result<Vec<bool>, AllocError>
+    ensures { IfOk result (λ tables. tables.items ≡ replicate 256 false) }
+{
+    let mut tables = Vec::new(alloc);
+    tables.resize(TABLES, false)?;
+    Ok(tables)
+}
+
+/// Adds the tables of a range.
+fn mark(tables: &mut Vec<bool>, range: TableRange)
+    requires { length tables.old.items ≡ 256 }
+    ensures full { length tables.new.items ≡ 256 }
+    ensures each { (k : ℕ) → k < 256 → slice_index_or tables.new.items k false
+        ≡ (slice_index_or tables.old.items k false || covers k range) }
+{
+    for t in 0..TABLES {
+        if usize::from(range.low) <= t && t <= usize::from(range.high) {
+            tables[t] = true;
+        }
+    }
+}
+
+/// A range `N` or `N-N`.
+#[tactic(auto, unfolding(crate::specs::Lines::range_of))]
+fn range_of(word: &[Placed], piece: &[u8]) -> Result<TableRange, KeyError>
+    ensures value { Gives (λ range. range) result (range_of word.now piece.now) }
+    ensures order { IfOk result (λ range. range.low ≤ range.high) }
+{
+    range_by(word, piece, before(b'-', piece))
+}
+
+/// A range of a piece with n bytes before its first dash.
+fn range_by(word: &[Placed], piece: &[u8], n: usize) -> Result<TableRange, KeyError>
+    requires { n ≤ length piece.now }
+    ensures value { Gives (λ range. range) result (range_by word.now piece.now n) }
+    ensures order { IfOk result (λ range. range.low ≤ range.high) }
+{
+    let low = table_of(word, start_of(piece, n))?;
+    if n == piece.len() {
+        return Ok(TableRange { low, high: low });
+    }
+    let high = table_of(word, rest_of(piece, n + 1))?;
+    in_order(word, low, high)
+}
+
+fn in_order(word: &[Placed], low: u8, high: u8) -> Result<TableRange, KeyError>
+    ensures value { Gives (λ range. range) result (in_order word.now low high) }
+    ensures order { IfOk result (λ range. range.low ≤ range.high) }
+{
+    if low <= high {
+        return Ok(TableRange { low, high });
+    }
+    Err(fault(OUT_OF_RANGE, spot(word)))
+}
+
+fn table_of(word: &[Placed], piece: &[u8]) -> Result<u8, KeyError>
+    ensures { Gives (λ x. x) result (table_of word.now piece.now) }
+{
+    ranged(0, 255, word, number(piece))
+}
+
+/// How many bytes stand before the first of this kind.
+fn before(mark: u8, text: &[u8]) -> usize
+    ensures value { result ≡ before mark text.now }
+    ensures within { result ≤ length text.now }
+{
+    for i in 0..text.len() {
+        if text[i] == mark {
+            return i;
+        }
+    }
+    text.len()
+}
+
+fn start_of(text: &[u8], n: usize) -> &[u8]
+    requires { n ≤ length text.now }
+    ensures { result.now ≡ take n text.now }
+{
+    &text[..n]
+}
+
+fn rest_of(text: &[u8], n: usize) -> &[u8]
+    requires { n ≤ length text.now }
+    ensures { result.now ≡ drop n text.now }
+{
+    &text[n..]
+}

@@ -1,0 +1,33 @@
+//! Keymap text (keymaps(5)): its lines, or the first fault of its grammar with its place.
+#![tactic(auto)]
+
+mod fault;
+pub mod fault_kind;
+mod fields;
+mod included;
+mod includes;
+mod key_lines;
+mod keymaps_line;
+mod line;
+mod line_kind;
+mod lines;
+mod parsing;
+mod placed;
+mod quoted;
+mod read;
+mod reader;
+mod row_line;
+mod saying;
+mod syms;
+mod table_set;
+#[cfg(test)]
+mod tests;
+mod words;
+
+pub use fault::{KeyError, KeyFault};
+pub use includes::Includes;
+pub use line::Line;
+pub use line_kind::LineKind;
+pub use parsing::parse;
+pub use syms::Syms;
+pub use table_set::TableSet;

@@ -1,0 +1,23 @@
+use crate::line_kind::LineKind;
+use std::marker::Model;
+
+/// A line of a keymap, with the place of its first word. For a line of an included text it is that
+/// of the first word of the outermost include line.
+#[derive(Debug, Drop)]
+pub struct Line {
+    pub kind: LineKind,
+    pub line: u32,
+    pub column: u32,
+}
+
+impl Model for Line {
+    ghost use Rattle.std.specs.Prelude.{IsTrue};
+    ghost use Rattle.key_text.specs.Told.{Told, is_fit};
+    ghost use Rattle.key_text.specs.View.{telling_of, told};
+
+    ghost Value = { Told };
+
+    ghost view = { λ l. told (telling_of l.kind) l.line l.column };
+
+    ghost invariant = { λ l. IsTrue (is_fit (telling_of l.kind)) };
+}

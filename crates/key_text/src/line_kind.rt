@@ -1,0 +1,25 @@
+use crate::syms::Syms;
+use crate::table_set::TableSet;
+use key_syms::{Action, Pair};
+use vt_base::Bytes;
+
+/// What a line of a keymap tells (keymaps(5)).
+#[derive(Debug, Drop)]
+pub enum LineKind {
+    /// `keymaps`: the tables that there are.
+    Keymaps(TableSet),
+    /// `keycode N =`: the actions of a code in the tables.
+    Keys { code: u8, syms: Syms },
+    /// The same behind modifier words: the action of a code in one table.
+    One { table: u8, code: u8, action: Action },
+    /// `string NAME =`: the string of a function key.
+    Text { func: u8, text: Bytes },
+    /// `compose A B to C`.
+    Compose(Pair),
+    /// `alt_is_meta`.
+    AltIsMeta,
+    /// `strings as usual`.
+    UsualStrings,
+    /// `compose as usual`.
+    UsualPairs,
+}

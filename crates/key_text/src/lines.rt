@@ -1,0 +1,137 @@
+ghost use Rattle.std.specs.Prelude.{◌≡◌, IfOk, IsTrue};
+ghost use Rattle.key_text.specs.Fault.{Gives};
+ghost use Rattle.key_text.specs.Lines.{after_charset, alt_is_meta_line, charset_line, compose_line, include_line, is_next, pair_line, string_line, usual_pairs_line, usual_strings_line};
+ghost use Rattle.key_text.specs.Sayings.{is_fit_said, said};
+
+use crate::fault::KeyError;
+use crate::fields::{character_at, ended, function_at, keyword_at, string_at, text_at};
+use crate::line_kind::LineKind;
+use crate::placed::{Place, Placed};
+use crate::saying::Saying;
+use crate::words::{is_word, word_at};
+use key_syms::Pair;
+use std::alloc::{AllocError, Global};
+use vt_base::Bytes;
+
+/// `string NAME = "text"`.
+#[tactic(auto, unfolding(crate::specs::Lines::string_line))]
+pub fn string_line(alloc: Global, end: Place, items: &[Placed]) -> Result<Saying, KeyError>
+    ensures value { Gives said result (string_line end items.now) }
+    ensures fit { IfOk result (λ s. IsTrue (is_fit_said (said s))) }
+{
+    let (func, rest) = function_at(alloc, end, items)?;
+    let rest = keyword_at(alloc, b"=", end, rest)?;
+    let (text, rest) = string_at(alloc, end, rest)?;
+    ended(alloc, rest)?;
+    let text = Bytes::from_slice(alloc, text.as_slice())?;
+    Ok(Saying::Tells(LineKind::Text { func, text }))
+}
+
+/// `compose A B to C`, or `compose as usual`.
+#[tactic(auto, unfolding(crate::specs::Lines::compose_line))]
+pub fn compose_line(alloc: Global, end: Place, items: &[Placed]) -> Result<Saying, KeyError>
+    ensures value { Gives said result (compose_line end items.now) }
+    ensures fit { IfOk result (λ s. IsTrue (is_fit_said (said s))) }
+{
+    if is_next(alloc, b"as", items)? {
+        return usual_pairs_line(alloc, end, items);
+    }
+    pair_line(alloc, end, items)
+}
+
+#[tactic(auto, unfolding(crate::specs::Lines::pair_line))]
+fn pair_line(alloc: Global, end: Place, items: &[Placed]) -> Result<Saying, KeyError>
+    ensures value { Gives said result (pair_line end items.now) }
+    ensures fit { IfOk result (λ s. IsTrue (is_fit_said (said s))) }
+{
+    let (accent, rest) = character_at(alloc, end, items)?;
+    let (base, rest) = character_at(alloc, end, rest)?;
+    let rest = keyword_at(alloc, b"to", end, rest)?;
+    let (result, rest) = character_at(alloc, end, rest)?;
+    ended(alloc, rest)?;
+    Ok(Saying::Tells(LineKind::Compose(Pair {
+        accent,
+        base,
+        result,
+    })))
+}
+
+#[tactic(auto, unfolding(crate::specs::Lines::usual_pairs_line))]
+fn usual_pairs_line(alloc: Global, end: Place, items: &[Placed]) -> Result<Saying, KeyError>
+    ensures value { Gives said result (usual_pairs_line end items.now) }
+    ensures fit { IfOk result (λ s. IsTrue (is_fit_said (said s))) }
+{
+    let rest = keyword_at(alloc, b"as", end, items)?;
+    let rest = keyword_at(alloc, b"usual", end, rest)?;
+    let rest = after_charset(alloc, end, rest)?;
+    ended(alloc, rest)?;
+    Ok(Saying::Tells(LineKind::UsualPairs))
+}
+
+/// What follows `for "name"`, where it is there.
+#[tactic(auto, unfolding(crate::specs::Lines::after_charset))]
+fn after_charset(alloc: Global, end: Place, items: &[Placed]) -> Result<&[Placed], KeyError>
+    ensures { Gives (λ rest. rest.now) result (after_charset end items.now) }
+{
+    if is_next(alloc, b"for", items)? {
+        let rest = keyword_at(alloc, b"for", end, items)?;
+        let (_name, _at, rest) = text_at(alloc, end, rest)?;
+        return Ok(rest);
+    }
+    Ok(items)
+}
+
+/// Whether the next word is this one.
+#[tactic(auto, unfolding(crate::specs::Lines::is_next))]
+fn is_next(alloc: Global, text: &[u8], items: &[Placed]) -> Result<bool, AllocError>
+    ensures { IfOk result (λ same. same ≡ is_next text.now items.now) }
+{
+    match word_at(items) {
+        Some((word, _rest)) => is_word(alloc, text, word),
+        None => Ok(false),
+    }
+}
+
+/// `strings as usual`.
+#[tactic(auto, unfolding(crate::specs::Lines::usual_strings_line))]
+pub fn usual_strings_line(alloc: Global, end: Place, items: &[Placed]) -> Result<Saying, KeyError>
+    ensures value { Gives said result (usual_strings_line end items.now) }
+    ensures fit { IfOk result (λ s. IsTrue (is_fit_said (said s))) }
+{
+    let rest = keyword_at(alloc, b"as", end, items)?;
+    let rest = keyword_at(alloc, b"usual", end, rest)?;
+    ended(alloc, rest)?;
+    Ok(Saying::Tells(LineKind::UsualStrings))
+}
+
+/// `alt_is_meta`.
+#[tactic(auto, unfolding(crate::specs::Lines::alt_is_meta_line))]
+pub fn alt_is_meta_line(alloc: Global, items: &[Placed]) -> Result<Saying, KeyError>
+    ensures value { Gives said result (alt_is_meta_line items.now) }
+    ensures fit { IfOk result (λ s. IsTrue (is_fit_said (said s))) }
+{
+    ended(alloc, items)?;
+    Ok(Saying::Tells(LineKind::AltIsMeta))
+}
+
+/// `include "name"`.
+#[tactic(auto, unfolding(crate::specs::Lines::include_line))]
+pub fn include_line(alloc: Global, end: Place, items: &[Placed]) -> Result<Saying, KeyError>
+    ensures value { Gives said result (include_line end items.now) }
+    ensures fit { IfOk result (λ s. IsTrue (is_fit_said (said s))) }
+{
+    let (name, at, rest) = text_at(alloc, end, items)?;
+    ended(alloc, rest)?;
+    Ok(Saying::Includes(name, at))
+}
+
+/// `charset "name"`, which has no effect.
+#[tactic(auto, unfolding(crate::specs::Lines::charset_line))]
+pub fn charset_line(alloc: Global, end: Place, items: &[Placed]) -> Result<Saying, KeyError>
+    ensures value { Gives said result (charset_line end items.now) }
+    ensures fit { IfOk result (λ s. IsTrue (is_fit_said (said s))) }
+{
+    let (_name, _at, rest) = text_at(alloc, end, items)?;
+    ended(alloc, rest)?;
+    Ok(Saying::Nothing)
+}

@@ -1,0 +1,167 @@
+ghost use Rattle.std.specs.Prelude.{Result};
+ghost use Rattle.key_text.specs.Included.{text_named};
+ghost use Rattle.key_text.specs.Adds.{Adds};
+ghost use Rattle.key_text.specs.Fault.{Fails};
+ghost use Rattle.key_text.specs.Reading.{blamed, included, read_row, read_rows, start, within};
+ghost use Rattle.key_text.specs.Lines.{Said};
+ghost use Rattle.key_text.specs.Rows.{rows_of};
+ghost use Rattle.key_text.specs.declared.fault.KeyFault.{KeyFault};
+
+use crate::fault::KeyError;
+use crate::fault_kind::{NOT_GIVEN, TOO_DEEP, TOO_MANY_INCLUDES};
+use crate::includes::Includes;
+use crate::line::Line;
+use crate::placed::{Place, Placed};
+use crate::reader::next_row;
+use crate::row_line::said_from;
+use crate::saying::Saying;
+use crate::words::{fault, spot, word_at};
+use std::alloc::Global;
+
+/// The most texts that are included.
+const MOST_INCLUDES: u16 = 1000;
+
+/// How deep texts may still be included, and where the outermost include line starts.
+#[derive(Clone, Copy, Debug)]
+pub struct Depth {
+    pub left: u8,
+    pub outer: Option<Place>,
+}
+
+/// An include line: how deep texts may still be included, where the outermost include line starts,
+/// and where a fault of the quoted name is told.
+#[derive(Clone, Copy, Debug)]
+struct IncludeAt {
+    left: u8,
+    first: Place,
+    quoted: Place,
+}
+
+/// Reads a text, of which `count` texts were included before, and adds its lines. The answer is how
+/// many were included by its end.
+#[cycle(reading)]
+pub fn read_text(
+    alloc: Global,
+    texts: &Includes,
+    depth: Depth,
+    count: u16,
+    text: &[u8],
+    out: &mut Vec<Line>,
+) -> Result<u16, KeyError>
+    ensures { Adds out.old.items out.new.items result
+        (read_rows (within depth.left texts.now) texts.now depth.outer count
+        (rows_of start text.now)) }
+{
+    let mut count = count;
+    let mut at = 0;
+    let mut place = Place { line: 1, column: 1 };
+    'rows: loop {
+        let row = next_row(alloc, text, at, place)?;
+        count = read_row(
+            alloc,
+            texts,
+            depth,
+            count,
+            row.end,
+            row.items.as_slice(),
+            out,
+        )?;
+        if !row.more {
+            return Ok(count);
+        }
+        at = row.at;
+        place = row.place;
+    }
+}
+
+/// Reads a row.
+#[tactic(auto, unfolding(crate::specs::Reading::read_row))]
+#[cycle(reading)]
+fn read_row(
+    alloc: Global,
+    texts: &Includes,
+    depth: Depth,
+    count: u16,
+    end: Place,
+    items: &[Placed],
+    out: &mut Vec<Line>,
+) -> Result<u16, KeyError>
+    ensures { Adds out.old.items out.new.items result
+        (read_row (within depth.left texts.now) texts.now depth.outer count end items.now) }
+{
+    let (word, rest) = match word_at(items) {
+        Some(found) => found,
+        None => return Ok(count),
+    };
+    let first = depth.outer.unwrap_or(spot(word));
+    let said = match said_from(alloc, end, word, rest) {
+        Ok(said) => said,
+        Err(error) => return Err(blamed(depth.outer, error)),
+    };
+    match said {
+        Saying::Nothing => Ok(count),
+        Saying::Tells(kind) => {
+            out.push(Line {
+                kind,
+                line: first.line,
+                column: first.column,
+            })?;
+            Ok(count)
+        }
+        Saying::Includes(name, quoted) => {
+            let at = IncludeAt {
+                left: depth.left,
+                first,
+                quoted: depth.outer.unwrap_or(quoted),
+            };
+            include(alloc, texts, at, count, name.as_slice(), out)
+        }
+    }
+}
+
+/// Reads the text of an include line.
+#[cycle(reading)]
+fn include(
+    alloc: Global,
+    texts: &Includes,
+    at: IncludeAt,
+    count: u16,
+    name: &[u8],
+    out: &mut Vec<Line>,
+) -> Result<u16, KeyError>
+    ensures { Adds out.old.items out.new.items result
+        (included (within at.left texts.now at.quoted at.first count) at.quoted
+        (text_named name.now texts.now)) }
+{
+    let text = match texts.text_named(name) {
+        Some(text) => text,
+        None => return Err(fault(NOT_GIVEN, at.quoted)),
+    };
+    if at.left == 0 {
+        return Err(fault(TOO_DEEP, at.first));
+    }
+    if count >= MOST_INCLUDES {
+        return Err(fault(TOO_MANY_INCLUDES, at.quoted));
+    }
+    let depth = Depth {
+        left: at.left - 1,
+        outer: Some(at.first),
+    };
+    read_text(alloc, texts, depth, count + 1, text, out)
+}
+
+/// A fault in an included text, at the outermost include line.
+fn blamed(outer: Option<Place>, error: KeyError) -> KeyError
+    ensures { (read : Result Said KeyFault) → Fails error read → Fails result (blamed outer read) }
+{
+    match error {
+        KeyError::Fault(f) => {
+            let at = Place {
+                line: f.line,
+                column: f.column,
+            };
+            fault(f.kind, outer.unwrap_or(at))
+        }
+        KeyError::NoMemory => KeyError::NoMemory,
+    }
+}

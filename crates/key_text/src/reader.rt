@@ -1,0 +1,103 @@
+ghost use Rattle.std.specs.Prelude.{◌≡◌, ◌≢◌, ◌+◌, ◌<◌, ◌≤◌, [], ◌∷◌, cond, drop, length, IsTrue, IfOk};
+ghost use Rattle.key_text.specs.Cut.{end_len, join_len};
+ghost use Rattle.key_text.specs.Rows.{put_at, row_of, rows_of};
+
+use crate::placed::{Place, Placed};
+use std::alloc::Global;
+use vt_base::NoMemory;
+
+/// A row of a text: its bytes without the joins, the place behind the last one, and where the next
+/// row starts, if there is one.
+#[derive(Debug, Drop)]
+pub struct Row {
+    pub items: Vec<Placed>,
+    pub end: Place,
+    pub more: bool,
+    pub at: usize,
+    pub place: Place,
+}
+
+/// Reads a row. `at` is where it starts in the text, and `place` is the place there.
+pub fn next_row(alloc: Global, text: &[u8], at: usize, place: Place) -> Result<Row, NoMemory>
+    requires { at ≤ length text.now }
+    ensures rows { IfOk result (λ row. rows_of place (drop at text.now)
+        ≡ row_of row.items.items row.end
+        ∷ cond row.more (rows_of row.place (drop row.at text.now)) []) }
+    ensures goes { IfOk result (λ row. IsTrue row.more → at < row.at) }
+    ensures within { IfOk result (λ row. row.at ≤ length text.now) }
+{
+    let mut items = Vec::new(alloc);
+    let mut end = place;
+    let mut here = place;
+    let mut i = at;
+    while i < text.len() {
+        let ended = end_len(text, i);
+        if ended != 0 {
+            return Ok(Row {
+                items,
+                end: here,
+                more: true,
+                at: i + ended,
+                place: here.next_line(),
+            });
+        }
+        let skipped = join_len(text, i);
+        if skipped != 0 {
+            i += skipped;
+            here = here.next_line();
+            continue;
+        }
+        items.push(placed(here, text[i]))?;
+        here = here.after();
+        end = here;
+        i += 1;
+    }
+    Ok(Row {
+        items,
+        end,
+        more: false,
+        at: i,
+        place: here,
+    })
+}
+
+/// How many bytes a line's end has at `i`: 1 for LF, 2 for CR LF, 0 where there is none.
+fn end_len(text: &[u8], i: usize) -> usize
+    requires { i ≤ length text.now }
+    ensures value { result ≡ end_len (drop i text.now) }
+    ensures within { i + result ≤ length text.now }
+{
+    if i >= text.len() {
+        return 0;
+    }
+    if text[i] == b'\n' {
+        return 1;
+    }
+    if i + 1 < text.len() && text[i] == b'\r' && text[i + 1] == b'\n' {
+        return 2;
+    }
+    0
+}
+
+/// How many bytes go with a join at `i`: a backslash and the line's end behind it.
+fn join_len(text: &[u8], i: usize) -> usize
+    requires { i < length text.now }
+    ensures value { result ≡ join_len (drop i text.now) }
+    ensures within { i + result ≤ length text.now }
+{
+    if text[i] != b'\\' {
+        return 0;
+    }
+    let ended = end_len(text, i + 1);
+    if ended == 0 { 0 } else { ended + 1 }
+}
+
+fn placed(here: Place, byte: u8) -> Placed
+    ensures { result ≡ put_at here byte }
+{
+    Placed {
+        byte,
+        line: here.line,
+        column: here.column,
+    }
+}

@@ -1,0 +1,80 @@
+ghost use Rattle.std.specs.Prelude.{◌≡◌, IfOk, IsTrue};
+ghost use Rattle.key_text.specs.Fault.{Gives};
+ghost use Rattle.key_text.specs.Lines.{line_by, modified_by, said_from, weight_of};
+ghost use Rattle.key_text.specs.Sayings.{is_fit_said, said};
+
+use crate::fault::KeyError;
+use crate::fault_kind::UNKNOWN_WORD;
+use crate::key_lines::{keys_line, modified_line, weight_of};
+use crate::keymaps_line::keymaps_line;
+use crate::lines::{
+    alt_is_meta_line, charset_line, compose_line, include_line, string_line, usual_strings_line,
+};
+use crate::placed::{Place, Placed};
+use crate::saying::Saying;
+use crate::words::{fault, is_word, spot, whole};
+use std::alloc::Global;
+
+/// What a row says whose first word is this.
+#[tactic(auto, unfolding(crate::specs::Lines::said_from))]
+pub fn said_from(
+    alloc: Global,
+    end: Place,
+    word: &[Placed],
+    rest: &[Placed],
+) -> Result<Saying, KeyError>
+    ensures value { Gives said result (said_from end (word.now, rest.now)) }
+    ensures fit { IfOk result (λ s. IsTrue (is_fit_said (said s))) }
+{
+    let (word, rest) = whole(alloc, word, rest)?;
+    line_by(alloc, end, word, rest)
+}
+
+/// A line by its first word.
+#[tactic(auto, unfolding(crate::specs::Lines::line_by))]
+fn line_by(alloc: Global, end: Place, word: &[Placed], rest: &[Placed]) -> Result<Saying, KeyError>
+    ensures value { Gives said result (line_by end (word.now, rest.now)) }
+    ensures fit { IfOk result (λ s. IsTrue (is_fit_said (said s))) }
+{
+    if is_word(alloc, b"keymaps", word)? {
+        return keymaps_line(alloc, end, rest);
+    }
+    if is_word(alloc, b"keycode", word)? {
+        return keys_line(alloc, end, rest);
+    }
+    if is_word(alloc, b"string", word)? {
+        return string_line(alloc, end, rest);
+    }
+    if is_word(alloc, b"compose", word)? {
+        return compose_line(alloc, end, rest);
+    }
+    if is_word(alloc, b"include", word)? {
+        return include_line(alloc, end, rest);
+    }
+    if is_word(alloc, b"charset", word)? {
+        return charset_line(alloc, end, rest);
+    }
+    if is_word(alloc, b"alt_is_meta", word)? {
+        return alt_is_meta_line(alloc, rest);
+    }
+    if is_word(alloc, b"strings", word)? {
+        return usual_strings_line(alloc, end, rest);
+    }
+    modified_by(alloc, end, word, rest)
+}
+
+fn modified_by(
+    alloc: Global,
+    end: Place,
+    word: &[Placed],
+    rest: &[Placed],
+) -> Result<Saying, KeyError>
+    ensures value { Gives said result
+        (modified_by end (word.now, rest.now) (weight_of word.now)) }
+    ensures fit { IfOk result (λ s. IsTrue (is_fit_said (said s))) }
+{
+    match weight_of(alloc, word)? {
+        Some(weight) => modified_line(alloc, weight, end, rest),
+        None => Err(fault(UNKNOWN_WORD, spot(word))),
+    }
+}

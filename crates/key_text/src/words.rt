@@ -1,0 +1,221 @@
+ghost use Rattle.std.specs.Prelude.{◌≡◌, ◌+◌, ◌<◌, ◌≤◌, ◌==◌, ◌&&◌, not, false, length, take, drop, IfOk, IfSome};
+ghost use Rattle.std.specs.List.{prefix_len};
+ghost use Rattle.std.specs.Option.{option_map};
+ghost use Rattle.std.specs.Str.Lossy.{utf8_valid_len};
+ghost use Rattle.key_text.specs.Fault.{Gives, fault};
+ghost use Rattle.key_text.specs.Rows.{backslash};
+ghost use Rattle.key_text.specs.Words.{bytes, close_at, is_bare, is_blank, is_quote, is_word, next, nth_place, quoted_len, spot, whole, word_at, word_len};
+
+use crate::fault::{KeyError, KeyFault};
+use crate::fault_kind::BAD_TEXT;
+use crate::placed::{Place, Placed};
+use std::alloc::{AllocError, Global};
+
+/// The bytes of a word, without their places.
+pub fn bytes(alloc: Global, word: &[Placed]) -> Result<Vec<u8>, AllocError>
+    ensures { IfOk result (λ v. v.items ≡ bytes word.now) }
+{
+    word.iter().map(|p| p.byte).collect(alloc)
+}
+
+/// The fault of this kind at a place.
+pub fn fault(kind: u16, at: Place) -> KeyError
+    ensures { result ≡ KeyError.Fault (fault kind at) }
+{
+    KeyError::Fault(KeyFault {
+        kind,
+        line: at.line,
+        column: at.column,
+    })
+}
+
+/// The place of a word.
+pub fn spot(word: &[Placed]) -> Place
+    ensures { result ≡ spot word.now }
+{
+    nth_place(word, 0)
+}
+
+fn nth_place(word: &[Placed], i: usize) -> Place
+    ensures { result ≡ nth_place word.now i }
+{
+    match word.get(i) {
+        Some(p) => Place {
+            line: p.line,
+            column: p.column,
+        },
+        None => Place { line: 0, column: 0 },
+    }
+}
+
+/// The next word and what follows it, or the fault of this kind behind the row's last byte.
+#[tactic(auto, unfolding(crate::specs::Words::next))]
+pub fn next(
+    alloc: Global,
+    kind: u16,
+    end: Place,
+    items: &[Placed],
+) -> Result<(&[Placed], &[Placed]), KeyError>
+    ensures { Gives (λ w. (w.0.now, w.1.now)) result (next kind end items.now) }
+{
+    match word_at(items) {
+        Some((word, rest)) => whole(alloc, word, rest),
+        None => Err(fault(kind, end)),
+    }
+}
+
+/// The next word and what follows it, whatever its bytes are.
+#[tactic(auto, unfolding(crate::specs::Words::word_at))]
+pub fn word_at(items: &[Placed]) -> Option<(&[Placed], &[Placed])>
+    ensures { option_map (λ w. (w.0.now, w.1.now)) result ≡ word_at items.now }
+{
+    let items = behind(items, blank_len(items));
+    let len = word_len(items);
+    if len == 0 {
+        return None;
+    }
+    Some((front(items, len), behind(items, len)))
+}
+
+/// A word that was come to, and what follows it.
+#[tactic(auto, unfolding(crate::specs::Words::whole))]
+pub fn whole<'a>(
+    alloc: Global,
+    word: &'a [Placed],
+    rest: &'a [Placed],
+) -> Result<(&'a [Placed], &'a [Placed]), KeyError>
+    ensures { Gives (λ w. (w.0.now, w.1.now)) result (whole (word.entry.now, rest.entry.now)) }
+{
+    let valid = valid_len(alloc, word)?;
+    if valid == word.len() {
+        return Ok((word, rest));
+    }
+    Err(fault(BAD_TEXT, nth_place(word, valid)))
+}
+
+/// How many of a word's bytes are UTF-8 up to the first fault.
+#[tactic(auto, using(crate::proofs::Lengths::whole_text))]
+fn valid_len(alloc: Global, word: &[Placed]) -> Result<usize, AllocError>
+    ensures { IfOk result (λ n. n ≡ utf8_valid_len (bytes word.now)) }
+{
+    let text = bytes(alloc, word)?;
+    match str::from_utf8(text.as_slice()) {
+        Ok(text) => Ok(text.len()),
+        Err(error) => Ok(error.valid_up_to()),
+    }
+}
+
+fn blank_len(items: &[Placed]) -> usize
+    ensures value { result ≡ prefix_len (λ p. is_blank p.byte) items.now }
+    ensures within { result ≤ length items.now }
+{
+    for i in 0..items.len() {
+        if !is_blank(items[i].byte) {
+            return i;
+        }
+    }
+    items.len()
+}
+
+fn bare_len(items: &[Placed]) -> usize
+    ensures value { result ≡ prefix_len (λ p. is_bare p.byte) items.now }
+    ensures within { result ≤ length items.now }
+{
+    for i in 0..items.len() {
+        if !is_bare(items[i].byte) {
+            return i;
+        }
+    }
+    items.len()
+}
+
+fn word_len(items: &[Placed]) -> usize
+    ensures value { result ≡ word_len items.now }
+    ensures within { result ≤ length items.now }
+{
+    let quoted = quoted_len(items);
+    quoted + bare_len(behind(items, quoted))
+}
+
+fn quoted_len(items: &[Placed]) -> usize
+    ensures value { result ≡ quoted_len items.now }
+    ensures within { result ≤ length items.now }
+{
+    match items.split_first() {
+        Some((first, rest)) if is_quote(first.byte) => match close_at(first.byte, rest) {
+            Some(n) => n + 2,
+            None => items.len(),
+        },
+        _ => 0,
+    }
+}
+
+/// How many bytes stand before the quote that closes a quoted text.
+pub fn close_at(quote: u8, items: &[Placed]) -> Option<usize>
+    ensures value { result ≡ close_at quote false items.now }
+    ensures within { IfSome result (λ n. n < length items.now) }
+{
+    let mut escaped = false;
+    for i in 0..items.len() {
+        let b = items[i].byte;
+        if closes(escaped, b, quote) {
+            return Some(i);
+        }
+        escaped = begins_escape(escaped, b);
+    }
+    None
+}
+
+fn closes(escaped: bool, b: u8, quote: u8) -> bool
+    ensures { result ≡ (not escaped && b == quote) }
+{
+    !escaped && b == quote
+}
+
+fn begins_escape(escaped: bool, b: u8) -> bool
+    ensures { result ≡ (not escaped && b == backslash) }
+{
+    !escaped && b == b'\\'
+}
+
+fn is_blank(b: u8) -> bool
+    ensures { result ≡ is_blank b }
+{
+    b == b' ' || b == b'\t'
+}
+
+fn is_bare(b: u8) -> bool
+    ensures { result ≡ is_bare b }
+{
+    !(is_blank(b) || b == b'!' || b == b'#')
+}
+
+pub fn is_quote(b: u8) -> bool
+    ensures { result ≡ is_quote b }
+{
+    b == b'"' || b == b'\''
+}
+
+/// Whether a word is this one, in any ASCII case.
+pub fn is_word(alloc: Global, text: &[u8], word: &[Placed]) -> Result<bool, AllocError>
+    ensures { IfOk result (λ same. same ≡ is_word text.now word.now) }
+{
+    let word = bytes(alloc, word)?;
+    Ok(word.as_slice().eq_ignore_ascii_case(text))
+}
+
+/// The first n items.
+pub fn front(items: &[Placed], n: usize) -> &[Placed]
+    requires { n ≤ length items.now }
+    ensures { result.now ≡ take n items.now }
+{
+    &items[..n]
+}
+
+/// The items behind the first n.
+pub fn behind(items: &[Placed], n: usize) -> &[Placed]
+    requires { n ≤ length items.now }
+    ensures { result.now ≡ drop n items.now }
+{
+    &items[n..]
+}

@@ -1,0 +1,12 @@
+pub mod Lists
+pub mod Seats
+pub mod Holders
+pub mod Tickets
+pub mod Passes
+pub mod Histories
+pub mod Logs
+pub mod Seals
+pub mod Known
+pub mod Looks
+pub mod Steps
+pub mod Closes

@@ -1,0 +1,5 @@
+pub mod History
+pub mod Rule
+pub mod Told
+pub mod Views
+pub mod Words

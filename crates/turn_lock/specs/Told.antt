@@ -1,0 +1,78 @@
+-- What each step tells the pass that makes it: of the step, the pass before, the number found (at a
+-- store, the number stored) and the pass after.
+use Rattle.std.specs.Prelude.{◌≡◌, ◌≢◌, ℕ, ◌/◌, ◌%◌, ◌^◌, ◌≤◌}
+use Rattle.std.specs.Prelude.{List, [], ◌∷◌, ◌++◌, length, Option, Some}
+use Rattle.atomic_table.specs.Table.{Me, Step}
+use Rattle.turn_lock.specs.declared.entry.Entry.{Entry}
+use Rattle.turn_lock.specs.declared.seal.Seal.{Seal}
+use Rattle.turn_lock.specs.declared.view.View.{View}
+use Rattle.turn_lock.specs.declared.view.Joined.{Joined}
+use Rattle.turn_lock.specs.History.{StartsWith, IsWordIn, IsWordAfter, IsDisplay}
+use Rattle.turn_lock.specs.History.{IsCounted, IsShown}
+use Rattle.turn_lock.specs.Views.{joined_of, longer, ticket_of}
+use Rattle.turn_lock.specs.Views.{waiting, having, published, resting, reading}
+use Rattle.turn_lock.specs.Words.{HasMine, Stands, KnowsOwn}
+
+-- what a pass finds as its turn comes: a history with this seal
+pub record Finds {W Z : Type 0} (before : ℕ) (log : List (Entry W)) (seal : Option (Seal Z))
+    (v : View W Z) : Type 0 where
+  pub seen : StartsWith log v.seen
+  pub mine : HasMine log v.role v.mine
+  pub known : IsWordIn before log v.known
+  pub stands : Stands seal log v
+  pub own : KnowsOwn seal v
+  pub counted : IsCounted log
+  pub shown : IsShown log
+
+-- what a word says to the pass that reads it
+pub record Reads {W Z : Type 0} (before word : ℕ) (v : View W Z) : Type 0 where
+  pub after : IsWordAfter before v.seen word
+  pub seen : length v.seen ≤ word / 64
+  pub known : v.known / 64 ≤ word / 64
+  pub greatest : v.known ≤ word
+  pub display : IsDisplay (word % 64)
+
+-- a step, and a pass with the slots that it has
+abbrev At : Type 0 → Type 0
+At K = Step (Option K)
+
+abbrev Sat : Type 0 → Type 0 → Type 0 → Type 0
+Sat K W Z = Me (Option K) (View W Z)
+
+module _ {K W Z : Type 0} where
+  -- the pass drew a ticket, and the word has its last 64 bits
+  abbrev pub drew : At K → Sat K W Z → ℕ → Sat K W Z → Type 0
+  drew st m n m' = (m'.1 ≡ m.1) × ((t : ℕ) × (n ≡ t % 2 ^ 64) × (m'.0 ≡ waiting t m.0))
+
+  -- the pass took the value k
+  abbrev pub took : (K → List (Entry W)) → (K → Option (Seal Z)) → K → Sat K W Z → Sat K W Z
+  took entries seal k m =
+      (having (ticket_of m.0.stage) (entries k) (seal k) m.0, (0, Some k) ∷ m.1)
+
+  -- where the number is that of the pass's ticket, it has the value; else nothing changed
+  abbrev pub looked : ℕ → (K → List (Entry W)) → (K → Option (Seal Z))
+      → At K → Sat K W Z → ℕ → Sat K W Z → Type 0
+  looked before entries seal st m n m' =
+      (n ≡ ticket_of m.0.stage % 2 ^ 64
+      → (k : K) × (m' ≡ took entries seal k m) × Finds before (entries k) (seal k) m.0)
+      × (n ≢ ticket_of m.0.stage % 2 ^ 64 → m' ≡ m)
+
+  -- the pass published these entries
+  abbrev pub showed : List (Entry W) → At K → Sat K W Z → ℕ → Sat K W Z → Type 0
+  showed more st m n m' = m' ≡ (published (m.0.seen ++ more) m.0, m.1)
+
+  -- the pass gave the value back
+  abbrev pub left : (K → Option (Seal Z)) → At K → Sat K W Z → ℕ → Sat K W Z → Type 0
+  left seal st m n m' = (k : K) → m.1 ≡ (0, Some k) ∷ [] → m' ≡ (resting (seal k) m.0, [])
+
+  -- the longer of what the first pass and the one that it took in last had seen begins with both
+  abbrev pub compared : At K → Sat K W Z → ℕ → Sat K W Z → Type 0
+  compared st m n m' =
+      (m' ≡ m)
+      × ((x : Joined W Z) (xs : List (Joined W Z)) → joined_of m.0.role ≡ x ∷ xs
+      → StartsWith (longer x.beside x.seen) x.beside
+      × StartsWith (longer x.beside x.seen) x.seen)
+
+  -- the pass read the word
+  abbrev pub read : ℕ → At K → Sat K W Z → ℕ → Sat K W Z → Type 0
+  read before st m n m' = (m' ≡ (reading n m.0, m.1)) × Reads before n m.0

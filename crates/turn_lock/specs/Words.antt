@@ -1,0 +1,104 @@
+-- The words of the contracts.
+use Rattle.std.specs.Prelude.{◌≡◌, ◌==◌, ℕ, ◌⊎◌, Bool, true, false, ◌||◌}
+use Rattle.std.specs.Prelude.{List, [], ◌∷◌, ◌++◌, length, Option, Some, None}
+use mathlib.Core.Option.{some}
+use lib.ListN.{get_elem?}
+use Rattle.atomic_table.specs.Seated.{TableId}
+use Rattle.turn_lock.specs.declared.entry.Entry.{Entry}
+use Rattle.turn_lock.specs.declared.seal.Seal.{Seal}
+use Rattle.turn_lock.specs.declared.view.View.{View}
+use Rattle.turn_lock.specs.declared.view.Joined.{Joined}
+use Rattle.turn_lock.specs.declared.view.Role.{Role}
+use Rattle.turn_lock.specs.declared.view.Role.TheVariants.{First, Caller, Spent}
+use Rattle.turn_lock.specs.declared.view.Stage.TheVariants.{Idle, Has}
+use Rattle.turn_lock.specs.declared.pass.Pass.{Pass}
+use Rattle.turn_lock.specs.declared.lock.TurnLock.{TurnLock}
+use Rattle.turn_lock.specs.declared.held.Held.{Held}
+use Rattle.turn_lock.specs.History.{StartsWith, entries_by, IsWordIn, IsDisplay}
+use Rattle.turn_lock.specs.Rule.{IsCaller, Met}
+use Rattle.turn_lock.specs.Views.{among, IsLive, made_of, joined_of}
+
+module _ {K W Z : Type 0} where
+  -- what a pass knows
+  abbrev pub view : Pass K W Z → View W Z
+  view p = p.place.me.0
+
+  -- which lock it is
+  abbrev pub name : TurnLock K W Z → TableId
+  name lock = lock.board.shared.table_id
+
+  -- the pass is one of this lock, is not inside it, and was not taken in
+  abbrev pub RestsIn : TurnLock K W Z → Pass K W Z → Type 0
+  RestsIn lock p =
+      (p.place.table_id ≡ name lock) × (p.place.me.1 ≡ []) × (p.place.me.0.stage ≡ Idle)
+      × IsLive p.place.me.0.role
+
+  -- the pass is one of this lock, and has the value: it has seen all that the value told
+  abbrev pub HasTurnIn : TurnLock K W Z → Pass K W Z → Type 0
+  HasTurnIn lock p =
+      (p.place.table_id ≡ name lock)
+      × ((t : ℕ) × (p.place.me.0.stage ≡ Has t p.place.me.0.seen))
+      × (p.place.me.1 ≡ (0, None) ∷ []) × IsLive p.place.me.0.role
+
+  abbrev pub lock_of : Held K W Z → TurnLock K W Z
+  lock_of held = held.lock.now
+
+  abbrev pub pass_of : Held K W Z → Pass K W Z
+  pass_of held = held.pass.now
+
+  abbrev pub value_of : Held K W Z → K
+  value_of held = held.value
+
+  -- the same turn, with another value
+  abbrev pub held_with : Held K W Z → K → Held K W Z
+  held_with held value = record { lock = held.lock; pass = held.pass; value = value }
+
+module _ {W Z : Type 0} where
+  -- of the history, the entries of a pass with a number are those that it published
+  abbrev pub HasMine : List (Entry W) → Role W Z → List (Entry W) → Type 0
+  HasMine log (First made joined) mine = Unit {0}
+  HasMine log (Caller number) mine = mine ≡ entries_by number log
+  HasMine log Spent mine = Unit {0}
+
+  -- a seal that was met before stands, and the history is the one that was seen then
+  abbrev pub Stands : Option (Seal Z) → List (Entry W) → View W Z → Type 0
+  Stands seal log v = (z : Seal Z) → v.seal ≡ Some z → (seal ≡ Some z) × (log ≡ v.seen)
+
+  -- who finds a seal that names it has met that seal before
+  abbrev pub KnowsOwn : Option (Seal Z) → View W Z → Type 0
+  KnowsOwn seal v = (z : Seal Z) → seal ≡ Some z → IsCaller z.by v.role → v.seal ≡ Some z
+
+  -- the history is the one that was seen and exactly one more entry, which has the pass's number and
+  -- its next sequence number
+  abbrev pub AddsNext : List (Entry W) → View W Z → Type 0
+  AddsNext log v =
+      (e : Entry W) × (log ≡ v.seen ++ e ∷ []) × (v.role ≡ Caller e.by) × (e.seq ≡ length v.mine)
+      × IsDisplay e.display
+
+  -- the seal is the one that was found; where none was, there is none, or one that names the pass
+  abbrev pub MaySeal : Option (Seal Z) → View W Z → Type 0
+  MaySeal seal v =
+      (seal ≡ v.seal)
+      ⊎ ((v.seal ≡ None) × ((z : Seal Z) × (seal ≡ Some z) × (v.role ≡ Caller z.by)))
+
+  abbrev pub has_joined : ℕ → List (Joined W Z) → Bool
+  has_joined n [] = false
+  has_joined n (x ∷ xs) = (n == x.number) || has_joined n xs
+
+  -- the first pass took in a pass of each number that it made
+  abbrev pub AllJoined : Role W Z → Type 0
+  AllJoined role = (n : ℕ) → among n (made_of role) ≡ true → has_joined n (joined_of role) ≡ true
+
+  -- what a pass that was taken in knew is true of the history and its seal
+  pub record IsPartOf (before : ℕ) (log : List (Entry W)) (seal : Option (Seal Z))
+      (x : Joined W Z) : Type 0 where
+    pub seen : StartsWith log x.seen
+    pub mine : x.mine ≡ entries_by x.number log
+    pub known : IsWordIn before log x.known
+    pub met : Met seal log x.seal x.seen
+
+  -- the caller that the seal names had met it as its pass was taken in
+  abbrev pub NamesJoined : Option (Seal Z) → List (Joined W Z) → Type 0
+  NamesJoined seal joined = (z : Seal Z) → seal ≡ Some z
+      → (i : ℕ) × (x : Joined W Z) × (get_elem? joined i ≡ some x)
+      × (x.number ≡ z.by) × (x.seal ≡ Some z)

@@ -1,0 +1,75 @@
+ghost use Rattle.std.specs.Prelude.{◌≡◌, ◌<◌, ◌^◌, ◌++◌, ◌∷◌, [], length, None};
+ghost use Rattle.turn_lock.specs.History.{word_of};
+ghost use Rattle.turn_lock.specs.declared.entry.Entry.{Entry};
+ghost use Rattle.turn_lock.specs.Views.{published, resting};
+ghost use Rattle.turn_lock.specs.Words.{AddsNext, HasTurnIn, MaySeal, RestsIn};
+ghost use Rattle.turn_lock.specs.Words.{lock_of, pass_of, value_of, view};
+
+use crate::board::{FRONT, SERVING, SLOT};
+use crate::kept::Kept;
+use crate::lock::TurnLock;
+use crate::pass::Pass;
+use crate::plays::{Adding, Leave, Show};
+use std::marker::Brand;
+
+/// The value, while a pass has its turn. It has to be spent by `leave`.
+pub struct Held<'a, K: Kept> {
+    pub(crate) lock: &'a TurnLock<K>,
+    pub(crate) pass: &'a mut Pass<K>,
+    pub(crate) value: K,
+}
+
+impl<'a, K: Kept> Held<'a, K> {
+    /// Publishes the entry that the value tells beyond the history.
+    pub fn publish(&mut self)
+        requires own { HasTurnIn (lock_of self.old) (pass_of self.old) }
+        requires adds { AddsNext (K.entries (value_of self.old)) (view (pass_of self.old)) }
+        requires found { (view (pass_of self.old)).seal ≡ None }
+        requires open { K.seal (value_of self.old) ≡ None }
+        requires few { length (view (pass_of self.old)).seen < 2 ^ 57 }
+        ensures same { self.new.pass.ghost_name ≡ self.old.pass.ghost_name }
+        ensures lock { lock_of self.new ≡ lock_of self.old }
+        ensures value { value_of self.new ≡ value_of self.old }
+        ensures own { HasTurnIn (lock_of self.new) (pass_of self.new) }
+        ensures view { view (pass_of self.new)
+            ≡ published (K.entries (value_of self.old)) (view (pass_of self.old)) }
+        ensures mine { (e : Entry K.What)
+            → K.entries (value_of self.old) ≡ (view (pass_of self.old)).seen ++ e ∷ []
+            → (view (pass_of self.new)).mine ≡ (view (pass_of self.old)).mine ++ e ∷ [] }
+    {
+        let front = self.value.front();
+        show::<K, Brand>(self.lock, self.pass, &self.value, front);
+    }
+
+    /// Gives the value back, and ends the turn.
+    pub fn leave(self)
+        requires own { HasTurnIn (lock_of self) (pass_of self) }
+        requires told { K.entries (value_of self) ≡ (view (pass_of self)).seen }
+        requires seal { MaySeal (K.seal (value_of self)) (view (pass_of self)) }
+        ensures own { RestsIn (lock_of self.entry) self.exit.1.0.now }
+        ensures view { view self.exit.1.0.now
+            ≡ resting (K.seal (value_of self.entry)) (view (pass_of self.entry)) }
+    {
+        let Held { lock, pass, value } = self;
+        let shared = &lock.board.shared;
+        let before = shared.exchange(&mut pass.place, SLOT, Some(value));
+        let None = before else { unreachable!() };
+        shared.fetch_add::<Leave>(&mut pass.place, SERVING, 1);
+    }
+}
+
+// Stores the word of the history that the value tells.
+fn show<K: Kept, J: Adding<K::What>>(lock: &TurnLock<K>, pass: &mut Pass<K>, value: &K, front: u64)
+    requires more { K.entries value.now ≡ (view pass.old).seen ++ J.more }
+    requires own { HasTurnIn lock.now pass.old }
+    requires adds { AddsNext (K.entries value.now) (view pass.old) }
+    requires found { (view pass.old).seal ≡ None }
+    requires front { front ≡ word_of K.before (K.entries value.now) }
+    ensures own { HasTurnIn lock.now pass.new }
+    ensures view { view pass.new ≡ published (K.entries value.now) (view pass.old) }
+{
+    let _ = value;
+    lock.board
+        .shared
+        .store::<Show<J>>(&mut pass.place, FRONT, front);
+}

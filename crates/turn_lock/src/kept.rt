@@ -1,0 +1,29 @@
+ghost use Rattle.std.specs.Prelude.{◌≡◌, ℕ, ◌<◌, ◌≤◌, ◌^◌, List, Option, length};
+
+/// The value under the lock. It tells a history: a list of entries.
+pub trait Kept {
+    ghost use Rattle.turn_lock.specs.declared.entry.Entry.{Entry};
+    ghost use Rattle.turn_lock.specs.declared.seal.Seal.{Seal};
+    ghost use Rattle.turn_lock.specs.History.{word_of};
+
+    /// What an entry says beside what the lock knows of it.
+    type What;
+
+    /// What a seal says beside the caller's number.
+    type Stop;
+
+    // The display before the first entry.
+    ghost before: { ℕ };
+
+    ghost entries: { Self → List (Entry Self.What) };
+
+    ghost seal: { Self → Option (Seal Self.Stop) };
+
+    /// The word of the history: 64 times the number of entries, plus the display after the last
+    /// one, or the display before the first where there is none.
+    fn front(&self) -> u64
+        requires { length (entries self.now) ≤ 2 ^ 57 }
+        ensures { result ≡ word_of before (entries self.now) };
+
+    ghost display: { (0 < before) × (before < 64) };
+}

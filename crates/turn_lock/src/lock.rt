@@ -1,0 +1,192 @@
+ghost use Rattle.std.specs.Prelude.{◌≡◌};
+ghost use Rattle.std.specs.Mem.Slots.{slots_items, slots_len, IsFull};
+ghost use Rattle.atomic_table.specs.Table.{Final, Seen};
+ghost use Rattle.turn_lock.specs.Rule.{Rule};
+
+use crate::board::{Board, FRONT, NEXT, Place, SERVING, SLOT};
+use crate::held::Held;
+use crate::kept::Kept;
+use crate::pass::Pass;
+use crate::plays::{Compare, Cut, Draw, Glue, Look, Picked, Read};
+use atomic_table::{Closed, Table};
+use std::alloc::Global;
+use std::marker::Brand;
+use std::sync::Wait;
+use std::thread;
+use vt_base::NoMemory;
+
+/// The lock, with the value under it.
+#[derive(Drop)]
+pub struct TurnLock<K: Kept> {
+    pub(crate) board: Board<K>,
+    ghost sized: { (board.shared.table_id.words ≡ 3) × (board.shared.table_id.slots ≡ 1) },
+}
+
+impl<K: Kept> TurnLock<K> {
+    ghost use Rattle.std.specs.Prelude.{ℕ, ◌/◌, ◌%◌, ◌≤◌, ◌^◌, false, [], ◌∷◌, length, IfOk};
+    ghost use Rattle.std.specs.List.{All};
+    ghost use Rattle.turn_lock.specs.History.{StartsWith, IsWordAfter, IsWordIn, entries_by};
+    ghost use Rattle.turn_lock.specs.History.{IsCounted, IsDisplay, IsShown};
+    ghost use Rattle.turn_lock.specs.Rule.{Met};
+    ghost use Rattle.turn_lock.specs.Views.{HasNumber, IsFirst, IsLive, among, joined_of, made_of};
+    ghost use Rattle.turn_lock.specs.Views.{both, having, newcomer, numbered, reading, with_number};
+    ghost use Rattle.turn_lock.specs.Words.{HasTurnIn, RestsIn, lock_of, name, pass_of, value_of, view};
+    ghost use Rattle.turn_lock.specs.Words.{AllJoined, HasMine, IsPartOf, KnowsOwn, NamesJoined, Stands};
+    ghost use Rattle.turn_lock.specs.Told.{Finds};
+    ghost use Rattle.turn_lock.specs.declared.view.Stage.TheVariants.{Waits};
+
+    /// A lock with this value under it, and the first pass, which has no number.
+    pub fn open(alloc: Global, value: K) -> Result<(TurnLock<K>, Pass<K>), NoMemory>
+    where
+        K: Drop,
+        requires entries { K.entries value ≡ [] }
+        requires seal { K.seal value ≡ None }
+        ensures pass { IfOk result (λ made. RestsIn made.0 made.1) }
+        ensures view { IfOk result (λ made. view made.1 ≡ newcomer K.before) }
+    {
+        let front = value.front();
+        let mut slots = Vec::new(alloc);
+        slots.push(Some(value))?;
+        match Table::new(alloc, &[0, 0, front], slots, &()) {
+            Ok((board, place)) => Ok((TurnLock { board }, Pass { place })),
+            Err(_) => Err(NoMemory),
+        }
+    }
+
+    /// Makes a pass with this number.
+    pub fn split(&self, p: &mut Pass<K>, number: u32) -> Pass<K>
+        requires own { RestsIn self.now p.old }
+        requires first { IsFirst (view p.old).role }
+        requires fresh { among number (made_of (view p.old).role) ≡ false }
+        ensures own { RestsIn self.now p.new }
+        ensures view { view p.new ≡ with_number number (view p.old) }
+        ensures made { RestsIn self.now result }
+        ensures made_view { view result ≡ numbered number (view p.old) }
+    {
+        self.split_as::<Brand>(p, number)
+    }
+
+    fn split_as<J: Picked>(&self, p: &mut Pass<K>, number: u32) -> Pass<K>
+        requires picked { number ≡ J.number }
+        requires own { RestsIn self.now p.old }
+        requires first { IsFirst (view p.old).role }
+        requires fresh { among number (made_of (view p.old).role) ≡ false }
+        ensures own { RestsIn self.now p.new }
+        ensures view { view p.new ≡ with_number number (view p.old) }
+        ensures made { RestsIn self.now result }
+        ensures made_view { view result ≡ numbered number (view p.old) }
+    {
+        let place = self.board.shared.split_seat::<Cut<J>>(&mut p.place);
+        Pass { place }
+    }
+
+    /// Takes in another pass: the first pass then knows the longer history of both.
+    pub fn join(&self, p: &mut Pass<K>, q: Pass<K>)
+        requires own { RestsIn self.now p.old }
+        requires first { IsFirst (view p.old).role }
+        requires other { RestsIn self.now q }
+        requires numbered { HasNumber (view q).role }
+        ensures own { RestsIn self.now p.new }
+        ensures view { view p.new ≡ both (view p.old) (view q) }
+        ensures own_seen { StartsWith (view p.new).seen (view p.old).seen }
+        ensures other_seen { StartsWith (view p.new).seen (view q).seen }
+    {
+        let Pass { place } = q;
+        self.board.shared.join_seat::<Glue>(&mut p.place, place);
+        self.board.shared.load::<Compare>(&mut p.place, NEXT);
+    }
+
+    /// Waits for this pass's turn, and gives it the value.
+    pub fn enter<'a, R: Wait>(&'a self, rt: &R, p: &'a mut Pass<K>) -> Held<'a, K>
+        requires { RestsIn self.now p.old }
+        ensures lock { name (lock_of result) ≡ name self.now }
+        ensures same { result.pass.ghost_name ≡ p.entry.ghost_name }
+        ensures turn { HasTurnIn self.now (pass_of result) }
+        ensures view { (ticket : ℕ)
+            × (view (pass_of result)
+            ≡ having ticket (K.entries (value_of result)) (K.seal (value_of result)) (view p.old)) }
+        ensures seen { StartsWith (K.entries (value_of result)) (view p.old).seen }
+        ensures mine { HasMine (K.entries (value_of result)) (view p.old).role (view p.old).mine }
+        ensures known { IsWordIn K.before (K.entries (value_of result)) (view p.old).known }
+        ensures stands { Stands (K.seal (value_of result)) (K.entries (value_of result)) (view p.old) }
+        ensures named { KnowsOwn (K.seal (value_of result)) (view p.old) }
+        ensures counted { IsCounted (K.entries (value_of result)) }
+        ensures shown { IsShown (K.entries (value_of result)) }
+    {
+        let ticket = self.board.shared.fetch_add::<Draw>(&mut p.place, NEXT, 1);
+        let value = self.take(rt, &mut p.place, ticket);
+        Held {
+            lock: self,
+            pass: p,
+            value,
+        }
+    }
+
+    // Waits until this ticket is served, and takes the value out of its slot.
+    fn take<R: Wait>(&self, rt: &R, place: &mut Place<K>, ticket: u64) -> K
+        requires own { (place.old.table_id ≡ name self.now) × (place.old.me.1 ≡ []) }
+        requires ticket { (t : ℕ) × (ticket ≡ t % 2 ^ 64) × (place.old.me.0.stage ≡ Waits t) }
+        requires live { IsLive place.old.me.0.role }
+        ensures own { (place.new.table_id ≡ name self.now) × (place.new.me.1 ≡ (0, None) ∷ []) }
+        ensures view { (ticket : ℕ)
+            × (place.new.me.0 ≡ having ticket (K.entries result) (K.seal result) place.old.me.0) }
+        ensures finds { Finds K.before (K.entries result) (K.seal result) place.old.me.0 }
+    {
+        for _ in rt.forever() {
+            if self.board.shared.load::<Look>(place, SERVING) == ticket {
+                return self.board.shared.exchange(place, SLOT, None).unwrap();
+            }
+            thread::yield_now();
+        }
+        unreachable!()
+    }
+
+    /// The word of the history: it doesn't wait.
+    pub fn front(&self, p: &mut Pass<K>) -> u64
+        requires { RestsIn self.now p.old }
+        ensures own { RestsIn self.now p.new }
+        ensures view { view p.new ≡ reading result (view p.old) }
+        ensures word { IsWordAfter K.before (view p.old).seen result }
+        ensures seen { length (view p.old).seen ≤ result / 64 }
+        ensures known { (view p.old).known / 64 ≤ result / 64 }
+        ensures greatest { (view p.old).known ≤ result }
+        ensures display { IsDisplay (result % 64) }
+    {
+        self.board.shared.load::<Read>(&mut p.place, FRONT)
+    }
+
+    /// The value, once all other passes were taken in.
+    pub fn close(self, p: Pass<K>) -> K
+        requires own { RestsIn self p }
+        requires first { IsFirst (view p).role }
+        requires all { AllJoined (view p).role }
+        ensures seen { StartsWith (K.entries result) (view p).seen }
+        ensures known { IsWordIn K.before (K.entries result) (view p).known }
+        ensures met { Met (K.seal result) (K.entries result) (view p).seal (view p).seen }
+        ensures joined { All (IsPartOf K.before (K.entries result) (K.seal result))
+            (joined_of (view p).role) }
+        ensures named { NamesJoined (K.seal result) (joined_of (view p).role) }
+        ensures counted { IsCounted (K.entries result) }
+        ensures shown { IsShown (K.entries result) }
+        ensures unmade { (number : ℕ)
+            → among number (made_of (view p).role) ≡ false
+            → entries_by number (K.entries result) ≡ [] }
+    {
+        let mut closed = shut(self.board, p.place);
+        let value = closed.take(SLOT).unwrap();
+        closed.free();
+        value
+    }
+}
+
+// Ends the sharing of the table: what the pass knows stands in its last state.
+fn shut<K: Kept>(board: Board<K>, place: Place<K>) -> Closed<Option<K>, Global>
+    requires { place.table_id ≡ board.shared.table_id }
+    ensures words { slots_len result.words ≡ board.shared.table_id.words }
+    ensures slots { slots_len result.slots ≡ board.shared.table_id.slots }
+    ensures full { IsFull result.words × IsFull result.slots }
+    ensures last { Final (Seen (Rule K.before K.entries K.seal) place.id place.me.0)
+        (slots_items result.words) (slots_items result.slots) }
+{
+    board.close_with(place)
+}

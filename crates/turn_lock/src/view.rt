@@ -1,0 +1,49 @@
+//! What the passes of a lock know. No value of these types is made: in the definitions a number here
+//! has no greatest value.
+use crate::entry::Entry;
+use crate::seal::Seal;
+use std::collections::LinkedList;
+
+/// What a pass knew when the first pass took it in.
+pub struct Joined<W, Z> {
+    pub number: u32,
+    pub seen: LinkedList<Entry<W>>,
+    pub mine: LinkedList<Entry<W>>,
+    pub known: u64,
+    pub seal: Option<Seal<Z>>,
+    /// What the first pass had seen at that time.
+    pub beside: LinkedList<Entry<W>>,
+}
+
+/// Whose pass it is.
+pub enum Role<W, Z> {
+    /// The first pass: the numbers that it made, and the passes that it took in, newest first.
+    First(LinkedList<u32>, LinkedList<Joined<W, Z>>),
+    /// A pass with a number.
+    Caller(u32),
+    /// A pass that was taken in.
+    Spent,
+}
+
+/// How far a pass is on its way through the lock. Tickets are counted without end.
+pub enum Stage<W> {
+    Idle,
+    /// It has this ticket.
+    Waits(u64),
+    /// Its ticket's turn has come: it has the value, which was found to tell this list.
+    Has(u64, LinkedList<Entry<W>>),
+}
+
+/// What a pass knows.
+pub struct View<W, Z> {
+    pub role: Role<W, Z>,
+    pub stage: Stage<W>,
+    /// The history as far as it was seen.
+    pub seen: LinkedList<Entry<W>>,
+    /// The entries that this pass published.
+    pub mine: LinkedList<Entry<W>>,
+    /// The word that was read last, which is the greatest; before the first, that of no entries.
+    pub known: u64,
+    /// The seal, if it was met.
+    pub seal: Option<Seal<Z>>,
+}

@@ -1,0 +1,4 @@
+pub mod CharMap
+pub mod Kept
+pub mod Push
+pub mod Utf8

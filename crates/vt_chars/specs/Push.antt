@@ -1,0 +1,32 @@
+-- What a byte makes of the bytes since the last result.
+use Rattle.std.specs.Prelude.{ℕ, List, [], ◌∷◌, ◌++◌}
+use Rattle.vt_chars.specs.Utf8.{decoded}
+use Rattle.vt_chars.specs.declared.decoded.Decoded.{Decoded}
+use Rattle.vt_chars.specs.declared.decoded.Decoded.TheVariants.{Character, Unfinished, Malformed}
+use Rattle.vt_chars.specs.declared.got.Got.{Got}
+use Rattle.vt_chars.specs.declared.got.Got.TheVariants.{Char, Bad, BadThen, More}
+
+-- malformed bytes: the bytes before b began a character, so they are the maximal subpart; without
+-- any, b alone is
+abbrev pub malformed_by : List ℕ → Got
+malformed_by [] = Bad
+malformed_by (a ∷ before) = BadThen
+
+abbrev pub got_by : List ℕ → Decoded → Got
+got_by before (Character code) = Char code
+got_by before Unfinished = More
+got_by before Malformed = malformed_by before
+
+-- the answer to b after these bytes: what all of them together are
+abbrev pub got_of : List ℕ → ℕ → Got
+got_of before b = got_by before (decoded (before ++ b ∷ []))
+
+-- the bytes since the last result, after that answer
+abbrev pub left_by : List ℕ → Got → List ℕ
+left_by all (Char code) = []
+left_by all Bad = []
+left_by all BadThen = []
+left_by all More = all
+
+abbrev pub left_of : List ℕ → ℕ → List ℕ
+left_of before b = left_by (before ++ b ∷ []) (got_of before b)

@@ -1,0 +1,17 @@
+//! Characters: UTF-8 read byte by byte, and the tables that give each byte its character.
+#![tactic(auto)]
+
+mod char_map;
+mod decoded;
+mod got;
+mod graphics;
+mod laws;
+#[cfg(test)]
+mod tests;
+mod utf8;
+
+pub use char_map::CharMap;
+pub use decoded::{Decoded, decode};
+pub use got::Got;
+pub use laws::unfinished_begins;
+pub use utf8::Utf8;

@@ -1,0 +1,17 @@
+mod Fields
+mod Fronts
+mod Readings
+mod Joined
+mod Settling
+mod Opens
+mod Begun
+mod Follows
+mod Steps
+mod Completes
+mod Openers
+mod Walks
+mod Bytewise
+mod Piecewise
+pub mod Runs
+mod Drops
+mod Printables

@@ -1,0 +1,166 @@
+-- All bytes of a piece.
+use Rattle.std.proofs.Common.{◌≡◌, ◌≢◌, ℕ, Bool, true, false, cond, List, [], ◌∷◌, ◌++◌, refl, sym, ap, ◌∙◌, subst, ⊎_elim}
+use Rattle.std.proofs.lemmas.Bool.{cases_Bool, cond-true, cond-false, or_from, or_left, or_right}
+use Rattle.std.proofs.lemmas.List.{append-nil, append_assoc}
+use Rattle.vt_chars.specs.Utf8.{UnfinishedBegins}
+use Rattle.vt_units.proofs.Begun.{opens-reading}
+use Rattle.vt_units.proofs.Bytewise.{Becomes, St, step-acts, step-ignored, step-text}
+use Rattle.vt_units.proofs.Opens.{Goes, IsSome}
+use Rattle.vt_units.specs.Answer.{acts_in}
+use Rattle.vt_units.specs.Pieces.{acted, controls_of, is_ignored_in, is_left_out, text_of}
+use Rattle.vt_units.specs.Reading.{Reading, unfinished, whole, dropped, none, reading}
+use Rattle.vt_units.specs.Rest.{Rest}
+use Rattle.vt_units.specs.Run.{Effects, Reached, reached, run, step}
+use Rattle.vt_units.specs.declared.mode.Mode.{Mode}
+
+-- a text is a front of the text with bytes behind it
+pub extends : (m : Mode) (t bytes : List ℕ) → (more : List ℕ) × (text_of m t bytes ≡ t ++ more)
+extends m t [] = ([], sym (append-nil t))
+extends m t (b ∷ bytes) = by-test (is_left_out (reading m t) b) (extends m t bytes) (extends m (t ++ b ∷ []) bytes)
+  where
+    by-test : (c : Bool) → (more : List ℕ) × (text_of m t bytes ≡ t ++ more)
+        → (more : List ℕ) × (text_of m (t ++ b ∷ []) bytes ≡ (t ++ b ∷ []) ++ more)
+        → (more : List ℕ) × (cond c (text_of m t bytes) (text_of m (t ++ b ∷ []) bytes) ≡ t ++ more)
+    by-test true same longer = same
+    by-test false same longer = (b ∷ longer.0, longer.1 ∙ append_assoc t (b ∷ []) longer.0)
+
+goes-some : (r : Reading) → Goes r → IsSome r
+goes-some (unfinished k) g = tt
+goes-some (whole u) g = absurd g
+goes-some dropped g = absurd g
+goes-some none g = absurd g
+
+some-more : (t : List ℕ) (b : ℕ) → t ++ b ∷ [] ≢ []
+some-more [] b e = cc
+some-more (x ∷ t) b e = cc
+
+-- a front of a text that is something is something
+front-some : UnfinishedBegins → (m : Mode) (t more : List ℕ) → t ≢ [] → IsSome (reading m (t ++ more))
+    → IsSome (reading m t)
+front-some law m t [] some is = subst (λ xs. IsSome (reading m xs)) (append-nil t) is
+front-some law m t (x ∷ xs) some is = goes-some (reading m t) (opens-reading law m t x xs some is)
+
+-- nothing stands behind a unit or a drop
+over-alone : UnfinishedBegins → (m : Mode) (t bytes : List ℕ) → t ≢ [] → (Goes (reading m t) → ⊥)
+    → ((b : ℕ) → is_left_out (reading m t) b ≡ false) → IsSome (reading m (text_of m t bytes)) → bytes ≡ []
+over-alone law m t [] some over none_out is = refl
+over-alone law m t (b ∷ bytes) some over none_out is =
+    let more : (more : List ℕ) × (text_of m (t ++ b ∷ []) bytes ≡ (t ++ b ∷ []) ++ more) = extends m (t ++ b ∷ []) bytes in
+    let all : text_of m t (b ∷ bytes) ≡ t ++ b ∷ more.0 =
+    cond-false _ _ _ (none_out b) ∙ more.1 ∙ append_assoc t (b ∷ []) more.0 in
+    absurd (over (opens-reading law m t b more.0 some (subst (λ xs. IsSome (reading m xs)) all is)))
+
+module _ {S : Type 0} (e : Effects S) (law : UnfinishedBegins) where
+  -- what all bytes of a text come to
+  abbrev Walks : List ℕ → S → Rest → Mode → List ℕ → Type 0
+  Walks bytes s r m q =
+      Becomes e (reading m (text_of m q bytes)) (run e bytes (reached s r)) (acted e (controls_of m q bytes) s) m
+      (text_of m q bytes)
+
+  carry : (m : Mode) (w v : List ℕ) (at to : Reached S) (s t : S) → w ≡ v → at ≡ to → s ≡ t
+      → Becomes e (reading m w) at s m w → Becomes e (reading m v) to t m v
+  carry m w v at to s t same there state is =
+      subst (λ x. Becomes e (reading m v) to x m v) state
+      (subst (λ x. Becomes e (reading m v) x s m v) there
+      (subst (λ x. Becomes e (reading m x) at s m x) same is))
+
+  stays : (s : S) (r : Rest) (m : Mode) (q : List ℕ) → St e s r m q → IsSome (reading m q)
+      → Becomes e (reading m q) (reached s r) s m q
+  stays s r m q st some = ⊎_elim
+      (λ (empty : (q ≡ []) × (r.text ≡ []) × (m ≡ e.mode_of s)).
+      absurd (subst (λ xs. IsSome (reading m xs)) empty.0 some))
+      (λ others. ⊎_elim
+      (λ plain. subst (λ x. Becomes e x (reached s r) s m q) (sym plain.1) (r, refl, st))
+      (λ strings. subst (λ x. Becomes e x (reached s r) s m q) (sym strings.1) (r, refl, st))
+      others)
+      st
+
+  -- nothing is left to be read behind a unit or a drop
+  over-walks : (m : Mode) (t bytes : List ℕ) (at : Reached S) (s : S) (n : Mode) → bytes ≡ [] → t ≢ []
+      → Becomes e (reading m t) at s m t
+      → Becomes e (reading m (text_of m t bytes)) (run e bytes at) (acted e (controls_of m t bytes) s) m (text_of m t bytes)
+  over-walks m t bytes at s n nothing some is =
+      subst (λ xs. Becomes e (reading m (text_of m t xs)) (run e xs at) (acted e (controls_of m t xs) s) m (text_of m t xs))
+      (sym nothing) is
+
+  -- one byte more, where the bytes behind it are walked
+  module _ (m : Mode) (b : ℕ) (bytes : List ℕ)
+      (again : (s : S) (r : Rest) (q : List ℕ) → St e s r m q → IsSome (reading m (text_of m q bytes)) → Walks bytes s r m q)
+      (s : S) (r : Rest) (q : List ℕ) (st : St e s r m q) (some : IsSome (reading m (text_of m q (b ∷ bytes)))) where
+    acting : acts_in (reading m q) b ≡ true → Walks (b ∷ bytes) s r m q
+    acting act =
+        let out : is_left_out (reading m q) b ≡ true = or_left _ _ act in
+        let p : (step e b (reached s r) ≡ reached (e.on_control b s) r) × St e (e.on_control b s) r m q =
+        step-acts e s r m q b st act in
+        let text : text_of m q (b ∷ bytes) ≡ text_of m q bytes = cond-true _ _ _ out in
+        let controls : controls_of m q (b ∷ bytes) ≡ b ∷ controls_of m q bytes = cond-true _ _ _ act in
+        carry m (text_of m q bytes) (text_of m q (b ∷ bytes)) (run e bytes (reached (e.on_control b s) r))
+        (run e bytes (step e b (reached s r))) (acted e (controls_of m q bytes) (e.on_control b s))
+        (acted e (controls_of m q (b ∷ bytes)) s)
+        (sym text) (ap (run e bytes) (sym p.0)) (ap (λ xs. acted e xs s) (sym controls))
+        (again (e.on_control b s) r q p.1 (subst (λ xs. IsSome (reading m xs)) text some))
+
+    ignoring : acts_in (reading m q) b ≡ false → is_ignored_in (reading m q) b ≡ true → Walks (b ∷ bytes) s r m q
+    ignoring act ignored =
+        let out : is_left_out (reading m q) b ≡ true = or_right _ _ ignored in
+        let text : text_of m q (b ∷ bytes) ≡ text_of m q bytes = cond-true _ _ _ out in
+        let controls : controls_of m q (b ∷ bytes) ≡ controls_of m q bytes =
+        cond-false _ _ _ act ∙ cond-true _ _ _ out in
+        carry m (text_of m q bytes) (text_of m q (b ∷ bytes)) (run e bytes (reached s r))
+        (run e bytes (step e b (reached s r))) (acted e (controls_of m q bytes) s) (acted e (controls_of m q (b ∷ bytes)) s)
+        (sym text) (ap (run e bytes) (sym (step-ignored e s r m q b st act ignored)))
+        (ap (λ xs. acted e xs s) (sym controls))
+        (again s r q st (subst (λ xs. IsSome (reading m xs)) text some))
+
+    growing : acts_in (reading m q) b ≡ false → is_ignored_in (reading m q) b ≡ false → Walks (b ∷ bytes) s r m q
+    growing act kept_in =
+        let part : is_left_out (reading m q) b ≡ false = or_from _ _ act kept_in in
+        let text : text_of m q (b ∷ bytes) ≡ text_of m (q ++ b ∷ []) bytes = cond-false _ _ _ part in
+        let controls : controls_of m q (b ∷ bytes) ≡ controls_of m (q ++ b ∷ []) bytes =
+        cond-false _ _ _ act ∙ cond-false _ _ _ part in
+        let there : IsSome (reading m (text_of m (q ++ b ∷ []) bytes)) =
+        subst (λ xs. IsSome (reading m xs)) text some in
+        let more : (more : List ℕ) × (text_of m (q ++ b ∷ []) bytes ≡ (q ++ b ∷ []) ++ more) =
+        extends m (q ++ b ∷ []) bytes in
+        let here : IsSome (reading m (q ++ b ∷ [])) =
+        front-some law m (q ++ b ∷ []) more.0 (some-more q b)
+        (subst (λ xs. IsSome (reading m xs)) more.1 there) in
+        carry m (text_of m (q ++ b ∷ []) bytes) (text_of m q (b ∷ bytes)) (run e bytes (step e b (reached s r)))
+        (run e bytes (step e b (reached s r))) (acted e (controls_of m (q ++ b ∷ []) bytes) s)
+        (acted e (controls_of m q (b ∷ bytes)) s)
+        (sym text) refl (ap (λ xs. acted e xs s) (sym controls))
+        (by-reading (reading m (q ++ b ∷ [])) refl there (step-text e s r m q b st part here))
+      where
+        by-reading : (now : Reading) → reading m (q ++ b ∷ []) ≡ now
+            → IsSome (reading m (text_of m (q ++ b ∷ []) bytes))
+            → Becomes e now (step e b (reached s r)) s m (q ++ b ∷ [])
+            → Becomes e (reading m (text_of m (q ++ b ∷ []) bytes)) (run e bytes (step e b (reached s r)))
+            (acted e (controls_of m (q ++ b ∷ []) bytes) s) m (text_of m (q ++ b ∷ []) bytes)
+        by-reading (unfinished k) is is_some (rest, at, st_more) =
+            subst (λ x. Becomes e (reading m (text_of m (q ++ b ∷ []) bytes)) (run e bytes x)
+            (acted e (controls_of m (q ++ b ∷ []) bytes) s) m (text_of m (q ++ b ∷ []) bytes)) (sym at)
+            (again s rest (q ++ b ∷ []) st_more is_some)
+        by-reading (whole u) is is_some becomes =
+            over-walks m (q ++ b ∷ []) bytes (step e b (reached s r)) s becomes.0
+            (over-alone law m (q ++ b ∷ []) bytes (some-more q b) (λ g. subst Goes is g)
+            (λ x. ap (λ y. is_left_out y x) is) is_some)
+            (some-more q b)
+            (subst (λ x. Becomes e x (step e b (reached s r)) s m (q ++ b ∷ [])) (sym is) becomes)
+        by-reading dropped is is_some becomes =
+            over-walks m (q ++ b ∷ []) bytes (step e b (reached s r)) s becomes.0
+            (over-alone law m (q ++ b ∷ []) bytes (some-more q b) (λ g. subst Goes is g)
+            (λ x. ap (λ y. is_left_out y x) is) is_some)
+            (some-more q b)
+            (subst (λ x. Becomes e x (step e b (reached s r)) s m (q ++ b ∷ [])) (sym is) becomes)
+        by-reading none is is_some becomes = absurd becomes
+
+    walk-more : Walks (b ∷ bytes) s r m q
+    walk-more = ⊎_elim acting
+        (λ (act : acts_in (reading m q) b ≡ false). ⊎_elim (ignoring act) (growing act)
+        (cases_Bool (is_ignored_in (reading m q) b)))
+        (cases_Bool (acts_in (reading m q) b))
+
+  pub walk : (bytes : List ℕ) (m : Mode) (s : S) (r : Rest) (q : List ℕ) → St e s r m q
+      → IsSome (reading m (text_of m q bytes)) → Walks bytes s r m q
+  walk [] m s r q st some = stays s r m q st some
+  walk (b ∷ bytes) m s r q st some = walk-more m b bytes (walk bytes m) s r q st some

@@ -1,0 +1,40 @@
+-- Printable bytes are characters by themselves.
+use Rattle.std.proofs.Common.{◌≡◌, ℕ, ◌==◌, true, false, [], ◌∷◌, ap, ◌∙◌, arith}
+use Rattle.std.specs.Prelude.{nat_le, nat_lt}
+use Rattle.std.proofs.lemmas.Bool.{and_left, cond-true, cond-false}
+use Rattle.std.proofs.lemmas.Bool.Decides.{nat_tests}
+use Rattle.vt_chars.specs.Utf8.{within}
+use Rattle.vt_units.specs.Answer.{Settled, Taken, joined_by, kept, settled, settled_by, taken, took}
+use Rattle.vt_units.specs.Bytes.{decodes, is_printable}
+use Rattle.vt_units.specs.Laws.{PrintablesAreCharacters}
+use Rattle.vt_units.specs.Reading.{character_reading, reading, whole}
+use Rattle.vt_units.specs.Rest.{fresh}
+use Rattle.vt_units.specs.declared.mode.Mode.{Mode}
+use Rattle.vt_units.specs.declared.read.Read.{Read}
+use Rattle.vt_units.specs.declared.then.Then as then
+use Rattle.vt_units.specs.declared.unit.Unit as units
+
+printable-reading : (m : Mode) (b : ℕ) → decodes m ≡ true → is_printable b ≡ true
+    → reading m (b ∷ []) ≡ whole (units.Unit.Char b)
+printable-reading m b decoding is =
+    let esc : (b == 0x1B) ≡ false = grind (arith, nat_tests) in
+    let csi : (b == 0x9B) ≡ false = grind (arith, nat_tests) in
+    let low : nat_lt b 0x20 ≡ false = grind (arith, nat_tests) in
+    let ascii : nat_le b 0x7F ≡ true = grind (arith, nat_tests) in
+    let shown : within 0x7F 0x9F b ≡ false = grind (arith, nat_tests) in
+    cond-false _ _ _ esc ∙ cond-false _ _ _ (and_left _ _ csi) ∙ cond-false _ _ _ (and_left _ _ low)
+    ∙ cond-true _ _ _ decoding
+    ∙ ap (character_reading (b ∷ [])) (cond-true _ _ _ ascii)
+    ∙ ap whole (cond-false _ _ _ shown)
+
+abbrev answer_of : Settled → ℕ → Read
+answer_of s b = record { bad = s.bad; got = (took s.rest b).got }
+
+pub printables-are-characters : PrintablesAreCharacters
+printables-are-characters old m b nothing decoding is =
+    let left : settled old m b ≡ kept (fresh m) = ap (λ t. settled_by (reading old.mode t) old m b) nothing in
+    let all : took (fresh m) b ≡ taken (then.Then.Unit (units.Unit.Char b)) (fresh m) =
+    ap (λ r. joined_by r (fresh m) b) (printable-reading m b decoding is) in (
+      ap (λ s. answer_of s b) left ∙ ap (λ (t : Taken). record { bad = false; got = t.got }) all,
+      ap (λ (s : Settled). (took s.rest b).rest) left ∙ ap (λ (t : Taken). t.rest) all,
+    )

@@ -1,0 +1,94 @@
+-- The laws of runs. Each is of the definitions alone.
+use Rattle.std.specs.Prelude.{◌≡◌, ◌⊎◌, ◌↔◌, ℕ, true, false, ◌==◌, List, [], ◌∷◌, ◌++◌}
+use Rattle.vt_units.specs.Answer.{answer, rest_after, settled}
+use Rattle.vt_units.specs.Bytes.{decodes, interrupts, is_printable}
+use Rattle.vt_units.specs.Pieces.{HasEffect, controls_of, text_of}
+use Rattle.vt_units.specs.Reading.{character, sequence, command, string_end, dropped, unfinished, none, reading}
+use Rattle.vt_units.specs.Rest.{Rest, fresh}
+use Rattle.vt_units.specs.Run.{Effects, Reached, Runs, reached, run}
+use Rattle.vt_units.specs.Units.{IsUnfinished}
+use Rattle.vt_units.specs.declared.mode.Mode.{Mode}
+use Rattle.vt_units.specs.declared.then.Then as then
+use Rattle.vt_units.specs.declared.unit.Unit as units
+
+-- what a run says of its bytes: a control character that acted, or a unit
+pub data Event : Type 0 where
+  act : ℕ → Event
+  did : units.Unit → Event
+
+-- the list of events, with any modes: what each other state is made from
+abbrev pub told : (List Event → Mode) → Effects (List Event)
+told mode_of = record {
+  mode_of = mode_of;
+  on_control = λ c events. events ++ act c ∷ [];
+  on_unit = λ u events. events ++ did u ∷ [];
+}
+
+-- one result: there is one, and no other
+abbrev pub OneResult : Type 0
+OneResult =
+    (mode_of : List Event → Mode) (at : Reached (List Event)) (bytes : List ℕ)
+    → (after : Reached (List Event)) × Runs (told mode_of) at bytes after
+    × ((other : Reached (List Event)) → Runs (told mode_of) at bytes other → other ≡ after)
+
+-- any cut: bytes run as a whole are run in two parts, wherever they are cut
+abbrev pub AnyCut : Type 0
+AnyCut =
+    (mode_of : List Event → Mode) (at : Reached (List Event)) (a b : List ℕ)
+    → run (told mode_of) (a ++ b) at ≡ run (told mode_of) b (run (told mode_of) a at)
+
+-- the bytes of a piece have the effects of the control characters in it, in order, and then that of
+-- its unit, whichever modes these give the bytes behind the first
+abbrev pub PiecesAct : Type 0
+PiecesAct =
+    (mode_of : List Event → Mode) (events : List Event) (rest : Rest) (bytes : List ℕ) → rest.text ≡ []
+    → let m = mode_of events in
+    HasEffect (told mode_of) (reading m (text_of m [] bytes)) (controls_of m [] bytes)
+    (run (told mode_of) bytes (reached events rest)) events
+
+-- the answers and the rests are alike
+abbrev pub AreAlike : Rest → Rest → Mode → ℕ → Type 0
+AreAlike old other m b = (answer old m b ≡ answer other m b) × (rest_after old m b ≡ rest_after other m b)
+
+-- a byte that doesn't go on with a character is read where no text is, behind U+FFFD
+abbrev pub CharactersEnd : Type 0
+CharactersEnd =
+    (old : Rest) (m : Mode) (b : ℕ) → reading old.mode old.text ≡ unfinished character
+    → reading old.mode (old.text ++ b ∷ []) ≡ none
+    → (answer old m b ≡ record { bad = true; got = (answer (fresh m) m b).got })
+    × (rest_after old m b ≡ rest_after (fresh m) m b)
+
+-- a byte that breaks a sequence off is read where no text is
+abbrev pub SequencesEnd : Type 0
+SequencesEnd =
+    (old : Rest) (m : Mode) (b : ℕ)
+    → (reading old.mode old.text ≡ unfinished sequence) ⊎ (reading old.mode old.text ≡ unfinished command)
+    → interrupts old.mode b ≡ true → AreAlike old (fresh m) m b
+
+-- a byte behind ESC in a string that isn't \ is read behind that ESC alone
+abbrev pub StringsEnd : Type 0
+StringsEnd =
+    (old : Rest) (m : Mode) (b : ℕ) → reading old.mode old.text ≡ unfinished string_end
+    → (b == 0x5C) ≡ false → AreAlike old (record { mode = old.mode; text = 0x1B ∷ [] }) m b
+
+-- the same of a piece whose first bytes are in the rest
+abbrev pub PiecesResume : Type 0
+PiecesResume =
+    (mode_of : List Event → Mode) (events : List Event) (rest : Rest) (bytes : List ℕ)
+    → IsUnfinished rest.mode rest.text
+    → HasEffect (told mode_of) (reading rest.mode (text_of rest.mode rest.text bytes))
+    (controls_of rest.mode rest.text bytes) (run (told mode_of) bytes (reached events rest)) events
+
+-- a byte drops a sequence exactly where the text that it stands behind, with it, is a dropped one
+abbrev pub DropsExactly : Type 0
+DropsExactly =
+    (old : Rest) (m : Mode) (b : ℕ) → (old.text ≡ []) ⊎ IsUnfinished old.mode old.text
+    → let r = (settled old m b).rest in
+    ((answer old m b).got ≡ then.Then.Dropped) ↔ (reading r.mode (r.text ++ b ∷ []) ≡ dropped)
+
+-- a printable byte of UTF-8, where no text is, is a character by itself and leaves no text
+abbrev pub PrintablesAreCharacters : Type 0
+PrintablesAreCharacters =
+    (old : Rest) (m : Mode) (b : ℕ) → old.text ≡ [] → decodes m ≡ true → is_printable b ≡ true
+    → (answer old m b ≡ record { bad = false; got = then.Then.Unit (units.Unit.Char b) })
+    × (rest_after old m b ≡ fresh m)

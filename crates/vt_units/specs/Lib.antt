@@ -1,0 +1,11 @@
+pub mod Answer
+pub mod Bytes
+pub mod Laws
+pub mod Numbers
+pub mod Pieces
+pub mod Reading
+pub mod Rest
+pub mod Run
+pub mod Sequences
+pub mod Stage
+pub mod Units

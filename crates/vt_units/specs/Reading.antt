@@ -1,0 +1,163 @@
+-- Which whole text is which unit, in a mode (console_codes(4)). The text of a unit is its bytes
+-- without control characters that acted inside it and DEL that was ignored there.
+use Rattle.std.specs.Prelude.{ℕ, Bool, true, false, not, cond, ◌==◌, ◌&&◌, nat_lt, List, [], ◌∷◌, length, take, drop, if◌then◌else◌}
+use Rattle.vt_chars.specs.Utf8.{decoded, within}
+use Rattle.vt_chars.specs.declared.decoded.Decoded.{Decoded}
+use Rattle.vt_chars.specs.declared.decoded.Decoded.TheVariants.{Character, Unfinished, Malformed}
+use Rattle.vt_units.specs.Bytes.{decodes, is_body, is_control, is_csi, is_digit, is_hex, is_mid, is_swallowed, joins, joins_command, opens_string}
+use Rattle.vt_units.specs.Sequences.{colour_unit, control_unit, escape_unit}
+use Rattle.vt_units.specs.declared.mode.Mode.{Mode}
+use Rattle.vt_units.specs.declared.unit.Unit as units
+use Rattle.vt_units.specs.declared.unit.Unit.TheVariants.{Char, Byte, Control, ColourReset, Ignored}
+
+-- what a text is the beginning of: a character, a sequence, a sequence behind ESC ], a string, or a
+-- string with the ESC that may end it
+pub data Kind : Type 0 where
+  character : Kind
+  sequence : Kind
+  command : Kind
+  string : Kind
+  string_end : Kind
+
+-- what a whole text is: a unit, a sequence that its last byte drops, the beginning of a unit, or
+-- none of these
+pub data Reading : Type 0 where
+  whole : units.Unit → Reading
+  dropped : Reading
+  unfinished : Kind → Reading
+  none : Reading
+
+-- the longest front whose bytes pass, and what stands behind it
+abbrev pub front : (ℕ → Bool) → List ℕ → List ℕ
+front p [] = []
+front p (x ∷ xs) = cond (p x) (x ∷ front p xs) []
+
+abbrev pub behind : (ℕ → Bool) → List ℕ → List ℕ
+behind p [] = []
+behind p (x ∷ xs) = cond (p x) (behind p xs) (x ∷ xs)
+
+abbrev pub is_empty : List ℕ → Bool
+is_empty [] = true
+is_empty (x ∷ xs) = false
+
+-- with nothing behind it
+abbrev pub alone : List ℕ → Reading → Reading
+alone [] r = r
+alone (x ∷ more) r = none
+
+-- a byte that a sequence doesn't admit drops it, where the byte is part of it
+abbrev pub refused : Mode → ℕ → Reading
+refused m b = if joins m b then dropped else none
+
+abbrev pub refused_command : Mode → ℕ → Reading
+refused_command m b = if joins_command m b then dropped else none
+
+-- CSI [ and one more byte
+abbrev pub bracket_text : Mode → List ℕ → Reading
+bracket_text m [] = unfinished sequence
+bracket_text m (last ∷ more) =
+    alone more (if within 0x20 0x7E last then whole Ignored else refused m last)
+
+-- a control sequence, behind CSI: a body, and what ends it
+abbrev pub control_ends : Mode → List ℕ → List ℕ → Reading
+control_ends m body [] = unfinished sequence
+control_ends m body (last ∷ more) =
+    if is_empty body && last == 0x5B then bracket_text m more
+    else alone more (if within 0x40 0x7E last then whole (control_unit body last) else refused m last)
+
+abbrev pub control_text : Mode → List ℕ → Reading
+control_text m text = control_ends m (front is_body text) (behind is_body text)
+
+-- a string, behind what opened it, and behind the ESC that may end it
+abbrev pub string_tail : List ℕ → Reading
+string_tail [] = unfinished string_end
+string_tail (last ∷ more) = alone more (if last == 0x5C then whole Ignored else none)
+
+abbrev pub string_ends : List ℕ → Reading
+string_ends [] = unfinished string
+string_ends (last ∷ more) =
+    if last == 0x1B then string_tail more else alone more (whole Ignored)
+
+abbrev pub string_text : List ℕ → Reading
+string_text text = string_ends (behind is_swallowed text)
+
+-- a colour of the palette, behind ESC ] P: seven digits
+abbrev pub palette_ends : Mode → List ℕ → List ℕ → Reading
+palette_ends m digits [] =
+    if nat_lt (length digits) 7 then unfinished command
+    else if length digits == 7 then whole (colour_unit digits)
+    else none
+palette_ends m digits (last ∷ more) =
+    if nat_lt (length digits) 7 then alone more (refused_command m last) else none
+
+abbrev pub palette_text : Mode → List ℕ → Reading
+palette_text m text = palette_ends m (front is_hex text) (behind is_hex text)
+
+-- behind ESC ]
+abbrev pub command_text : Mode → List ℕ → Reading
+command_text m [] = unfinished command
+command_text m (b ∷ more) =
+    if is_digit b then string_text more
+    else if b == 0x50 then palette_text m more
+    else alone more (if b == 0x52 then whole ColourReset else refused_command m b)
+
+-- an escape sequence, behind ESC: intermediate bytes, and what ends it
+abbrev pub escape_ends : Mode → List ℕ → List ℕ → Reading
+escape_ends m mids [] = unfinished sequence
+escape_ends m mids (last ∷ more) =
+    if is_empty mids && opens_string last then string_text more
+    else if is_empty mids && last == 0x5B then control_text m more
+    else if is_empty mids && last == 0x5D then command_text m more
+    else alone more (if within 0x30 0x7E last then whole (escape_unit mids last) else refused m last)
+
+abbrev pub escape_text : Mode → List ℕ → Reading
+escape_text m text = escape_ends m (front is_mid text) (behind is_mid text)
+
+-- a character: DEL and the C1 control characters are ignored, and a malformed byte is U+FFFD
+abbrev pub character_unit : ℕ → units.Unit
+character_unit code = if within 0x7F 0x9F code then Ignored else Char code
+
+abbrev pub character_reading : List ℕ → Decoded → Reading
+character_reading text (Character code) = whole (character_unit code)
+character_reading text Unfinished = unfinished character
+character_reading text Malformed = alone (drop 1 text) (whole (Char 0xFFFD))
+
+-- the character U+009B, which is CSI
+abbrev pub begins_csi : List ℕ → Bool
+begins_csi (a ∷ b ∷ more) = a == 0xC2 && b == 0x9B
+begins_csi text = false
+
+abbrev pub character_text : Mode → List ℕ → Reading
+character_text m text =
+    if begins_csi text then control_text m (drop 2 text)
+    else character_reading text (decoded text)
+
+-- a byte that is shown as the byte tables say; DEL only where control characters are shown
+abbrev pub byte_unit : Mode → ℕ → units.Unit
+byte_unit m b = if b == 0x7F && not m.display then Ignored else Byte b
+
+-- a text by its first byte, however long it is
+abbrev pub text_reading : Mode → List ℕ → Reading
+text_reading m [] = none
+text_reading m (b ∷ more) =
+    if b == 0x1B then escape_text m more
+    else if is_csi m b then control_text m more
+    else if is_control m b then alone more (whole (Control b))
+    else if decodes m then character_text m (b ∷ more)
+    else alone more (whole (byte_unit m b))
+
+abbrev pub is_sequence : Reading → Bool
+is_sequence (unfinished sequence) = true
+is_sequence r = false
+
+-- a byte behind 256 bytes of a sequence drops it
+abbrev pub overlong : Mode → List ℕ → Reading
+overlong m [] = none
+overlong m (last ∷ more) = alone more (refused m last)
+
+-- what a whole text is. A sequence that isn't a string has at most 256 bytes: this project's own
+abbrev pub reading : Mode → List ℕ → Reading
+reading m text =
+    if nat_lt 256 (length text) && is_sequence (text_reading m (take 256 text))
+    then overlong m (drop 256 text)
+    else text_reading m text

@@ -1,0 +1,21 @@
+-- What is left of a text that isn't finished.
+use Rattle.std.specs.Prelude.{ℕ, true, false, List, [], ◌∷◌, ◌++◌}
+use Rattle.vt_units.specs.declared.mode.Mode.{Mode}
+
+-- the bytes since the last unit or drop, without those that acted or were ignored, and the mode at
+-- the first of them. Of a string these are the bytes that opened it, and the ESC that stands last;
+-- the mode is then the one at that ESC
+pub record Rest : Type 0 where
+  pub mode : Mode
+  pub text : List ℕ
+
+-- no text
+abbrev pub fresh : Mode → Rest
+fresh m = record { mode = m; text = [] }
+
+abbrev pub grown : Rest → ℕ → Rest
+grown r b = record r { text = r.text ++ b ∷ [] }
+
+-- the mode at the start
+abbrev pub start_mode : Mode
+start_mode = record { utf8 = true; display = false }

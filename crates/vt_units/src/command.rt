@@ -1,0 +1,52 @@
+//! A byte behind ESC ].
+ghost use Rattle.std.specs.Prelude.{◌≡◌};
+ghost use Rattle.vt_units.specs.Stage.{Inside, Joins, Stands};
+
+use crate::bytes::{acts, is_digit, is_hex};
+use crate::sequences::colour_unit;
+use crate::stage::Stage;
+use crate::step::Step;
+use crate::{Mode, Then, Unit};
+
+// The bytes of ESC ] P.
+const OPENING: usize = 3;
+
+// The digits of a colour before its last one.
+const DIGITS: usize = 6;
+
+/// Right behind ESC ].
+pub(crate) fn command(mode: Mode, text: &[u8], b: u8) -> (Then, Step)
+    requires { Stands Stage.Command mode text.now }
+    ensures { Inside mode text.now b result.0 result.1 }
+{
+    let _ = mode;
+    let _ = text;
+    if acts(b) {
+        (Then::Act(b), Step::Keep)
+    } else if is_digit(b) {
+        (Then::More, Step::Grow(Stage::Text))
+    } else if b == b'P' {
+        (Then::More, Step::Grow(Stage::Palette))
+    } else if b == b'R' {
+        (Then::Unit(Unit::ColourReset), Step::Clear)
+    } else {
+        (Then::Dropped, Step::Clear)
+    }
+}
+
+/// Behind ESC ] P and digits.
+pub(crate) fn palette(mode: Mode, text: &[u8], b: u8) -> (Then, Step)
+    requires { Stands Stage.Palette mode text.now }
+    ensures { Inside mode text.now b result.0 result.1 }
+{
+    let _ = mode;
+    if acts(b) {
+        (Then::Act(b), Step::Keep)
+    } else if !is_hex(b) {
+        (Then::Dropped, Step::Clear)
+    } else if text.len() < OPENING + DIGITS {
+        (Then::More, Step::Grow(Stage::Palette))
+    } else {
+        (Then::Unit(colour_unit(&text[OPENING..], b)), Step::Clear)
+    }
+}

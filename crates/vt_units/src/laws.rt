@@ -1,0 +1,47 @@
+//! Laws of the definitions: nothing of the reader is in them.
+ghost use Rattle.vt_units.specs.Laws.{AnyCut, CharactersEnd, DropsExactly, OneResult, PiecesAct, PiecesResume, PrintablesAreCharacters, SequencesEnd, StringsEnd};
+ghost use Rattle.vt_units.specs.Units.{UnfinishedIsBefore};
+
+use vt_chars::unfinished_begins;
+
+/// The unfinished texts are the proper prefixes of units, and no others. So no unit begins another.
+pub fn unfinished_is_before()
+    ensures { UnfinishedIsBefore }
+{
+    unfinished_begins();
+}
+
+/// A run has exactly one result.
+pub fn one_result()
+    ensures { OneResult }
+{}
+
+/// No cut of a text can matter.
+pub fn any_cut()
+    ensures { AnyCut }
+{}
+
+/// The bytes of a piece, read one by one, come to its control characters and then to its unit.
+pub fn pieces_act()
+    ensures fresh { PiecesAct }
+    ensures resumed { PiecesResume }
+{
+    unfinished_begins();
+}
+
+/// Texts that are units by what follows them: the byte that ends one is read as if it stood alone.
+pub fn ended_texts()
+    ensures characters { CharactersEnd }
+    ensures sequences { SequencesEnd }
+    ensures strings { StringsEnd }
+{}
+
+/// A byte is answered Dropped exactly where it makes a dropped sequence of the text before it.
+pub fn drops_exactly()
+    ensures { DropsExactly }
+{}
+
+/// What [`crate::Pending::printable`] counts may be shown at once.
+pub fn printables_are_characters()
+    ensures { PrintablesAreCharacters }
+{}

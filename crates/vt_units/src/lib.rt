@@ -1,0 +1,34 @@
+//! Text cut into units: characters, control characters and control sequences, read byte by byte.
+#![tactic(auto)]
+
+mod bytes;
+mod command;
+mod ground;
+mod kept;
+mod laws;
+mod left;
+mod mode;
+mod numbers;
+mod params;
+mod pending;
+mod read;
+mod sequence;
+mod sequences;
+mod stage;
+mod step;
+mod strings;
+#[cfg(test)]
+mod tests;
+mod then;
+mod unit;
+
+pub use laws::{
+    any_cut, drops_exactly, ended_texts, one_result, pieces_act, printables_are_characters,
+    unfinished_is_before,
+};
+pub use mode::Mode;
+pub use params::Params;
+pub use pending::Pending;
+pub use read::Read;
+pub use then::Then;
+pub use unit::Unit;

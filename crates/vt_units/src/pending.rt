@@ -1,0 +1,221 @@
+ghost use Rattle.std.specs.Prelude.{◌≡◌, ◌==◌, ◌≤◌, ◌&&◌, [], ◌∷◌, length, if◌then◌else◌};
+ghost use Rattle.std.specs.List.{prefix_len};
+ghost use Rattle.vt_units.specs.Answer.{answer, rest_after, settled, took};
+ghost use Rattle.vt_units.specs.Bytes.{decodes, interrupts, is_printable};
+ghost use Rattle.vt_units.specs.Reading.{is_empty};
+ghost use Rattle.vt_units.specs.Rest.{fresh, start_mode};
+ghost use Rattle.vt_units.specs.Stage.{Inside, Leaves, Stands, rest_of};
+
+use crate::bytes::{decodes, interrupts, printable_prefix};
+use crate::command::{command, palette};
+use crate::ground::{ground, part};
+use crate::kept::Kept;
+use crate::left::Left;
+use crate::sequence::sequence;
+use crate::stage::Stage;
+use crate::step::Step;
+use crate::strings::{string, string_end};
+use crate::{Mode, Read, Then};
+use std::marker::Model;
+use vt_chars::{Decoded, decode};
+
+/// The text that isn't finished: contracts see its bytes and the mode at the first of them. What a
+/// string swallows isn't kept, so it takes the same memory however much is read.
+#[derive(Debug, Drop)]
+pub struct Pending {
+    mode: Mode,
+    stage: Stage,
+    text: Kept,
+}
+
+impl Model for Pending {
+    ghost use Rattle.vt_units.specs.Rest.{Rest};
+    ghost use Rattle.vt_units.specs.Stage.{Stands};
+
+    ghost Value = { Rest };
+
+    ghost view = { λ p. record { mode = p.mode; text = p.text } };
+
+    ghost invariant = { λ p. Stands p.stage p.mode p.text };
+}
+
+impl Pending {
+    /// No text yet.
+    pub fn new() -> Pending
+        ensures { result ≡ fresh start_mode }
+    {
+        Pending {
+            mode: Mode {
+                utf8: true,
+                display: false,
+            },
+            stage: Stage::Ground,
+            text: Kept::new(),
+        }
+    }
+
+    /// Reads a byte. The mode counts where it is the first byte of a text.
+    pub fn take(&mut self, mode: Mode, b: u8) -> Read
+        ensures answer { result ≡ answer self.old mode b }
+        ensures rest { self.new ≡ rest_after self.old mode b }
+    {
+        let bad = self.settle(mode, b);
+        Read {
+            bad,
+            got: self.advance(b),
+        }
+    }
+
+    /// How many of the first bytes are printable characters of ASCII, where each is one by itself:
+    /// no text is pending, and the mode decodes UTF-8.
+    pub fn printable(&self, mode: Mode, b: &[u8]) -> usize
+        ensures count { result ≡ (if is_empty self.now.text && decodes mode
+            then prefix_len is_printable b.now
+            else 0) }
+        ensures bound { result ≤ length b.now }
+    {
+        if self.is_empty() && decodes(mode) {
+            printable_prefix(b)
+        } else {
+            0
+        }
+    }
+
+    fn is_empty(&self) -> bool
+        ensures { result ≡ is_empty self.now.text }
+    {
+        self.text.as_slice().is_empty()
+    }
+
+    // Ends what the byte ends by following it; the answer is whether that was malformed.
+    fn settle(&mut self, mode: Mode, b: u8) -> bool
+        ensures { settled self.old mode b ≡ record { bad = result; rest = self.new } }
+    {
+        match settling(self.stage, self.mode, self.text.as_slice(), mode, b) {
+            Left::Old => return false,
+            Left::Moded => self.mode = mode,
+            Left::Fresh => self.restart(mode),
+            Left::Bad => {
+                self.restart(mode);
+                return true;
+            }
+            Left::Escape => self.escape(),
+        }
+        false
+    }
+
+    fn restart(&mut self, mode: Mode)
+        ensures { self.new ≡ fresh mode }
+    {
+        self.mode = mode;
+        self.stage = Stage::Ground;
+        self.text.clear();
+    }
+
+    // The ESC that ended a string begins a sequence.
+    fn escape(&mut self)
+        ensures { self.new ≡ rest_of self.old.mode (0x1B ∷ []) }
+    {
+        self.stage = Stage::Escape;
+        self.text.clear();
+        self.text.push(0x1B);
+    }
+
+    // Reads the byte behind what is left.
+    fn advance(&mut self, b: u8) -> Then
+        ensures { took self.old b ≡ record { got = result; rest = self.new } }
+    {
+        let (got, step) = decide(self.stage, self.mode, self.text.as_slice(), b);
+        match step {
+            Step::Keep => {}
+            Step::Grow(stage) => {
+                self.stage = stage;
+                self.text.push(b);
+            }
+            Step::Clear => {
+                self.stage = Stage::Ground;
+                self.text.clear();
+            }
+        }
+        got
+    }
+}
+
+impl Default for Pending {
+    fn default() -> Pending {
+        Pending::new()
+    }
+}
+
+fn settling(stage: Stage, mode: Mode, text: &[u8], now: Mode, b: u8) -> Left
+    requires stands { Stands stage mode text.now }
+    requires bound { length text.now ≤ 256 }
+    ensures { Leaves (settled (rest_of mode text.now) now b) stage (rest_of mode text.now) now result }
+{
+    match stage {
+        Stage::Ground => Left::Fresh,
+        Stage::Part => match decode(text, b) {
+            Decoded::Character(_) => Left::Old,
+            Decoded::Unfinished => Left::Old,
+            Decoded::Malformed => Left::Bad,
+        },
+        Stage::Text => opened(b),
+        Stage::TextEnd => ended(mode, b),
+        Stage::Escape => broken(mode, b),
+        Stage::Control => broken(mode, b),
+        Stage::Bracket => broken(mode, b),
+        Stage::Command => broken(mode, b),
+        Stage::Palette => broken(mode, b),
+    }
+}
+
+// Of a string: its rest has the mode at an ESC.
+fn opened(b: u8) -> Left
+    ensures { result ≡ (if b == 0x1B then Left.Moded else Left.Old) }
+{
+    if b == 0x1B { Left::Moded } else { Left::Old }
+}
+
+// Of a string and an ESC.
+fn ended(mode: Mode, b: u8) -> Left
+    ensures { result ≡ (if b == 0x5C then Left.Old
+        else if interrupts mode b then Left.Fresh
+        else Left.Escape) }
+{
+    if b == b'\\' {
+        Left::Old
+    } else if interrupts(mode, b) {
+        Left::Fresh
+    } else {
+        Left::Escape
+    }
+}
+
+// Of a sequence that isn't a string.
+fn broken(mode: Mode, b: u8) -> Left
+    ensures { result ≡ (if interrupts mode b then Left.Fresh else Left.Old) }
+{
+    if interrupts(mode, b) {
+        Left::Fresh
+    } else {
+        Left::Old
+    }
+}
+
+fn decide(stage: Stage, mode: Mode, text: &[u8], b: u8) -> (Then, Step)
+    requires stands { Stands stage mode text.now }
+    requires bound { length text.now ≤ 256 }
+    ensures { Inside mode text.now b result.0 result.1 }
+{
+    match stage {
+        Stage::Ground => ground(mode, b),
+        Stage::Part => part(mode, text, b),
+        Stage::Command => command(mode, text, b),
+        Stage::Palette => palette(mode, text, b),
+        Stage::Text => string(mode, text, b),
+        Stage::TextEnd => string_end(mode, text, b),
+        Stage::Escape => sequence(Stage::Escape, mode, text, b),
+        Stage::Control => sequence(Stage::Control, mode, text, b),
+        Stage::Bracket => sequence(Stage::Bracket, mode, text, b),
+    }
+}

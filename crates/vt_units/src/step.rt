@@ -1,0 +1,12 @@
+use crate::stage::Stage;
+
+/// What a byte does to the pending bytes.
+#[derive(Debug, Clone, Copy, PartialEq, Eq)]
+pub(crate) enum Step {
+    /// They stay.
+    Keep,
+    /// The byte is added, and the stage is then this one.
+    Grow(Stage),
+    /// None are left.
+    Clear,
+}

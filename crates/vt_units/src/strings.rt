@@ -1,0 +1,38 @@
+//! A byte of a string.
+ghost use Rattle.std.specs.Prelude.{◌≡◌};
+ghost use Rattle.vt_units.specs.Stage.{Inside, Stands};
+
+use crate::bytes::is_swallowed;
+use crate::stage::Stage;
+use crate::step::Step;
+use crate::{Mode, Then, Unit};
+
+/// In a string.
+pub(crate) fn string(mode: Mode, text: &[u8], b: u8) -> (Then, Step)
+    requires { Stands Stage.Text mode text.now }
+    ensures { Inside mode text.now b result.0 result.1 }
+{
+    let _ = mode;
+    let _ = text;
+    if is_swallowed(b) {
+        (Then::More, Step::Keep)
+    } else if b == 0x1B {
+        (Then::More, Step::Grow(Stage::TextEnd))
+    } else {
+        (Then::Unit(Unit::Ignored), Step::Clear)
+    }
+}
+
+/// Behind an ESC in a string.
+pub(crate) fn string_end(mode: Mode, text: &[u8], b: u8) -> (Then, Step)
+    requires { Stands Stage.TextEnd mode text.now }
+    ensures { Inside mode text.now b result.0 result.1 }
+{
+    let _ = mode;
+    let _ = text;
+    if b == b'\\' {
+        (Then::Unit(Unit::Ignored), Step::Clear)
+    } else {
+        (Then::Dropped, Step::Clear)
+    }
+}

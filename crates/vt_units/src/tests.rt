@@ -1,0 +1,332 @@
+use crate::{Mode, Pending, Then, Unit};
+use Told::{
+    Act, Bad, Byte, Char, Colour, ColourReset, Control, Csi, Dropped, Esc, Ignored, Private,
+};
+use std::process::Abort;
+
+// What a byte came to. A control sequence is told by its parameters and its last byte.
+#[derive(Debug, Drop, PartialEq)]
+enum Told {
+    Bad,
+    Char(u32),
+    Byte(u8),
+    Control(u8),
+    Esc(u8, u8),
+    Csi(&'static [u16], u8),
+    Private(&'static [u16], u8),
+    Colour(u8, u8, u8, u8),
+    ColourReset,
+    Ignored,
+    Act(u8),
+    Dropped,
+}
+
+#[derive(Drop)]
+struct Case {
+    mode: Mode,
+    text: &'static [u8],
+    told: &'static [Told],
+}
+
+const UTF8: Mode = Mode {
+    utf8: true,
+    display: false,
+};
+
+const BYTES: Mode = Mode {
+    utf8: false,
+    display: false,
+};
+
+const SHOWN: Mode = Mode {
+    utf8: true,
+    display: true,
+};
+
+fn is_unit(unit: &Unit, told: &Told) -> bool {
+    match (unit, told) {
+        (Unit::Char(code), Char(wanted)) => code == wanted,
+        (Unit::Byte(b), Byte(wanted)) => b == wanted,
+        (Unit::Control(b), Control(wanted)) => b == wanted,
+        (Unit::Esc { mid, last }, Esc(wanted_mid, wanted_last)) => {
+            mid == wanted_mid && last == wanted_last
+        }
+        (
+            Unit::Csi {
+                private,
+                params,
+                last,
+            },
+            Csi(numbers, wanted),
+        ) => { !*private && params.as_slice() == *numbers && last == wanted }
+        (
+            Unit::Csi {
+                private,
+                params,
+                last,
+            },
+            Private(numbers, wanted),
+        ) => { *private && params.as_slice() == *numbers && last == wanted }
+        (Unit::Colour { n, rgb }, Colour(wanted, red, green, blue)) => {
+            n == wanted && rgb.0 == *red && rgb.1 == *green && rgb.2 == *blue
+        }
+        (Unit::ColourReset, ColourReset) => true,
+        (Unit::Ignored, Ignored) => true,
+        _ => false,
+    }
+}
+
+fn is_told(then: &Then, told: &Told) -> bool {
+    match (then, told) {
+        (Then::Unit(unit), _) => is_unit(unit, told),
+        (Then::Act(b), Act(wanted)) => b == wanted,
+        (Then::Dropped, Dropped) => true,
+        _ => false,
+    }
+}
+
+fn check(rt: &impl Abort, case: &Case) {
+    let mut pending = Pending::new();
+    let mut wanted = case.told.iter();
+    for b in case.text {
+        let read = pending.take(case.mode, *b);
+        if read.bad {
+            assert!(rt; matches!(wanted.next(), Some(Bad)), "{:?}", case.text);
+        }
+        if !matches!(read.got, Then::More) {
+            let is_next = wanted.next().is_some_and(|told| is_told(&read.got, told));
+            assert!(rt; is_next, "{:?} of {:?}", read.got, case.text);
+        }
+    }
+    assert!(rt; wanted.next().is_none(), "behind {:?}", case.text);
+}
+
+#[test]
+fn reads_characters(rt: HostRuntime) {
+    let cases = [
+        Case {
+            mode: UTF8,
+            text: b"\xC3\x28",
+            told: &[Bad, Char(0x28)],
+        },
+        Case {
+            mode: UTF8,
+            text: b"\xC3\n",
+            told: &[Bad, Control(0x0A)],
+        },
+        Case {
+            mode: UTF8,
+            text: b"\xE2\xFF",
+            told: &[Bad, Char(0xFFFD)],
+        },
+        Case {
+            mode: UTF8,
+            text: b"\xE2\x94\x80\x7F",
+            told: &[Char(0x2500), Ignored],
+        },
+        Case {
+            mode: UTF8,
+            text: b"\xC2\x85\xC2\xA0",
+            told: &[Ignored, Char(0xA0)],
+        },
+        Case {
+            mode: UTF8,
+            text: b"\xC2\x9B3m",
+            told: &[Csi(&[3], b'm')],
+        },
+        Case {
+            mode: UTF8,
+            text: b"\x9B3",
+            told: &[Char(0xFFFD), Char(0x33)],
+        },
+        Case {
+            mode: UTF8,
+            text: b"\xE1\x1B[m",
+            told: &[Bad, Csi(&[0], b'm')],
+        },
+        Case {
+            mode: BYTES,
+            text: b"A\xFF\x7F\x01",
+            told: &[Byte(0x41), Byte(0xFF), Ignored, Control(1)],
+        },
+        Case {
+            mode: BYTES,
+            text: b"\x9B?25h",
+            told: &[Private(&[25], b'h')],
+        },
+        Case {
+            mode: SHOWN,
+            text: b"q\x01\x7F\x08",
+            told: &[Byte(0x71), Byte(1), Byte(0x7F), Control(8)],
+        },
+        Case {
+            mode: SHOWN,
+            text: b"\xC3\x9B4m",
+            told: &[Byte(0xC3), Csi(&[4], b'm')],
+        },
+    ];
+    for case in &cases {
+        check(&rt, case);
+    }
+}
+
+#[test]
+fn reads_sequences(rt: HostRuntime) {
+    let cases = [
+        Case {
+            mode: UTF8,
+            text: b"\x1B[2;2HX",
+            told: &[Csi(&[2, 2], b'H'), Char(0x58)],
+        },
+        Case {
+            mode: UTF8,
+            text: b"\x1B[\x083C",
+            told: &[Act(8), Csi(&[3], b'C')],
+        },
+        Case {
+            mode: UTF8,
+            text: b"\x1B[3\x7F1m",
+            told: &[Csi(&[31], b'm')],
+        },
+        Case {
+            mode: UTF8,
+            text: b"\x1B[;70000m",
+            told: &[Csi(&[0, 65_535], b'm')],
+        },
+        Case {
+            mode: UTF8,
+            text: b"\x1B[1;1;1;1;1;1;1;1;1;1;1;1;1;1;1;1;31m",
+            told: &[Csi(&[1, 1, 1, 1, 1, 1, 1, 1, 1, 1, 1, 1, 1, 1, 1, 1], b'm')],
+        },
+        Case {
+            mode: UTF8,
+            text: b"\x1B[>c\x1B[1 q",
+            told: &[Ignored, Ignored],
+        },
+        Case {
+            mode: UTF8,
+            text: b"\x1B[[AB",
+            told: &[Ignored, Char(0x42)],
+        },
+        Case {
+            mode: UTF8,
+            text: b"\x1B[3\x18A",
+            told: &[Dropped, Char(0x41)],
+        },
+        Case {
+            mode: UTF8,
+            text: b"\x1B[3\x9BA",
+            told: &[Dropped, Char(0x41)],
+        },
+        Case {
+            mode: BYTES,
+            text: b"\x1B[3\x9B4m",
+            told: &[Csi(&[4], b'm')],
+        },
+        Case {
+            mode: UTF8,
+            text: b"\x1B[3\x1B[4m",
+            told: &[Csi(&[4], b'm')],
+        },
+        Case {
+            mode: UTF8,
+            text: b"\x1BD\x1B(0\x1B  F",
+            told: &[Esc(0, b'D'), Esc(b'(', b'0'), Ignored],
+        },
+        Case {
+            mode: UTF8,
+            text: b"\x1B]P1aF0c33\x1B]R",
+            told: &[Colour(1, 0xAF, 0x0C, 0x33), ColourReset],
+        },
+        Case {
+            mode: UTF8,
+            text: b"\x1B]P1g\x1B]\x7F",
+            told: &[Dropped, Dropped],
+        },
+        Case {
+            mode: UTF8,
+            text: b"\x1B]\x070;t\x07",
+            told: &[Act(7), Ignored],
+        },
+        Case {
+            mode: UTF8,
+            text: b"\x1B]0;t\x07ok",
+            told: &[Ignored, Char(0x6F), Char(0x6B)],
+        },
+        Case {
+            mode: UTF8,
+            text: b"\x1BPa\n\x1B\\\x1B_\x18",
+            told: &[Ignored, Ignored],
+        },
+        Case {
+            mode: UTF8,
+            text: b"\x1B^a\x1B\x7F[4m",
+            told: &[Csi(&[4], b'm')],
+        },
+        Case {
+            mode: UTF8,
+            text: b"\x1BXa\x1B\x07\x18",
+            told: &[Act(7), Dropped],
+        },
+    ];
+    for case in &cases {
+        check(&rt, case);
+    }
+}
+
+// How many of these bytes come to nothing yet, behind ESC and one byte more.
+fn swallowed(opening: u8, b: u8, count: u32) -> (u32, Pending) {
+    let mut pending = Pending::new();
+    let _ = pending.take(UTF8, 0x1B);
+    let _ = pending.take(UTF8, opening);
+    let mut quiet = 0;
+    for _ in 0..count {
+        if matches!(pending.take(UTF8, b).got, Then::More) && quiet < 2_000_000 {
+            quiet += 1;
+        }
+    }
+    (quiet, pending)
+}
+
+#[test]
+fn ends_long_texts(rt: HostRuntime) {
+    let (quiet, mut pending) = swallowed(b'[', b'0', 253);
+    assert_eq!(rt; quiet, 253);
+    assert!(rt;
+        is_told(&pending.take(UTF8, b'A').got, &Csi(&[0], b'A')),
+        "256 bytes"
+    );
+    let (quiet, mut pending) = swallowed(b'[', b'0', 254);
+    assert_eq!(rt; quiet, 254);
+    assert!(rt;
+        is_told(&pending.take(UTF8, 0x08).got, &Act(8)),
+        "a control character isn't counted"
+    );
+    assert!(rt;
+        is_told(&pending.take(UTF8, b'0').got, &Dropped),
+        "257 bytes"
+    );
+    assert!(rt;
+        is_told(&pending.take(UTF8, b'A').got, &Char(0x41)),
+        "behind them"
+    );
+    let (quiet, mut pending) = swallowed(b'P', b'x', 1_000_000);
+    assert_eq!(rt; quiet, 1_000_000);
+    assert!(rt;
+        is_told(&pending.take(UTF8, 0x07).got, &Ignored),
+        "a string of any length"
+    );
+}
+
+#[test]
+fn counts_printables(rt: HostRuntime) {
+    let mut pending = Pending::default();
+    assert_eq!(rt; pending.printable(UTF8, b"ab ~\x1Bc"), 4);
+    assert_eq!(rt;
+        pending.printable(BYTES, b"ab"),
+        0,
+        "bytes have their tables"
+    );
+    let _ = pending.take(UTF8, 0x1B);
+    assert_eq!(rt; pending.printable(UTF8, b"ab"), 0, "behind ESC");
+}
