@@ -226,10 +226,10 @@ module _ {K W Z : Type 0} (entries : K → List (Entry W)) (before : ℕ) (seal 
     stop = c.stop;
     at_home = c.at_home;
     in_turn = each_split (λ (j : ℕ) (u : View W Z). HasTurn u.stage → u.seal ≡ c.stop) views id
-        (with_number n v) (numbered n v) (c.in_turn id v at) (c.in_turn id v at)
+        (with_number n v) (numbered n v) (c.in_turn id v at) (λ h. absurd (subst HasTurn idle h))
         (λ j u ne q. c.in_turn j u q);
     met = each_split (λ (j : ℕ) (u : View W Z). Met c.stop log u.seal u.seen) views id
-        (with_number n v) (numbered n v) (c.met id v at) (c.met id v at) (λ j u ne q. c.met j u q);
+        (with_number n v) (numbered n v) (c.met id v at) (inl refl) (λ j u ne q. c.met j u q);
     joined_met = c.joined_met;
     namer = λ z e. named_split views joined id v (with_number n v) (numbered n v) z at first
         (c.namer z e);

@@ -85,9 +85,10 @@ module _ {W Z : Type 0} where
   abbrev pub with_number : ℕ → View W Z → View W Z
   with_number n v = record v { role = First (n ∷ made_of v.role) (joined_of v.role) }
 
-  -- the pass with the number n that it made: it knows as much, and published nothing
+  -- the pass with the number n that it made: it has seen as much and knows the same word, published
+  -- nothing and met no seal
   abbrev pub numbered : ℕ → View W Z → View W Z
-  numbered n v = record v { role = Caller n; mine = [] }
+  numbered n v = record v { role = Caller n; mine = []; seal = None }
 
   -- what is kept of a pass w that the first pass v takes in
   abbrev pub joining : View W Z → View W Z → Joined W Z

@@ -23,16 +23,17 @@ pub struct TurnLock<K: Kept> {
 }
 
 impl<K: Kept> TurnLock<K> {
-    ghost use Rattle.std.specs.Prelude.{ℕ, ◌/◌, ◌%◌, ◌≤◌, ◌^◌, false, [], ◌∷◌, length, IfOk};
+    ghost use Rattle.std.specs.Prelude.{ℕ, ◌/◌, ◌%◌, ◌≤◌, ◌^◌, false, List, [], ◌∷◌, length, IfOk};
     ghost use Rattle.std.specs.List.{All};
     ghost use Rattle.turn_lock.specs.History.{StartsWith, IsWordAfter, IsWordIn, entries_by};
     ghost use Rattle.turn_lock.specs.History.{IsCounted, IsDisplay, IsShown};
     ghost use Rattle.turn_lock.specs.Rule.{Met};
-    ghost use Rattle.turn_lock.specs.Views.{HasNumber, IsFirst, IsLive, among, joined_of, made_of};
+    ghost use Rattle.turn_lock.specs.Views.{HasNumber, IsFirst, IsLive, among, joined_of, longer, made_of};
     ghost use Rattle.turn_lock.specs.Views.{both, having, newcomer, numbered, reading, with_number};
     ghost use Rattle.turn_lock.specs.Words.{HasTurnIn, RestsIn, lock_of, name, pass_of, value_of, view};
     ghost use Rattle.turn_lock.specs.Words.{AllJoined, HasMine, IsPartOf, KnowsOwn, NamesJoined, Stands};
     ghost use Rattle.turn_lock.specs.Told.{Finds};
+    ghost use Rattle.turn_lock.specs.declared.view.Joined.{Joined};
     ghost use Rattle.turn_lock.specs.declared.view.Stage.TheVariants.{Waits};
 
     /// A lock with this value under it, and the first pass, which has no number.
@@ -91,8 +92,34 @@ impl<K: Kept> TurnLock<K> {
         ensures own_seen { StartsWith (view p.new).seen (view p.old).seen }
         ensures other_seen { StartsWith (view p.new).seen (view q).seen }
     {
+        self.take_in(p, q);
+        self.compare(p);
+    }
+
+    // Takes in another pass: what both had seen isn't compared yet.
+    fn take_in(&self, p: &mut Pass<K>, q: Pass<K>)
+        requires own { RestsIn self.now p.old }
+        requires first { IsFirst (view p.old).role }
+        requires other { RestsIn self.now q }
+        requires numbered { HasNumber (view q).role }
+        ensures own { RestsIn self.now p.new }
+        ensures view { view p.new ≡ both (view p.old) (view q) }
+    {
         let Pass { place } = q;
         self.board.shared.join_seat::<Glue>(&mut p.place, place);
+    }
+
+    // Compares what the first pass and the one that it took in last had seen: one begins the other.
+    fn compare(&self, p: &mut Pass<K>)
+        requires own { RestsIn self.now p.old }
+        requires first { IsFirst (view p.old).role }
+        ensures own { RestsIn self.now p.new }
+        ensures view { view p.new ≡ view p.old }
+        ensures longer { (x : Joined K.What K.Stop) (xs : List (Joined K.What K.Stop))
+            → joined_of (view p.old).role ≡ x ∷ xs
+            → StartsWith (longer x.beside x.seen) x.beside
+            × StartsWith (longer x.beside x.seen) x.seen }
+    {
         self.board.shared.load::<Compare>(&mut p.place, NEXT);
     }
 

@@ -38,12 +38,15 @@ pub enum Stage<W> {
 pub struct View<W, Z> {
     pub role: Role<W, Z>,
     pub stage: Stage<W>,
-    /// The history as far as it was seen.
+    /// The history as far as it was seen. A pass that is split starts with that of the first pass, and
+    /// the first pass takes the longer as it takes in another.
     pub seen: LinkedList<Entry<W>>,
     /// The entries that this pass published.
     pub mine: LinkedList<Entry<W>>,
-    /// The word that was read last, which is the greatest; before the first, that of no entries.
+    /// The word that was read last, which is the greatest; before the first, that of no entries. A
+    /// pass that is split starts with that of the first pass, and the first pass takes the greater as
+    /// it takes in another.
     pub known: u64,
-    /// The seal, if it was met.
+    /// The seal, if this pass or one that it took in met it. A pass that is split has met none.
     pub seal: Option<Seal<Z>>,
 }
