@@ -1,7 +1,7 @@
 -- A run is complete: where a known command's input is there and no fault comes, the run has its
 -- outcome.
 use Rattle.std.proofs.Common.{◌≡◌, ℕ, ◌⊎◌, inl, inr, List, [], ◌∷◌, ◌++◌, length, Option, Some, None, refl, sym, ap, ◌∙◌, subst, append-nil, arith, length-append, ⊎_elim}
-use Rattle.std.specs.Prelude.{codes, decimal}
+use Rattle.std.specs.Prelude.{codes, decimal, get_or}
 use Rattle.std.proofs.lemmas.Fmt.{decimal_injective}
 use Rattle.std.specs.Io.KnownBytes.{Appends, Consumes, IsAtEnd}
 use Rattle.vt_io.specs.Faults.{Rose}
@@ -11,7 +11,7 @@ use Rattle.vt_tool.specs.Outcome.{Outcome, Gives}
 use Rattle.vt_tool.specs.Run.{Answers, Begins, Tells, ProgramRun, Completes}
 use Rattle.vt_tool.specs.Words.{AreWordsOf}
 use Rattle.vt_tool.specs.declared.command.Command.{Command}
-use Rattle.vt_tool.specs.declared.command.Command.TheVariants.{Screen, Play}
+use Rattle.vt_tool.specs.declared.command.Command.TheVariants.{Screen, Keys, Play}
 use Rattle.vt_tool.specs.declared.intake.Intake.{Intake}
 use Rattle.vt_tool.specs.declared.intake.Intake.TheVariants.{ToEnd}
 use Rattle.vt_tool.specs.declared.status.Status.{Status}
@@ -42,6 +42,23 @@ one_command Play (Screen rows cols) words first second =
     sym first.spelled ∙ second.spelled in
     absurd (let impossible : ⊥ = cc in impossible)
 one_command Play Play words first second = refl
+one_command (Screen rows cols) Keys words first second =
+    let same : codes "screen" ∷ decimal rows ∷ decimal cols ∷ [] ≡ codes "keys" ∷ [] =
+    sym first.spelled ∙ second.spelled in
+    absurd (let impossible : ⊥ = cc in impossible)
+one_command Keys (Screen rows cols) words first second =
+    let same : codes "keys" ∷ [] ≡ codes "screen" ∷ decimal rows ∷ decimal cols ∷ [] =
+    sym first.spelled ∙ second.spelled in
+    absurd (let impossible : ⊥ = cc in impossible)
+one_command Play Keys words first second =
+    let same : codes "play" ∷ [] ≡ codes "keys" ∷ [] = sym first.spelled ∙ second.spelled in
+    let initial : 112 ≡ 107 = ap (λ (ws : List (List ℕ)). get_or (get_or ws 0 []) 0 0) same in
+    absurd (omega (arith, initial))
+one_command Keys Play words first second =
+    let same : codes "keys" ∷ [] ≡ codes "play" ∷ [] = sym first.spelled ∙ second.spelled in
+    let initial : 107 ≡ 112 = ap (λ (ws : List (List ℕ)). get_or (get_or ws 0 []) 0 0) same in
+    absurd (omega (arith, initial))
+one_command Keys Keys words first second = refl
 
 -- a source that stopped at a fault has counted it
 stop-rose : (i : Intake) (src src' : Stream) → StopsAtFault i src src' → Rose src.faults src'.faults

@@ -4,7 +4,7 @@ use Rattle.std.specs.Io.KnownBytes.{Consumes, IsAtEnd}
 use Rattle.vt_io.specs.Faults.{Rose}
 use Rattle.vt_io.specs.Stream.{Stream}
 use Rattle.vt_tool.specs.declared.command.Command.{Command}
-use Rattle.vt_tool.specs.declared.command.Command.TheVariants.{Screen, Play}
+use Rattle.vt_tool.specs.declared.command.Command.TheVariants.{Screen, Keys, Play}
 use Rattle.vt_tool.specs.declared.intake.Intake.{Intake}
 use Rattle.vt_tool.specs.declared.intake.Intake.TheVariants.{ToEnd}
 
@@ -19,6 +19,7 @@ text_limit = 16777216
 -- how much of the source a command reads, one case for each command
 abbrev pub intake_of : Command → Intake
 intake_of (Screen rows cols) = ToEnd screen_limit
+intake_of Keys = ToEnd text_limit
 intake_of Play = ToEnd text_limit
 
 -- the input isn't longer than the command takes

@@ -1,5 +1,12 @@
 -- What a command may give for an input, this project's own: one case for each command.
-use Rattle.std.specs.Prelude.{◌≡◌, ◌⊎◌, ℕ, ◌+◌, not, List, [], Option, Some, None, position}
+use Rattle.std.specs.Prelude.{◌≡◌, ◌⊎◌, ℕ, ◌+◌, not, List, [], Option, Some, None, Result, Ok, Err, position}
+use Rattle.key_compile.specs.Compiled.{AreTablesOf}
+use Rattle.key_compile.specs.Faults.{compile_fault}
+use Rattle.key_tables.specs.Listing.{listing_of}
+use Rattle.key_tables.specs.Tables.{Tables}
+use Rattle.key_text.specs.Reading.{lines_of}
+use Rattle.key_text.specs.Told.{Told}
+use Rattle.key_text.specs.declared.fault.KeyFault.{KeyFault}
 use Rattle.vt_screen.specs.Run.{Runs}
 use Rattle.vt_screen.specs.Screen.{Screen, start_screen}
 use Rattle.vt_screen.specs.Units.{is_built}
@@ -49,8 +56,31 @@ pub record GivesFault (input : List ℕ) (outcome : Outcome) : Type 0 where
   pub fault : HasFaultAt input code line
   pub refused : outcome ≡ record { status = Refused code line 1; text = [] }
 
+-- the first fault of a keymap text: of its grammar, or of its lines
+abbrev pub HasKeyFault : List ℕ → KeyFault → Type 0
+HasKeyFault input fault =
+    (lines_of [] input ≡ Err fault)
+    ⊎ ((lines : List Told) × (lines_of [] input ≡ Ok lines) × (compile_fault lines ≡ Some fault))
+
+-- the listing of the tables of a keymap text; no text is included
+pub record GivesListing (input : List ℕ) (outcome : Outcome) : Type 0 where
+  pub lines : List Told
+  pub tables : Tables
+  pub read : lines_of [] input ≡ Ok lines
+  pub fine : compile_fault lines ≡ None
+  pub compiled : AreTablesOf lines tables
+  pub listed : outcome ≡ record { status = Fine; text = listing_of tables }
+
+-- the keymap text is refused at its first fault
+pub record GivesKeyFault (input : List ℕ) (outcome : Outcome) : Type 0 where
+  pub fault : KeyFault
+  pub found : HasKeyFault input fault
+  pub refused :
+      outcome ≡ record { status = Refused fault.kind fault.line fault.column; text = [] }
+
 -- the outcome that a command gives for an input
 abbrev pub Gives : Command → List ℕ → Outcome → Type 0
 Gives (command.Screen rows cols) input outcome =
     GivesRows rows cols input (first_unbuilt input) outcome
+Gives command.Keys input outcome = GivesListing input outcome ⊎ GivesKeyFault input outcome
 Gives command.Play input outcome = GivesPlayed input outcome ⊎ GivesFault input outcome

@@ -1,7 +1,7 @@
 -- Which words are which command's: one case for each form.
 use Rattle.std.specs.Prelude.{◌≡◌, ℕ, ◌≤◌, List, [], ◌∷◌, codes, decimal, ⊤}
 use Rattle.vt_tool.specs.declared.command.Command.{Command}
-use Rattle.vt_tool.specs.declared.command.Command.TheVariants.{Screen, Play}
+use Rattle.vt_tool.specs.declared.command.Command.TheVariants.{Screen, Keys, Play}
 
 -- a number of rows or columns
 abbrev pub IsSide : ℕ → Type 0
@@ -10,12 +10,14 @@ IsSide n = (1 ≤ n) × (n ≤ 255)
 -- the command's numbers are in their ranges
 abbrev pub IsFit : Command → Type 0
 IsFit (Screen rows cols) = IsSide rows × IsSide cols
+IsFit Keys = ⊤
 IsFit Play = ⊤
 
 -- the one spelling of a command, a list of words; decimal is a number's digits, without sign or
 -- leading zeros
 abbrev pub words_of : Command → List (List ℕ)
 words_of (Screen rows cols) = codes "screen" ∷ decimal rows ∷ decimal cols ∷ []
+words_of Keys = codes "keys" ∷ []
 words_of Play = codes "play" ∷ []
 
 -- the words are the command's
@@ -26,6 +28,7 @@ pub record AreWordsOf (command : Command) (words : List (List ℕ)) : Type 0 whe
 -- the command needs no threads
 abbrev pub IsSerial : Command → Type 0
 IsSerial (Screen rows cols) = ⊤
+IsSerial Keys = ⊤
 IsSerial Play = ⊤
 
 -- the words are those of no command that is known

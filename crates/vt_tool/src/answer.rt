@@ -4,6 +4,7 @@ ghost use Rattle.vt_tool.specs.Input.{intake_of, IsWithin};
 ghost use Rattle.vt_tool.specs.Words.{IsFit};
 
 use crate::command::Command;
+use crate::keys_answer::keys_answer;
 use crate::play_answer::play_answer;
 use crate::screen::screen_answer;
 use crate::status::Status;
@@ -25,6 +26,7 @@ pub fn answer_to(alloc: Global, command: Command, input: &[u8]) -> Result<Answer
 {
     match command {
         Command::Screen { rows, cols } => screen_answer(alloc, Size { rows, cols }, input),
+        Command::Keys => keys_answer(alloc, input),
         Command::Play => play_answer(alloc, input),
     }
 }

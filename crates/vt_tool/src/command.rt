@@ -3,6 +3,8 @@
 pub enum Command {
     /// The rows of a screen of this size after the input.
     Screen { rows: u8, cols: u8 },
+    /// The listing of the tables of a keymap text.
+    Keys,
     /// The journal of the calls of the input, and the console after them.
     Play,
 }

@@ -6,6 +6,7 @@ mod calls;
 mod command;
 mod final_text;
 mod intake;
+mod keys_answer;
 mod play;
 mod play_answer;
 mod read_end;

@@ -8,6 +8,7 @@ use vt_base::{Bytes, NoMemory, Size};
 use vt_grid::{Cell, Grid};
 use vt_io::{MemSink, MemSource};
 
+mod keys;
 mod play;
 
 const USAGE: &[u8] = b"vt: usage: screen R C | keys | type | play | race | check | drill N SEED\n";
@@ -71,6 +72,38 @@ fn check(rt: &impl Abort, alloc: Global, case: Case) -> Result<(), NoMemory> {
     assert_eq!(rt; status.number(), case.number, "{line}, {input:?}");
     assert_eq!(rt; out.held(), case.out, "{line}, {input:?}");
     assert_eq!(rt; err.held(), case.err, "{line}, {input:?}");
+    Ok(())
+}
+
+// A run on a long input: what it begins with, a piece and how often that comes, what it ends with, the
+// status, what out ends with, and err.
+#[derive(Clone, Copy)]
+struct Long {
+    first: &'static [u8],
+    piece: &'static [u8],
+    times: usize,
+    last: &'static [u8],
+    number: u8,
+    end: &'static [u8],
+    err: &'static [u8],
+}
+
+fn check_long(rt: &impl Abort, alloc: Global, line: &str, case: Long) -> Result<(), NoMemory> {
+    let mut input = Bytes::from_slice(alloc, case.first)?;
+    for _ in 0..case.times {
+        input.grow(alloc, case.piece.len())?;
+        input.append(case.piece);
+    }
+    input.grow(alloc, case.last.len())?;
+    input.append(case.last);
+    let words = words_of(alloc, line)?;
+    let mut src = MemSource::new(input, Bytes::with_room(alloc, 0)?);
+    let mut out = sink(alloc, 10_000_000, b"")?;
+    let mut err = sink(alloc, 1_000, b"")?;
+    let status = vt_command(alloc, words.as_slice(), &mut src, &mut out, &mut err);
+    assert_eq!(rt; status.number(), case.number, "{line}");
+    assert!(rt; out.held().ends_with(case.end), "{line}");
+    assert_eq!(rt; err.held(), case.err, "{line}");
     Ok(())
 }
 
@@ -144,7 +177,7 @@ fn tries_no_read_again(rt: HostRuntime) -> Result<(), Fail> {
 
 #[test]
 fn knows_one_spelling(rt: HostRuntime) -> Result<(), Fail> {
-    let cases: [&'static str; 16] = [
+    let cases: [&'static str; 18] = [
         "screen 2",
         "screen 2 5 1",
         "screen 0 5",
@@ -159,7 +192,9 @@ fn knows_one_spelling(rt: HostRuntime) -> Result<(), Fail> {
         "screen 18446744073709551618 5",
         "Screen 2 5",
         "--help",
-        "keys",
+        "keys 1",
+        "play 1",
+        "type",
         "",
     ];
     for line in cases {

@@ -13,6 +13,7 @@ pub fn parse_words(words: &[String]) -> Option<Command>
     let (name, others) = words.split_first()?;
     match name.as_str() {
         "screen" => parse_screen(others),
+        "keys" => parse_keys(others),
         "play" => parse_play(others),
         _ => None,
     }
@@ -28,6 +29,18 @@ fn parse_screen(words: &[String]) -> Option<Command>
     let rows = parse_side(rows.as_str())?;
     let cols = parse_side(cols.as_str())?;
     Some(Command::Screen { rows, cols })
+}
+
+// The words behind `keys`, which has none.
+fn parse_keys(words: &[String]) -> Option<Command>
+    ensures found { IfSome result (λ command. IsSerial command
+        × AreWordsOf command (codes "keys" ∷ map string_bytes words.now)) }
+    ensures none { IfNone result (AreNone IsSerial (codes "keys" ∷ map string_bytes words.now)) }
+{
+    if !words.is_empty() {
+        return None;
+    }
+    Some(Command::Keys)
 }
 
 // The words behind `play`, which has none.

@@ -1,10 +1,6 @@
 //! `play` over call texts. Expected journals and screens were reckoned by hand from the table of events.
-use super::{Case, PLAIN, check, sink, words_of};
-use crate::vt_command;
-use std::alloc::Global;
+use super::{Case, Long, PLAIN, check, check_long};
 use std::test::Fail;
-use vt_base::{Bytes, NoMemory};
-use vt_io::{MemSink, MemSource};
 
 #[test]
 fn plays_calls(rt: HostRuntime) -> Result<(), Fail> {
@@ -62,76 +58,66 @@ fn refuses_call_texts(rt: HostRuntime) -> Result<(), Fail> {
     Ok(())
 }
 
-// What `play` ends with on a first line, and so many times a piece.
-fn play_of(
-    alloc: Global,
-    first: &[u8],
-    piece: &[u8],
-    times: usize,
-    last: &[u8],
-) -> Result<(u8, MemSink, MemSink), NoMemory> {
-    let mut input = Bytes::from_slice(alloc, first)?;
-    for _ in 0..times {
-        input.grow(alloc, piece.len())?;
-        input.append(piece);
-    }
-    input.grow(alloc, last.len())?;
-    input.append(last);
-    let words = words_of(alloc, "play")?;
-    let mut src = MemSource::new(input, Bytes::with_room(alloc, 0)?);
-    let mut out = sink(alloc, 10_000_000, b"")?;
-    let mut err = sink(alloc, 1_000, b"")?;
-    let status = vt_command(alloc, words.as_slice(), &mut src, &mut out, &mut err);
-    Ok((status.number(), out, err))
-}
-
 #[test]
 fn stops_at_a_full_journal(rt: HostRuntime) -> Result<(), Fail> {
-    let cases: [(
-        &'static [u8],
-        &'static [u8],
-        usize,
-        &'static [u8],
-        u8,
-        &'static [u8],
-        &'static [u8],
-    ); 3] = [
-        (
-            b"%calls 1 1 1 1\n",
-            b"1 reldisp 0 0\n",
-            65_537,
-            b"",
-            7,
-            b" 65535 reldisp 0 0 = err 9\n%full 65536 4194304 64\n%display 1\n%screen 1 1 1 0 0 0\n| |\n%queue 1 0 -\n%done\n",
-            b"vt: journal full 65536 4194304 64\n",
-        ),
-        (
-            b"%calls 1 1 1 1\n1 open 1\n1 write 0 ",
-            b"61",
-            4_097,
-            b"\n",
-            0,
-            b"61 = err 22\n%end 2 4225\n%display 1\n%screen 1 1 1 0 0 0\n| |\n%queue 1 0 -\n%done\n",
-            b"",
-        ),
-        (
-            b"%calls 1 1 1 1\n1 open 1\n1 write 0 ",
-            b"61",
-            4_096,
-            b"\n",
-            0,
-            b"61 = num 4096\n%end 2 4224\n%display 1\n%screen 1 1 1 0 0 0\n|a|\n%queue 1 0 -\n%done\n",
-            b"",
-        ),
-    ];
-    for (first, piece, times, last, number, end, line) in cases {
-        let (status, out, err) = play_of(rt.alloc(), first, piece, times, last)?;
-        assert_eq!(rt; status, number, "{times}");
-        assert!(rt; out.held().ends_with(end), "{times}");
-        assert_eq!(rt; err.held(), line, "{times}");
+    let first = b"%calls 1 1 1 1\n1 open 1\n1 write 0 ";
+    let full = Long {
+        first: b"%calls 1 1 1 1\n",
+        piece: b"1 reldisp 0 0\n",
+        times: 65_537,
+        last: b"",
+        number: 7,
+        end: FULL_END,
+        err: b"vt: journal full 65536 4194304 64\n",
+    };
+    let longer = Long {
+        first,
+        piece: b"61",
+        times: 4_097,
+        last: b"\n",
+        number: 0,
+        end: LONGER_END,
+        err: b"",
+    };
+    let whole = Long {
+        times: 4_096,
+        end: WHOLE_END,
+        ..longer
+    };
+    for case in [full, longer, whole] {
+        check_long(&rt, rt.alloc(), "play", case)?;
     }
     Ok(())
 }
+
+const FULL_END: &[u8] = b" 65535 reldisp 0 0 = err 9
+%full 65536 4194304 64
+%display 1
+%screen 1 1 1 0 0 0
+| |
+%queue 1 0 -
+%done
+";
+
+// A write of 4,097 bytes.
+const LONGER_END: &[u8] = b"61 = err 22
+%end 2 4225
+%display 1
+%screen 1 1 1 0 0 0
+| |
+%queue 1 0 -
+%done
+";
+
+// A write of 4,096 bytes.
+const WHOLE_END: &[u8] = b"61 = num 4096
+%end 2 4224
+%display 1
+%screen 1 1 1 0 0 0
+|a|
+%queue 1 0 -
+%done
+";
 
 // The display changes hands with its owner's leave.
 const SWITCH: &[u8] = b"%calls 2 5 2 2

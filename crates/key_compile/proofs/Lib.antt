@@ -1,0 +1,6 @@
+pub mod Alt
+pub mod Marking
+pub mod Same
+pub mod Steps
+pub mod Texts
+pub mod Whole

@@ -1,0 +1,81 @@
+-- Tables that are marked line by line and table by table.
+use Rattle.std.proofs.Common.{◌≡◌, ℕ, suc, zero, ◌+◌, ◌<◌, ◌≤◌, Bool, true, false, ◌||◌, cond, List, [], ◌∷◌, ◌++◌, length, get_or, take, replicate, append-nil, refl, sym, ap, ◌∙◌, arith}
+use Rattle.std.proofs.lemmas.List.{get_or-replicate, length-replicate, take_more}
+use Rattle.std.specs.List.{list_any, slice_index_or}
+use Rattle.key_text.specs.Told.{Telling, Told}
+use Rattle.key_compile.specs.Union.{IsSetOf, in_union, passing_below, union_of}
+
+-- the tables below t that pass were added
+pub record AddedBelow (test : ℕ → Bool) (old new : List Bool) (t : ℕ) : Type 0 where
+  pub full : length new ≡ 256
+  pub below : (k : ℕ) → k < t → slice_index_or new k false ≡ (slice_index_or old k false || test k)
+  pub above : (k : ℕ) → t ≤ k → slice_index_or new k false ≡ slice_index_or old k false
+
+-- the list is of the tables below t
+pub record SetBelow (marks : List Bool) (test : ℕ → Bool) (t : ℕ) : Type 0 where
+  pub full : length marks ≡ t
+  pub each : (k : ℕ) → k < t → slice_index_or marks k false ≡ test k
+
+or_false : (b : Bool) → (b || false) ≡ b
+or_false true = refl
+or_false false = refl
+
+or_assoc : (a b c : Bool) → (a || (b || c)) ≡ ((a || b) || c)
+or_assoc true b c = refl
+or_assoc false b c = refl
+
+pub any_more : {X : Type 0} (test : X → Bool) (xs : List X) (i : ℕ) (d : X) → i < length xs → list_any test (take (i + 1) xs) ≡ (list_any test (take i xs) || test (get_or xs i d))
+any_more {X = X} test xs i d h = ap (list_any test) (take_more xs i d h) ∙ any_pushed (take i xs) (get_or xs i d)
+  where
+    any_pushed : (ys : List X) (y : X) → list_any test (ys ++ y ∷ []) ≡ (list_any test ys || test y)
+    any_pushed [] y = or_false (test y)
+    any_pushed (z ∷ ys) y = ap (λ b. test z || b) (any_pushed ys y) ∙ or_assoc (test z) (list_any test ys) (test y)
+
+-- the marks of a union, and of what the first lines name
+pub marked_none : (names : ℕ → Telling → Bool) (lines : List Told) (marks : List Bool) → marks ≡ replicate 256 false → IsSetOf marks (λ t. false || list_any (λ l. names t l.telling) (take 0 lines))
+marked_none names lines marks e = record {
+  full = ap length e ∙ length-replicate 256 false;
+  each = λ t h. ap (λ ms. slice_index_or ms t false) e ∙ get_or-replicate 256 t false false h;
+}
+
+pub marked_more : (base : ℕ → Bool) (names : ℕ → Telling → Bool) (lines : List Told) (marks new : List Bool) (i : ℕ) (d : Told) → IsSetOf marks (λ t. base t || list_any (λ l. names t l.telling) (take i lines)) → i < length lines → length new ≡ 256 → ((t : ℕ) → t < 256 → slice_index_or new t false ≡ (slice_index_or marks t false || names t (get_or lines i d).telling)) → IsSetOf new (λ t. base t || list_any (λ l. names t l.telling) (take (i + 1) lines))
+marked_more base names lines marks new i d so_far h full each = record {
+  full = full;
+  each = λ t k.
+      each t k
+      ∙ ap (λ b. b || names t (get_or lines i d).telling) (so_far.each t k)
+      ∙ sym (or_assoc (base t) (list_any (λ l. names t l.telling) (take i lines)) (names t (get_or lines i d).telling))
+      ∙ ap (λ b. base t || b) (sym (any_more (λ (l : Told). names t l.telling) lines i d h));
+}
+
+pub passing_below-none : (test : ℕ → Bool) → passing_below test 0 ≡ []
+unfolding passing_below
+passing_below-none test = refl
+
+pub passing_below-suc : (test : ℕ → Bool) (n : ℕ) → passing_below test (suc n) ≡ passing_below test n ++ cond (test n) (n ∷ []) []
+unfolding passing_below
+passing_below-suc test n = refl
+
+up : (n : ℕ) → n + 1 ≡ suc n
+up n = omega arith
+
+pub passing_below-yes : (test : ℕ → Bool) (n : ℕ) → test n ≡ true → passing_below test (n + 1) ≡ passing_below test n ++ n ∷ []
+passing_below-yes test n e =
+    ap (passing_below test) (up n) ∙ passing_below-suc test n ∙ ap (λ b. passing_below test n ++ cond b (n ∷ []) []) e
+
+pub passing_below-no : (test : ℕ → Bool) (n : ℕ) → test n ≡ false → passing_below test (n + 1) ≡ passing_below test n
+passing_below-no test n e =
+    ap (passing_below test) (up n) ∙ passing_below-suc test n ∙ ap (λ b. passing_below test n ++ cond b (n ∷ []) []) e ∙ append-nil (passing_below test n)
+
+pub passing_below-same : (n : ℕ) (f g : ℕ → Bool) → ((t : ℕ) → t < n → f t ≡ g t) → passing_below f n ≡ passing_below g n
+passing_below-same zero f g same = passing_below-none f ∙ sym (passing_below-none g)
+passing_below-same (suc n) f g same =
+    passing_below-suc f n
+    ∙ ap (λ front. front ++ cond (f n) (n ∷ []) []) (passing_below-same n f g (λ t h. same t (omega arith)))
+    ∙ ap (λ b. passing_below g n ++ cond b (n ∷ []) []) (same n (omega arith))
+    ∙ sym (passing_below-suc g n)
+
+-- the tables of the marks of a union
+pub marks_union : (lines : List Told) (marks : List Bool) → IsSetOf marks (in_union lines) → passing_below (λ t. slice_index_or marks t false) 256 ≡ union_of lines
+unfolding union_of
+marks_union lines marks set = passing_below-same 256 (λ t. slice_index_or marks t false) (in_union lines) set.each

@@ -1,0 +1,271 @@
+-- What the steps of compiling give together.
+use Rattle.std.proofs.Common.{◌≡◌, ◌≢◌, ℕ, suc, zero, ◌+◌, ◌-◌, ◌<◌, ◌≤◌, Bool, true, false, ◌==◌, ◌&&◌, ◌||◌, cond, nat_le, nat_lt, Option, Some, None, unwrap_or, List, [], ◌∷◌, ◌++◌, length, get_or, length-append, refl, sym, ap, ◌∙◌, inl, inr, arith}
+use Rattle.std.proofs.lemmas.Bool.{cases_lt, eq-eqb, false≢true, le-leb, lt-leb, lt-ltb, ltb-false}
+use Rattle.std.proofs.lemmas.Bool.Decides.{eqb_tells}
+use Rattle.std.proofs.lemmas.List.Folds.{list_any_at}
+use Rattle.std.specs.List.{list_any, slice_index_or}
+use Rattle.std.specs.Option.{option_map, option_or}
+use Rattle.key_syms.specs.Act.{Act, act}
+use Rattle.key_syms.specs.declared.kind.TheConstants.{HOLE, META}
+use Rattle.key_syms.specs.declared.pair.Pair.{Pair}
+use Rattle.key_tables.specs.Tables.{IsEmpty, IsWhole, Tables, entry_of, exists_in, func_of, hole, with_pairs}
+use Rattle.key_text.specs.Told.{Telling, Told, keymaps, keys, one, string, compose, alt_is_meta, usual_strings, usual_pairs}
+use Rattle.key_text.specs.declared.fault.KeyFault.{KeyFault}
+use Rattle.key_compile.specs.Compiled.{AreStart, AreTablesOf}
+use Rattle.key_compile.specs.Entries.{decided, entry_in, is_alt, is_ascii_act, line_entry, meta_over}
+use Rattle.key_compile.specs.Existing.{FitUnion, HasTables, HaveOwnTables, fits_union}
+use Rattle.key_compile.specs.Faults.{at_line, compile_fault, fault_of, first_fault, is_key, pairs_fault, pairs_of_line}
+use Rattle.key_compile.specs.Metas.{meta_at, meta_of, metas_below}
+use Rattle.key_compile.specs.Pairs.{pairs_by, pairs_in, usual}
+use Rattle.key_compile.specs.Puts.{Puts, PutsTexts}
+use Rattle.key_compile.specs.Strings.{last_text}
+use Rattle.key_compile.specs.Union.{IsSetOf, in_union, is_declared, modifies_table, passing_below, union_of}
+use Rattle.key_compile.proofs.Marking.{passing_below-none, passing_below-suc}
+use Rattle.key_compile.proofs.Steps.{puts_exist}
+
+any_append : (test : ℕ → Bool) (xs ys : List ℕ) → list_any test (xs ++ ys) ≡ (list_any test xs || list_any test ys)
+any_append test [] ys = refl
+any_append test (x ∷ xs) ys = ap (λ b. test x || b) (any_append test xs ys) ∙ or_assoc (test x) (list_any test xs) (list_any test ys)
+  where
+    or_assoc : (a b c : Bool) → (a || (b || c)) ≡ ((a || b) || c)
+    or_assoc true b c = refl
+    or_assoc false b c = refl
+
+any_of : (test : ℕ → Bool) (b : Bool) (n : ℕ) → list_any test (cond b (n ∷ []) []) ≡ (b && test n)
+any_of test true n = or_false (test n)
+  where
+    or_false : (a : Bool) → (a || false) ≡ a
+    or_false true = refl
+    or_false false = refl
+any_of test false n = refl
+
+any_suc : (test pass : ℕ → Bool) (n : ℕ) → list_any test (passing_below pass (suc n)) ≡ (list_any test (passing_below pass n) || (pass n && test n))
+any_suc test pass n =
+    ap (list_any test) (passing_below-suc pass n)
+    ∙ any_append test (passing_below pass n) (cond (pass n) (n ∷ []) [])
+    ∙ ap (λ b. list_any test (passing_below pass n) || b) (any_of test (pass n) n)
+
+and_false : (a : Bool) → (a && false) ≡ false
+and_false true = refl
+and_false false = refl
+
+-- which numbers are among those that pass
+none_from : (pass : ℕ → Bool) (n t : ℕ) → n ≤ t → list_any (λ d. d == t) (passing_below pass n) ≡ false
+none_from pass zero t h = ap (list_any (λ d. d == t)) (passing_below-none pass)
+none_from pass (suc n) t h =
+    any_suc (λ d. d == t) pass n
+    ∙ ap (λ b. b || (pass n && (n == t))) (none_from pass n t (omega arith))
+    ∙ (elim (eqb_tells n t) [
+      | inl e ↦ absurd (let same : n ≡ t = e.1 in omega arith)
+      | inr e ↦ ap (λ b. pass n && b) e.0 ∙ and_false (pass n)
+    ])
+
+among : (pass : ℕ → Bool) (n t : ℕ) → t < n → list_any (λ d. d == t) (passing_below pass n) ≡ pass t
+among pass zero t h = absurd (omega arith)
+among pass (suc n) t h = any_suc (λ d. d == t) pass n ∙ (elim (eqb_tells n t) [
+  | inl e ↦
+      ap (λ b. b || (pass n && (n == t))) (none_from pass n t (let same : n ≡ t = e.1 in omega arith))
+      ∙ ap (λ b. pass n && b) e.0 ∙ and_true (pass n) ∙ ap pass e.1
+  | inr e ↦
+      ap (λ b. list_any (λ d. d == t) (passing_below pass n) || (pass n && b)) e.0
+      ∙ ap (λ b. list_any (λ d. d == t) (passing_below pass n) || b) (and_false (pass n))
+      ∙ or_false (list_any (λ d. d == t) (passing_below pass n))
+      ∙ among pass n t (let other : n ≢ t = e.1 in omega arith)
+])
+  where
+    and_true : (a : Bool) → (a && true) ≡ a
+    and_true true = refl
+    and_true false = refl
+
+    or_false : (a : Bool) → (a || false) ≡ a
+    or_false true = refl
+    or_false false = refl
+
+eqb-comm : (a b : ℕ) → (a == b) ≡ (b == a)
+eqb-comm a b = elim (eqb_tells a b) [
+  | inl e ↦ e.0 ∙ sym (eq-eqb b a (sym e.1))
+  | inr e ↦ elim (eqb_tells b a) [
+    | inl f ↦ absurd (e.1 (sym f.1))
+    | inr f ↦ e.0 ∙ sym f.0
+  ]
+]
+
+flipped : (t : ℕ) (xs : List ℕ) → list_any (λ u. t == u) xs ≡ list_any (λ d. d == t) xs
+flipped t [] = refl
+flipped t (x ∷ xs) = ap (λ b. b || list_any (λ u. t == u) xs) (eqb-comm t x) ∙ ap (λ b. (x == t) || b) (flipped t xs)
+
+named : (pass : ℕ → Bool) (t : ℕ) → list_any (λ u. t == u) (passing_below pass 256) ≡ true → (t < 256) × (pass t ≡ true)
+named pass t e = elim (cases_lt t 256) [
+  | inl lt ↦ (lt, sym (among pass 256 t lt) ∙ sym (flipped t (passing_below pass 256)) ∙ e)
+  | inr ge ↦ absurd (false≢true (sym (none_from pass 256 t ge) ∙ sym (flipped t (passing_below pass 256)) ∙ e))
+]
+
+pub start_of : (lines : List Told) (marks : List Bool) (declared : List ℕ) (k : Tables) → IsSetOf marks (is_declared lines) → declared ≡ passing_below (λ t. slice_index_or marks t false) 256 → IsEmpty declared k → AreStart lines k
+start_of lines marks declared k set e empty = record {
+  exist = λ t h. empty.exists t ∙ ap (list_any (λ d. d == t)) e ∙ among (λ n. slice_index_or marks n false) 256 t h ∙ set.each t h;
+  entries = empty.entries;
+  funcs = empty.funcs;
+  pairs = empty.pairs;
+}
+
+or_first : (a b : Bool) → a ≡ true → (a || b) ≡ true
+or_first true b e = refl
+or_first false b e = absurd (false≢true e)
+
+or_second : (a b : Bool) → b ≡ true → (a || b) ≡ true
+or_second true b e = refl
+or_second false b e = e
+
+pub has_union : (lines : List Told) (union : List ℕ) (k : Tables) → AreStart lines k → union ≡ union_of lines → HasTables union k
+unfolding union_of is_declared
+has_union lines union k start e t h =
+    let in_it = named (in_union lines) t (ap (list_any (λ u. t == u)) (sym e) ∙ h) in
+    start.exist t in_it.0 ∙ or_first (in_union lines t) (list_any (λ l. modifies_table t l.telling) lines) in_it.1
+
+pub has_own : (lines : List Told) (k : Tables) → AreStart lines k → HaveOwnTables lines k
+unfolding is_declared
+has_own lines k start i d h t small e =
+    start.exist t small ∙ or_second (in_union lines t) (list_any (λ l. modifies_table t l.telling) lines) (list_any_at (λ l. modifies_table t l.telling) lines i d h e)
+
+no_fault : (l : Told) (x : Option ℕ) (y : Option KeyFault) → option_or (option_map (at_line l) x) y ≡ None → (x ≡ None) × (y ≡ None)
+no_fault l None y e = (refl, e)
+no_fault l (Some kind) y e = let f : Some (at_line l kind) ≡ None = e in cc
+
+no_choice : (b : Bool) (kind : ℕ) → cond b (Some kind) None ≡ None → b ≡ false
+no_choice true kind e = let f : Some kind ≡ None = e in cc
+no_choice false kind e = refl
+
+fits : (n : ℕ) (seen : Bool) (count : ℕ) (telling : Telling) → fault_of n seen count telling ≡ None → fits_union n telling ≡ true
+fits n seen count (keymaps tables) e = refl
+fits n seen count (keys code actions) e = le-leb (length actions) n (ltb-false n (length actions) (no_choice (nat_lt n (length actions)) 4 e))
+fits n seen count (one table code action) e = refl
+fits n seen count (string func bytes) e = refl
+fits n seen count (compose pair) e = refl
+fits n seen count alt_is_meta e = refl
+fits n seen count usual_strings e = refl
+fits n seen count usual_pairs e = refl
+
+all_fit : (n : ℕ) (seen : Bool) (count : ℕ) (lines : List Told) → first_fault n seen count lines ≡ None → FitUnion n lines
+all_fit n seen count [] e i d h = absurd (omega arith)
+all_fit n seen count (l ∷ ls) e zero d h = fits n seen count l.telling (no_fault l _ _ e).0
+all_fit n seen count (l ∷ ls) e (suc i) d h = all_fit n (seen || is_key l.telling) (count + pairs_of_line l.telling) ls (no_fault l _ _ e).1 i d (omega arith)
+
+pub lines_fit : (lines : List Told) (union : List ℕ) → union ≡ union_of lines → compile_fault lines ≡ None → FitUnion (length union) lines
+unfolding compile_fault
+lines_fit lines union e good = all_fit (length union) false 0 lines (ap (λ us. first_fault (length us) false 0 lines) e ∙ good)
+
+length-usual : length usual ≡ 66
+unfolding usual
+length-usual = refl
+
+few_of : (count : ℕ) → pairs_fault count ≡ None → count ≤ 256
+few_of count e = ltb-false 256 count (no_choice (nat_lt 256 count) 10 e)
+
+few : (n : ℕ) (seen : Bool) (count : ℕ) (telling : Telling) → fault_of n seen count telling ≡ None → count ≤ 256 → (count + pairs_of_line telling ≤ 256) × (length (pairs_by telling) ≡ pairs_of_line telling)
+few n seen count (keymaps tables) e h = (omega arith, refl)
+few n seen count (keys code actions) e h = (omega arith, refl)
+few n seen count (one table code action) e h = (omega arith, refl)
+few n seen count (string func bytes) e h = (omega arith, refl)
+few n seen count (compose pair) e h = (few_of (count + 1) e, refl)
+few n seen count alt_is_meta e h = (omega arith, refl)
+few n seen count usual_strings e h = (omega arith, refl)
+few n seen count usual_pairs e h = (few_of (count + 66) e, length-usual)
+
+pairs_few : (n : ℕ) (seen : Bool) (count : ℕ) (lines : List Told) → first_fault n seen count lines ≡ None → count ≤ 256 → count + length (pairs_in lines) ≤ 256
+pairs_few n seen count [] e h = omega arith
+pairs_few n seen count (l ∷ ls) e h =
+    let parts = no_fault l (fault_of n seen count l.telling) (first_fault n (seen || is_key l.telling) (count + pairs_of_line l.telling) ls) e in
+    let these = few n seen count l.telling parts.0 h in
+    let rest = pairs_few n (seen || is_key l.telling) (count + pairs_of_line l.telling) ls parts.1 these.0 in
+    let long = length-append (pairs_by l.telling) (pairs_in ls) in
+    together count (length (pairs_in (l ∷ ls))) (length (pairs_by l.telling)) (length (pairs_in ls)) (pairs_of_line l.telling) long these.1 rest
+  where
+    together : (count all first others adds : ℕ) → all ≡ first + others → first ≡ adds → count + adds + others ≤ 256 → count + all ≤ 256
+    together count all first others adds p q r = omega arith
+
+pub pairs_fit : (lines : List Told) (pairs : List Pair) → pairs ≡ pairs_in lines → compile_fault lines ≡ None → length pairs ≤ 256
+unfolding compile_fault
+pairs_fit lines pairs e good = omega (arith, pairs_few (length (union_of lines)) false 0 lines good (omega arith), ap length e)
+
+-- the entries that the lines decide
+entry_first : (lines : List Told) (union : List ℕ) (k0 k1 : Tables) → AreStart lines k0 → union ≡ union_of lines → Puts (decided union lines) k0 k1 → (t c : ℕ) → t < 256 → entry_of k1 t c ≡ cond (is_declared lines t) (Some (line_entry lines t c)) None
+unfolding line_entry
+entry_first lines union k0 k1 start e puts t c h =
+    puts.entries t c
+    ∙ ap (option_map (λ a. unwrap_or (decided union lines t c) a)) (start.entries t c ∙ ap (λ b. cond b (Some hole) None) (start.exist t h))
+    ∙ mapped (is_declared lines t) (decided union lines t c)
+    ∙ ap (λ us. cond (is_declared lines t) (Some (unwrap_or (decided us lines t c) hole)) None) e
+  where
+    mapped : (b : Bool) (g : Option Act) → option_map (λ a. unwrap_or g a) (cond b (Some hole) None) ≡ cond b (Some (unwrap_or g hole)) None
+    mapped true g = refl
+    mapped false g = refl
+
+-- the entry with what `alt_is_meta` gives
+with_meta : (alt range under : Bool) (below a : Act) (m : Option Act) → (range ≡ true → m ≡ meta_of (cond under (Some below) None) (Some a)) → unwrap_or (cond alt (cond range m None) None) a ≡ cond (alt && range && under) (meta_over below a) a
+with_meta false range under below a m e = refl
+with_meta true false under below a m e = refl
+with_meta true true under below a m e = ap (λ x. unwrap_or x a) (e refl) ∙ settled under
+  where
+    chosen : (b : Bool) → unwrap_or (cond b (Some (act META below.value)) None) a ≡ cond b (act META below.value) a
+    chosen true = refl
+    chosen false = refl
+
+    settled : (u : Bool) → unwrap_or (meta_of (cond u (Some below) None) (Some a)) a ≡ cond u (meta_over below a) a
+    settled true = chosen (a.kind == HOLE && is_ascii_act below)
+    settled false = refl
+
+range_low : (t : ℕ) → (nat_le 8 t && nat_lt t 16) ≡ true → 8 ≤ t
+range_low t e = elim (cases_lt t 8) [
+  | inl lt ↦ absurd (false≢true (sym (ap (λ b. b && nat_lt t 16) (lt-leb 8 t lt)) ∙ e))
+  | inr ge ↦ ge
+]
+
+meta_there : (k : Tables) (t c : ℕ) → 1 ≤ c → c < 256 → meta_at k t c ≡ meta_of (entry_of k t c) (entry_of k (t + 8) c)
+unfolding meta_at
+meta_there k t c h j =
+    ap (λ b. cond (b && nat_lt c 256) (meta_of (entry_of k t c) (entry_of k (t + 8) c)) None) (le-leb 1 c h)
+    ∙ ap (λ b. cond b (meta_of (entry_of k t c) (entry_of k (t + 8) c)) None) (lt-ltb c 256 j)
+
+entry_last : (lines : List Told) (k1 k2 : Tables) → ((t c : ℕ) → t < 256 → entry_of k1 t c ≡ cond (is_declared lines t) (Some (line_entry lines t c)) None) → Puts (λ t c. cond (list_any (λ l. is_alt l.telling) lines) (metas_below k1 8 t c) None) k1 k2 → (t c : ℕ) → t < 256 → 1 ≤ c → c < 256 → entry_of k2 t c ≡ cond (is_declared lines t) (Some (entry_in lines t c)) None
+unfolding entry_in metas_below
+entry_last lines k1 k2 first metas t c h i j =
+    metas.entries t c
+    ∙ ap (option_map (λ a. unwrap_or (cond alt (cond range (meta_at k1 (t - 8) c) None) None) a)) (first t c h)
+    ∙ by_test (is_declared lines t) (λ e. with_meta alt range (is_declared lines (t - 8)) (line_entry lines (t - 8) c) (line_entry lines t c) (meta_at k1 (t - 8) c) (λ r. given r e))
+  where
+    alt : Bool
+    alt = list_any (λ (l : Told). is_alt l.telling) lines
+
+    range : Bool
+    range = nat_le 8 t && nat_lt t 16
+
+    given : range ≡ true → is_declared lines t ≡ true → meta_at k1 (t - 8) c ≡ meta_of (cond (is_declared lines (t - 8)) (Some (line_entry lines (t - 8) c)) None) (Some (line_entry lines t c))
+    given r e =
+        let low = range_low t r in
+        meta_there k1 (t - 8) c i j
+        ∙ ap (λ n. meta_of (entry_of k1 (t - 8) c) (entry_of k1 n c)) (let f : t - 8 + 8 ≡ t = omega arith in f)
+        ∙ ap (λ x. meta_of x (entry_of k1 t c)) (first (t - 8) c (omega arith))
+        ∙ ap (meta_of (cond (is_declared lines (t - 8)) (Some (line_entry lines (t - 8) c)) None)) (first t c h ∙ ap (λ b. cond b (Some (line_entry lines t c)) None) e)
+
+    by_test : (b : Bool) → (b ≡ true → unwrap_or (cond alt (cond range (meta_at k1 (t - 8) c) None) None) (line_entry lines t c) ≡ cond (alt && range && is_declared lines (t - 8)) (meta_over (line_entry lines (t - 8) c) (line_entry lines t c)) (line_entry lines t c)) → option_map (λ a. unwrap_or (cond alt (cond range (meta_at k1 (t - 8) c) None) None) a) (cond b (Some (line_entry lines t c)) None) ≡ cond b (Some (cond (alt && range && is_declared lines (t - 8)) (meta_over (line_entry lines (t - 8) c) (line_entry lines t c)) (line_entry lines t c))) None
+    by_test true e = ap Some (e refl)
+    by_test false e = refl
+
+pub finish : (lines : List Told) (union : List ℕ) (pairs : List Pair) (k0 k1 k2 k3 k4 : Tables) → AreStart lines k0 → union ≡ union_of lines → Puts (decided union lines) k0 k1 → Puts (λ t c. cond (list_any (λ l. is_alt l.telling) lines) (metas_below k1 8 t c) None) k1 k2 → PutsTexts (last_text lines) k2 k3 → k4 ≡ with_pairs k3 pairs → pairs ≡ pairs_in lines → IsWhole k4 → AreTablesOf lines k4
+finish lines union pairs k0 k1 k2 k3 k4 start e puts metas texts is same whole = record {
+  whole = whole;
+  exist = λ t h.
+      ap (λ maps. exists_in (record { maps = maps; funcs = []; pairs = [] }) t) (ap (λ (k : Tables). k.maps) is ∙ texts.maps)
+      ∙ puts_exist (λ u d. cond (list_any (λ l. is_alt l.telling) lines) (metas_below k1 8 u d) None) k1 k2 metas t
+      ∙ puts_exist (decided union lines) k0 k1 puts t
+      ∙ start.exist t h;
+  entries = λ t c h i j.
+      ap (λ maps. entry_of (record { maps = maps; funcs = []; pairs = [] }) t c) (ap (λ (k : Tables). k.maps) is ∙ texts.maps)
+      ∙ entry_last lines k1 k2 (entry_first lines union k0 k1 start e puts) metas t c h i j;
+  strings = λ n.
+      ap (λ (k : Tables). func_of k n) is
+      ∙ texts.texts n
+      ∙ ap (λ funcs. unwrap_or (last_text lines n) (get_or funcs n [])) (metas.funcs ∙ puts.funcs)
+      ∙ ap (unwrap_or (last_text lines n)) (start.funcs n);
+  pairs = ap (λ (k : Tables). k.pairs) is ∙ same;
+}

@@ -1,0 +1,50 @@
+-- What a symbol that stands alone on a key line does in a table.
+use Rattle.std.specs.Prelude.{ℕ, ◌+◌, ◌-◌, ◌/◌, ◌%◌, Bool, ◌==◌, ◌&&◌, ◌||◌, cond, nat_le}
+use Rattle.key_syms.specs.Act.{Act, act}
+use Rattle.key_syms.specs.declared.kind.TheConstants.{CHARACTER, LETTER, META}
+use Rattle.key_tables.specs.Tables.{hole}
+
+-- a character, obeying CapsLock or not
+abbrev pub is_character_act : Act → Bool
+is_character_act a = a.kind == CHARACTER || a.kind == LETTER
+
+abbrev pub is_upper : ℕ → Bool
+is_upper v = nat_le 0x41 v && nat_le v 0x5A
+
+abbrev pub is_lower : ℕ → Bool
+is_lower v = nat_le 0x61 v && nat_le v 0x7A
+
+-- an ASCII letter
+abbrev pub is_letter : Act → Bool
+is_letter a = is_character_act a && (is_upper a.value || is_lower a.value)
+
+-- the letter's other case
+abbrev pub other_case : ℕ → ℕ
+other_case v = cond (is_upper v) (v + 32) (v - 32)
+
+-- the weights of Shift, Control and Alt are in the table's number
+abbrev pub has_shift : ℕ → Bool
+has_shift t = t % 2 == 1
+
+abbrev pub has_control : ℕ → Bool
+has_control t = t / 4 % 2 == 1
+
+abbrev pub has_alt : ℕ → Bool
+has_alt t = t / 8 % 2 == 1
+
+-- the value of a letter in a table below 16: the other case with Shift, the low five bits with Control
+abbrev pub shifted : ℕ → ℕ → ℕ
+shifted t v = cond (has_shift t) (other_case v) v
+
+abbrev pub controlled : ℕ → ℕ → ℕ
+controlled t v = cond (has_control t) (shifted t v % 32) (shifted t v)
+
+-- a meta with Alt, else a character with Control, else a letter
+abbrev pub kind_in : ℕ → ℕ
+kind_in t = cond (has_alt t) META (cond (has_control t) CHARACTER LETTER)
+
+-- an ASCII letter by the table, a hole from 16 on; another symbol as it is
+unfoldable pub filled : ℕ → Act → Act
+filled t a =
+    cond (is_letter a)
+    (cond (nat_le 16 t) hole (act (kind_in t) (controlled t a.value))) a

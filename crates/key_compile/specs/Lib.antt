@@ -1,0 +1,10 @@
+pub mod Compiled
+pub mod Entries
+pub mod Existing
+pub mod Faults
+pub mod Fill
+pub mod Metas
+pub mod Pairs
+pub mod Puts
+pub mod Strings
+pub mod Union

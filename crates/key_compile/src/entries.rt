@@ -1,0 +1,93 @@
+ghost use Rattle.std.specs.Prelude.{◌≡◌, ◌≢◌, ◌≤◌, ◌==◌, ◌&&◌, true, length, Some, None, cond};
+ghost use Rattle.key_tables.specs.Tables.{exists_in};
+ghost use Rattle.key_compile.specs.Entries.{by_symbols, decided, everywhere, gives, paired};
+ghost use Rattle.key_compile.specs.Existing.{FitUnion, HasOwnTable, HasTables, HaveOwnTables, fits_union};
+ghost use Rattle.key_compile.specs.Puts.{Puts};
+
+use crate::fill::filled;
+use key_syms::Action;
+use key_tables::KeyTables;
+use key_text::{Line, LineKind};
+
+/// Sets what the lines give, one behind another.
+pub fn put_lines(tables: &mut KeyTables, union: &[u8], lines: &[Line])
+    requires exist { HasTables union.now tables.old }
+    requires own { HaveOwnTables lines.now tables.old }
+    requires fit { FitUnion (length union.now) lines.now }
+    ensures { Puts (decided union.now lines.now) tables.old tables.new }
+{
+    for i in 0..lines.len() {
+        put_line(tables, union, &lines[i]);
+    }
+}
+
+/// Sets what a line gives.
+fn put_line(tables: &mut KeyTables, union: &[u8], line: &Line)
+    requires exist { HasTables union.now tables.old }
+    requires own { HasOwnTable line.now.telling tables.old }
+    requires fit { fits_union (length union.now) line.now.telling ≡ true }
+    ensures { Puts (gives union.now line.now.telling) tables.old tables.new }
+{
+    match &line.kind {
+        LineKind::Keymaps(_) => {}
+        LineKind::Keys { code, syms } => put_symbols(tables, union, *code, syms.as_slice()),
+        LineKind::One {
+            table,
+            code,
+            action,
+        } => put_one(tables, *table, *code, *action),
+        LineKind::Text { .. } => {}
+        LineKind::Compose(_) => {}
+        LineKind::AltIsMeta => {}
+        LineKind::UsualStrings => {}
+        LineKind::UsualPairs => {}
+    }
+}
+
+fn put_one(tables: &mut KeyTables, table: u8, code: u8, action: Action)
+    requires exists { exists_in tables.old table ≡ true }
+    requires key { code ≢ 0 }
+    ensures { Puts (λ t c. cond (t == table && c == code) (Some action) None)
+        tables.old tables.new }
+{
+    tables.set_entry(table, code, action);
+}
+
+/// Sets the symbols of a key line: one in all tables of the union, more in the first of them.
+fn put_symbols(tables: &mut KeyTables, union: &[u8], code: u8, actions: &[Action])
+    requires exist { HasTables union.now tables.old }
+    requires key { code ≢ 0 }
+    requires fit { length actions.now ≤ length union.now }
+    ensures { Puts (λ t c. cond (c == code) (by_symbols union.now actions.now t) None)
+        tables.old tables.new }
+{
+    if actions.len() == 1 {
+        put_everywhere(tables, union, code, actions[0]);
+    } else {
+        put_paired(tables, union, code, actions);
+    }
+}
+
+fn put_everywhere(tables: &mut KeyTables, union: &[u8], code: u8, action: Action)
+    requires exist { HasTables union.now tables.old }
+    requires key { code ≢ 0 }
+    ensures { Puts (λ t c. cond (c == code) (everywhere union.now action t) None)
+        tables.old tables.new }
+{
+    for i in 0..union.len() {
+        let table = union[i];
+        tables.set_entry(table, code, filled(table, action));
+    }
+}
+
+fn put_paired(tables: &mut KeyTables, union: &[u8], code: u8, actions: &[Action])
+    requires exist { HasTables union.now tables.old }
+    requires key { code ≢ 0 }
+    requires fit { length actions.now ≤ length union.now }
+    ensures { Puts (λ t c. cond (c == code) (paired union.now actions.now t) None)
+        tables.old tables.new }
+{
+    for i in 0..actions.len() {
+        tables.set_entry(union[i], code, actions[i]);
+    }
+}

@@ -1,0 +1,18 @@
+//! The lines of a keymap, compiled into key tables (keymaps(5), loadkeys(1)).
+#![tactic(auto)]
+
+mod compiling;
+mod entries;
+mod fill;
+mod first_fault;
+mod laws;
+mod metas;
+mod pairs;
+mod strings;
+#[cfg(test)]
+mod tests;
+mod union;
+mod usual;
+
+pub use compiling::compile;
+pub use laws::one_value;

@@ -1,0 +1,47 @@
+ghost use Rattle.std.specs.Prelude.{◌≡◌, ◌∷◌, [], ◌++◌, IfOk, OnOk};
+ghost use Rattle.key_compile.specs.Pairs.{pairs_by, pairs_in, usual};
+
+use crate::usual::USUAL_PAIRS;
+use key_syms::Pair;
+use key_text::{Line, LineKind};
+use std::alloc::{AllocError, Global};
+
+/// The pairs of the lines, in order.
+pub fn pairs_in(alloc: Global, lines: &[Line]) -> Result<Vec<Pair>, AllocError>
+    ensures { IfOk result (λ pairs. pairs.items ≡ pairs_in lines.now) }
+{
+    let mut pairs = Vec::new(alloc);
+    for i in 0..lines.len() {
+        add_pairs(&mut pairs, &lines[i])?;
+    }
+    Ok(pairs)
+}
+
+fn add_pairs(pairs: &mut Vec<Pair>, line: &Line) -> Result<(), AllocError>
+    ensures { OnOk result (pairs.new.items ≡ pairs.old.items ++ pairs_by line.now.telling) }
+{
+    match &line.kind {
+        LineKind::Keymaps(_) => Ok(()),
+        LineKind::Keys { .. } => Ok(()),
+        LineKind::One { .. } => Ok(()),
+        LineKind::Text { .. } => Ok(()),
+        LineKind::Compose(pair) => add_pair(pairs, *pair),
+        LineKind::AltIsMeta => Ok(()),
+        LineKind::UsualStrings => Ok(()),
+        LineKind::UsualPairs => pairs.extend_from_slice(usual_pairs()),
+    }
+}
+
+fn add_pair(pairs: &mut Vec<Pair>, pair: Pair) -> Result<(), AllocError>
+    ensures { OnOk result (pairs.new.items ≡ pairs.old.items ++ pair ∷ []) }
+{
+    pairs.push(pair)?;
+    Ok(())
+}
+
+#[tactic(auto, unfolding(crate::specs::Pairs::usual))]
+fn usual_pairs() -> &'static [Pair]
+    ensures { result.now ≡ usual }
+{
+    &USUAL_PAIRS
+}

@@ -1,0 +1,163 @@
+ghost use Rattle.std.specs.Prelude.{◌≡◌, ℕ, ◌<◌, ◌||◌, false, length, slice_index_or, IfOk, replicate};
+ghost use Rattle.std.specs.List.{list_any};
+ghost use Rattle.key_compile.specs.Union.{IsSetOf, in_union, is_declared, is_keymaps, is_usual_table, modifies_table, names_table, passing_below};
+
+use key_text::{Line, LineKind};
+use std::alloc::{AllocError, Global};
+
+/// How many tables there may be.
+const TABLES: usize = 256;
+
+/// For each table whether it is in the union.
+#[tactic(auto, unfolding(crate::specs::Union::in_union))]
+pub fn union_marks(alloc: Global, lines: &[Line]) -> Result<Vec<bool>, AllocError>
+    ensures { IfOk result (λ marks. IsSetOf marks.items (in_union lines.now)) }
+{
+    if has_keymaps(lines) {
+        return named_tables(alloc, lines);
+    }
+    usual_tables(alloc)
+}
+
+fn has_keymaps(lines: &[Line]) -> bool
+    ensures { result ≡ list_any (λ l. is_keymaps l.telling) lines.now }
+{
+    for i in 0..lines.len() {
+        if is_keymaps(&lines[i]) {
+            return true;
+        }
+    }
+    false
+}
+
+fn is_keymaps(line: &Line) -> bool
+    ensures { result ≡ is_keymaps line.now.telling }
+{
+    match &line.kind {
+        LineKind::Keymaps(_) => true,
+        LineKind::Keys { .. } => false,
+        LineKind::One { .. } => false,
+        LineKind::Text { .. } => false,
+        LineKind::Compose(_) => false,
+        LineKind::AltIsMeta => false,
+        LineKind::UsualStrings => false,
+        LineKind::UsualPairs => false,
+    }
+}
+
+/// For each table whether a line `keymaps` has it.
+fn named_tables(alloc: Global, lines: &[Line]) -> Result<Vec<bool>, AllocError>
+    ensures { IfOk result (λ marks. IsSetOf marks.items
+        (λ t. list_any (λ l. names_table t l.telling) lines.now)) }
+{
+    let mut marks = no_marks(alloc)?;
+    for i in 0..lines.len() {
+        mark_named(&mut marks, &lines[i]);
+    }
+    Ok(marks)
+}
+
+fn no_marks(alloc: Global) -> Result<Vec<bool>, AllocError>
+    ensures { IfOk result (λ marks. marks.items ≡ replicate 256 false) }
+{
+    let mut marks = Vec::new(alloc);
+    marks.resize(TABLES, false)?;
+    Ok(marks)
+}
+
+/// Marks the tables that a line `keymaps` has.
+fn mark_named(marks: &mut Vec<bool>, line: &Line)
+    requires { length marks.old.items ≡ 256 }
+    ensures full { length marks.new.items ≡ 256 }
+    ensures each { (t : ℕ) → t < 256 → slice_index_or marks.new.items t false
+        ≡ (slice_index_or marks.old.items t false || names_table t line.now.telling) }
+{
+    for t in 0..TABLES {
+        if names_table(t as u8, line) {
+            marks[t] = true;
+        }
+    }
+}
+
+fn names_table(t: u8, line: &Line) -> bool
+    ensures { result ≡ names_table t line.now.telling }
+{
+    match &line.kind {
+        LineKind::Keymaps(tables) => tables.has(t),
+        LineKind::Keys { .. } => false,
+        LineKind::One { .. } => false,
+        LineKind::Text { .. } => false,
+        LineKind::Compose(_) => false,
+        LineKind::AltIsMeta => false,
+        LineKind::UsualStrings => false,
+        LineKind::UsualPairs => false,
+    }
+}
+
+fn usual_tables(alloc: Global) -> Result<Vec<bool>, AllocError>
+    ensures { IfOk result (λ marks. IsSetOf marks.items is_usual_table) }
+{
+    let mut marks = Vec::new(alloc);
+    for t in 0..TABLES {
+        marks.push(is_usual_table(t))?;
+    }
+    Ok(marks)
+}
+
+fn is_usual_table(t: usize) -> bool
+    ensures { result ≡ is_usual_table t }
+{
+    t <= 2 || t == 4 || t == 5 || t == 8 || t == 12
+}
+
+/// For each table whether it is declared. `union` says it of the union.
+#[tactic(auto, unfolding(crate::specs::Union::is_declared))]
+pub fn declared_marks(
+    alloc: Global,
+    lines: &[Line],
+    union: &[bool],
+) -> Result<Vec<bool>, AllocError>
+    requires { IsSetOf union.now (in_union lines.now) }
+    ensures { IfOk result (λ marks. IsSetOf marks.items (is_declared lines.now)) }
+{
+    let mut marks = Vec::from_slice(alloc, union)?;
+    for i in 0..lines.len() {
+        mark_modified(&mut marks, &lines[i]);
+    }
+    Ok(marks)
+}
+
+/// Marks the table of a line with modifier words.
+fn mark_modified(marks: &mut Vec<bool>, line: &Line)
+    requires { length marks.old.items ≡ 256 }
+    ensures full { length marks.new.items ≡ 256 }
+    ensures each { (t : ℕ) → t < 256 → slice_index_or marks.new.items t false
+        ≡ (slice_index_or marks.old.items t false || modifies_table t line.now.telling) }
+{
+    match &line.kind {
+        LineKind::Keymaps(_) => {}
+        LineKind::Keys { .. } => {}
+        LineKind::One { table, .. } => marks[usize::from(*table)] = true,
+        LineKind::Text { .. } => {}
+        LineKind::Compose(_) => {}
+        LineKind::AltIsMeta => {}
+        LineKind::UsualStrings => {}
+        LineKind::UsualPairs => {}
+    }
+}
+
+/// The tables that are marked, in rising order.
+pub fn marked_tables(alloc: Global, marks: &[bool]) -> Result<Vec<u8>, AllocError>
+    requires { length marks.now ≡ 256 }
+    ensures { IfOk result (λ tables. tables.items
+        ≡ passing_below (λ t. slice_index_or marks.now t false) 256) }
+{
+    let mut tables = Vec::new(alloc);
+    for t in 0..TABLES {
+        if !marks[t] {
+            continue;
+        }
+        tables.push(t as u8)?;
+    }
+    Ok(tables)
+}
