@@ -4,8 +4,8 @@ use Rattle.std.proofs.Math.Seq.{set-append_seam, get_or-append_seam}
 use Rattle.std.proofs.lemmas.List.{take_more, length-take-le, length-replicate, map-append, length-map}
 use Rattle.std.proofs.lemmas.List.Elements.{All-append, All-take, All-drop, All-replicate}
 use Rattle.std.specs.List.{All}
-use Rattle.vt_grid.specs.Fill.{refilled, part_moved}
-use Rattle.vt_grid.specs.Grid.{sheet_of, IsFull, moved_up, scrolled_up}
+use Rattle.vt_grid.specs.Fill.{refilled, part_moved, part_lowered}
+use Rattle.vt_grid.specs.Grid.{sheet_of, IsFull, moved_up, moved_down, scrolled_up, scrolled_down}
 use Rattle.vt_grid.specs.declared.cell.Cell.{Cell}
 
 -- one more element of a list is mapped in its place
@@ -123,5 +123,72 @@ module _ (rows cols top bottom n : ℕ) (c : Cell) (cells : List (List Cell))
           );
           wide =
               All-append (IsWide cols) (take top cells) ((drop gone part ++ new) ++ below)
+              (All-take (IsWide cols) top cells full.wide) wide_rest;
+        }
+
+    gone-is : length (drop (height - gone) part) ≡ gone
+    gone-is = omega (arith, length-drop (height - gone) part, len-part)
+
+    lowered-is : refilled c (drop (height - gone) part) ≡ replicate gone (replicate cols c)
+    lowered-is =
+        refilled-is cols c (drop (height - gone) part)
+        (All-drop (IsWide cols) (height - gone) part wide-part)
+        ∙ ap (λ k. replicate k (replicate cols c)) gone-is
+
+    -- a scroll down, as the code does it
+    pub part_lowered-is :
+        sheet_of rows cols (part_lowered top height gone c cells)
+        ≡ scrolled_down (sheet_of rows cols cells) top bottom n c
+    part_lowered-is =
+        let as_height : height ≡ bottom + 1 - top = omega arith in
+        let below : top + height ≡ bottom + 1 = omega arith in
+        ap (λ new. sheet_of rows cols
+        (take top cells ++ ((new ++ take (height - gone) part) ++ drop (top + height) cells))) lowered-is
+        ∙ ap (λ k. sheet_of rows cols
+        (take top cells ++ ((replicate gone (replicate cols c) ++ take (k - gone) part) ++ drop (top + height) cells)))
+        (sym len-part)
+        ∙ ap (λ k. sheet_of rows cols
+        (take top cells ++ (moved_down gone (replicate cols c) part ++ drop k cells))) below
+        ∙ ap (λ h. sheet_of rows cols
+        (take top cells ++ (moved_down (min n h) (replicate cols c) (take h (drop top cells))
+        ++ drop (bottom + 1) cells))) as_height
+
+    -- and it leaves as many rows, each as long as before
+    pub part_lowered-full : IsFull (sheet_of rows cols (part_lowered top height gone c cells))
+    part_lowered-full =
+        let new : List (List Cell) = refilled c (drop (height - gone) part) in
+        let stay : List (List Cell) = take (height - gone) part in
+        let below : List (List Cell) = drop (top + height) cells in
+        let wide_new : HasWidth cols new =
+        subst (HasWidth cols) (sym lowered-is)
+        (All-replicate (IsWide cols) gone (replicate cols c) (length-replicate cols c)) in
+        let wide_moved : HasWidth cols (new ++ stay) =
+        All-append (IsWide cols) new stay wide_new
+        (All-take (IsWide cols) (height - gone) part wide-part) in
+        let wide_rest : HasWidth cols ((new ++ stay) ++ below) =
+        All-append (IsWide cols) (new ++ stay) below wide_moved
+        (All-drop (IsWide cols) (top + height) cells full.wide) in
+        let len_new : length new ≡ gone =
+        ap length lowered-is ∙ length-replicate gone (replicate cols c) in
+        let len_moved : length (new ++ stay) ≡ height =
+        omega (
+          arith,
+          length-append new stay,
+          length-take-le (height - gone) part (omega (arith, len-part)),
+          len-part,
+          len_new,
+        ) in
+        record {
+          tall = omega (
+            arith,
+            length-append (take top cells) ((new ++ stay) ++ below),
+            length-append (new ++ stay) below,
+            len_moved,
+            length-drop (top + height) cells,
+            full.tall,
+            length-take-le top cells (omega (arith, full.tall)),
+          );
+          wide =
+              All-append (IsWide cols) (take top cells) ((new ++ stay) ++ below)
               (All-take (IsWide cols) top cells full.wide) wide_rest;
         }

@@ -49,3 +49,19 @@ scrolled_up s top bottom n c =
           ++ (moved_up (min n height) (replicate s.cols c) (take height (drop top s.cells))
           ++ drop (bottom + 1) s.cells);
     }
+
+-- rows that move down by n: the last n are lost, and n fresh ones come in above
+abbrev pub moved_down : ℕ → List Cell → List (List Cell) → List (List Cell)
+moved_down n fresh rows = replicate n fresh ++ take (length rows - n) rows
+
+-- the rows top to bottom, both included, move down by n, or by their number where n is more; all
+-- other rows stay
+abbrev pub scrolled_down : Sheet → ℕ → ℕ → ℕ → Cell → Sheet
+scrolled_down s top bottom n c =
+    let height = bottom + 1 - top in
+    record s {
+      cells =
+          take top s.cells
+          ++ (moved_down (min n height) (replicate s.cols c) (take height (drop top s.cells))
+          ++ drop (bottom + 1) s.cells);
+    }

@@ -1,6 +1,6 @@
-ghost use Rattle.std.specs.Prelude.{◌≡◌, ◌<◌, ◌≤◌, ◌+◌, ◌++◌, length, take, drop, IfOk};
-ghost use Rattle.vt_grid.specs.Fill.{part_moved, refilled};
-ghost use Rattle.vt_grid.specs.Grid.{HasCellAt, IsFull, filled, scrolled_up, with_cell};
+ghost use Rattle.std.specs.Prelude.{◌≡◌, ◌<◌, ◌≤◌, ◌+◌, ◌-◌, ◌++◌, length, take, drop, IfOk};
+ghost use Rattle.vt_grid.specs.Fill.{part_lowered, part_moved, refilled};
+ghost use Rattle.vt_grid.specs.Grid.{HasCellAt, IsFull, filled, scrolled_down, scrolled_up, with_cell};
 
 use crate::Cell;
 use crate::row::Row;
@@ -77,6 +77,38 @@ impl Grid {
         let gone = usize::from(n).min(height);
         move_part(&mut self.rows, top, height, gone, c);
     }
+
+    /// Moves the rows `top` to `bottom`, both included, down by `n`, or by their number where `n`
+    /// is more. The rows that come in are filled with `c`.
+    pub fn scroll_down(&mut self, top: u8, bottom: u8, n: u16, c: Cell)
+        requires order { top ≤ bottom }
+        requires row { bottom < self.old.rows }
+        ensures { self.new ≡ scrolled_down self.old top bottom n c }
+    {
+        let top = usize::from(top);
+        let height = usize::from(bottom) - top + 1;
+        let gone = usize::from(n).min(height);
+        lower_part(&mut self.rows, top, height, gone, c);
+    }
+}
+
+// Moves the `height` rows from `top` on down by `gone`.
+fn lower_part(rows: &mut [Row], top: usize, height: usize, gone: usize, c: Cell)
+    requires part { top + height ≤ length rows.old }
+    requires some { gone ≤ height }
+    ensures { rows.new ≡ part_lowered top height gone c rows.old }
+{
+    move_down(&mut rows[top..top + height], gone, c);
+}
+
+// Moves the rows down by `gone`: those that leave come in above, filled with `c`.
+fn move_down(rows: &mut [Row], gone: usize, c: Cell)
+    requires { gone ≤ length rows.old }
+    ensures { rows.new ≡ refilled c (drop (length rows.old - gone) rows.old)
+        ++ take (length rows.old - gone) rows.old }
+{
+    rows.rotate_right(gone);
+    fill(&mut rows[..gone], c);
 }
 
 // Moves the `height` rows from `top` on up by `gone`.

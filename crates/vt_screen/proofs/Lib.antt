@@ -1,1 +1,5 @@
 mod Cuts
+mod Feeds
+mod Printed
+mod Start
+mod Tapes

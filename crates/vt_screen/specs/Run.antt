@@ -1,28 +1,80 @@
--- What bytes make of a screen, and the laws of it.
-use Rattle.std.specs.Prelude.{◌≡◌, ℕ, ◌++◌, List}
-use Rattle.vt_screen.specs.Effect.{effects}
-use Rattle.vt_screen.specs.Screen.{Screen}
-use Rattle.vt_screen.specs.Units.{TextUnit, IsCutInto}
+-- What bytes make of a screen, and the laws of it. Bytes are cut into units (`vt_units`), and the
+-- units have their effects in order.
+use Rattle.std.specs.Prelude.{◌≡◌, ℕ, ◌++◌, List, [], ◌∷◌, Option, Some, None}
+use Rattle.vt_screen.specs.Effect.{Done, control, effect}
+use Rattle.vt_screen.specs.Screen.{Screen, mode_of, start_screen}
+use Rattle.vt_screen.specs.declared.out.Out.{Out}
+use Rattle.vt_units.specs.Pieces.{HasEffect, controls_of, text_of}
+use Rattle.vt_units.specs.Reading.{reading}
+use Rattle.vt_units.specs.Rest.{fresh, start_mode}
+use Rattle.vt_units.specs.Run.{Effects, Reached, reached, run}
+use Rattle.vt_units.specs.Units.{IsUnfinished}
 
--- run: the bytes are cut into units, and the screen after them has the effects of these units, in
--- order
-pub record Runs (before : Screen) (bytes : List ℕ) (after : Screen) : Type 0 where
-  pub units : List TextUnit
-  pub cut : IsCutInto bytes units
-  pub done : after ≡ effects units before
+-- the screen, and all that was said, in order
+pub record Told : Type 0 where
+  pub screen : Screen
+  pub outs : List Out
 
--- one result: the same bytes make the same of a screen
-abbrev pub OneResult : Type 0
-OneResult = (s : Screen) (bytes : List ℕ) (a b : Screen) → Runs s bytes a → Runs s bytes b → a ≡ b
+abbrev pub listed : Option Out → List Out
+listed None = []
+listed (Some out) = out ∷ []
 
--- any cut: bytes run in two parts, wherever they are cut, are run as a whole
-abbrev pub AnyCutJoins : Type 0
-AnyCutJoins =
-    (s middle after : Screen) (a b : List ℕ) → Runs s a middle → Runs middle b after
-    → Runs s (a ++ b) after
+-- something is done to the screen; what it says comes last
+abbrev pub told : (Screen → Done) → Told → Told
+told f t =
+    let done = f t.screen in
+    record { screen = done.screen; outs = t.outs ++ listed done.said }
 
--- any cut: bytes run as a whole are run in two parts, wherever they are cut
-abbrev pub AnyCutParts : Type 0
-AnyCutParts =
-    (s after : Screen) (a b : List ℕ) → Runs s (a ++ b) after
-    → (middle : Screen) × Runs s a middle × Runs middle b after
+-- what control characters and units do: the effect table
+abbrev pub drawing : Effects Told
+drawing = record {
+  mode_of = λ t. mode_of t.screen;
+  on_control = λ code. told (control code);
+  on_unit = λ unit. told (effect unit);
+}
+
+-- a screen with the rest of its text, and what it said so far
+abbrev pub having_said : List Out → Reached Screen → Reached Told
+having_said outs m = reached (record { screen = m.state; outs = outs }) m.rest
+
+-- run: what the bytes make of a screen and the rest of its text
+abbrev pub ran : Reached Screen → List ℕ → Reached Told
+ran m bytes = run drawing bytes (having_said [] m)
+
+-- the screen and the rest after the bytes
+abbrev pub after : Reached Screen → List ℕ → Reached Screen
+after m bytes =
+    let end = ran m bytes in
+    reached end.state.screen end.rest
+
+-- what the bytes say, in order
+abbrev pub said : Reached Screen → List ℕ → List Out
+said m bytes = (ran m bytes).state.outs
+
+-- the start: the start screen, and no text
+abbrev pub start : ℕ → ℕ → Reached Screen
+start rows cols = reached (start_screen rows cols) (fresh start_mode)
+
+-- any cut: bytes run as a whole are run in two parts, wherever they are cut, and say what these say
+abbrev pub AnyCut : Type 0
+AnyCut =
+    (m : Reached Screen) (a b : List ℕ)
+    → (after m (a ++ b) ≡ after (after m a) b) × (said m (a ++ b) ≡ said m a ++ said (after m a) b)
+
+-- the bytes of a piece have the effects of the control characters in it, in order, and then that of
+-- its unit
+abbrev pub PiecesAct : Type 0
+PiecesAct =
+    (m : Reached Screen) (bytes : List ℕ) → m.rest.text ≡ []
+    → let mode = mode_of m.state in
+    HasEffect drawing (reading mode (text_of mode [] bytes)) (controls_of mode [] bytes) (ran m bytes)
+    (record { screen = m.state; outs = [] })
+
+-- the same of a piece whose first bytes are in the rest
+abbrev pub PiecesResume : Type 0
+PiecesResume =
+    (m : Reached Screen) (bytes : List ℕ) → IsUnfinished m.rest.mode m.rest.text
+    → let mode = m.rest.mode in
+    let text = m.rest.text in
+    HasEffect drawing (reading mode (text_of mode text bytes)) (controls_of mode text bytes) (ran m bytes)
+    (record { screen = m.state; outs = [] })

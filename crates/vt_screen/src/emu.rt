@@ -1,13 +1,15 @@
-ghost use Rattle.std.specs.Prelude.{◌≡◌, ◌-◌, ◌≤◌, [], length, All, IsTrue};
-ghost use Rattle.vt_screen.specs.Byte.{unit_of};
-ghost use Rattle.vt_screen.specs.Effect.{at_column, control_effect, effect, linefeed, print, put_here};
-ghost use Rattle.vt_screen.specs.Run.{Runs};
-ghost use Rattle.vt_screen.specs.Screen.{IsWhole, start_screen, state_of};
-ghost use Rattle.vt_screen.specs.Units.{is_built, is_printable};
+ghost use Rattle.std.specs.Prelude.{◌≡◌, ◌<◌, ◌≤◌, ◌+◌, [], List, length, take};
+ghost use Rattle.vt_screen.specs.Run.{after, drawing, having_said, said, start};
+ghost use Rattle.vt_screen.specs.Screen.{IsWhole, state_of};
+ghost use Rattle.vt_screen.specs.Tape.{user_map, with_mark};
+ghost use Rattle.vt_screen.specs.declared.out.Out.{Out};
+ghost use Rattle.vt_units.specs.Run.{run, step};
 
+use crate::canvas::Canvas;
 use crate::{Outs, ScreenState};
 use std::marker::Model;
 use vt_grid::{Cell, Grid};
+use vt_units::{Pending, Then, printables_are_characters};
 
 /// What an empty place holds: a space, white on black. This project's own.
 pub const BLANK: Cell = Cell {
@@ -18,153 +20,122 @@ pub const BLANK: Cell = Cell {
 /// The most bytes that one call of [`Emu::feed`] takes.
 pub const FEED_BYTES: usize = 64;
 
-/// A screen and the machine that writes on it.
+/// A screen and the machine that writes on it. Contracts see the screen, and the rest of its text
+/// that isn't a whole unit yet.
 #[derive(Debug, Drop)]
 pub struct Emu {
-    grid: Grid,
-    state: ScreenState,
+    canvas: Canvas,
+    pending: Pending,
 }
 
 impl Model for Emu {
-    ghost use Rattle.vt_screen.specs.Screen.{IsWhole, Screen, screen_of};
+    ghost use Rattle.vt_screen.specs.Screen.{Screen};
+    ghost use Rattle.vt_units.specs.Run.{Reached, reached};
 
-    ghost Value = { Screen };
+    ghost Value = { Reached Screen };
 
-    ghost view = { λ e. screen_of e.grid e.state };
-
-    ghost invariant = { λ e. IsWhole (screen_of e.grid e.state) };
+    ghost view = { λ e. reached e.canvas e.pending };
 }
 
 impl Emu {
-    /// The start screen of this grid's size: all blank, whatever the grid has, the cursor at home.
+    /// The start screen of this grid's size: all blank, whatever the grid has, the cursor at home,
+    /// and no text pending.
     pub fn new(grid: Grid) -> Emu
-        ensures { result ≡ start_screen grid.rows grid.cols }
+        ensures { result ≡ start grid.rows grid.cols }
     {
-        let mut grid = grid;
-        let size = grid.size();
-        grid.scroll_up(0, size.rows - 1, u16::from(size.rows), BLANK);
-        let state = ScreenState {
-            x: 0,
-            y: 0,
-            wrap: false,
-        };
-        Emu { grid, state }
+        Emu {
+            canvas: Canvas::new(grid),
+            pending: Pending::new(),
+        }
     }
 
-    /// Runs the bytes on the screen, in order. What they say beside it is added to `outs`; no byte
-    /// that is built says anything yet.
+    /// Runs the bytes on the screen, in order. What they say beside it is then in `outs`, in order:
+    /// a byte says at most one thing.
     pub fn feed(&mut self, b: &[u8], outs: &mut Outs)
         requires short { length b.now ≤ 64 }
         requires empty { outs.old ≡ [] }
-        requires built { All (λ byte. IsTrue (is_built byte)) b.now }
-        ensures screen { Runs self.old b.now self.new }
-        ensures outs { outs.new ≡ [] }
+        ensures screen { self.new ≡ after self.old b.now }
+        ensures outs { outs.new ≡ said self.old b.now }
+        ensures few { length outs.new ≤ length b.now }
     {
-        let _ = outs;
+        let mut at = 0;
+        while at < b.len() {
+            let count = self.print_run(&b[at..]);
+            at += count;
+            if count == 0 {
+                self.take(b[at], outs);
+                at += 1;
+            }
+        }
+    }
+
+    /// Does what [`Emu::feed`] does in the plainest way, byte by byte: to compare with.
+    pub fn feed_plainly(&mut self, b: &[u8], outs: &mut Outs)
+        requires short { length b.now ≤ 64 }
+        requires empty { outs.old ≡ [] }
+        ensures screen { self.new ≡ after self.old b.now }
+        ensures outs { outs.new ≡ said self.old b.now }
+        ensures few { length outs.new ≤ length b.now }
+    {
         for byte in b {
-            self.take(*byte);
+            self.take(*byte, outs);
         }
     }
 
     /// The cells of the screen.
     pub fn grid(&self) -> &Grid
-        ensures cells { result.now ≡ self.now.sheet }
-        ensures whole { IsWhole self.now }
+        ensures cells { result.now ≡ self.now.state.sheet }
+        ensures whole { IsWhole self.now.state }
     {
-        &self.grid
+        self.canvas.grid()
     }
 
     /// The state of the screen beside its cells.
     pub fn state(&self) -> &ScreenState
-        ensures { result.now ≡ state_of self.now }
+        ensures state { result.now ≡ state_of self.now.state }
+        ensures whole { IsWhole self.now.state }
     {
-        &self.state
+        self.canvas.state()
     }
 
-    // The effect of the unit that the byte spells.
-    fn take(&mut self, byte: u8)
-        ensures { self.new ≡ effect (unit_of byte) self.old }
+    /// Replaces the user's table: a code point for each byte. The text that is pending stays.
+    pub fn set_user(&mut self, words: &[u16; 256])
+        ensures { self.new ≡ with_mark (user_map words.now) self.old }
     {
-        if is_printable(byte) {
-            self.print(u32::from(byte));
-        } else {
-            self.control(byte);
+        self.canvas.set_user(words);
+    }
+
+    // Reads a byte. What it comes to has its effect.
+    fn take(&mut self, byte: u8, outs: &mut Outs)
+        requires room { length outs.old < 64 }
+        ensures step { having_said outs.new self.new ≡ step drawing byte (having_said outs.old self.old) }
+        ensures room { length outs.new ≤ length outs.old + 1 }
+    {
+        let read = self.pending.take(self.canvas.mode(), byte);
+        if read.bad {
+            self.canvas.print(0xFFFD);
         }
-    }
-
-    fn control(&mut self, code: u8)
-        ensures { self.new ≡ control_effect code self.old }
-    {
-        match code {
-            0x08 => self.backspace(),
-            0x0A => self.linefeed(),
-            0x0D => self.carriage_return(),
-            _ => {}
-        }
-    }
-
-    fn backspace(&mut self)
-        ensures { self.new ≡ at_column (self.old.x - 1) self.old }
-    {
-        self.state.x = self.state.x.saturating_sub(1);
-        self.state.wrap = false;
-    }
-
-    fn carriage_return(&mut self)
-        ensures { self.new ≡ at_column 0 self.old }
-    {
-        self.state.x = 0;
-        self.state.wrap = false;
-    }
-
-    fn linefeed(&mut self)
-        ensures { self.new ≡ linefeed self.old }
-    {
-        let last = self.grid.size().rows - 1;
-        self.state.wrap = false;
-        if self.state.y < last {
-            self.state.y += 1;
-        } else {
-            self.grid.scroll_up(0, last, 1, BLANK);
-        }
-    }
-
-    fn print(&mut self, code: u32)
-        ensures { self.new ≡ print code self.old }
-    {
-        if self.state.wrap {
-            self.carriage_return();
-            self.linefeed();
-        }
-        self.put(code);
-    }
-
-    // Puts the character at the cursor, and moves the cursor on.
-    fn put(&mut self, code: u32)
-        ensures { self.new ≡ put_here code self.old }
-    {
-        let last = self.grid.size().cols - 1;
-        let cell = Cell {
-            code,
-            attr: BLANK.attr,
+        let said = match read.got {
+            Then::Unit(unit) => self.canvas.obey(&unit),
+            Then::Act(code) => self.canvas.control(code),
+            Then::More | Then::Dropped => None,
         };
-        self.grid.put(self.state.y, self.state.x, cell);
-        self.state.wrap = self.state.x == last;
-        if !self.state.wrap {
-            self.state.x += 1;
+        if let Some(out) = said {
+            outs.push(out);
         }
     }
-}
 
-/// Whether the machine reads this byte: a printable character of ASCII, BS, LF or CR.
-pub fn is_built(byte: u8) -> bool
-    ensures { result ≡ is_built byte }
-{
-    is_printable(byte) || matches!(byte, 0x08 | 0x0A | 0x0D)
-}
-
-fn is_printable(byte: u8) -> bool
-    ensures { result ≡ is_printable byte }
-{
-    (0x20..=0x7E).contains(&byte)
+    // Prints the printable bytes at the front of the text, and tells how many they are.
+    fn print_run(&mut self, b: &[u8]) -> usize
+        ensures within { result ≤ length b.now }
+        ensures run { (outs : List Out) → run drawing (take result b.now) (having_said outs self.old)
+            ≡ having_said outs self.new }
+    {
+        printables_are_characters();
+        let count = self.pending.take_printable(self.canvas.mode(), b);
+        for byte in &b[..count] {
+            self.canvas.print(u32::from(*byte));
+        }
+        count
+    }
 }

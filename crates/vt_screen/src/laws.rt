@@ -1,21 +1,25 @@
 //! The laws of a run, which hold of every screen and every text.
-ghost use Rattle.vt_screen.specs.Run.{AnyCutJoins, AnyCutParts, OneResult};
-ghost use Rattle.vt_screen.specs.Value.{OnlyRun, RunJoins, BuiltRuns};
+ghost use Rattle.vt_screen.specs.Run.{AnyCut, PiecesAct, PiecesResume};
+ghost use Rattle.vt_screen.specs.Tape.{AnyTapeCut, StretchesRun};
 
-/// The bytes alone decide what a run makes of a screen.
-pub fn one_result()
-    ensures { OneResult }
-{}
+use vt_chars::unfinished_begins;
 
 /// However a text is cut into parts, running the parts in turn is running the whole.
 pub fn any_cut()
-    ensures joins { AnyCutJoins }
-    ensures parts { AnyCutParts }
+    ensures { AnyCut }
 {}
 
-/// The run as a value is the run.
-pub fn run_is_a_run()
-    ensures runs { BuiltRuns }
-    ensures only { OnlyRun }
-    ensures joins { RunJoins }
+/// The bytes of a piece, wherever they are cut, have the effects of the control characters in it,
+/// and then that of its unit.
+pub fn pieces_draw()
+    ensures fresh { PiecesAct }
+    ensures resumed { PiecesResume }
+{
+    unfinished_begins();
+}
+
+/// The bytes of a tape are run as bytes, and no cut of a tape matters.
+pub fn tapes_run()
+    ensures stretches { StretchesRun }
+    ensures cuts { AnyTapeCut }
 {}

@@ -1,4 +1,4 @@
-ghost use Rattle.std.specs.Prelude.{◌≡◌, ◌<◌, [], ◌∷◌, ◌++◌, length};
+ghost use Rattle.std.specs.Prelude.{◌≡◌, ◌<◌, ◌≤◌, [], ◌∷◌, ◌++◌, length};
 
 use crate::Out;
 use arrayvec::ArrayVec;
@@ -39,7 +39,8 @@ impl Outs {
 
     /// What was said, in order.
     pub fn as_slice(&self) -> &[Out]
-        ensures { result.now ≡ self.now }
+        ensures items { result.now ≡ self.now }
+        ensures bound { length self.now ≤ 64 }
     {
         self.items.as_slice()
     }

@@ -41,7 +41,7 @@ pub fn drops_exactly()
     ensures { DropsExactly }
 {}
 
-/// What [`crate::Pending::printable`] counts may be shown at once.
+/// What [`crate::Pending::take_printable`] reads are characters, one a byte.
 pub fn printables_are_characters()
     ensures { PrintablesAreCharacters }
 {}

@@ -66,19 +66,24 @@ impl Pending {
         }
     }
 
-    /// How many of the first bytes are printable characters of ASCII, where each is one by itself:
-    /// no text is pending, and the mode decodes UTF-8.
-    pub fn printable(&self, mode: Mode, b: &[u8]) -> usize
-        ensures count { result ≡ (if is_empty self.now.text && decodes mode
+    /// Reads the printable characters of ASCII at the front of the text, where each is one by
+    /// itself, and tells how many they are: none unless no text is pending and the mode decodes
+    /// UTF-8. It answers for them at once what [`Pending::take`] answers one by one.
+    pub fn take_printable(&mut self, mode: Mode, b: &[u8]) -> usize
+        ensures count { result ≡ (if is_empty self.old.text && decodes mode
             then prefix_len is_printable b.now
             else 0) }
         ensures bound { result ≤ length b.now }
+        ensures rest { self.new ≡ (if result == 0 then self.old else fresh mode) }
     {
-        if self.is_empty() && decodes(mode) {
-            printable_prefix(b)
-        } else {
-            0
+        if !self.is_empty() || !decodes(mode) {
+            return 0;
         }
+        let count = printable_prefix(b);
+        if count > 0 {
+            self.restart(mode);
+        }
+        count
     }
 
     fn is_empty(&self) -> bool

@@ -319,14 +319,16 @@ fn ends_long_texts(rt: HostRuntime) {
 }
 
 #[test]
-fn counts_printables(rt: HostRuntime) {
+fn takes_printables(rt: HostRuntime) {
     let mut pending = Pending::default();
-    assert_eq!(rt; pending.printable(UTF8, b"ab ~\x1Bc"), 4);
+    assert_eq!(rt; pending.take_printable(UTF8, b"ab ~\x1Bc"), 4);
     assert_eq!(rt;
-        pending.printable(BYTES, b"ab"),
+        pending.take_printable(BYTES, b"ab"),
         0,
         "bytes have their tables"
     );
     let _ = pending.take(UTF8, 0x1B);
-    assert_eq!(rt; pending.printable(UTF8, b"ab"), 0, "behind ESC");
+    assert_eq!(rt; pending.take_printable(UTF8, b"ab"), 0, "behind ESC");
+    assert!(rt; matches!(&pending.take(UTF8, b'c').got, Then::Unit(_)), "ESC c");
+    assert_eq!(rt; pending.take_printable(UTF8, b"ab\n"), 2, "behind the sequence");
 }

@@ -1,13 +1,36 @@
-use Rattle.std.proofs.Common.{◌+◌, sym, subst, take}
-use Rattle.vt_screen.proofs.Cuts.{run-more}
-use Rattle.vt_screen.specs.Run.{Runs}
-use Rattle.vt_screen.specs.Screen.{Screen}
+use Rattle.std.proofs.Common.{ℕ, ◌+◌, List, ◌∙◌, arith}
+use Rattle.vt_screen.proofs.Feeds.{run-on, run-byte}
+use Rattle.vt_screen.specs.Run.{having_said}
 use Rattle.vt_screen.proofs.emu.Emu.feed.Goals as goal
 
-pub loop-byte-preserved : goal.loop-byte-preserved
-loop-byte-preserved c =
-    subst (λ (s : Screen). Runs c.args.self.now (take (c.loop-byte.byte-index + 1) c.args.b.now) s)
-    (sym c.take.ensures)
-    (run-more c.args.self.now c.loop-byte.self c.args.b.now c.loop-byte.byte-index
-    c.loop-byte-test.true (c.requires.built c.loop-byte.byte-index 0 c.loop-byte-test.true)
-    c.loop-byte.invariant)
+pub loop-at-preserved-then-count-eq0 : goal.loop-at-preserved-then-count-eq0
+loop-at-preserved-then-count-eq0 c =
+    let text : List ℕ = c.args.b.now in
+    let at : ℕ = c.loop-at.at in
+    let n : ℕ = c.print_run-count.result in
+    let outs = c.loop-at.outs in
+    record {
+      within = omega (arith, c.if-count-eq0.true);
+      outs = omega (arith, c.take.ensures.room, c.loop-at.invariant.outs);
+      run =
+          run-byte text (at + n) (having_said outs c.print_run-count.new.self)
+          (having_said c.take.new.outs c.take.new.self) (omega (arith, c.if-count-eq0.true)) c.take.ensures.step
+          ∙ run-on text at n (having_said outs c.loop-at.self) (having_said outs c.print_run-count.new.self)
+          (c.print_run-count.ensures.run outs)
+          ∙ c.loop-at.invariant.run;
+    }
+
+pub loop-at-preserved : goal.loop-at-preserved
+loop-at-preserved c =
+    let text : List ℕ = c.args.b.now in
+    let at : ℕ = c.loop-at.at in
+    let n : ℕ = c.print_run-count.result in
+    let outs = c.loop-at.outs in
+    record {
+      within = omega arith;
+      outs = omega arith;
+      run =
+          run-on text at n (having_said outs c.loop-at.self) (having_said outs c.print_run-count.new.self)
+          (c.print_run-count.ensures.run outs)
+          ∙ c.loop-at.invariant.run;
+    }

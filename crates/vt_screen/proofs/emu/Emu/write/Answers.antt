@@ -1,7 +1,8 @@
 use Rattle.std.proofs.Common.{ℕ, ◌≡◌, ◌+◌, ◌-◌, ◌++◌, List, take, drop, sym, ap, ◌∙◌, arith}
 use Rattle.std.proofs.Math.Seq.{take-add}
+use Rattle.vt_screen.specs.Run.{after}
 use Rattle.vt_screen.specs.Screen.{Screen}
-use Rattle.vt_screen.specs.Value.{run}
+use Rattle.vt_units.specs.Run.{Reached}
 use Rattle.vt_screen.proofs.emu.Emu.write.Goals as goal
 
 pub loop-at-preserved : goal.loop-at-preserved
@@ -9,7 +10,7 @@ loop-at-preserved c =
     let at : ℕ = c.loop-at.at in
     let end : ℕ = c.min-end.result in
     let text : List ℕ = c.args.b.now in
-    let start : Screen = c.args.self.now in
+    let start : Reached Screen = c.args.self.now in
     let piece : List ℕ = take (end - at) (drop at text) in
     let count : at + (end - at) ≡ end = omega arith in
     let fed : take end text ≡ take at text ++ piece =
@@ -17,9 +18,8 @@ loop-at-preserved c =
     record {
       within = omega arith;
       done =
-          c.run_is_a_run.ensures.only c.loop-at.self c.feed.new.self piece c.feed.ensures.screen
-          ∙ ap (λ (s : Screen). run s piece) c.loop-at.invariant.done
-          ∙ sym (c.run_is_a_run.ensures.joins start (take at text) piece)
-          ∙ ap (run start) (sym fed);
-      quiet = c.feed.ensures.outs;
+          c.feed.ensures.screen
+          ∙ ap (λ (m : Reached Screen). after m piece) c.loop-at.invariant.done
+          ∙ sym (c.any_cut.ensures start (take at text) piece).0
+          ∙ ap (after start) (sym fed);
     }

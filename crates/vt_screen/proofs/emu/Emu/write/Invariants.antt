@@ -1,12 +1,11 @@
-use Rattle.std.proofs.Common.{◌≡◌, ◌≤◌, ◌-◌, [], length, take}
-use Rattle.vt_screen.specs.Value.{run}
+use Rattle.std.proofs.Common.{◌≡◌, ◌≤◌, ◌-◌, length, take}
+use Rattle.vt_screen.specs.Run.{after}
 use Rattle.vt_screen.proofs.emu.Emu.write.Given as goal
 
 abbrev pub invariant-loop-at : goal.invariant-loop-at
 invariant-loop-at l = record {
   within : l.at ≤ length l.b;
-  done : l.self ≡ run l.fn.self (take l.at l.b);
-  quiet : l.outs ≡ [];
+  done : l.self ≡ after l.fn.self (take l.at l.b);
 }
 
 abbrev pub decreases-loop-at : goal.decreases-loop-at

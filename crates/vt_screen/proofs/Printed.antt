@@ -1,0 +1,137 @@
+-- Printable bytes, one after another.
+use Rattle.std.proofs.Common.{◌≡◌, ◌==◌, ◌&&◌, ◌≤◌, arith, length, zero, ℕ, Bool, true, false, suc, ◌+◌, List, [], ◌∷◌, ◌++◌, take, refl, sym, ap, subst, ◌∙◌, cond, nat_lt, if◌then◌else◌}
+use Rattle.std.proofs.lemmas.Bool.{and_parts, cond-true, cond-false}
+use Rattle.std.proofs.lemmas.Bool.Decides.{nat_tests}
+use Rattle.std.proofs.lemmas.List.{append-nil}
+use Rattle.std.specs.List.{prefix_len}
+use Rattle.vt_screen.specs.Effect.{at_column, effect, linefeed, print}
+use Rattle.vt_screen.specs.Run.{Told, drawing, having_said, told}
+use Rattle.vt_screen.specs.Screen.{Screen, mode_of}
+use Rattle.vt_screen.specs.declared.out.Out.{Out}
+use Rattle.vt_units.specs.Answer.{answer, rest_after}
+use Rattle.vt_units.specs.Bytes.{decodes, is_printable}
+use Rattle.vt_units.specs.Laws.{PrintablesAreCharacters}
+use Rattle.vt_units.specs.Reading.{is_empty}
+use Rattle.vt_units.specs.Rest.{Rest, fresh}
+use Rattle.vt_units.specs.Run.{effects_of, reached, run}
+use Rattle.vt_units.specs.declared.mode.Mode.{Mode}
+use Rattle.vt_units.specs.declared.read.Read.{Read}
+use Rattle.vt_units.specs.declared.unit.Unit as units
+
+abbrev pub printed : List ℕ → Screen → Screen
+printed [] s = s
+printed (b ∷ bytes) s = printed bytes (print b s)
+
+-- and one more
+pub printed-more : (bytes : List ℕ) (s : Screen) (b : ℕ)
+    → printed (bytes ++ b ∷ []) s ≡ print b (printed bytes s)
+printed-more [] s b = refl
+printed-more (x ∷ bytes) s b = printed-more bytes (print x s) b
+
+either-mode : (test : Bool) (s t : Screen) (m : Mode) → mode_of s ≡ m → mode_of t ≡ m
+    → mode_of (cond test s t) ≡ m
+either-mode true s t m first second = first
+either-mode false s t m first second = second
+
+-- a print leaves the mode
+print-mode : (code : ℕ) (s : Screen) → mode_of (print code s) ≡ mode_of s
+print-mode code s =
+    let first : Screen = at_column 0 s in
+    let line : mode_of (linefeed first) ≡ mode_of s =
+    either-mode (nat_lt (first.y + 1) first.sheet.rows) _ _ (mode_of s) refl refl in
+    either-mode s.wrap (linefeed first) s (mode_of s) line refl
+
+-- each byte is printable
+abbrev AllPrintable : List ℕ → Type 0
+AllPrintable [] = Unit {0}
+AllPrintable (b ∷ bytes) = (is_printable b ≡ true) × AllPrintable bytes
+
+-- the rest behind printable bytes
+abbrev pub rest_behind : List ℕ → Mode → Rest → Rest
+rest_behind [] m old = old
+rest_behind (b ∷ bytes) m old = fresh m
+
+fresh-behind : (bytes : List ℕ) (m : Mode) → rest_behind bytes m (fresh m) ≡ fresh m
+fresh-behind [] m = refl
+fresh-behind (b ∷ bytes) m = refl
+
+pub printables-run : PrintablesAreCharacters → (bytes : List ℕ) (outs : List Out) (s : Screen) (rest : Rest)
+    → AllPrintable bytes → rest.text ≡ [] → decodes (mode_of s) ≡ true
+    → run drawing bytes (having_said outs (reached s rest))
+    ≡ having_said outs (reached (printed bytes s) (rest_behind bytes (mode_of s) rest))
+printables-run law [] outs s rest all nothing decoding = refl
+printables-run law (b ∷ bytes) outs s rest all nothing decoding =
+    let m : Mode = mode_of s in
+    let one = law rest m b nothing decoding all.0 in
+    let start : Told = record { screen = s; outs = outs } in
+    let quiet : told (effect (units.Unit.Char b)) start ≡ record { screen = print b s; outs = outs } =
+    ap (λ (o : List Out). record { screen = print b s; outs = o }) (append-nil outs) in
+    let same : mode_of (print b s) ≡ m = print-mode b s in
+    let rests : rest_behind bytes (mode_of (print b s)) (fresh m) ≡ fresh m =
+    ap (λ (n : Mode). rest_behind bytes n (fresh m)) same ∙ fresh-behind bytes m in
+    let first : reached (effects_of drawing (answer rest m b) start) (rest_after rest m b)
+    ≡ having_said outs (reached (print b s) (fresh m)) =
+    ap (λ (r : Read). reached (effects_of drawing r start) (rest_after rest m b)) one.0
+    ∙ (λ i. reached (quiet i) (one.1 i)) in
+    ap (run drawing bytes) first
+    ∙ printables-run law bytes outs (print b s) (fresh m) all.1 refl (ap decodes same ∙ decoding)
+    ∙ ap (λ (r : Rest). having_said outs (reached (printed bytes (print b s)) r)) rests
+
+pub prefix-printable : (bytes : List ℕ) → AllPrintable (take (prefix_len is_printable bytes) bytes)
+prefix-printable [] = tt
+prefix-printable (b ∷ bytes) = by (is_printable b) refl (prefix-printable bytes)
+  where
+    by : (test : Bool) → is_printable b ≡ test → AllPrintable (take (prefix_len is_printable bytes) bytes)
+        → AllPrintable (take (prefix_len is_printable (b ∷ bytes)) (b ∷ bytes))
+    by true is others =
+        let all : ℕ = suc (prefix_len is_printable bytes) in
+        let len : prefix_len is_printable (b ∷ bytes) ≡ all =
+        cond-true (is_printable b) (1 + prefix_len is_printable bytes) 0 is
+        ∙ (let e : 1 + prefix_len is_printable bytes ≡ all = omega arith in e) in
+        let holds : AllPrintable (take all (b ∷ bytes)) = (is, others) in
+        subst (λ (n : ℕ). AllPrintable (take n (b ∷ bytes))) (sym len) holds
+    by false is others =
+        let none : prefix_len is_printable (b ∷ bytes) ≡ 0 =
+        cond-false (is_printable b) (1 + prefix_len is_printable bytes) 0 is in
+        subst (λ (n : ℕ). AllPrintable (take n (b ∷ bytes))) (sym none) tt
+
+rest-is : (count : ℕ) (text : List ℕ) (m : Mode) (old : Rest) → count ≤ length text
+    → rest_behind (take count text) m old ≡ (if count == 0 then old else fresh m)
+rest-is zero text m old within = refl
+rest-is (suc n) [] m old within = absurd (omega (arith, within))
+rest-is (suc n) (b ∷ text) m old within =
+    let some : (suc n == 0) ≡ false = grind (arith, nat_tests) in
+    sym (cond-false (suc n == 0) old (fresh m) some)
+
+empty-is : (text : List ℕ) → is_empty text ≡ true → text ≡ []
+empty-is [] is = refl
+empty-is (b ∷ text) is = absurd (let e : ⊥ = cc in e)
+
+-- the printable bytes at the front of a text, as they are taken
+pub front-runs : PrintablesAreCharacters → (text : List ℕ) (count : ℕ) (outs : List Out) (s : Screen) (rest new : Rest)
+    (m : Mode) → m ≡ mode_of s
+    → count ≡ (if is_empty rest.text && decodes m then prefix_len is_printable text else 0)
+    → count ≤ length text → new ≡ (if count == 0 then rest else fresh m)
+    → run drawing (take count text) (having_said outs (reached s rest))
+    ≡ having_said outs (reached (printed (take count text) s) new)
+front-runs law text count outs s rest new m mode is within left = by (is_empty rest.text && decodes m) refl
+  where
+    by : (test : Bool) → (is_empty rest.text && decodes m) ≡ test
+        → run drawing (take count text) (having_said outs (reached s rest))
+        ≡ having_said outs (reached (printed (take count text) s) new)
+    by true both =
+        let parts = and_parts (is_empty rest.text) (decodes m) both in
+        let len : count ≡ prefix_len is_printable text = is ∙ cond-true _ _ _ both in
+        let all : AllPrintable (take count text) =
+        subst (λ (n : ℕ). AllPrintable (take n text)) (sym len) (prefix-printable text) in
+        printables-run law (take count text) outs s rest all (empty-is rest.text parts.0)
+        (ap decodes (sym mode) ∙ parts.1)
+        ∙ ap (λ (r : Rest). having_said outs (reached (printed (take count text) s) r))
+        (ap (λ (n : Mode). rest_behind (take count text) n rest) (sym mode)
+        ∙ rest-is count text m rest within ∙ sym left)
+    by false other =
+        let none : count ≡ 0 = is ∙ cond-false _ _ _ other in
+        let stays : new ≡ rest = left ∙ ap (λ (n : ℕ). if n == 0 then rest else fresh m) none in
+        let nothing : take count text ≡ [] = ap (λ (n : ℕ). take n text) none in
+        ap (λ (bytes : List ℕ). run drawing bytes (having_said outs (reached s rest))) nothing
+        ∙ (λ i. having_said outs (reached (printed (sym nothing i) s) (sym stays i)))

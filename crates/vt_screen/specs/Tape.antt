@@ -1,0 +1,40 @@
+-- What a screen is made of in all its life: bytes, and marks between them.
+use Rattle.std.specs.Prelude.{◌≡◌, ℕ, ◌++◌, List, [], ◌∷◌, map}
+use Rattle.vt_screen.specs.Run.{Told, drawing, having_said, ran}
+use Rattle.vt_screen.specs.Screen.{Screen}
+use Rattle.vt_units.specs.Run.{Reached, reached, step}
+
+-- a change of the screen by a call: the user's table is set
+pub data Mark : Type 0 where
+  user_map : List ℕ → Mark
+
+-- a tape holds bytes and marks
+pub data Taped : Type 0 where
+  byte : ℕ → Taped
+  mark : Mark → Taped
+
+-- the screen that a mark makes
+abbrev pub marked : Mark → Screen → Screen
+marked (user_map words) s = record s { user = words }
+
+-- a mark acts on the screen, and leaves the rest of the text
+abbrev pub with_mark : Mark → Reached Screen → Reached Screen
+with_mark m at = reached (marked m at.state) at.rest
+
+-- what an item of a tape does
+abbrev pub played : Taped → Reached Told → Reached Told
+played (byte b) at = step drawing b at
+played (mark m) at = reached (record at.state { screen = marked m at.state.screen }) at.rest
+
+-- run over a tape: its items in order
+abbrev pub run_tape : List Taped → Reached Told → Reached Told
+run_tape [] at = at
+run_tape (item ∷ items) at = run_tape items (played item at)
+
+-- a stretch of bytes on a tape is the run of the bytes
+abbrev pub StretchesRun : Type 0
+StretchesRun = (m : Reached Screen) (bytes : List ℕ) → run_tape (map byte bytes) (having_said [] m) ≡ ran m bytes
+
+-- a tape cut in two is run in two parts
+abbrev pub AnyTapeCut : Type 0
+AnyTapeCut = (a b : List Taped) (at : Reached Told) → run_tape (a ++ b) at ≡ run_tape b (run_tape a at)

@@ -1,0 +1,63 @@
+ghost use Rattle.std.specs.Prelude.{◌≡◌, ◌<◌};
+ghost use Rattle.vt_screen.specs.Effect.{print, put_here, shown, table_of, toggled};
+
+use super::Canvas;
+use crate::BLANK;
+use vt_grid::Cell;
+
+impl Canvas {
+    /// Prints a character, by its code point.
+    pub fn print(&mut self, code: u32)
+        ensures { self.new ≡ print code self.old }
+    {
+        if self.state.wrap {
+            self.carriage_return();
+            self.linefeed();
+        }
+        self.put(code);
+    }
+
+    // Puts the character at the cursor, and moves the cursor on.
+    fn put(&mut self, code: u32)
+        ensures { self.new ≡ put_here code self.old }
+    {
+        let last = self.grid.size().cols - 1;
+        let cell = Cell {
+            code,
+            attr: BLANK.attr,
+        };
+        self.grid.put(self.state.y, self.state.x, cell);
+        self.state.wrap = self.state.x == last;
+        if !self.state.wrap {
+            self.state.x += 1;
+        }
+    }
+
+    /// The character that a byte is shown as.
+    pub(super) fn shown(&self, b: u8) -> u32
+        ensures { result ≡ shown b self.now }
+    {
+        let b = if self.state.toggle { toggled(b) } else { b };
+        self.state.map.map(self.table(), b)
+    }
+
+    // The table in use.
+    fn table(&self) -> u8
+        ensures table { result ≡ table_of self.now }
+        ensures known { result < 4 }
+    {
+        if self.state.alt {
+            2
+        } else if self.state.shift == 0 {
+            self.state.g0
+        } else {
+            self.state.g1
+        }
+    }
+}
+
+fn toggled(b: u8) -> u8
+    ensures { result ≡ toggled b }
+{
+    if b < 0x80 { b + 0x80 } else { b - 0x80 }
+}
