@@ -1,5 +1,5 @@
 -- A grid of cells as contracts see it: its rows, and what each edit makes of them.
-use Rattle.std.specs.Prelude.{◌≡◌, ℕ, ◌+◌, ◌-◌, min, List, [], ◌++◌, length, take, drop, replicate, slice_get, slice_set, slice_index_or, Some, All}
+use Rattle.std.specs.Prelude.{◌≡◌, ℕ, ◌+◌, ◌-◌, min, List, [], ◌∷◌, ◌++◌, length, map, take, drop, replicate, slice_get, slice_set, slice_index_or, Some, All}
 use Rattle.vt_grid.specs.declared.cell.Cell.{Cell}
 
 -- how many rows and columns there are, and the rows from top to bottom, each its cells from left
@@ -50,7 +50,41 @@ scrolled_up s top bottom n c =
           ++ drop (bottom + 1) s.cells);
     }
 
--- rows that move down by n: the last n are lost, and n fresh ones come in above
+-- the cells of these codes, each with this attribute
+abbrev pub cells_of_codes : List ℕ → ℕ → List Cell
+cells_of_codes codes attr = map (λ code. record { code = code; attr = attr }) codes
+
+-- the elements from place x on are these, and all others are as they were
+abbrev pub overlaid : ℕ → List Cell → List Cell → List Cell
+overlaid x cells row = take x row ++ (cells ++ drop (x + length cells) row)
+
+-- the cells of row y from column x on are these, and all others are as they were
+abbrev pub with_run : Sheet → ℕ → ℕ → List Cell → Sheet
+with_run s y x cells =
+    record s { cells = slice_set s.cells y (overlaid x cells (row_at s y)) }
+
+-- row y is this one, and all others are as they were
+abbrev pub with_row : Sheet → ℕ → List Cell → Sheet
+with_row s y row = record s { cells = slice_set s.cells y row }
+
+-- the cells of row y from column x0 to x1, both included, are c, and all others are as they were
+abbrev pub erased : Sheet → ℕ → ℕ → ℕ → Cell → Sheet
+erased s y x0 x1 c = with_run s y x0 (replicate (x1 + 1 - x0) c)
+
+-- n cells c come in at column x of row y: the row's rest moves right, and what passes its end is
+-- lost
+abbrev pub inserted : Sheet → ℕ → ℕ → ℕ → Cell → Sheet
+inserted s y x n c =
+    let row = row_at s y in
+    with_row s y (take s.cols (take x row ++ (replicate n c ++ drop x row)))
+
+-- n cells go out at column x of row y: the row's rest moves left, and its end is filled with c
+abbrev pub deleted : Sheet → ℕ → ℕ → ℕ → Cell → Sheet
+deleted s y x n c =
+    let left = take x (row_at s y) ++ drop (x + n) (row_at s y) in
+    with_row s y (left ++ replicate (s.cols - length left) c)
+
+-- rows that move down by n: n fresh ones come in above, and the last n are lost
 abbrev pub moved_down : ℕ → List Cell → List (List Cell) → List (List Cell)
 moved_down n fresh rows = replicate n fresh ++ take (length rows - n) rows
 
@@ -65,3 +99,19 @@ scrolled_down s top bottom n c =
           ++ (moved_down (min n height) (replicate s.cols c) (take height (drop top s.cells))
           ++ drop (bottom + 1) s.cells);
     }
+
+-- a row laid over another one, which keeps its own cells where the first ends, and its length
+abbrev pub laid_over : List Cell → List Cell → List Cell
+laid_over row under = take (length under) row ++ drop (length row) under
+
+-- rows laid over others, each over the one at its place
+abbrev pub rows_laid_over : List (List Cell) → List (List Cell) → List (List Cell)
+rows_laid_over [] unders = unders
+rows_laid_over (row ∷ rows) [] = []
+rows_laid_over (row ∷ rows) (under ∷ unders) = laid_over row under ∷ rows_laid_over rows unders
+
+-- the fresh grid, with the old cell of row y + skip and column x in row y and column x, where both
+-- are
+abbrev pub resized : Sheet → Sheet → ℕ → Sheet
+resized old fresh skip =
+    record fresh { cells = rows_laid_over (drop skip old.cells) fresh.cells }

@@ -1,2 +1,5 @@
-pub mod Fill
 pub mod Grid
+pub mod Laws
+pub mod Line
+pub mod Ring
+pub mod Store

@@ -1,28 +1,30 @@
-ghost use Rattle.std.specs.Prelude.{◌≡◌, ◌<◌, ◌≤◌, ◌+◌, ◌-◌, ◌++◌, length, take, drop, IfOk};
-ghost use Rattle.vt_grid.specs.Fill.{part_lowered, part_moved, refilled};
-ghost use Rattle.vt_grid.specs.Grid.{HasCellAt, IsFull, filled, scrolled_down, scrolled_up, with_cell};
+ghost use Rattle.std.specs.Prelude.{◌≡◌, ◌<◌, ◌≤◌, ◌+◌, length, IfOk};
+ghost use Rattle.vt_grid.specs.Grid.{HasCellAt, IsFull, cells_of_codes, deleted, erased, filled, inserted, resized, scrolled_down, scrolled_up, with_cell, with_run};
+ghost use Rattle.vt_grid.specs.Store.{scroll_steps};
 
 use crate::Cell;
-use crate::row::Row;
+use crate::edits::{clear_rows, delete, erase, insert, move_up, put_run, scroll_down};
+use crate::resize::copy_cells;
+use crate::rows::{RowStore, Steps};
 use std::alloc::Global;
-use std::marker::Model;
+use std::marker::{Brand, Model};
+use std::mem;
+use std::sync::ledger::{Blank, Ledger};
 use vt_base::{NoMemory, Size};
 
 /// The cells of a screen: rows and columns are counted from 0, from the top left.
 #[derive(Debug, Drop)]
 pub struct Grid {
-    size: Size,
-    rows: Vec<Row>,
+    store: RowStore,
 }
 
 impl Model for Grid {
-    ghost use Rattle.vt_grid.specs.Grid.{IsFull, Sheet, sheet_of};
+    ghost use Rattle.vt_grid.specs.Grid.{Sheet};
+    ghost use Rattle.vt_grid.specs.Store.{sheet_shown};
 
     ghost Value = { Sheet };
 
-    ghost view = { λ g. sheet_of g.size.rows g.size.cols g.rows.items };
-
-    ghost invariant = { λ g. IsFull (sheet_of g.size.rows g.size.cols g.rows.items) };
+    ghost view = { λ g. sheet_shown g.store };
 }
 
 impl Grid {
@@ -30,11 +32,8 @@ impl Grid {
     pub fn blank(alloc: Global, size: Size, c: Cell) -> Result<Grid, NoMemory>
         ensures { IfOk result (λ grid. grid ≡ filled size.rows size.cols c) }
     {
-        let mut rows = Vec::with_capacity(alloc, usize::from(size.rows))?;
-        for _y in 0..size.rows {
-            rows.push(Row::blank(alloc, size.cols, c)?)?;
-        }
-        Ok(Grid { size, rows })
+        let store = RowStore::blank(alloc, size, c)?;
+        Ok(Grid { store })
     }
 
     /// The rows and columns, which no call changes.
@@ -43,7 +42,7 @@ impl Grid {
         ensures cols { result.cols ≡ self.now.cols }
         ensures full { IsFull self.now }
     {
-        self.size
+        self.store.size()
     }
 
     /// The cell in row `y` and column `x`.
@@ -52,7 +51,8 @@ impl Grid {
         requires column { x < self.now.cols }
         ensures { HasCellAt self.now y x result }
     {
-        self.rows[usize::from(y)].at(x)
+        let _ = self.store.size();
+        self.store.at(y, x)
     }
 
     /// Sets one cell.
@@ -61,8 +61,26 @@ impl Grid {
         requires column { x < self.old.cols }
         ensures { self.new ≡ with_cell self.old y x c }
     {
-        let row = &mut self.rows[usize::from(y)];
-        row.put(x, c);
+        let _ = self.store.size();
+        put_run::<u32, Brand>(&mut self.store, y, x, &[c.code], c.attr, Blank::new(1));
+    }
+
+    /// Sets the cells from column `x` on, one for each byte: its code is the byte.
+    pub fn put_bytes(&mut self, y: u8, x: u8, bytes: &[u8], attr: u8)
+        requires row { y < self.old.rows }
+        requires columns { x + length bytes.now ≤ self.old.cols }
+        ensures { self.new ≡ with_run self.old y x (cells_of_codes bytes.now attr) }
+    {
+        put_run::<u8, Brand>(&mut self.store, y, x, bytes, attr, Blank::new(1));
+    }
+
+    /// Sets the cells from column `x` on, one for each code.
+    pub fn put_codes(&mut self, y: u8, x: u8, codes: &[u32], attr: u8)
+        requires row { y < self.old.rows }
+        requires columns { x + length codes.now ≤ self.old.cols }
+        ensures { self.new ≡ with_run self.old y x (cells_of_codes codes.now attr) }
+    {
+        put_run::<u32, Brand>(&mut self.store, y, x, codes, attr, Blank::new(1));
     }
 
     /// Moves the rows `top` to `bottom`, both included, up by `n`, or by their number where `n` is
@@ -72,69 +90,91 @@ impl Grid {
         requires row { bottom < self.old.rows }
         ensures { self.new ≡ scrolled_up self.old top bottom n c }
     {
-        let top = usize::from(top);
-        let height = usize::from(bottom) - top + 1;
-        let gone = usize::from(n).min(height);
-        move_part(&mut self.rows, top, height, gone, c);
+        scroll_up_alone::<Brand>(self, top, bottom, n, c, Blank::new(1));
     }
 
-    /// Moves the rows `top` to `bottom`, both included, down by `n`, or by their number where `n`
-    /// is more. The rows that come in are filled with `c`.
+    /// Does what [`Grid::scroll_up`] does, and counts its steps. It writes no cell.
+    pub fn scroll_up_counted<L: Ledger>(
+        &mut self,
+        top: u8,
+        bottom: u8,
+        n: u16,
+        c: Cell,
+        steps: &mut Steps<L>,
+    )
+        requires order { top ≤ bottom }
+        requires row { bottom < self.old.rows }
+        ensures grid { self.new ≡ scrolled_up self.old top bottom n c }
+        ensures steps { steps.new ≤ steps.old + scroll_steps self.old.rows top bottom n }
+    {
+        let _ = self.store.size();
+        let height = bottom - top + 1;
+        let count = n.min(u16::from(height)) as u8;
+        move_up(&mut self.store, top, bottom, count, steps);
+        clear_rows(&mut self.store, bottom + 1 - count, count, c, steps);
+    }
+
+    /// Does what [`Grid::scroll_up`] does, but down.
     pub fn scroll_down(&mut self, top: u8, bottom: u8, n: u16, c: Cell)
         requires order { top ≤ bottom }
         requires row { bottom < self.old.rows }
         ensures { self.new ≡ scrolled_down self.old top bottom n c }
     {
-        let top = usize::from(top);
-        let height = usize::from(bottom) - top + 1;
-        let gone = usize::from(n).min(height);
-        lower_part(&mut self.rows, top, height, gone, c);
+        let _ = self.store.size();
+        scroll_down::<Brand>(&mut self.store, top, bottom, n, c, Blank::new(1));
+    }
+
+    /// Makes the cells from column `x0` to `x1`, both included, `c`.
+    pub fn erase(&mut self, y: u8, x0: u8, x1: u8, c: Cell)
+        requires row { y < self.old.rows }
+        requires order { x0 ≤ x1 }
+        requires column { x1 < self.old.cols }
+        ensures { self.new ≡ erased self.old y x0 x1 c }
+    {
+        erase::<Brand>(&mut self.store, y, x0, x1, c, Blank::new(1));
+    }
+
+    /// Puts `n` cells `c` in at column `x`. The row's rest moves right, and what passes the end is
+    /// lost.
+    pub fn insert(&mut self, y: u8, x: u8, n: u16, c: Cell)
+        requires row { y < self.old.rows }
+        requires column { x < self.old.cols }
+        ensures { self.new ≡ inserted self.old y x n c }
+    {
+        insert::<Brand>(&mut self.store, y, x, n, c, Blank::new(1));
+    }
+
+    /// Takes `n` cells out at column `x`. The row's rest moves left, and the end is filled with
+    /// `c`.
+    pub fn delete(&mut self, y: u8, x: u8, n: u16, c: Cell)
+        requires row { y < self.old.rows }
+        requires column { x < self.old.cols }
+        ensures { self.new ≡ deleted self.old y x n c }
+    {
+        delete::<Brand>(&mut self.store, y, x, n, c, Blank::new(1));
+    }
+
+    /// Becomes `fresh`, with the old cell of row `y + skip` copied to row `y` where both are, and
+    /// gives the old grid.
+    pub fn resized_into(&mut self, fresh: Grid, skip: u8) -> Grid
+        ensures grid { self.new ≡ resized self.old fresh skip }
+        ensures old { result ≡ self.old }
+    {
+        let mut fresh = fresh;
+        copy_cells(&mut fresh, self, skip);
+        mem::replace(self, fresh)
     }
 }
 
-// Moves the `height` rows from `top` on down by `gone`.
-fn lower_part(rows: &mut [Row], top: usize, height: usize, gone: usize, c: Cell)
-    requires part { top + height ≤ length rows.old }
-    requires some { gone ≤ height }
-    ensures { rows.new ≡ part_lowered top height gone c rows.old }
+// Scrolls up, with a counter of its own.
+fn scroll_up_alone<L: Ledger>(grid: &mut Grid, top: u8, bottom: u8, n: u16, c: Cell, blank: Blank)
+    requires name { blank.name ≡ L.name }
+    requires parts { blank.parts ≡ L.parts }
+    requires some { 0 < blank.parts }
+    requires order { top ≤ bottom }
+    requires row { bottom < grid.old.rows }
+    ensures { grid.new ≡ scrolled_up grid.old top bottom n c }
 {
-    move_down(&mut rows[top..top + height], gone, c);
-}
-
-// Moves the rows down by `gone`: those that leave come in above, filled with `c`.
-fn move_down(rows: &mut [Row], gone: usize, c: Cell)
-    requires { gone ≤ length rows.old }
-    ensures { rows.new ≡ refilled c (drop (length rows.old - gone) rows.old)
-        ++ take (length rows.old - gone) rows.old }
-{
-    rows.rotate_right(gone);
-    fill(&mut rows[..gone], c);
-}
-
-// Moves the `height` rows from `top` on up by `gone`.
-fn move_part(rows: &mut [Row], top: usize, height: usize, gone: usize, c: Cell)
-    requires part { top + height ≤ length rows.old }
-    requires some { gone ≤ height }
-    ensures { rows.new ≡ part_moved top height gone c rows.old }
-{
-    move_up(&mut rows[top..top + height], gone, c);
-}
-
-// Moves the rows up by `gone`: those that leave come in below, filled with `c`.
-fn move_up(rows: &mut [Row], gone: usize, c: Cell)
-    requires { gone ≤ length rows.old }
-    ensures { rows.new ≡ drop gone rows.old ++ refilled c (take gone rows.old) }
-{
-    let kept = rows.len() - gone;
-    rows.rotate_left(gone);
-    fill(&mut rows[kept..], c);
-}
-
-fn fill(rows: &mut [Row], c: Cell)
-    ensures { rows.new ≡ refilled c rows.old }
-{
-    for y in 0..rows.len() {
-        let row = &mut rows[y];
-        row.fill(c);
-    }
+    let mut steps = Steps::<L>::open(blank);
+    grid.scroll_up_counted(top, bottom, n, c, &mut steps);
 }

@@ -2,9 +2,13 @@
 #![tactic(auto)]
 
 mod cell;
+mod code;
+mod edits;
 mod grid;
 mod kept;
-mod row;
+pub mod laws;
+mod resize;
+pub mod rows;
 #[cfg(test)]
 mod tests;
 

@@ -1,4 +1,9 @@
+mod plain;
+mod row_edits;
+mod stores;
+
 use crate::{Cell, Grid};
+use plain::{COLS, Edit, Plain, ROWS};
 use std::alloc::Global;
 use std::test::Fail;
 use vt_base::{NoMemory, Size};
@@ -43,6 +48,56 @@ fn scrolls_a_region(rt: HostRuntime) -> Result<(), Fail> {
             column,
             rows.map(|code| u32::from(code)),
             "{top} {bottom} {n}"
+        );
+    }
+    Ok(())
+}
+
+// One edit after another, on the grid and on the plain grid: the cells are the same all the time.
+#[test]
+fn edits_as_a_plain_grid_does(rt: HostRuntime) -> Result<(), Fail> {
+    let edits = [
+        Edit::Put(0, 3, 0x41),
+        Edit::Bytes(1, 2, b"hello"),
+        Edit::Codes(4, 0, [0x2588, 0x10FFFF]),
+        Edit::Up(0, 4, 1),
+        Edit::Bytes(4, 0, b"abcde"),
+        Edit::Put(4, 6, 0x42),
+        Edit::Up(1, 3, 1),
+        Edit::Put(3, 5, 0x43),
+        Edit::Bytes(3, 1, b"vwxyz"),
+        Edit::Up(0, 4, 3),
+        Edit::Up(2, 4, 2),
+        Edit::Codes(2, 5, [0x7A, 0x79]),
+        Edit::Bytes(2, 1, b"small"),
+        Edit::Up(0, 2, 2),
+        Edit::Up(1, 1, 1),
+        Edit::Up(0, 4, 9),
+        Edit::Put(2, 2, 0x44),
+        Edit::Bytes(1, 1, b"lower"),
+        Edit::Down(0, 4, 1),
+        Edit::Down(1, 3, 2),
+        Edit::Erase(3, 2, 4),
+        Edit::Erase(4, 3, 6),
+        Edit::Insert(3, 1, 2),
+        Edit::Delete(3, 0, 3),
+        Edit::Bytes(3, 2, b"again"),
+        Edit::Insert(3, 3, 9),
+        Edit::Delete(4, 6, 1),
+        Edit::Down(2, 4, 9),
+    ];
+    let size = Size {
+        rows: ROWS,
+        cols: COLS,
+    };
+    let mut grid = Grid::blank(rt.alloc(), size, letter(b' '))?;
+    let mut plain = Plain::blank(0x20);
+    for (number, edit) in edits.iter().enumerate() {
+        edit.make(&mut grid, &mut plain, letter(b'-'))?;
+        assert_eq!(rt;
+            plain::first_other(&grid, &plain),
+            None,
+            "after edit {number}"
         );
     }
     Ok(())

@@ -1,3 +1,4 @@
+mod Controls
 mod Cuts
 mod Feeds
 mod Printed

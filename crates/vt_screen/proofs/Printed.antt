@@ -1,12 +1,14 @@
 -- Printable bytes, one after another.
-use Rattle.std.proofs.Common.{◌≡◌, ◌==◌, ◌&&◌, ◌≤◌, arith, length, zero, ℕ, Bool, true, false, suc, ◌+◌, List, [], ◌∷◌, ◌++◌, take, refl, sym, ap, subst, ◌∙◌, cond, nat_lt, if◌then◌else◌}
+use Rattle.std.proofs.Common.{◌≡◌, not, ◌<◌, ◌==◌, ◌&&◌, ◌≤◌, arith, length, zero, ℕ, Bool, true, false, suc, ◌+◌, List, [], ◌∷◌, take, refl, sym, ap, subst, ◌∙◌, cond, nat_lt, if◌then◌else◌}
 use Rattle.std.proofs.lemmas.Bool.{and_parts, cond-true, cond-false}
 use Rattle.std.proofs.lemmas.Bool.Decides.{nat_tests}
 use Rattle.std.proofs.lemmas.List.{append-nil}
 use Rattle.std.specs.List.{prefix_len}
-use Rattle.vt_screen.specs.Effect.{at_column, effect, linefeed, print}
+use Rattle.vt_screen.specs.Effect.{at_column, effect, linefeed, print, printed, put_here}
+use Rattle.vt_grid.specs.Grid.{cells_of_codes, row_at, with_cell, with_run}
+use Rattle.vt_grid.specs.Laws.{CellKeepsWidth, RunOfMore, RunOfNone}
 use Rattle.vt_screen.specs.Run.{Told, drawing, having_said, told}
-use Rattle.vt_screen.specs.Screen.{Screen, mode_of}
+use Rattle.vt_screen.specs.Screen.{Screen, mode_of, plain}
 use Rattle.vt_screen.specs.declared.out.Out.{Out}
 use Rattle.vt_units.specs.Answer.{answer, rest_after}
 use Rattle.vt_units.specs.Bytes.{decodes, is_printable}
@@ -17,16 +19,6 @@ use Rattle.vt_units.specs.Run.{effects_of, reached, run}
 use Rattle.vt_units.specs.declared.mode.Mode.{Mode}
 use Rattle.vt_units.specs.declared.read.Read.{Read}
 use Rattle.vt_units.specs.declared.unit.Unit as units
-
-abbrev pub printed : List ℕ → Screen → Screen
-printed [] s = s
-printed (b ∷ bytes) s = printed bytes (print b s)
-
--- and one more
-pub printed-more : (bytes : List ℕ) (s : Screen) (b : ℕ)
-    → printed (bytes ++ b ∷ []) s ≡ print b (printed bytes s)
-printed-more [] s b = refl
-printed-more (x ∷ bytes) s b = printed-more bytes (print x s) b
 
 either-mode : (test : Bool) (s t : Screen) (m : Mode) → mode_of s ≡ m → mode_of t ≡ m
     → mode_of (cond test s t) ≡ m
@@ -95,6 +87,14 @@ prefix-printable (b ∷ bytes) = by (is_printable b) refl (prefix-printable byte
         cond-false (is_printable b) (1 + prefix_len is_printable bytes) 0 is in
         subst (λ (n : ℕ). AllPrintable (take n (b ∷ bytes))) (sym none) tt
 
+-- the first of the first bytes
+pub take-short : (n k : ℕ) (xs : List ℕ) → n ≤ length (take k xs) → take n xs ≡ take n (take k xs)
+take-short zero k xs within = refl
+take-short (suc n) zero xs within = absurd (omega (arith, within))
+take-short (suc n) (suc k) [] within = refl
+take-short (suc n) (suc k) (x ∷ xs) within =
+    ap (λ (ys : List ℕ). x ∷ ys) (take-short n k xs (omega (arith, within)))
+
 rest-is : (count : ℕ) (text : List ℕ) (m : Mode) (old : Rest) → count ≤ length text
     → rest_behind (take count text) m old ≡ (if count == 0 then old else fresh m)
 rest-is zero text m old within = refl
@@ -103,7 +103,7 @@ rest-is (suc n) (b ∷ text) m old within =
     let some : (suc n == 0) ≡ false = grind (arith, nat_tests) in
     sym (cond-false (suc n == 0) old (fresh m) some)
 
-empty-is : (text : List ℕ) → is_empty text ≡ true → text ≡ []
+pub empty-is : (text : List ℕ) → is_empty text ≡ true → text ≡ []
 empty-is [] is = refl
 empty-is (b ∷ text) is = absurd (let e : ⊥ = cc in e)
 
@@ -135,3 +135,34 @@ front-runs law text count outs s rest new m mode is within left = by (is_empty r
         let nothing : take count text ≡ [] = ap (λ (n : ℕ). take n text) none in
         ap (λ (bytes : List ℕ). run drawing bytes (having_said outs (reached s rest))) nothing
         ∙ (λ i. having_said outs (reached (printed (sym nothing i) s) (sym stays i)))
+
+-- characters that end before the last column are one run of cells
+pub printed-run : RunOfNone → RunOfMore → CellKeepsWidth → (bytes : List ℕ) (s : Screen) → s.wrap ≡ false
+    → s.x + length bytes < s.sheet.cols → length (row_at s.sheet s.y) ≡ s.sheet.cols
+    → printed bytes s
+    ≡ record s {
+      sheet = with_run s.sheet s.y s.x (cells_of_codes bytes 0x07);
+      x = s.x + length bytes;
+    }
+printed-run none more width [] s wrap fits long =
+    let same : s.x ≡ s.x + 0 = omega arith in
+    λ i. record s { sheet = sym (none s.sheet s.y s.x) i; x = same i }
+printed-run none more width (b ∷ bytes) s wrap fits long =
+    let next : nat_lt (s.x + 1) s.sheet.cols ≡ true = grind (arith, nat_tests, fits) in
+    let after : Screen = record s { sheet = with_cell s.sheet s.y s.x (plain b); x = s.x + 1 } in
+    let one : print b s ≡ after =
+    ap (λ (w : Bool). put_here b (if w then linefeed (at_column 0 s) else s)) wrap
+    ∙ (λ i. record s {
+      sheet = with_cell s.sheet s.y s.x (plain b);
+      x = if next i then s.x + 1 else s.x;
+      wrap = not (next i);
+    })
+    ∙ (λ i. record after { wrap = sym wrap i }) in
+    let here : s.x < length (row_at s.sheet s.y) = omega (arith, long, fits) in
+    let cells : with_run after.sheet s.y (s.x + 1) (cells_of_codes bytes 0x07)
+    ≡ with_run s.sheet s.y s.x (plain b ∷ cells_of_codes bytes 0x07) =
+    sym (more s.sheet s.y s.x (plain b) (cells_of_codes bytes 0x07) here) in
+    let count : s.x + 1 + length bytes ≡ s.x + length (b ∷ bytes) = omega arith in
+    ap (printed bytes) one
+    ∙ printed-run none more width bytes after wrap (omega (arith, fits)) (width s.sheet s.y s.x (plain b) ∙ long)
+    ∙ (λ i. record s { sheet = cells i; x = count i })

@@ -1,7 +1,7 @@
 -- What each unit does to a screen (console_codes(4)), a row for each in the order of the page. This
 -- project's own are what SO and SI do to the flags, and the wrap flag's rules: BS, CR, every line
 -- feed and reverse line feed switch it off, and what doesn't move the cursor so leaves it.
-use Rattle.std.specs.Prelude.{ℕ, Bool, true, false, ◌+◌, ◌-◌, ◌*◌, ◌/◌, ◌==◌, min, nat_lt, not, Option, Some, None, if◌then◌else◌}
+use Rattle.std.specs.Prelude.{ℕ, Bool, true, false, ◌+◌, ◌-◌, ◌*◌, ◌/◌, ◌==◌, min, nat_lt, not, List, [], ◌∷◌, Option, Some, None, if◌then◌else◌}
 use Rattle.vt_chars.specs.CharMap.{char_of}
 use Rattle.vt_chars.specs.Utf8.{within}
 use Rattle.vt_grid.specs.Grid.{with_cell, scrolled_down, scrolled_up}
@@ -58,6 +58,15 @@ put_here code s =
 -- a pending wrap comes first: to the start of the next row
 abbrev pub print : ℕ → Screen → Screen
 print code s = put_here code (if s.wrap then linefeed (at_column 0 s) else s)
+
+-- characters, one after another
+abbrev pub printed : List ℕ → Screen → Screen
+printed [] s = s
+printed (code ∷ codes) s = printed codes (print code s)
+
+-- how many characters fit before the last column, where no wrap is pending: these change one row
+abbrev pub room : Screen → ℕ
+room s = if s.wrap then 0 else s.sheet.cols - 1 - s.x
 
 -- the table in use: the null mapping, or the one that is G0 or G1
 abbrev pub table_of : Screen → ℕ

@@ -9,7 +9,7 @@ use crate::canvas::Canvas;
 use crate::{Outs, ScreenState};
 use std::marker::Model;
 use vt_grid::{Cell, Grid};
-use vt_units::{Pending, Then, printables_are_characters};
+use vt_units::{Pending, Then, controls_are_units, printables_are_characters};
 
 /// What an empty place holds: a space, white on black. This project's own.
 pub const BLANK: Cell = Cell {
@@ -63,7 +63,7 @@ impl Emu {
             let count = self.print_run(&b[at..]);
             at += count;
             if count == 0 {
-                self.take(b[at], outs);
+                self.take_quickly(b[at], outs);
                 at += 1;
             }
         }
@@ -120,22 +120,34 @@ impl Emu {
             Then::Act(code) => self.canvas.control(code),
             Then::More | Then::Dropped => None,
         };
-        if let Some(out) = said {
-            outs.push(out);
-        }
+        outs.say(said);
     }
 
-    // Prints the printable bytes at the front of the text, and tells how many they are.
+    // Does what `take` does, quickly where the byte is a control character by itself.
+    fn take_quickly(&mut self, byte: u8, outs: &mut Outs)
+        requires room { length outs.old < 64 }
+        ensures step { having_said outs.new self.new ≡ step drawing byte (having_said outs.old self.old) }
+        ensures room { length outs.new ≤ length outs.old + 1 }
+    {
+        controls_are_units();
+        if !self.pending.take_control(self.canvas.mode(), byte) {
+            self.take(byte, outs);
+            return;
+        }
+        outs.say(self.canvas.control(byte));
+    }
+
+    // Prints the printable bytes at the front of the text that end before the last column, and
+    // tells how many they are.
     fn print_run(&mut self, b: &[u8]) -> usize
         ensures within { result ≤ length b.now }
         ensures run { (outs : List Out) → run drawing (take result b.now) (having_said outs self.old)
             ≡ having_said outs self.new }
     {
         printables_are_characters();
-        let count = self.pending.take_printable(self.canvas.mode(), b);
-        for byte in &b[..count] {
-            self.canvas.print(u32::from(*byte));
-        }
+        let front = &b[..b.len().min(self.canvas.room())];
+        let count = self.pending.take_printable(self.canvas.mode(), front);
+        self.canvas.print_bytes(&front[..count]);
         count
     }
 }

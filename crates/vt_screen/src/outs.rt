@@ -1,4 +1,5 @@
-ghost use Rattle.std.specs.Prelude.{◌≡◌, ◌<◌, ◌≤◌, [], ◌∷◌, ◌++◌, length};
+ghost use Rattle.std.specs.Prelude.{◌≡◌, ◌<◌, ◌≤◌, ◌+◌, [], ◌∷◌, ◌++◌, length};
+ghost use Rattle.vt_screen.specs.Run.{listed};
 
 use crate::Out;
 use arrayvec::ArrayVec;
@@ -35,6 +36,17 @@ impl Outs {
         ensures { self.new ≡ self.old ++ out ∷ [] }
     {
         self.items.push(out);
+    }
+
+    /// Adds what was said last, if anything was.
+    pub(crate) fn say(&mut self, said: Option<Out>)
+        requires { length self.old < 64 }
+        ensures said { self.new ≡ self.old ++ listed said }
+        ensures few { length self.new ≤ length self.old + 1 }
+    {
+        if let Some(out) = said {
+            self.items.push(out);
+        }
     }
 
     /// What was said, in order.

@@ -1,12 +1,12 @@
--- Printable bytes are characters by themselves.
-use Rattle.std.proofs.Common.{◌≡◌, ℕ, ◌==◌, true, false, [], ◌∷◌, ap, ◌∙◌, arith}
+-- Printable bytes are characters by themselves, and control characters are units.
+use Rattle.std.proofs.Common.{◌≡◌, ℕ, Bool, ◌==◌, ◌&&◌, ◌||◌, not, true, false, [], ◌∷◌, ap, ◌∙◌, arith}
 use Rattle.std.specs.Prelude.{nat_le, nat_lt}
-use Rattle.std.proofs.lemmas.Bool.{and_left, cond-true, cond-false}
+use Rattle.std.proofs.lemmas.Bool.{and_left, and_parts, cond-true, cond-false}
 use Rattle.std.proofs.lemmas.Bool.Decides.{nat_tests}
 use Rattle.vt_chars.specs.Utf8.{within}
 use Rattle.vt_units.specs.Answer.{Settled, Taken, joined_by, kept, settled, settled_by, taken, took}
-use Rattle.vt_units.specs.Bytes.{decodes, is_printable}
-use Rattle.vt_units.specs.Laws.{PrintablesAreCharacters}
+use Rattle.vt_units.specs.Bytes.{decodes, is_control, is_never_shown, is_printable}
+use Rattle.vt_units.specs.Laws.{ControlsAreUnits, PrintablesAreCharacters}
 use Rattle.vt_units.specs.Reading.{character_reading, reading, whole}
 use Rattle.vt_units.specs.Rest.{fresh}
 use Rattle.vt_units.specs.declared.mode.Mode.{Mode}
@@ -35,6 +35,24 @@ printables-are-characters old m b nothing decoding is =
     let left : settled old m b ≡ kept (fresh m) = ap (λ t. settled_by (reading old.mode t) old m b) nothing in
     let all : took (fresh m) b ≡ taken (then.Then.Unit (units.Unit.Char b)) (fresh m) =
     ap (λ r. joined_by r (fresh m) b) (printable-reading m b decoding is) in (
+      ap (λ s. answer_of s b) left ∙ ap (λ (t : Taken). record { bad = false; got = t.got }) all,
+      ap (λ (s : Settled). (took s.rest b).rest) left ∙ ap (λ (t : Taken). t.rest) all,
+    )
+
+control-reading : (m : Mode) (b : ℕ) → is_control m b ≡ true → (b == 0x1B) ≡ false
+    → reading m (b ∷ []) ≡ whole (units.Unit.Control b)
+control-reading m b is esc =
+    let parts = and_parts (nat_lt b 0x20) (not m.display || is_never_shown b) is in
+    let low : (b == 0x9B) ≡ false = grind (arith, nat_tests, parts.0) in
+    cond-false _ _ _ esc
+    ∙ cond-false _ _ _ (ap (λ (c : Bool). c && (m.display || not m.utf8)) low)
+    ∙ cond-true _ _ _ is
+
+pub controls-are-units : ControlsAreUnits
+controls-are-units old m b nothing is esc =
+    let left : settled old m b ≡ kept (fresh m) = ap (λ t. settled_by (reading old.mode t) old m b) nothing in
+    let all : took (fresh m) b ≡ taken (then.Then.Unit (units.Unit.Control b)) (fresh m) =
+    ap (λ r. joined_by r (fresh m) b) (control-reading m b is esc) in (
       ap (λ s. answer_of s b) left ∙ ap (λ (t : Taken). record { bad = false; got = t.got }) all,
       ap (λ (s : Settled). (took s.rest b).rest) left ∙ ap (λ (t : Taken). t.rest) all,
     )

@@ -1,7 +1,7 @@
 -- The laws of runs. Each is of the definitions alone.
 use Rattle.std.specs.Prelude.{◌≡◌, ◌⊎◌, ◌↔◌, ℕ, true, false, ◌==◌, List, [], ◌∷◌, ◌++◌}
 use Rattle.vt_units.specs.Answer.{answer, rest_after, settled}
-use Rattle.vt_units.specs.Bytes.{decodes, interrupts, is_printable}
+use Rattle.vt_units.specs.Bytes.{decodes, interrupts, is_control, is_printable}
 use Rattle.vt_units.specs.Pieces.{HasEffect, controls_of, text_of}
 use Rattle.vt_units.specs.Reading.{character, sequence, command, string_end, dropped, unfinished, none, reading}
 use Rattle.vt_units.specs.Rest.{Rest, fresh}
@@ -91,4 +91,11 @@ abbrev pub PrintablesAreCharacters : Type 0
 PrintablesAreCharacters =
     (old : Rest) (m : Mode) (b : ℕ) → old.text ≡ [] → decodes m ≡ true → is_printable b ≡ true
     → (answer old m b ≡ record { bad = false; got = then.Then.Unit (units.Unit.Char b) })
+    × (rest_after old m b ≡ fresh m)
+
+-- a control character, where no text is, is a unit by itself and leaves no text
+abbrev pub ControlsAreUnits : Type 0
+ControlsAreUnits =
+    (old : Rest) (m : Mode) (b : ℕ) → old.text ≡ [] → is_control m b ≡ true → (b == 0x1B) ≡ false
+    → (answer old m b ≡ record { bad = false; got = then.Then.Unit (units.Unit.Control b) })
     × (rest_after old m b ≡ fresh m)

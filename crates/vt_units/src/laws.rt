@@ -1,5 +1,5 @@
 //! Laws of the definitions: nothing of the reader is in them.
-ghost use Rattle.vt_units.specs.Laws.{AnyCut, CharactersEnd, DropsExactly, OneResult, PiecesAct, PiecesResume, PrintablesAreCharacters, SequencesEnd, StringsEnd};
+ghost use Rattle.vt_units.specs.Laws.{AnyCut, CharactersEnd, ControlsAreUnits, DropsExactly, OneResult, PiecesAct, PiecesResume, PrintablesAreCharacters, SequencesEnd, StringsEnd};
 ghost use Rattle.vt_units.specs.Units.{UnfinishedIsBefore};
 
 use vt_chars::unfinished_begins;
@@ -44,4 +44,9 @@ pub fn drops_exactly()
 /// What [`crate::Pending::take_printable`] reads are characters, one a byte.
 pub fn printables_are_characters()
     ensures { PrintablesAreCharacters }
+{}
+
+/// What [`crate::Pending::take_control`] takes is a control character by itself.
+pub fn controls_are_units()
+    ensures { ControlsAreUnits }
 {}

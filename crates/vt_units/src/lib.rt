@@ -23,8 +23,8 @@ mod then;
 mod unit;
 
 pub use laws::{
-    any_cut, drops_exactly, ended_texts, one_result, pieces_act, printables_are_characters,
-    unfinished_is_before,
+    any_cut, controls_are_units, drops_exactly, ended_texts, one_result, pieces_act,
+    printables_are_characters, unfinished_is_before,
 };
 pub use mode::Mode;
 pub use params::Params;

@@ -1,12 +1,12 @@
-ghost use Rattle.std.specs.Prelude.{◌≡◌, ◌==◌, ◌≤◌, ◌&&◌, [], ◌∷◌, length, if◌then◌else◌};
+ghost use Rattle.std.specs.Prelude.{◌≡◌, ◌==◌, ◌≤◌, ◌&&◌, not, [], ◌∷◌, length, if◌then◌else◌};
 ghost use Rattle.std.specs.List.{prefix_len};
 ghost use Rattle.vt_units.specs.Answer.{answer, rest_after, settled, took};
-ghost use Rattle.vt_units.specs.Bytes.{decodes, interrupts, is_printable};
+ghost use Rattle.vt_units.specs.Bytes.{decodes, interrupts, is_control, is_printable};
 ghost use Rattle.vt_units.specs.Reading.{is_empty};
 ghost use Rattle.vt_units.specs.Rest.{fresh, start_mode};
 ghost use Rattle.vt_units.specs.Stage.{Inside, Leaves, Stands, rest_of};
 
-use crate::bytes::{decodes, interrupts, printable_prefix};
+use crate::bytes::{decodes, interrupts, is_control, printable_prefix};
 use crate::command::{command, palette};
 use crate::ground::{ground, part};
 use crate::kept::Kept;
@@ -84,6 +84,19 @@ impl Pending {
             self.restart(mode);
         }
         count
+    }
+
+    /// Takes a control character where no text is pending, and tells whether the byte was one. It
+    /// answers at once what [`Pending::take`] answers.
+    pub fn take_control(&mut self, mode: Mode, b: u8) -> bool
+        ensures control { result ≡ (is_empty self.old.text && is_control mode b && not (b == 0x1B)) }
+        ensures rest { self.new ≡ (if result then fresh mode else self.old) }
+    {
+        let takes = self.is_empty() && is_control(mode, b) && b != 0x1B;
+        if takes {
+            self.restart(mode);
+        }
+        takes
     }
 
     fn is_empty(&self) -> bool

@@ -329,6 +329,27 @@ fn takes_printables(rt: HostRuntime) {
     );
     let _ = pending.take(UTF8, 0x1B);
     assert_eq!(rt; pending.take_printable(UTF8, b"ab"), 0, "behind ESC");
-    assert!(rt; matches!(&pending.take(UTF8, b'c').got, Then::Unit(_)), "ESC c");
-    assert_eq!(rt; pending.take_printable(UTF8, b"ab\n"), 2, "behind the sequence");
+    assert!(rt;
+        matches!(&pending.take(UTF8, b'c').got, Then::Unit(_)),
+        "ESC c"
+    );
+    assert_eq!(rt;
+        pending.take_printable(UTF8, b"ab\n"),
+        2,
+        "behind the sequence"
+    );
+}
+
+#[test]
+fn takes_controls(rt: HostRuntime) {
+    let mut pending = Pending::new();
+    assert!(rt; pending.take_control(UTF8, b'\n') && pending.take_control(BYTES, 0x07));
+    assert!(rt; !pending.take_control(UTF8, 0x1B) && !pending.take_control(UTF8, b'a'));
+    let shows = Mode {
+        utf8: true,
+        display: true,
+    };
+    assert!(rt; pending.take_control(shows, b'\n') && !pending.take_control(shows, 0x07));
+    let _ = pending.take(UTF8, 0x1B);
+    assert!(rt; !pending.take_control(UTF8, b'\n'), "behind ESC");
 }

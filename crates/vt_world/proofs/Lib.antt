@@ -1,3 +1,4 @@
+mod Bells
 mod Histories
 mod Hops
 mod Places

@@ -1,4 +1,4 @@
--- Consoles and screens are alike, and stay so.
+-- Consoles and terminals are alike, and stay so.
 use Rattle.std.proofs.Common.{◌≡◌, ℕ, zero, suc, ◌+◌, ◌<◌, Bool, true, false, true≢false, cond, arith, List, [], ◌∷◌, ◌++◌, get_or, set, map, Option, Some, None, refl, sym, ap, ◌∙◌}
 use Rattle.std.proofs.lemmas.List.{map-set, set-get_or}
 use Rattle.std.proofs.lemmas.List.FromFn.{get_or-map-range_with_len, map-range_with_len_more}
@@ -6,14 +6,12 @@ use Rattle.std.proofs.Math.ListN.{get_or-map}
 use Rattle.std.proofs.Math.Seq.{map-set_same}
 use Rattle.std.specs.List.{range_with_len}
 use Rattle.std.specs.Prelude.{◌==◌, is_some, option_map, if◌then◌else◌}
-use Rattle.vt_screen.specs.Screen.{Screen}
-use Rattle.vt_screen.specs.Value.{run}
 use Rattle.vt_world.specs.Display.{Display, or_fresh, is_allocated}
 use Rattle.vt_world.specs.Rows.{allocating}
-use Rattle.vt_world.specs.Screens.{with_start, or_start, screen_at, written}
 use Rattle.vt_world.specs.Start.{at_each, is_among}
-use Rattle.vt_world.specs.State.{WorldState, HasScreens, all_done}
+use Rattle.vt_world.specs.State.{WorldState, HasTerminals, all_done}
 use Rattle.vt_world.specs.Switch.{after_mode, handled}
+use Rattle.vt_world.specs.Terminals.{TerminalState, with_start, or_new, terminal_at, written, written_on}
 use Rattle.vt_world.specs.declared.switch.console.Console.{Console}
 use Rattle.vt_world.specs.declared.switch.handling.Handling.{Handling}
 
@@ -31,12 +29,12 @@ both_set xs ys n a b alike =
     ∙ ap (λ taken. set taken n true) alike
     ∙ sym (map-set is_some ys n (Some b))
 
--- a write leaves the consoles that have a screen
-pub written_alike : (n : ℕ) (bytes : List ℕ) (screens : List (Option Screen))
-    → map is_some (written n bytes screens) ≡ map is_some screens
-written_alike n bytes screens =
-    map-set_same is_some screens n (option_map (λ s. run s bytes) (screen_at screens n)) None
-    (kept (λ s. run s bytes) (screen_at screens n))
+-- a write leaves the consoles that have a terminal
+pub written_alike : (n : ℕ) (bytes : List ℕ) (terminals : List (Option TerminalState))
+    → map is_some (written n bytes terminals) ≡ map is_some terminals
+written_alike n bytes terminals =
+    map-set_same is_some terminals n (option_map (written_on bytes) (terminal_at terminals n)) None
+    (kept (written_on bytes) (terminal_at terminals n))
 
 either : (b : Bool) (d e : Display) → d.consoles ≡ e.consoles
     → (cond b d e).consoles ≡ e.consoles
@@ -55,20 +53,20 @@ mode_alike d c (Some handling) =
     ∙ map-set_same is_some d.consoles c (option_map new (get_or d.consoles c None)) None
     (kept new (get_or d.consoles c None))
 
--- consoles that are allocated have a screen with_start beside
+-- consoles that are allocated have a terminal beside
 pub allocated_alike : (n rows cols : ℕ) (consoles : List (Option Console))
-    (screens : List (Option Screen)) → map is_some screens ≡ map is_some consoles
-    → map is_some (with_start n rows cols screens)
+    (terminals : List (Option TerminalState)) → map is_some terminals ≡ map is_some consoles
+    → map is_some (with_start n rows cols terminals)
     ≡ map is_some (set consoles n (Some (or_fresh (get_or consoles n None))))
-allocated_alike n rows cols consoles screens alike =
-    both_set screens consoles n (or_start rows cols (get_or screens n None))
+allocated_alike n rows cols consoles terminals alike =
+    both_set terminals consoles n (or_new rows cols (get_or terminals n None))
     (or_fresh (get_or consoles n None)) alike
 
 found_again : (o : Option Console) → is_some o ≡ true → Some (or_fresh o) ≡ o
 found_again None taken = absurd (true≢false (sym taken))
 found_again (Some console) taken = refl
 
-start_again : (rows cols : ℕ) (o : Option Screen) → is_some o ≡ true → Some (or_start rows cols o) ≡ o
+start_again : (rows cols : ℕ) (o : Option TerminalState) → is_some o ≡ true → Some (or_new rows cols o) ≡ o
 start_again rows cols None taken = absurd (true≢false (sym taken))
 start_again rows cols (Some s) taken = refl
 
@@ -81,20 +79,20 @@ taken_alike xs ys n alike =
     ∙ get_or-map is_some ys n None
 
 -- to allocate a console again changes nothing
-pub allocating_same : (w : WorldState) (n : ℕ) → HasScreens w → is_allocated w.display n ≡ true
+pub allocating_same : (w : WorldState) (n : ℕ) → HasTerminals w → is_allocated w.display n ≡ true
     → w ≡ all_done w (allocating n [])
 allocating_same w n alike taken =
     let consoles = w.display.consoles in
-    let has_screen : is_some (get_or w.screens n None) ≡ true =
-    taken_alike w.screens consoles n alike ∙ taken in
+    let has_terminal : is_some (get_or w.terminals n None) ≡ true =
+    taken_alike w.terminals consoles n alike ∙ taken in
     let same_consoles : set consoles n (Some (or_fresh (get_or consoles n None))) ≡ consoles =
     ap (set consoles n) (found_again (get_or consoles n None) taken) ∙ set-get_or consoles n None in
-    let same_screens : with_start n w.rows w.cols w.screens ≡ w.screens =
-    ap (set w.screens n) (start_again w.rows w.cols (get_or w.screens n None) has_screen)
-    ∙ set-get_or w.screens n None in
+    let same_terminals : with_start n w.rows w.cols w.terminals ≡ w.terminals =
+    ap (set w.terminals n) (start_again w.rows w.cols (get_or w.terminals n None) has_terminal)
+    ∙ set-get_or w.terminals n None in
     λ i. record w {
       display = record w.display { consoles = sym same_consoles i };
-      screens = sym same_screens i;
+      terminals = sym same_terminals i;
     }
 
 -- a console of the set is at its place

@@ -3,9 +3,9 @@ pub mod Callers
 pub mod Display
 pub mod History
 pub mod Rows
-pub mod Screens
 pub mod Spare
 pub mod Start
 pub mod State
 pub mod Step
 pub mod Switch
+pub mod Terminals

@@ -2,10 +2,10 @@
 use Rattle.std.specs.Int.{bit_at}
 use Rattle.std.specs.List.{range_with_len}
 use Rattle.std.specs.Prelude.{◌≡◌, ℕ, ◌==◌, Bool, true, false, List, map, Option, Some, None, if◌then◌else◌}
-use Rattle.vt_screen.specs.Screen.{start_screen}
 use Rattle.vt_world.specs.Display.{Display, fresh}
 use Rattle.vt_world.specs.Callers.{callers_of}
 use Rattle.vt_world.specs.State.{WorldState}
+use Rattle.vt_world.specs.Terminals.{new_terminal}
 use Rattle.vt_world.specs.declared.procs.proc_start.ProcStart.{ProcStart}
 
 -- bit n of the set of consoles is console n
@@ -32,7 +32,7 @@ opening rows cols consoles front starts = record {
   cols = cols;
   display = first_display consoles front;
   callers = callers_of starts;
-  screens = at_each consoles (start_screen rows cols);
+  terminals = at_each consoles (new_terminal rows cols);
 }
 
 -- a set of consoles that a world can begin with: the one in front is among them, and 0 is none

@@ -1,22 +1,21 @@
 -- The console as a whole, and what an event can do to it.
 use Rattle.std.specs.Prelude.{◌≡◌, ℕ, List, [], ◌∷◌, Option, is_some, map}
-use Rattle.vt_screen.specs.Screen.{Screen}
 use Rattle.vt_world.specs.Acts.{SwitchAct, after}
 use Rattle.vt_world.specs.Display.{Display}
 use Rattle.vt_world.specs.Callers.{opened}
-use Rattle.vt_world.specs.Screens.{with_start, written}
+use Rattle.vt_world.specs.Terminals.{TerminalState, with_start, written}
 use Rattle.vt_world.specs.declared.procs.process.Process.{Process}
 
 -- the rows and columns of every new screen, the display with its consoles, the callers, and the
--- screen of each console
+-- terminal of each console
 pub record WorldState : Type 0 where
   pub rows : ℕ
   pub cols : ℕ
   pub display : Display
   pub callers : List Process
-  pub screens : List (Option Screen)
+  pub terminals : List (Option TerminalState)
 
--- what leaves the display alone: console n has a screen; p opens console c; bytes are written to
+-- what leaves the display alone: console n has a terminal; p opens console c; bytes are written to
 -- console c
 pub data OwnDeed : Type 0 where
   Starts : ℕ → OwnDeed
@@ -29,9 +28,9 @@ pub data Deed : Type 0 where
   Own : OwnDeed → Deed
 
 abbrev pub own_done : WorldState → OwnDeed → WorldState
-own_done w (Starts n) = record w { screens = with_start n w.rows w.cols w.screens }
+own_done w (Starts n) = record w { terminals = with_start n w.rows w.cols w.terminals }
 own_done w (Opens p c) = record w { callers = opened p c w.callers }
-own_done w (Writes c bytes) = record w { screens = written c bytes w.screens }
+own_done w (Writes c bytes) = record w { terminals = written c bytes w.terminals }
 
 abbrev pub done : WorldState → Deed → WorldState
 done w (By act) = record w { display = after w.display act }
@@ -41,6 +40,6 @@ abbrev pub all_done : WorldState → List Deed → WorldState
 all_done w [] = w
 all_done w (deed ∷ deeds) = all_done (done w deed) deeds
 
--- the consoles that have a screen are those that are allocated
-abbrev pub HasScreens : WorldState → Type 0
-HasScreens w = map is_some w.screens ≡ map is_some w.display.consoles
+-- the consoles that have a terminal are those that are allocated
+abbrev pub HasTerminals : WorldState → Type 0
+HasTerminals w = map is_some w.terminals ≡ map is_some w.display.consoles

@@ -1,14 +1,12 @@
 -- The console step: what one event of one caller makes of the console, and what it is answered. The
 -- order of refusals is this project's own.
-use Rattle.std.specs.Prelude.{◌≡◌, ℕ, ◌==◌, not, List, [], ◌∷◌, Option, Some, None, All, IsTrue, ⊤, if◌then◌else◌}
+use Rattle.std.specs.Prelude.{◌≡◌, ℕ, ◌==◌, not, List, [], ◌∷◌, Option, Some, None, if◌then◌else◌}
 use Rattle.vt_base.specs.declared.errno.Errno.{Errno}
 use Rattle.vt_base.specs.declared.errno.Errno.TheVariants.{Srch, Notty}
 use Rattle.vt_events.specs.Plain.{plain_reply}
 use Rattle.vt_events.specs.declared.event.Event.{Event}
-use Rattle.vt_events.specs.declared.event.Event.TheVariants as event
 use Rattle.vt_events.specs.declared.reply.Reply.{Reply}
 use Rattle.vt_events.specs.declared.reply.Reply.TheVariants as reply
-use Rattle.vt_screen.specs.Units.{is_built}
 use Rattle.vt_world.specs.Callers.{caller_at}
 use Rattle.vt_world.specs.Rows.{Row, Test, own_tests, row, test}
 use Rattle.vt_world.specs.State.{WorldState, all_done}
@@ -44,8 +42,3 @@ own_step w p e = answered w (first_failing (own_tests w p e)) (row w p e)
 -- the world and the answer are those of the outcome
 abbrev pub Gives : Outcome → WorldState → Reply → Type 0
 Gives outcome w r = outcome ≡ record { world = w; reply = plain_reply r }
-
--- the bytes that the event writes are ones that the machine reads
-abbrev pub IsBuiltEvent : Event → Type 0
-IsBuiltEvent (event.Write fd b) = All (λ byte. IsTrue (is_built byte)) b.bytes
-IsBuiltEvent e = ⊤

@@ -6,10 +6,11 @@ mod console_set;
 mod laws;
 mod procs;
 mod rows;
-mod screens;
 mod spare;
 mod step;
 mod switch;
+mod terminal;
+mod terminals;
 #[cfg(test)]
 mod tests;
 mod world;

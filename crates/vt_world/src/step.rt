@@ -1,6 +1,6 @@
 ghost use Rattle.std.specs.Prelude.{◌≡◌, IsTrue};
 ghost use Rattle.vt_world.specs.Spare.{Fits, HasSize, allocates};
-ghost use Rattle.vt_world.specs.Step.{Gives, IsBuiltEvent, own_step, step};
+ghost use Rattle.vt_world.specs.Step.{Gives, own_step, step};
 
 use crate::spare::Spare;
 use crate::world::World;
@@ -16,7 +16,6 @@ impl World {
     /// second part is the spare's second buffer, which it doesn't use.
     pub fn step(&mut self, caller: CallerNo, event: &Event, spare: Spare) -> (Reply, Bytes)
         requires fits { Fits self.old.rows self.old.cols event.now spare }
-        requires built { IsBuiltEvent event.now }
         ensures step { Gives (step self.old caller event.now) self.new result.0 }
         ensures unused { result.1 ≡ spare.unused }
     {
@@ -33,7 +32,6 @@ impl World {
 
     fn carry_out(&mut self, p: CallerNo, event: &Event, grid: Option<Grid>) -> Reply
         requires grid { IsTrue (allocates event.now) → HasSize self.old.rows self.old.cols grid }
-        requires built { IsBuiltEvent event.now }
         ensures { Gives (own_step self.old p event.now) self.new result }
     {
         match event {

@@ -1,24 +1,24 @@
 ghost use Rattle.std.specs.Prelude.{◌≡◌, IfOk, is_some, option_copied};
 ghost use Rattle.vt_world.specs.Display.{is_allocated};
-ghost use Rattle.vt_world.specs.Screens.{screen_at};
 ghost use Rattle.vt_world.specs.Start.{IsFitSet, opening};
+ghost use Rattle.vt_world.specs.Terminals.{bells_of, machine_of, terminal_at};
 
 use crate::config::Config;
 use crate::procs::Procs;
-use crate::screens::Screens;
 use crate::switch::Switch;
+use crate::terminals::Terminals;
 use std::alloc::Global;
 use std::marker::Model;
 use vt_base::{ConsoleNo, NoMemory, Size};
 use vt_screen::Emu;
 
-/// All consoles with their screens, the display, and the callers.
+/// All consoles with what they show, the display, and the callers.
 #[derive(Debug, Drop)]
 pub struct World {
     pub(crate) size: Size,
     pub(crate) switch: Switch,
     pub(crate) procs: Procs,
-    pub(crate) screens: Screens,
+    pub(crate) terminals: Terminals,
 }
 
 impl Model for World {
@@ -31,17 +31,17 @@ impl Model for World {
       cols = w.size.cols;
       display = w.switch;
       callers = w.procs;
-      screens = w.screens;
+      terminals = w.terminals;
     } };
 
-    ghost use Rattle.vt_world.specs.State.{HasScreens};
+    ghost use Rattle.vt_world.specs.State.{HasTerminals};
 
-    ghost invariant = { λ w. HasScreens (record {
+    ghost invariant = { λ w. HasTerminals (record {
       rows = w.size.rows;
       cols = w.size.cols;
       display = w.switch;
       callers = w.procs;
-      screens = w.screens;
+      terminals = w.terminals;
     }) };
 }
 
@@ -52,12 +52,12 @@ impl World {
         ensures { IfOk result (λ w. w ≡ opening c.now.size.rows c.now.size.cols c.now.consoles
             c.now.front c.now.procs) }
     {
-        let screens = Screens::start(alloc, c.size, c.consoles)?;
+        let terminals = Terminals::start(alloc, c.size, c.consoles)?;
         Ok(World {
             size: c.size,
             switch: Switch::start(c.front, c.consoles),
             procs: Procs::start(c.procs.as_slice()),
-            screens,
+            terminals,
         })
     }
 
@@ -70,10 +70,23 @@ impl World {
 
     /// The screen of the console, where it is allocated.
     pub fn screen(&self, c: ConsoleNo) -> Option<&Emu>
-        ensures screen { option_copied result ≡ screen_at self.now.screens c }
+        ensures screen { option_copied result ≡ machine_of (terminal_at self.now.terminals c) }
         ensures allocated { is_some result ≡ is_allocated self.now.display c }
     {
-        self.screens.at(c)
+        match self.terminals.at(c) {
+            Some(terminal) => Some(terminal.emu()),
+            None => None,
+        }
+    }
+
+    /// How often the console's bell rang: 0 where it isn't allocated.
+    pub fn bells(&self, c: ConsoleNo) -> u32
+        ensures { result ≡ bells_of (terminal_at self.now.terminals c) }
+    {
+        match self.terminals.at(c) {
+            Some(terminal) => terminal.bells(),
+            None => 0,
+        }
     }
 
     /// The rows and columns of every new screen.

@@ -1,9 +1,10 @@
-ghost use Rattle.std.specs.Prelude.{◌≡◌, ◌<◌};
-ghost use Rattle.vt_screen.specs.Effect.{print, put_here, shown, table_of, toggled};
+ghost use Rattle.std.specs.Prelude.{◌≡◌, ◌<◌, ◌≤◌, ◌+◌, false, length};
+ghost use Rattle.vt_screen.specs.Effect.{print, printed, put_here, room, shown, table_of, toggled};
 
 use super::Canvas;
 use crate::BLANK;
 use vt_grid::Cell;
+use vt_grid::laws::run_is_its_cells;
 
 impl Canvas {
     /// Prints a character, by its code point.
@@ -15,6 +16,35 @@ impl Canvas {
             self.linefeed();
         }
         self.put(code);
+    }
+
+    /// How many characters fit before the last column, where no wrap is pending.
+    pub fn room(&self) -> usize
+        ensures room { result ≡ room self.now }
+        ensures unwrapped { 0 < result → self.now.wrap ≡ false }
+        ensures fits { self.now.x + result < self.now.sheet.cols }
+        ensures small { self.now.x + result < 255 }
+    {
+        let last = self.grid.size().cols - 1;
+        if self.state.wrap {
+            0
+        } else {
+            usize::from(last - self.state.x)
+        }
+    }
+
+    /// Prints characters, one for each byte, that end before the last column.
+    pub fn print_bytes(&mut self, bytes: &[u8])
+        requires { length bytes.now ≤ room self.old }
+        ensures { self.new ≡ printed bytes.now self.old }
+    {
+        run_is_its_cells();
+        let _room = self.room();
+        if !bytes.is_empty() {
+            self.grid
+                .put_bytes(self.state.y, self.state.x, bytes, BLANK.attr);
+            self.state.x += bytes.len() as u8;
+        }
     }
 
     // Puts the character at the cursor, and moves the cursor on.

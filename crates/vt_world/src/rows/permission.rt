@@ -40,7 +40,7 @@ impl World {
             return;
         }
         let Some(grid) = grid else { unreachable!() };
-        self.screens.begin(c, grid);
+        self.terminals.begin(c, grid);
         self.switch.allocate(c);
     }
 }

@@ -1,6 +1,5 @@
-ghost use Rattle.std.specs.Prelude.{◌≡◌, All, IsTrue};
+ghost use Rattle.std.specs.Prelude.{◌≡◌};
 ghost use Rattle.vt_events.specs.declared.event.Event.TheVariants as event;
-ghost use Rattle.vt_screen.specs.Units.{is_built};
 ghost use Rattle.vt_world.specs.Step.{Gives, own_step};
 
 use crate::World;
@@ -14,7 +13,6 @@ const WRITE_LIMIT: usize = 4_096;
 impl World {
     /// Writes the bytes on the screen of the descriptor's console.
     pub(crate) fn write(&mut self, p: CallerNo, fd: u16, b: &Bytes) -> Reply
-        requires { All (λ byte. IsTrue (is_built byte)) b.now.bytes }
         ensures { Gives (own_step self.old p (event.Write fd b.now)) self.new result }
     {
         let Some(c) = self.procs.console_of(p, fd) else {
@@ -24,7 +22,7 @@ impl World {
         if text.len() > WRITE_LIMIT {
             return INVALID;
         }
-        self.screens.write(c, text);
+        self.terminals.write(c, text);
         Reply::Num(text.len() as u32)
     }
 }

@@ -11,10 +11,10 @@ loop-at-preserved-then-count-eq0 c =
     let outs = c.loop-at.outs in
     record {
       within = omega (arith, c.if-count-eq0.true);
-      outs = omega (arith, c.take.ensures.room, c.loop-at.invariant.outs);
+      outs = omega (arith, c.take_quickly.ensures.room, c.loop-at.invariant.outs);
       run =
           run-byte text (at + n) (having_said outs c.print_run-count.new.self)
-          (having_said c.take.new.outs c.take.new.self) (omega (arith, c.if-count-eq0.true)) c.take.ensures.step
+          (having_said c.take_quickly.new.outs c.take_quickly.new.self) (omega (arith, c.if-count-eq0.true)) c.take_quickly.ensures.step
           ∙ run-on text at n (having_said outs c.loop-at.self) (having_said outs c.print_run-count.new.self)
           (c.print_run-count.ensures.run outs)
           ∙ c.loop-at.invariant.run;

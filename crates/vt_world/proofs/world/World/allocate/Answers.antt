@@ -14,7 +14,7 @@ returns-then-allocated c =
       cols = inside.size.cols;
       display = inside.switch;
       callers = inside.procs;
-      screens = inside.screens;
+      terminals = inside.terminals;
     } in
     subst (λ (v : WorldState). v ≡ all_done v (allocating c.args.c [])) c.self.view_is
     (allocating_same w c.args.c c.self.invariant (sym c.allocated.ensures ∙ c.if-allocated.true))
@@ -23,5 +23,5 @@ pub invariant_of-self : goal.invariant_of-self
 invariant_of-self c =
     ap (map is_some) c.begin.ensures
     ∙ allocated_alike c.args.c c.in-Some.grid.rows c.in-Some.grid.cols c.self.inside.switch.consoles
-    c.self.inside.screens c.self.invariant
+    c.self.inside.terminals c.self.invariant
     ∙ sym (ap (λ (d : Display). map is_some d.consoles) c.allocate.ensures)

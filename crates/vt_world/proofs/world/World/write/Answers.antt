@@ -6,5 +6,5 @@ use Rattle.vt_world.proofs.world.World.write.Goals as goal
 pub invariant_of-self : goal.invariant_of-self
 invariant_of-self c =
     ap (map is_some) c.write.ensures
-    ∙ written_alike c.in-Some.c c.as_slice-text.result.now c.self.inside.screens
+    ∙ written_alike c.in-Some.c c.as_slice-text.result.now c.self.inside.terminals
     ∙ c.self.invariant

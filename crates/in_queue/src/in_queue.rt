@@ -1,0 +1,110 @@
+ghost use Rattle.std.specs.Prelude.{◌≡◌, ◌+◌, ◌<◌, ◌≤◌, ◌==◌, ◌↔◌, ◌++◌, length, take, min, slice_get, Some, IsTrue, IfOk};
+ghost use Rattle.std.specs.Bool.{OnFalse, OnTrue};
+ghost use Rattle.in_queue.specs.Queue.{empty, with_drop, with_piece, without_front};
+
+use circular_buffer::HeapCircularBuffer;
+use std::alloc::Global;
+use std::marker::Model;
+use vt_base::{Bytes, NoMemory};
+
+/// The most bytes of an input queue. This project's own.
+pub const QUEUE_BYTES: usize = 4_096;
+
+/// What a console's readers have still to read: at most [`QUEUE_BYTES`] bytes. A piece that doesn't
+/// fit is dropped whole and counted.
+#[derive(Debug, Drop)]
+pub struct InQueue {
+    bytes: HeapCircularBuffer<u8>,
+    dropped: u32,
+}
+
+impl Model for InQueue {
+    ghost use Rattle.std.specs.Prelude.{◌≡◌};
+    ghost use Rattle.in_queue.specs.Queue.{Queue};
+
+    ghost Value = { Queue };
+
+    ghost view = { λ q. record { bytes = q.bytes.items; dropped = q.dropped } };
+
+    ghost invariant = { λ q. q.bytes.capacity ≡ 4096 };
+}
+
+impl InQueue {
+    /// An empty queue. It takes the memory of all that it will ever hold.
+    pub fn new(alloc: Global) -> Result<InQueue, NoMemory>
+        ensures { IfOk result (λ q. q ≡ empty) }
+    {
+        let bytes = HeapCircularBuffer::with_capacity(alloc, QUEUE_BYTES)?;
+        Ok(InQueue { bytes, dropped: 0 })
+    }
+
+    /// Puts all of `b` at the back, or drops it where it doesn't fit.
+    pub fn put(&mut self, b: &[u8]) -> bool
+        ensures fits { IsTrue result ↔ (length self.old.bytes + length b.now ≤ QUEUE_BYTES) }
+        ensures put { OnTrue result (self.new ≡ with_piece self.old b.now) }
+        ensures dropped { OnFalse result (self.new ≡ with_drop self.old) }
+    {
+        if QUEUE_BYTES - self.bytes.len() < b.len() {
+            self.dropped = self.dropped.saturating_add(1);
+            return false;
+        }
+        self.bytes.extend_from_slice(b);
+        true
+    }
+
+    /// Moves bytes from the front to the end of `out`, at most `max`, and says how many.
+    pub fn take(&mut self, out: &mut Bytes, max: usize) -> usize
+        requires { max ≤ out.old.room }
+        ensures count { result ≡ min max (length self.old.bytes) }
+        ensures taken { out.new.bytes ≡ out.old.bytes ++ take result self.old.bytes }
+        ensures room { out.new.room + result ≡ out.old.room }
+        ensures left { self.new ≡ without_front self.old result }
+    {
+        let len = self.bytes.len();
+        let count = max.min(len);
+        let (front, back) = self.bytes.as_slices();
+        let from_front = count.min(front.len());
+        out.append(&front[..from_front]);
+        out.append(&back[..count - from_front]);
+        self.bytes.truncate_front(len - count);
+        count
+    }
+
+    /// How many bytes there are.
+    pub fn len(&self) -> usize
+        ensures count { result ≡ length self.now.bytes }
+        ensures within { result ≤ QUEUE_BYTES }
+    {
+        self.bytes.len()
+    }
+
+    /// Whether there are none.
+    pub fn is_empty(&self) -> bool
+        ensures { result ≡ (length self.now.bytes == 0) }
+    {
+        self.bytes.is_empty()
+    }
+
+    /// Byte `i` from the front, counted from 0.
+    pub fn at(&self, i: usize) -> u8
+        requires { i < length self.now.bytes }
+        ensures { slice_get self.now.bytes i ≡ Some result }
+    {
+        self.bytes.get(i).copied().unwrap()
+    }
+
+    /// How many pieces were dropped; the count stands still at 4,294,967,295.
+    pub fn dropped(&self) -> u32
+        ensures { result ≡ self.now.dropped }
+    {
+        self.dropped
+    }
+
+    /// Takes all bytes away, and counts no drops any more.
+    pub fn clear(&mut self)
+        ensures { self.new ≡ empty }
+    {
+        self.bytes.clear();
+        self.dropped = 0;
+    }
+}

@@ -1,0 +1,8 @@
+//! The input queue of a console: bytes go in whole or not at all, and come out in their order.
+#![tactic(auto)]
+
+mod in_queue;
+#[cfg(test)]
+mod tests;
+
+pub use in_queue::{InQueue, QUEUE_BYTES};

@@ -1,0 +1,13 @@
+//! Scan codes: the bytes of a keyboard read as keys that go down and up.
+#![tactic(auto)]
+
+mod key_event;
+mod laws;
+mod scanner;
+mod start;
+#[cfg(test)]
+mod tests;
+
+pub use key_event::KeyEvent;
+pub use laws::{any_cut, groups_are_read};
+pub use scanner::Scanner;

@@ -1,0 +1,46 @@
+-- The attribute byte of a VGA text cell: blink is bit 7, the ground bits 4 to 6, bright bit 3 and the
+-- character's colour bits 0 to 2. How attributes become that byte is this project's own.
+use Rattle.std.specs.Prelude.{ℕ, ◌+◌, ◌-◌, ◌*◌, ◌/◌, ◌%◌, ◌==◌, List, [], ◌∷◌, slice_index, if◌then◌else◌}
+use Rattle.vt_cells.specs.Rendition.{Rendition, Tints, is_bold, is_dim}
+
+-- VGA's numbers of the console's colours in their order: VGA counts blue 1 and red 4
+abbrev pub vga_colours : List ℕ
+vga_colours =
+    0 ∷ 4 ∷ 2 ∷ 6 ∷ 1 ∷ 5 ∷ 3 ∷ 7 ∷ 8 ∷ 12 ∷ 10 ∷ 14 ∷ 9 ∷ 13 ∷ 11 ∷ 15 ∷ []
+
+-- a colour's number in VGA
+abbrev pub vga : ℕ → ℕ
+vga c = slice_index vga_colours c
+
+-- a ground and a character's colour in one byte
+abbrev pub byte_of : ℕ → ℕ → ℕ
+byte_of bg fg = 16 * bg + fg
+
+-- the ground and the character's colour are exchanged; blink and bright stay
+abbrev pub swapped : ℕ → ℕ
+swapped b = 128 * (b / 128) + 16 * (b % 8) + 8 * (b / 8 % 2) + b / 16 % 8
+
+-- the bit of this weight is set where it wasn't, and else cleared
+abbrev pub flipped : ℕ → ℕ → ℕ
+flipped weight b = if b / weight % 2 == 0 then b + weight else b - weight
+
+-- the character's colour: green where italic is on, else that for underline, else that for
+-- half-bright, else its own
+abbrev pub ink : Rendition → Tints → ℕ
+ink a l =
+    if a.italic then 2
+    else if a.underline then vga l.ul
+    else if is_dim a.intensity then vga l.dim
+    else vga a.fg
+
+-- the byte with reverse applied, then blink, then bold
+abbrev pub attr_byte : Rendition → Tints → ℕ
+attr_byte a l =
+    let plain = byte_of (vga a.bg) (ink a l) in
+    let turned = if a.reverse then swapped plain else plain in
+    let blinking = if a.blink then flipped 128 turned else turned in
+    if is_bold a.intensity then flipped 8 blinking else blinking
+
+-- the byte of erased cells: the two colours alone
+abbrev pub erase_byte : Rendition → ℕ
+erase_byte a = byte_of (vga a.bg) (vga a.fg)

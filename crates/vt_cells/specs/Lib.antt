@@ -1,0 +1,3 @@
+pub mod AttrByte
+pub mod Colours
+pub mod Rendition

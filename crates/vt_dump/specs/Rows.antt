@@ -1,0 +1,22 @@
+-- The text of rows.
+use Rattle.std.specs.Prelude.{ℕ, Bool, ◌&&◌, ◌||◌, nat_le, List, [], ◌∷◌, ◌++◌, encode_utf8, if◌then◌else◌}
+use Rattle.std.specs.List.{flat_map}
+use Rattle.vt_grid.specs.declared.cell.Cell.{Cell}
+
+-- the code is a character's and no control's: 20 to 7E, and A0 to 10FFFF but the surrogates
+abbrev pub is_shown : ℕ → Bool
+is_shown code =
+    (nat_le 0x20 code && nat_le code 0x7E)
+    || ((nat_le 0xA0 code && nat_le code 0xD7FF) || (nat_le 0xE000 code && nat_le code 0x10FFFF))
+
+-- a cell's character in UTF-8, or a question mark
+abbrev pub cell_text : Cell → List ℕ
+cell_text cell = if is_shown cell.code then encode_utf8 cell.code else 0x3F ∷ []
+
+-- a bar, the cells, a bar, and the line's end
+abbrev pub row_text : List Cell → List ℕ
+row_text row = 0x7C ∷ flat_map cell_text row ++ 0x7C ∷ 0x0A ∷ []
+
+-- the rows from top to bottom
+abbrev pub rows_text : List (List Cell) → List ℕ
+rows_text rows = flat_map row_text rows

@@ -1,0 +1,79 @@
+ghost use Rattle.std.specs.Prelude.{◌≡◌, ◌+◌, ◌≤◌, ◌++◌, length};
+ghost use Rattle.vt_dump.specs.Dumps.{attribute, character};
+ghost use Rattle.vt_dump.specs.Forms.{cell_bytes, most_bytes};
+ghost use Rattle.vt_dump.specs.Rows.{cell_text, is_shown};
+
+use vt_base::Bytes;
+use vt_cells::swapped;
+use vt_grid::Cell;
+
+/// What a dump says of a cell.
+#[derive(Clone, Copy)]
+pub enum Form {
+    /// Its character in one byte.
+    Character,
+    /// Its character and its attribute, with the colours exchanged on a reversed screen.
+    WithAttribute { reversed: bool },
+    /// Its code point.
+    Code,
+    /// Its character in UTF-8.
+    Text,
+}
+
+/// Appends a cell's bytes, in the room that is there.
+pub fn add_cell(form: Form, cell: Cell, out: &mut Bytes)
+    requires { most_bytes form ≤ out.old.room }
+    ensures bytes { out.new.bytes ≡ out.old.bytes ++ cell_bytes form cell }
+    ensures room { out.new.room + length out.new.bytes ≡ out.old.room + length out.old.bytes }
+    ensures most { out.old.room ≤ out.new.room + most_bytes form }
+{
+    match form {
+        Form::Character => out.append(&[character(cell)]),
+        Form::WithAttribute { reversed } => {
+            out.append(&[character(cell), attribute(reversed, cell)])
+        }
+        Form::Code => out.append(&cell.code.to_le_bytes()),
+        Form::Text => add_text(cell, out),
+    }
+}
+
+fn add_text(cell: Cell, out: &mut Bytes)
+    requires { 4 ≤ out.old.room }
+    ensures bytes { out.new.bytes ≡ out.old.bytes ++ cell_text cell }
+    ensures room { out.new.room + length out.new.bytes ≡ out.old.room + length out.old.bytes }
+    ensures most { out.old.room ≤ out.new.room + 4 }
+{
+    match char::from_u32(cell.code) {
+        Some(c) if is_shown(c) => {
+            let mut buffer = [0; 4];
+            out.append(c.encode_utf8(&mut buffer).as_bytes());
+        }
+        _ => out.append(b"?"),
+    }
+}
+
+fn is_shown(c: char) -> bool
+    ensures { result ≡ is_shown c }
+{
+    matches!(c, ' '..='~' | '\u{A0}'..)
+}
+
+fn character(cell: Cell) -> u8
+    ensures { result ≡ character cell }
+{
+    if cell.code <= 0xFF {
+        cell.code as u8
+    } else {
+        b'?'
+    }
+}
+
+fn attribute(reversed: bool, cell: Cell) -> u8
+    ensures { result ≡ attribute reversed cell }
+{
+    if reversed {
+        swapped(cell.attr)
+    } else {
+        cell.attr
+    }
+}

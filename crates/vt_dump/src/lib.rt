@@ -1,0 +1,12 @@
+//! Dumps of a screen: its characters, its attributes, its codes, and its rows as text.
+#![tactic(auto)]
+
+mod cells;
+mod dumps;
+mod form;
+mod rows;
+#[cfg(test)]
+mod tests;
+
+pub use dumps::{codes, vcs, vcsa};
+pub use rows::{add_rows, text_rows};

@@ -1,0 +1,50 @@
+ghost use Rattle.std.specs.Prelude.{◌≡◌, ◌+◌, ◌*◌, ◌<◌, ◌≤◌, ◌++◌, IfOk, OnErr, OnOk};
+ghost use Rattle.vt_dump.specs.Rows.{row_text, rows_text};
+ghost use Rattle.vt_grid.specs.Grid.{row_at};
+
+use crate::cells::add_row;
+use crate::form::Form;
+use std::alloc::Global;
+use vt_base::{Bytes, NoMemory};
+use vt_grid::Grid;
+
+/// The most bytes of a cell's text.
+const CELL_BYTES: usize = 4;
+
+/// The bytes of a row's text beside its cells.
+const FRAME_BYTES: usize = 3;
+
+/// The rows as text: each is `|`, its cells' characters in UTF-8, `|` and LF. A code that is a
+/// control's, or no character's, is shown as `?`. This project's own.
+pub fn text_rows(alloc: Global, g: &Grid) -> Result<Bytes, NoMemory>
+    ensures { IfOk result (λ text. text.bytes ≡ rows_text g.now.cells) }
+{
+    let mut text = Bytes::new(alloc);
+    add_rows(alloc, &mut text, g)?;
+    Ok(text)
+}
+
+/// Adds the text of the rows.
+pub fn add_rows(alloc: Global, text: &mut Bytes, g: &Grid) -> Result<(), NoMemory>
+    ensures ok { OnOk result (text.new.bytes ≡ text.old.bytes ++ rows_text g.now.cells) }
+    ensures err { OnErr result (text.new ≡ text.old) }
+{
+    let size = g.size();
+    let row = usize::from(size.cols) * CELL_BYTES + FRAME_BYTES;
+    text.grow(alloc, usize::from(size.rows) * row)?;
+    for y in 0..size.rows {
+        add_row_text(g, y, text);
+    }
+    Ok(())
+}
+
+fn add_row_text(g: &Grid, y: u8, text: &mut Bytes)
+    requires row { y < g.now.rows }
+    requires room { g.now.cols * CELL_BYTES + FRAME_BYTES ≤ text.old.room }
+    ensures bytes { text.new.bytes ≡ text.old.bytes ++ row_text (row_at g.now y) }
+    ensures most { text.old.room ≤ text.new.room + (g.now.cols * CELL_BYTES + FRAME_BYTES) }
+{
+    text.append(b"|");
+    add_row(Form::Text, g, y, text);
+    text.append(b"|\n");
+}

@@ -1,0 +1,14 @@
+use Rattle.std.proofs.Common.{◌≡◌, ◌≤◌, length, arith, sym, ap, ◌∙◌}
+use Rattle.vt_grid.proofs.Turns.{turned-turned, length-turned}
+use Rattle.vt_grid.specs.Store.{turned}
+use Rattle.vt_grid.proofs.rows.ring.Ring.turn.Goals as goal
+
+pub returns : goal.returns
+returns c =
+    let numbers = c.self.inside.numbers.items in
+    let len : c.len.result ≡ length numbers = omega arith in
+    let within : c.args.n ≤ length numbers =
+    omega (arith, ap length c.self.view_is, length-turned c.self.inside.head numbers) in
+    sym (turned-turned c.self.inside.head c.args.n c.place_of.result c.self.inside.numbers.items
+    (omega arith) within (omega arith) (rw (← len) c.place_of.ensures.place))
+    ∙ ap (turned c.args.n) c.self.view_is

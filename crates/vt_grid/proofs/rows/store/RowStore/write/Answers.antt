@@ -1,0 +1,12 @@
+use Rattle.std.proofs.Common.{[], ◌∷◌, ap, ◌∙◌}
+use Rattle.vt_grid.proofs.Naming.{changed-is}
+use Rattle.vt_grid.specs.Line.{written}
+use Rattle.vt_grid.specs.Ring.{Shelf}
+use Rattle.vt_grid.proofs.rows.store.RowStore.write.Goals as goal
+
+pub returns-clause-rows : goal.returns-clause-rows
+returns-clause-rows g c =
+    changed-is _ _ c.self.inside.ring c.self.inside.rows.items c.self.invariant c.args.self.now
+    c.args.y c.from.result c.index_mut-row.result.now c.write.new.self (written c.args.x (c.args.c ∷ []))
+    c.self.view_is c.requires.row (c.from.ensures ∙ c.at-number.ensures)
+    c.index_mut-row.ensures.value (ap (λ (r : Shelf). r.line) c.write.ensures)

@@ -1,0 +1,45 @@
+-- A row of which only the first cells are stored.
+use Rattle.std.specs.Prelude.{ℕ, ◌+◌, ◌-◌, List, [], ◌++◌, length, take, drop, replicate, slice_index_or}
+use Rattle.vt_grid.specs.Grid.{overlaid}
+use Rattle.vt_grid.specs.declared.cell.Cell.{Cell}
+
+-- the cells that are stored, from left to right, and the cell that stands for all further ones
+pub record Line : Type 0 where
+  pub stored : List Cell
+  pub rest : Cell
+
+-- a row that stores no cell: each of them is c
+abbrev pub blank_line : Cell → Line
+blank_line c = record { stored = []; rest = c }
+
+-- the cell in column x
+abbrev pub cell_at : Line → ℕ → Cell
+cell_at line x = slice_index_or line.stored x line.rest
+
+-- the first n cells, and all that are stored
+abbrev pub cells_of : ℕ → Line → List Cell
+cells_of n line = line.stored ++ replicate (n - length line.stored) line.rest
+
+-- the stored cells from column x on are these, and all others are as they were
+abbrev pub written : ℕ → List Cell → Line → Line
+written x cells line = record line { stored = overlaid x cells line.stored }
+
+-- the cells before column x are stored
+abbrev pub reached : ℕ → Line → Line
+reached x line = record line { stored = cells_of x line }
+
+-- the cells from column len on are all c
+abbrev pub cut_at : ℕ → Cell → Line → Line
+cut_at len c line = record { stored = take len line.stored; rest = c }
+
+-- so many cells c come in at column x: the rest moves right, and what passes the end is lost
+abbrev pub inserted_at : ℕ → ℕ → ℕ → Cell → Line → Line
+inserted_at cols x count c line =
+    record line {
+      stored = take cols (take x line.stored ++ (replicate count c ++ drop x line.stored));
+    }
+
+-- so many stored cells go out at column x: the rest moves left, and all further cells are c
+abbrev pub removed_at : ℕ → ℕ → Cell → Line → Line
+removed_at x count c line =
+    record { stored = take x line.stored ++ drop (x + count) line.stored; rest = c }

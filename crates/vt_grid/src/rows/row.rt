@@ -1,0 +1,190 @@
+ghost use Rattle.std.specs.Prelude.{◌≡◌, ◌+◌, ◌-◌, ◌<◌, ◌≤◌, [], ◌∷◌, ◌++◌, length, map, replicate, take, IfOk};
+ghost use Rattle.vt_grid.specs.Line.{blank_line, cell_at, cut_at, inserted_at, reached, removed_at, written};
+
+use crate::Cell;
+use crate::code::Code;
+use crate::kept::Kept;
+use std::alloc::Global;
+use std::marker::Model;
+use vt_base::NoMemory;
+
+/// One row: room for its cells, of which the first `len` are stored.
+#[derive(Debug, Drop)]
+pub struct Row {
+    cells: Vec<Kept>,
+    rest: Kept,
+    len: u8,
+}
+
+impl Model for Row {
+    ghost use Rattle.std.specs.Prelude.{◌≤◌, length, take};
+    ghost use Rattle.vt_grid.specs.Ring.{Shelf};
+
+    ghost Value = { Shelf };
+
+    ghost view = { λ r. record {
+      room = length r.cells.items;
+      line = record { stored = take r.len r.cells.items; rest = r.rest };
+    } };
+
+    ghost invariant = { λ r. (r.len ≤ length r.cells.items) × (length r.cells.items ≤ 255) };
+}
+
+impl Row {
+    pub fn blank(alloc: Global, cols: u8, c: Cell) -> Result<Row, NoMemory>
+        ensures { IfOk result (λ row. row ≡ record { room = cols; line = blank_line c }) }
+    {
+        let rest = Kept::new(c);
+        let mut cells = Vec::new(alloc);
+        cells.resize(usize::from(cols), rest)?;
+        Ok(Row {
+            cells,
+            rest,
+            len: 0,
+        })
+    }
+
+    pub fn stored(&self) -> u8
+        ensures { result ≡ length self.now.line.stored }
+    {
+        self.len
+    }
+
+    pub fn at(&self, x: u8) -> Cell
+        requires { x < self.now.room }
+        ensures { result ≡ cell_at self.now.line x }
+    {
+        if x < self.len {
+            self.cells[usize::from(x)].cell()
+        } else {
+            self.rest.cell()
+        }
+    }
+
+    pub fn write(&mut self, x: u8, c: Cell)
+        requires place { x ≤ length self.old.line.stored }
+        requires column { x < self.old.room }
+        ensures { self.new ≡ record self.old { line = written x (c ∷ []) self.old.line } }
+    {
+        self.cells[usize::from(x)] = Kept::new(c);
+        if x == self.len {
+            self.len += 1;
+        }
+    }
+
+    pub fn cut(&mut self, len: u8, c: Cell)
+        requires { len ≤ length self.old.line.stored }
+        ensures { self.new ≡ record self.old { line = cut_at len c self.old.line } }
+    {
+        self.len = len;
+        self.rest = Kept::new(c);
+    }
+
+    /// Stores the cells before column `x`.
+    pub fn reach(&mut self, x: u8)
+        requires { x ≤ self.old.room }
+        ensures { self.new ≡ record self.old { line = reached x self.old.line } }
+    {
+        if self.len < x {
+            let rest = self.rest;
+            self.cells[usize::from(self.len)..usize::from(x)].fill(rest);
+            self.len = x;
+        }
+    }
+
+    /// Writes the cells of these codes from column `x` on.
+    pub fn write_run<T: Code>(&mut self, x: u8, codes: &[T], attr: u8)
+        requires place { x ≤ length self.old.line.stored }
+        requires columns { x + length codes.now ≤ self.old.room }
+        ensures { self.new
+            ≡ record self.old {
+              line = written x (map (λ c. record { code = T.code_of c; attr = attr }) codes.now) self.old.line;
+            } }
+    {
+        let stored = usize::from(self.len);
+        let from = usize::from(x);
+        let end = from + codes.len();
+        write_all(&mut self.cells[from..end], codes, attr);
+        if stored < end {
+            self.len = end as u8;
+        }
+    }
+
+    /// Writes the cell `c`, `count` times, from column `x` on.
+    pub fn fill(&mut self, x: u8, count: u8, c: Cell)
+        requires place { x ≤ length self.old.line.stored }
+        requires columns { x + count ≤ self.old.room }
+        ensures { self.new
+            ≡ record self.old { line = written x (replicate count c) self.old.line } }
+    {
+        let stored = usize::from(self.len);
+        let from = usize::from(x);
+        let end = from + usize::from(count);
+        fill_all(&mut self.cells[from..end], count, Kept::new(c));
+        if stored < end {
+            self.len = end as u8;
+        }
+    }
+
+    /// Puts the cell `c` in at column `x`, `count` times.
+    pub fn insert(&mut self, x: u8, count: u8, c: Cell)
+        requires place { x ≤ length self.old.line.stored }
+        requires columns { x + count ≤ self.old.room }
+        ensures { self.new
+            ≡ record self.old { line = inserted_at self.old.room x count c self.old.line } }
+    {
+        let room = self.cells.len();
+        let end = room.min(usize::from(self.len) + usize::from(count));
+        move_right(
+            &mut self.cells[usize::from(x)..end],
+            usize::from(count),
+            Kept::new(c),
+        );
+        self.len = end as u8;
+    }
+
+    /// Takes `count` cells out at column `x` of a row whose cells are all stored. All further
+    /// cells are `c`.
+    pub fn remove(&mut self, x: u8, count: u8, c: Cell)
+        requires stored { length self.old.line.stored ≡ self.old.room }
+        requires columns { x + count ≤ self.old.room }
+        ensures { self.new ≡ record self.old { line = removed_at x count c self.old.line } }
+    {
+        let tail = Kept::new(c);
+        let room = self.cells.len();
+        let from = usize::from(x);
+        self.cells
+            .copy_within(from + usize::from(count)..room, from);
+        self.len = (room - usize::from(count)) as u8;
+        self.rest = tail;
+    }
+}
+
+fn fill_all(cells: &mut [Kept], count: u8, c: Kept)
+    requires { length cells.old ≡ count }
+    ensures { cells.new ≡ replicate count c }
+{
+    cells.fill(c);
+}
+
+// Moves the cells right by count: those that pass the end are lost, and c comes in.
+fn move_right(cells: &mut [Kept], count: usize, c: Kept)
+    requires { count ≤ length cells.old }
+    ensures { cells.new ≡ replicate count c ++ take (length cells.old - count) cells.old }
+{
+    let left = cells.len() - count;
+    cells.copy_within(0..left, count);
+    cells[..count].fill(c);
+}
+
+fn write_all<T: Code>(cells: &mut [Kept], codes: &[T], attr: u8)
+    requires { length codes.now ≡ length cells.old }
+    ensures { cells.new ≡ map (λ c. record { code = T.code_of c; attr = attr }) codes.now }
+{
+    for i in 0..codes.len() {
+        cells[i] = Kept::new(Cell {
+            code: codes[i].code(),
+            attr,
+        });
+    }
+}

@@ -1,0 +1,249 @@
+ghost use Rattle.std.specs.Prelude.{◌≡◌, ◌+◌, ◌-◌, ◌<◌, ◌≤◌, [], ◌∷◌, length, map, replicate, IfOk};
+ghost use Rattle.vt_grid.specs.Line.{cell_at, cut_at, inserted_at, reached, removed_at, written};
+ghost use Rattle.vt_grid.specs.Store.{IsFit, blank_store, line_at, part_turned, turned, with_line};
+
+use super::Steps;
+use super::ring::Ring;
+use super::row::Row;
+use crate::Cell;
+use crate::code::Code;
+use std::alloc::Global;
+use std::marker::Model;
+use std::sync::ledger::Ledger;
+use vt_base::{NoMemory, Size};
+
+/// The rows of a grid. Each stores its first cells, and one cell that stands for all further
+/// ones.
+#[derive(Debug, Drop)]
+pub struct RowStore {
+    size: Size,
+    ring: Ring,
+    rows: Vec<Row>,
+}
+
+impl Model for RowStore {
+    ghost use Rattle.vt_grid.specs.Ring.{IsNaming, named};
+    ghost use Rattle.vt_grid.specs.Store.{Store};
+
+    ghost Value = { Store };
+
+    ghost view = { λ s. record {
+      rows = s.size.rows;
+      cols = s.size.cols;
+      lines = named s.rows.items s.ring;
+    } };
+
+    ghost invariant = { λ s. IsNaming s.size.rows s.size.cols s.ring s.rows.items };
+}
+
+impl RowStore {
+    /// Rows that store no cell: each cell is `c`.
+    pub fn blank(alloc: Global, size: Size, c: Cell) -> Result<RowStore, NoMemory>
+        ensures { IfOk result (λ store. store ≡ blank_store size.rows size.cols c) }
+    {
+        let ring = Ring::rising(alloc, size.rows)?;
+        let mut rows = Vec::with_capacity(alloc, usize::from(size.rows))?;
+        for _y in 0..size.rows {
+            rows.push(Row::blank(alloc, size.cols, c)?)?;
+        }
+        Ok(RowStore { size, ring, rows })
+    }
+
+    /// The rows and columns, which no call changes.
+    pub fn size(&self) -> Size
+        ensures rows { result.rows ≡ self.now.rows }
+        ensures cols { result.cols ≡ self.now.cols }
+        ensures fit { IsFit self.now }
+    {
+        self.size
+    }
+
+    /// The cell in row `y` and column `x`.
+    pub fn at(&self, y: u8, x: u8) -> Cell
+        requires row { y < self.now.rows }
+        requires column { x < self.now.cols }
+        ensures { result ≡ cell_at (line_at self.now y) x }
+    {
+        let number = self.ring.at(y);
+        let row = &self.rows[usize::from(number)];
+        row.at(x)
+    }
+
+    /// How many cells row `y` stores.
+    pub fn stored(&self, y: u8) -> u8
+        requires { y < self.now.rows }
+        ensures { result ≡ length (line_at self.now y).stored }
+    {
+        let number = self.ring.at(y);
+        let row = &self.rows[usize::from(number)];
+        row.stored()
+    }
+
+    /// Sets one cell, which is stored or the first that isn't. One step.
+    pub fn write<L: Ledger>(&mut self, y: u8, x: u8, c: Cell, steps: &mut Steps<L>)
+        requires row { y < self.old.rows }
+        requires place { x ≤ length (line_at self.old y).stored }
+        requires column { x < self.old.cols }
+        ensures rows { self.new ≡ with_line self.old y (written x (c ∷ []) (line_at self.old y)) }
+        ensures steps { steps.new ≡ steps.old + 1 }
+    {
+        let number = self.ring.at(y);
+        let row = &mut self.rows[usize::from(number)];
+        row.write(x, c);
+        steps.add(1);
+    }
+
+    /// Stores the first `len` cells of row `y` alone; all further ones are `tail`. One step.
+    pub fn cut<L: Ledger>(&mut self, y: u8, len: u8, tail: Cell, steps: &mut Steps<L>)
+        requires row { y < self.old.rows }
+        requires stored { len ≤ length (line_at self.old y).stored }
+        ensures rows { self.new ≡ with_line self.old y (cut_at len tail (line_at self.old y)) }
+        ensures steps { steps.new ≡ steps.old + 1 }
+    {
+        let number = self.ring.at(y);
+        let row = &mut self.rows[usize::from(number)];
+        row.cut(len, tail);
+        steps.add(1);
+    }
+
+    /// Moves all rows up by `n` round the end. One step.
+    pub fn turn<L: Ledger>(&mut self, n: u8, steps: &mut Steps<L>)
+        requires { n ≤ self.old.rows }
+        ensures rows { self.new ≡ record self.old { lines = turned n self.old.lines } }
+        ensures steps { steps.new ≡ steps.old + 1 }
+    {
+        self.ring.turn(n);
+        steps.add(1);
+    }
+
+    /// Moves the rows `top` to `bottom`, both included, up by `n` round their end. As many steps
+    /// as these rows; no other row's number is touched.
+    pub fn rotate<L: Ledger>(&mut self, top: u8, bottom: u8, n: u8, steps: &mut Steps<L>)
+        requires order { top ≤ bottom }
+        requires row { bottom < self.old.rows }
+        requires some { n ≤ bottom + 1 - top }
+        ensures rows { self.new ≡ record self.old { lines = part_turned top bottom n self.old.lines } }
+        ensures steps { steps.new ≡ steps.old + (bottom + 1 - top) }
+    {
+        self.ring.rotate(top, bottom, n, steps);
+    }
+
+    // Puts the cells of these codes into row `y` from column `x` on. As many steps as cells that
+    // are put or come to be stored.
+    pub(crate) fn put_run<T: Code, L: Ledger>(
+        &mut self,
+        y: u8,
+        x: u8,
+        codes: &[T],
+        attr: u8,
+        steps: &mut Steps<L>,
+    )
+        requires row { y < self.old.rows }
+        requires columns { x + length codes.now ≤ self.old.cols }
+        ensures rows { self.new
+            ≡ with_line self.old y
+            (written x (map (λ c. record { code = T.code_of c; attr = attr }) codes.now)
+            (reached x (line_at self.old y))) }
+        ensures steps { steps.new
+            ≡ steps.old + (x - length (line_at self.old y).stored) + length codes.now }
+    {
+        let number = self.ring.at(y);
+        let row = &mut self.rows[usize::from(number)];
+        let stored = row.stored();
+        row.reach(x);
+        row.write_run(x, codes, attr);
+        steps.add(u64::from(x.saturating_sub(stored)) + codes.len() as u64);
+    }
+
+    // Puts the cell `c` into row `y` from column `x` on, `count` times. As many steps as cells that
+    // are put or come to be stored.
+    pub(crate) fn fill<L: Ledger>(&mut self, y: u8, x: u8, count: u8, c: Cell, steps: &mut Steps<L>)
+        requires row { y < self.old.rows }
+        requires columns { x + count ≤ self.old.cols }
+        ensures rows { self.new
+            ≡ with_line self.old y
+            (written x (replicate count c) (reached x (line_at self.old y))) }
+        ensures steps { steps.new
+            ≡ steps.old + (x - length (line_at self.old y).stored) + count }
+    {
+        let number = self.ring.at(y);
+        let row = &mut self.rows[usize::from(number)];
+        let stored = row.stored();
+        row.reach(x);
+        row.fill(x, count, c);
+        steps.add(u64::from(x.saturating_sub(stored)) + u64::from(count));
+    }
+
+    // Makes the cells of row `y` from column `x` on `c`. As many steps as cells that come to be
+    // stored, and one.
+    pub(crate) fn cut_from<L: Ledger>(&mut self, y: u8, x: u8, c: Cell, steps: &mut Steps<L>)
+        requires row { y < self.old.rows }
+        requires column { x ≤ self.old.cols }
+        ensures rows { self.new
+            ≡ with_line self.old y (cut_at x c (reached x (line_at self.old y))) }
+        ensures steps { steps.new
+            ≡ steps.old + (x - length (line_at self.old y).stored) + 1 }
+    {
+        let number = self.ring.at(y);
+        let row = &mut self.rows[usize::from(number)];
+        let stored = row.stored();
+        row.reach(x);
+        row.cut(x, c);
+        steps.add(u64::from(x.saturating_sub(stored)) + 1);
+    }
+
+    // Puts the cell `c` in at column `x` of row `y`, `count` times: the row's rest moves right. As
+    // many steps as cells that come to be stored before `x`, and one for each cell from there on.
+    pub(crate) fn insert<L: Ledger>(
+        &mut self,
+        y: u8,
+        x: u8,
+        count: u8,
+        c: Cell,
+        steps: &mut Steps<L>,
+    )
+        requires row { y < self.old.rows }
+        requires columns { x + count ≤ self.old.cols }
+        ensures rows { self.new
+            ≡ with_line self.old y
+            (inserted_at self.old.cols x count c (reached x (line_at self.old y))) }
+        ensures steps { steps.new
+            ≡ steps.old + (x - length (line_at self.old y).stored) + (self.old.cols - x) }
+    {
+        let number = self.ring.at(y);
+        let row = &mut self.rows[usize::from(number)];
+        let stored = row.stored();
+        row.reach(x);
+        row.insert(x, count, c);
+        steps.add(u64::from(x.saturating_sub(stored)) + u64::from(self.size.cols - x));
+    }
+
+    // Takes `count` cells out at column `x` of row `y`: the row's rest moves left, and its end is
+    // `c`. As many steps as cells that come to be stored, and one for each cell from `x` on.
+    pub(crate) fn remove<L: Ledger>(
+        &mut self,
+        y: u8,
+        x: u8,
+        count: u8,
+        c: Cell,
+        steps: &mut Steps<L>,
+    )
+        requires row { y < self.old.rows }
+        requires columns { x + count ≤ self.old.cols }
+        ensures rows { self.new
+            ≡ with_line self.old y
+            (removed_at x count c (reached self.old.cols (line_at self.old y))) }
+        ensures steps { steps.new
+            ≡ steps.old
+            + (self.old.cols - length (line_at self.old y).stored)
+            + (self.old.cols - x) }
+    {
+        let cols = self.size.cols;
+        let number = self.ring.at(y);
+        let row = &mut self.rows[usize::from(number)];
+        let stored = row.stored();
+        row.reach(cols);
+        row.remove(x, count, c);
+        steps.add(u64::from(cols - stored) + u64::from(cols - x));
+    }
+}

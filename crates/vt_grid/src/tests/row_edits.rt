@@ -1,0 +1,118 @@
+use crate::{Cell, Grid};
+use std::alloc::Global;
+use std::test::Fail;
+use vt_base::{NoMemory, Size};
+
+#[derive(Clone, Copy)]
+enum Call {
+    Erase(u8, u8),
+    Insert(u8, u16),
+    Delete(u8, u16),
+}
+
+fn letter(code: u8) -> Cell {
+    Cell {
+        code: u32::from(code),
+        attr: 0x07,
+    }
+}
+
+// The bytes of row y, where each cell has one; 0 is a place outside the grid.
+fn row(grid: &Grid, y: u8) -> [u8; 6] {
+    let size = grid.size();
+    let mut codes = [0; 6];
+    for x in 0..6 {
+        if y < size.rows && x < size.cols {
+            let code = grid.at(y, x).code;
+            codes[usize::from(x)] = if code < 0x80 { code as u8 } else { b'?' };
+        }
+    }
+    codes
+}
+
+// Both rows of a grid whose first row began with these bytes, after the call on it.
+fn called(alloc: Global, text: &[u8], call: Call) -> Result<[[u8; 6]; 2], NoMemory> {
+    let size = Size { rows: 2, cols: 6 };
+    let fill = letter(b'-');
+    let mut grid = Grid::blank(alloc, size, letter(b' '))?;
+    grid.put_bytes(1, 0, b"ghijkl", 0x07);
+    if text.len() <= 6 {
+        grid.put_bytes(0, 0, text, 0x07);
+    }
+    match call {
+        Call::Erase(x0, x1) if x0 <= x1 && x1 < 6 => grid.erase(0, x0, x1, fill),
+        Call::Insert(x, n) if x < 6 => grid.insert(0, x, n, fill),
+        Call::Delete(x, n) if x < 6 => grid.delete(0, x, n, fill),
+        _ => {}
+    }
+    Ok([row(&grid, 0), row(&grid, 1)])
+}
+
+#[test]
+fn edits_one_row(rt: HostRuntime) -> Result<(), Fail> {
+    let whole: &[u8] = b"abcdef";
+    let short: &[u8] = b"ab";
+    let cases: [(&[u8], Call, [u8; 6]); 18] = [
+        (whole, Call::Insert(2, 1), *b"ab-cde"),
+        (whole, Call::Insert(0, 2), *b"--abcd"),
+        (whole, Call::Insert(5, 1), *b"abcde-"),
+        (whole, Call::Insert(4, 65_535), *b"abcd--"),
+        (whole, Call::Insert(1, 0), *b"abcdef"),
+        (short, Call::Insert(1, 2), *b"a--b  "),
+        (short, Call::Insert(4, 1), *b"ab  - "),
+        (whole, Call::Delete(0, 1), *b"bcdef-"),
+        (whole, Call::Delete(2, 2), *b"abef--"),
+        (whole, Call::Delete(3, 65_535), *b"abc---"),
+        (whole, Call::Delete(5, 0), *b"abcdef"),
+        (short, Call::Delete(1, 1), *b"a    -"),
+        (short, Call::Delete(4, 2), *b"ab  --"),
+        (whole, Call::Erase(0, 0), *b"-bcdef"),
+        (whole, Call::Erase(2, 3), *b"ab--ef"),
+        (whole, Call::Erase(0, 5), *b"------"),
+        (short, Call::Erase(3, 3), *b"ab -  "),
+        (short, Call::Erase(4, 5), *b"ab  --"),
+    ];
+    for (number, (text, call, wanted)) in cases.iter().enumerate() {
+        let rows = called(rt.alloc(), *text, *call)?;
+        assert_eq!(rt; rows, [*wanted, *b"ghijkl"], "case {number}");
+    }
+    Ok(())
+}
+
+// The rows of a new grid, and then those of the old one, two by five, that became it.
+fn resized(alloc: Global, size: Size, skip: u8) -> Result<[[u8; 6]; 5], NoMemory> {
+    let old = Size { rows: 2, cols: 5 };
+    let mut grid = Grid::blank(alloc, old, letter(b' '))?;
+    grid.put_bytes(0, 0, b"abcde", 0x07);
+    grid.put_bytes(1, 0, b"fghij", 0x07);
+    let fresh = Grid::blank(alloc, size, letter(b'-'))?;
+    let was = grid.resized_into(fresh, skip);
+    Ok([
+        row(&grid, 0),
+        row(&grid, 1),
+        row(&grid, 2),
+        row(&was, 0),
+        row(&was, 1),
+    ])
+}
+
+#[test]
+fn keeps_what_fits_the_new_size(rt: HostRuntime) -> Result<(), Fail> {
+    let none = [0; 6];
+    let cases: [(u8, u8, u8, [[u8; 6]; 3]); 4] = [
+        (1, 3, 1, [*b"fgh\0\0\0", none, none]),
+        (3, 6, 0, [*b"abcde-", *b"fghij-", *b"------"]),
+        (3, 6, 1, [*b"fghij-", *b"------", *b"------"]),
+        (2, 5, 9, [*b"-----\0", *b"-----\0", none]),
+    ];
+    for (rows, cols, skip, wanted) in cases {
+        if rows == 0 || cols == 0 {
+            return Err(Fail::from("a size has no row or no column"));
+        }
+        let found = resized(rt.alloc(), Size { rows, cols }, skip)?;
+        let [first, second, third] = wanted;
+        let all = [first, second, third, *b"abcde\0", *b"fghij\0"];
+        assert_eq!(rt; found, all, "{rows} {cols} {skip}");
+    }
+    Ok(())
+}

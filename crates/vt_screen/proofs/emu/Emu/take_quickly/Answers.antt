@@ -1,0 +1,21 @@
+use Rattle.std.proofs.Common.{◌≡◌, Bool, sym, ap, ◌∙◌, if◌then◌else◌}
+use Rattle.vt_screen.proofs.Controls.{control-step}
+use Rattle.vt_screen.specs.Run.{drawing, having_said}
+use Rattle.vt_screen.specs.Screen.{Screen}
+use Rattle.vt_units.specs.Rest.{Rest, fresh}
+use Rattle.vt_units.specs.Run.{Reached, reached, step}
+use Rattle.vt_screen.proofs.emu.Emu.take_quickly.Goals as goal
+
+pub returns-clause-step : goal.returns-clause-step
+returns-clause-step c =
+    let s : Screen = c.self.inside.canvas in
+    let rest : Rest = c.self.inside.pending in
+    let takes = c.take_control.ensures.control in
+    let left : c.take_control.new.self ≡ fresh c.mode.result =
+    c.take_control.ensures.rest
+    ∙ ap (λ (b : Bool). if b then fresh c.mode.result else rest) c.if-not-take_control.false in
+    (λ i. having_said (c.say.ensures.said i) (reached c.control.new.self (left i)))
+    ∙ control-step c.controls_are_units.ensures c.args.byte c.args.outs.now s rest c.mode.result
+    c.mode.ensures (sym takes ∙ c.if-not-take_control.false)
+    (record { screen = c.control.new.self; said = c.control.result }) c.control.ensures
+    ∙ ap (λ (m : Reached Screen). step drawing c.args.byte (having_said c.args.outs.now m)) c.self.view_is

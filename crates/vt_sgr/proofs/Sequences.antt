@@ -1,0 +1,33 @@
+-- A list of parameters, taken form by form.
+use Rattle.std.proofs.Common.{◌≡◌, ℕ, zero, suc, ◌+◌, ◌<◌, List, [], ◌∷◌, length, get_or, drop, refl, sym, ap, ◌∙◌, add-one, arith}
+use Rattle.std.proofs.Math.Seq.{drop-cons}
+use Rattle.std.proofs.lemmas.List.{drop-drop}
+use Rattle.vt_sgr.specs.PenState.{PenState}
+use Rattle.vt_sgr.specs.Sgr.{sgr_behind, taken_by, with_form}
+
+-- what belongs to the form before is passed over
+sgr_behind-drop : (taken : ℕ) (params : List ℕ) (p : PenState)
+    → sgr_behind taken params p ≡ sgr_behind 0 (drop taken params) p
+sgr_behind-drop zero params p = refl
+sgr_behind-drop (suc taken) [] p = refl
+sgr_behind-drop (suc taken) (n ∷ rest) p = sgr_behind-drop taken rest p
+
+-- the next form was taken
+pub form_more : (params : List ℕ) (at taken n : ℕ) (rest : List ℕ) (p q end : PenState)
+    → at < length params → n ≡ get_or params at 0 → rest ≡ drop (at + 1) params
+    → q ≡ with_form n rest p → taken ≡ taken_by n rest
+    → sgr_behind 0 (drop at params) p ≡ end
+    → sgr_behind 0 (drop (at + (1 + taken)) params) q ≡ end
+form_more params at taken n rest p q end within n-is rest-is q-is taken-is so_far =
+    let next : drop (suc at) params ≡ drop (at + 1) params = ap (λ m. drop m params) (sym (add-one at)) in
+    let cut = drop-cons params at 0 within in
+    let front : drop at params ≡ n ∷ rest = cc in
+    let behind : drop taken rest ≡ drop (at + (1 + taken)) params =
+    ap (drop taken) rest-is ∙ drop-drop taken (at + 1) params ∙ ap (λ m. drop m params) (omega arith) in
+    let formed : sgr_behind 0 (n ∷ rest) p ≡ sgr_behind 0 (drop (taken_by n rest) rest) (with_form n rest p) =
+    sgr_behind-drop (taken_by n rest) rest (with_form n rest p) in
+    let here : sgr_behind 0 (drop (taken_by n rest) rest) (with_form n rest p) ≡ sgr_behind 0 (drop (at + (1 + taken)) params) q =
+    ap (λ k. sgr_behind 0 (drop k rest) (with_form n rest p)) (sym taken-is)
+    ∙ ap (λ ns. sgr_behind 0 ns (with_form n rest p)) behind
+    ∙ ap (sgr_behind 0 (drop (at + (1 + taken)) params)) (sym q-is) in
+    sym here ∙ sym formed ∙ sym (ap (λ ns. sgr_behind 0 ns p) front) ∙ so_far

@@ -1,0 +1,2 @@
+pub mod PenState
+pub mod Sgr

@@ -1,0 +1,70 @@
+-- What is said of a pen.
+use Rattle.std.specs.Prelude.{ℕ, Bool, false}
+use Rattle.vt_cells.specs.Rendition.{Rendition, Tints}
+use Rattle.vt_cells.specs.declared.intensity.Intensity.{Intensity}
+use Rattle.vt_cells.specs.declared.intensity.Intensity.TheVariants.{Normal}
+
+-- the attributes, the colours for underline and half-bright, the default pair, and the mapping's
+-- three flags
+pub record PenState : Type 0 where
+  pub attr : Rendition
+  pub look : Tints
+  pub def_fg : ℕ
+  pub def_bg : ℕ
+  pub alt : Bool
+  pub display : Bool
+  pub toggle : Bool
+
+-- other attributes
+abbrev pub drawn : PenState → Rendition → PenState
+drawn p a = record p { attr = a }
+
+-- the default colours, and nothing on
+abbrev pub plain : PenState → PenState
+plain p =
+    drawn p
+    (record {
+      fg = p.def_fg;
+      bg = p.def_bg;
+      intensity = Normal;
+      italic = false;
+      underline = false;
+      blink = false;
+      reverse = false;
+    })
+
+-- another colour of the character
+abbrev pub with_fg : PenState → ℕ → PenState
+with_fg p fg = drawn p (record p.attr { fg = fg })
+
+-- another colour of the ground
+abbrev pub with_bg : PenState → ℕ → PenState
+with_bg p bg = drawn p (record p.attr { bg = bg })
+
+-- another colour of the character, and another intensity
+abbrev pub with_bright : PenState → ℕ → Intensity → PenState
+with_bright p fg intensity = drawn p (record p.attr { fg = fg; intensity = intensity })
+
+-- another intensity
+abbrev pub with_intensity : PenState → Intensity → PenState
+with_intensity p intensity = drawn p (record p.attr { intensity = intensity })
+
+-- italic on or off
+abbrev pub with_italic : PenState → Bool → PenState
+with_italic p on = drawn p (record p.attr { italic = on })
+
+-- underline on or off
+abbrev pub with_underline : PenState → Bool → PenState
+with_underline p on = drawn p (record p.attr { underline = on })
+
+-- blink on or off
+abbrev pub with_blink : PenState → Bool → PenState
+with_blink p on = drawn p (record p.attr { blink = on })
+
+-- reverse video on or off
+abbrev pub with_reverse : PenState → Bool → PenState
+with_reverse p on = drawn p (record p.attr { reverse = on })
+
+-- other flags of the mapping
+abbrev pub mapped : PenState → Bool → Bool → Bool → PenState
+mapped p alt display toggle = record p { alt = alt; display = display; toggle = toggle }

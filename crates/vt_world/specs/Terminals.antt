@@ -1,0 +1,57 @@
+-- What the consoles show, in a list by number: None where a console isn't allocated.
+use Rattle.std.specs.Prelude.{ℕ, Bool, true, false, ◌+◌, min, count_by, List, Option, Some, None, option_map, slice_index_or, slice_set}
+use Rattle.vt_screen.specs.Run.{after, said, start}
+use Rattle.vt_screen.specs.Screen.{Screen}
+use Rattle.vt_screen.specs.declared.out.Out.{Out}
+use Rattle.vt_screen.specs.declared.out.Out.TheVariants as outs
+use Rattle.vt_units.specs.Run.{Reached}
+
+-- a console's screen with the rest of its text, and how often its bell rang
+pub record TerminalState : Type 0 where
+  pub machine : Reached Screen
+  pub bells : ℕ
+
+-- a new console: the start screen, and a bell that never rang
+abbrev pub new_terminal : ℕ → ℕ → TerminalState
+new_terminal rows cols = record { machine = start rows cols; bells = 0 }
+
+abbrev pub is_bell : Out → Bool
+is_bell outs.Bell = true
+is_bell out = false
+
+-- the count after these were said: each bell adds one, up to the greatest number of 32 bits
+abbrev pub rung : ℕ → List Out → ℕ
+rung bells said = min 4294967295 (bells + count_by is_bell said)
+
+-- bytes are run on the screen, and its bells are counted
+abbrev pub written_on : List ℕ → TerminalState → TerminalState
+written_on bytes t = record {
+  machine = after t.machine bytes;
+  bells = rung t.bells (said t.machine bytes);
+}
+
+abbrev pub terminal_at : List (Option TerminalState) → ℕ → Option TerminalState
+terminal_at terminals n = slice_index_or terminals n None
+
+-- the screen of console n with the rest of its text, and how often its bell rang: never, where it
+-- isn't allocated
+abbrev pub machine_of : Option TerminalState → Option (Reached Screen)
+machine_of terminal = option_map (λ t. t.machine) terminal
+
+abbrev pub bells_of : Option TerminalState → ℕ
+bells_of None = 0
+bells_of (Some t) = t.bells
+
+abbrev pub or_new : ℕ → ℕ → Option TerminalState → TerminalState
+or_new rows cols None = new_terminal rows cols
+or_new rows cols (Some t) = t
+
+-- console n has a terminal: a new one, where it had none
+abbrev pub with_start : ℕ → ℕ → ℕ → List (Option TerminalState) → List (Option TerminalState)
+with_start n rows cols terminals =
+    slice_set terminals n (Some (or_new rows cols (terminal_at terminals n)))
+
+-- these bytes are written to console n, if it has a terminal
+abbrev pub written : ℕ → List ℕ → List (Option TerminalState) → List (Option TerminalState)
+written n bytes terminals =
+    slice_set terminals n (option_map (written_on bytes) (terminal_at terminals n))

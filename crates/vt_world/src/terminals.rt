@@ -1,0 +1,83 @@
+ghost use Rattle.std.specs.Prelude.{◌≡◌, Some, None, IfOk, is_some, option_copied, if◌then◌else◌};
+ghost use Rattle.vt_world.specs.Start.{at_each};
+ghost use Rattle.vt_world.specs.Terminals.{new_terminal, terminal_at, with_start, written};
+
+use crate::console_set::is_among;
+use crate::terminal::Terminal;
+use std::alloc::Global;
+use std::marker::Model;
+use vt_base::{ConsoleNo, NoMemory, Size};
+use vt_grid::Grid;
+use vt_screen::BLANK;
+
+/// The places for consoles by their numbers, of which 0 stays free.
+const PLACES: usize = 64;
+
+/// What the consoles show, by their numbers, of which 0 stays free.
+#[derive(Debug, Drop)]
+pub struct Terminals {
+    places: Vec<Option<Terminal>>,
+}
+
+impl Model for Terminals {
+    ghost use Rattle.std.specs.Prelude.{◌≡◌, List, Option, vec_len};
+    ghost use Rattle.vt_world.specs.Terminals.{TerminalState};
+
+    ghost Value = { List (Option TerminalState) };
+
+    ghost view = { λ s. s.places.items };
+
+    ghost invariant = { λ s. vec_len s.places ≡ 64 };
+}
+
+impl Terminals {
+    /// A new terminal for each console of the set.
+    pub fn start(alloc: Global, size: Size, consoles: u64) -> Result<Terminals, NoMemory>
+        ensures { IfOk result (λ terminals. terminals
+            ≡ at_each consoles (new_terminal size.rows size.cols)) }
+    {
+        let mut places = Vec::with_capacity(alloc, PLACES)?;
+        for n in 0..PLACES {
+            places.push(first_terminal(alloc, size, is_among(consoles, n))?)?;
+        }
+        Ok(Terminals { places })
+    }
+
+    /// The terminal of the console, where it has one.
+    pub fn at(&self, c: ConsoleNo) -> Option<&Terminal>
+        ensures terminal { option_copied result ≡ terminal_at self.now c }
+        ensures taken { is_some result ≡ is_some (terminal_at self.now c) }
+    {
+        self.places[usize::from(c.get())].as_ref()
+    }
+
+    /// Gives the console a new terminal on this grid, where it has none.
+    pub fn begin(&mut self, c: ConsoleNo, grid: Grid)
+        ensures { self.new ≡ with_start c grid.rows grid.cols self.old }
+    {
+        let place = &mut self.places[usize::from(c.get())];
+        if place.is_none() {
+            *place = Some(Terminal::new(grid));
+        }
+    }
+
+    /// Writes the bytes to the console, where it has a terminal.
+    pub fn write(&mut self, c: ConsoleNo, b: &[u8])
+        ensures { self.new ≡ written c b.now self.old }
+    {
+        if let Some(terminal) = &mut self.places[usize::from(c.get())] {
+            terminal.write(b);
+        }
+    }
+}
+
+// A new terminal, where there is to be one.
+fn first_terminal(alloc: Global, size: Size, has_one: bool) -> Result<Option<Terminal>, NoMemory>
+    ensures { IfOk result (λ terminal. terminal
+        ≡ (if has_one then Some (new_terminal size.rows size.cols) else None)) }
+{
+    if !has_one {
+        return Ok(None);
+    }
+    Ok(Some(Terminal::new(Grid::blank(alloc, size, BLANK)?)))
+}
