@@ -6,7 +6,7 @@ use Rattle.std.proofs.lemmas.List.Concat.{flat_map-append}
 use Rattle.std.proofs.lemmas.List.Elements.{All-push, All-same}
 use Rattle.vt_journal.specs.Journal.{line_text}
 use Rattle.vt_journal.specs.Words.{spelled}
-use Rattle.vt_tool.specs.Calls.{CallText, IsFitHeading, IsGoodCall, StopsAtLine, StopsReading, call_line, call_text, call_words, heading_words}
+use Rattle.vt_tool.specs.Calls.{CallText, IsFitCall, IsFitHeading, StopsAtLine, StopsReading, call_line, call_text, call_words, heading_words}
 use Rattle.vt_tool.specs.declared.calls.call.Call.{Call}
 use Rattle.vt_tool.specs.declared.calls.calls_end.CallsEnd.{CallsEnd}
 use Rattle.vt_tool.specs.declared.calls.calls_end.CallsEnd.TheVariants.{Fault, NoMemory}
@@ -51,7 +51,7 @@ not_empty (b ∷ text) some is = cc
 
 -- a fault of the line behind good ones is the first fault
 pub stops : (h : Heading) (calls : List Call) (input text : List ℕ) (line : ℕ) (end : CallsEnd)
-    → input ≡ call_text (said h calls) ++ text → IsFitHeading h → All IsGoodCall calls
+    → input ≡ call_text (said h calls) ++ text → IsFitHeading h → All IsFitCall calls
     → line ≡ length calls + 2 → text ≢ [] → StopsAtLine text line end → StopsReading input end
 stops h calls input text line (Fault f) is fit good at some stop = record {
   before = call_text (said h calls);

@@ -1,6 +1,6 @@
 -- Call texts: the calls of a console, one a line, behind a line that says what it begins with. This
 -- project's own.
-use Rattle.std.specs.Prelude.{◌≡◌, ◌≢◌, ◌⊎◌, ℕ, zero, suc, ◌+◌, ◌≤◌, List, [], ◌∷◌, ◌++◌, length, codes, decimal, ⊤}
+use Rattle.std.specs.Prelude.{◌≡◌, ◌≢◌, ℕ, zero, suc, ◌+◌, ◌≤◌, List, [], ◌∷◌, ◌++◌, length, codes, decimal, ⊤}
 use Rattle.std.specs.List.{All, flat_map}
 use Rattle.vt_events.specs.Plain.{plain_event}
 use Rattle.vt_journal.specs.Journal.{line_text}
@@ -10,7 +10,6 @@ use Rattle.vt_tool.specs.declared.calls.call.Call.{Call}
 use Rattle.vt_tool.specs.declared.calls.calls_end.CallsEnd.{CallsEnd}
 use Rattle.vt_tool.specs.declared.calls.calls_end.CallsEnd.TheVariants.{Fault, NoMemory}
 use Rattle.vt_tool.specs.declared.calls.heading.Heading.{Heading}
-use Rattle.vt_world.specs.Step.{IsBuiltEvent}
 
 -- what a call text says
 pub record CallText : Type 0 where
@@ -45,11 +44,6 @@ pub record IsFitCall (call : Call) : Type 0 where
   pub process : (1 ≤ call.caller) × (call.caller ≤ 64)
   pub event : words.IsFit call.event
 
--- a call that can be played
-pub record IsGoodCall (call : Call) : Type 0 where
-  pub fit : IsFitCall call
-  pub built : IsBuiltEvent call.event
-
 -- the bytes that a call holds have no room
 abbrev pub IsPlainCall : Call → Type 0
 IsPlainCall call = plain_event call.event ≡ call.event
@@ -57,7 +51,7 @@ IsPlainCall call = plain_event call.event ≡ call.event
 -- a call text that can be played
 pub record IsGood (t : CallText) : Type 0 where
   pub heading : IsFitHeading t.heading
-  pub calls : All IsGoodCall t.calls
+  pub calls : All IsFitCall t.calls
 
 -- the text is so many good lines
 abbrev pub AreGoodLines : List ℕ → ℕ → Type 0
@@ -73,29 +67,17 @@ BeginsNoHeading text =
 abbrev pub BeginsNoCall : List ℕ → Type 0
 BeginsNoCall text = (call : Call) (more : List ℕ) → IsFitCall call → text ≢ call_line call ++ more
 
--- a text begins with a call that writes a byte that the machine doesn't read
-pub record BeginsUnbuilt (text : List ℕ) : Type 0 where
-  pub call : Call
-  pub more : List ℕ
-  pub begins : text ≡ call_line call ++ more
-  pub fit : IsFitCall call
-  pub unbuilt : ¬ IsBuiltEvent call.event
-
--- the faults of a line: it isn't of the form, or it writes a byte that the machine doesn't read
+-- the fault of a line: it isn't of the form
 abbrev pub formless : ℕ
 formless = 91
-
-abbrev pub unbuilt : ℕ
-unbuilt = 90
 
 -- the fault of a text that doesn't begin with a first line
 abbrev pub IsHeadingFault : List ℕ → ℕ → Type 0
 IsHeadingFault text code = (code ≡ formless) × BeginsNoHeading text
 
--- the fault of a text that doesn't begin with a call that can be played
+-- the fault of a text that doesn't begin with a call
 abbrev pub IsCallFault : List ℕ → ℕ → Type 0
-IsCallFault text code =
-    ((code ≡ formless) × BeginsNoCall text) ⊎ ((code ≡ unbuilt) × BeginsUnbuilt text)
+IsCallFault text code = (code ≡ formless) × BeginsNoCall text
 
 -- what is left behind so many lines begins with a line of that fault
 abbrev pub IsFaulty : ℕ → List ℕ → ℕ → Type 0

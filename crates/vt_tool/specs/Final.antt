@@ -5,14 +5,14 @@ use Rattle.vt_journal.specs.Hex.{hex_text}
 use Rattle.vt_journal.specs.Journal.{line_text}
 use Rattle.vt_screen.specs.Screen.{Screen}
 use Rattle.vt_tool.specs.Rows.{rows_text}
-use Rattle.vt_world.specs.Screens.{screen_at}
 use Rattle.vt_world.specs.State.{WorldState}
+use Rattle.vt_world.specs.Terminals.{TerminalState, terminal_at}
 
--- a console's screen: its number, rows, columns, the cursor's column and row, and the bells, of which
--- none rings yet
-abbrev pub screen_words : ℕ → Screen → List (List ℕ)
-screen_words n s =
-    codes "%screen" ∷ map decimal (n ∷ s.sheet.rows ∷ s.sheet.cols ∷ s.x ∷ s.y ∷ 0 ∷ [])
+-- a console's screen: its number, rows, columns, the cursor's column and row, and how often its bell
+-- rang
+abbrev pub screen_words : ℕ → Screen → ℕ → List (List ℕ)
+screen_words n s bells =
+    codes "%screen" ∷ map decimal (n ∷ s.sheet.rows ∷ s.sheet.cols ∷ s.x ∷ s.y ∷ bells ∷ [])
 
 -- its queue: the number of the console, how many bytes were dropped, and those that it has. Nothing
 -- puts bytes into a queue yet
@@ -20,18 +20,18 @@ abbrev pub queue_words : ℕ → List (List ℕ)
 queue_words n = codes "%queue" ∷ decimal n ∷ decimal 0 ∷ hex_text [] ∷ []
 
 -- a console: these two lines, and between them the rows of its screen
-abbrev pub console_text : ℕ → Screen → List ℕ
-console_text n s =
-    line_text (screen_words n s) ++ (rows_text s.sheet.cells ++ line_text (queue_words n))
+abbrev pub console_text : ℕ → Screen → ℕ → List ℕ
+console_text n s bells =
+    line_text (screen_words n s bells) ++ (rows_text s.sheet.cells ++ line_text (queue_words n))
 
-abbrev pub place_text : ℕ → Option Screen → List ℕ
+abbrev pub place_text : ℕ → Option TerminalState → List ℕ
 place_text n None = []
-place_text n (Some s) = console_text n s
+place_text n (Some t) = console_text n t.machine.state t.bells
 
 -- the allocated consoles in rising order
 abbrev pub consoles_text : WorldState → ℕ → ℕ → List ℕ
 consoles_text w from len =
-    flat_map (λ n. place_text n (screen_at w.screens n)) (range_with_len from len)
+    flat_map (λ n. place_text n (terminal_at w.terminals n)) (range_with_len from len)
 
 abbrev pub final_text : WorldState → List ℕ
 final_text w =

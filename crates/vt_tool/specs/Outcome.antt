@@ -1,5 +1,5 @@
 -- What a command may give for an input, this project's own: one case for each command.
-use Rattle.std.specs.Prelude.{◌≡◌, ◌⊎◌, ℕ, ◌+◌, not, List, [], Option, Some, None, Result, Ok, Err, position}
+use Rattle.std.specs.Prelude.{◌≡◌, ◌⊎◌, ℕ, List, [], Some, None, Ok, Err}
 use Rattle.key_compile.specs.Compiled.{AreTablesOf}
 use Rattle.key_compile.specs.Faults.{compile_fault}
 use Rattle.key_tables.specs.Listing.{listing_of}
@@ -7,12 +7,10 @@ use Rattle.key_tables.specs.Tables.{Tables}
 use Rattle.key_text.specs.Reading.{lines_of}
 use Rattle.key_text.specs.Told.{Told}
 use Rattle.key_text.specs.declared.fault.KeyFault.{KeyFault}
-use Rattle.vt_screen.specs.Run.{Runs}
-use Rattle.vt_screen.specs.Screen.{Screen, start_screen}
-use Rattle.vt_screen.specs.Units.{is_built}
+use Rattle.vt_screen.specs.Run.{after, start}
 use Rattle.vt_events.specs.declared.entry.Entry.{Entry}
 use Rattle.vt_journal.specs.declared.tail.Tail.{Tail}
-use Rattle.vt_tool.specs.Calls.{CallText, HasFaultAt, IsGood, call_text, unbuilt}
+use Rattle.vt_tool.specs.Calls.{CallText, HasFaultAt, IsGood, call_text}
 use Rattle.vt_tool.specs.Play.{IsPlay, opening_of, play_text, status_of}
 use Rattle.vt_tool.specs.Rows.{rows_text}
 use Rattle.vt_tool.specs.declared.command.Command.{Command}
@@ -25,18 +23,13 @@ pub record Outcome : Type 0 where
   pub status : Status
   pub text : List ℕ
 
--- the place of the first byte that isn't built, from 0
-abbrev pub first_unbuilt : List ℕ → Option ℕ
-first_unbuilt input = position (λ byte. not (is_built byte)) input
-
--- the rows of a blank screen after the input; or the fault of the first byte that isn't built,
--- counted from 1
-abbrev pub GivesRows : ℕ → ℕ → List ℕ → Option ℕ → Outcome → Type 0
-GivesRows rows cols input (Some k) outcome =
-    outcome ≡ record { status = Refused unbuilt (k + 1) 0; text = [] }
-GivesRows rows cols input None outcome =
-    (after : Screen) × Runs (start_screen rows cols) input after
-    × (outcome ≡ record { status = Fine; text = rows_text after.sheet.cells })
+-- the rows of a blank screen after the input
+abbrev pub GivesRows : ℕ → ℕ → List ℕ → Outcome → Type 0
+GivesRows rows cols input outcome =
+    outcome ≡ record {
+      status = Fine;
+      text = rows_text (after (start rows cols) input).state.sheet.cells;
+    }
 
 -- the text of a play of the input's calls; its journal is their legal history
 pub record GivesPlayed (input : List ℕ) (outcome : Outcome) : Type 0 where
@@ -81,6 +74,6 @@ pub record GivesKeyFault (input : List ℕ) (outcome : Outcome) : Type 0 where
 -- the outcome that a command gives for an input
 abbrev pub Gives : Command → List ℕ → Outcome → Type 0
 Gives (command.Screen rows cols) input outcome =
-    GivesRows rows cols input (first_unbuilt input) outcome
+    GivesRows rows cols input outcome
 Gives command.Keys input outcome = GivesListing input outcome ⊎ GivesKeyFault input outcome
 Gives command.Play input outcome = GivesPlayed input outcome ⊎ GivesFault input outcome

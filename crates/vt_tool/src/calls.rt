@@ -1,9 +1,8 @@
 //! Call texts, read. This project's own.
 ghost use Rattle.std.specs.Prelude.{◌≡◌, ◌≢◌, ◌≤◌, ◌↔◌, List, ◌++◌, codes, length, All, IsTrue, IfOk, IfErr, IfSome, IfNone};
-ghost use Rattle.vt_tool.specs.Calls.{BeginsNoCall, BeginsNoHeading, IsFitCall, IsFitHeading, IsGood, IsGoodCall, IsPlainCall, StopsAtLine, StopsReading, call_line, call_text, heading_words};
+ghost use Rattle.vt_tool.specs.Calls.{BeginsNoCall, BeginsNoHeading, IsFitCall, IsFitHeading, IsGood, IsPlainCall, StopsAtLine, StopsReading, call_line, call_text, heading_words};
 ghost use Rattle.vt_journal.specs.Journal.{line_text};
 ghost use Rattle.vt_tool.specs.Input.{text_limit};
-ghost use Rattle.vt_world.specs.Step.{IsBuiltEvent};
 
 use call::Call;
 use call_fault::CallFault;
@@ -13,7 +12,6 @@ use cutting::{cut_at, cut_number};
 use heading::Heading;
 use std::alloc::Global;
 use vt_base::{CallerNo, NoMemory};
-use vt_events::Event;
 use vt_journal::read_event;
 
 pub mod call;
@@ -28,9 +26,6 @@ mod tests;
 
 /// The fault of a line that isn't of the form. This project's own.
 const FORMLESS: u16 = 91;
-
-/// The fault of a write of a byte that the machine doesn't read. This project's own.
-const UNBUILT_WRITE: u16 = 90;
 
 /// The heading and the calls of the text; or the first line with a fault.
 pub fn read_calls(alloc: Global, input: &[u8]) -> Result<CallText, CallsEnd>
@@ -51,7 +46,7 @@ pub fn read_calls(alloc: Global, input: &[u8]) -> Result<CallText, CallsEnd>
     let mut calls = Vec::new(alloc);
     let mut line = 2;
     'lines: while !rest.is_empty() {
-        let (call, more) = read_good_call(alloc, rest, line)?;
+        let (call, more) = read_call_at(alloc, rest, line)?;
         calls.push(call)?;
         rest = more;
         line += 1;
@@ -60,8 +55,8 @@ pub fn read_calls(alloc: Global, input: &[u8]) -> Result<CallText, CallsEnd>
 }
 
 // The call of that line, which the text begins with, and the bytes behind it.
-fn read_good_call(alloc: Global, text: &[u8], line: u32) -> Result<(Call, &[u8]), CallsEnd>
-    ensures good { IfOk result (λ read. IsGoodCall read.0) }
+fn read_call_at(alloc: Global, text: &[u8], line: u32) -> Result<(Call, &[u8]), CallsEnd>
+    ensures fit { IfOk result (λ read. IsFitCall read.0) }
     ensures plain { IfOk result (λ read. IsPlainCall read.0) }
     ensures read { IfOk result (λ read. text.now ≡ call_line read.0 ++ read.1.now) }
     ensures fault { IfErr result (StopsAtLine text.now line) }
@@ -72,12 +67,6 @@ fn read_good_call(alloc: Global, text: &[u8], line: u32) -> Result<(Call, &[u8])
             line,
         }));
     };
-    if !is_built(&call.event) {
-        return Err(CallsEnd::Fault(CallFault {
-            code: UNBUILT_WRITE,
-            line,
-        }));
-    }
     Ok((call, rest))
 }
 
@@ -133,14 +122,4 @@ fn is_mark(word: &[u8]) -> bool
     ensures { IsTrue result ↔ (word.now ≡ codes "%calls") }
 {
     matches!(word, b"%calls")
-}
-
-// The bytes that the call writes are ones that the machine reads.
-fn is_built(event: &Event) -> bool
-    ensures { IsTrue result ↔ IsBuiltEvent event.now }
-{
-    match event {
-        Event::Write(_, b) => b.as_slice().iter().all(|byte| vt_screen::is_built(*byte)),
-        _ => true,
-    }
 }

@@ -1,7 +1,7 @@
 ghost use Rattle.std.specs.Prelude.{◌≡◌, ◌≤◌, ◌∷◌, ◌++◌, codes, decimal, map, OnOk};
 ghost use Rattle.vt_journal.specs.Journal.{line_text};
 ghost use Rattle.vt_tool.specs.Final.{console_text, consoles_text, final_text, place_text, queue_words};
-ghost use Rattle.vt_world.specs.Screens.{screen_at};
+ghost use Rattle.vt_world.specs.Terminals.{bells_of, machine_of, terminal_at};
 
 use crate::rows::add_rows;
 use std::alloc::Global;
@@ -37,35 +37,45 @@ fn add_place(alloc: Global, text: &mut Bytes, world: &World, n: u16) -> Result<(
     requires low { 1 ≤ n }
     requires high { n ≤ 63 }
     ensures { OnOk result (text.new.bytes
-        ≡ text.old.bytes ++ place_text n (screen_at world.now.screens n)) }
+        ≡ text.old.bytes ++ place_text n (terminal_at world.now.terminals n)) }
 {
     let Some(c) = ConsoleNo::new(n) else {
         unreachable!()
     };
     match world.screen(c) {
-        Some(screen) => add_console(alloc, text, n, screen),
+        Some(screen) => add_console(alloc, text, n, screen, world.bells(c)),
         None => Ok(()),
     }
 }
 
-fn add_console(alloc: Global, text: &mut Bytes, n: u16, screen: &Emu) -> Result<(), NoMemory>
-    ensures { OnOk result (text.new.bytes ≡ text.old.bytes ++ console_text n screen.now) }
+fn add_console(
+    alloc: Global,
+    text: &mut Bytes,
+    n: u16,
+    screen: &Emu,
+    bells: u32,
+) -> Result<(), NoMemory>
+    ensures { OnOk result (text.new.bytes
+        ≡ text.old.bytes ++ console_text n screen.now.state bells) }
 {
     let size = screen.grid().size();
     let state = screen.state();
-    let (rows, cols) = (u16::from(size.rows), u16::from(size.cols));
-    add_screen_line(
-        alloc,
-        text,
-        &[n, rows, cols, u16::from(state.x), u16::from(state.y), 0],
-    )?;
+    let numbers = [
+        u32::from(n),
+        u32::from(size.rows),
+        u32::from(size.cols),
+        u32::from(state.x),
+        u32::from(state.y),
+        bells,
+    ];
+    add_screen_line(alloc, text, &numbers)?;
     add_rows(alloc, text, screen.grid())?;
     add_queue_line(alloc, text, n)?;
     Ok(())
 }
 
 // The line before the rows.
-fn add_screen_line(alloc: Global, text: &mut Bytes, numbers: &[u16]) -> Result<(), NoMemory>
+fn add_screen_line(alloc: Global, text: &mut Bytes, numbers: &[u32]) -> Result<(), NoMemory>
     ensures { OnOk result (text.new.bytes
         ≡ text.old.bytes ++ line_text (codes "%screen" ∷ map decimal numbers.now)) }
 {

@@ -136,21 +136,48 @@ fn draws_the_rows(rt: HostRuntime) -> Result<(), Fail> {
 }
 
 #[test]
-fn refuses_what_it_cannot_read(rt: HostRuntime) -> Result<(), Fail> {
-    let cases: [(&'static [u8], &'static [u8]); 3] = [
-        (b"a\x1B", b"vt: refused 90 at 2:0\n"),
-        (b"\x7F\x07", b"vt: refused 90 at 1:0\n"),
-        (b"abcdefghi\x80", b"vt: refused 90 at 10:0\n"),
+fn reads_every_byte(rt: HostRuntime) -> Result<(), Fail> {
+    let cases: [(&'static str, &'static [u8], &'static [u8]); 6] = [
+        ("screen 1 4", b"\xC3(", b"|\xEF\xBF\xBD(  |\n"),
+        ("screen 1 4", b"\x1B]0;t\x07ok", b"|ok  |\n"),
+        ("screen 1 3", b"\x1B[[AB", b"|B  |\n"),
+        ("screen 1 4", b"\x0Eq\x0Fq", b"|\xE2\x94\x80q  |\n"),
+        ("screen 1 3", b"a\x1B[31", b"|a  |\n"),
+        ("screen 1 3", b"\x7F\x07\xFFa", b"|\xEF\xBF\xBDa |\n"),
     ];
-    for (input, err) in cases {
+    for (line, input, out) in cases {
         let case = Case {
-            line: "screen 1 3",
+            line,
             input,
-            number: 5,
-            err,
+            out,
             ..PLAIN
         };
         check(&rt, rt.alloc(), case)?;
+    }
+    let zeros = Long {
+        first: b"\x1B[",
+        piece: b"0",
+        times: 253,
+        last: b"A",
+        number: 0,
+        end: b"|   |\n",
+        err: b"",
+    };
+    let more_zeros = Long {
+        times: 255,
+        end: b"|A  |\n",
+        ..zeros
+    };
+    let string = Long {
+        first: b"\x1B]0;",
+        piece: b"x",
+        times: 1_000_000,
+        last: b"\x07A",
+        end: b"|A  |\n",
+        ..zeros
+    };
+    for case in [zeros, more_zeros, string] {
+        check_long(&rt, rt.alloc(), "screen 1 3", case)?;
     }
     Ok(())
 }

@@ -73,8 +73,8 @@ fn finds_the_first_fault(rt: HostRuntime) -> Result<(), Fail> {
         (b"%calls 2 5 2 64\n1 open 65536\n", fault(91, 2)),
         (b"%calls 2 5 2 64\n1 write 0 0A\n", fault(91, 2)),
         (b"%calls 2 5 2 64\n1 open 1\n1 open 1\r\n", fault(91, 3)),
-        (b"%calls 2 5 2 64\n1 write 0 411b\n", fault(90, 2)),
-        (b"%calls 2 5 2 64\n1 write 0 7f\n1 open\n", fault(90, 2)),
+        (b"%calls 2 5 2 64\n1 write 0 411b\n", read(1)),
+        (b"%calls 2 5 2 64\n1 write 0 7f\n1 open\n", fault(91, 3)),
         (b"%calls 2 5 2 64\n1 open\n1 write 0 7f\n", fault(91, 2)),
         (b"%calls 2 5 2 64\n1 open 1\n1 write 0 7f", fault(91, 3)),
     ];

@@ -1,12 +1,11 @@
 ghost use Rattle.std.specs.Prelude.{◌≡◌, ◌≤◌, ◌∷◌, ◌++◌, [], map, length, All, IfOk, OnOk};
 ghost use Rattle.vt_events.specs.Charge.{charge_of};
 ghost use Rattle.vt_journal.specs.Log.{HasRoom, charge_of_all};
-ghost use Rattle.vt_tool.specs.Calls.{IsGoodCall, IsFitHeading};
+ghost use Rattle.vt_tool.specs.Calls.{IsFitHeading};
 ghost use Rattle.vt_tool.specs.Play.{IsPlay, call_of, end_tail, full_tail, opening_of};
 ghost use Rattle.vt_tool.specs.Player.{HasPlayLimits, IsFrom};
 ghost use Rattle.vt_world.specs.History.{replay};
 ghost use Rattle.vt_world.specs.State.{WorldState};
-ghost use Rattle.vt_world.specs.Step.{IsBuiltEvent};
 
 use crate::calls::call::Call;
 use crate::calls::heading::Heading;
@@ -62,7 +61,6 @@ impl Player {
     // Makes the call, and enters it with its answer.
     fn make(&mut self, alloc: Global, call: Call) -> Result<(), NoMemory>
         requires room { HasRoom self.old.log (charge_of call.event) }
-        requires built { IsBuiltEvent call.event }
         ensures from { OnOk result ((start : WorldState) → IsFrom start self.old
             → IsFrom start self.new) }
         ensures calls { OnOk result (map call_of self.new.log.entries
@@ -128,7 +126,6 @@ impl Player {
 /// Makes the calls in order, on the console that the heading names, until one finds no room.
 pub fn play(alloc: Global, heading: Heading, calls: Vec<Call>) -> Result<Played, NoMemory>
     requires heading { IsFitHeading heading }
-    requires calls { All IsGoodCall calls.items }
     ensures play { IfOk result (λ played.
         IsPlay (opening_of heading) calls.items played.log.entries played.end) }
     ensures world { IfOk result (λ played.

@@ -4,7 +4,8 @@ use std::test::Fail;
 
 #[test]
 fn plays_calls(rt: HostRuntime) -> Result<(), Fail> {
-    let cases: [(&'static [u8], &'static [u8]); 5] = [
+    let cases: [(&'static [u8], &'static [u8]); 6] = [
+        (BELLS, BELLS_JOURNAL),
         (SWITCH, SWITCH_JOURNAL),
         (OWNER, OWNER_JOURNAL),
         (REFUSED, REFUSED_JOURNAL),
@@ -38,7 +39,7 @@ fn refuses_call_texts(rt: HostRuntime) -> Result<(), Fail> {
         (b"%calls 2 5 2 2\n1 open  1\n", b"vt: refused 91 at 2:1\n"),
         (
             b"%calls 2 5 2 2\n1 write 0 1b\n1 no\n",
-            b"vt: refused 90 at 2:1\n",
+            b"vt: refused 91 at 3:1\n",
         ),
         (
             b"%calls 2 5 2 2\n1 open 1\n1 no\n1 write 0 1b\n",
@@ -116,6 +117,32 @@ const WHOLE_END: &[u8] = b"61 = num 4096
 %screen 1 1 1 0 0 0
 |a|
 %queue 1 0 -
+%done
+";
+
+// A bell is counted for its console, and a sequence goes on in the next write.
+const BELLS: &[u8] = b"%calls 1 3 2 1
+1 open 2
+1 open 1
+1 write 0 61071b5b
+1 write 1 62
+1 write 0 073343630707
+";
+
+const BELLS_JOURNAL: &[u8] = b"%journal 1
+1 0 open 2 = num 0
+1 1 open 1 = num 1
+1 2 write 0 61071b5b = num 4
+1 3 write 1 62 = num 1
+1 4 write 0 073343630707 = num 6
+%end 5 331
+%display 1
+%screen 1 1 3 1 0 0
+|b  |
+%queue 1 0 -
+%screen 2 1 3 2 0 4
+|ac |
+%queue 2 0 -
 %done
 ";
 

@@ -1,6 +1,6 @@
 use Rattle.std.proofs.Common.{refl, [], ◌∷◌, length, length-append, ap, arith}
 use Rattle.std.proofs.lemmas.Result.{err_from_is_err_and}
-use Rattle.vt_tool.specs.Calls.{IsGoodCall, IsPlainCall}
+use Rattle.vt_tool.specs.Calls.{IsFitCall, IsPlainCall}
 use Rattle.vt_tool.proofs.CallsTexts.{all_more, not_empty, said_more, shorter, stops}
 use Rattle.vt_tool.proofs.calls.read_calls.Goals as goal
 
@@ -31,8 +31,8 @@ lines-preserved c =
           c.lines.rest.now c.in_ok-call.more.now c.lines.invariant.cut c.in_ok-call.ensures.read items;
       heading = c.lines.invariant.heading;
       calls =
-          all_more IsGoodCall c.lines.calls.items c.push.new.self.items c.in_ok-call.call c.lines.invariant.calls
-          c.in_ok-call.ensures.good items;
+          all_more IsFitCall c.lines.calls.items c.push.new.self.items c.in_ok-call.call c.lines.invariant.calls
+          c.in_ok-call.ensures.fit items;
       plain =
           all_more IsPlainCall c.lines.calls.items c.push.new.self.items c.in_ok-call.call c.lines.invariant.plain
           c.in_ok-call.ensures.plain items;
