@@ -2,5 +2,6 @@ mod Controls
 mod Cuts
 mod Feeds
 mod Printed
+mod Shown
 mod Start
 mod Tapes

@@ -26,7 +26,7 @@ either-mode true s t m first second = first
 either-mode false s t m first second = second
 
 -- a print leaves the mode
-print-mode : (code : ℕ) (s : Screen) → mode_of (print code s) ≡ mode_of s
+pub print-mode : (code : ℕ) (s : Screen) → mode_of (print code s) ≡ mode_of s
 print-mode code s =
     let first : Screen = at_column 0 s in
     let line : mode_of (linefeed first) ≡ mode_of s =

@@ -9,7 +9,7 @@ use crate::canvas::Canvas;
 use crate::{Outs, ScreenState};
 use std::marker::Model;
 use vt_grid::{Cell, Grid};
-use vt_units::{Pending, Then, controls_are_units, printables_are_characters};
+use vt_units::{Codes, MOST_CODES, Pending, Then, controls_are_units, printables_are_characters};
 
 /// What an empty place holds: a space, white on black. This project's own.
 pub const BLANK: Cell = Cell {
@@ -60,7 +60,7 @@ impl Emu {
     {
         let mut at = 0;
         while at < b.len() {
-            let count = self.print_run(&b[at..]);
+            let count = self.print_front(&b[at..]);
             at += count;
             if count == 0 {
                 self.take_quickly(b[at], outs);
@@ -135,6 +135,40 @@ impl Emu {
             return;
         }
         outs.say(self.canvas.control(byte));
+    }
+
+    // Prints characters at the front of the text that end before the last column, and tells how many
+    // bytes they are.
+    fn print_front(&mut self, b: &[u8]) -> usize
+        requires { 0 < length b.now }
+        ensures within { result ≤ length b.now }
+        ensures run { (outs : List Out) → run drawing (take result b.now) (having_said outs self.old)
+            ≡ having_said outs self.new }
+    {
+        if b[0] < 0x80 {
+            self.print_run(b)
+        } else {
+            self.print_characters(b)
+        }
+    }
+
+    // Prints the whole characters at the front of the text that end before the last column, and tells
+    // how many bytes they are.
+    fn print_characters(&mut self, b: &[u8]) -> usize
+        ensures within { result ≤ length b.now }
+        ensures run { (outs : List Out) → run drawing (take result b.now) (having_said outs self.old)
+            ≡ having_said outs self.new }
+    {
+        printables_are_characters();
+        let most = self.canvas.room().min(MOST_CODES);
+        let mut codes = Codes::new();
+        let count = self
+            .pending
+            .take_characters(self.canvas.mode(), b, most, &mut codes);
+        if count > 0 {
+            self.canvas.print_codes(codes.as_slice());
+        }
+        count
     }
 
     // Prints the printable bytes at the front of the text that end before the last column, and

@@ -30,6 +30,13 @@ impl Outs {
         }
     }
 
+    /// Forgets what was said.
+    pub fn clear(&mut self)
+        ensures { self.new ≡ [] }
+    {
+        self.items.clear();
+    }
+
     /// Adds what was said last.
     pub fn push(&mut self, out: Out)
         requires { length self.old < 64 }

@@ -10,10 +10,11 @@ impl Emu {
         ensures { self.new ≡ after self.old b.now }
     {
         any_cut();
+        let mut outs = Outs::new();
         let mut at = 0;
         while at < b.len() {
             let end = b.len().min(at + FEED_BYTES);
-            let mut outs = Outs::new();
+            outs.clear();
             self.feed(&b[at..end], &mut outs);
             at = end;
         }

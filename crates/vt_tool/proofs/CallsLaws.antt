@@ -1,16 +1,11 @@
 -- A call text is read in one way.
-use Rattle.std.proofs.Common.{◌≡◌, ◌≢◌, ℕ, zero, suc, ◌+◌, ◌/◌, ◌%◌, ◌<◌, ◌^◌, Bool, true, false, ltb, cond, refl, List, [], ◌∷◌, ◌++◌, codes, length, get_or, decimal, arith, append_assoc, inl, inr, subst, sym, ap, ◌∙◌}
-use Rattle.std.specs.Prelude.{IsTrue}
+use Rattle.std.proofs.Common.{◌≡◌, ℕ, zero, suc, ◌+◌, refl, List, [], ◌∷◌, ◌++◌, codes, length, arith, append_assoc, sym, ap, ◌∙◌}
 use Rattle.std.specs.List.{All, flat_map}
-use Rattle.std.proofs.lemmas.Bool.{ltb-false, ltb-true}
 use Rattle.std.proofs.lemmas.List.{append-nil}
 use Rattle.std.proofs.lemmas.List.Elements.{All-tail}
-use Rattle.vt_events.specs.declared.event.Event.{Event}
-use Rattle.vt_events.specs.declared.event.Event.TheVariants as event
-use Rattle.vt_journal.specs.Hex.{hex_byte, hex_digit, hex_text}
 use Rattle.vt_journal.specs.Journal.{line_text}
-use Rattle.vt_journal.specs.Words.{IsFit, event_words, spelled}
-use Rattle.vt_tool.proofs.CallsCuts.{one_cut, one_number}
+use Rattle.vt_journal.specs.Words.{event_words, spelled}
+use Rattle.vt_tool.proofs.CallsCuts.{one_cut}
 use Rattle.vt_tool.proofs.CallsLines.{call_split, from_cols, from_consoles, from_processes, from_rows, heading_split, lacks-event, rest_of_number}
 use Rattle.vt_tool.proofs.CallsTexts.{shorter}
 use Rattle.vt_tool.specs.Calls.{AreGoodLines, BeginsNoCall, CallText, FaultIsOne, GoodHasNoFault, IsFaulty, IsFitCall, IsFitHeading, IsGood, call_line, call_text, heading_words}

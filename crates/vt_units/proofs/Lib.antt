@@ -15,3 +15,4 @@ mod Piecewise
 pub mod Runs
 mod Drops
 mod Printables
+pub mod Wholes

@@ -1,5 +1,6 @@
 pub mod Answer
 pub mod Bytes
+pub mod Characters
 pub mod Laws
 pub mod Numbers
 pub mod Pieces

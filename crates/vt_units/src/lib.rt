@@ -2,6 +2,8 @@
 #![tactic(auto)]
 
 mod bytes;
+mod characters;
+mod codes;
 mod command;
 mod ground;
 mod kept;
@@ -22,6 +24,7 @@ mod tests;
 mod then;
 mod unit;
 
+pub use codes::{Codes, MOST_CODES};
 pub use laws::{
     any_cut, controls_are_units, drops_exactly, ended_texts, one_result, pieces_act,
     printables_are_characters, unfinished_is_before,

@@ -1,12 +1,15 @@
-ghost use Rattle.std.specs.Prelude.{◌≡◌, ◌==◌, ◌≤◌, ◌&&◌, not, [], ◌∷◌, length, if◌then◌else◌};
+ghost use Rattle.std.specs.Prelude.{◌≡◌, ◌==◌, ◌≤◌, ◌<◌, ◌&&◌, not, true, take, [], ◌∷◌, length, if◌then◌else◌};
 ghost use Rattle.std.specs.List.{prefix_len};
 ghost use Rattle.vt_units.specs.Answer.{answer, rest_after, settled, took};
 ghost use Rattle.vt_units.specs.Bytes.{decodes, interrupts, is_control, is_printable};
+ghost use Rattle.vt_units.specs.Characters.{AreTextsOf};
 ghost use Rattle.vt_units.specs.Reading.{is_empty};
 ghost use Rattle.vt_units.specs.Rest.{fresh, start_mode};
 ghost use Rattle.vt_units.specs.Stage.{Inside, Leaves, Stands, rest_of};
 
 use crate::bytes::{decodes, interrupts, is_control, printable_prefix};
+use crate::characters::read_characters;
+use crate::codes::Codes;
 use crate::command::{command, palette};
 use crate::ground::{ground, part};
 use crate::kept::Kept;
@@ -80,6 +83,29 @@ impl Pending {
             return 0;
         }
         let count = printable_prefix(b);
+        if count > 0 {
+            self.restart(mode);
+        }
+        count
+    }
+
+    /// Reads whole characters at the front of the text that are shown, as many as are wanted at
+    /// most, adds them to `codes`, and tells how many bytes they are: none unless no text is
+    /// pending and the mode decodes UTF-8. It answers for them at once what [`Pending::take`]
+    /// answers byte by byte.
+    pub fn take_characters(&mut self, mode: Mode, b: &[u8], most: usize, codes: &mut Codes) -> usize
+        requires empty { codes.old ≡ [] }
+        requires room { most ≤ 64 }
+        ensures texts { AreTextsOf (take result b.now) codes.new }
+        ensures bound { result ≤ length b.now }
+        ensures most { length codes.new ≤ most }
+        ensures decoding { 0 < result → (self.old.text ≡ []) × (decodes mode ≡ true) }
+        ensures rest { self.new ≡ (if result == 0 then self.old else fresh mode) }
+    {
+        if !self.is_empty() || !decodes(mode) {
+            return 0;
+        }
+        let count = read_characters(b, most, codes);
         if count > 0 {
             self.restart(mode);
         }

@@ -1,4 +1,4 @@
-use crate::{Mode, Pending, Then, Unit};
+use crate::{Codes, Mode, Pending, Then, Unit};
 use Told::{
     Act, Bad, Byte, Char, Colour, ColourReset, Control, Csi, Dropped, Esc, Ignored, Private,
 };
@@ -352,4 +352,45 @@ fn takes_controls(rt: HostRuntime) {
     assert!(rt; pending.take_control(shows, b'\n') && !pending.take_control(shows, 0x07));
     let _ = pending.take(UTF8, 0x1B);
     assert!(rt; !pending.take_control(UTF8, b'\n'), "behind ESC");
+}
+
+#[test]
+fn takes_characters(rt: HostRuntime) {
+    // A text, how many characters are wanted, the bytes that are taken, and the characters.
+    let cases: [(&[u8], usize, usize, &[u32]); 8] = [
+        (b"", 64, 0, &[]),
+        (
+            b"\xC3\xA9a\xE2\x82\xAC\xF0\x9F\x98\x80\n",
+            64,
+            10,
+            &[0xE9, 0x61, 0x20AC, 0x1F600],
+        ),
+        (b"\xC3\xA9a\xE2\x82\xAC", 2, 3, &[0xE9, 0x61]),
+        (b"\xC3\xA9\xE2\x82", 64, 2, &[0xE9]),
+        (b"\xC3\xA9\xC2\x9B", 64, 2, &[0xE9]),
+        (b"\xC2\xA0\xC2\x85", 64, 2, &[0xA0]),
+        (b"a\xED\xA0\x80", 64, 1, &[0x61]),
+        (b"\x1B[", 64, 0, &[]),
+    ];
+    for (text, most, count, characters) in cases {
+        let mut pending = Pending::new();
+        let mut codes = Codes::new();
+        assert_eq!(rt;
+            pending.take_characters(UTF8, text, most, &mut codes),
+            count,
+            "{text:?}"
+        );
+        assert_eq!(rt; codes.as_slice(), characters, "{text:?}");
+    }
+    let mut pending = Pending::new();
+    assert_eq!(rt;
+        pending.take_characters(BYTES, b"a", 64, &mut Codes::default()),
+        0
+    );
+    let _ = pending.take(UTF8, 0x1B);
+    assert_eq!(rt;
+        pending.take_characters(UTF8, b"a", 64, &mut Codes::new()),
+        0,
+        "behind ESC"
+    );
 }

@@ -53,10 +53,11 @@ impl Terminal {
         ensures { self.new ≡ written_on b.now self.old }
     {
         any_cut();
+        let mut outs = Outs::new();
         let mut at = 0;
         while at < b.len() {
             let end = b.len().min(at + FEED_BYTES);
-            let mut outs = Outs::new();
+            outs.clear();
             self.emu.feed(&b[at..end], &mut outs);
             self.bells = rung(self.bells, outs.as_slice());
             at = end;

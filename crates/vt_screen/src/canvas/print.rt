@@ -47,6 +47,20 @@ impl Canvas {
         }
     }
 
+    /// Prints characters that end before the last column.
+    pub fn print_codes(&mut self, codes: &[u32])
+        requires { length codes.now ≤ room self.old }
+        ensures { self.new ≡ printed codes.now self.old }
+    {
+        run_is_its_cells();
+        let _room = self.room();
+        if !codes.is_empty() {
+            self.grid
+                .put_codes(self.state.y, self.state.x, codes, BLANK.attr);
+            self.state.x += codes.len() as u8;
+        }
+    }
+
     // Puts the character at the cursor, and moves the cursor on.
     fn put(&mut self, code: u32)
         ensures { self.new ≡ put_here code self.old }

@@ -1,8 +1,6 @@
 use Rattle.std.proofs.Common.{ℕ, ◌≡◌, ◌+◌, ◌-◌, ◌++◌, List, take, drop, sym, ap, ◌∙◌, subst, arith}
 use Rattle.std.proofs.Math.Seq.{take-add}
 use Rattle.vt_screen.specs.Run.{after, said}
-use Rattle.vt_screen.specs.Screen.{Screen}
-use Rattle.vt_units.specs.Run.{Reached}
 use Rattle.vt_world.proofs.Bells.{IsTerminal, written-none, written-more}
 use Rattle.vt_world.specs.Terminals.{TerminalState, rung, written_on}
 use Rattle.vt_world.proofs.terminal.Terminal.write.Goals as goal

@@ -1,4 +1,4 @@
-use Rattle.std.proofs.Common.{◌≡◌, ◌≤◌, ◌-◌, length, take}
+use Rattle.std.proofs.Common.{◌≤◌, ◌-◌, length, take}
 use Rattle.vt_world.proofs.Bells.{IsTerminal}
 use Rattle.vt_world.specs.Terminals.{written_on}
 use Rattle.vt_world.proofs.terminal.Terminal.write.Given as goal

@@ -1,0 +1,4 @@
+pub mod Counting
+pub mod Downs
+pub mod Following
+pub mod Strings

@@ -1,0 +1,63 @@
+-- Accents and what they make of a character (keymaps(5), "COMPOSE DEFINITIONS"). What waits and for
+-- how long is this project's own.
+use Rattle.std.specs.Prelude.{ℕ, false, ◌==◌, ◌||◌, Option, Some, None, List, [], ◌∷◌, if◌then◌else◌}
+use Rattle.key_machine.specs.Keys.{nothing_waits}
+use Rattle.key_machine.specs.declared.waiting.Waiting.{Waiting}
+use Rattle.key_syms.specs.declared.pair.Pair.{Pair}
+use Rattle.key_tables.specs.Tables.{found_in}
+
+-- the characters that go out, and what then waits
+pub record Typed : Type 0 where
+  pub codes : List ℕ
+  pub waiting : Waiting
+
+abbrev pub typed : List ℕ → Waiting → Typed
+typed codes waiting = record { codes = codes; waiting = waiting }
+
+-- a character waits as accent
+abbrev pub waits : ℕ → Waiting
+waits code = record { accent = Some code; composing = false }
+
+-- an accent and a character: the result of their first pair; else the accent alone, where the
+-- character is a space or the accent; else both
+abbrev pub joined_by : Option ℕ → ℕ → ℕ → List ℕ
+joined_by (Some result) accent code = result ∷ []
+joined_by None accent code =
+    if code == 0x20 || code == accent then accent ∷ [] else accent ∷ code ∷ []
+
+-- a character without Compose before it: with the accent that waits
+abbrev pub joined : List Pair → Option ℕ → ℕ → Typed
+joined pairs None code = typed (code ∷ []) nothing_waits
+joined pairs (Some accent) code =
+    typed (joined_by (found_in pairs accent code) accent code) nothing_waits
+
+-- a character; the first one behind Compose waits as accent in place of one that waits
+unfoldable pub character : List Pair → Waiting → ℕ → Typed
+character pairs w code =
+    if w.composing then typed [] (waits code) else joined pairs w.accent code
+
+-- a second accent: the result of their first pair; else the accent, where both are the same; else
+-- the first goes out and the second waits
+abbrev pub accented_by : Option ℕ → ℕ → ℕ → Typed
+accented_by (Some result) accent new = typed (result ∷ []) nothing_waits
+accented_by None accent new =
+    typed (accent ∷ []) (if accent == new then nothing_waits else waits new)
+
+-- a dead key without Compose before it
+abbrev pub accented : List Pair → Option ℕ → ℕ → Typed
+accented pairs None new = typed [] (waits new)
+accented pairs (Some accent) new = accented_by (found_in pairs accent new) accent new
+
+-- a dead key; behind Compose its accent waits in place of one that waits
+unfoldable pub dead : List Pair → Waiting → ℕ → Typed
+dead pairs w new = if w.composing then typed [] (waits new) else accented pairs w.accent new
+
+-- the accents of the dead keys: grave, acute, circumflex, tilde, diaeresis, cedilla
+unfoldable pub accent_of : ℕ → ℕ
+accent_of v =
+    if v == 0 then 0x60
+    else if v == 1 then 0x27
+    else if v == 2 then 0x5E
+    else if v == 3 then 0x7E
+    else if v == 4 then 0x22
+    else 0x2C

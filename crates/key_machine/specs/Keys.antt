@@ -1,0 +1,95 @@
+-- The keys that are down, what waits, and the key state (keymaps(5), loadkeys(1)).
+use Rattle.std.specs.Prelude.{ℕ, ◌+◌, ◌^◌, Bool, false, ◌==◌, ◌&&◌, not, nat_lt, Option, None, List, [], ◌∷◌, ◌++◌, filter, find, bit_and, bit_or, bit_xor, if◌then◌else◌}
+use Rattle.std.specs.List.{list_any}
+use Rattle.std.specs.Option.{option_map}
+use Rattle.key_machine.specs.declared.waiting.Waiting.{Waiting}
+use Rattle.key_syms.specs.Act.{Act}
+use Rattle.key_syms.specs.declared.kind.TheConstants.{MODIFIER}
+
+-- a key that is down: its keycode, and the action that was recorded at its press
+pub record Down : Type 0 where
+  pub code : ℕ
+  pub action : Act
+
+abbrev pub down_as : ℕ → Act → Down
+down_as code a = record { code = code; action = a }
+
+-- the keys that are down, by rising keycodes; what waits for a character; and the number that Ascii
+-- keys have begun
+pub record Keys : Type 0 where
+  pub down : List Down
+  pub waiting : Waiting
+  pub number : Option ℕ
+
+abbrev pub keys_of : List Down → Waiting → Option ℕ → Keys
+keys_of down waiting number = record { down = down; waiting = waiting; number = number }
+
+-- nothing waits
+abbrev pub nothing_waits : Waiting
+nothing_waits = record { accent = None; composing = false }
+
+-- no key is down
+abbrev pub start_keys : Keys
+start_keys = keys_of [] nothing_waits None
+
+-- the action that was recorded at the press of a keycode, where it is down
+unfoldable pub recorded : List Down → ℕ → Option Act
+recorded down code = option_map (λ d. d.action) (find (λ d. d.code == code) down)
+
+-- a key goes down: it stands between those of lower and of higher keycodes
+unfoldable pub with_key : List Down → ℕ → Act → List Down
+with_key down code a =
+    filter (λ d. nat_lt d.code code) down
+    ++ down_as code a ∷ filter (λ d. nat_lt code d.code) down
+
+-- a key goes up
+unfoldable pub without_key : List Down → ℕ → List Down
+without_key down code = filter (λ d. not (d.code == code)) down
+
+-- an action is this modifier
+abbrev pub is_modifier : ℕ → Act → Bool
+is_modifier v a = a.kind == MODIFIER && a.value == v
+
+-- the weight of a modifier, once, where a key is down as it
+abbrev pub weighs : List Down → ℕ → ℕ
+weighs down v = if list_any (λ d. is_modifier v d.action) down then 2 ^ v else 0
+
+-- the modifier weight: the sum of the distinct weights of the keys down
+unfoldable pub weight_of : List Down → ℕ
+weight_of down =
+    weighs down 0 + weighs down 1 + weighs down 2 + weighs down 3
+    + weighs down 4 + weighs down 5 + weighs down 6 + weighs down 7
+
+-- a console's key state: its keyboard mode, what Meta does, the flags and those of a reset, the
+-- lights where they don't show the flags, and the locked and the sticky modifiers by their weights
+pub record State : Type 0 where
+  pub mode : ℕ
+  pub meta : ℕ
+  pub flags : ℕ
+  pub defaults : ℕ
+  pub lights : Option ℕ
+  pub locks : ℕ
+  pub sticky : ℕ
+
+-- a flag is on
+abbrev pub is_on : ℕ → ℕ → Bool
+is_on flags flag = not (bit_and flags flag == 0)
+
+-- the table in use: modifiers that are down or sticky, the locked ones the other way round
+abbrev pub table_of : ℕ → State → ℕ
+table_of weight s = bit_xor (bit_or weight s.sticky) s.locks
+
+abbrev pub state_of : ℕ → ℕ → ℕ → ℕ → Option ℕ → ℕ → ℕ → State
+state_of mode meta flags defaults lights locks sticky = record {
+  mode = mode;
+  meta = meta;
+  flags = flags;
+  defaults = defaults;
+  lights = lights;
+  locks = locks;
+  sticky = sticky;
+}
+
+-- K_UNICODE and K_ESCPREFIX, and nothing else
+abbrev pub start_state : State
+start_state = state_of 3 4 0 0 None 0 0

@@ -1,0 +1,12 @@
+/// The modes of a console's screen that keys depend on (console_codes(4)).
+#[derive(Clone, Copy, Debug, PartialEq, Eq)]
+pub struct KeyModes {
+    /// DECCKM: cursor keys send ESC O.
+    pub cursor: bool,
+    /// DECPAM: the pad sends ESC O.
+    pub keypad: bool,
+    /// DECARM: keys that are held repeat.
+    pub repeat: bool,
+    /// LNM: Return and Enter send LF behind CR.
+    pub newline: bool,
+}

@@ -1,0 +1,22 @@
+use crate::KeyBytes;
+
+/// What a key event comes to.
+#[derive(Debug, Drop)]
+pub enum KeyOut {
+    /// Input for the console in front.
+    Bytes(KeyBytes),
+    /// A switch to the console of this number.
+    Switch(u8),
+    /// A switch to the console that was in front before.
+    Last,
+    /// A switch to the next console that is allocated.
+    Next,
+    /// A switch to the console that is allocated before this one.
+    Prev,
+    /// KeyboardSignal: a signal to the process that accepts it (ioctl_console(2), KDSIGACCEPT).
+    Spawn,
+    /// SAK: the secure attention key.
+    Attention,
+    /// Neither.
+    Nothing,
+}

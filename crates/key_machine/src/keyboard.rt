@@ -1,0 +1,209 @@
+ghost use Rattle.std.specs.Prelude.{◌≡◌, ◌≤◌, Some, None};
+ghost use Rattle.key_machine.specs.Compose.{accent_of, character, dead};
+ghost use Rattle.key_machine.specs.Keys.{start_keys};
+ghost use Rattle.key_machine.specs.Step.{acted, key_step, number_bytes, number_with, performed, pressed, released, special, step, types};
+
+use crate::accents::{accent_of, character, dead};
+use crate::actions::{
+    action_of, acts_in, idle_out, is_on, modifier_weight, num_lock, repeats, send_idle, spend,
+    table_of,
+};
+use crate::bytes::{add, characters_bytes, meta_bytes, return_bytes, sent};
+use crate::held::Held;
+use crate::pad::{cursor_bytes, function_bytes, pad_bytes};
+use crate::waiting::Waiting;
+use crate::{KbState, KeyBytes, KeyModes, KeyOut, flag, special};
+use key_syms::{Action, kind};
+use key_tables::KeyTables;
+use scan_codes::KeyEvent;
+use std::marker::Model;
+
+/// A keyboard: the keys that are down, each with the action of its press, and what waits for the next
+/// key. A key takes no memory, and the same time whatever is down.
+#[derive(Debug, Drop)]
+pub struct Keyboard {
+    held: Held,
+    waiting: Waiting,
+    number: Option<u16>,
+}
+
+impl Model for Keyboard {
+    ghost use Rattle.key_machine.specs.Keys.{Keys, keys_of};
+
+    ghost Value = { Keys };
+
+    ghost view = { λ k. keys_of k.held k.waiting k.number };
+}
+
+impl Keyboard {
+    /// No key is down, and nothing waits.
+    pub fn start() -> Keyboard
+        ensures { result ≡ start_keys }
+    {
+        Keyboard {
+            held: Held::none(),
+            waiting: Waiting::nothing(),
+            number: None,
+        }
+    }
+
+    /// A key goes down, again where it repeats, or up.
+    pub fn key(&mut self, e: KeyEvent, t: &KeyTables, s: &mut KbState, m: KeyModes) -> KeyOut
+        ensures keys { self.new ≡ (key_step t.now m e self.old s.old).keys }
+        ensures state { s.new ≡ (key_step t.now m e self.old s.old).state }
+        ensures out { result ≡ (key_step t.now m e self.old s.old).out }
+    {
+        if e.down {
+            self.press(e.code, t, s, m)
+        } else {
+            self.release(e.code, s)
+        }
+    }
+
+    // A key goes down. That its weight is taken before it is recorded is part of the rule.
+    #[tactic(auto, unfolding(crate::specs::Step::pressed))]
+    fn press(&mut self, code: u8, t: &KeyTables, s: &mut KbState, m: KeyModes) -> KeyOut
+        ensures { pressed t.now m code self.old s.old ≡ step self.new s.new result }
+    {
+        let weight = self.held.weight();
+        let a = action_of(t, table_of(weight, s), is_on(s.flags, flag::CAPS), code);
+        if !self.held.is_down(code) {
+            self.held.press(code, a);
+            self.perform(code, a, weight, t, s, m)
+        } else if m.repeat && repeats(a) {
+            self.perform(code, a, weight, t, s, m)
+        } else {
+            send_idle(s.mode, code, true)
+        }
+    }
+
+    // A key goes up.
+    #[tactic(auto, unfolding(crate::specs::Step::released))]
+    fn release(&mut self, code: u8, s: &KbState) -> KeyOut
+        ensures { released code self.old s.now ≡ step self.new s.now result }
+    {
+        let was_modifier = self.held.release(code);
+        if acts_in(s.mode) && was_modifier {
+            sent(self.take_number(s.mode))
+        } else {
+            send_idle(s.mode, code, false)
+        }
+    }
+
+    // An action of a key that goes down or repeats.
+    #[tactic(auto, unfolding(crate::specs::Step::performed))]
+    fn perform(
+        &mut self,
+        code: u8,
+        a: Action,
+        weight: u8,
+        t: &KeyTables,
+        s: &mut KbState,
+        m: KeyModes,
+    ) -> KeyOut
+        ensures { performed t.now m weight a code self.old s.old ≡ step self.new s.new result }
+    {
+        if !acts_in(s.mode) {
+            return idle_out(s.mode, code, a);
+        }
+        let out = self.act(a, weight, t, s, m);
+        spend(a, s);
+        out
+    }
+
+    // What an action does, by its kind.
+    #[tactic(auto, unfolding(crate::specs::Step::acted))]
+    fn act(&mut self, a: Action, weight: u8, t: &KeyTables, s: &mut KbState, m: KeyModes) -> KeyOut
+        ensures { acted t.now m weight a self.old s.old ≡ step self.new s.new result }
+    {
+        let v = a.value;
+        match a.kind {
+            kind::HOLE | kind::MODIFIER => KeyOut::Nothing,
+            kind::CHARACTER | kind::LETTER => self.type_character(t, v, s),
+            kind::META => sent(meta_bytes(s.meta, v as u8)),
+            kind::FUNCTION => sent(function_bytes(t, v as u8)),
+            kind::PAD => sent(pad_bytes(t, m, weight, s.flags, v)),
+            kind::CURSOR => sent(cursor_bytes(m.cursor, v)),
+            kind::DEAD => self.type_accent(t, v, s),
+            kind::LOCK => {
+                s.locks ^= modifier_weight(v);
+                KeyOut::Nothing
+            }
+            kind::STICKY => {
+                s.sticky ^= modifier_weight(v);
+                KeyOut::Nothing
+            }
+            kind::CONSOLE => KeyOut::Switch(v as u8),
+            kind::SPECIAL => self.act_special(v, s, m),
+            _ => self.add_digit(v),
+        }
+    }
+
+    // What a special action does.
+    #[tactic(auto, unfolding(crate::specs::Step::special))]
+    fn act_special(&mut self, v: u16, s: &mut KbState, m: KeyModes) -> KeyOut
+        ensures { special m v self.old s.old ≡ step self.new s.new result }
+    {
+        match v {
+            special::RETURN => return sent(return_bytes(m.newline)),
+            special::CAPS_LOCK => s.flags ^= flag::CAPS,
+            special::NUM_LOCK => return num_lock(s, m.keypad),
+            special::SCROLL_LOCK => s.flags ^= flag::SCROLL,
+            special::LAST_CONSOLE => return KeyOut::Last,
+            special::INCR_CONSOLE => return KeyOut::Next,
+            special::DECR_CONSOLE => return KeyOut::Prev,
+            special::KEYBOARD_SIGNAL => return KeyOut::Spawn,
+            special::SAK => return KeyOut::Attention,
+            special::COMPOSE => self.waiting.composing = true,
+            special::BARE_NUM_LOCK => s.flags ^= flag::NUM,
+            special::CAPS_ON => s.flags |= flag::CAPS,
+            _ => {}
+        }
+        KeyOut::Nothing
+    }
+
+    // A character is typed.
+    fn type_character(&mut self, t: &KeyTables, code: u16, s: &KbState) -> KeyOut
+        ensures { types (character t.now.pairs self.old.waiting code) self.old s.now
+            ≡ step self.new s.now result }
+    {
+        let (codes, waiting) = character(t, self.waiting, code);
+        self.waiting = waiting;
+        sent(characters_bytes(s.mode, codes))
+    }
+
+    // A dead key is typed.
+    fn type_accent(&mut self, t: &KeyTables, v: u16, s: &KbState) -> KeyOut
+        ensures { types (dead t.now.pairs self.old.waiting (accent_of v)) self.old s.now
+            ≡ step self.new s.now result }
+    {
+        let (codes, waiting) = dead(t, self.waiting, accent_of(v));
+        self.waiting = waiting;
+        sent(characters_bytes(s.mode, codes))
+    }
+
+    // A digit behind the number that is kept.
+    fn add_digit(&mut self, digit: u16) -> KeyOut
+        requires { digit ≤ 9 }
+        ensures keys { self.new ≡ record self.old { number = Some (number_with self.old.number digit) } }
+        ensures out { result ≡ KeyOut.Nothing }
+    {
+        let before = u32::from(self.number.unwrap_or(0));
+        let number = (10 * before + u32::from(digit)).min(65535);
+        self.number = Some(number as u16);
+        KeyOut::Nothing
+    }
+
+    // The number that is kept, as a character.
+    fn take_number(&mut self, mode: u8) -> KeyBytes
+        ensures keys { self.new ≡ record self.old { number = None } }
+        ensures bytes { result ≡ number_bytes mode self.old.number }
+    {
+        let mut bytes = KeyBytes::new();
+        if let Some(code) = self.number {
+            add(&mut bytes, mode, code);
+        }
+        self.number = None;
+        bytes
+    }
+}

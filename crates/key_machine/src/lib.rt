@@ -1,0 +1,31 @@
+//! The keyboard: keys that go down and up become bytes and requests, by the tables of a keymap and a
+//! console's key state.
+#![tactic(auto)]
+
+mod accents;
+mod actions;
+mod bytes;
+mod cursor;
+pub mod flag;
+mod function;
+mod held;
+mod kb_state;
+mod key_bytes;
+mod key_modes;
+mod key_out;
+mod keyboard;
+mod laws;
+pub mod meta;
+pub mod mode;
+mod pad;
+mod special;
+#[cfg(test)]
+mod tests;
+mod waiting;
+
+pub use kb_state::KbState;
+pub use key_bytes::KeyBytes;
+pub use key_modes::KeyModes;
+pub use key_out::KeyOut;
+pub use keyboard::Keyboard;
+pub use laws::{keys_follow, records_stay};

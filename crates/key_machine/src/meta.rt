@@ -1,0 +1,7 @@
+//! What Meta does, by its numbers (ioctl_console(2), KDSKBMETA).
+
+/// K_METABIT: the character with the high bit.
+pub const METABIT: u8 = 3;
+
+/// K_ESCPREFIX: ESC and the character.
+pub const ESCPREFIX: u8 = 4;

@@ -1,0 +1,13 @@
+use Rattle.std.proofs.Common.{◌≤◌, ◌-◌, length, take}
+use Rattle.vt_units.specs.Characters.{AreTextsOf}
+use Rattle.vt_units.proofs.characters.read_characters.Given as goal
+
+abbrev pub invariant-loop-code : goal.invariant-loop-code
+invariant-loop-code l = record {
+  within : l.at ≤ length l.b;
+  texts : AreTextsOf (take l.at l.b) l.codes;
+  fits : length l.codes ≤ l.most;
+}
+
+abbrev pub decreases-loop-code : goal.decreases-loop-code
+decreases-loop-code l = l.most - length l.codes
