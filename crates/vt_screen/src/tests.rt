@@ -47,7 +47,7 @@ fn is_drawn(
     bells: usize,
 ) -> Result<bool, NoMemory> {
     let mut emu = start(alloc, SIZE)?;
-    let mut rung = 0;
+    let mut rung: usize = 0;
     for part in [parts.0, parts.1] {
         if part.len() > 64 {
             return Ok(false);
@@ -57,11 +57,12 @@ fn is_drawn(
             Way::Quickly => emu.feed(part, &mut outs),
             Way::Plainly => emu.feed_plainly(part, &mut outs),
         }
-        rung += outs
+        let count = outs
             .as_slice()
             .iter()
             .filter(|out| matches!(out, Out::Bell))
             .count();
+        rung = rung.saturating_add(count);
     }
     let is_alike = has_row(emu.grid(), 0, rows[0])
         && has_row(emu.grid(), 1, rows[1])
@@ -108,7 +109,7 @@ fn no_cut_matters(rt: HostRuntime) -> Result<(), Fail> {
         (b"\x1B[31mx\x1B]Ry\x1B]P0123456z", ["xyz", "", ""], 0),
     ];
     for (text, rows, bells) in cases {
-        for cut in 0..=text.len() {
+        for cut in 0..text.len() {
             for way in [Way::Quickly, Way::Plainly] {
                 let parts = text.split_at(cut);
                 assert!(rt;

@@ -376,7 +376,7 @@ fn takes_characters(rt: HostRuntime) {
         let mut pending = Pending::new();
         let mut codes = Codes::new();
         assert_eq!(rt;
-            pending.take_characters(UTF8, text, most, &mut codes),
+            pending.take_characters(UTF8, text, most.min(64), &mut codes),
             count,
             "{text:?}"
         );
@@ -384,7 +384,7 @@ fn takes_characters(rt: HostRuntime) {
     }
     let mut pending = Pending::new();
     assert_eq!(rt;
-        pending.take_characters(BYTES, b"a", 64, &mut Codes::default()),
+        pending.take_characters(BYTES, b"a", 64, &mut Codes::new()),
         0
     );
     let _ = pending.take(UTF8, 0x1B);
