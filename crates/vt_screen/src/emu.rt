@@ -145,7 +145,9 @@ impl Emu {
         ensures run { (outs : List Out) → run drawing (take result b.now) (having_said outs self.old)
             ≡ having_said outs self.new }
     {
-        if b[0] < 0x80 {
+        if b[0] < 0x20 {
+            0
+        } else if b[0] < 0x80 {
             self.print_run(b)
         } else {
             self.print_characters(b)
