@@ -64,9 +64,3 @@ impl Palette {
         self.colours[usize::from(n)] = rgb;
     }
 }
-
-impl Default for Palette {
-    fn default() -> Palette {
-        Palette::start()
-    }
-}
