@@ -9,6 +9,8 @@ mod proc_list;
 mod proc_start;
 mod process;
 mod procs;
+#[cfg(test)]
+mod tests;
 mod ticket;
 mod tickets;
 mod waited;
