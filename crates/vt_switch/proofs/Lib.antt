@@ -1,3 +1,9 @@
 mod Hops
+mod Lawful
+mod Lookups
+mod Marks
+mod Owners
+mod Reasons
 mod Sets
 mod Sound
+mod Stays

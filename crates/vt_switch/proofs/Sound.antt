@@ -1,28 +1,19 @@
 -- The death of a process leaves the display sound.
-use Rattle.std.proofs.Common.{◌≡◌, ◌≢◌, ℕ, zero, suc, Bool, true, false, true≢false, cond, List, [], ◌∷◌, get_or, set, map, Option, Some, None, refl, sym, ap, subst, ◌∙◌, ◌⊎◌, inl, inr}
+use Rattle.std.proofs.Common.{◌≡◌, ℕ, Bool, true, false, cond, List, get_or, set, map, Option, Some, None, refl, sym, ap, subst, ◌∙◌, ◌⊎◌, inl, inr}
 use Rattle.std.proofs.Math.ListN.{get_or-map}
 use Rattle.std.proofs.lemmas.List.{get_or-set_other}
 use Rattle.std.specs.Prelude.{◌==◌, IfSome, is_some, option_map}
+use Rattle.vt_switch.proofs.Lookups.{set_either, unequal}
 use Rattle.vt_switch.specs.Calls.{names, owns}
 use Rattle.vt_switch.specs.Deaths.{after_hop, falls_to, left_by}
 use Rattle.vt_switch.specs.Display.{Display, IsSound, MayWait, fresh, or_fresh, owner_of}
 use Rattle.vt_switch.specs.declared.console.Console.{Console}
 use Rattle.vt_switch.specs.declared.hop.Hop.{Hop}
-use native.Mathlib.Omega.{arith}
 
 -- whether a place is taken isn't changed by changing what it has
 kept : {A : Type 0} (f : A → A) (o : Option A) → is_some (option_map f o) ≡ is_some o
 kept f None = refl
 kept f (Some a) = refl
-
--- a place after a write is what was written or as it was
-set_either : {A : Type 0} (P : A → Type 0) (xs : List A) (i j : ℕ) (a d : A)
-    → P a → P (get_or xs j d) → P (get_or (set xs i a) j d)
-set_either P [] i j a d here there = there
-set_either P (x ∷ xs) zero zero a d here there = here
-set_either P (x ∷ xs) zero (suc j) a d here there = there
-set_either P (x ∷ xs) (suc i) zero a d here there = there
-set_either P (x ∷ xs) (suc i) (suc j) a d here there = set_either P xs i j a d here there
 
 if_some : {A : Type 0} (P Q : A → Type 0) (o : Option A) → ((a : A) → P a → Q a) → IfSome o P → IfSome o Q
 if_some P Q None more holds = tt
@@ -30,10 +21,6 @@ if_some P Q (Some a) more holds = more a holds
 
 none_waits : (d : Display) (P : ℕ → Type 0) → d.pending ≡ None → IfSome d.pending P
 none_waits d P none = subst (λ (o : Option ℕ). IfSome o P) (sym none) tt
-
-apart : (c n : ℕ) → (c == n) ≡ false → n ≢ c
-apart c n differ same =
-    true≢false (sym (let e : (n == n) ≡ true = grind arith in ap (λ k. k == n) (sym same) ∙ e) ∙ differ)
 
 abbrev as_new : Display → ℕ → Display
 as_new d c = record d { consoles = set d.consoles c (Some fresh) }
@@ -54,13 +41,13 @@ reset_sound d c sound (inr other) = record {
         is_there = set_either IsTaken d.consoles c n (Some fresh) None refl waits.is_there;
         apart = waits.apart;
         asked = ap (λ (o : Option Console). is_some (owner_of (or_fresh o).handling))
-            (get_or-set_other d.consoles c d.front (Some fresh) None (apart c d.front other))
+            (get_or-set_other d.consoles c d.front (Some fresh) None (unequal c d.front other))
             ∙ waits.asked;
       })
       sound.has_pending;
 }
 
-abbrev given_back : Display → ℕ → Display
+abbrev pub given_back : Display → ℕ → Display
 given_back d p = record d { consoles = map (option_map (left_by p)) d.consoles }
 
 taken : (p : ℕ) (xs : List (Option Console)) (n : ℕ) → is_some (get_or xs n None) ≡ true
@@ -69,7 +56,7 @@ taken p xs n there =
     ap (λ (o : Option Console). is_some o) (get_or-map (option_map (left_by p)) xs n None)
     ∙ kept (left_by p) (get_or xs n None) ∙ there
 
-still : (p : ℕ) (o : Option Console) → names p (owner_of (or_fresh o).handling) ≡ false
+pub still : (p : ℕ) (o : Option Console) → names p (owner_of (or_fresh o).handling) ≡ false
     → or_fresh (option_map (left_by p) o) ≡ or_fresh o
 still p None other = refl
 still p (Some console) other = ap (λ b. cond b fresh console) other

@@ -2,3 +2,5 @@ pub mod Acts
 pub mod Calls
 pub mod Deaths
 pub mod Display
+pub mod Law
+pub mod Moments

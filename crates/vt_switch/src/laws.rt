@@ -1,7 +1,14 @@
 //! The laws of the switch.
 ghost use Rattle.vt_switch.specs.Acts.{OnlyHopsSwitch};
+ghost use Rattle.vt_switch.specs.Law.{DisplayLaw};
 
 /// Each act of the switch changes the console in front by its hop alone.
 pub fn only_hops_switch()
     ensures { OnlyHopsSwitch }
+{}
+
+/// Each hop of each history was allowed: the front handled its switches itself, showed text and
+/// wasn't locked; or its owner let the display go, or died, after it had been asked to.
+pub fn each_hop_was_allowed()
+    ensures { DisplayLaw }
 {}

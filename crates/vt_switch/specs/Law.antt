@@ -1,0 +1,83 @@
+-- The display law: why each hop was allowed. This project's own.
+use Rattle.std.specs.Prelude.{◌≡◌, ⊤, ◌⊎◌, ◌<◌, ℕ, true, false, List, [], ◌∷◌, Option, Some, None}
+use Rattle.vt_switch.specs.Acts.{SwitchAct, Release, End}
+use Rattle.vt_switch.specs.Display.{console, owner_of}
+use Rattle.vt_switch.specs.Moments.{Core, Moment, history, hops, is_live, is_ordered, left, refuses, sets_mode, trace}
+use Rattle.vt_switch.specs.declared.cause.Cause.{Cause}
+use Rattle.vt_switch.specs.declared.cause.Cause.TheVariants.{Free, Released, Died}
+use Rattle.vt_switch.specs.declared.handling.Handling.{Handling}
+use Rattle.vt_switch.specs.declared.handling.Handling.TheVariants.{Auto, Process}
+use Rattle.vt_switch.specs.declared.hop.Hop.{Hop}
+use Rattle.vt_switch.specs.declared.mark.Mark.TheVariants as mark
+
+-- some earlier moment was the cause, and each one after it was quiet; the newest comes first
+abbrev pub Since : (Moment → Type 0) → (Moment → Type 0) → List Moment → Type 0
+Since IsQuiet IsCause [] = ⊥
+Since IsQuiet IsCause (m ∷ earlier) = IsCause m ⊎ (IsQuiet m × Since IsQuiet IsCause earlier)
+
+-- the process that handles a console's switches, and its release signal
+abbrev pub release_of : Handling → Option (ℕ × ℕ)
+release_of (Auto words) = None
+release_of (Process handshake) = Some (handshake.owner, handshake.relsig)
+
+-- in an entry before the i-th, console a was in front, its release signal was raised to p, and n
+-- became the console that waits
+pub record Raises (i a p n : ℕ) (m : Moment) : Type 0 where
+  pub earlier : m.entry < i
+  pub in_front : m.before.display.front ≡ a
+  pub signal : ℕ
+  pub handled : release_of (console m.before.display a).handling ≡ Some (p, signal)
+  pub raised : trace m ≡ mark.Asked n ∷ mark.Raised p signal ∷ []
+  pub target : (left m).display.pending ≡ Some n
+
+-- no accepted set mode of a, no accepted refusal of a, no hop, and n still waits
+pub record Quiet (a n : ℕ) (m : Moment) : Type 0 where
+  pub no_mode : sets_mode a m.before m.act ≡ false
+  pub no_refusal : refuses a m.before m.act ≡ false
+  pub no_hop : hops (trace m) ≡ []
+  pub target : (left m).display.pending ≡ Some n
+
+-- p handled the switches of a, n waited, and a's release signal had been raised to p for it
+pub record Handed (earlier : List Moment) (m : Moment) (a p n : ℕ) : Type 0 where
+  pub owner : owner_of (console m.before.display a).handling ≡ Some p
+  pub waits : m.before.display.pending ≡ Some n
+  pub asked : Since (Quiet a n) (Raises m.entry a p n) earlier
+
+-- the console in front handled its switches itself and showed text, and switching wasn't locked; or
+-- its owner let the display go; or its owner died
+abbrev pub AllowedBy : List Moment → Moment → ℕ → ℕ → Cause → Type 0
+AllowedBy earlier m a n Free =
+    (owner_of (console m.before.display a).handling ≡ None)
+    × ((console m.before.display a).graphics ≡ false)
+    × (m.before.display.locked ≡ false)
+AllowedBy earlier m a n (Released p) = (m.act ≡ Release a p 1) × Handed earlier m a p n
+AllowedBy earlier m a n (Died p) = (m.act ≡ End p) × Handed earlier m a p n
+
+pub record IsAllowed (earlier : List Moment) (m : Moment) (hop : Hop) : Type 0 where
+  pub from : hop.from ≡ m.before.display.front
+  pub because : AllowedBy earlier m hop.from hop.to hop.cause
+
+abbrev pub EachAllowed : List Moment → Moment → List Hop → Type 0
+EachAllowed earlier m [] = ⊤
+EachAllowed earlier m (hop ∷ more) = IsAllowed earlier m hop × EachAllowed earlier m more
+
+-- every hop of the history was allowed
+abbrev pub IsLawful : List Moment → Type 0
+IsLawful [] = ⊤
+IsLawful (m ∷ earlier) = EachAllowed earlier m (hops (trace m)) × IsLawful earlier
+
+-- whoever handles the switches of a console lives
+abbrev pub OwnersLive : Core → Type 0
+OwnersLive k =
+    (c p : ℕ) → owner_of (console k.display c).handling ≡ Some p → is_live k p ≡ true
+
+-- in each of these entries the requests come last
+abbrev pub AllOrdered : List (List SwitchAct) → Type 0
+AllOrdered [] = ⊤
+AllOrdered (acts ∷ entries) = (is_ordered false acts ≡ true) × AllOrdered entries
+
+-- from a core where nothing waits and every owner lives, every hop of every history was allowed
+abbrev pub DisplayLaw : Type 0
+DisplayLaw =
+    (k : Core) (entries : List (List SwitchAct)) → OwnersLive k → k.display.pending ≡ None
+    → AllOrdered entries → IsLawful (history 0 k entries [])
