@@ -1,5 +1,7 @@
 mod Fields
 mod Fronts
+mod Numbered
+mod Comes
 mod Readings
 mod Joined
 mod Settling

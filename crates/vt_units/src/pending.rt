@@ -1,5 +1,6 @@
 ghost use Rattle.std.specs.Prelude.{◌≡◌, ◌==◌, ◌≤◌, ◌<◌, ◌&&◌, not, true, take, [], ◌∷◌, length, if◌then◌else◌};
 ghost use Rattle.std.specs.List.{prefix_len};
+ghost use Rattle.vt_units.specs.Ahead.{parameters_ahead, rest_ahead, sequence_of, taken_ahead};
 ghost use Rattle.vt_units.specs.Answer.{answer, rest_after, settled, took};
 ghost use Rattle.vt_units.specs.Bytes.{decodes, interrupts, is_control, is_printable};
 ghost use Rattle.vt_units.specs.Characters.{AreTextsOf};
@@ -15,10 +16,11 @@ use crate::ground::{ground, part};
 use crate::kept::Kept;
 use crate::left::Left;
 use crate::sequence::sequence;
+use crate::sequence_ahead::sequence_ahead;
 use crate::stage::Stage;
 use crate::step::Step;
 use crate::strings::{string, string_end};
-use crate::{Mode, Read, Then};
+use crate::{Ahead, Mode, Params, Read, Then};
 use std::marker::Model;
 use vt_chars::{Decoded, decode};
 
@@ -110,6 +112,26 @@ impl Pending {
             self.restart(mode);
         }
         count
+    }
+
+    /// Reads a sequence that stands whole at the front of the text, where no text is pending: a
+    /// control sequence of parameters alone, or an escape sequence with at most one intermediate
+    /// byte. The parameters are then in `params`, and what was there before is gone. It answers at
+    /// once what [`Pending::take`] answers byte by byte, in which there is nothing but that unit.
+    pub fn take_sequence(&mut self, mode: Mode, b: &[u8], params: &mut Params) -> Ahead
+        ensures sequence { sequence_of result params.new ≡ taken_ahead self.old b.now }
+        ensures parameters { params.new ≡ parameters_ahead (taken_ahead self.old b.now) }
+        ensures rest { self.new ≡ rest_ahead self.old mode (taken_ahead self.old b.now) }
+    {
+        params.clear();
+        if !self.is_empty() {
+            return Ahead::Nothing;
+        }
+        let ahead = sequence_ahead(b, params);
+        if !matches!(ahead, Ahead::Nothing) {
+            self.restart(mode);
+        }
+        ahead
     }
 
     /// Takes a control character where no text is pending, and tells whether the byte was one. It
