@@ -92,11 +92,10 @@ impl Pending {
     }
 
     /// Reads whole characters at the front of the text that are shown, as many as are wanted at
-    /// most, adds them to `codes`, and tells how many bytes they are: none unless no text is
-    /// pending and the mode decodes UTF-8. It answers for them at once what [`Pending::take`]
-    /// answers byte by byte.
+    /// most, and tells how many bytes they are: none unless no text is pending and the mode
+    /// decodes UTF-8. The characters are then in `codes`, and what was there before is gone. It
+    /// answers for them at once what [`Pending::take`] answers byte by byte.
     pub fn take_characters(&mut self, mode: Mode, b: &[u8], most: usize, codes: &mut Codes) -> usize
-        requires empty { codes.old ≡ [] }
         requires room { most ≤ 64 }
         ensures texts { AreTextsOf (take result b.now) codes.new }
         ensures bound { result ≤ length b.now }
@@ -104,6 +103,7 @@ impl Pending {
         ensures decoding { 0 < result → (self.old.text ≡ []) × (decodes mode ≡ true) }
         ensures rest { self.new ≡ (if result == 0 then self.old else fresh mode) }
     {
+        codes.clear();
         if !self.is_empty() || !decodes(mode) {
             return 0;
         }
