@@ -17,4 +17,5 @@ mod Piecewise
 pub mod Runs
 mod Drops
 mod Printables
+mod Lanes
 pub mod Wholes

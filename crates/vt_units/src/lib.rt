@@ -16,6 +16,7 @@ mod mode;
 mod numbers;
 mod params;
 mod pending;
+mod printable;
 mod read;
 mod sequence;
 mod sequence_ahead;

@@ -8,13 +8,14 @@ ghost use Rattle.vt_units.specs.Reading.{is_empty};
 ghost use Rattle.vt_units.specs.Rest.{fresh, start_mode};
 ghost use Rattle.vt_units.specs.Stage.{Inside, Leaves, Stands, rest_of};
 
-use crate::bytes::{decodes, interrupts, is_control, printable_prefix};
+use crate::bytes::{decodes, interrupts, is_control};
 use crate::characters::read_characters;
 use crate::codes::Codes;
 use crate::command::{command, palette};
 use crate::ground::{ground, part};
 use crate::kept::Kept;
 use crate::left::Left;
+use crate::printable::printable_prefix;
 use crate::sequence::sequence;
 use crate::sequence_ahead::sequence_ahead;
 use crate::stage::Stage;
