@@ -18,4 +18,6 @@ pub mod Runs
 mod Drops
 mod Printables
 mod Lanes
+mod Rests
+mod Sizes
 pub mod Wholes

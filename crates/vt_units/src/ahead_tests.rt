@@ -112,9 +112,11 @@ fn takes_sequences_of_256_bytes(rt: HostRuntime) {
 
 #[test]
 fn takes_no_sequence_behind_a_text(rt: HostRuntime) {
-    let mut pending = Pending::new();
-    let mut params = Params::new();
+    let mut pending = Pending::default();
+    let mut params = Params::default();
+    assert!(rt; pending.is_empty());
     let _ = pending.take(UTF8, 0x1B);
+    assert!(rt; !pending.is_empty());
     assert_eq!(rt;
         pending.take_sequence(UTF8, b"\x1B[m", &mut params),
         Nothing

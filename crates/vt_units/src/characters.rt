@@ -1,6 +1,6 @@
 //! Whole characters at the front of a text.
-ghost use Rattle.std.specs.Prelude.{◌≡◌, ◌≤◌, ◌<◌, [], true, length, take, IfSome};
-ghost use Rattle.vt_units.specs.Characters.{AreTextsOf, Begins, is_shown};
+ghost use Rattle.std.specs.Prelude.{◌≡◌, ◌≤◌, ◌<◌, [], true, drop, length, take, IfNone, IfSome};
+ghost use Rattle.vt_units.specs.Characters.{AreTextsOf, Begins, IsHidden, NoneBegins, is_shown};
 
 use crate::codes::Codes;
 use vt_chars::{Decoded, decode_four, decode_one, decode_three, decode_two};
@@ -13,6 +13,7 @@ pub(crate) fn read_characters(b: &[u8], most: usize, codes: &mut Codes) -> usize
     ensures texts { AreTextsOf (take result b.now) codes.new }
     ensures bound { result ≤ length b.now }
     ensures most { length codes.new ≤ most }
+    ensures all { length codes.new < most → NoneBegins (drop result b.now) }
 {
     let mut at = 0;
     while codes.len() < most {
@@ -28,7 +29,8 @@ pub(crate) fn read_characters(b: &[u8], most: usize, codes: &mut Codes) -> usize
 // The character that the text begins with, where it is whole and is shown, and how many bytes it has.
 #[inline(always)]
 fn first_character(b: &[u8]) -> Option<(u32, usize)>
-    ensures { IfSome result (λ read. Begins b.now read.0 read.1) }
+    ensures some { IfSome result (λ read. Begins b.now read.0 read.1) }
+    ensures none { IfNone result (NoneBegins b.now) }
 {
     match b {
         [a, ..] if *a < 0x80 => Some((shown(decode_one(*a))?, 1)),
@@ -41,7 +43,8 @@ fn first_character(b: &[u8]) -> Option<(u32, usize)>
 
 #[inline(always)]
 fn shown(decoded: Decoded) -> Option<u32>
-    ensures { IfSome result (λ code. (decoded ≡ Decoded.Character code) × (is_shown code ≡ true)) }
+    ensures some { IfSome result (λ code. (decoded ≡ Decoded.Character code) × (is_shown code ≡ true)) }
+    ensures none { IfNone result (IsHidden decoded) }
 {
     match decoded {
         Decoded::Character(code) => { if is_shown(code) { Some(code) } else { None } }

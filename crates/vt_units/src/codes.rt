@@ -67,6 +67,8 @@ impl Codes {
 }
 
 impl Default for Codes {
+    ghost is_default = { λ x. x ≡ [] };
+
     fn default() -> Codes {
         Codes::new()
     }

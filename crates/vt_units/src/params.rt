@@ -59,6 +59,8 @@ impl Params {
 }
 
 impl Default for Params {
+    ghost is_default = { λ x. x ≡ [] };
+
     fn default() -> Params {
         Params::new()
     }
