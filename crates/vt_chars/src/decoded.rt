@@ -17,15 +17,16 @@ pub fn decode(text: &[u8], b: u8) -> Decoded
     ensures { result ≡ decoded (text.now ++ b ∷ []) }
 {
     match text.len() {
-        0 => one(b),
-        1 => two(text[0], b),
-        2 => three(text[0], text[1], b),
-        3 => four(text[0], text[1], text[2], b),
+        0 => decode_one(b),
+        1 => decode_two(text[0], b),
+        2 => decode_three(text[0], text[1], b),
+        3 => decode_four(text[0], text[1], text[2], b),
         _ => Decoded::Malformed,
     }
 }
 
-pub(crate) fn one(a: u8) -> Decoded
+/// What a byte is.
+pub fn decode_one(a: u8) -> Decoded
     ensures { result ≡ decoded (a ∷ []) }
 {
     if a <= 0x7F {
@@ -37,7 +38,8 @@ pub(crate) fn one(a: u8) -> Decoded
     }
 }
 
-pub(crate) fn two(a: u8, b: u8) -> Decoded
+/// What two bytes are.
+pub fn decode_two(a: u8, b: u8) -> Decoded
     ensures { result ≡ decoded (a ∷ b ∷ []) }
 {
     if is_within(0xC2, 0xDF, a) && is_tail(b) {
@@ -49,7 +51,8 @@ pub(crate) fn two(a: u8, b: u8) -> Decoded
     }
 }
 
-pub(crate) fn three(a: u8, b: u8, c: u8) -> Decoded
+/// What three bytes are.
+pub fn decode_three(a: u8, b: u8, c: u8) -> Decoded
     ensures { result ≡ decoded (a ∷ b ∷ c ∷ []) }
 {
     if is_within(0xE0, 0xEF, a) && is_second(a, b) && is_tail(c) {
@@ -62,7 +65,8 @@ pub(crate) fn three(a: u8, b: u8, c: u8) -> Decoded
     }
 }
 
-pub(crate) fn four(a: u8, b: u8, c: u8, d: u8) -> Decoded
+/// What four bytes are.
+pub fn decode_four(a: u8, b: u8, c: u8, d: u8) -> Decoded
     ensures { result ≡ decoded (a ∷ b ∷ c ∷ d ∷ []) }
 {
     if is_within(0xF0, 0xF4, a) && is_second(a, b) && is_tail(c) && is_tail(d) {

@@ -11,7 +11,7 @@ mod tests;
 mod utf8;
 
 pub use char_map::CharMap;
-pub use decoded::{Decoded, decode};
+pub use decoded::{Decoded, decode, decode_four, decode_one, decode_three, decode_two};
 pub use got::Got;
 pub use laws::unfinished_begins;
 pub use utf8::Utf8;

@@ -1,5 +1,7 @@
 use crate::Got::{Bad, BadThen, Char, More};
-use crate::{CharMap, Decoded, Got, Utf8, decode};
+use crate::{
+    CharMap, Decoded, Got, Utf8, decode, decode_four, decode_one, decode_three, decode_two,
+};
 use std::process::Abort;
 
 // What the bytes of a text are answered, one after another. A byte that is answered BadThen is
@@ -195,4 +197,11 @@ fn maps_bytes(rt: HostRuntime) {
     assert_eq!(rt; map.map(3, 0xFF), 0x263A, "the user's table");
     assert_eq!(rt; map.map(2, 0xFF), 0xF0FF, "null mapping after it");
     assert_eq!(rt; decode(&[0xE2, 0x94], 0x80), Decoded::Character(0x2500));
+    assert_eq!(rt; decode_one(0x7E), Decoded::Character(0x7E));
+    assert_eq!(rt; decode_two(0xC3, 0xA9), Decoded::Character(0xE9));
+    assert_eq!(rt; decode_three(0xE2, 0x94, 0x80), Decoded::Character(0x2500));
+    assert_eq!(rt;
+        decode_four(0xF0, 0x9F, 0x98, 0x80),
+        Decoded::Character(0x1F600)
+    );
 }

@@ -3,7 +3,7 @@ ghost use Rattle.vt_chars.specs.Kept.{Answers, bytes_of};
 ghost use Rattle.vt_chars.specs.Push.{got_of, left_of};
 ghost use Rattle.vt_chars.specs.Utf8.{Begins};
 
-use crate::decoded::{Decoded, four, one, three, two};
+use crate::decoded::{Decoded, decode_four, decode_one, decode_three, decode_two};
 use crate::got::Got;
 use std::marker::Model;
 
@@ -65,17 +65,21 @@ fn step(kept: Kept, b: u8) -> (Got, Kept)
     ensures rest { bytes_of result.1 ≡ left_of (bytes_of kept) b }
 {
     match kept {
-        Kept::Nothing => answer(one(b), Got::Bad, Kept::One(b)),
-        Kept::One(first) => answer(two(first, b), Got::BadThen, Kept::Two(first, b)),
+        Kept::Nothing => answer(decode_one(b), Got::Bad, Kept::One(b)),
+        Kept::One(first) => answer(decode_two(first, b), Got::BadThen, Kept::Two(first, b)),
         Kept::Two(first, second) => {
             answer(
-                three(first, second, b),
+                decode_three(first, second, b),
                 Got::BadThen,
                 Kept::Three(first, second, b),
             )
         }
         Kept::Three(first, second, third) => {
-            answer(four(first, second, third, b), Got::BadThen, Kept::Nothing)
+            answer(
+                decode_four(first, second, third, b),
+                Got::BadThen,
+                Kept::Nothing,
+            )
         }
     }
 }

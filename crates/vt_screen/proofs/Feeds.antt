@@ -1,5 +1,5 @@
 -- A run of a text, piece by piece.
-use Rattle.std.proofs.Common.{◌≡◌, ℕ, ◌+◌, ◌<◌, List, ◌∷◌, ◌++◌, take, drop, drop-cons, get_or, length, sym, ap, ◌∙◌, subst, add-one, arith, length-drop, ◌-◌}
+use Rattle.std.proofs.Common.{◌≡◌, ℕ, ◌+◌, ◌<◌, List, [], refl, ◌∷◌, ◌++◌, take, drop, drop-cons, get_or, length, sym, ap, ◌∙◌, subst, add-one, arith, length-drop, ◌-◌}
 use Rattle.std.proofs.lemmas.List.{drop-drop, take-append-drop, take_all}
 use Rattle.vt_screen.specs.Run.{Told, drawing}
 use Rattle.vt_units.proofs.Runs.{any-cut}
@@ -30,3 +30,7 @@ run-byte text at before after within done =
     ap (run drawing (drop (at + 1) text)) done
     ∙ ap (λ (n : ℕ). run drawing (get_or text at 0 ∷ drop n text) before) (add-one at)
     ∙ ap (λ (bytes : List ℕ). run drawing bytes before) (sym (drop-cons text at 0 within))
+
+pub take-one : (text : List ℕ) → 0 < length text → take 1 text ≡ get_or text 0 0 ∷ []
+take-one [] some = absurd (omega (arith, some))
+take-one (b ∷ text) some = refl

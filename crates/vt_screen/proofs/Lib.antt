@@ -2,6 +2,7 @@ mod Controls
 mod Cuts
 mod Feeds
 mod Printed
+mod Sequences
 mod Shown
 mod Start
 mod Tapes

@@ -2,6 +2,7 @@
 ghost use Rattle.std.specs.Prelude.{◌≡◌};
 ghost use Rattle.vt_grid.specs.Grid.{filled};
 ghost use Rattle.vt_screen.specs.Effect.{effect};
+ghost use Rattle.vt_units.specs.declared.unit.Unit.TheVariants.{Csi};
 ghost use Rattle.std.specs.Borrow.{Lends, sem};
 ghost use Rattle.vt_cells.specs.contracts.palette.Palette.{the_row as palette_row};
 ghost use Rattle.vt_screen.specs.contracts.canvas.Canvas.{the_row};
@@ -116,18 +117,27 @@ impl Canvas {
             Unit::Control(code) => return self.control(*code),
             Unit::Esc { mid, last } => return self.escape(*mid, *last),
             Unit::Csi {
-                private: true,
+                private,
                 params,
                 last,
-            } => self.private_sequence(params.as_slice(), *last),
-            Unit::Csi { params, last, .. } => {
-                return self.control_sequence(params.as_slice(), *last);
-            }
+            } => return self.obey_sequence(*private, params.as_slice(), *last),
             Unit::Colour { n, rgb } => self.set_colour(*n, *rgb),
             Unit::ColourReset => self.reset_palette(),
             Unit::Ignored => {}
         }
         None
+    }
+
+    /// Does what a control sequence does. The answer is what it says beside the screen.
+    pub fn obey_sequence(&mut self, private: bool, params: &[u16], last: u8) -> Option<Out>
+        ensures { effect (Csi private params.now last) self.old ≡ record { screen = self.new; said = result } }
+    {
+        if private {
+            self.private_sequence(params, last);
+            None
+        } else {
+            self.control_sequence(params, last)
+        }
     }
 
     // What an empty place holds.

@@ -13,7 +13,10 @@ use crate::{Outs, ScreenState};
 use std::marker::Model;
 use vt_cells::{Cell, Palette};
 use vt_grid::Grid;
-use vt_units::{Codes, MOST_CODES, Pending, Then, controls_are_units, printables_are_characters};
+use vt_units::{
+    Ahead, Codes, MOST_CODES, Params, Pending, Then, controls_are_units, printables_are_characters,
+    sequences_are_units,
+};
 
 /// What an empty place holds: a space, white on black. This project's own.
 pub const BLANK: Cell = Cell {
@@ -64,12 +67,7 @@ impl Emu {
     {
         let mut at = 0;
         while at < b.len() {
-            let count = self.print_front(&b[at..]);
-            at += count;
-            if count == 0 {
-                self.take_quickly(b[at], outs);
-                at += 1;
-            }
+            at += self.take_front(&b[at..], outs);
         }
     }
 
@@ -158,6 +156,73 @@ impl Emu {
             return;
         }
         outs.say(self.canvas.control(byte));
+    }
+
+    // Does what stands at the front of the text, as much at once as can be, and tells how many bytes
+    // that is.
+    pub(crate) fn take_front(&mut self, b: &[u8], outs: &mut Outs) -> usize
+        requires some { 0 < length b.now }
+        requires room { length outs.old < 64 }
+        ensures some { 0 < result }
+        ensures within { result ≤ length b.now }
+        ensures run { run drawing (take result b.now) (having_said outs.old self.old)
+            ≡ having_said outs.new self.new }
+        ensures few { length outs.new ≤ length outs.old + result }
+    {
+        let count = self.take_run(b, outs);
+        if count > 0 {
+            return count;
+        }
+        self.take_quickly(b[0], outs);
+        1
+    }
+
+    // Does a sequence or characters at the front of the text, and tells how many bytes they are.
+    fn take_run(&mut self, b: &[u8], outs: &mut Outs) -> usize
+        requires some { 0 < length b.now }
+        requires room { length outs.old < 64 }
+        ensures within { result ≤ length b.now }
+        ensures run { run drawing (take result b.now) (having_said outs.old self.old)
+            ≡ having_said outs.new self.new }
+        ensures few { length outs.new ≤ length outs.old + result }
+    {
+        if b[0] == 0x1B {
+            self.obey_front(b, outs)
+        } else {
+            self.print_front(b)
+        }
+    }
+
+    // Does the sequence that the text begins with, where it is read at once, and tells how many bytes
+    // it is.
+    fn obey_front(&mut self, b: &[u8], outs: &mut Outs) -> usize
+        requires room { length outs.old < 64 }
+        ensures within { result ≤ length b.now }
+        ensures run { run drawing (take result b.now) (having_said outs.old self.old)
+            ≡ having_said outs.new self.new }
+        ensures few { length outs.new ≤ length outs.old + result }
+    {
+        sequences_are_units();
+        let mut params = Params::new();
+        match self
+            .pending
+            .take_sequence(self.canvas.mode(), b, &mut params)
+        {
+            Ahead::Nothing => 0,
+            Ahead::Esc { mid, last, count } => {
+                outs.say(self.canvas.escape(mid, last));
+                count
+            }
+            Ahead::Csi {
+                private,
+                last,
+                count,
+            } => {
+                let said = self.canvas.obey_sequence(private, params.as_slice(), last);
+                outs.say(said);
+                count
+            }
+        }
     }
 
     // Prints characters at the front of the text that end before the last column, and tells how many

@@ -1,7 +1,7 @@
 ghost use Rattle.std.specs.Prelude.{◌≡◌};
 ghost use Rattle.vt_screen.specs.Run.{after};
 
-use crate::{Emu, FEED_BYTES, Outs, any_cut};
+use crate::{Emu, Outs, any_cut};
 
 impl Emu {
     /// Runs a text of any length on the screen, as [`Emu::feed`] runs its pieces. What it says
@@ -13,10 +13,8 @@ impl Emu {
         let mut outs = Outs::new();
         let mut at = 0;
         while at < b.len() {
-            let end = b.len().min(at + FEED_BYTES);
             outs.clear();
-            self.feed(&b[at..end], &mut outs);
-            at = end;
+            at += self.take_front(&b[at..], &mut outs);
         }
     }
 }

@@ -1,5 +1,7 @@
 mod Fields
 mod Fronts
+mod Numbered
+mod Comes
 mod Readings
 mod Joined
 mod Settling
@@ -15,4 +17,7 @@ mod Piecewise
 pub mod Runs
 mod Drops
 mod Printables
+mod Lanes
+mod Rests
+mod Sizes
 pub mod Wholes

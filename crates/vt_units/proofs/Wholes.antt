@@ -27,7 +27,7 @@ texts-more text (c ∷ codes) first code (front, more, joined, one, others) is =
     (front, more ++ first, ap (λ t. t ++ first) joined ∙ append_assoc front more first, one, texts-more more codes first code others is)
 
 -- what is decoded as a character is well formed
-well : (t : List ℕ) (code : ℕ) → decoded t ≡ Character code → (is_well_formed t ≡ true) × (code_of t ≡ code)
+pub well : (t : List ℕ) (code : ℕ) → decoded t ≡ Character code → (is_well_formed t ≡ true) × (code_of t ≡ code)
 well t code is = by (is_well_formed t) (is_begun t) refl is
   where
     by : (a b : Bool) → is_well_formed t ≡ a → cond a (Character (code_of t)) (cond b Unfinished Malformed) ≡ Character code

@@ -1,11 +1,16 @@
 -- Text that is whole characters, one after another.
 use Rattle.std.specs.Prelude.{◌≡◌, ℕ, Bool, true, not, ◌&&◌, ◌<◌, ◌≤◌, nat_le, List, [], ◌∷◌, ◌++◌, length, take}
 use Rattle.vt_chars.specs.Utf8.{decoded, within}
+use Rattle.vt_chars.specs.declared.decoded.Decoded.{Decoded}
 use Rattle.vt_chars.specs.declared.decoded.Decoded.TheVariants.{Character}
 
 -- a character that is shown: no control character
 abbrev pub is_shown : ℕ → Bool
 is_shown code = nat_le 0x20 code && not (within 0x7F 0x9F code)
+
+-- no character that is shown
+abbrev pub IsHidden : Decoded → Type 0
+IsHidden d = (code : ℕ) → d ≡ Character code → is_shown code ≡ true → ⊥
 
 -- the text is the UTF-8 of this character, which is shown
 pub record IsTextOf (text : List ℕ) (code : ℕ) : Type 0 where
@@ -23,3 +28,7 @@ pub record Begins (text : List ℕ) (code n : ℕ) : Type 0 where
   pub some : 0 < n
   pub within : n ≤ length text
   pub first : IsTextOf (take n text) code
+
+-- the text begins with no character that is whole and shown
+abbrev pub NoneBegins : List ℕ → Type 0
+NoneBegins text = (code n : ℕ) → Begins text code n → ⊥

@@ -1,9 +1,10 @@
 -- The laws of runs. Each is of the definitions alone.
-use Rattle.std.specs.Prelude.{◌≡◌, ◌⊎◌, ◌↔◌, ℕ, true, false, ◌==◌, List, [], ◌∷◌, ◌++◌}
+use Rattle.std.specs.Prelude.{◌≡◌, ◌⊎◌, ◌↔◌, ◌≤◌, ℕ, true, false, ◌==◌, List, [], ◌∷◌, ◌++◌, length, take, Some}
+use Rattle.vt_units.specs.Ahead.{Sequence, taken_ahead}
 use Rattle.vt_units.specs.Answer.{answer, rest_after, settled}
 use Rattle.vt_units.specs.Bytes.{decodes, interrupts, is_control, is_printable}
 use Rattle.vt_units.specs.Pieces.{HasEffect, controls_of, text_of}
-use Rattle.vt_units.specs.Reading.{character, sequence, command, string_end, dropped, unfinished, none, reading}
+use Rattle.vt_units.specs.Reading.{character, sequence, command, string_end, dropped, unfinished, none, reading, whole}
 use Rattle.vt_units.specs.Rest.{Rest, fresh}
 use Rattle.vt_units.specs.Run.{Effects, Reached, Runs, reached, run}
 use Rattle.vt_units.specs.Units.{IsUnfinished}
@@ -99,3 +100,25 @@ ControlsAreUnits =
     (old : Rest) (m : Mode) (b : ℕ) → old.text ≡ [] → is_control m b ≡ true → (b == 0x1B) ≡ false
     → (answer old m b ≡ record { bad = false; got = then.Then.Unit (units.Unit.Control b) })
     × (rest_after old m b ≡ fresh m)
+
+-- bytes that are given in one mode behind a rest: nothing comes of them before the last one, which
+-- ends this unit, and then no text is left
+abbrev pub ComeTo : units.Unit → Mode → Rest → List ℕ → Type 0
+ComeTo u m old [] = ⊥
+ComeTo u m old (b ∷ []) =
+    (answer old m b ≡ record { bad = false; got = then.Then.Unit u }) × (rest_after old m b ≡ fresh m)
+ComeTo u m old (b ∷ c ∷ bytes) =
+    (answer old m b ≡ record { bad = false; got = then.Then.More })
+    × ComeTo u m (rest_after old m b) (c ∷ bytes)
+
+-- a sequence that is read at once stands in the text, its bytes are the text of its unit, and read
+-- one by one they come to it
+pub record IsUnitOf (m : Mode) (old : Rest) (text : List ℕ) (s : Sequence) : Type 0 where
+  pub within : s.count ≤ length text
+  pub spells : reading m (take s.count text) ≡ whole s.unit
+  pub comes : ComeTo s.unit m old (take s.count text)
+
+abbrev pub SequencesAreUnits : Type 0
+SequencesAreUnits =
+    (old : Rest) (m : Mode) (text : List ℕ) (s : Sequence) → taken_ahead old text ≡ Some s
+    → IsUnitOf m old text s

@@ -1,8 +1,7 @@
 //! The kinds of bytes that units are made of.
-ghost use Rattle.std.specs.Prelude.{◌≡◌, ◌≤◌, length};
+ghost use Rattle.std.specs.Prelude.{◌≡◌};
 ghost use Rattle.vt_chars.specs.Utf8.{within};
 ghost use Rattle.vt_units.specs.Bytes.{acts, decodes, ends_string, interrupts, is_body, is_control, is_csi, is_digit, is_hex, is_mid, is_never_shown, is_printable, is_swallowed, opens_string};
-ghost use Rattle.std.specs.List.{prefix_len};
 
 use crate::Mode;
 
@@ -84,20 +83,7 @@ pub(crate) fn acts(b: u8) -> bool
     b < 0x20 && !matches!(b, 0x18 | 0x1A | 0x1B)
 }
 
-/// How many of the first bytes are printable characters of ASCII.
-pub(crate) fn printable_prefix(b: &[u8]) -> usize
-    ensures count { result ≡ prefix_len is_printable b.now }
-    ensures bound { result ≤ length b.now }
-{
-    for (i, x) in b.iter().enumerate() {
-        if !is_printable(*x) {
-            return i;
-        }
-    }
-    b.len()
-}
-
-fn is_printable(b: u8) -> bool
+pub(crate) fn is_printable(b: u8) -> bool
     ensures { result ≡ is_printable b }
 {
     is_within(0x20, 0x7E, b)

@@ -1,6 +1,5 @@
 ghost use Rattle.std.specs.Prelude.{◌≡◌, ◌<◌, ◌≤◌, [], ◌∷◌, ◌++◌, length};
 
-use arrayvec::ArrayVec;
 use std::marker::Model;
 
 /// The most characters of a list.
@@ -9,15 +8,18 @@ pub const MOST_CODES: usize = 64;
 /// Characters by their code points, of which there are at most 64.
 #[derive(Debug, Drop)]
 pub struct Codes {
-    items: ArrayVec<u32, MOST_CODES>,
+    codes: [u32; MOST_CODES],
+    len: usize,
 }
 
 impl Model for Codes {
-    ghost use Rattle.std.specs.Prelude.{ℕ, List};
+    ghost use Rattle.std.specs.Prelude.{◌≤◌, ℕ, List, take};
 
     ghost Value = { List ℕ };
 
-    ghost view = { λ c. c.items.items };
+    ghost view = { λ c. take c.len c.codes };
+
+    ghost invariant = { λ c. c.len ≤ 64 };
 }
 
 impl Codes {
@@ -26,7 +28,8 @@ impl Codes {
         ensures { result ≡ [] }
     {
         Codes {
-            items: ArrayVec::new(),
+            codes: [0; MOST_CODES],
+            len: 0,
         }
     }
 
@@ -35,7 +38,15 @@ impl Codes {
         requires { length self.old < 64 }
         ensures { self.new ≡ self.old ++ code ∷ [] }
     {
-        self.items.push(code);
+        self.codes[self.len] = code;
+        self.len += 1;
+    }
+
+    /// No characters are left.
+    pub fn clear(&mut self)
+        ensures { self.new ≡ [] }
+    {
+        self.len = 0;
     }
 
     /// How many there are.
@@ -43,7 +54,7 @@ impl Codes {
         ensures count { result ≡ length self.now }
         ensures bound { result ≤ 64 }
     {
-        self.items.len()
+        self.len
     }
 
     /// The characters in order.
@@ -51,11 +62,13 @@ impl Codes {
         ensures codes { result.now ≡ self.now }
         ensures bound { length self.now ≤ 64 }
     {
-        self.items.as_slice()
+        &self.codes[..self.len]
     }
 }
 
 impl Default for Codes {
+    ghost is_default = { λ x. x ≡ [] };
+
     fn default() -> Codes {
         Codes::new()
     }

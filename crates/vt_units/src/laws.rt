@@ -1,5 +1,5 @@
 //! Laws of the definitions: nothing of the reader is in them.
-ghost use Rattle.vt_units.specs.Laws.{AnyCut, CharactersEnd, ControlsAreUnits, DropsExactly, OneResult, PiecesAct, PiecesResume, PrintablesAreCharacters, SequencesEnd, StringsEnd};
+ghost use Rattle.vt_units.specs.Laws.{AnyCut, CharactersEnd, ControlsAreUnits, DropsExactly, OneResult, PiecesAct, PiecesResume, PrintablesAreCharacters, SequencesAreUnits, SequencesEnd, StringsEnd};
 ghost use Rattle.vt_units.specs.Units.{UnfinishedIsBefore};
 
 use vt_chars::unfinished_begins;
@@ -49,4 +49,9 @@ pub fn printables_are_characters()
 /// What [`crate::Pending::take_control`] takes is a control character by itself.
 pub fn controls_are_units()
     ensures { ControlsAreUnits }
+{}
+
+/// What [`crate::Pending::take_sequence`] reads is the text of a unit, and comes to it byte by byte.
+pub fn sequences_are_units()
+    ensures { SequencesAreUnits }
 {}

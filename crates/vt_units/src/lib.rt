@@ -1,6 +1,9 @@
 //! Text cut into units: characters, control characters and control sequences, read byte by byte.
 #![tactic(auto)]
 
+mod ahead;
+#[cfg(test)]
+mod ahead_tests;
 mod bytes;
 mod characters;
 mod codes;
@@ -13,8 +16,10 @@ mod mode;
 mod numbers;
 mod params;
 mod pending;
+mod printable;
 mod read;
 mod sequence;
+mod sequence_ahead;
 mod sequences;
 mod stage;
 mod step;
@@ -24,10 +29,11 @@ mod tests;
 mod then;
 mod unit;
 
+pub use ahead::Ahead;
 pub use codes::{Codes, MOST_CODES};
 pub use laws::{
     any_cut, controls_are_units, drops_exactly, ended_texts, one_result, pieces_act,
-    printables_are_characters, unfinished_is_before,
+    printables_are_characters, sequences_are_units, unfinished_is_before,
 };
 pub use mode::Mode;
 pub use params::Params;

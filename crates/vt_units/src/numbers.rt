@@ -1,7 +1,11 @@
-ghost use Rattle.std.specs.Prelude.{◌≡◌, ◌++◌, ◌∷◌, [], take};
+//! The parameters of a control sequence.
+ghost use Rattle.std.specs.Prelude.{◌≡◌, ◌≤◌, ◌++◌, ◌∷◌, [], take, drop, length};
 ghost use Rattle.vt_units.specs.Numbers.{params_of, shifted};
+ghost use Rattle.vt_units.specs.Reading.{behind, front};
+ghost use Rattle.vt_units.specs.Sequences.{is_parameter};
 
 use crate::Params;
+use crate::bytes::is_digit;
 
 /// The numbers between the semicolons, of which the first 16 count.
 pub(crate) fn params_of(body: &[u8]) -> Params
@@ -19,6 +23,30 @@ pub(crate) fn params_of(body: &[u8]) -> Params
     }
     add(&mut params, number);
     params
+}
+
+/// Reads the digits and semicolons at the front of the text, and tells how many bytes they are.
+pub(crate) fn read_numbers(text: &[u8], params: &mut Params) -> usize
+    requires { params.old ≡ [] }
+    ensures params { params.new ≡ params_of (front is_parameter text.now) }
+    ensures count { result ≡ length (front is_parameter text.now) }
+    ensures rest { drop result text.now ≡ behind is_parameter text.now }
+    ensures bound { result ≤ length text.now }
+{
+    let mut number = 0;
+    for (i, b) in text.iter().enumerate() {
+        if is_digit(*b) {
+            number = shifted(number, *b);
+        } else if *b == b';' {
+            add(params, number);
+            number = 0;
+        } else {
+            add(params, number);
+            return i;
+        }
+    }
+    add(params, number);
+    text.len()
 }
 
 // One parameter more, where it counts.

@@ -1,20 +1,25 @@
 ghost use Rattle.std.specs.Prelude.{◌≡◌, ◌<◌, ◌≤◌, [], ◌∷◌, ◌++◌, length};
 
-use arrayvec::ArrayVec;
 use std::marker::Model;
+
+/// The most parameters of a control sequence that count.
+const MOST_PARAMS: usize = 16;
 
 /// The parameters of a control sequence, of which at most 16 count (console_codes(4)).
 #[derive(Debug, Drop)]
 pub struct Params {
-    numbers: ArrayVec<u16, 16>,
+    numbers: [u16; MOST_PARAMS],
+    len: usize,
 }
 
 impl Model for Params {
-    ghost use Rattle.std.specs.Prelude.{ℕ, List};
+    ghost use Rattle.std.specs.Prelude.{◌≤◌, ℕ, List, take};
 
     ghost Value = { List ℕ };
 
-    ghost view = { λ p. p.numbers.items };
+    ghost view = { λ p. take p.len p.numbers };
+
+    ghost invariant = { λ p. p.len ≤ 16 };
 }
 
 impl Params {
@@ -23,7 +28,8 @@ impl Params {
         ensures { result ≡ [] }
     {
         Params {
-            numbers: ArrayVec::new(),
+            numbers: [0; MOST_PARAMS],
+            len: 0,
         }
     }
 
@@ -32,7 +38,15 @@ impl Params {
         requires { length self.old < 16 }
         ensures { self.new ≡ self.old ++ number ∷ [] }
     {
-        self.numbers.push(number);
+        self.numbers[self.len] = number;
+        self.len += 1;
+    }
+
+    /// No parameters are left.
+    pub fn clear(&mut self)
+        ensures { self.new ≡ [] }
+    {
+        self.len = 0;
     }
 
     /// The parameters in order.
@@ -40,11 +54,13 @@ impl Params {
         ensures numbers { result.now ≡ self.now }
         ensures bound { length self.now ≤ 16 }
     {
-        self.numbers.as_slice()
+        &self.numbers[..self.len]
     }
 }
 
 impl Default for Params {
+    ghost is_default = { λ x. x ≡ [] };
+
     fn default() -> Params {
         Params::new()
     }

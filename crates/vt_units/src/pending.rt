@@ -1,24 +1,28 @@
-ghost use Rattle.std.specs.Prelude.{◌≡◌, ◌==◌, ◌≤◌, ◌<◌, ◌&&◌, not, true, take, [], ◌∷◌, length, if◌then◌else◌};
+ghost use Rattle.std.specs.Prelude.{◌≡◌, false, ◌==◌, ◌≤◌, ◌<◌, ◌&&◌, not, true, drop, take, [], ◌∷◌, length, if◌then◌else◌};
 ghost use Rattle.std.specs.List.{prefix_len};
+ghost use Rattle.vt_units.specs.Ahead.{parameters_ahead, rest_ahead, sequence_of, taken_ahead};
 ghost use Rattle.vt_units.specs.Answer.{answer, rest_after, settled, took};
 ghost use Rattle.vt_units.specs.Bytes.{decodes, interrupts, is_control, is_printable};
-ghost use Rattle.vt_units.specs.Characters.{AreTextsOf};
+ghost use Rattle.vt_units.specs.Characters.{AreTextsOf, NoneBegins};
 ghost use Rattle.vt_units.specs.Reading.{is_empty};
 ghost use Rattle.vt_units.specs.Rest.{fresh, start_mode};
 ghost use Rattle.vt_units.specs.Stage.{Inside, Leaves, Stands, rest_of};
+ghost use Rattle.vt_units.specs.Units.{IsUnfinished};
 
-use crate::bytes::{decodes, interrupts, is_control, printable_prefix};
+use crate::bytes::{decodes, interrupts, is_control};
 use crate::characters::read_characters;
 use crate::codes::Codes;
 use crate::command::{command, palette};
 use crate::ground::{ground, part};
 use crate::kept::Kept;
 use crate::left::Left;
+use crate::printable::printable_prefix;
 use crate::sequence::sequence;
+use crate::sequence_ahead::sequence_ahead;
 use crate::stage::Stage;
 use crate::step::Step;
 use crate::strings::{string, string_end};
-use crate::{Mode, Read, Then};
+use crate::{Ahead, Mode, Params, Read, Then};
 use std::marker::Model;
 use vt_chars::{Decoded, decode};
 
@@ -57,6 +61,14 @@ impl Pending {
         }
     }
 
+    /// Whether no text is pending. A text that is pending is unfinished.
+    pub fn is_empty(&self) -> bool
+        ensures empty { result ≡ is_empty self.now.text }
+        ensures unfinished { result ≡ false → IsUnfinished self.now.mode self.now.text }
+    {
+        is_none(self.stage, self.mode, self.text.as_slice())
+    }
+
     /// Reads a byte. The mode counts where it is the first byte of a text.
     pub fn take(&mut self, mode: Mode, b: u8) -> Read
         ensures answer { result ≡ answer self.old mode b }
@@ -89,19 +101,21 @@ impl Pending {
         count
     }
 
-    /// Reads whole characters at the front of the text that are shown, as many as are wanted at
-    /// most, adds them to `codes`, and tells how many bytes they are: none unless no text is
-    /// pending and the mode decodes UTF-8. It answers for them at once what [`Pending::take`]
-    /// answers byte by byte.
+    /// Reads whole characters at the front of the text that are shown, all of them up to as many as
+    /// are wanted, and tells how many bytes they are: none unless no text is pending and the mode
+    /// decodes UTF-8. The characters are then in `codes`, and what was there before is gone. It
+    /// answers for them at once what [`Pending::take`] answers byte by byte.
     pub fn take_characters(&mut self, mode: Mode, b: &[u8], most: usize, codes: &mut Codes) -> usize
-        requires empty { codes.old ≡ [] }
         requires room { most ≤ 64 }
         ensures texts { AreTextsOf (take result b.now) codes.new }
         ensures bound { result ≤ length b.now }
         ensures most { length codes.new ≤ most }
+        ensures all { is_empty self.old.text ≡ true → decodes mode ≡ true → length codes.new < most
+            → NoneBegins (drop result b.now) }
         ensures decoding { 0 < result → (self.old.text ≡ []) × (decodes mode ≡ true) }
         ensures rest { self.new ≡ (if result == 0 then self.old else fresh mode) }
     {
+        codes.clear();
         if !self.is_empty() || !decodes(mode) {
             return 0;
         }
@@ -110,6 +124,26 @@ impl Pending {
             self.restart(mode);
         }
         count
+    }
+
+    /// Reads a sequence that stands whole at the front of the text, where no text is pending: a
+    /// control sequence of parameters alone, or an escape sequence with at most one intermediate
+    /// byte. The parameters are then in `params`, and what was there before is gone. It answers at
+    /// once what [`Pending::take`] answers byte by byte, in which there is nothing but that unit.
+    pub fn take_sequence(&mut self, mode: Mode, b: &[u8], params: &mut Params) -> Ahead
+        ensures sequence { sequence_of result params.new ≡ taken_ahead self.old b.now }
+        ensures parameters { params.new ≡ parameters_ahead (taken_ahead self.old b.now) }
+        ensures rest { self.new ≡ rest_ahead self.old mode (taken_ahead self.old b.now) }
+    {
+        params.clear();
+        if !self.is_empty() {
+            return Ahead::Nothing;
+        }
+        let ahead = sequence_ahead(b, params);
+        if !matches!(ahead, Ahead::Nothing) {
+            self.restart(mode);
+        }
+        ahead
     }
 
     /// Takes a control character where no text is pending, and tells whether the byte was one. It
@@ -123,12 +157,6 @@ impl Pending {
             self.restart(mode);
         }
         takes
-    }
-
-    fn is_empty(&self) -> bool
-        ensures { result ≡ is_empty self.now.text }
-    {
-        self.text.as_slice().is_empty()
     }
 
     // Ends what the byte ends by following it; the answer is whether that was malformed.
@@ -186,9 +214,22 @@ impl Pending {
 }
 
 impl Default for Pending {
+    ghost is_default = { λ x. x ≡ fresh start_mode };
+
     fn default() -> Pending {
         Pending::new()
     }
+}
+
+fn is_none(stage: Stage, mode: Mode, text: &[u8]) -> bool
+    requires stands { Stands stage mode text.now }
+    requires bound { length text.now ≤ 256 }
+    ensures empty { result ≡ is_empty text.now }
+    ensures unfinished { result ≡ false → IsUnfinished mode text.now }
+{
+    let _ = stage;
+    let _ = mode;
+    text.is_empty()
 }
 
 fn settling(stage: Stage, mode: Mode, text: &[u8], now: Mode, b: u8) -> Left

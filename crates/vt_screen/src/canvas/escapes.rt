@@ -8,7 +8,7 @@ use crate::Out;
 impl Canvas {
     /// What an escape sequence does. The answer is what it says beside the screen.
     #[tactic(auto, unfolding(crate::specs::Effect::escape))]
-    pub(super) fn escape(&mut self, mid: u8, last: u8) -> Option<Out>
+    pub fn escape(&mut self, mid: u8, last: u8) -> Option<Out>
         ensures { escape mid last self.old ≡ record { screen = self.new; said = result } }
     {
         match mid {

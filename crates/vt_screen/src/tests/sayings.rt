@@ -1,7 +1,7 @@
 //! What each row of the table says beside the screen, and what it sets. The answers are those of
 //! console_codes(4) and of this project's own rules.
 use super::start;
-use crate::{Out, Outs};
+use crate::{Out, Outs, ScreenState};
 use std::alloc::Global;
 use std::test::Fail;
 use vt_base::{NoMemory, Size};
@@ -9,16 +9,94 @@ use vt_base::{NoMemory, Size};
 const SIZE: Size = Size { rows: 3, cols: 10 };
 
 #[derive(Clone, Copy, Debug)]
-enum Said<'a> {
+enum Said {
     Nothing,
-    Report(&'a [u8]),
+    Report(&'static [u8]),
     To(u8),
     Last,
     Lights(u8),
     Bell,
 }
 
-fn is_said(out: Option<&Out>, said: Said<'_>) -> bool {
+// A text of at most 64 bytes, and what it says.
+type Case = (&'static [u8], Said);
+
+const CASES: [Case; 26] = [
+    (b"\x07", Said::Bell),
+    (b"\x1B[6n", Said::Report(b"\x1B[1;1R")),
+    (b"\x1B[3;10H\x1B[6n", Said::Report(b"\x1B[3;10R")),
+    (
+        b"\x1B[2;3r\x1B[?6h\x1B[2;4H\x1B[6n",
+        Said::Report(b"\x1B[2;4R"),
+    ),
+    (b"\x1B[2;3r\x1B[3;4H\x1B[6n", Said::Report(b"\x1B[3;4R")),
+    (b"\x1B[5n", Said::Report(b"\x1B[0n")),
+    (b"\x1B[n", Said::Nothing),
+    (b"\x1B[7n", Said::Nothing),
+    (b"\x1B[?6n", Said::Nothing),
+    (b"\x1B[c", Said::Report(b"\x1B[?6c")),
+    (b"\x1B[0c", Said::Report(b"\x1B[?6c")),
+    (b"\x1B[1c", Said::Nothing),
+    (b"\x1BZ", Said::Report(b"\x1B[?6c")),
+    (b"\x1B[q", Said::Lights(0)),
+    (b"\x1B[1q", Said::Lights(1)),
+    (b"\x1B[2q", Said::Lights(2)),
+    (b"\x1B[3q", Said::Lights(4)),
+    (b"\x1B[4q", Said::Nothing),
+    (b"\x1B[12;1]", Said::To(1)),
+    (b"\x1B[12;63]", Said::To(63)),
+    (b"\x1B[12;64]", Said::Nothing),
+    (b"\x1B[12]", Said::Nothing),
+    (b"\x1B[15]", Said::Last),
+    (b"\x1B[9;5]\x1B[10;5]\x1B[11;5]\x1B[14;5]", Said::Nothing),
+    (b"\x1B[2;3r\x1B[1;4H\x1B[6n", Said::Report(b"\x1B[1;4R")),
+    (b"\x1B]0;t\x07", Said::Nothing),
+];
+
+// A text, and after it: cursor keys, reversed, autowrap, repeat, visible, keypad, control characters
+// shown.
+type Setting = (&'static [u8], [bool; 7]);
+
+const SETTINGS: [Setting; 15] = [
+    (b"", [false, false, true, true, true, false, false]),
+    (b"\x1B[?1h", [true, false, true, true, true, false, false]),
+    (b"\x1B[?5h", [false, true, true, true, true, false, false]),
+    (b"\x1B[?7l", [false, false, false, true, true, false, false]),
+    (b"\x1B[?8l", [false, false, true, false, true, false, false]),
+    (
+        b"\x1B[?25l",
+        [false, false, true, true, false, false, false],
+    ),
+    (
+        b"\x1B[?1;5;25l\x1B[?1;25h",
+        [true, false, true, true, true, false, false],
+    ),
+    (b"\x1B=", [false, false, true, true, true, true, false]),
+    (
+        b"\x1B=\x1B>",
+        [false, false, true, true, true, false, false],
+    ),
+    (b"\x1B[3h", [false, false, true, true, true, false, true]),
+    (
+        b"\x1B[3h\x1B[3l",
+        [false, false, true, true, true, false, false],
+    ),
+    (b"\x1B[11m", [false, false, true, true, true, false, true]),
+    (
+        b"\x1B[?1;5h\x1B[?7;8;25l\x1B=\x1B[3h\x1Bc",
+        [false, false, true, true, true, false, false],
+    ),
+    (
+        b"\x1B[1;5;25h",
+        [false, false, true, true, true, false, false],
+    ),
+    (
+        b"\x1B[?3;4h",
+        [false, false, true, true, true, false, false],
+    ),
+];
+
+fn is_said(out: Option<&Out>, said: Said) -> bool {
     match (out, said) {
         (None, Said::Nothing) => true,
         (Some(Out::Report(text)), Said::Report(bytes)) => text.as_slice() == bytes,
@@ -30,119 +108,56 @@ fn is_said(out: Option<&Out>, said: Said<'_>) -> bool {
     }
 }
 
-// Whether the text, of at most 64 bytes, says this alone.
-fn says(alloc: Global, text: &[u8], said: Said<'_>) -> Result<bool, NoMemory> {
-    let mut emu = start(alloc, SIZE)?;
-    let mut outs = Outs::new();
-    if text.len() > 64 {
-        return Ok(false);
+// The first text that says something else, or something more.
+fn first_wrong(alloc: Global, cases: &[Case]) -> Result<Option<&'static [u8]>, NoMemory> {
+    for (text, said) in cases {
+        let mut emu = start(alloc, SIZE)?;
+        let mut outs = Outs::new();
+        if text.len() > 64 {
+            return Ok(Some(text));
+        }
+        emu.feed(text, &mut outs);
+        let heard = outs.as_slice();
+        if heard.len() > 1 || !is_said(heard.first(), *said) {
+            return Ok(Some(text));
+        }
     }
-    emu.feed(text, &mut outs);
-    let heard = outs.as_slice();
-    Ok(heard.len() <= 1 && is_said(heard.first(), said))
+    Ok(None)
+}
+
+fn flags(state: &ScreenState) -> [bool; 7] {
+    [
+        state.cursor,
+        state.reverse,
+        state.autowrap,
+        state.repeat,
+        state.visible,
+        state.keypad,
+        state.pen.display,
+    ]
+}
+
+// The first text that sets something else.
+fn first_misset(alloc: Global, cases: &[Setting]) -> Result<Option<&'static [u8]>, NoMemory> {
+    for (text, expected) in cases {
+        let mut emu = start(alloc, SIZE)?;
+        emu.write(text);
+        if flags(emu.state()) != *expected {
+            return Ok(Some(text));
+        }
+    }
+    Ok(None)
 }
 
 #[test]
 fn texts_say(rt: HostRuntime) -> Result<(), Fail> {
-    let cases: [(&[u8], Said<'_>); 26] = [
-        (b"\x07", Said::Bell),
-        (b"\x1B[6n", Said::Report(b"\x1B[1;1R")),
-        (b"\x1B[3;10H\x1B[6n", Said::Report(b"\x1B[3;10R")),
-        (
-            b"\x1B[2;3r\x1B[?6h\x1B[2;4H\x1B[6n",
-            Said::Report(b"\x1B[2;4R"),
-        ),
-        (b"\x1B[2;3r\x1B[3;4H\x1B[6n", Said::Report(b"\x1B[3;4R")),
-        (b"\x1B[5n", Said::Report(b"\x1B[0n")),
-        (b"\x1B[n", Said::Nothing),
-        (b"\x1B[7n", Said::Nothing),
-        (b"\x1B[?6n", Said::Nothing),
-        (b"\x1B[c", Said::Report(b"\x1B[?6c")),
-        (b"\x1B[0c", Said::Report(b"\x1B[?6c")),
-        (b"\x1B[1c", Said::Nothing),
-        (b"\x1BZ", Said::Report(b"\x1B[?6c")),
-        (b"\x1B[q", Said::Lights(0)),
-        (b"\x1B[1q", Said::Lights(1)),
-        (b"\x1B[2q", Said::Lights(2)),
-        (b"\x1B[3q", Said::Lights(4)),
-        (b"\x1B[4q", Said::Nothing),
-        (b"\x1B[12;1]", Said::To(1)),
-        (b"\x1B[12;63]", Said::To(63)),
-        (b"\x1B[12;64]", Said::Nothing),
-        (b"\x1B[12]", Said::Nothing),
-        (b"\x1B[15]", Said::Last),
-        (b"\x1B[9;5]\x1B[10;5]\x1B[11;5]\x1B[14;5]", Said::Nothing),
-        (b"\x1B[2;3r\x1B[1;4H\x1B[6n", Said::Report(b"\x1B[1;4R")),
-        (b"\x1B]0;t\x07", Said::Nothing),
-    ];
-    for (text, said) in cases {
-        assert!(rt; says(rt.alloc(), text, said)?, "{text:?}");
-    }
+    assert_eq!(rt; first_wrong(rt.alloc(), &CASES)?, None);
     Ok(())
 }
 
 #[test]
 fn texts_set(rt: HostRuntime) -> Result<(), Fail> {
-    // cursor keys, reversed, autowrap, repeat, visible, keypad, control characters shown
-    let cases: [(&[u8], [bool; 7]); 15] = [
-        (b"", [false, false, true, true, true, false, false]),
-        (b"\x1B[?1h", [true, false, true, true, true, false, false]),
-        (b"\x1B[?5h", [false, true, true, true, true, false, false]),
-        (b"\x1B[?7l", [false, false, false, true, true, false, false]),
-        (b"\x1B[?8l", [false, false, true, false, true, false, false]),
-        (
-            b"\x1B[?25l",
-            [false, false, true, true, false, false, false],
-        ),
-        (
-            b"\x1B[?1;5;25l\x1B[?1;25h",
-            [true, false, true, true, true, false, false],
-        ),
-        (b"\x1B=", [false, false, true, true, true, true, false]),
-        (
-            b"\x1B=\x1B>",
-            [false, false, true, true, true, false, false],
-        ),
-        (b"\x1B[3h", [false, false, true, true, true, false, true]),
-        (
-            b"\x1B[3h\x1B[3l",
-            [false, false, true, true, true, false, false],
-        ),
-        (b"\x1B[11m", [false, false, true, true, true, false, true]),
-        (
-            b"\x1B[?1;5h\x1B[?7;8;25l\x1B=\x1B[3h\x1Bc",
-            [false, false, true, true, true, false, false],
-        ),
-        (
-            b"\x1B[1;5;25h",
-            [false, false, true, true, true, false, false],
-        ),
-        (
-            b"\x1B[?3;4h",
-            [false, false, true, true, true, false, false],
-        ),
-    ];
-    for (text, [cursor, reverse, autowrap, repeat, visible, keypad, display]) in cases {
-        let mut emu = start(rt.alloc(), SIZE)?;
-        emu.write(text);
-        let state = emu.state();
-        assert_eq!(rt;
-            (state.cursor, state.reverse),
-            (cursor, reverse),
-            "{text:?}"
-        );
-        assert_eq!(rt;
-            (state.autowrap, state.repeat),
-            (autowrap, repeat),
-            "{text:?}"
-        );
-        assert_eq!(rt;
-            (state.visible, state.keypad),
-            (visible, keypad),
-            "{text:?}"
-        );
-        assert_eq!(rt; state.pen.display, display, "{text:?}");
-    }
+    assert_eq!(rt; first_misset(rt.alloc(), &SETTINGS)?, None);
     Ok(())
 }
 

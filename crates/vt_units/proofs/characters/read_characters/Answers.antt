@@ -13,7 +13,7 @@ loop-code-preserved c =
     let whole : take (length text - at) left ≡ left =
     take_all (length text - at) left (omega (arith, length-drop at text)) in
     let begins : Begins left c.in-Some.code c.in-Some.len =
-    subst (λ (bytes : List ℕ). Begins bytes c.in-Some.code c.in-Some.len) whole c.in-Some.ensures in
+    subst (λ (bytes : List ℕ). Begins bytes c.in-Some.code c.in-Some.len) whole c.in-Some.ensures.some in
     let longer : AreTextsOf (take at text ++ take c.in-Some.len left) (c.loop-code.codes ++ c.in-Some.code ∷ []) =
     texts-more (take at text) c.loop-code.codes (take c.in-Some.len left) c.in-Some.code
     c.loop-code.invariant.texts begins.first in

@@ -1,25 +1,34 @@
-use Rattle.std.proofs.Common.{ℕ, ◌≡◌, ◌+◌, ◌-◌, ◌++◌, List, take, drop, sym, ap, ◌∙◌, arith}
+use Rattle.std.proofs.Common.{ℕ, ◌≡◌, ◌-◌, List, [], length, take, drop, sym, ap, ◌∙◌, arith, length-drop}
 use Rattle.std.proofs.Math.Seq.{take-add}
-use Rattle.vt_screen.specs.Run.{after}
+use Rattle.std.proofs.lemmas.List.{take_all}
+use Rattle.vt_screen.specs.Run.{Told, after, drawing, having_said}
 use Rattle.vt_screen.specs.Screen.{Screen}
-use Rattle.vt_units.specs.Run.{Reached}
+use Rattle.vt_screen.specs.declared.out.Out.{Out}
+use Rattle.vt_units.specs.Run.{Reached, reached, run}
 use Rattle.vt_screen.proofs.emu.Emu.write.Goals as goal
 
 pub loop-at-preserved : goal.loop-at-preserved
 loop-at-preserved c =
     let at : ℕ = c.loop-at.at in
-    let end : ℕ = c.min-end.result in
     let text : List ℕ = c.args.b.now in
+    let n : ℕ = c.take_front-at.result in
     let start : Reached Screen = c.args.self.now in
-    let piece : List ℕ = take (end - at) (drop at text) in
-    let count : at + (end - at) ≡ end = omega arith in
-    let fed : take end text ≡ take at text ++ piece =
-    ap (λ n. take n text) (sym count) ∙ take-add at (end - at) text in
+    let before : Reached Screen = c.loop-at.self in
+    let left : List ℕ = drop at text in
+    let whole : take (length text - at) left ≡ left =
+    take_all (length text - at) left (omega (arith, length-drop at text)) in
+    let ran : run drawing (take n left) (having_said [] before)
+    ≡ having_said c.take_front-at.new.outs c.take_front-at.new.self =
+    ap (λ (bytes : List ℕ). run drawing (take n bytes) (having_said [] before)) (sym whole)
+    ∙ ap (λ (outs : List Out). run drawing (take n (take (length text - at) left)) (having_said outs before)) (sym c.clear.ensures)
+    ∙ c.take_front-at.ensures.run in
+    let now : after before (take n left) ≡ c.take_front-at.new.self =
+    ap (λ (end : Reached Told). reached end.state.screen end.rest) ran in
     record {
-      within = omega arith;
+      within = omega (arith, c.take_front-at.ensures.within, length-drop at text);
       done =
-          c.feed.ensures.screen
-          ∙ ap (λ (m : Reached Screen). after m piece) c.loop-at.invariant.done
-          ∙ sym (c.any_cut.ensures start (take at text) piece).0
-          ∙ ap (after start) (sym fed);
+          sym now
+          ∙ ap (λ (m : Reached Screen). after m (take n left)) c.loop-at.invariant.done
+          ∙ sym (c.any_cut.ensures start (take at text) (take n left)).0
+          ∙ ap (after start) (sym (take-add at n text));
     }

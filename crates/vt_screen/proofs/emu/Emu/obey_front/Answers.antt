@@ -1,0 +1,81 @@
+use Rattle.std.proofs.Common.{◌<◌, arith, ◌≡◌, ℕ, List, take, Some, sym, ap, ◌∙◌}
+use Rattle.vt_screen.proofs.Sequences.{sequence-run, some-bytes}
+use Rattle.vt_screen.specs.Effect.{effect}
+use Rattle.vt_screen.specs.Saying.{Done}
+use Rattle.vt_screen.specs.Run.{drawing, having_said}
+use Rattle.vt_screen.specs.Screen.{Screen}
+use Rattle.vt_screen.specs.declared.out.Out.{Out}
+use Rattle.vt_units.specs.Ahead.{Sequence, rest_ahead, taken_ahead}
+use Rattle.vt_units.specs.Laws.{IsUnitOf}
+use Rattle.vt_units.specs.Rest.{Rest, fresh}
+use Rattle.vt_units.specs.Run.{Reached, reached, run}
+use Rattle.vt_units.specs.declared.mode.Mode.{Mode}
+use Rattle.vt_units.specs.declared.unit.Unit.TheVariants.{Csi, Esc}
+use Rattle.vt_screen.proofs.emu.Emu.obey_front.Goals as goal
+
+pub returns-in-Esc-clause-within : goal.returns-in-Esc-clause-within
+returns-in-Esc-clause-within c =
+    let one : Sequence = record { unit = Esc c.in-Esc.mid c.in-Esc.last; count = c.in-Esc.count } in
+    let is : IsUnitOf c.mode.result c.self.inside.pending c.args.b.now one =
+    c.sequences_are_units.ensures c.self.inside.pending c.mode.result c.args.b.now one (sym c.in-Esc.ensures.sequence) in
+    is.within
+
+pub returns-in-Csi-clause-within : goal.returns-in-Csi-clause-within
+returns-in-Csi-clause-within c =
+    let one : Sequence = record { unit = Csi c.in-Csi.private c.take_sequence.new.params c.in-Csi.last; count = c.in-Csi.count } in
+    let is : IsUnitOf c.mode.result c.self.inside.pending c.args.b.now one =
+    c.sequences_are_units.ensures c.self.inside.pending c.mode.result c.args.b.now one (sym c.in-Csi.ensures.sequence) in
+    is.within
+
+pub returns-in-Esc-clause-run : goal.returns-in-Esc-clause-run
+returns-in-Esc-clause-run c =
+    let text : List ℕ = c.args.b.now in
+    let outs : List Out = c.args.outs.now in
+    let s : Screen = c.self.inside.canvas in
+    let rest : Rest = c.self.inside.pending in
+    let m : Mode = c.mode.result in
+    let one : Sequence = record { unit = Esc c.in-Esc.mid c.in-Esc.last; count = c.in-Esc.count } in
+    let found : taken_ahead rest text ≡ Some one = sym c.in-Esc.ensures.sequence in
+    let left : c.take_sequence.new.self ≡ fresh m = c.in-Esc.ensures.rest ∙ ap (rest_ahead rest m) found in
+    let done : Done = record { screen = c.escape.new.self; said = c.escape.result } in
+    ap (λ (r : Reached Screen). run drawing (take one.count text) (having_said outs r)) (sym c.self.view_is)
+    ∙ sequence-run c.sequences_are_units.ensures text outs s rest m one c.mode.ensures found done c.escape.ensures
+    ∙ (λ i. having_said (sym c.say.ensures.said i) (reached c.escape.new.self (sym left i)))
+
+pub returns-in-Csi-clause-run : goal.returns-in-Csi-clause-run
+returns-in-Csi-clause-run c =
+    let text : List ℕ = c.args.b.now in
+    let outs : List Out = c.args.outs.now in
+    let s : Screen = c.self.inside.canvas in
+    let rest : Rest = c.self.inside.pending in
+    let m : Mode = c.mode.result in
+    let params : List ℕ = c.take_sequence.new.params in
+    let one : Sequence = record { unit = Csi c.in-Csi.private params c.in-Csi.last; count = c.in-Csi.count } in
+    let found : taken_ahead rest text ≡ Some one = sym c.in-Csi.ensures.sequence in
+    let left : c.take_sequence.new.self ≡ fresh m = c.in-Csi.ensures.rest ∙ ap (rest_ahead rest m) found in
+    let done : Done = record { screen = c.obey_sequence-said.new.self; said = c.obey_sequence-said.result } in
+    ap (λ (r : Reached Screen). run drawing (take one.count text) (having_said outs r)) (sym c.self.view_is)
+    ∙ sequence-run c.sequences_are_units.ensures text outs s rest m one c.mode.ensures found done
+    (ap (λ (numbers : List ℕ). effect (Csi c.in-Csi.private numbers c.in-Csi.last) s) (sym c.as_slice.ensures.numbers)
+    ∙ c.obey_sequence-said.ensures)
+    ∙ (λ i. having_said (sym c.say-in-Csi.ensures.said i) (reached c.obey_sequence-said.new.self (sym left i)))
+
+pub returns-in-Esc-clause-few : goal.returns-in-Esc-clause-few
+returns-in-Esc-clause-few c =
+    let m : Mode = c.mode.result in
+    let rest : Rest = c.self.inside.pending in
+    let text : List ℕ = c.args.b.now in
+    let one : Sequence = record { unit = Esc c.in-Esc.mid c.in-Esc.last; count = c.in-Esc.count } in
+    let is : IsUnitOf m rest text one = c.sequences_are_units.ensures rest m text one (sym c.in-Esc.ensures.sequence) in
+    let some : 0 < c.in-Esc.count = some-bytes m rest text c.in-Esc.count one.unit is.comes in
+    omega (arith, c.say.ensures.few, some)
+
+pub returns-in-Csi-clause-few : goal.returns-in-Csi-clause-few
+returns-in-Csi-clause-few c =
+    let m : Mode = c.mode.result in
+    let rest : Rest = c.self.inside.pending in
+    let text : List ℕ = c.args.b.now in
+    let one : Sequence = record { unit = Csi c.in-Csi.private c.take_sequence.new.params c.in-Csi.last; count = c.in-Csi.count } in
+    let is : IsUnitOf m rest text one = c.sequences_are_units.ensures rest m text one (sym c.in-Csi.ensures.sequence) in
+    let some : 0 < c.in-Csi.count = some-bytes m rest text c.in-Csi.count one.unit is.comes in
+    omega (arith, c.say-in-Csi.ensures.few, some)
