@@ -29,7 +29,7 @@ abbrev answer_of : Settled → ℕ → Read
 answer_of s b = record { bad = s.bad; got = (took s.rest b).got }
 
 -- a byte that is admitted neither acts nor interrupts nor is DEL
-admitted-quiet : (m : Mode) (b : ℕ) → admits b ≡ true
+pub admitted-quiet : (m : Mode) (b : ℕ) → admits b ≡ true
     → (acts b ≡ false) × (interrupts m b ≡ false) × ((b == 0x7F) ≡ false)
 admitted-quiet m b is =
     let low : nat_lt b 0x20 ≡ false = grind (arith, nat_tests) in
@@ -39,10 +39,10 @@ admitted-quiet m b is =
     (and_left _ _ low, or_from _ _ esc (and_left _ _ csi), del)
 
 -- what a byte comes to
-abbrev Gives : Mode → Rest → ℕ → then.Then → Rest → Type 0
+abbrev pub Gives : Mode → Rest → ℕ → then.Then → Rest → Type 0
 Gives m old b got new = (answer old m b ≡ record { bad = false; got = got }) × (rest_after old m b ≡ new)
 
-gives : (m : Mode) (old before : Rest) (b : ℕ) (all : Taken) → settled old m b ≡ kept before → took before b ≡ all
+pub gives : (m : Mode) (old before : Rest) (b : ℕ) (all : Taken) → settled old m b ≡ kept before → took before b ≡ all
     → Gives m old b all.got all.rest
 gives m old before b all left is = (
   ap (λ (s : Settled). answer_of s b) left ∙ ap (λ (t : Taken). record { bad = false; got = t.got }) is,

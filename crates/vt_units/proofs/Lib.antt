@@ -20,4 +20,5 @@ mod Printables
 mod Lanes
 mod Rests
 mod Sizes
+mod Bodies
 pub mod Wholes

@@ -1,8 +1,8 @@
 -- What the pending bytes look like at each stage. No public clause names this.
-use Rattle.std.specs.Prelude.{◌≡◌, ◌<◌, ◌⊎◌, ℕ, Bool, true, List, [], ◌∷◌, ◌++◌, length}
+use Rattle.std.specs.Prelude.{◌≡◌, ◌<◌, ◌⊎◌, ℕ, Bool, true, false, List, [], ◌∷◌, ◌++◌, length}
 use Rattle.vt_chars.specs.Utf8.{decoded}
 use Rattle.vt_chars.specs.declared.decoded.Decoded.TheVariants.{Unfinished}
-use Rattle.vt_units.specs.Answer.{Settled, Taken, joined, kept, taken, took}
+use Rattle.vt_units.specs.Answer.{Settled, Taken, answer, joined, kept, rest_after, taken, took}
 use Rattle.vt_units.specs.Bytes.{decodes, is_body, is_csi, is_digit, is_hex, is_mid, opens_string}
 use Rattle.vt_units.specs.Rest.{Rest, fresh, grown}
 use Rattle.vt_units.specs.declared.left.Left.{Left}
@@ -83,3 +83,8 @@ IsSequence stage.Stage.Escape = Unit {0}
 IsSequence stage.Stage.Control = Unit {0}
 IsSequence stage.Stage.Bracket = Unit {0}
 IsSequence other = ⊥
+
+-- nothing comes of the byte, whichever mode it is given in
+abbrev pub Quiet : Rest → ℕ → Rest → Type 0
+Quiet old b new =
+    (m : Mode) → (answer old m b ≡ record { bad = false; got = then.Then.More }) × (rest_after old m b ≡ new)

@@ -50,18 +50,20 @@ pub(crate) fn read_numbers(text: &[u8], params: &mut Params) -> usize
 }
 
 // One parameter more, where it counts.
-fn add(params: &mut Params, number: u16)
+fn add(params: &mut Params, number: u32)
+    requires { number ≤ 65535 }
     ensures { params.new ≡ take 16 (params.old ++ number ∷ []) }
 {
     if params.as_slice().len() < 16 {
-        params.push(number);
+        params.push(number as u16);
     }
 }
 
 // The number with one digit more, at most 65,535.
-fn shifted(number: u16, digit: u8) -> u16
+fn shifted(number: u32, digit: u8) -> u32
+    requires { number ≤ 65535 }
     ensures { result ≡ shifted number digit }
 {
-    let value = u16::from(digit.saturating_sub(b'0'));
-    number.saturating_mul(10).saturating_add(value)
+    let value = u32::from(digit.saturating_sub(b'0'));
+    (number * 10 + value).min(65_535)
 }

@@ -1,4 +1,4 @@
-ghost use Rattle.std.specs.Prelude.{◌≡◌, false, ◌==◌, ◌≤◌, ◌<◌, ◌&&◌, not, true, drop, take, [], ◌∷◌, length, if◌then◌else◌};
+ghost use Rattle.std.specs.Prelude.{◌≡◌, false, ◌==◌, ◌≤◌, ◌<◌, ◌&&◌, not, true, drop, take, [], ◌∷◌, ◌++◌, length, if◌then◌else◌};
 ghost use Rattle.std.specs.List.{prefix_len};
 ghost use Rattle.vt_units.specs.Ahead.{parameters_ahead, rest_ahead, sequence_of, taken_ahead};
 ghost use Rattle.vt_units.specs.Answer.{answer, rest_after, settled, took};
@@ -6,15 +6,15 @@ ghost use Rattle.vt_units.specs.Bytes.{decodes, interrupts, is_control, is_print
 ghost use Rattle.vt_units.specs.Characters.{AreTextsOf, NoneBegins};
 ghost use Rattle.vt_units.specs.Reading.{is_empty};
 ghost use Rattle.vt_units.specs.Rest.{fresh, start_mode};
-ghost use Rattle.vt_units.specs.Stage.{Inside, Leaves, Stands, rest_of};
+ghost use Rattle.vt_units.specs.Stage.{Inside, Leaves, Quiet, Stands, rest_of};
 ghost use Rattle.vt_units.specs.Units.{IsUnfinished};
 
-use crate::bytes::{decodes, interrupts, is_control};
+use crate::bytes::{decodes, interrupts, is_body, is_control};
 use crate::characters::read_characters;
 use crate::codes::Codes;
 use crate::command::{command, palette};
 use crate::ground::{ground, part};
-use crate::kept::Kept;
+use crate::kept::{Kept, SEQUENCE_BYTES};
 use crate::left::Left;
 use crate::printable::printable_prefix;
 use crate::sequence::sequence;
@@ -74,6 +74,12 @@ impl Pending {
         ensures answer { result ≡ answer self.old mode b }
         ensures rest { self.new ≡ rest_after self.old mode b }
     {
+        if self.take_body(b) {
+            return Read {
+                bad: false,
+                got: Then::More,
+            };
+        }
         let bad = self.settle(mode, b);
         Read {
             bad,
@@ -159,6 +165,19 @@ impl Pending {
         takes
     }
 
+    // Adds the byte to the body of a control sequence, where it is part of one, and tells whether it
+    // is: most bytes of a sequence are.
+    fn take_body(&mut self, b: u8) -> bool
+        ensures goes { result ≡ true → Quiet self.old b self.new }
+        ensures stays { result ≡ false → self.new ≡ self.old }
+    {
+        let goes = joins_body(self.stage, self.mode, self.text.as_slice(), b);
+        if goes {
+            self.text.push(b);
+        }
+        goes
+    }
+
     // Ends what the byte ends by following it; the answer is whether that was malformed.
     fn settle(&mut self, mode: Mode, b: u8) -> bool
         ensures { settled self.old mode b ≡ record { bad = result; rest = self.new } }
@@ -230,6 +249,19 @@ fn is_none(stage: Stage, mode: Mode, text: &[u8]) -> bool
     let _ = stage;
     let _ = mode;
     text.is_empty()
+}
+
+fn joins_body(stage: Stage, mode: Mode, text: &[u8], b: u8) -> bool
+    requires stands { Stands stage mode text.now }
+    requires bound { length text.now ≤ 256 }
+    ensures goes { result ≡ true → Quiet (rest_of mode text.now) b (rest_of mode (text.now ++ b ∷ [])) }
+    ensures room { result ≡ true → length text.now < 256 }
+    ensures stands { result ≡ true → Stands stage mode (text.now ++ b ∷ []) }
+{
+    match stage {
+        Stage::Control => is_body(b) && text.len() < SEQUENCE_BYTES,
+        _ => false,
+    }
 }
 
 fn settling(stage: Stage, mode: Mode, text: &[u8], now: Mode, b: u8) -> Left

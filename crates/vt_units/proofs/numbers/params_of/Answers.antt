@@ -1,4 +1,4 @@
-use Rattle.std.proofs.Common.{ℕ, List, drop, get_or, ◌+◌}
+use Rattle.std.proofs.Common.{ℕ, List, drop, get_or, ◌+◌, arith}
 use Rattle.std.proofs.lemmas.Bool.{ne_eqb}
 use Rattle.vt_units.proofs.Fields.{continued-all, field-ends, field-goes, front-number}
 use Rattle.vt_units.specs.Numbers.{params_of}
@@ -6,16 +6,25 @@ use Rattle.vt_units.proofs.numbers.params_of.Goals as goal
 use Rattle.vt_units.proofs.numbers.params_of.Goals.{then-b-eq59, else-b-eq59}
 
 pub loop-b-init : goal.loop-b-init
-loop-b-init c = rw c.new-params.ensures (continued-all c.args.body.now)
+loop-b-init c = record {
+  params = rw c.new-params.ensures (continued-all c.args.body.now);
+  small = omega arith;
+}
 
 pub loop-b-preserved : goal.loop-b-preserved
 loop-b-preserved c =
     let i : ℕ = c.loop-b.b-index in
     let body : List ℕ = c.args.body.now in
-    let before = front-number c.loop-b.params body (params_of body) c.loop-b.number i c.loop-b-test.true c.loop-b.invariant in
+    let before = front-number c.loop-b.params body (params_of body) c.loop-b.number i c.loop-b-test.true c.loop-b.invariant.params in
     elim c.if-b-eq59.branch [
-      | then-b-eq59 w ↦ rw (w.params-is, w.number-is, w.add.ensures)
-          (field-ends c.loop-b.params c.loop-b.number (get_or body i 0) (drop (i + 1) body) (params_of body) w.if-b-eq59.true before)
-      | else-b-eq59 w ↦ rw (w.params-is, w.number-is, w.shifted-number.ensures)
-          (field-goes c.loop-b.params c.loop-b.number (get_or body i 0) (drop (i + 1) body) (params_of body) (ne_eqb _ _ w.if-b-eq59.false) before)
+      | then-b-eq59 w ↦ record {
+        params = rw (w.params-is, w.number-is, w.add.ensures)
+            (field-ends c.loop-b.params c.loop-b.number (get_or body i 0) (drop (i + 1) body) (params_of body) w.if-b-eq59.true before);
+        small = omega (arith, w.number-is);
+      }
+      | else-b-eq59 w ↦ record {
+        params = rw (w.params-is, w.number-is, w.shifted-number.ensures)
+            (field-goes c.loop-b.params c.loop-b.number (get_or body i 0) (drop (i + 1) body) (params_of body) (ne_eqb _ _ w.if-b-eq59.false) before);
+        small = omega (arith, w.number-is, w.shifted-number.ensures);
+      }
     ]

@@ -1,8 +1,10 @@
-use Rattle.std.proofs.Common.{◌≡◌, ◌++◌, take, drop}
+use Rattle.std.proofs.Common.{◌≡◌, ◌≤◌, ◌++◌, take, drop}
 use Rattle.vt_units.proofs.Fields.{continued}
 use Rattle.vt_units.specs.Numbers.{params_of}
 use Rattle.vt_units.proofs.numbers.params_of.Given as goal
 
 abbrev pub invariant-loop-b : goal.invariant-loop-b
-invariant-loop-b l =
-    take 16 (l.params ++ continued l.number (drop l.b-index l.body)) ≡ params_of l.body
+invariant-loop-b l = record {
+  params : take 16 (l.params ++ continued l.number (drop l.b-index l.body)) ≡ params_of l.body;
+  small : l.number ≤ 65535;
+}

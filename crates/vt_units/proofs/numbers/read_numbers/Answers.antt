@@ -15,6 +15,7 @@ loop-i-init c = record {
       ap (λ (kept : List ℕ). take 16 (kept ++ continued 0 (front is_parameter c.args.text.now))) c.requires
       ∙ continued-all (front is_parameter c.args.text.now);
   count = omega arith;
+  small = omega arith;
   rest = refl;
 }
 
@@ -38,6 +39,7 @@ loop-i-preserved c =
             params = rw (w.params-is, w.number-is, w.shifted-number.ensures)
                 (field-goes c.loop-i.params c.loop-i.number b left all other before);
             count = omega (arith, c.loop-i.invariant.count, ap (λ (bytes : List ℕ). length bytes) one.0);
+            small = omega (arith, w.number-is, w.shifted-number.ensures);
             rest = c.loop-i.invariant.rest ∙ one.1;
           }
       | else-is_digit+then-b-eq59 w ↦
@@ -50,6 +52,7 @@ loop-i-preserved c =
             params = rw (w.params-is, w.number-is, w.add.ensures)
                 (field-ends c.loop-i.params c.loop-i.number b left all w.if-b-eq59.true before);
             count = omega (arith, c.loop-i.invariant.count, ap (λ (bytes : List ℕ). length bytes) one.0);
+            small = omega (arith, w.number-is);
             rest = c.loop-i.invariant.rest ∙ one.1;
           }
     ]

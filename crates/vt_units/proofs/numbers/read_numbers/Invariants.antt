@@ -1,4 +1,4 @@
-use Rattle.std.proofs.Common.{◌≡◌, ◌+◌, ◌++◌, length, take, drop}
+use Rattle.std.proofs.Common.{◌≡◌, ◌≤◌, ◌+◌, ◌++◌, length, take, drop}
 use Rattle.vt_units.proofs.Fields.{continued}
 use Rattle.vt_units.specs.Numbers.{params_of}
 use Rattle.vt_units.specs.Reading.{behind, front}
@@ -9,5 +9,6 @@ abbrev pub invariant-loop-i : goal.invariant-loop-i
 invariant-loop-i l = record {
   params : take 16 (l.params ++ continued l.number (front is_parameter (drop l.i l.text))) ≡ params_of (front is_parameter l.text);
   count : length (front is_parameter l.text) ≡ l.i + length (front is_parameter (drop l.i l.text));
+  small : l.number ≤ 65535;
   rest : behind is_parameter l.text ≡ behind is_parameter (drop l.i l.text);
 }
