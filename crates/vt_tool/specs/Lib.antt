@@ -5,7 +5,6 @@ pub mod Outcome
 pub mod Play
 pub mod Player
 pub mod Reading
-pub mod Rows
 pub mod Run
 pub mod Status
 pub mod Words

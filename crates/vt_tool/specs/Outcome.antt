@@ -12,7 +12,7 @@ use Rattle.vt_events.specs.declared.entry.Entry.{Entry}
 use Rattle.vt_journal.specs.declared.tail.Tail.{Tail}
 use Rattle.vt_tool.specs.Calls.{CallText, HasFaultAt, IsGood, call_text}
 use Rattle.vt_tool.specs.Play.{IsPlay, opening_of, play_text, status_of}
-use Rattle.vt_tool.specs.Rows.{rows_text}
+use Rattle.vt_dump.specs.Rows.{rows_text}
 use Rattle.vt_tool.specs.declared.command.Command.{Command}
 use Rattle.vt_tool.specs.declared.command.Command.TheVariants as command
 use Rattle.vt_tool.specs.declared.status.Status.{Status}

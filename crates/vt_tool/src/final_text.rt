@@ -3,8 +3,8 @@ ghost use Rattle.vt_journal.specs.Journal.{line_text};
 ghost use Rattle.vt_tool.specs.Final.{console_text, consoles_text, final_text, place_text, queue_words};
 ghost use Rattle.vt_world.specs.Terminals.{bells_of, machine_of, terminal_at};
 
-use crate::rows::add_rows;
 use std::alloc::Global;
+use vt_dump::add_rows;
 use vt_base::{Bytes, ConsoleNo, NoMemory};
 use vt_journal::{add, add_next};
 use vt_screen::Emu;

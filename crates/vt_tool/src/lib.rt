@@ -11,7 +11,6 @@ mod play;
 mod play_answer;
 mod read_end;
 mod reading;
-mod rows;
 mod screen;
 mod status;
 mod telling;
@@ -22,7 +21,5 @@ mod words;
 mod writing;
 
 pub use calls::laws::one_answer;
-pub use rows::plain::plain_text;
-pub use rows::text_rows;
 pub use status::Status;
 pub use tool::vt_command;

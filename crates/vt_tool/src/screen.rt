@@ -4,10 +4,10 @@ ghost use Rattle.vt_tool.specs.Input.{screen_limit};
 ghost use Rattle.vt_tool.specs.Outcome.{GivesRows};
 
 use crate::answer::Answer;
-use crate::rows::text_rows;
 use crate::status::Status;
 use std::alloc::Global;
 use vt_base::{NoMemory, Size};
+use vt_dump::text_rows;
 use vt_grid::Grid;
 use vt_screen::{BLANK, Emu};
 

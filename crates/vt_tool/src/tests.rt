@@ -1,12 +1,10 @@
 //! The commands over sources and sinks in memory. Expected texts were reckoned by hand from the
 //! rules of the commands.
-use crate::{plain_text, text_rows, vt_command};
+use crate::vt_command;
 use std::alloc::Global;
 use std::process::Abort;
 use std::test::Fail;
-use vt_base::{Bytes, NoMemory, Size};
-use vt_cells::Cell;
-use vt_grid::Grid;
+use vt_base::{Bytes, NoMemory};
 use vt_io::{MemSink, MemSource};
 
 mod keys;
@@ -318,40 +316,3 @@ fn takes_the_greatest_input(rt: HostRuntime) -> Result<(), Fail> {
     Ok(())
 }
 
-// Whether both forms of the text of one cell are this one.
-fn is_shown_as(alloc: Global, code: u32, shown: &[u8]) -> Result<bool, NoMemory> {
-    let size = Size { rows: 1, cols: 1 };
-    let grid = Grid::blank(alloc, size, Cell { code, attr: 7 })?;
-    let mut row = Bytes::with_room(alloc, 7)?;
-    row.append(b"|");
-    row.grow(alloc, shown.len() + 2)?;
-    row.append(shown);
-    row.append(b"|\n");
-    let text = text_rows(alloc, &grid)?;
-    let plain = plain_text(alloc, &grid)?;
-    Ok(text.as_slice() == row.as_slice() && plain.as_bytes() == row.as_slice())
-}
-
-#[test]
-fn shows_each_code(rt: HostRuntime) -> Result<(), Fail> {
-    let cases: [(u32, &'static [u8]); 14] = [
-        (0x00, b"?"),
-        (0x1F, b"?"),
-        (0x20, b" "),
-        (0x7E, b"~"),
-        (0x7F, b"?"),
-        (0x9F, b"?"),
-        (0xA0, b"\xC2\xA0"),
-        (0xD7FF, b"\xED\x9F\xBF"),
-        (0xD800, b"?"),
-        (0xDFFF, b"?"),
-        (0xE000, b"\xEE\x80\x80"),
-        (0xFFFD, b"\xEF\xBF\xBD"),
-        (0x10FFFF, b"\xF4\x8F\xBF\xBF"),
-        (0x110000, b"?"),
-    ];
-    for (code, shown) in cases {
-        assert!(rt; is_shown_as(rt.alloc(), code, shown)?, "{code}");
-    }
-    Ok(())
-}
