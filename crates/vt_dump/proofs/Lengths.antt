@@ -6,7 +6,7 @@ use Rattle.std.specs.Int.{to_le_bytes, w32}
 use Rattle.std.proofs.lemmas.List.Elements.{All-head, All-tail}
 use Rattle.vt_dump.specs.Dumps.{attribute, cell_count, character, codes_bytes, of_cells, vcs_bytes}
 use Rattle.vt_grid.specs.Grid.{IsFull, Sheet}
-use Rattle.vt_grid.specs.declared.cell.Cell.{Cell}
+use Rattle.vt_cells.specs.declared.cell.Cell.{Cell}
 
 -- one row's bytes and those of the others
 added : (a b n each : ℕ) → a ≡ each → b ≡ n * each → a + b ≡ suc n * each

@@ -4,7 +4,7 @@ use Rattle.std.specs.List.{flat_map}
 use Rattle.std.specs.Int.{to_le_bytes, w32}
 use Rattle.vt_cells.specs.AttrByte.{swapped}
 use Rattle.vt_grid.specs.Grid.{Sheet}
-use Rattle.vt_grid.specs.declared.cell.Cell.{Cell}
+use Rattle.vt_cells.specs.declared.cell.Cell.{Cell}
 
 -- how many cells there are
 abbrev pub cell_count : Sheet → ℕ

@@ -5,7 +5,7 @@ use Rattle.vt_dump.specs.Dumps.{attribute, character}
 use Rattle.vt_dump.specs.Rows.{cell_text}
 use Rattle.vt_dump.specs.declared.form.Form.{Form}
 use Rattle.vt_dump.specs.declared.form.Form.TheVariants.{Character, WithAttribute, Code, Text}
-use Rattle.vt_grid.specs.declared.cell.Cell.{Cell}
+use Rattle.vt_cells.specs.declared.cell.Cell.{Cell}
 
 -- a cell in a form
 abbrev pub cell_bytes : Form → Cell → List ℕ

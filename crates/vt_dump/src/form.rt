@@ -4,8 +4,7 @@ ghost use Rattle.vt_dump.specs.Forms.{cell_bytes, most_bytes};
 ghost use Rattle.vt_dump.specs.Rows.{cell_text, is_shown};
 
 use vt_base::Bytes;
-use vt_cells::swapped;
-use vt_grid::Cell;
+use vt_cells::{Cell, swapped};
 
 /// What a dump says of a cell.
 #[derive(Clone, Copy)]

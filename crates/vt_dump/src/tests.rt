@@ -5,7 +5,8 @@ use crate::{add_rows, codes, text_rows, vcs, vcsa};
 use std::alloc::Global;
 use std::test::Fail;
 use vt_base::{Bytes, NoMemory, Size};
-use vt_grid::{Cell, Grid};
+use vt_cells::Cell;
+use vt_grid::Grid;
 
 // A row of blanks that begins with one character.
 fn row(alloc: Global, cols: u8, code: u32) -> Result<Grid, NoMemory>

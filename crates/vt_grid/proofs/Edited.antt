@@ -5,7 +5,7 @@ use Rattle.vt_grid.proofs.Shown.{cells_of-cut_at, cells_of-reached, cells_of-wri
 use Rattle.vt_grid.specs.Grid.{deleted, erased, inserted, overlaid, with_run}
 use Rattle.vt_grid.specs.Line.{Line, cells_of, cut_at, inserted_at, reached, removed_at, written}
 use Rattle.vt_grid.specs.Store.{IsFit, Store, line_at, sheet_shown, with_line}
-use Rattle.vt_grid.specs.declared.cell.Cell.{Cell}
+use Rattle.vt_cells.specs.declared.cell.Cell.{Cell}
 
 -- what is stored of a row whose cells before x are stored
 length-reached : (x : ℕ) (line : Line)

@@ -3,7 +3,7 @@ use Rattle.std.proofs.Common.{◌≡◌, ℕ, zero, suc, ◌<◌, ◌≤◌, min
 use Rattle.std.proofs.lemmas.Bool.{cases_eq}
 use Rattle.std.proofs.lemmas.List.{places, same_lists, set-set, get_or-set_same, length-set}
 use Rattle.vt_grid.specs.Grid.{IsFull, Sheet, laid_over, overlaid, row_at, rows_laid_over, with_cell, with_run}
-use Rattle.vt_grid.specs.declared.cell.Cell.{Cell}
+use Rattle.vt_cells.specs.declared.cell.Cell.{Cell}
 
 -- one row more is laid over the one at its place
 pub rows_laid_over-more : (rows unders : List (List Cell)) (i : ℕ) → i < length rows

@@ -6,7 +6,7 @@ use borrow.Rule.Slice.PartMut.{put_mid}
 use Rattle.vt_grid.specs.Grid.{overlaid}
 use Rattle.vt_grid.specs.Line.{inserted_at, written}
 use Rattle.vt_grid.specs.Ring.{Shelf}
-use Rattle.vt_grid.specs.declared.cell.Cell.{Cell}
+use Rattle.vt_cells.specs.declared.cell.Cell.{Cell}
 
 -- one cell among the stored ones is written
 pub stored-set : (x len : ℕ) (c : Cell) (cells : List Cell) → x < len → len ≤ length cells

@@ -4,7 +4,7 @@ use Rattle.std.proofs.lemmas.Bool.{cases_lt}
 use Rattle.std.proofs.lemmas.List.{take-append-drop, set-get_or, set-set, set_past, get_or-set_same, get_or_past, length-set, take_more_set, drop-set-lt}
 use Rattle.vt_grid.specs.Grid.{row_at, overlaid, with_cell}
 use Rattle.vt_grid.specs.Laws.{CellKeepsWidth, RunOfMore, RunOfNone}
-use Rattle.vt_grid.specs.declared.cell.Cell.{Cell}
+use Rattle.vt_cells.specs.declared.cell.Cell.{Cell}
 
 pub run-of-none : RunOfNone
 run-of-none s y x =

@@ -7,7 +7,7 @@ use Rattle.vt_grid.proofs.Turns.{map-part_turned}
 use Rattle.vt_grid.specs.Grid.{sheet_of, moved_down, moved_up, scrolled_down, scrolled_up}
 use Rattle.vt_grid.specs.Line.{blank_line, cells_of}
 use Rattle.vt_grid.specs.Store.{Store, IsFit, cleared, part_turned, sheet_shown}
-use Rattle.vt_grid.specs.declared.cell.Cell.{Cell}
+use Rattle.vt_cells.specs.declared.cell.Cell.{Cell}
 
 -- elements that move down
 abbrev moved : {A : Type 0} → ℕ → A → List A → List A

@@ -6,7 +6,7 @@ use Rattle.std.proofs.lemmas.Option.{slice_get-get_or}
 use Rattle.vt_grid.specs.Grid.{Sheet, sheet_of, row_at, IsFull, HasCellAt, filled, overlaid, with_cell, with_row, with_run}
 use Rattle.vt_grid.specs.Line.{Line, blank_line, cell_at, cells_of, written, reached, cut_at}
 use Rattle.vt_grid.specs.Store.{Store, no_line, line_at, with_line, IsFit, blank_store, sheet_shown}
-use Rattle.vt_grid.specs.declared.cell.Cell.{Cell}
+use Rattle.vt_cells.specs.declared.cell.Cell.{Cell}
 
 pub length-cells_of : (cols : ℕ) (line : Line) → length line.stored ≤ cols
     → length (cells_of cols line) ≡ cols

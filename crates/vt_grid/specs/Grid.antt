@@ -1,6 +1,6 @@
 -- A grid of cells as contracts see it: its rows, and what each edit makes of them.
 use Rattle.std.specs.Prelude.{◌≡◌, ℕ, ◌+◌, ◌-◌, min, List, [], ◌∷◌, ◌++◌, length, map, take, drop, replicate, slice_get, slice_set, slice_index_or, Some, All}
-use Rattle.vt_grid.specs.declared.cell.Cell.{Cell}
+use Rattle.vt_cells.specs.declared.cell.Cell.{Cell}
 
 -- how many rows and columns there are, and the rows from top to bottom, each its cells from left
 -- to right

@@ -1,7 +1,7 @@
 -- What holds of every grid.
 use Rattle.std.specs.Prelude.{◌≡◌, ℕ, ◌+◌, ◌<◌, List, [], ◌∷◌, length}
 use Rattle.vt_grid.specs.Grid.{Sheet, row_at, with_cell, with_run}
-use Rattle.vt_grid.specs.declared.cell.Cell.{Cell}
+use Rattle.vt_cells.specs.declared.cell.Cell.{Cell}
 
 -- a run of no cell changes nothing
 abbrev pub RunOfNone : Type 0

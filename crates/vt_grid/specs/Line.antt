@@ -1,7 +1,7 @@
 -- A row of which only the first cells are stored.
 use Rattle.std.specs.Prelude.{ℕ, ◌+◌, ◌-◌, List, [], ◌++◌, length, take, drop, replicate, slice_index_or}
 use Rattle.vt_grid.specs.Grid.{overlaid}
-use Rattle.vt_grid.specs.declared.cell.Cell.{Cell}
+use Rattle.vt_cells.specs.declared.cell.Cell.{Cell}
 
 -- the cells that are stored, from left to right, and the cell that stands for all further ones
 pub record Line : Type 0 where

@@ -2,7 +2,7 @@
 use Rattle.std.specs.Prelude.{◌≡◌, ℕ, ◌+◌, ◌-◌, ◌≤◌, ◌==◌, if◌then◌else◌, min, List, ◌++◌, length, map, take, drop, replicate, slice_set, slice_index_or, All}
 use Rattle.vt_grid.specs.Grid.{Sheet, sheet_of}
 use Rattle.vt_grid.specs.Line.{Line, blank_line, cells_of}
-use Rattle.vt_grid.specs.declared.cell.Cell.{Cell}
+use Rattle.vt_cells.specs.declared.cell.Cell.{Cell}
 
 -- how many rows and columns there are, and the rows from top to bottom
 pub record Store : Type 0 where

@@ -4,10 +4,10 @@ ghost use Rattle.vt_grid.specs.Grid.{deleted, erased, inserted, scrolled_down, w
 ghost use Rattle.vt_grid.specs.Line.{blank_line};
 ghost use Rattle.vt_grid.specs.Store.{cleared, part_turned, sheet_shown};
 
-use crate::Cell;
 use crate::code::Code;
 use crate::rows::{RowStore, Steps};
 use std::sync::ledger::{Blank, Ledger};
+use vt_cells::Cell;
 
 /// Puts the cells of these codes.
 pub fn put_run<T: Code, L: Ledger>(

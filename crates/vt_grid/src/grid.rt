@@ -2,7 +2,6 @@ ghost use Rattle.std.specs.Prelude.{◌≡◌, ◌<◌, ◌≤◌, ◌+◌, leng
 ghost use Rattle.vt_grid.specs.Grid.{HasCellAt, IsFull, cells_of_codes, deleted, erased, filled, inserted, resized, scrolled_down, scrolled_up, with_cell, with_run};
 ghost use Rattle.vt_grid.specs.Store.{scroll_steps};
 
-use crate::Cell;
 use crate::edits::{clear_rows, delete, erase, insert, move_up, put_run, scroll_down};
 use crate::resize::copy_cells;
 use crate::rows::{RowStore, Steps};
@@ -11,6 +10,7 @@ use std::marker::{Brand, Model};
 use std::mem;
 use std::sync::ledger::{Blank, Ledger};
 use vt_base::{NoMemory, Size};
+use vt_cells::Cell;
 
 /// The cells of a screen: rows and columns are counted from 0, from the top left.
 #[derive(Debug, Drop)]

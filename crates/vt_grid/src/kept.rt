@@ -1,7 +1,7 @@
 ghost use Rattle.std.specs.Prelude.{◌≡◌};
 
-use crate::Cell;
 use std::marker::Model;
+use vt_cells::Cell;
 
 /// A cell as a row keeps it: two 32-bit numbers, which are stored whole.
 #[derive(Clone, Copy, Debug)]
@@ -12,7 +12,7 @@ pub struct Kept {
 
 impl Model for Kept {
     ghost use Rattle.std.specs.Prelude.{◌<◌};
-    ghost use Rattle.vt_grid.specs.declared.cell.Cell.{Cell};
+    ghost use Rattle.vt_cells.specs.declared.cell.Cell.{Cell};
 
     ghost Value = { Cell };
 

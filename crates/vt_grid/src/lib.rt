@@ -1,7 +1,6 @@
 //! The cells of a screen, and the edits that text makes to them.
 #![tactic(auto)]
 
-mod cell;
 mod code;
 mod edits;
 mod grid;
@@ -12,5 +11,4 @@ pub mod rows;
 #[cfg(test)]
 mod tests;
 
-pub use cell::Cell;
 pub use grid::Grid;

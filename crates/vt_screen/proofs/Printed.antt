@@ -1,14 +1,16 @@
 -- Printable bytes, one after another.
-use Rattle.std.proofs.Common.{◌≡◌, not, ◌<◌, ◌==◌, ◌&&◌, ◌≤◌, arith, length, zero, ℕ, Bool, true, false, suc, ◌+◌, List, [], ◌∷◌, take, refl, sym, ap, subst, ◌∙◌, cond, nat_lt, if◌then◌else◌}
+use Rattle.std.proofs.Common.{◌≡◌, ◌<◌, ◌==◌, ◌&&◌, ◌≤◌, arith, length, zero, ℕ, Bool, true, false, suc, ◌+◌, List, [], ◌∷◌, take, refl, sym, ap, subst, ◌∙◌, cond, nat_lt, if◌then◌else◌}
 use Rattle.std.proofs.lemmas.Bool.{and_parts, cond-true, cond-false}
 use Rattle.std.proofs.lemmas.Bool.Decides.{nat_tests}
 use Rattle.std.proofs.lemmas.List.{append-nil}
 use Rattle.std.specs.List.{prefix_len}
-use Rattle.vt_screen.specs.Effect.{at_column, effect, linefeed, print, printed, put_here}
-use Rattle.vt_grid.specs.Grid.{cells_of_codes, row_at, with_cell, with_run}
+use Rattle.vt_screen.specs.Cursor.{at_column, linefeed}
+use Rattle.vt_screen.specs.Effect.{effect}
+use Rattle.vt_screen.specs.Printing.{opened, print, printed, put_here, wrapped}
+use Rattle.vt_grid.specs.Grid.{cells_of_codes, inserted, row_at, with_cell, with_run}
 use Rattle.vt_grid.specs.Laws.{CellKeepsWidth, RunOfMore, RunOfNone}
 use Rattle.vt_screen.specs.Run.{Told, drawing, having_said, told}
-use Rattle.vt_screen.specs.Screen.{Screen, mode_of, plain}
+use Rattle.vt_screen.specs.Screen.{Screen, blank_of, cell_of, mode_of, printed_byte}
 use Rattle.vt_screen.specs.declared.out.Out.{Out}
 use Rattle.vt_units.specs.Answer.{answer, rest_after}
 use Rattle.vt_units.specs.Bytes.{decodes, is_printable}
@@ -27,11 +29,14 @@ either-mode false s t m first second = second
 
 -- a print leaves the mode
 pub print-mode : (code : ℕ) (s : Screen) → mode_of (print code s) ≡ mode_of s
+unfolding print
 print-mode code s =
     let first : Screen = at_column 0 s in
     let line : mode_of (linefeed first) ≡ mode_of s =
-    either-mode (nat_lt (first.y + 1) first.sheet.rows) _ _ (mode_of s) refl refl in
-    either-mode s.wrap (linefeed first) s (mode_of s) line refl
+    either-mode (first.state.y == first.state.bottom) _ _ (mode_of s) refl refl in
+    let after : mode_of (wrapped s) ≡ mode_of s =
+    either-mode (s.state.wrap && s.state.autowrap) (linefeed first) s (mode_of s) line refl in
+    either-mode (wrapped s).state.insert _ (wrapped s) (mode_of s) after after
 
 -- each byte is printable
 abbrev AllPrintable : List ℕ → Type 0
@@ -136,33 +141,45 @@ front-runs law text count outs s rest new m mode is within left = by (is_empty r
         ap (λ (bytes : List ℕ). run drawing bytes (having_said outs (reached s rest))) nothing
         ∙ (λ i. having_said outs (reached (printed (sym nothing i) s) (sym stays i)))
 
+-- a run of cells at the cursor, which is then behind it
+abbrev pub run_behind : ℕ → List ℕ → Screen → Screen
+run_behind attr codes s = record {
+  sheet = with_run s.sheet s.state.y s.state.x (cells_of_codes codes attr);
+  state = record s.state { x = s.state.x + length codes };
+}
+
 -- characters that end before the last column are one run of cells
-pub printed-run : RunOfNone → RunOfMore → CellKeepsWidth → (bytes : List ℕ) (s : Screen) → s.wrap ≡ false
-    → s.x + length bytes < s.sheet.cols → length (row_at s.sheet s.y) ≡ s.sheet.cols
-    → printed bytes s
-    ≡ record s {
-      sheet = with_run s.sheet s.y s.x (cells_of_codes bytes 0x07);
-      x = s.x + length bytes;
-    }
-printed-run none more width [] s wrap fits long =
-    let same : s.x ≡ s.x + 0 = omega arith in
-    λ i. record s { sheet = sym (none s.sheet s.y s.x) i; x = same i }
-printed-run none more width (b ∷ bytes) s wrap fits long =
-    let next : nat_lt (s.x + 1) s.sheet.cols ≡ true = grind (arith, nat_tests, fits) in
-    let after : Screen = record s { sheet = with_cell s.sheet s.y s.x (plain b); x = s.x + 1 } in
+pub printed-run : RunOfNone → RunOfMore → CellKeepsWidth → (bytes : List ℕ) (s : Screen) → s.state.wrap ≡ false
+    → s.state.insert ≡ false → s.state.x + length bytes < s.sheet.cols
+    → length (row_at s.sheet s.state.y) ≡ s.sheet.cols
+    → printed bytes s ≡ run_behind (printed_byte s.state.pen.attr s.state.pen.look) bytes s
+unfolding print
+printed-run none more width [] s wrap closed fits long =
+    let same : s.state.x ≡ s.state.x + 0 = omega arith in
+    λ i. record { sheet = sym (none s.sheet s.state.y s.state.x) i; state = record s.state { x = same i } }
+printed-run none more width (b ∷ bytes) s wrap closed fits long =
+    let next : nat_lt (s.state.x + 1) s.sheet.cols ≡ true = grind (arith, nat_tests, fits) in
+    let after : Screen = record {
+      sheet = with_cell s.sheet s.state.y s.state.x (cell_of s b);
+      state = record s.state { x = s.state.x + 1 };
+    } in
     let one : print b s ≡ after =
-    ap (λ (w : Bool). put_here b (if w then linefeed (at_column 0 s) else s)) wrap
-    ∙ (λ i. record s {
-      sheet = with_cell s.sheet s.y s.x (plain b);
-      x = if next i then s.x + 1 else s.x;
-      wrap = not (next i);
+    ap (λ (w : Bool). put_here b (opened (if w && s.state.autowrap then linefeed (at_column 0 s) else s))) wrap
+    ∙ ap (λ (o : Bool). put_here b (if o then record s { sheet = inserted s.sheet s.state.y s.state.x 1 (blank_of s) } else s)) closed
+    ∙ (λ i. record {
+      sheet = with_cell s.sheet s.state.y s.state.x (cell_of s b);
+      state = record s.state {
+        x = if next i then s.state.x + 1 else s.state.x;
+        wrap = if next i then false else s.state.autowrap;
+      };
     })
-    ∙ (λ i. record after { wrap = sym wrap i }) in
-    let here : s.x < length (row_at s.sheet s.y) = omega (arith, long, fits) in
-    let cells : with_run after.sheet s.y (s.x + 1) (cells_of_codes bytes 0x07)
-    ≡ with_run s.sheet s.y s.x (plain b ∷ cells_of_codes bytes 0x07) =
-    sym (more s.sheet s.y s.x (plain b) (cells_of_codes bytes 0x07) here) in
-    let count : s.x + 1 + length bytes ≡ s.x + length (b ∷ bytes) = omega arith in
+    ∙ (λ i. record after { state = record after.state { wrap = sym wrap i } }) in
+    let here : s.state.x < length (row_at s.sheet s.state.y) = omega (arith, long, fits) in
+    let attr : ℕ = printed_byte s.state.pen.attr s.state.pen.look in
+    let cells : with_run after.sheet s.state.y (s.state.x + 1) (cells_of_codes bytes attr)
+    ≡ with_run s.sheet s.state.y s.state.x (cell_of s b ∷ cells_of_codes bytes attr) =
+    sym (more s.sheet s.state.y s.state.x (cell_of s b) (cells_of_codes bytes attr) here) in
+    let count : s.state.x + 1 + length bytes ≡ s.state.x + length (b ∷ bytes) = omega arith in
     ap (printed bytes) one
-    ∙ printed-run none more width bytes after wrap (omega (arith, fits)) (width s.sheet s.y s.x (plain b) ∙ long)
-    ∙ (λ i. record s { sheet = cells i; x = count i })
+    ∙ printed-run none more width bytes after wrap closed (omega (arith, fits)) (width s.sheet s.state.y s.state.x (cell_of s b) ∙ long)
+    ∙ (λ i. record { sheet = cells i; state = record s.state { x = count i } })

@@ -2,7 +2,8 @@
 use Rattle.std.proofs.Common.{◌≡◌, ◌<◌, true, ℕ, List, [], ◌∷◌, length, refl, sym, ap, ◌∙◌, arith}
 use Rattle.std.proofs.lemmas.List.{append-nil}
 use Rattle.vt_screen.proofs.Printed.{print-mode}
-use Rattle.vt_screen.specs.Effect.{effect, print, printed}
+use Rattle.vt_screen.specs.Effect.{effect}
+use Rattle.vt_screen.specs.Printing.{print, printed}
 use Rattle.vt_screen.specs.Run.{Told, drawing, having_said, told}
 use Rattle.vt_screen.specs.Screen.{Screen, mode_of}
 use Rattle.vt_screen.specs.declared.out.Out.{Out}

@@ -1,105 +1,143 @@
 -- A screen as contracts see it. What it starts with is this project's own.
 use Rattle.std.specs.List.{range_with_len}
-use Rattle.std.specs.Prelude.{◌≡◌, ◌+◌, ◌<◌, ◌≤◌, IsTrue, ℕ, Bool, true, false, List, map, length}
+use Rattle.std.specs.Prelude.{◌≡◌, ◌+◌, ◌-◌, ◌<◌, ◌≤◌, ◌%◌, ◌==◌, ◌&&◌, nat_lt, IsTrue, ℕ, Bool, true, false, List, map, length, slice_index_or}
+use Rattle.vt_cells.specs.AttrByte.{attr_byte, erase_byte}
+use Rattle.vt_cells.specs.Colours.{start_palette}
+use Rattle.vt_cells.specs.Rendition.{Rendition, Tints}
+use Rattle.vt_cells.specs.declared.cell.Cell.{Cell}
+use Rattle.vt_cells.specs.declared.intensity.Intensity.TheVariants.{Normal}
 use Rattle.vt_chars.specs.CharMap.{font_place}
 use Rattle.vt_grid.specs.Grid.{IsFull, Sheet, filled}
-use Rattle.vt_grid.specs.declared.cell.Cell.{Cell}
+use Rattle.vt_screen.specs.declared.saved.Saved.{Saved}
 use Rattle.vt_screen.specs.declared.screen_state.ScreenState.{ScreenState}
+use Rattle.vt_sgr.specs.PenState.{PenState}
 use Rattle.vt_units.specs.declared.mode.Mode.{Mode}
 
--- the cells, the cursor's column and row from 0, and whether a wrap is pending: the last column was
--- printed. Then what gives a byte its character (console_codes(4), "Character sets"): the numbers of
--- the tables that are G0 and G1, which of these two is in use, whether the null mapping is in their
--- place, whether control characters are shown, whether the high bit is toggled, whether text is
--- UTF-8, and the user's table
+-- the cells, and the state beside them
 pub record Screen : Type 0 where
   pub sheet : Sheet
-  pub x : ℕ
-  pub y : ℕ
-  pub wrap : Bool
-  pub g0 : ℕ
-  pub g1 : ℕ
-  pub shift : ℕ
-  pub alt : Bool
-  pub display : Bool
-  pub toggle : Bool
-  pub utf8 : Bool
-  pub user : List ℕ
+  pub state : ScreenState
+
+-- the screen with another state
+abbrev pub with_state : Screen → ScreenState → Screen
+with_state s state = record s { state = state }
 
 -- what every screen keeps to: the rows are whole, the cursor is in them, a wrap is pending only in
--- the last column, the tables are four, G0 or G1 is in use, and the user's table has all bytes
+-- the last column, the region is in the rows, the tables are four, G0 or G1 is in use, here and in
+-- what is saved, and the user's table has all bytes
 pub record IsWhole (s : Screen) : Type 0 where
   pub full : IsFull s.sheet
-  pub row : s.y < s.sheet.rows
-  pub column : s.x < s.sheet.cols
-  pub wrapped : IsTrue s.wrap → s.x + 1 ≡ s.sheet.cols
-  pub tables : (s.g0 < 4) × (s.g1 < 4)
-  pub invoked : s.shift ≤ 1
-  pub user : length s.user ≡ 256
-
--- the screen of these cells and this state
-abbrev pub screen_of : Sheet → ScreenState → Screen
-screen_of sheet state = record {
-  sheet = sheet;
-  x = state.x;
-  y = state.y;
-  wrap = state.wrap;
-  g0 = state.g0;
-  g1 = state.g1;
-  shift = state.shift;
-  alt = state.alt;
-  display = state.display;
-  toggle = state.toggle;
-  utf8 = state.utf8;
-  user = state.map;
-}
-
--- the state of a screen beside its cells
-abbrev pub state_of : Screen → ScreenState
-state_of s = record {
-  x = s.x;
-  y = s.y;
-  wrap = s.wrap;
-  g0 = s.g0;
-  g1 = s.g1;
-  shift = s.shift;
-  alt = s.alt;
-  display = s.display;
-  toggle = s.toggle;
-  utf8 = s.utf8;
-  map = s.user;
-}
+  pub row : s.state.y < s.sheet.rows
+  pub column : s.state.x < s.sheet.cols
+  pub wrapped : IsTrue s.state.wrap → s.state.x + 1 ≡ s.sheet.cols
+  pub order : s.state.top ≤ s.state.bottom
+  pub region : s.state.bottom < s.sheet.rows
+  pub tables : (s.state.g0 < 4) × (s.state.g1 < 4)
+  pub invoked : s.state.shift ≤ 1
+  pub saved_tables : (s.state.saved.g0 < 4) × (s.state.saved.g1 < 4)
+  pub saved_shift : s.state.saved.shift ≤ 1
+  pub user : length s.state.map ≡ 256
 
 -- the mode that a screen gives its bytes
 abbrev pub mode_of : Screen → Mode
-mode_of s = record { utf8 = s.utf8; display = s.display }
+mode_of s = record { utf8 = s.state.utf8; display = s.state.pen.display }
 
--- a character in the start colours: the attribute byte 07, white on black
-abbrev pub plain : ℕ → Cell
-plain code = record { code = code; attr = 0x07 }
+-- the attribute byte of what is printed
+unfoldable pub printed_byte : Rendition → Tints → ℕ
+printed_byte a l = attr_byte a l
 
--- what an empty place holds: a space in the start colours
-abbrev pub blank : Cell
-blank = plain 0x20
+-- the attribute byte of what is erased
+unfoldable pub erased_byte : Rendition → ℕ
+erased_byte a = erase_byte a
+
+-- a character as the pen prints it
+abbrev pub cell_of : Screen → ℕ → Cell
+cell_of s code = record { code = code; attr = printed_byte s.state.pen.attr s.state.pen.look }
+
+-- what an empty place holds: a space in the pen's two colours
+abbrev pub blank_of : Screen → Cell
+blank_of s = record { code = 0x20; attr = erased_byte s.state.pen.attr }
+
+-- there is a tab stop in this column
+abbrev pub has_stop : List Bool → ℕ → Bool
+has_stop stops x = slice_index_or stops x false
+
+-- the tab stops at the start: in every eighth column but the first
+abbrev pub is_start_stop : ℕ → Bool
+is_start_stop x = nat_lt 0 x && x % 8 == 0
+
+abbrev pub start_stops : List Bool
+start_stops = map is_start_stop (range_with_len 0 255)
 
 -- the user's table at the start: the null mapping
 abbrev pub start_user : List ℕ
 start_user = map font_place (range_with_len 0 256)
 
--- the start screen: all blank, the cursor at home; G0 is table 0 and in use, G1 is table 1, no flag
--- is on, and text is UTF-8
-abbrev pub start_screen : ℕ → ℕ → Screen
-start_screen rows cols = record {
-  sheet = filled rows cols blank;
-  x = 0;
-  y = 0;
-  wrap = false;
-  g0 = 0;
-  g1 = 1;
-  shift = 0;
+-- the attributes at the start: white on black, and nothing on
+abbrev pub start_attr : Rendition
+start_attr = record {
+  fg = 7;
+  bg = 0;
+  intensity = Normal;
+  italic = false;
+  underline = false;
+  blink = false;
+  reverse = false;
+}
+
+-- the colours that stand for an underline and for half-bright at the start
+abbrev pub start_look : Tints
+start_look = record { ul = 15; dim = 8 }
+
+-- the pen at the start: the default pair is white on black, and no flag of the mapping is on
+abbrev pub start_pen : PenState
+start_pen = record {
+  attr = start_attr;
+  look = start_look;
+  def_fg = 7;
+  def_bg = 0;
   alt = false;
   display = false;
   toggle = false;
-  utf8 = true;
-  user = start_user;
 }
+
+-- the cursor at home, with what belongs to it, as it is saved at the start
+abbrev pub start_saved : Saved
+start_saved = record { x = 0; y = 0; attr = start_attr; g0 = 0; g1 = 1; shift = 0 }
+
+-- the start state of so many rows: the cursor at home, the region whole, G0 is table 0 and in use,
+-- G1 is table 1, text is UTF-8, and of the modes autowrap, repeat and the visible cursor are on
+abbrev pub start_state : ℕ → ScreenState
+start_state rows = record {
+  x = 0;
+  y = 0;
+  wrap = false;
+  top = 0;
+  bottom = rows - 1;
+  pen = start_pen;
+  g0 = 0;
+  g1 = 1;
+  shift = 0;
+  utf8 = true;
+  stops = start_stops;
+  insert = false;
+  newline = false;
+  cursor = false;
+  reverse = false;
+  origin = false;
+  autowrap = true;
+  repeat = true;
+  visible = true;
+  keypad = false;
+  saved = start_saved;
+  palette = start_palette;
+  map = start_user;
+}
+
+-- what a place of the start screen holds
+abbrev pub start_blank : Cell
+start_blank = record { code = 0x20; attr = 0x07 }
+
+-- the start screen: all blank, in the start state
+abbrev pub start_screen : ℕ → ℕ → Screen
+start_screen rows cols = record { sheet = filled rows cols start_blank; state = start_state rows }

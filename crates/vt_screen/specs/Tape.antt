@@ -1,7 +1,7 @@
 -- What a screen is made of in all its life: bytes, and marks between them.
 use Rattle.std.specs.Prelude.{◌≡◌, ℕ, ◌++◌, List, [], ◌∷◌, map}
 use Rattle.vt_screen.specs.Run.{Told, drawing, having_said, ran}
-use Rattle.vt_screen.specs.Screen.{Screen}
+use Rattle.vt_screen.specs.Screen.{Screen, with_state}
 use Rattle.vt_units.specs.Run.{Reached, reached, step}
 
 -- a change of the screen by a call: the user's table is set
@@ -15,7 +15,7 @@ pub data Taped : Type 0 where
 
 -- the screen that a mark makes
 abbrev pub marked : Mark → Screen → Screen
-marked (user_map words) s = record s { user = words }
+marked (user_map words) s = with_state s (record s.state { map = words })
 
 -- a mark acts on the screen, and leaves the rest of the text
 abbrev pub with_mark : Mark → Reached Screen → Reached Screen

@@ -2,7 +2,7 @@
 ghost use Rattle.std.specs.Prelude.{◌≡◌};
 ghost use Rattle.vt_grid.specs.Grid.{filled};
 ghost use Rattle.vt_screen.specs.Effect.{effect};
-ghost use Rattle.vt_screen.specs.Screen.{IsWhole, blank, mode_of, start_screen, state_of};
+ghost use Rattle.vt_screen.specs.Screen.{IsWhole, blank_of, mode_of, start_blank, start_screen, with_state};
 
 mod controls;
 mod escapes;
@@ -11,7 +11,7 @@ mod print;
 
 use crate::{BLANK, Out, ScreenState};
 use std::marker::Model;
-use vt_chars::CharMap;
+use vt_cells::Cell;
 use vt_grid::Grid;
 use vt_units::{Mode, Unit};
 
@@ -20,38 +20,37 @@ use vt_units::{Mode, Unit};
 pub struct Canvas {
     grid: Grid,
     state: ScreenState,
+    // The attribute byte of what the pen prints.
+    attr: u8,
+    // That of what is erased.
+    erase: u8,
 }
 
 impl Model for Canvas {
-    ghost use Rattle.vt_screen.specs.Screen.{IsWhole, Screen, screen_of};
+    ghost use Rattle.vt_screen.specs.Kept.{IsKept};
+    ghost use Rattle.vt_screen.specs.Screen.{Screen};
 
     ghost Value = { Screen };
 
-    ghost view = { λ c. screen_of c.grid c.state };
+    ghost view = { λ c. record { sheet = c.grid; state = c.state } };
 
-    ghost invariant = { λ c. IsWhole (screen_of c.grid c.state) };
+    ghost invariant = { λ c. IsKept (record { sheet = c.grid; state = c.state }) c.attr c.erase };
 }
 
 impl Canvas {
     /// The start screen of this grid's size, whatever the grid has.
+    #[tactic(auto, unfolding(crate::specs::Screen::printed_byte, crate::specs::Screen::erased_byte))]
     pub fn new(grid: Grid) -> Canvas
         ensures { result ≡ start_screen grid.rows grid.cols }
     {
         let grid = cleared(grid);
-        let state = ScreenState {
-            x: 0,
-            y: 0,
-            wrap: false,
-            g0: 0,
-            g1: 1,
-            shift: 0,
-            alt: false,
-            display: false,
-            toggle: false,
-            utf8: true,
-            map: CharMap::start(),
-        };
-        Canvas { grid, state }
+        let state = ScreenState::start(grid.size().rows);
+        Canvas {
+            grid,
+            state,
+            attr: BLANK.attr,
+            erase: BLANK.attr,
+        }
     }
 
     /// The cells.
@@ -64,7 +63,7 @@ impl Canvas {
 
     /// The state beside the cells.
     pub fn state(&self) -> &ScreenState
-        ensures state { result.now ≡ state_of self.now }
+        ensures state { result.now ≡ self.now.state }
         ensures whole { IsWhole self.now }
     {
         &self.state
@@ -76,13 +75,13 @@ impl Canvas {
     {
         Mode {
             utf8: self.state.utf8,
-            display: self.state.display,
+            display: self.state.pen.display,
         }
     }
 
     /// Gives each byte the user's character.
     pub fn set_user(&mut self, words: &[u16; 256])
-        ensures { self.new ≡ record self.old { user = words.now } }
+        ensures { self.new ≡ with_state self.old (record self.old.state { map = words.now }) }
     {
         self.state.map.set_user(words);
     }
@@ -100,11 +99,21 @@ impl Canvas {
         }
         None
     }
+
+    // What an empty place holds.
+    fn blank(&self) -> Cell
+        ensures { result ≡ blank_of self.now }
+    {
+        Cell {
+            code: 0x20,
+            attr: self.erase,
+        }
+    }
 }
 
 // The grid with blanks alone.
 fn cleared(grid: Grid) -> Grid
-    ensures { result ≡ filled grid.rows grid.cols blank }
+    ensures { result ≡ filled grid.rows grid.cols start_blank }
 {
     let mut grid = grid;
     let size = grid.size();

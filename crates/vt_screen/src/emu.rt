@@ -1,6 +1,6 @@
 ghost use Rattle.std.specs.Prelude.{◌≡◌, ◌<◌, ◌≤◌, ◌+◌, [], List, length, take};
 ghost use Rattle.vt_screen.specs.Run.{after, drawing, having_said, said, start};
-ghost use Rattle.vt_screen.specs.Screen.{IsWhole, state_of};
+ghost use Rattle.vt_screen.specs.Screen.{IsWhole};
 ghost use Rattle.vt_screen.specs.Tape.{user_map, with_mark};
 ghost use Rattle.vt_screen.specs.declared.out.Out.{Out};
 ghost use Rattle.vt_units.specs.Run.{run, step};
@@ -8,7 +8,8 @@ ghost use Rattle.vt_units.specs.Run.{run, step};
 use crate::canvas::Canvas;
 use crate::{Outs, ScreenState};
 use std::marker::Model;
-use vt_grid::{Cell, Grid};
+use vt_cells::Cell;
+use vt_grid::Grid;
 use vt_units::{Codes, MOST_CODES, Pending, Then, controls_are_units, printables_are_characters};
 
 /// What an empty place holds: a space, white on black. This project's own.
@@ -92,7 +93,7 @@ impl Emu {
 
     /// The state of the screen beside its cells.
     pub fn state(&self) -> &ScreenState
-        ensures state { result.now ≡ state_of self.now.state }
+        ensures state { result.now ≡ self.now.state.state }
         ensures whole { IsWhole self.now.state }
     {
         self.canvas.state()

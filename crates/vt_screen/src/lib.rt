@@ -7,7 +7,9 @@ mod laws;
 mod out;
 mod outs;
 mod report_text;
+mod saved;
 mod screen_state;
+mod stops;
 #[cfg(test)]
 mod tests;
 mod write;
@@ -17,4 +19,6 @@ pub use laws::{any_cut, pieces_draw, tapes_run};
 pub use out::Out;
 pub use outs::Outs;
 pub use report_text::ReportText;
+pub use saved::Saved;
 pub use screen_state::ScreenState;
+pub use stops::Stops;

@@ -4,7 +4,8 @@ use crate::{Emu, Out, Outs};
 use std::alloc::Global;
 use std::test::Fail;
 use vt_base::{NoMemory, Size};
-use vt_grid::{Cell, Grid};
+use vt_cells::Cell;
+use vt_grid::Grid;
 
 const SIZE: Size = Size { rows: 3, cols: 10 };
 
@@ -141,7 +142,7 @@ fn a_text_leaves_a_state(rt: HostRuntime) -> Result<(), Fail> {
         assert_eq!(rt; (state.x, state.y), (x, y), "{}", text.len());
         assert_eq!(rt; state.wrap, wrap, "{}", text.len());
         assert_eq!(rt;
-            (state.shift, state.display),
+            (state.shift, state.pen.display),
             (shift, display),
             "{}",
             text.len()
@@ -154,6 +155,6 @@ fn a_text_leaves_a_state(rt: HostRuntime) -> Result<(), Fail> {
     emu.write(b"ab");
     assert!(rt; has_row(emu.grid(), 0, "\u{2604}\u{2604}"));
     assert_eq!(rt; (emu.state().g0, emu.state().g1), (3, 1));
-    assert!(rt; !emu.state().utf8 && !emu.state().alt && !emu.state().toggle);
+    assert!(rt; !emu.state().utf8 && !emu.state().pen.alt && !emu.state().pen.toggle);
     Ok(())
 }

@@ -1,6 +1,6 @@
 -- The consoles that a call text begins with.
 use Rattle.std.proofs.Common.{◌≡◌, ℕ, zero, suc, ◌+◌, ◌-◌, ◌*◌, ◌%◌, ◌^◌, ◌≤◌, arith, refl}
-use Rattle.vt_world.specs.Start.{IsFitSet}
+use Rattle.vt_base.specs.ConsoleSet.{IsFitSet}
 
 -- the set of the consoles 1 to n, as a number of 64 bits, begins with 1
 pub record IsFirst (n : ℕ) : Type 0 where

@@ -12,7 +12,7 @@ use Rattle.vt_world.specs.Terminals.{TerminalState, terminal_at}
 -- rang
 abbrev pub screen_words : ℕ → Screen → ℕ → List (List ℕ)
 screen_words n s bells =
-    codes "%screen" ∷ map decimal (n ∷ s.sheet.rows ∷ s.sheet.cols ∷ s.x ∷ s.y ∷ bells ∷ [])
+    codes "%screen" ∷ map decimal (n ∷ s.sheet.rows ∷ s.sheet.cols ∷ s.state.x ∷ s.state.y ∷ bells ∷ [])
 
 -- its queue: the number of the console, how many bytes were dropped, and those that it has. Nothing
 -- puts bytes into a queue yet

@@ -15,7 +15,7 @@ use Rattle.vt_tool.specs.declared.status.Status.TheVariants as status
 use Rattle.vt_world.specs.History.{IsLegal, replay}
 use Rattle.vt_world.specs.Start.{opening}
 use Rattle.vt_world.specs.State.{WorldState}
-use Rattle.vt_world.specs.declared.procs.proc_start.ProcStart.{ProcStart}
+use Rattle.vt_procs.specs.declared.proc_start.ProcStart.{ProcStart}
 
 -- the most entries of a journal, and the most bytes that they count for
 abbrev pub most_events : ℕ

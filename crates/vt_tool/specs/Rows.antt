@@ -1,7 +1,7 @@
 -- The text of rows, as the commands print them.
 use Rattle.std.specs.Prelude.{ℕ, Bool, ◌&&◌, ◌||◌, nat_le, List, [], ◌∷◌, ◌++◌, encode_utf8, if◌then◌else◌}
 use Rattle.std.specs.List.{flat_map}
-use Rattle.vt_grid.specs.declared.cell.Cell.{Cell}
+use Rattle.vt_cells.specs.declared.cell.Cell.{Cell}
 
 -- the code is a character's and no control's: 20 to 7E, and A0 to 10FFFF but the surrogates
 abbrev pub is_shown : ℕ → Bool

@@ -4,7 +4,8 @@ ghost use Rattle.vt_grid.specs.Grid.{row_at};
 
 use std::alloc::Global;
 use vt_base::{Bytes, NoMemory};
-use vt_grid::{Cell, Grid};
+use vt_cells::Cell;
+use vt_grid::Grid;
 use vt_journal::add;
 
 pub mod plain;

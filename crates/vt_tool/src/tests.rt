@@ -5,7 +5,8 @@ use std::alloc::Global;
 use std::process::Abort;
 use std::test::Fail;
 use vt_base::{Bytes, NoMemory, Size};
-use vt_grid::{Cell, Grid};
+use vt_cells::Cell;
+use vt_grid::Grid;
 use vt_io::{MemSink, MemSource};
 
 mod keys;

@@ -1,4 +1,3 @@
 mod Bells
 mod Histories
-mod Hops
 mod Places

@@ -1,19 +1,19 @@
 -- Consoles and terminals are alike, and stay so.
-use Rattle.std.proofs.Common.{◌≡◌, ℕ, zero, suc, ◌+◌, ◌<◌, Bool, true, false, true≢false, cond, arith, List, [], ◌∷◌, ◌++◌, get_or, set, map, Option, Some, None, refl, sym, ap, ◌∙◌}
+use Rattle.std.proofs.Common.{◌≡◌, ℕ, zero, suc, ◌+◌, Bool, true, false, true≢false, cond, arith, List, [], ◌∷◌, ◌++◌, get_or, set, map, Option, Some, None, refl, sym, ap, ◌∙◌}
 use Rattle.std.proofs.lemmas.List.{map-set, set-get_or}
-use Rattle.std.proofs.lemmas.List.FromFn.{get_or-map-range_with_len, map-range_with_len_more}
+use Rattle.std.proofs.lemmas.List.FromFn.{map-range_with_len_more}
 use Rattle.std.proofs.Math.ListN.{get_or-map}
 use Rattle.std.proofs.Math.Seq.{map-set_same}
 use Rattle.std.specs.List.{range_with_len}
 use Rattle.std.specs.Prelude.{◌==◌, is_some, option_map, if◌then◌else◌}
-use Rattle.vt_world.specs.Display.{Display, or_fresh, is_allocated}
+use Rattle.vt_switch.specs.Display.{Display, or_fresh, is_allocated}
 use Rattle.vt_world.specs.Rows.{allocating}
-use Rattle.vt_world.specs.Start.{at_each, is_among}
+use Rattle.vt_base.specs.ConsoleSet.{at_each, is_among}
 use Rattle.vt_world.specs.State.{WorldState, HasTerminals, all_done}
-use Rattle.vt_world.specs.Switch.{after_mode, handled}
+use Rattle.vt_switch.specs.Calls.{after_mode, handled}
 use Rattle.vt_world.specs.Terminals.{TerminalState, with_start, or_new, terminal_at, written, written_on}
-use Rattle.vt_world.specs.declared.switch.console.Console.{Console}
-use Rattle.vt_world.specs.declared.switch.handling.Handling.{Handling}
+use Rattle.vt_switch.specs.declared.console.Console.{Console}
+use Rattle.vt_switch.specs.declared.handling.Handling.{Handling}
 
 -- whether a place is taken isn't changed by changing what it has
 kept : {A : Type 0} (f : A → A) (o : Option A) → is_some (option_map f o) ≡ is_some o
@@ -94,15 +94,6 @@ allocating_same w n alike taken =
       display = record w.display { consoles = sym same_consoles i };
       terminals = sym same_terminals i;
     }
-
--- a console of the set is at its place
-pub among_taken : {A : Type 0} (consoles n : ℕ) (a : A) → n < 64 → is_among consoles n ≡ true
-    → is_some (get_or (at_each consoles a) n None) ≡ true
-among_taken consoles n a within among =
-    ap is_some
-    (get_or-map-range_with_len (λ k. if is_among consoles k then Some a else None) 0 64 n n None
-    within (omega arith))
-    ∙ ap (λ b. is_some (if b then Some a else None)) among
 
 taken_if : {A : Type 0} (b : Bool) (a : A) → is_some (if b then Some a else None) ≡ b
 taken_if true a = refl

@@ -1,11 +1,7 @@
-pub mod Acts
-pub mod Callers
-pub mod Display
 pub mod History
 pub mod Rows
 pub mod Spare
 pub mod Start
 pub mod State
 pub mod Step
-pub mod Switch
 pub mod Terminals

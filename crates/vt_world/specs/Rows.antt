@@ -8,10 +8,10 @@ use Rattle.vt_events.specs.declared.event.Event.{Event}
 use Rattle.vt_events.specs.declared.event.Event.TheVariants as event
 use Rattle.vt_events.specs.declared.reply.Reply.{Reply}
 use Rattle.vt_events.specs.declared.reply.Reply.TheVariants as reply
-use Rattle.vt_world.specs.Acts.{Allocate, Request, Release, SetMode}
-use Rattle.vt_world.specs.Callers.{console_of, free_fd, caller_at}
+use Rattle.vt_switch.specs.Acts.{Allocate, Request, Release, SetMode}
+use Rattle.vt_procs.specs.Callers.{console_of, free_fd, caller_at}
 use Rattle.vt_world.specs.State.{WorldState, Deed, By, Own, Starts, Opens, Writes}
-use Rattle.vt_world.specs.Switch.{handling_of, released}
+use Rattle.vt_switch.specs.Calls.{handling_of, released}
 
 -- a test that refuses with an error where it fails
 pub record Test : Type 0 where

@@ -1,10 +1,10 @@
 -- The console as a whole, and what an event can do to it.
 use Rattle.std.specs.Prelude.{◌≡◌, ℕ, List, [], ◌∷◌, Option, is_some, map}
-use Rattle.vt_world.specs.Acts.{SwitchAct, after}
-use Rattle.vt_world.specs.Display.{Display}
-use Rattle.vt_world.specs.Callers.{opened}
+use Rattle.vt_switch.specs.Acts.{SwitchAct, after}
+use Rattle.vt_switch.specs.Display.{Display}
+use Rattle.vt_procs.specs.Callers.{opened}
 use Rattle.vt_world.specs.Terminals.{TerminalState, with_start, written}
-use Rattle.vt_world.specs.declared.procs.process.Process.{Process}
+use Rattle.vt_procs.specs.declared.process.Process.{Process}
 
 -- the rows and columns of every new screen, the display with its consoles, the callers, and the
 -- terminal of each console

@@ -7,7 +7,7 @@ use Rattle.vt_events.specs.Plain.{plain_reply}
 use Rattle.vt_events.specs.declared.event.Event.{Event}
 use Rattle.vt_events.specs.declared.reply.Reply.{Reply}
 use Rattle.vt_events.specs.declared.reply.Reply.TheVariants as reply
-use Rattle.vt_world.specs.Callers.{caller_at}
+use Rattle.vt_procs.specs.Callers.{caller_at}
 use Rattle.vt_world.specs.Rows.{Row, Test, own_tests, row, test}
 use Rattle.vt_world.specs.State.{WorldState, all_done}
 

@@ -1,12 +1,11 @@
 ghost use Rattle.std.specs.Prelude.{◌≡◌, Some, None, IfOk, is_some, option_copied, if◌then◌else◌};
-ghost use Rattle.vt_world.specs.Start.{at_each};
+ghost use Rattle.vt_base.specs.ConsoleSet.{at_each};
 ghost use Rattle.vt_world.specs.Terminals.{new_terminal, terminal_at, with_start, written};
 
-use crate::console_set::is_among;
 use crate::terminal::Terminal;
 use std::alloc::Global;
 use std::marker::Model;
-use vt_base::{ConsoleNo, NoMemory, Size};
+use vt_base::{ConsoleNo, NoMemory, Size, is_among};
 use vt_grid::Grid;
 use vt_screen::BLANK;
 

@@ -1,9 +1,10 @@
 //! Calls of a world. Expected answers were reckoned by hand from the table of events.
-use crate::{Config, ProcList, ProcStart, Spare, World, spare_for};
+use crate::{Spare, World, spare_for};
 use std::alloc::Global;
 use std::test::Fail;
 use vt_base::{Bytes, CallerNo, ConsoleNo, NoMemory, Size};
 use vt_events::{Event, Reply};
+use vt_procs::{Config, ProcList, ProcStart};
 
 const SIZE: Size = Size { rows: 1, cols: 3 };
 

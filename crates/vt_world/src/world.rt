@@ -1,16 +1,16 @@
 ghost use Rattle.std.specs.Prelude.{◌≡◌, IfOk, is_some, option_copied};
-ghost use Rattle.vt_world.specs.Display.{is_allocated};
-ghost use Rattle.vt_world.specs.Start.{IsFitSet, opening};
+ghost use Rattle.vt_switch.specs.Display.{is_allocated};
+ghost use Rattle.vt_base.specs.ConsoleSet.{IsFitSet};
+ghost use Rattle.vt_world.specs.Start.{opening};
 ghost use Rattle.vt_world.specs.Terminals.{bells_of, machine_of, terminal_at};
 
-use crate::config::Config;
-use crate::procs::Procs;
-use crate::switch::Switch;
 use crate::terminals::Terminals;
 use std::alloc::Global;
 use std::marker::Model;
 use vt_base::{ConsoleNo, NoMemory, Size};
+use vt_procs::{Config, Procs};
 use vt_screen::Emu;
+use vt_switch::Switch;
 
 /// All consoles with what they show, the display, and the callers.
 #[derive(Debug, Drop)]

@@ -1,12 +1,12 @@
 ghost use Rattle.std.specs.Prelude.{◌≡◌, ◌+◌, ◌-◌, ◌<◌, ◌≤◌, [], ◌∷◌, ◌++◌, length, map, replicate, take, IfOk};
 ghost use Rattle.vt_grid.specs.Line.{blank_line, cell_at, cut_at, inserted_at, reached, removed_at, written};
 
-use crate::Cell;
 use crate::code::Code;
 use crate::kept::Kept;
 use std::alloc::Global;
 use std::marker::Model;
 use vt_base::NoMemory;
+use vt_cells::Cell;
 
 /// One row: room for its cells, of which the first `len` are stored.
 #[derive(Debug, Drop)]

@@ -5,12 +5,12 @@ ghost use Rattle.vt_grid.specs.Store.{IsFit, blank_store, line_at, part_turned, 
 use super::Steps;
 use super::ring::Ring;
 use super::row::Row;
-use crate::Cell;
 use crate::code::Code;
 use std::alloc::Global;
 use std::marker::Model;
 use std::sync::ledger::Ledger;
 use vt_base::{NoMemory, Size};
+use vt_cells::Cell;
 
 /// The rows of a grid. Each stores its first cells, and one cell that stands for all further
 /// ones.

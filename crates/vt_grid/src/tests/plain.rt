@@ -1,5 +1,6 @@
-use crate::{Cell, Grid};
+use crate::Grid;
 use std::test::Fail;
+use vt_cells::Cell;
 
 pub const ROWS: u8 = 5;
 

@@ -1,7 +1,8 @@
-use crate::{Cell, Grid};
+use crate::Grid;
 use std::alloc::Global;
 use std::test::Fail;
 use vt_base::{NoMemory, Size};
+use vt_cells::Cell;
 
 #[derive(Clone, Copy)]
 enum Call {

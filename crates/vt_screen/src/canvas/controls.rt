@@ -1,11 +1,13 @@
-ghost use Rattle.std.specs.Prelude.{◌≡◌, true, false};
+ghost use Rattle.std.specs.Prelude.{◌≡◌, ◌≤◌};
 ghost use Rattle.vt_screen.specs.Effect.{control, invoking};
 
 use super::Canvas;
 use crate::Out;
+use vt_sgr::Pen;
 
 impl Canvas {
     /// What a control character does. The answer is what it says beside the screen.
+    #[tactic(auto, unfolding(crate::specs::Effect::control))]
     pub fn control(&mut self, code: u8) -> Option<Out>
         ensures { control code self.old ≡ record { screen = self.new; said = result } }
     {
@@ -13,30 +15,26 @@ impl Canvas {
             0x07 => return Some(Out::Bell),
             0x08 => self.backspace(),
             0x09 => self.tab(),
-            0x0A..=0x0C => self.linefeed(),
+            0x0A..=0x0C => self.newline(),
             0x0D => self.carriage_return(),
-            0x0E => self.shift_out(),
-            0x0F => self.shift_in(),
+            0x0E => self.invoke(1, true),
+            0x0F => self.invoke(0, false),
             _ => {}
         }
         None
     }
 
-    fn shift_out(&mut self)
-        ensures { self.new ≡ invoking 1 true self.old }
+    // SO and SI: whether G1 is in use, and control characters are shown.
+    fn invoke(&mut self, shift: u8, display: bool)
+        requires { shift ≤ 1 }
+        ensures { self.new ≡ invoking shift display self.old }
     {
-        self.state.shift = 1;
-        self.state.display = true;
-        self.state.alt = false;
-        self.state.toggle = false;
-    }
-
-    fn shift_in(&mut self)
-        ensures { self.new ≡ invoking 0 false self.old }
-    {
-        self.state.shift = 0;
-        self.state.display = false;
-        self.state.alt = false;
-        self.state.toggle = false;
+        self.state.shift = shift;
+        self.state.pen = Pen {
+            alt: false,
+            display,
+            toggle: false,
+            ..self.state.pen
+        };
     }
 }

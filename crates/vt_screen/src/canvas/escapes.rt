@@ -5,6 +5,7 @@ use super::Canvas;
 
 impl Canvas {
     /// What an escape sequence does.
+    #[tactic(auto, unfolding(crate::specs::Effect::escape))]
     pub(super) fn escape(&mut self, mid: u8, last: u8)
         ensures { self.new ≡ escape mid last self.old }
     {

@@ -1,12 +1,13 @@
 ghost use Rattle.std.specs.Prelude.{◌≡◌, ◌≤◌, ◌+◌, ◌-◌, ◌^◌, IfOk, replicate};
 ghost use Rattle.vt_tool.specs.Calls.{IsFitHeading};
 ghost use Rattle.vt_tool.specs.Play.{opening_of, privileged};
-ghost use Rattle.vt_world.specs.Start.{IsFitSet};
+ghost use Rattle.vt_base.specs.ConsoleSet.{IsFitSet};
 
 use crate::calls::heading::Heading;
 use std::alloc::Global;
 use vt_base::{ConsoleNo, NoMemory, Size};
-use vt_world::{Config, ProcList, ProcStart, World};
+use vt_procs::{Config, ProcList, ProcStart};
+use vt_world::World;
 
 /// The process that a call text begins with, as often as it says.
 const PRIVILEGED: ProcStart = ProcStart {

@@ -5,7 +5,8 @@ ghost use Rattle.vt_tool.specs.Rows.{cell_text, rows_text};
 use super::is_shown;
 use std::alloc::Global;
 use vt_base::NoMemory;
-use vt_grid::{Cell, Grid};
+use vt_cells::Cell;
+use vt_grid::Grid;
 
 /// The rows as text, character by character. For tests: [`crate::text_rows`] gives the same.
 pub fn plain_text(alloc: Global, g: &Grid) -> Result<String, NoMemory>

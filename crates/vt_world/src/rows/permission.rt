@@ -1,7 +1,7 @@
 //! Who may handle a console, and how one gets allocated.
 ghost use Rattle.std.specs.Prelude.{◌≡◌, ◌==◌, ◌||◌, [], false, IfSome, IsTrue, Some, None, nat_lt, if◌then◌else◌};
-ghost use Rattle.vt_world.specs.Display.{is_allocated};
-ghost use Rattle.vt_world.specs.Callers.{caller_at};
+ghost use Rattle.vt_switch.specs.Display.{is_allocated};
+ghost use Rattle.vt_procs.specs.Callers.{caller_at};
 ghost use Rattle.vt_world.specs.Rows.{allocating, named};
 ghost use Rattle.vt_world.specs.Spare.{HasSize, is_console};
 ghost use Rattle.vt_world.specs.State.{all_done};

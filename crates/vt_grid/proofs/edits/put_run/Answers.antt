@@ -2,7 +2,7 @@ use Rattle.std.proofs.Common.{◌≡◌, List, map, length, ap, ◌∙◌, arith
 use Rattle.std.proofs.lemmas.List.{length-map}
 use Rattle.vt_grid.proofs.Edited.{shown-put_run}
 use Rattle.vt_grid.specs.Store.{sheet_shown}
-use Rattle.vt_grid.specs.declared.cell.Cell.{Cell}
+use Rattle.vt_cells.specs.declared.cell.Cell.{Cell}
 use Rattle.vt_grid.proofs.edits.put_run.Goals as goal
 
 pub returns : goal.returns

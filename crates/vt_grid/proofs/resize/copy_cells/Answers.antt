@@ -3,7 +3,7 @@ use Rattle.std.proofs.lemmas.Bool.{cases_lt}
 use Rattle.std.proofs.lemmas.List.{get_or-drop, length-drop, take_all}
 use Rattle.vt_grid.proofs.Laid.{get_or-rows_laid_over, overlaid-laid_over, rows_laid_over-all, rows_laid_over-more}
 use Rattle.vt_grid.specs.Grid.{overlaid, row_at, rows_laid_over, with_run}
-use Rattle.vt_grid.specs.declared.cell.Cell.{Cell}
+use Rattle.vt_cells.specs.declared.cell.Cell.{Cell}
 use Rattle.vt_grid.proofs.resize.copy_cells.Goals as goal
 
 pub loop-y-preserved : goal.loop-y-preserved

@@ -3,7 +3,7 @@ use Rattle.std.proofs.lemmas.Bool.{cond-false}
 use Rattle.std.proofs.lemmas.Bool.Decides.{nat_tests}
 use Rattle.std.proofs.lemmas.List.{length-take-le}
 use Rattle.vt_screen.proofs.Shown.{codes-run}
-use Rattle.vt_screen.specs.Effect.{printed}
+use Rattle.vt_screen.specs.Printing.{printed}
 use Rattle.vt_screen.specs.Run.{drawing, having_said}
 use Rattle.vt_screen.specs.Screen.{Screen}
 use Rattle.vt_units.specs.Rest.{Rest, fresh}

@@ -2,7 +2,7 @@ use Rattle.std.proofs.Common.{◌≡◌, Some, None, map}
 use Rattle.std.specs.List.{range_with_len}
 use Rattle.std.specs.Prelude.{if◌then◌else◌}
 use Rattle.vt_world.specs.Terminals.{new_terminal}
-use Rattle.vt_world.specs.Start.{is_among}
+use Rattle.vt_base.specs.ConsoleSet.{is_among}
 use Rattle.vt_world.proofs.terminals.Terminals.start.Given as goal
 
 abbrev pub invariant-loop-n : goal.invariant-loop-n

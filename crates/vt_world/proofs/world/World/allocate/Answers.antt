@@ -1,7 +1,7 @@
 use Rattle.std.proofs.Common.{◌≡◌, [], ap, map, subst, sym, ◌∙◌}
 use Rattle.std.specs.Prelude.{is_some}
 use Rattle.vt_world.proofs.Places.{allocated_alike, allocating_same}
-use Rattle.vt_world.specs.Display.{Display}
+use Rattle.vt_switch.specs.Display.{Display}
 use Rattle.vt_world.specs.Rows.{allocating}
 use Rattle.vt_world.specs.State.{WorldState, all_done}
 use Rattle.vt_world.proofs.world.World.allocate.Goals as goal

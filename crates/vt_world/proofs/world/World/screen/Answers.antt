@@ -1,7 +1,7 @@
 use Rattle.std.proofs.Common.{ap, sym, ◌∙◌}
 use Rattle.std.specs.Prelude.{is_some}
 use Rattle.vt_world.proofs.Places.{taken_alike}
-use Rattle.vt_world.specs.Display.{is_allocated}
+use Rattle.vt_switch.specs.Display.{is_allocated}
 use Rattle.vt_world.specs.State.{WorldState}
 use Rattle.vt_world.proofs.world.World.screen.Goals as goal
 

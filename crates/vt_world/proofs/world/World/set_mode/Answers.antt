@@ -1,8 +1,8 @@
 use Rattle.std.proofs.Common.{ap, map, sym, ◌∙◌}
 use Rattle.std.specs.Prelude.{is_some}
 use Rattle.vt_world.proofs.Places.{mode_alike}
-use Rattle.vt_world.specs.Display.{Display}
-use Rattle.vt_world.specs.Switch.{handling_of}
+use Rattle.vt_switch.specs.Display.{Display}
+use Rattle.vt_switch.specs.Calls.{handling_of}
 use Rattle.vt_world.proofs.world.World.set_mode.Goals as goal
 
 pub invariant_of-self : goal.invariant_of-self

@@ -2,7 +2,7 @@ use Rattle.std.proofs.Common.{List, Option, ap, map, sym, ◌∙◌}
 use Rattle.std.specs.Prelude.{is_some}
 use Rattle.vt_world.specs.Terminals.{TerminalState, new_terminal}
 use Rattle.vt_world.proofs.Places.{each_alike}
-use Rattle.vt_world.specs.Display.{Display, fresh}
+use Rattle.vt_switch.specs.Display.{Display, fresh}
 use Rattle.vt_world.proofs.world.World.start.Goals as goal
 
 pub invariant_of-result : goal.invariant_of-result

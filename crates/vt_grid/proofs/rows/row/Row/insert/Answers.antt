@@ -1,7 +1,7 @@
 use Rattle.std.proofs.Common.{◌≡◌, ◌+◌, ◌-◌, ◌++◌, min, List, length, replicate, take, drop, ap, ◌∙◌, arith}
 use Rattle.std.proofs.lemmas.List.{with_items_is}
 use Rattle.vt_grid.proofs.Parts.{shelf-inserted, shelf_of}
-use Rattle.vt_grid.specs.declared.cell.Cell.{Cell}
+use Rattle.vt_cells.specs.declared.cell.Cell.{Cell}
 use Rattle.vt_grid.specs.Ring.{Shelf}
 use borrow.Rule.Slice.PartMut.{put_mid}
 use Rattle.vt_grid.proofs.rows.row.Row.insert.Goals as goal

@@ -1,7 +1,7 @@
 use Rattle.std.proofs.Common.{◌≡◌, ◌+◌, ◌-◌, ◌≤◌, List, length, ap, ◌∙◌, sym, arith}
 use Rattle.std.proofs.lemmas.List.{length-map, with_items_is}
 use Rattle.vt_grid.proofs.Parts.{length-overlaid, put_mid-overlaid, shelf-overlaid, shelf_of, rewritten}
-use Rattle.vt_grid.specs.declared.cell.Cell.{Cell}
+use Rattle.vt_cells.specs.declared.cell.Cell.{Cell}
 use borrow.Rule.Slice.PartMut.{put_mid}
 use Rattle.vt_grid.proofs.rows.row.Row.write_run.Goals as goal
 

@@ -1,7 +1,7 @@
 use Rattle.std.proofs.Common.{List, map, ap, ◌∙◌}
 use Rattle.vt_grid.proofs.Naming.{changed-is}
 use Rattle.vt_grid.specs.Line.{reached, written}
-use Rattle.vt_grid.specs.declared.cell.Cell.{Cell}
+use Rattle.vt_cells.specs.declared.cell.Cell.{Cell}
 use Rattle.vt_grid.specs.Ring.{Shelf}
 use Rattle.vt_grid.proofs.rows.store.RowStore.put_run.Goals as goal
 use Rattle.vt_grid.proofs.rows.store.RowStore.put_run.Given.{Over}

@@ -1,0 +1,17 @@
+-- Sets of signals, as numbers: bit s - 1 stands for signal s (signal(7)).
+use Rattle.std.specs.Int.{bit_at}
+use Rattle.std.specs.Prelude.{◌≡◌, ◌≢◌, ℕ, ◌+◌, ◌-◌, ◌^◌, ◌≤◌, ◌==◌, Bool, true, if◌then◌else◌}
+
+abbrev pub has_signal : ℕ → ℕ → Bool
+has_signal set s = bit_at set (s - 1) == 1
+
+abbrev pub with_signal : ℕ → ℕ → ℕ
+with_signal set s = if has_signal set s then set else set + 2 ^ (s - 1)
+
+-- a set with a signal has it, and else what it had
+pub record IsWith (set s with : ℕ) : Type 0 where
+  pub here : has_signal with s ≡ true
+  pub others : (t : ℕ) → 1 ≤ t → t ≢ s → has_signal with t ≡ has_signal set t
+
+abbrev pub WithAddsOne : Type 0
+WithAddsOne = (set s : ℕ) → 1 ≤ s → IsWith set s (with_signal set s)

@@ -1,0 +1,88 @@
+ghost use Rattle.std.specs.Prelude.{◌≡◌, ◌^◌, ◌-◌};
+ghost use Rattle.vt_base.specs.Signals.{has_signal, with_signal};
+
+use crate::Signal;
+use bitflags::{Flag, Flags};
+use std::marker::Model;
+
+/// A set of signals, of which contracts see the number whose bit s - 1 stands for signal s.
+#[derive(Clone, Copy, Debug, PartialEq, Eq)]
+pub struct SigSet {
+    bits: u64,
+}
+
+impl Model for SigSet {
+    ghost use Rattle.std.specs.Prelude.{ℕ};
+
+    ghost Value = { ℕ };
+
+    ghost view = { λ s. s.bits };
+
+    ghost inverse = { λ n. record { bits = n } };
+}
+
+// The bits have no names of their own: they are numbered.
+impl Flags for SigSet {
+    ghost use Rattle.std.specs.Prelude.{⊤, []};
+
+    type Bits = u64;
+
+    ghost exact = { ⊤ };
+
+    ghost table = { [] };
+
+    ghost set_of = { λ s. s };
+
+    fn flags<'a>() -> &'a [Flag<SigSet>] {
+        &[]
+    }
+
+    fn bits(&self) -> u64 {
+        self.bits
+    }
+
+    fn from_bits_retain(bits: u64) -> SigSet {
+        SigSet { bits }
+    }
+}
+
+impl SigSet {
+    /// No signal.
+    pub fn empty() -> SigSet
+        ensures { result ≡ 0 }
+    {
+        SigSet { bits: 0 }
+    }
+
+    /// The set with the signal.
+    pub fn with(self, s: Signal) -> SigSet
+        ensures { result ≡ with_signal self s }
+    {
+        let mut set = self;
+        set.insert(alone(s));
+        set
+    }
+
+    /// Whether the signal is in the set.
+    pub fn has(self, s: Signal) -> bool
+        ensures { result ≡ has_signal self s }
+    {
+        self.contains(alone(s))
+    }
+
+    /// The set as a number.
+    pub fn bits(self) -> u64
+        ensures { result ≡ self }
+    {
+        self.bits
+    }
+}
+
+// The set of the signal alone.
+fn alone(s: Signal) -> SigSet
+    ensures { result ≡ 2 ^ (s - 1) }
+{
+    SigSet {
+        bits: 1 << (s.get() - 1),
+    }
+}

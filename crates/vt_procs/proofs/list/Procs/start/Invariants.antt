@@ -1,0 +1,9 @@
+use Rattle.std.proofs.Common.{◌≡◌, ◌<◌, ℕ, get_or, length}
+use Rattle.vt_procs.specs.Callers.{no_caller, starting}
+use Rattle.vt_procs.proofs.list.Procs.start.Given as goal
+
+abbrev pub invariant-loop-p : goal.invariant-loop-p
+invariant-loop-p l = record {
+  places : length l.callers ≡ 65;
+  filled : (k : ℕ) → k < l.p → get_or l.callers k no_caller ≡ starting l.list k;
+}

@@ -1,0 +1,14 @@
+use crate::ProcList;
+use vt_base::{ConsoleNo, Size};
+
+/// What a world begins with.
+#[derive(Debug, Drop)]
+pub struct Config {
+    /// The rows and columns of every screen.
+    pub size: Size,
+    /// The consoles that are allocated: bit n is console n, and bit 0 isn't set.
+    pub consoles: u64,
+    /// The console in front, which is one of them.
+    pub front: ConsoleNo,
+    pub procs: ProcList,
+}

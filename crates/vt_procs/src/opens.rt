@@ -1,0 +1,57 @@
+ghost use Rattle.std.specs.Prelude.{◌≡◌, ◌<◌, IfSome, length, slice_index_or, None};
+ghost use Rattle.vt_procs.specs.Callers.{lowest_free, with_open};
+
+use std::marker::Model;
+use vt_base::{ConsoleNo, Fd};
+
+/// How many descriptors a caller can have.
+const DESCRIPTORS: usize = 16;
+
+/// The console of each descriptor of a caller.
+#[derive(Clone, Copy, Debug)]
+pub struct Opens {
+    places: [Option<ConsoleNo>; DESCRIPTORS],
+}
+
+impl Model for Opens {
+    ghost use Rattle.std.specs.Prelude.{ℕ, List, Option};
+
+    ghost Value = { List (Option ℕ) };
+
+    ghost view = { λ o. o.places };
+
+    ghost inverse = { λ l. record { places = l } };
+}
+
+/// No descriptor is open.
+pub const NO_OPENS: Opens = Opens {
+    places: [None; DESCRIPTORS],
+};
+
+impl Opens {
+    /// The console of the descriptor, where that is open.
+    pub fn at(&self, fd: u16) -> Option<ConsoleNo>
+        ensures { result ≡ slice_index_or self.now fd None }
+    {
+        let places = self.places.as_slice();
+        let fd = usize::from(fd);
+        if fd < places.len() { places[fd] } else { None }
+    }
+
+    /// Opens the console at the lowest free descriptor, where there is one.
+    pub fn add(&mut self, c: ConsoleNo) -> Option<Fd>
+        ensures answer { result ≡ lowest_free self.old }
+        ensures state { self.new ≡ with_open self.old c (lowest_free self.old) }
+    {
+        let free = lowest_free(&self.places)?;
+        self.places[free] = Some(c);
+        Fd::new(free as u16)
+    }
+}
+
+fn lowest_free(places: &[Option<ConsoleNo>]) -> Option<usize>
+    ensures place { result ≡ lowest_free places.now }
+    ensures bound { IfSome result (λ n. n < length places.now) }
+{
+    places.iter().position(|c| !c.is_some())
+}

@@ -1,0 +1,49 @@
+-- Where the cursor goes (console_codes(4)). This project's own are the wrap flag's rules: what moves
+-- the cursor by name switches it off, and a tab leaves it.
+use Rattle.std.specs.List.{prefix_len}
+use Rattle.std.specs.Prelude.{ℕ, false, ◌+◌, ◌-◌, ◌==◌, min, not, drop, if◌then◌else◌}
+use Rattle.vt_grid.specs.Grid.{scrolled_down, scrolled_up}
+use Rattle.vt_screen.specs.Screen.{Screen, blank_of, with_state}
+
+-- the cursor in another column of its row, with no wrap pending
+abbrev pub at_column : ℕ → Screen → Screen
+at_column x s = with_state s (record s.state { x = x; wrap = false })
+
+-- the cursor in another row, with no wrap pending
+abbrev pub at_row : ℕ → Screen → Screen
+at_row y s = with_state s (record s.state { y = y; wrap = false })
+
+-- the rows of the region move up, or down, by one, and a blank one comes in; no wrap is pending
+abbrev pub region_up : Screen → Screen
+region_up s = record {
+  sheet = scrolled_up s.sheet s.state.top s.state.bottom 1 (blank_of s);
+  state = record s.state { wrap = false };
+}
+
+abbrev pub region_down : Screen → Screen
+region_down s = record {
+  sheet = scrolled_down s.sheet s.state.top s.state.bottom 1 (blank_of s);
+  state = record s.state { wrap = false };
+}
+
+-- one row down, not past the last one; in the region's last row the region scrolls
+abbrev pub linefeed : Screen → Screen
+linefeed s =
+    if s.state.y == s.state.bottom then region_up s
+    else at_row (min (s.state.y + 1) (s.sheet.rows - 1)) s
+
+-- one row up, not past the first one; in the region's first row the region scrolls
+abbrev pub reverse_linefeed : Screen → Screen
+reverse_linefeed s =
+    if s.state.y == s.state.top then region_down s
+    else at_row (s.state.y - 1) s
+
+-- what LF does: in newline mode the cursor goes to the first column too
+abbrev pub newline : Screen → Screen
+newline s = linefeed (if s.state.newline then at_column 0 s else s)
+
+-- to the next tab stop to the right, and not past the last column
+unfoldable pub tab : Screen → Screen
+tab s =
+    let passed = prefix_len not (drop (s.state.x + 1) s.state.stops) in
+    with_state s (record s.state { x = min (s.state.x + 1 + passed) (s.sheet.cols - 1) })

@@ -1,0 +1,2 @@
+mod Hops
+mod Sets

@@ -1,0 +1,50 @@
+-- The acts of the switch: every change of the display, of what is pending and of who handles the
+-- switches of a console is a list of these.
+use Rattle.std.specs.Prelude.{◌≡◌, ℕ, Option, Some, None, Result, Ok, Err}
+use Rattle.vt_base.specs.declared.vt_mode.VtMode.{VtMode}
+use Rattle.vt_base.specs.declared.inval.Inval.{Inval}
+use Rattle.vt_switch.specs.Display.{Display}
+use Rattle.vt_switch.specs.Calls.{allocate, asked, release, released, request, set_mode}
+use Rattle.vt_switch.specs.declared.asked.Asked.{Asked}
+use Rattle.vt_switch.specs.declared.asked.Asked.TheVariants.{Hopped, Signalled, Ignored}
+use Rattle.vt_switch.specs.declared.hop.Hop.{Hop}
+
+pub data SwitchAct : Type 0 where
+  Allocate : ℕ → SwitchAct
+  Request : ℕ → SwitchAct
+  Release : ℕ → ℕ → ℕ → SwitchAct
+  SetMode : ℕ → ℕ → VtMode → SwitchAct
+
+-- what an act leaves; one that is refused leaves all as it was
+abbrev pub after : Display → SwitchAct → Display
+after d (Allocate n) = allocate d n
+after d (Request n) = request d n
+after d (Release c p arg) = release d c p arg
+after d (SetMode c p m) = set_mode d c p m
+
+abbrev pub hop_of_asked : Asked → Option Hop
+hop_of_asked (Hopped hop) = Some hop
+hop_of_asked (Signalled owner signal) = None
+hop_of_asked Ignored = None
+
+abbrev pub hop_of_released : Result (Option Hop) Inval → Option Hop
+hop_of_released (Ok hop) = hop
+hop_of_released (Err refused) = None
+
+-- the hop that an act makes, with its cause
+abbrev pub hop_of : Display → SwitchAct → Option Hop
+hop_of d (Allocate n) = None
+hop_of d (Request n) = hop_of_asked (asked d n)
+hop_of d (Release c p arg) = hop_of_released (released d c p arg)
+hop_of d (SetMode c p m) = None
+
+-- from one display to the next: without a hop the console in front stays; with one the display goes
+-- from the front to the hop's target, the old front is the previous one, and nothing is pending
+abbrev pub Switches : Display → Display → Option Hop → Type 0
+Switches d e None = e.front ≡ d.front
+Switches d e (Some hop) =
+    (hop.from ≡ d.front) × (e.front ≡ hop.to) × (e.last ≡ hop.from) × (e.pending ≡ None)
+
+-- the display switches by hops alone
+abbrev pub OnlyHopsSwitch : Type 0
+OnlyHopsSwitch = (d : Display) (act : SwitchAct) → Switches d (after d act) (hop_of d act)

@@ -1,0 +1,152 @@
+-- What each call of the switch answers, and what it leaves (ioctl_console(2)). The rules of the
+-- handshake are this project's own.
+use Rattle.std.specs.Prelude.{◌≡◌, ⊤, ℕ, Bool, true, false, not, ◌==◌, ◌||◌, Option, Some, None, Result, Ok, Err, slice_set, if◌then◌else◌}
+use Rattle.vt_base.specs.ConsoleSet.{at_each}
+use Rattle.vt_base.specs.Range.{in_range}
+use Rattle.vt_base.specs.declared.inval.Inval.{Inval}
+use Rattle.vt_base.specs.declared.vt_mode.VtMode.{VtMode}
+use Rattle.vt_switch.specs.Display.{Display, MayWait, fresh, console, or_fresh, is_allocated, owner_of, place, with_console}
+use Rattle.vt_switch.specs.declared.asked.Asked.{Asked}
+use Rattle.vt_switch.specs.declared.asked.Asked.TheVariants.{Hopped, Signalled, Ignored}
+use Rattle.vt_switch.specs.declared.cause.Cause.{Cause}
+use Rattle.vt_switch.specs.declared.cause.Cause.TheVariants.{Free, Released}
+use Rattle.vt_switch.specs.declared.handling.Handling.{Handling}
+use Rattle.vt_switch.specs.declared.handling.Handling.TheVariants.{Auto, Process}
+use Rattle.vt_switch.specs.declared.hop.Hop.{Hop}
+
+abbrev pub inval : Inval
+inval = record {}
+
+-- every console is new, one is in front, and it counts as the previous one too
+abbrev pub first_display : ℕ → ℕ → Display
+first_display consoles front = record {
+  front = front;
+  last = front;
+  locked = false;
+  pending = None;
+  consoles = at_each consoles fresh;
+}
+
+-- allocate: a console that isn't allocated becomes a new one
+abbrev pub allocate : Display → ℕ → Display
+allocate d n = record d { consoles = slice_set d.consoles n (Some (or_fresh (place d n))) }
+
+-- the display switches: the previous console is the one that was in front, and nothing is pending
+abbrev pub hop_from : Display → ℕ → Cause → Hop
+hop_from d n cause = record { from = d.front; to = n; cause = cause }
+
+abbrev pub hopped : Display → Hop → Display
+hopped d hop = record d { front = hop.to; last = hop.from; pending = None }
+
+abbrev pub asked_of : Display → ℕ → Bool → Handling → Asked
+asked_of d n graphics (Process handshake) = Signalled handshake.owner handshake.relsig
+asked_of d n graphics (Auto words) = if graphics then Ignored else Hopped (hop_from d n Free)
+
+-- request: nothing where the console isn't allocated or is in front, switching is locked, or the
+-- front handles its switches itself and shows graphics. Where the front handles them itself, the
+-- display switches; where a process does, it is asked by its release signal
+abbrev pub asked : Display → ℕ → Asked
+asked d n =
+    if not (is_allocated d n) || n == d.front || d.locked then Ignored
+    else asked_of d n (console d d.front).graphics (console d d.front).handling
+
+abbrev pub after_asked : Display → ℕ → Asked → Display
+after_asked d n (Hopped hop) = hopped d hop
+after_asked d n (Signalled owner signal) = record d { pending = Some n }
+after_asked d n Ignored = d
+
+-- what a request leaves: one that waits takes the place of an earlier one
+abbrev pub request : Display → ℕ → Display
+request d n = after_asked d n (asked d n)
+
+-- where a request isn't ignored, the console that it asks for is allocated
+abbrev pub HasTarget : Display → ℕ → Asked → Type 0
+HasTarget d n (Hopped hop) = is_allocated d hop.to ≡ true
+HasTarget d n (Signalled owner signal) = MayWait d n
+HasTarget d n Ignored = ⊤
+
+-- what waits for the display, where console c has it
+abbrev pub waiting : Display → ℕ → Option ℕ
+waiting d c = if c == d.front then d.pending else None
+
+abbrev pub is_owner : ℕ → Option ℕ → Bool
+is_owner p None = false
+is_owner p (Some owner) = owner == p
+
+-- p handles the switches of console c
+abbrev pub owns : Display → ℕ → ℕ → Bool
+owns d p c = is_owner p (owner_of (console d c).handling)
+
+abbrev pub let_go : Display → ℕ → Option ℕ → Result (Option Hop) Inval
+let_go d p None = Err inval
+let_go d p (Some n) = Ok (Some (hop_from d n (Released p)))
+
+abbrev pub kept : Option ℕ → Result (Option Hop) Inval
+kept None = Err inval
+kept (Some n) = Ok None
+
+-- release of console c by p, which has to be the owner: 1 lets the pending switch away from c go
+-- on, 0 drops it, and 2 acknowledges that c got the display
+abbrev pub released : Display → ℕ → ℕ → ℕ → Result (Option Hop) Inval
+released d c p arg =
+    if not (owns d p c) then Err inval
+    else if arg == 0 then kept (waiting d c)
+    else if arg == 1 then let_go d p (waiting d c)
+    else if arg == 2 then Ok None
+    else Err inval
+
+abbrev pub after_released : Display → ℕ → Result (Option Hop) Inval → Display
+after_released d arg (Ok (Some hop)) = hopped d hop
+after_released d arg (Ok None) = if arg == 0 then record d { pending = None } else d
+after_released d arg (Err refused) = d
+
+-- what a release leaves
+abbrev pub release : Display → ℕ → ℕ → ℕ → Display
+release d c p arg = after_released d arg (released d c p arg)
+
+-- a signal of a handshake, which is any but 9
+abbrev pub signal_of : ℕ → Option ℕ
+signal_of n = if n == 9 then None else in_range 1 64 n
+
+abbrev pub process_of : ℕ → VtMode → Option ℕ → Option ℕ → Option Handling
+process_of p m (Some relsig) (Some acqsig) = Some (Process (record {
+  owner = p;
+  waitv = m.waitv;
+  relsig = relsig;
+  acqsig = acqsig;
+  frsig = m.frsig;
+}))
+process_of p m (Some relsig) None = None
+process_of p m None acqsig = None
+
+-- set mode: the handling that p asks for by these words. 0 is VT_AUTO and keeps the other words as given, 1 is
+-- VT_PROCESS with p as the owner
+abbrev pub handling_of : ℕ → VtMode → Option Handling
+handling_of p m =
+    if m.mode == 0 then
+    Some (Auto (record {
+      waitv = m.waitv;
+      relsig = m.relsig;
+      acqsig = m.acqsig;
+      frsig = m.frsig;
+    }))
+    else if m.mode == 1 then process_of p m (signal_of m.relsig) (signal_of m.acqsig)
+    else None
+
+-- it takes the place of the console's handling; a switch away from c that was pending is dropped
+abbrev pub handled : Display → ℕ → Handling → Display
+handled d c handling = with_console d c (λ console. record console { handling = handling })
+
+abbrev pub after_mode : Display → ℕ → Option Handling → Display
+after_mode d c None = d
+after_mode d c (Some handling) =
+    if c == d.front then record (handled d c handling) { pending = None } else handled d c handling
+
+-- what a set mode leaves
+abbrev pub set_mode : Display → ℕ → ℕ → VtMode → Display
+set_mode d c p m = after_mode d c (handling_of p m)
+
+-- words that no handling has are refused
+abbrev pub mode_answer : Option Handling → Result (Unit {0}) Inval
+mode_answer None = Err inval
+mode_answer (Some handling) = Ok tt

@@ -1,0 +1,26 @@
+//! Which console has the display, who handles its switches, and how the display changes hands
+//! (ioctl_console(2)).
+#![tactic(auto)]
+
+mod asked;
+mod cause;
+mod console;
+mod handling;
+mod handshake;
+mod hop;
+mod laws;
+mod mode;
+mod release;
+mod request;
+mod state;
+mod words;
+
+pub use asked::Asked;
+pub use cause::Cause;
+pub use console::Console;
+pub use handling::Handling;
+pub use handshake::Handshake;
+pub use hop::Hop;
+pub use laws::only_hops_switch;
+pub use state::Switch;
+pub use words::Words;

@@ -1,0 +1,121 @@
+ghost use Rattle.std.specs.Prelude.{◌≡◌, true, length};
+ghost use Rattle.vt_switch.specs.Display.{fresh, is_allocated};
+ghost use Rattle.vt_base.specs.ConsoleSet.{IsFitSet, at_each};
+ghost use Rattle.vt_switch.specs.Calls.{first_display};
+ghost use Rattle.vt_switch.specs.Calls.{allocate};
+
+use crate::{Console, Handling, Words};
+use std::marker::Model;
+use vt_base::{ConsoleNo, is_among};
+
+/// The places for consoles by their numbers, of which 0 stays free.
+const PLACES: usize = 64;
+
+/// What a new console has.
+const FRESH: Console = Console {
+    graphics: false,
+    handling: Handling::Auto(Words {
+        waitv: 0,
+        relsig: 0,
+        acqsig: 0,
+        frsig: 0,
+    }),
+};
+
+/// Which console has the display, which one waits for it, and who handles the switches of each.
+#[derive(Debug, Drop)]
+pub struct Switch {
+    pub(crate) front: ConsoleNo,
+    pub(crate) last: ConsoleNo,
+    pub(crate) locked: bool,
+    pub(crate) pending: Option<ConsoleNo>,
+    pub(crate) consoles: [Option<Console>; PLACES],
+}
+
+impl Model for Switch {
+    ghost use Rattle.vt_switch.specs.Display.{Display};
+
+    ghost Value = { Display };
+
+    ghost view = { λ s. record {
+      front = s.front;
+      last = s.last;
+      locked = s.locked;
+      pending = s.pending;
+      consoles = s.consoles;
+    } };
+
+    ghost use Rattle.vt_switch.specs.Display.{IsSound};
+
+    ghost invariant = { λ s. IsSound (record {
+      front = s.front;
+      last = s.last;
+      locked = s.locked;
+      pending = s.pending;
+      consoles = s.consoles;
+    }) };
+}
+
+impl Switch {
+    /// These consoles are allocated and new, and one of them is in front.
+    pub fn start(front: ConsoleNo, allocated: u64) -> Switch
+        requires { IsFitSet allocated front }
+        ensures { result ≡ first_display allocated front }
+    {
+        let _front = front.get();
+        let mut consoles = [None; PLACES];
+        fill(&mut consoles, allocated);
+        Switch {
+            front,
+            last: front,
+            locked: false,
+            pending: None,
+            consoles,
+        }
+    }
+
+    /// The console in front.
+    pub fn front(&self) -> ConsoleNo
+        ensures front { result ≡ self.now.front }
+        ensures allocated { is_allocated self.now self.now.front ≡ true }
+    {
+        self.front
+    }
+
+    /// Whether no request is taken.
+    pub fn locked(&self) -> bool
+        ensures { result ≡ self.now.locked }
+    {
+        self.locked
+    }
+
+    pub fn allocated(&self, c: ConsoleNo) -> bool
+        ensures { result ≡ is_allocated self.now c }
+    {
+        self.consoles[usize::from(c.get())].is_some()
+    }
+
+    /// A console that isn't allocated becomes a new one.
+    pub fn allocate(&mut self, c: ConsoleNo)
+        ensures { self.new ≡ allocate self.old c }
+    {
+        let n = usize::from(c.get());
+        if self.consoles[n].is_none() {
+            self.consoles[n] = Some(FRESH);
+        }
+    }
+}
+
+// A new console at the place of each that is allocated.
+fn fill(consoles: &mut [Option<Console>], allocated: u64)
+    requires { length consoles.old ≡ 64 }
+    ensures { consoles.new ≡ at_each allocated fresh }
+{
+    for n in 0..PLACES {
+        consoles[n] = if is_among(allocated, n) {
+            Some(FRESH)
+        } else {
+            None
+        };
+    }
+}

@@ -1,5 +1,0 @@
-use Rattle.vt_world.proofs.Hops.{only-hops-switch}
-use Rattle.vt_world.proofs.laws.only_hops_switch.Goals as goal
-
-pub returns : goal.returns
-returns c = only-hops-switch

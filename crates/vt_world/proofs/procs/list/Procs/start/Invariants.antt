@@ -1,9 +1,0 @@
-use Rattle.std.proofs.Common.{◌≡◌, ◌<◌, ℕ, get_or, length}
-use Rattle.vt_world.specs.Callers.{no_caller, starting}
-use Rattle.vt_world.proofs.procs.list.Procs.start.Given as goal
-
-abbrev pub invariant-loop-p : goal.invariant-loop-p
-invariant-loop-p l = record {
-  places : length l.callers ≡ 65;
-  filled : (k : ℕ) → k < l.p → get_or l.callers k no_caller ≡ starting l.list k;
-}

@@ -1,9 +1,0 @@
-use Rattle.std.proofs.Common.{◌≡◌, ◌<◌, ℕ, Some, None, get_or}
-use Rattle.std.specs.Prelude.{if◌then◌else◌}
-use Rattle.vt_world.specs.Display.{fresh}
-use Rattle.vt_world.specs.Start.{is_among}
-use Rattle.vt_world.proofs.switch.state.fill.Given as goal
-
-abbrev pub invariant-loop-n : goal.invariant-loop-n
-invariant-loop-n l = (k : ℕ) → k < l.n
-    → get_or l.consoles k None ≡ (if is_among l.allocated k then Some fresh else None)
