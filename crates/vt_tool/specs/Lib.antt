@@ -1,4 +1,6 @@
 pub mod Calls
+pub mod Checked
+pub mod Fields
 pub mod Final
 pub mod Input
 pub mod Outcome
@@ -8,5 +10,7 @@ pub mod Reading
 pub mod Rows
 pub mod Run
 pub mod Status
+pub mod Typed
+pub mod Typing
 pub mod Words
 pub mod Writing

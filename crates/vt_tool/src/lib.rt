@@ -14,10 +14,13 @@ mod reading;
 mod rows;
 mod screen;
 mod status;
+mod table;
 mod telling;
 #[cfg(test)]
 mod tests;
 mod tool;
+mod type_answer;
+mod typing;
 mod words;
 mod writing;
 
