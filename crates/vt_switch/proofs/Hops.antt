@@ -1,10 +1,11 @@
 -- The display switches by hops alone.
 use Rattle.std.proofs.Common.{◌≡◌, ℕ, Bool, true, false, cond, Option, Some, None, Result, Ok, Err, refl}
-use Rattle.std.specs.Prelude.{◌==◌, ◌||◌, not}
+use Rattle.std.specs.Prelude.{map, option_map, ◌==◌, ◌||◌, not}
 use Rattle.vt_base.specs.declared.inval.Inval.{Inval}
-use Rattle.vt_switch.specs.Acts.{Allocate, Request, Release, SetMode, Switches, OnlyHopsSwitch, hop_of_asked, hop_of_released}
+use Rattle.vt_switch.specs.Acts.{Allocate, Request, Release, SetMode, SetKd, Lock, Free, End, Switches, OnlyHopsSwitch, hop_of_asked, hop_of_released}
+use Rattle.vt_switch.specs.Deaths.{after_hop, falls_to, left_by}
 use Rattle.vt_switch.specs.Display.{Display, console, is_allocated}
-use Rattle.vt_switch.specs.Calls.{after_asked, after_mode, after_released, asked_of, handled, handling_of, inval, kept, let_go, owns, waiting}
+use Rattle.vt_switch.specs.Calls.{after_asked, freed, is_held, after_mode, after_released, asked_of, handled, handling_of, inval, kept, let_go, owns, waiting}
 use Rattle.vt_switch.specs.declared.asked.Asked.TheVariants.{Ignored}
 use Rattle.vt_switch.specs.declared.handling.Handling.{Handling}
 use Rattle.vt_switch.specs.declared.handling.Handling.TheVariants.{Auto, Process}
@@ -47,6 +48,15 @@ by_mode d c (Some handling) =
     front_stays (record (handled d c handling) { pending = None }) (handled d c handling)
     (c == d.front) refl
 
+by_end : (d : Display) (p : ℕ) (front : Bool) (waits : Option ℕ)
+    → Switches d
+    (after_hop (record d { consoles = map (option_map (left_by p)) d.consoles })
+    (cond front (falls_to d p waits) None))
+    (cond front (falls_to d p waits) None)
+by_end d p false waits = refl
+by_end d p true None = refl
+by_end d p true (Some n) = (refl, refl, refl, refl)
+
 pub only-hops-switch : OnlyHopsSwitch
 only-hops-switch d (Allocate n) = refl
 only-hops-switch d (Request n) =
@@ -55,3 +65,7 @@ only-hops-switch d (Request n) =
 only-hops-switch d (Release c p arg) =
     by_release d p arg (not (owns d p c)) (arg == 0) (arg == 1) (arg == 2) (waiting d c)
 only-hops-switch d (SetMode c p m) = by_mode d c (handling_of p m)
+only-hops-switch d (SetKd c graphics) = refl
+only-hops-switch d (Lock on) = refl
+only-hops-switch d (Free n) = front_stays d (freed d n) (is_held d n) refl
+only-hops-switch d (End p) = by_end d p (owns d p d.front) d.pending

@@ -1,2 +1,3 @@
 mod Hops
 mod Sets
+mod Sound

@@ -1,10 +1,11 @@
 -- The acts of the switch: every change of the display, of what is pending and of who handles the
 -- switches of a console is a list of these.
-use Rattle.std.specs.Prelude.{◌≡◌, ℕ, Option, Some, None, Result, Ok, Err}
+use Rattle.std.specs.Prelude.{◌≡◌, ℕ, Bool, Option, Some, None, Result, Ok, Err}
 use Rattle.vt_base.specs.declared.vt_mode.VtMode.{VtMode}
 use Rattle.vt_base.specs.declared.inval.Inval.{Inval}
 use Rattle.vt_switch.specs.Display.{Display}
-use Rattle.vt_switch.specs.Calls.{allocate, asked, release, released, request, set_mode}
+use Rattle.vt_switch.specs.Calls.{allocate, asked, free, release, released, request, set_mode, with_kd, with_lock}
+use Rattle.vt_switch.specs.Deaths.{ended, ended_hop}
 use Rattle.vt_switch.specs.declared.asked.Asked.{Asked}
 use Rattle.vt_switch.specs.declared.asked.Asked.TheVariants.{Hopped, Signalled, Ignored}
 use Rattle.vt_switch.specs.declared.hop.Hop.{Hop}
@@ -14,6 +15,10 @@ pub data SwitchAct : Type 0 where
   Request : ℕ → SwitchAct
   Release : ℕ → ℕ → ℕ → SwitchAct
   SetMode : ℕ → ℕ → VtMode → SwitchAct
+  SetKd : ℕ → Bool → SwitchAct
+  Lock : Bool → SwitchAct
+  Free : ℕ → SwitchAct
+  End : ℕ → SwitchAct
 
 -- what an act leaves; one that is refused leaves all as it was
 abbrev pub after : Display → SwitchAct → Display
@@ -21,6 +26,10 @@ after d (Allocate n) = allocate d n
 after d (Request n) = request d n
 after d (Release c p arg) = release d c p arg
 after d (SetMode c p m) = set_mode d c p m
+after d (SetKd c graphics) = with_kd d c graphics
+after d (Lock on) = with_lock d on
+after d (Free n) = free d n
+after d (End p) = ended d p
 
 abbrev pub hop_of_asked : Asked → Option Hop
 hop_of_asked (Hopped hop) = Some hop
@@ -37,6 +46,10 @@ hop_of d (Allocate n) = None
 hop_of d (Request n) = hop_of_asked (asked d n)
 hop_of d (Release c p arg) = hop_of_released (released d c p arg)
 hop_of d (SetMode c p m) = None
+hop_of d (SetKd c graphics) = None
+hop_of d (Lock on) = None
+hop_of d (Free n) = None
+hop_of d (End p) = ended_hop d p
 
 -- from one display to the next: without a hop the console in front stays; with one the display goes
 -- from the front to the hop's target, the old front is the previous one, and nothing is pending

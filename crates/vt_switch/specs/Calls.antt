@@ -1,6 +1,6 @@
 -- What each call of the switch answers, and what it leaves (ioctl_console(2)). The rules of the
 -- handshake are this project's own.
-use Rattle.std.specs.Prelude.{◌≡◌, ⊤, ℕ, Bool, true, false, not, ◌==◌, ◌||◌, Option, Some, None, Result, Ok, Err, slice_set, if◌then◌else◌}
+use Rattle.std.specs.Prelude.{◌≡◌, ⊤, ℕ, Bool, true, false, not, ◌==◌, ◌||◌, Option, Some, None, Result, Ok, Err, slice_set, is_some, if◌then◌else◌}
 use Rattle.vt_base.specs.ConsoleSet.{at_each}
 use Rattle.vt_base.specs.Range.{in_range}
 use Rattle.vt_base.specs.declared.inval.Inval.{Inval}
@@ -69,13 +69,14 @@ HasTarget d n Ignored = ⊤
 abbrev pub waiting : Display → ℕ → Option ℕ
 waiting d c = if c == d.front then d.pending else None
 
-abbrev pub is_owner : ℕ → Option ℕ → Bool
-is_owner p None = false
-is_owner p (Some owner) = owner == p
+-- the number is there, and is n
+abbrev pub names : ℕ → Option ℕ → Bool
+names n None = false
+names n (Some number) = number == n
 
 -- p handles the switches of console c
 abbrev pub owns : Display → ℕ → ℕ → Bool
-owns d p c = is_owner p (owner_of (console d c).handling)
+owns d p c = names p (owner_of (console d c).handling)
 
 abbrev pub let_go : Display → ℕ → Option ℕ → Result (Option Hop) Inval
 let_go d p None = Err inval
@@ -150,3 +151,40 @@ set_mode d c p m = after_mode d c (handling_of p m)
 abbrev pub mode_answer : Option Handling → Result (Unit {0}) Inval
 mode_answer None = Err inval
 mode_answer (Some handling) = Ok tt
+
+-- the words of a mode again
+abbrev pub words_of : Handling → VtMode
+words_of (Auto words) = record {
+  mode = 0;
+  waitv = words.waitv;
+  relsig = words.relsig;
+  acqsig = words.acqsig;
+  frsig = words.frsig;
+}
+words_of (Process handshake) = record {
+  mode = 1;
+  waitv = handshake.waitv;
+  relsig = handshake.relsig;
+  acqsig = handshake.acqsig;
+  frsig = handshake.frsig;
+}
+
+-- lock and unlock
+abbrev pub with_lock : Display → Bool → Display
+with_lock d on = record d { locked = on }
+
+-- set KD: the console shows graphics, or text
+abbrev pub with_kd : Display → ℕ → Bool → Display
+with_kd d c graphics = with_console d c (λ console. record console { graphics = graphics })
+
+-- a console that has to stay: it is in front, waits for the display, or a process handles its
+-- switches
+abbrev pub is_held : Display → ℕ → Bool
+is_held d c = c == d.front || names c d.pending || is_some (owner_of (console d c).handling)
+
+abbrev pub freed : Display → ℕ → Display
+freed d c = record d { consoles = slice_set d.consoles c None }
+
+-- free: a console that has to stay isn't freed
+abbrev pub free : Display → ℕ → Display
+free d c = if is_held d c then d else freed d c

@@ -7,4 +7,6 @@ pub enum Cause {
     Free,
     /// The process that handles them let it go.
     Released(CallerNo),
+    /// The process that handled them died.
+    Died(CallerNo),
 }

@@ -5,6 +5,7 @@
 mod asked;
 mod cause;
 mod console;
+mod deaths;
 mod handling;
 mod handshake;
 mod hop;
@@ -12,6 +13,7 @@ mod laws;
 mod mode;
 mod release;
 mod request;
+mod settings;
 mod state;
 mod words;
 

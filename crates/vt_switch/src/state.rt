@@ -1,18 +1,17 @@
-ghost use Rattle.std.specs.Prelude.{◌≡◌, true, length};
-ghost use Rattle.vt_switch.specs.Display.{fresh, is_allocated};
+ghost use Rattle.std.specs.Prelude.{◌≡◌, true, length, IfSome};
+ghost use Rattle.vt_switch.specs.Display.{MayWait, fresh, is_allocated};
 ghost use Rattle.vt_base.specs.ConsoleSet.{IsFitSet, at_each};
-ghost use Rattle.vt_switch.specs.Calls.{first_display};
-ghost use Rattle.vt_switch.specs.Calls.{allocate};
+ghost use Rattle.vt_switch.specs.Calls.{allocate, first_display};
 
 use crate::{Console, Handling, Words};
 use std::marker::Model;
 use vt_base::{ConsoleNo, is_among};
 
 /// The places for consoles by their numbers, of which 0 stays free.
-const PLACES: usize = 64;
+pub(crate) const PLACES: usize = 64;
 
 /// What a new console has.
-const FRESH: Console = Console {
+pub(crate) const FRESH: Console = Console {
     graphics: false,
     handling: Handling::Auto(Words {
         waitv: 0,
@@ -80,6 +79,21 @@ impl Switch {
         ensures allocated { is_allocated self.now self.now.front ≡ true }
     {
         self.front
+    }
+
+    /// The console that was in front before.
+    pub fn last(&self) -> ConsoleNo
+        ensures { result ≡ self.now.last }
+    {
+        self.last
+    }
+
+    /// The console that waits for the display.
+    pub fn pending(&self) -> Option<ConsoleNo>
+        ensures console { result ≡ self.now.pending }
+        ensures waits { IfSome self.now.pending (MayWait self.now) }
+    {
+        self.pending
     }
 
     /// Whether no request is taken.
