@@ -1,59 +1,122 @@
--- The callers, in a list by number: 0 is the keyboard, the others are processes.
-use Rattle.std.specs.List.{range_with_len}
-use Rattle.std.specs.Prelude.{ℕ, ◌-◌, ◌==◌, true, false, not, List, map, replicate, position, Option, Some, None, is_some, slice_get, slice_index_or, slice_set, if◌then◌else◌}
+-- The callers by number: 0 is the keyboard, the others are processes. The rules are this project's
+-- own.
+use Rattle.std.specs.List.{list_any, range_with_len}
+use Rattle.std.specs.Prelude.{◌≡◌, ℕ, ◌-◌, ◌==◌, Bool, true, false, not, List, map, replicate, position, Option, Some, None, IfSome, is_some, slice_get, slice_index_or, slice_set, if◌then◌else◌}
 use Rattle.vt_procs.specs.declared.process.Process.{Process}
 use Rattle.vt_procs.specs.declared.proc_start.ProcStart.{ProcStart}
+use Rattle.vt_procs.specs.declared.waiting.Waiting.TheVariants.{Nothing}
+
+-- all callers, from number 0 to 64, and who accepts the key signal, with the signal that it named
+pub record Callers : Type 0 where
+  pub list : List Process
+  pub accepter : Option (ℕ × ℕ)
 
 -- no descriptor is open
 abbrev pub no_opens : List (Option ℕ)
 no_opens = replicate 16 None
 
+-- a caller that has nothing open, no signal pending and no ticket
+abbrev pub plain_caller : Bool → ℕ → Bool → Process
+plain_caller live home privileged = record {
+  live = live;
+  home = home;
+  privileged = privileged;
+  opens = no_opens;
+  pending = 0;
+  waiting = Nothing;
+}
+
 -- who never lived
 abbrev pub no_caller : Process
-no_caller = record { live = false; home = 0; privileged = false; opens = no_opens }
+no_caller = plain_caller false 0 false
 
 abbrev pub keyboard : Process
-keyboard = record { live = true; home = 0; privileged = false; opens = no_opens }
-
-abbrev pub started : ProcStart → Process
-started start =
-    record { live = true; home = start.home; privileged = start.privileged; opens = no_opens }
+keyboard = plain_caller true 0 false
 
 abbrev pub caller_of : Option ProcStart → Process
 caller_of None = no_caller
-caller_of (Some start) = started start
+caller_of (Some start) = plain_caller true start.home start.privileged
 
 -- the caller of number p at the start: the keyboard, or the process at that place of the list,
 -- counted from 1
 abbrev pub starting : List ProcStart → ℕ → Process
 starting starts p = if p == 0 then keyboard else caller_of (slice_get starts (p - 1))
 
--- the callers at the start, from number 0 to 64
-abbrev pub callers_of : List ProcStart → List Process
-callers_of starts = map (starting starts) (range_with_len 0 65)
+-- the callers at the start; nobody accepts the key signal
+abbrev pub callers_of : List ProcStart → Callers
+callers_of starts = record {
+  list = map (starting starts) (range_with_len 0 65);
+  accepter = None;
+}
 
-abbrev pub caller_at : List Process → ℕ → Process
-caller_at callers p = slice_index_or callers p no_caller
+abbrev pub caller_at : Callers → ℕ → Process
+caller_at callers p = slice_index_or callers.list p no_caller
+
+abbrev pub is_live : Callers → ℕ → Bool
+is_live callers p = (caller_at callers p).live
+
+-- another caller at the place of p
+abbrev pub with_caller : Callers → ℕ → Process → Callers
+with_caller callers p caller = record callers { list = slice_set callers.list p caller }
+
+-- who accepts the key signal lives
+abbrev pub IsFit : Callers → Type 0
+IsFit callers = IfSome callers.accepter (λ accepter. is_live callers accepter.0 ≡ true)
 
 -- the console of p's descriptor fd, None where that isn't open
-abbrev pub console_of : List Process → ℕ → ℕ → Option ℕ
+abbrev pub console_of : Callers → ℕ → ℕ → Option ℕ
 console_of callers p fd = slice_index_or (caller_at callers p).opens fd None
 
 -- the lowest descriptor that isn't open
 abbrev pub lowest_free : List (Option ℕ) → Option ℕ
 lowest_free opens = position (λ c. not (is_some c)) opens
 
+abbrev pub free_fd : Callers → ℕ → Option ℕ
+free_fd callers p = lowest_free (caller_at callers p).opens
+
 abbrev pub with_open : List (Option ℕ) → ℕ → Option ℕ → List (Option ℕ)
 with_open opens c None = opens
 with_open opens c (Some fd) = slice_set opens fd (Some c)
-
-abbrev pub free_fd : List Process → ℕ → Option ℕ
-free_fd callers p = lowest_free (caller_at callers p).opens
 
 abbrev pub adds_open : Process → ℕ → Process
 adds_open process c =
     record process { opens = with_open process.opens c (lowest_free process.opens) }
 
 -- p has opened c at its lowest descriptor that wasn't open, if there was one
-abbrev pub opened : ℕ → ℕ → List Process → List Process
-opened p c callers = slice_set callers p (adds_open (caller_at callers p) c)
+abbrev pub opened : ℕ → ℕ → Callers → Callers
+opened p c callers = with_caller callers p (adds_open (caller_at callers p) c)
+
+abbrev pub loses_open : Process → ℕ → Process
+loses_open process fd = record process { opens = slice_set process.opens fd None }
+
+-- p has shut its descriptor fd
+abbrev pub shut : ℕ → ℕ → Callers → Callers
+shut p fd callers = with_caller callers p (loses_open (caller_at callers p) fd)
+
+abbrev pub is_console : ℕ → Option ℕ → Bool
+is_console c None = false
+is_console c (Some n) = n == c
+
+-- a descriptor of these is open on console c
+abbrev pub has_open : List (Option ℕ) → ℕ → Bool
+has_open opens c = list_any (is_console c) opens
+
+-- somebody has console c open
+abbrev pub is_opened : Callers → ℕ → Bool
+is_opened callers c = list_any (λ caller. has_open caller.opens c) callers.list
+
+-- who is dead has no descriptor, no ticket and no pending signal
+abbrev pub gone : Process → Process
+gone process = plain_caller false process.home process.privileged
+
+-- p accepts the key signal
+abbrev pub accepts : ℕ → Option (ℕ × ℕ) → Bool
+accepts p None = false
+accepts p (Some accepter) = accepter.0 == p
+
+-- the end of p, which accepts no key signal from then on
+abbrev pub ended : ℕ → Callers → Callers
+ended p callers = record {
+  list = slice_set callers.list p (gone (caller_at callers p));
+  accepter = if accepts p callers.accepter then None else callers.accepter;
+}

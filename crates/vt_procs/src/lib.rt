@@ -1,16 +1,27 @@
-//! The callers of the console: the keyboard and the processes, with what each of them has open.
+//! The callers of the console: the keyboard and the processes, with what each of them has open, the
+//! signals that are pending for it, and what it waits for.
 #![tactic(auto)]
 
 mod config;
-mod list;
+mod ending;
 mod opens;
 mod proc_list;
 mod proc_start;
 mod process;
+mod procs;
+#[cfg(test)]
+mod tests;
+mod ticket;
+mod tickets;
+mod waited;
+mod waiting;
 
 pub use config::Config;
-pub use list::Procs;
 pub use opens::Opens;
 pub use proc_list::ProcList;
 pub use proc_start::ProcStart;
 pub use process::Process;
+pub use procs::Procs;
+pub use ticket::Ticket;
+pub use waited::Waited;
+pub use waiting::Waiting;

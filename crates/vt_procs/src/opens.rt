@@ -1,5 +1,5 @@
-ghost use Rattle.std.specs.Prelude.{◌≡◌, ◌<◌, IfSome, length, slice_index_or, None};
-ghost use Rattle.vt_procs.specs.Callers.{lowest_free, with_open};
+ghost use Rattle.std.specs.Prelude.{◌≡◌, ◌<◌, IfSome, length, slice_index_or, slice_set, None};
+ghost use Rattle.vt_procs.specs.Callers.{has_open, is_console, lowest_free, with_open};
 
 use std::marker::Model;
 use vt_base::{ConsoleNo, Fd};
@@ -38,6 +38,20 @@ impl Opens {
         if fd < places.len() { places[fd] } else { None }
     }
 
+    /// Shuts the descriptor.
+    pub fn shut(&mut self, fd: Fd)
+        ensures { self.new ≡ slice_set self.old fd None }
+    {
+        self.places[usize::from(fd.get())] = None;
+    }
+
+    /// Whether a descriptor is open on the console.
+    pub fn has(&self, c: ConsoleNo) -> bool
+        ensures { result ≡ has_open self.now c }
+    {
+        self.places.iter().any(|place| is_console(c, place))
+    }
+
     /// Opens the console at the lowest free descriptor, where there is one.
     pub fn add(&mut self, c: ConsoleNo) -> Option<Fd>
         ensures answer { result ≡ lowest_free self.old }
@@ -54,4 +68,13 @@ fn lowest_free(places: &[Option<ConsoleNo>]) -> Option<usize>
     ensures bound { IfSome result (λ n. n < length places.now) }
 {
     places.iter().position(|c| !c.is_some())
+}
+
+fn is_console(c: ConsoleNo, place: &Option<ConsoleNo>) -> bool
+    ensures { result ≡ is_console c place.now }
+{
+    match place {
+        Some(n) => *n == c,
+        None => false,
+    }
 }

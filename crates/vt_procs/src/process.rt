@@ -1,4 +1,5 @@
-use crate::Opens;
+use crate::{Opens, Waiting};
+use vt_base::SigSet;
 
 /// What is kept of a caller.
 #[derive(Clone, Copy, Debug)]
@@ -8,4 +9,7 @@ pub struct Process {
     pub home: u8,
     pub privileged: bool,
     pub opens: Opens,
+    /// The signals that were raised to it and that it hasn't taken yet.
+    pub pending: SigSet,
+    pub waiting: Waiting,
 }

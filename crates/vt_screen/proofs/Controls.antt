@@ -2,8 +2,9 @@
 use Rattle.std.proofs.Common.{◌≡◌, ◌==◌, ◌&&◌, not, ℕ, Bool, true, false, List, ◌++◌, refl, sym, ap, ◌∙◌}
 use Rattle.std.proofs.lemmas.Bool.{and_parts}
 use Rattle.vt_screen.proofs.Printed.{empty-is}
-use Rattle.vt_screen.specs.Effect.{Done, control}
+use Rattle.vt_screen.specs.Effect.{control}
 use Rattle.vt_screen.specs.Run.{Told, drawing, having_said, listed}
+use Rattle.vt_screen.specs.Saying.{Done}
 use Rattle.vt_screen.specs.Screen.{Screen, mode_of}
 use Rattle.vt_screen.specs.declared.out.Out.{Out}
 use Rattle.vt_units.specs.Answer.{answer, rest_after}

@@ -1,8 +1,9 @@
 -- No cut of a text matters: what was said before a run stays in front of what the run says.
 use Rattle.std.proofs.Common.{◌≡◌, ℕ, Bool, true, false, List, [], ◌∷◌, ◌++◌, refl, sym, ap, ◌∙◌, append_assoc, if◌then◌else◌}
 use Rattle.std.proofs.lemmas.List.{append-nil}
-use Rattle.vt_screen.specs.Effect.{Done, control, effect}
+use Rattle.vt_screen.specs.Effect.{control, effect}
 use Rattle.vt_screen.specs.Run.{AnyCut, Told, after, drawing, having_said, listed, ran, said, told}
+use Rattle.vt_screen.specs.Saying.{Done}
 use Rattle.vt_screen.specs.Screen.{Screen, mode_of}
 use Rattle.vt_screen.specs.declared.out.Out.{Out}
 use Rattle.vt_units.proofs.Runs.{any-cut}

@@ -1,7 +1,7 @@
 -- Where the cursor goes (console_codes(4)). This project's own are the wrap flag's rules: what moves
 -- the cursor by name switches it off, and a tab leaves it.
 use Rattle.std.specs.List.{prefix_len}
-use Rattle.std.specs.Prelude.{ℕ, false, ◌+◌, ◌-◌, ◌==◌, min, not, drop, if◌then◌else◌}
+use Rattle.std.specs.Prelude.{ℕ, max, false, ◌+◌, ◌-◌, ◌==◌, min, not, drop, if◌then◌else◌}
 use Rattle.vt_grid.specs.Grid.{scrolled_down, scrolled_up}
 use Rattle.vt_screen.specs.Screen.{Screen, blank_of, with_state}
 
@@ -47,3 +47,28 @@ unfoldable pub tab : Screen → Screen
 tab s =
     let passed = prefix_len not (drop (s.state.x + 1) s.state.stops) in
     with_state s (record s.state { x = min (s.state.x + 1 + passed) (s.sheet.cols - 1) })
+
+-- the first and the last row that a move reaches: in origin mode those of the region
+abbrev pub first_row : Screen → ℕ
+first_row s = if s.state.origin then s.state.top else 0
+
+abbrev pub last_row : Screen → ℕ
+last_row s = if s.state.origin then s.state.bottom else s.sheet.rows - 1
+
+-- move: to a row and a column, or as far as a move reaches
+unfoldable pub moved : ℕ → ℕ → Screen → Screen
+moved y x s =
+    with_state s
+    (record s.state {
+      x = min x (s.sheet.cols - 1);
+      y = max (first_row s) (min y (last_row s));
+      wrap = false;
+    })
+
+-- place: in origin mode rows are counted from the region's first one
+unfoldable pub placed : ℕ → ℕ → Screen → Screen
+placed y x s = moved (first_row s + y) x s
+
+-- home
+abbrev pub homed : Screen → Screen
+homed s = placed 0 0 s

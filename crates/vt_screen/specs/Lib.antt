@@ -1,7 +1,10 @@
 pub mod Cursor
 pub mod Effect
+pub mod Erasing
 pub mod Kept
 pub mod Printing
 pub mod Run
+pub mod Saying
 pub mod Screen
+pub mod Settings
 pub mod Tape

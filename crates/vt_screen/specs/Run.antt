@@ -1,7 +1,8 @@
 -- What bytes make of a screen, and the laws of it. Bytes are cut into units (`vt_units`), and the
 -- units have their effects in order.
 use Rattle.std.specs.Prelude.{◌≡◌, ℕ, ◌++◌, List, [], ◌∷◌, Option, Some, None}
-use Rattle.vt_screen.specs.Effect.{Done, control, effect}
+use Rattle.vt_screen.specs.Effect.{control, effect}
+use Rattle.vt_screen.specs.Saying.{Done}
 use Rattle.vt_screen.specs.Screen.{Screen, mode_of, start_screen}
 use Rattle.vt_screen.specs.declared.out.Out.{Out}
 use Rattle.vt_units.specs.Pieces.{HasEffect, controls_of, text_of}

@@ -1,12 +1,36 @@
 -- What a screen is made of in all its life: bytes, and marks between them.
-use Rattle.std.specs.Prelude.{◌≡◌, ℕ, ◌++◌, List, [], ◌∷◌, map}
+use Rattle.std.specs.Prelude.{◌≡◌, ℕ, false, ◌+◌, ◌-◌, min, ◌++◌, List, [], ◌∷◌, map}
+use Rattle.vt_cells.specs.Colours.{Rgb}
+use Rattle.vt_grid.specs.Grid.{filled, resized}
 use Rattle.vt_screen.specs.Run.{Told, drawing, having_said, ran}
-use Rattle.vt_screen.specs.Screen.{Screen, with_state}
+use Rattle.vt_screen.specs.Screen.{Screen, blank_of, with_state}
 use Rattle.vt_units.specs.Run.{Reached, reached, step}
 
--- a change of the screen by a call: the user's table is set
+-- how many rows are lost at the top of a screen that is to have so many: as many as bring the
+-- cursor's row into it
+abbrev pub lost_rows : ℕ → Screen → ℕ
+lost_rows rows s = s.state.y + 1 - rows
+
+-- the screen in another size: the cells that both have stay, new ones are blank, the cursor stays at
+-- its cell where that is kept, and the region is whole
+unfoldable pub resized_to : ℕ → ℕ → Screen → Screen
+resized_to rows cols s = record {
+  sheet = resized s.sheet (filled rows cols (blank_of s)) (lost_rows rows s);
+  state = record s.state {
+    y = s.state.y - lost_rows rows s;
+    x = min s.state.x (cols - 1);
+    wrap = false;
+    top = 0;
+    bottom = rows - 1;
+  };
+}
+
+-- a change of the screen by a call: the user's table or the palette is set, or the screen gets so
+-- many rows and columns
 pub data Mark : Type 0 where
   user_map : List ℕ → Mark
+  palette : List Rgb → Mark
+  resize : ℕ → ℕ → Mark
 
 -- a tape holds bytes and marks
 pub data Taped : Type 0 where
@@ -16,6 +40,8 @@ pub data Taped : Type 0 where
 -- the screen that a mark makes
 abbrev pub marked : Mark → Screen → Screen
 marked (user_map words) s = with_state s (record s.state { map = words })
+marked (palette colours) s = with_state s (record s.state { palette = colours })
+marked (resize rows cols) s = resized_to rows cols s
 
 -- a mark acts on the screen, and leaves the rest of the text
 abbrev pub with_mark : Mark → Reached Screen → Reached Screen

@@ -2,16 +2,26 @@
 ghost use Rattle.std.specs.Prelude.{◌≡◌};
 ghost use Rattle.vt_grid.specs.Grid.{filled};
 ghost use Rattle.vt_screen.specs.Effect.{effect};
-ghost use Rattle.vt_screen.specs.Screen.{IsWhole, blank_of, mode_of, start_blank, start_screen, with_state};
+ghost use Rattle.std.specs.Borrow.{Lends, sem};
+ghost use Rattle.vt_cells.specs.contracts.palette.Palette.{the_row as palette_row};
+ghost use Rattle.vt_screen.specs.contracts.canvas.Canvas.{the_row};
+ghost use Rattle.vt_screen.specs.Tape.{marked, palette};
+ghost use Rattle.vt_screen.specs.Screen.{IsWhole, blank_of, mode_of, start_screen, with_state};
 
 mod controls;
+mod erases;
 mod escapes;
 mod moves;
 mod print;
+mod reports;
+mod resizes;
+mod saves;
+mod sequences;
+mod settings;
 
 use crate::{BLANK, Out, ScreenState};
 use std::marker::Model;
-use vt_cells::Cell;
+use vt_cells::{Cell, Palette};
 use vt_grid::Grid;
 use vt_units::{Mode, Unit};
 
@@ -43,7 +53,8 @@ impl Canvas {
     pub fn new(grid: Grid) -> Canvas
         ensures { result ≡ start_screen grid.rows grid.cols }
     {
-        let grid = cleared(grid);
+        let mut grid = grid;
+        fill(&mut grid, BLANK);
         let state = ScreenState::start(grid.size().rows);
         Canvas {
             grid,
@@ -86,6 +97,15 @@ impl Canvas {
         self.state.map.set_user(words);
     }
 
+    /// The palette.
+    pub fn palette_mut(&mut self) -> &mut Palette
+        ensures* lends { sem 𝓛
+            (Lends the_row palette_row self.entry result (λ w. marked (palette w) self.old)) }
+        ensures value { result.now ≡ self.old.state.palette }
+    {
+        &mut self.state.palette
+    }
+
     /// Does what the unit does. The answer is what it says beside the screen.
     pub fn obey(&mut self, unit: &Unit) -> Option<Out>
         ensures { effect unit.now self.old ≡ record { screen = self.new; said = result } }
@@ -94,8 +114,18 @@ impl Canvas {
             Unit::Char(code) => self.print(*code),
             Unit::Byte(b) => self.print(self.shown(*b)),
             Unit::Control(code) => return self.control(*code),
-            Unit::Esc { mid, last } => self.escape(*mid, *last),
-            Unit::Csi { .. } | Unit::Colour { .. } | Unit::ColourReset | Unit::Ignored => {}
+            Unit::Esc { mid, last } => return self.escape(*mid, *last),
+            Unit::Csi {
+                private: true,
+                params,
+                last,
+            } => self.private_sequence(params.as_slice(), *last),
+            Unit::Csi { params, last, .. } => {
+                return self.control_sequence(params.as_slice(), *last);
+            }
+            Unit::Colour { n, rgb } => self.set_colour(*n, *rgb),
+            Unit::ColourReset => self.reset_palette(),
+            Unit::Ignored => {}
         }
         None
     }
@@ -111,12 +141,10 @@ impl Canvas {
     }
 }
 
-// The grid with blanks alone.
-fn cleared(grid: Grid) -> Grid
-    ensures { result ≡ filled grid.rows grid.cols start_blank }
+// Makes every cell of the grid this one.
+fn fill(grid: &mut Grid, cell: Cell)
+    ensures { grid.new ≡ filled grid.old.rows grid.old.cols cell }
 {
-    let mut grid = grid;
     let size = grid.size();
-    grid.scroll_up(0, size.rows - 1, u16::from(size.rows), BLANK);
-    grid
+    grid.scroll_up(0, size.rows - 1, u16::from(size.rows), cell);
 }

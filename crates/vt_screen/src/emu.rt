@@ -1,14 +1,17 @@
 ghost use Rattle.std.specs.Prelude.{◌≡◌, ◌<◌, ◌≤◌, ◌+◌, [], List, length, take};
 ghost use Rattle.vt_screen.specs.Run.{after, drawing, having_said, said, start};
 ghost use Rattle.vt_screen.specs.Screen.{IsWhole};
-ghost use Rattle.vt_screen.specs.Tape.{user_map, with_mark};
+ghost use Rattle.std.specs.Borrow.{Lends, sem};
+ghost use Rattle.vt_cells.specs.contracts.palette.Palette.{the_row as palette_row};
+ghost use Rattle.vt_screen.specs.contracts.emu.Emu.{the_row};
+ghost use Rattle.vt_screen.specs.Tape.{palette, resize, user_map, with_mark};
 ghost use Rattle.vt_screen.specs.declared.out.Out.{Out};
 ghost use Rattle.vt_units.specs.Run.{run, step};
 
 use crate::canvas::Canvas;
 use crate::{Outs, ScreenState};
 use std::marker::Model;
-use vt_cells::Cell;
+use vt_cells::{Cell, Palette};
 use vt_grid::Grid;
 use vt_units::{Codes, MOST_CODES, Pending, Then, controls_are_units, printables_are_characters};
 
@@ -104,6 +107,25 @@ impl Emu {
         ensures { self.new ≡ with_mark (user_map words.now) self.old }
     {
         self.canvas.set_user(words);
+    }
+
+    /// The palette. The text that is pending stays.
+    pub fn palette_mut(&mut self) -> &mut Palette
+        ensures* lends { sem 𝓛
+            (Lends the_row palette_row self.entry result (λ w. with_mark (palette w) self.old)) }
+        ensures value { result.now ≡ self.old.state.state.palette }
+    {
+        self.canvas.palette_mut()
+    }
+
+    /// Takes the fresh grid's size: what both have stays, and what is new is blank. The cursor's row
+    /// stays on the screen, if need be at the cost of those at the top. The text that is pending
+    /// stays. The answer is the old grid.
+    pub fn resize(&mut self, fresh: Grid) -> Grid
+        ensures screen { self.new ≡ with_mark (resize fresh.rows fresh.cols) self.old }
+        ensures old { result ≡ self.old.state.sheet }
+    {
+        self.canvas.resize(fresh)
     }
 
     // Reads a byte. What it comes to has its effect.

@@ -1,6 +1,7 @@
-ghost use Rattle.std.specs.Prelude.{◌≡◌, ◌<◌, ◌≤◌, [], ◌∷◌, ◌++◌, length};
+ghost use Rattle.std.specs.Prelude.{◌≡◌, ◌<◌, ◌≤◌, ◌+◌, [], ◌∷◌, ◌++◌, decimal, length};
 
 use arrayvec::ArrayVec;
+use itoa::Buffer;
 use std::marker::Model;
 
 /// The bytes of a report, of which there are at most 16.
@@ -33,6 +34,26 @@ impl ReportText {
         ensures { self.new ≡ self.old ++ b ∷ [] }
     {
         self.bytes.push(b);
+    }
+
+    /// Adds bytes at the end.
+    pub(crate) fn push_all(&mut self, bytes: &[u8])
+        requires { length self.old + length bytes.now ≤ 16 }
+        ensures { self.new ≡ self.old ++ bytes.now }
+    {
+        for b in bytes {
+            self.push(*b);
+        }
+    }
+
+    /// Adds a number in decimal digits, of which there are at most three.
+    pub(crate) fn push_decimal(&mut self, n: u8)
+        requires { length self.old ≤ 13 }
+        ensures text { self.new ≡ self.old ++ decimal n }
+        ensures short { length self.new ≤ length self.old + 3 }
+    {
+        let mut buffer = Buffer::new();
+        self.push_all(buffer.format(n).as_bytes());
     }
 
     /// The bytes in order.

@@ -2,6 +2,7 @@ ghost use Rattle.std.specs.Prelude.{◌≡◌, ◌<◌};
 ghost use Rattle.vt_screen.specs.Screen.{start_attr, start_pen, start_saved, start_state, start_user};
 
 use crate::{Saved, Stops};
+use std::mem;
 use vt_cells::{Attr, Intensity, Look, Palette};
 use vt_chars::CharMap;
 use vt_sgr::Pen;
@@ -85,6 +86,24 @@ impl ScreenState {
             palette: Palette::start(),
             map: start_map(),
         }
+    }
+
+    /// Becomes the state of a new screen of so many rows, but for the pen, the palette and the
+    /// user's table.
+    pub(crate) fn restart(&mut self, rows: u8)
+        requires { 0 < rows }
+        ensures { self.new
+            ≡ record (start_state rows) {
+              pen = self.old.pen;
+              palette = self.old.palette;
+              map = self.old.map;
+            } }
+    {
+        let mut fresh = ScreenState::start(rows);
+        fresh.pen = self.pen;
+        mem::swap(&mut fresh.palette, &mut self.palette);
+        mem::swap(&mut fresh.map, &mut self.map);
+        *self = fresh;
     }
 }
 

@@ -1,5 +1,10 @@
 //! Rows of the effect table. The expected rows are those of console_codes(4) and of this project's
 //! own rules, reckoned by hand.
+mod cells;
+mod cursor;
+mod sayings;
+mod sizes;
+
 use crate::{Emu, Out, Outs};
 use std::alloc::Global;
 use std::test::Fail;
@@ -30,6 +35,12 @@ fn has_row(grid: &Grid, y: u8, text: &str) -> bool {
         }
     }
     characters.next().is_none()
+}
+
+// The attribute bytes of the first cell and of the last one of its row.
+fn attributes(grid: &Grid) -> (u8, u8) {
+    let size = grid.size();
+    (grid.at(0, 0).attr, grid.at(0, size.cols - 1).attr)
 }
 
 // How the parts of a text are fed: as they are, or plainly, byte by byte.
@@ -107,7 +118,7 @@ fn no_cut_matters(rt: HostRuntime) -> Result<(), Fail> {
             0,
         ),
         (b"\x1B)B\x0Eq\x1B)U\x01\x0Fq", ["q\u{F001}q", "", ""], 0),
-        (b"\x1B[31mx\x1B]Ry\x1B]P0123456z", ["xyz", "", ""], 0),
+        (b"\x1B[3Cx\x1B]Ry\x1B]P0123456z", ["   xyz", "", ""], 0),
     ];
     for (text, rows, bells) in cases {
         for cut in 0..text.len() {

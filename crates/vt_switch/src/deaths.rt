@@ -62,7 +62,11 @@ fn left_by(place: &Option<Console>, p: CallerNo) -> Option<Console>
     ensures { result ≡ option_map (left_by p) place.now }
 {
     let console = place.as_ref()?;
-    Some(if is_owner(&console.handling, p) { FRESH } else { *console })
+    Some(if is_owner(&console.handling, p) {
+        FRESH
+    } else {
+        *console
+    })
 }
 
 fn is_owner(handling: &Handling, p: CallerNo) -> bool

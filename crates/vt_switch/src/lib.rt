@@ -15,6 +15,8 @@ mod release;
 mod request;
 mod settings;
 mod state;
+#[cfg(test)]
+mod tests;
 mod words;
 
 pub use asked::Asked;

@@ -2,9 +2,8 @@
 use Rattle.std.specs.Prelude.{◌≡◌, ℕ, List, [], ◌∷◌, Option, is_some, map}
 use Rattle.vt_switch.specs.Acts.{SwitchAct, after}
 use Rattle.vt_switch.specs.Display.{Display}
-use Rattle.vt_procs.specs.Callers.{opened}
+use Rattle.vt_procs.specs.Callers.{Callers, opened}
 use Rattle.vt_world.specs.Terminals.{TerminalState, with_start, written}
-use Rattle.vt_procs.specs.declared.process.Process.{Process}
 
 -- the rows and columns of every new screen, the display with its consoles, the callers, and the
 -- terminal of each console
@@ -12,7 +11,7 @@ pub record WorldState : Type 0 where
   pub rows : ℕ
   pub cols : ℕ
   pub display : Display
-  pub callers : List Process
+  pub callers : Callers
   pub terminals : List (Option TerminalState)
 
 -- what leaves the display alone: console n has a terminal; p opens console c; bytes are written to

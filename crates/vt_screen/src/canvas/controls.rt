@@ -1,9 +1,8 @@
-ghost use Rattle.std.specs.Prelude.{◌≡◌, ◌≤◌};
-ghost use Rattle.vt_screen.specs.Effect.{control, invoking};
+ghost use Rattle.std.specs.Prelude.{◌≡◌};
+ghost use Rattle.vt_screen.specs.Effect.{control};
 
 use super::Canvas;
 use crate::Out;
-use vt_sgr::Pen;
 
 impl Canvas {
     /// What a control character does. The answer is what it says beside the screen.
@@ -22,19 +21,5 @@ impl Canvas {
             _ => {}
         }
         None
-    }
-
-    // SO and SI: whether G1 is in use, and control characters are shown.
-    fn invoke(&mut self, shift: u8, display: bool)
-        requires { shift ≤ 1 }
-        ensures { self.new ≡ invoking shift display self.old }
-    {
-        self.state.shift = shift;
-        self.state.pen = Pen {
-            alt: false,
-            display,
-            toggle: false,
-            ..self.state.pen
-        };
     }
 }

@@ -1,59 +1,52 @@
-ghost use Rattle.std.specs.Prelude.{◌≡◌, ◌<◌, true, false};
-ghost use Rattle.vt_screen.specs.Effect.{escape, plain_escape, table_named, with_coding};
+ghost use Rattle.std.specs.Prelude.{◌≡◌, ◌==◌, if◌then◌else◌};
+ghost use Rattle.vt_screen.specs.Effect.{escape, plain_escape};
+ghost use Rattle.vt_screen.specs.Settings.{aligned};
 
 use super::Canvas;
+use crate::Out;
 
 impl Canvas {
-    /// What an escape sequence does.
+    /// What an escape sequence does. The answer is what it says beside the screen.
     #[tactic(auto, unfolding(crate::specs::Effect::escape))]
-    pub(super) fn escape(&mut self, mid: u8, last: u8)
-        ensures { self.new ≡ escape mid last self.old }
+    pub(super) fn escape(&mut self, mid: u8, last: u8) -> Option<Out>
+        ensures { escape mid last self.old ≡ record { screen = self.new; said = result } }
     {
         match mid {
-            0 => self.plain_escape(last),
+            0 => return self.plain_escape(last),
             b'%' => self.set_coding(last),
-            b'(' => self.state.g0 = table_named(last, self.state.g0),
-            b')' => self.state.g1 = table_named(last, self.state.g1),
+            b'#' => self.test(last),
+            b'(' => self.designate_g0(last),
+            b')' => self.designate_g1(last),
             _ => {}
         }
+        None
     }
 
-    fn plain_escape(&mut self, last: u8)
-        ensures { self.new ≡ plain_escape last self.old }
+    #[tactic(auto, unfolding(crate::specs::Effect::plain_escape))]
+    fn plain_escape(&mut self, last: u8) -> Option<Out>
+        ensures { plain_escape last self.old ≡ record { screen = self.new; said = result } }
     {
         match last {
+            b'c' => self.reset(),
             b'D' => self.linefeed(),
-            b'E' => {
-                self.carriage_return();
-                self.linefeed();
-            }
+            b'E' => self.next_line(),
+            b'H' => self.set_stop(),
             b'M' => self.reverse_linefeed(),
+            b'Z' => return self.device_report(0),
+            b'7' => self.save(),
+            b'8' => self.restore(),
+            b'>' => self.set_keypad(false),
+            b'=' => self.set_keypad(true),
             _ => {}
         }
+        None
     }
 
-    fn set_coding(&mut self, last: u8)
-        ensures { self.new ≡ with_coding last self.old }
+    fn test(&mut self, last: u8)
+        ensures { self.new ≡ (if last == 0x38 then aligned self.old else self.old) }
     {
-        match last {
-            b'@' => self.state.utf8 = false,
-            b'G' | b'8' => self.state.utf8 = true,
-            _ => {}
+        if last == b'8' {
+            self.align();
         }
-    }
-}
-
-// The table that the final byte designates, or the old one where it designates none.
-fn table_named(last: u8, old: u8) -> u8
-    requires { old < 4 }
-    ensures table { result ≡ table_named last old }
-    ensures known { result < 4 }
-{
-    match last {
-        b'B' => 0,
-        b'0' => 1,
-        b'U' => 2,
-        b'K' => 3,
-        _ => old,
     }
 }

@@ -1,6 +1,6 @@
 ghost use Rattle.std.specs.Prelude.{◌≡◌, ◌-◌, ◌+◌, ◌<◌, ◌≤◌, min, not, drop};
 ghost use Rattle.std.specs.List.{prefix_len};
-ghost use Rattle.vt_screen.specs.Cursor.{at_column, linefeed, newline, region_down, region_up, reverse_linefeed, tab};
+ghost use Rattle.vt_screen.specs.Cursor.{at_column, first_row, homed, last_row, linefeed, moved, newline, placed, region_down, region_up, reverse_linefeed, tab};
 
 use super::Canvas;
 use crate::Stops;
@@ -38,6 +38,14 @@ impl Canvas {
         self.linefeed();
     }
 
+    /// NEL: to the first column of the next row.
+    pub(super) fn next_line(&mut self)
+        ensures { self.new ≡ linefeed (at_column 0 self.old) }
+    {
+        self.carriage_return();
+        self.linefeed();
+    }
+
     pub(super) fn linefeed(&mut self)
         ensures { self.new ≡ linefeed self.old }
     {
@@ -58,6 +66,56 @@ impl Canvas {
         } else {
             self.state.y = self.state.y.saturating_sub(1);
             self.state.wrap = false;
+        }
+    }
+
+    /// Goes to a row and a column, as far as the screen goes, or the region in origin mode.
+    #[tactic(auto, unfolding(crate::specs::Cursor::moved))]
+    pub(super) fn move_to(&mut self, row: u32, column: u32)
+        ensures { self.new ≡ moved row column self.old }
+    {
+        let first = self.first_row();
+        let last = self.last_row();
+        let right = self.grid.size().cols - 1;
+        self.state.x = column.min(u32::from(right)) as u8;
+        self.state.y = first.max(row.min(u32::from(last)) as u8);
+        self.state.wrap = false;
+    }
+
+    /// Goes to a row and a column; in origin mode the row is counted from the region's first one.
+    #[tactic(auto, unfolding(crate::specs::Cursor::placed))]
+    pub(super) fn place(&mut self, row: u16, column: u32)
+        ensures { self.new ≡ placed row column self.old }
+    {
+        let first = self.first_row();
+        self.move_to(u32::from(first) + u32::from(row), column);
+    }
+
+    pub(super) fn home(&mut self)
+        ensures { self.new ≡ homed self.old }
+    {
+        self.place(0, 0);
+    }
+
+    // The first row that a move reaches.
+    fn first_row(&self) -> u8
+        ensures row { result ≡ first_row self.now }
+        ensures within { result < self.now.sheet.rows }
+    {
+        let _whole = self.grid.size();
+        if self.state.origin { self.state.top } else { 0 }
+    }
+
+    // The last row that a move reaches.
+    fn last_row(&self) -> u8
+        ensures row { result ≡ last_row self.now }
+        ensures within { result < self.now.sheet.rows }
+    {
+        let last = self.grid.size().rows - 1;
+        if self.state.origin {
+            self.state.bottom
+        } else {
+            last
         }
     }
 

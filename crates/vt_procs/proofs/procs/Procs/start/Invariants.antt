@@ -1,6 +1,6 @@
 use Rattle.std.proofs.Common.{◌≡◌, ◌<◌, ℕ, get_or, length}
 use Rattle.vt_procs.specs.Callers.{no_caller, starting}
-use Rattle.vt_procs.proofs.list.Procs.start.Given as goal
+use Rattle.vt_procs.proofs.procs.Procs.start.Given as goal
 
 abbrev pub invariant-loop-p : goal.invariant-loop-p
 invariant-loop-p l = record {

@@ -1,0 +1,12 @@
+use Rattle.std.proofs.Common.{◌≡◌, None, arith, map}
+use Rattle.std.proofs.lemmas.List.FromFn.{fill_by_all}
+use Rattle.std.specs.List.{range_with_len}
+use Rattle.vt_procs.specs.Callers.{no_caller, starting}
+use Rattle.vt_procs.proofs.procs.Procs.start.Goals as goal
+
+pub returns : goal.returns
+returns c =
+    let list : c.loop-p.callers ≡ map (starting c.args.list.now) (range_with_len 0 65) =
+    fill_by_all (starting c.args.list.now) c.loop-p.callers 65 no_caller c.loop-p.invariant.places
+    (λ k within. c.loop-p.invariant.filled k (omega arith)) in
+    λ i. record { list = list i; accepter = None }

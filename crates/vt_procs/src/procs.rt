@@ -1,0 +1,166 @@
+ghost use Rattle.std.specs.Prelude.{◌≡◌, true, is_some};
+ghost use Rattle.vt_procs.specs.Callers.{IsFit, accepts, caller_at, callers_of, console_of, ended, free_fd, is_live, is_opened, opened, plain_caller, shut, starting};
+ghost use Rattle.vt_procs.specs.Tickets.{accepting};
+
+use crate::opens::NO_OPENS;
+use crate::{ProcStart, Process, Waiting};
+use std::marker::Model;
+use vt_base::{CallerNo, ConsoleNo, Fd, SigSet, Signal};
+
+/// The places for callers by their numbers.
+pub(crate) const PLACES: usize = 65;
+
+/// All callers: the keyboard, which is number 0, and the processes.
+#[derive(Debug, Drop)]
+pub struct Procs {
+    pub(crate) callers: [Process; PLACES],
+    pub(crate) accepter: Option<(CallerNo, Signal)>,
+}
+
+impl Model for Procs {
+    ghost use Rattle.vt_procs.specs.Callers.{Callers};
+
+    ghost Value = { Callers };
+
+    ghost view = { λ p. record { list = p.callers; accepter = p.accepter } };
+
+    ghost use Rattle.vt_procs.specs.Callers.{IsFit};
+
+    ghost invariant = { λ p. IsFit (record { list = p.callers; accepter = p.accepter }) };
+}
+
+impl Procs {
+    /// The keyboard, and these processes.
+    pub fn start(list: &[ProcStart]) -> Procs
+        ensures { result ≡ callers_of list.now }
+    {
+        let mut callers = [plain_caller(false, 0, false); PLACES];
+        for p in 0..PLACES {
+            callers[p] = starting(list, p);
+        }
+        Procs {
+            callers,
+            accepter: None,
+        }
+    }
+
+    /// Whether `p` lives.
+    pub fn live(&self, p: CallerNo) -> bool
+        ensures { result ≡ is_live self.now p }
+    {
+        self.callers[usize::from(p.get())].live
+    }
+
+    /// The console that `p` may handle without privilege, or 0.
+    pub fn home(&self, p: CallerNo) -> u8
+        ensures { result ≡ (caller_at self.now p).home }
+    {
+        self.callers[usize::from(p.get())].home
+    }
+
+    /// Whether `p` may handle every console.
+    pub fn privileged(&self, p: CallerNo) -> bool
+        ensures { result ≡ (caller_at self.now p).privileged }
+    {
+        self.callers[usize::from(p.get())].privileged
+    }
+
+    /// The console of the descriptor, where that is open.
+    pub fn console_of(&self, p: CallerNo, fd: u16) -> Option<ConsoleNo>
+        ensures { result ≡ console_of self.now p fd }
+    {
+        let process = &self.callers[usize::from(p.get())];
+        process.opens.at(fd)
+    }
+
+    /// Opens the console at the lowest free descriptor, where there is one.
+    pub fn add_open(&mut self, p: CallerNo, c: ConsoleNo) -> Option<Fd>
+        ensures answer { result ≡ free_fd self.old p }
+        ensures state { self.new ≡ opened p c self.old }
+    {
+        let process = &mut self.callers[usize::from(p.get())];
+        process.opens.add(c)
+    }
+
+    /// Shuts the descriptor.
+    pub fn shut(&mut self, p: CallerNo, fd: Fd)
+        requires { is_some (console_of self.old p fd) ≡ true }
+        ensures { self.new ≡ shut p fd self.old }
+    {
+        let process = &mut self.callers[usize::from(p.get())];
+        process.opens.shut(fd);
+    }
+
+    /// Whether somebody has the console open. It looks at every descriptor.
+    pub fn opened(&self, c: ConsoleNo) -> bool
+        ensures { result ≡ is_opened self.now c }
+    {
+        self.callers.iter().any(|caller| caller.opens.has(c))
+    }
+
+    /// `p` is the accepter of the key signal from here on, and gets this signal.
+    pub fn accept(&mut self, p: CallerNo, s: Signal)
+        requires { is_live self.old p ≡ true }
+        ensures { self.new ≡ accepting p s self.old }
+    {
+        self.accepter = Some((p, s));
+    }
+
+    /// Who accepts the key signal, and which signal it gets.
+    pub fn accepter(&self) -> Option<(CallerNo, Signal)>
+        ensures accepter { result ≡ self.now.accepter }
+        ensures live { IsFit self.now }
+    {
+        self.accepter
+    }
+
+    /// The end of a live caller: its descriptors, its ticket and its pending signals are gone, and it
+    /// accepts no key signal.
+    pub fn end(&mut self, p: CallerNo)
+        requires { is_live self.old p ≡ true }
+        ensures { self.new ≡ ended p self.old }
+    {
+        if self.accepts(p) {
+            self.accepter = None;
+        }
+        let caller = &mut self.callers[usize::from(p.get())];
+        *caller = plain_caller(false, caller.home, caller.privileged);
+    }
+
+    // Whether `p` accepts the key signal.
+    fn accepts(&self, p: CallerNo) -> bool
+        ensures { result ≡ accepts p self.now.accepter }
+    {
+        match &self.accepter {
+            Some(accepter) => accepter.0 == p,
+            None => false,
+        }
+    }
+}
+
+// A caller that has nothing open, no signal pending and no ticket.
+fn plain_caller(live: bool, home: u8, privileged: bool) -> Process
+    ensures { result ≡ plain_caller live home privileged }
+{
+    Process {
+        live,
+        home,
+        privileged,
+        opens: NO_OPENS,
+        pending: SigSet::empty(),
+        waiting: Waiting::Nothing,
+    }
+}
+
+// The caller of number `p` at the start.
+fn starting(list: &[ProcStart], p: usize) -> Process
+    ensures { result ≡ starting list.now p }
+{
+    if p == 0 {
+        return plain_caller(true, 0, false);
+    }
+    match list.get(p - 1) {
+        Some(start) => plain_caller(true, start.home, start.privileged),
+        None => plain_caller(false, 0, false),
+    }
+}

@@ -1,0 +1,214 @@
+//! Signals, and waits for them, for the display and for input.
+ghost use Rattle.std.specs.List.{list_any};
+ghost use Rattle.std.specs.Prelude.{◌≡◌, ◌≢◌, ◌==◌, true, not, if◌then◌else◌};
+ghost use Rattle.vt_procs.specs.Callers.{caller_at, is_live};
+ghost use Rattle.vt_procs.specs.Tickets.{all_ended_by, broken, can_go, collected, ended_by, filled, is_for_display, is_for_input, is_open, left, raised, settled, shown, taken, told, waits, waits_for};
+ghost use Rattle.vt_procs.specs.declared.waited.Waited.{Waited};
+ghost use Rattle.vt_procs.specs.declared.waiting.Waiting.{Waiting};
+
+use crate::ending::Ending;
+use crate::procs::PLACES;
+use crate::{Process, Procs, Ticket, Waited, Waiting};
+use vt_base::{CallerNo, ConsoleNo, SigSet, Signal};
+
+impl Procs {
+    /// A signal is pending for `p`, and its open ticket ends. Signal 9 isn't raised: it ends its
+    /// process (signal(7)).
+    pub fn raise(&mut self, p: CallerNo, s: Signal)
+        requires live { is_live self.old p ≡ true }
+        requires raised { s ≢ 9 }
+        ensures { self.new ≡ raised p s self.old }
+    {
+        let process = &mut self.callers[usize::from(p.get())];
+        process.pending = process.pending.with(s);
+        process.waiting = broken(&process.waiting);
+    }
+
+    /// Whether a signal is pending for `p`.
+    pub fn signalled(&self, p: CallerNo) -> bool
+        ensures { result ≡ not ((caller_at self.now p).pending == 0) }
+    {
+        self.callers[usize::from(p.get())].pending.bits() != 0
+    }
+
+    /// Takes the pending signals of `p`.
+    pub fn take_signals(&mut self, p: CallerNo) -> SigSet
+        requires { is_live self.old p ≡ true }
+        ensures answer { result ≡ (caller_at self.old p).pending }
+        ensures state { self.new ≡ taken p self.old }
+    {
+        let process = &mut self.callers[usize::from(p.get())];
+        let pending = process.pending;
+        process.pending = SigSet::empty();
+        pending
+    }
+
+    /// `p` begins a wait.
+    pub fn wait(&mut self, p: CallerNo, t: Ticket)
+        requires live { is_live self.old p ≡ true }
+        requires none { told (caller_at self.old p).waiting ≡ Waited.None }
+        ensures { self.new ≡ waits p t self.old }
+    {
+        self.callers[usize::from(p.get())].waiting = Waiting::Open(t);
+    }
+
+    /// What [`Procs::collect`] would answer.
+    pub fn ticket(&self, p: CallerNo) -> Waited
+        ensures { result ≡ told (caller_at self.now p).waiting }
+    {
+        told(&self.callers[usize::from(p.get())].waiting)
+    }
+
+    /// Tells `p` of its ticket, which is gone then unless it is open.
+    pub fn collect(&mut self, p: CallerNo) -> Waited
+        requires { is_live self.old p ≡ true }
+        ensures answer { result ≡ told (caller_at self.old p).waiting }
+        ensures state { self.new ≡ collected p self.old }
+    {
+        let process = &mut self.callers[usize::from(p.get())];
+        let waited = told(&process.waiting);
+        process.waiting = left(&process.waiting);
+        waited
+    }
+
+    /// The console has the display: each open ticket that waits for that ends with success. It goes
+    /// once over the callers, as the next two do.
+    pub fn shown(&mut self, c: ConsoleNo)
+        ensures { self.new ≡ shown c self.old }
+    {
+        end_tickets(&mut self.callers, &Ending::Shown(c));
+    }
+
+    /// Bytes came to the console: each open ticket that waits for them ends with success.
+    pub fn filled(&mut self, c: ConsoleNo)
+        ensures { self.new ≡ filled c self.old }
+    {
+        end_tickets(&mut self.callers, &Ending::Filled(c));
+    }
+
+    /// The idle rule: where no live caller is without an open ticket, every open ticket ends as by a
+    /// signal.
+    pub fn settle(&mut self)
+        ensures { self.new ≡ settled self.old }
+    {
+        if !self.goes_on() {
+            end_tickets(&mut self.callers, &Ending::Idle);
+        }
+    }
+
+    // Whether some live caller is without an open ticket.
+    fn goes_on(&self) -> bool
+        ensures { result ≡ list_any can_go self.now.list }
+    {
+        self.callers.iter().any(can_go)
+    }
+}
+
+// Ends the open tickets of all callers that the reason ends.
+fn end_tickets(callers: &mut [Process; PLACES], ending: &Ending)
+    ensures { callers.new ≡ all_ended_by ending.now callers.old }
+{
+    for p in 0..PLACES {
+        callers[p].waiting = ended_by(ending, &callers[p].waiting);
+    }
+}
+
+fn ended_by(ending: &Ending, waiting: &Waiting) -> Waiting
+    ensures { result ≡ ended_by ending.now waiting.now }
+{
+    match ending {
+        Ending::Shown(c) => succeeded(waits_for_display(*c, waiting), waiting),
+        Ending::Filled(c) => succeeded(waits_for_input(*c, waiting), waiting),
+        Ending::Idle => broken(waiting),
+    }
+}
+
+fn succeeded(ends: bool, waiting: &Waiting) -> Waiting
+    ensures { result ≡ (if ends then Waiting.Done else waiting.now) }
+{
+    if ends { Waiting::Done } else { *waiting }
+}
+
+fn waits_for_display(c: ConsoleNo, waiting: &Waiting) -> bool
+    ensures { result ≡ waits_for (is_for_display c) waiting.now }
+{
+    match waiting {
+        Waiting::Open(ticket) => is_for_display(c, ticket),
+        _ => false,
+    }
+}
+
+fn waits_for_input(c: ConsoleNo, waiting: &Waiting) -> bool
+    ensures { result ≡ waits_for (is_for_input c) waiting.now }
+{
+    match waiting {
+        Waiting::Open(ticket) => is_for_input(c, ticket),
+        _ => false,
+    }
+}
+
+fn is_for_display(c: ConsoleNo, ticket: &Ticket) -> bool
+    ensures { result ≡ is_for_display c ticket.now }
+{
+    match ticket {
+        Ticket::Active(n) => *n == c,
+        Ticket::Input(_) => false,
+        Ticket::AnySignal => false,
+    }
+}
+
+fn is_for_input(c: ConsoleNo, ticket: &Ticket) -> bool
+    ensures { result ≡ is_for_input c ticket.now }
+{
+    match ticket {
+        Ticket::Active(_) => false,
+        Ticket::Input(n) => *n == c,
+        Ticket::AnySignal => false,
+    }
+}
+
+fn is_open(waiting: &Waiting) -> bool
+    ensures { result ≡ is_open waiting.now }
+{
+    match waiting {
+        Waiting::Open(_) => true,
+        _ => false,
+    }
+}
+
+fn can_go(caller: &Process) -> bool
+    ensures { result ≡ can_go caller.now }
+{
+    caller.live && !is_open(&caller.waiting)
+}
+
+fn told(waiting: &Waiting) -> Waited
+    ensures { result ≡ told waiting.now }
+{
+    match waiting {
+        Waiting::Nothing => Waited::None,
+        Waiting::Open(_) => Waited::Still,
+        Waiting::Done => Waited::Done,
+        Waiting::Broken => Waited::Broken,
+    }
+}
+
+fn left(waiting: &Waiting) -> Waiting
+    ensures { result ≡ left waiting.now }
+{
+    if is_open(waiting) {
+        *waiting
+    } else {
+        Waiting::Nothing
+    }
+}
+
+fn broken(waiting: &Waiting) -> Waiting
+    ensures { result ≡ broken waiting.now }
+{
+    if is_open(waiting) {
+        Waiting::Broken
+    } else {
+        *waiting
+    }
+}

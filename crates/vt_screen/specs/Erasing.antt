@@ -1,0 +1,98 @@
+-- What erases, inserts and deletes (console_codes(4), "ECMA-48 CSI sequences"). What comes in is
+-- blank, in the pen's two colours. This project's own is that all of these switch the wrap flag off.
+use Rattle.std.specs.Prelude.{ℕ, Bool, false, ◌+◌, ◌-◌, ◌==◌, ◌&&◌, ◌||◌, nat_le, min, ◌++◌, take, drop, replicate, if◌then◌else◌}
+use Rattle.vt_grid.specs.Grid.{Sheet, deleted, erased, inserted, scrolled_down, scrolled_up}
+use Rattle.vt_screen.specs.Screen.{Screen, blank_of, with_state}
+
+-- no wrap is pending
+abbrev pub unwrapped : Screen → Screen
+unwrapped s = with_state s (record s.state { wrap = false })
+
+abbrev pub with_sheet : Screen → Sheet → Screen
+with_sheet s sheet = record s { sheet = sheet }
+
+-- the cells of the cursor's row from column x0 to x1, both included, are blank
+abbrev pub line_erased : ℕ → ℕ → Screen → Screen
+line_erased x0 x1 s = with_sheet s (erased s.sheet s.state.y x0 x1 (blank_of s))
+
+-- so many rows from this one on are blank
+unfoldable pub rows_erased : ℕ → ℕ → Screen → Screen
+rows_erased from count s =
+    with_sheet s
+    (record s.sheet {
+      cells =
+          take from s.sheet.cells
+          ++ (replicate count (replicate s.sheet.cols (blank_of s))
+          ++ drop (from + count) s.sheet.cells);
+    })
+
+-- from the cursor to the end of its row, and from the row's start to the cursor, the cursor's cell
+-- included
+abbrev pub line_end_erased : Screen → Screen
+line_end_erased s = line_erased s.state.x (s.sheet.cols - 1) s
+
+abbrev pub line_start_erased : Screen → Screen
+line_start_erased s = line_erased 0 s.state.x s
+
+-- the rows below the cursor's one, those above it, and all of them
+abbrev pub below_erased : Screen → Screen
+below_erased s = rows_erased (s.state.y + 1) (s.sheet.rows - (s.state.y + 1)) s
+
+abbrev pub above_erased : Screen → Screen
+above_erased s = rows_erased 0 s.state.y s
+
+abbrev pub all_erased : Screen → Screen
+all_erased s = rows_erased 0 s.sheet.rows s
+
+-- ED: 0 from the cursor to the end, 1 from the start to the cursor, 2 and 3 the whole display; 3 has
+-- no more to erase, since nothing scrolls back here
+unfoldable pub erase_display : ℕ → Screen → Screen
+erase_display which s =
+    if which == 0 then unwrapped (below_erased (line_end_erased s))
+    else if which == 1 then unwrapped (above_erased (line_start_erased s))
+    else if which == 2 || which == 3 then unwrapped (all_erased s)
+    else s
+
+-- EL: the same in the cursor's row
+unfoldable pub erase_line : ℕ → Screen → Screen
+erase_line which s =
+    if which == 0 then unwrapped (line_end_erased s)
+    else if which == 1 then unwrapped (line_start_erased s)
+    else if which == 2 then unwrapped (line_erased 0 (s.sheet.cols - 1) s)
+    else s
+
+-- ECH: n cells from the cursor on, as far as the row goes
+unfoldable pub erase_characters : ℕ → Screen → Screen
+erase_characters n s =
+    unwrapped (line_erased s.state.x (min (s.state.x + n - 1) (s.sheet.cols - 1)) s)
+
+-- ICH: n blanks come in at the cursor
+unfoldable pub insert_characters : ℕ → Screen → Screen
+insert_characters n s =
+    unwrapped (with_sheet s (inserted s.sheet s.state.y s.state.x n (blank_of s)))
+
+-- DCH: n cells go out at the cursor
+unfoldable pub delete_characters : ℕ → Screen → Screen
+delete_characters n s =
+    unwrapped (with_sheet s (deleted s.sheet s.state.y s.state.x n (blank_of s)))
+
+-- the cursor is in the region
+abbrev pub in_region : Screen → Bool
+in_region s = nat_le s.state.top s.state.y && nat_le s.state.y s.state.bottom
+
+-- IL: n blank rows come in at the cursor's one, and the region's rows from there on move down.
+-- Outside the region no row changes. The cursor keeps its column: this project's own
+unfoldable pub insert_lines : ℕ → Screen → Screen
+insert_lines n s =
+    unwrapped
+    (if in_region s
+    then with_sheet s (scrolled_down s.sheet s.state.y s.state.bottom n (blank_of s))
+    else s)
+
+-- DL: n rows go out at the cursor's one, and the region's rows behind them move up
+unfoldable pub delete_lines : ℕ → Screen → Screen
+delete_lines n s =
+    unwrapped
+    (if in_region s
+    then with_sheet s (scrolled_up s.sheet s.state.y s.state.bottom n (blank_of s))
+    else s)

@@ -1,0 +1,84 @@
+-- What says something beside the screen: reports, lights and requests for another console
+-- (console_codes(4)).
+use Rattle.std.specs.Prelude.{ℕ, ◌+◌, ◌-◌, ◌==◌, ◌&&◌, nat_le, nat_lt, List, ◌∷◌, ◌++◌, Option, Some, None, codes, decimal, if◌then◌else◌}
+use Rattle.vt_screen.specs.Screen.{Screen}
+use Rattle.vt_screen.specs.Settings.{with_pen}
+use Rattle.vt_screen.specs.declared.out.Out.{Out}
+use Rattle.vt_screen.specs.declared.out.Out.TheVariants.{Lights, Report, SwitchLast, SwitchTo}
+
+-- the screen after a unit, and what the unit says beside it
+pub record Done : Type 0 where
+  pub screen : Screen
+  pub said : Option Out
+
+abbrev pub quiet : Screen → Done
+quiet s = record { screen = s; said = None }
+
+abbrev pub saying : Out → Screen → Done
+saying out s = record { screen = s; said = Some out }
+
+-- a report: ESC and these characters
+abbrev pub report : List ℕ → Screen → Done
+report text s = saying (Report (0x1B ∷ text)) s
+
+-- DECID, and DA with 0: a VT102
+abbrev pub device_text : List ℕ
+device_text = codes "[?6c"
+
+unfoldable pub device_report : ℕ → Screen → Done
+device_report which s = if which == 0 then report device_text s else quiet s
+
+-- CPR: the cursor's row and column, counted from 1; in origin mode the row is counted from the
+-- region's first one, which is this project's own
+abbrev pub cursor_text : Screen → List ℕ
+cursor_text s =
+    let row = if s.state.origin then s.state.y - s.state.top else s.state.y in
+    codes "[" ++ (decimal (row + 1) ++ (codes ";" ++ (decimal (s.state.x + 1) ++ codes "R")))
+
+-- DSR: 5 asks whether all is well, and it is; 6 asks for the cursor
+unfoldable pub status_report : ℕ → Screen → Done
+status_report which s =
+    if which == 5 then report (codes "[0n") s
+    else if which == 6 then report (cursor_text s) s
+    else quiet s
+
+-- DECLL: 0 clears the lights, and 1 to 3 set Scroll Lock, Num Lock or Caps Lock alone
+unfoldable pub lights : ℕ → Screen → Done
+lights which s =
+    if which == 0 then saying (Lights 0) s
+    else if which == 1 then saying (Lights 1) s
+    else if which == 2 then saying (Lights 2) s
+    else if which == 3 then saying (Lights 4) s
+    else quiet s
+
+-- the colours for underline and half-bright
+abbrev pub with_underline_colour : ℕ → Screen → Screen
+with_underline_colour n s =
+    with_pen s (record s.state.pen { look = record s.state.pen.look { ul = n } })
+
+abbrev pub with_dim_colour : ℕ → Screen → Screen
+with_dim_colour n s =
+    with_pen s (record s.state.pen { look = record s.state.pen.look { dim = n } })
+
+-- the pen's pair is the default pair
+abbrev pub with_default_pair : Screen → Screen
+with_default_pair s =
+    with_pen s
+    (record s.state.pen { def_fg = s.state.pen.attr.fg; def_bg = s.state.pen.attr.bg })
+
+-- CSI ]: settings of the console. Timers, the bell's pitch and length and video modes do nothing:
+-- this project's own
+unfoldable pub console_setting : ℕ → ℕ → Screen → Done
+console_setting which value s =
+    -- the colour for underline
+    if which == 1 then quiet (if nat_lt value 16 then with_underline_colour value s else s)
+    -- the colour for half-bright
+    else if which == 2 then quiet (if nat_lt value 16 then with_dim_colour value s else s)
+    -- the default pair
+    else if which == 8 then quiet (with_default_pair s)
+    -- to the console of this number
+    else if which == 12
+    then (if nat_le 1 value && nat_le value 63 then saying (SwitchTo value) s else quiet s)
+    -- to the previous console
+    else if which == 15 then saying SwitchLast s
+    else quiet s

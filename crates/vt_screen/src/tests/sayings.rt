@@ -1,0 +1,173 @@
+//! What each row of the table says beside the screen, and what it sets. The answers are those of
+//! console_codes(4) and of this project's own rules.
+use super::start;
+use crate::{Out, Outs};
+use std::alloc::Global;
+use std::test::Fail;
+use vt_base::{NoMemory, Size};
+
+const SIZE: Size = Size { rows: 3, cols: 10 };
+
+#[derive(Clone, Copy, Debug)]
+enum Said<'a> {
+    Nothing,
+    Report(&'a [u8]),
+    To(u8),
+    Last,
+    Lights(u8),
+    Bell,
+}
+
+fn is_said(out: Option<&Out>, said: Said<'_>) -> bool {
+    match (out, said) {
+        (None, Said::Nothing) => true,
+        (Some(Out::Report(text)), Said::Report(bytes)) => text.as_slice() == bytes,
+        (Some(Out::SwitchTo(n)), Said::To(m)) => *n == m,
+        (Some(Out::SwitchLast), Said::Last) => true,
+        (Some(Out::Lights(n)), Said::Lights(m)) => *n == m,
+        (Some(Out::Bell), Said::Bell) => true,
+        _ => false,
+    }
+}
+
+// Whether the text, of at most 64 bytes, says this alone.
+fn says(alloc: Global, text: &[u8], said: Said<'_>) -> Result<bool, NoMemory> {
+    let mut emu = start(alloc, SIZE)?;
+    let mut outs = Outs::new();
+    if text.len() > 64 {
+        return Ok(false);
+    }
+    emu.feed(text, &mut outs);
+    let heard = outs.as_slice();
+    Ok(heard.len() <= 1 && is_said(heard.first(), said))
+}
+
+#[test]
+fn texts_say(rt: HostRuntime) -> Result<(), Fail> {
+    let cases: [(&[u8], Said<'_>); 26] = [
+        (b"\x07", Said::Bell),
+        (b"\x1B[6n", Said::Report(b"\x1B[1;1R")),
+        (b"\x1B[3;10H\x1B[6n", Said::Report(b"\x1B[3;10R")),
+        (
+            b"\x1B[2;3r\x1B[?6h\x1B[2;4H\x1B[6n",
+            Said::Report(b"\x1B[2;4R"),
+        ),
+        (b"\x1B[2;3r\x1B[3;4H\x1B[6n", Said::Report(b"\x1B[3;4R")),
+        (b"\x1B[5n", Said::Report(b"\x1B[0n")),
+        (b"\x1B[n", Said::Nothing),
+        (b"\x1B[7n", Said::Nothing),
+        (b"\x1B[?6n", Said::Nothing),
+        (b"\x1B[c", Said::Report(b"\x1B[?6c")),
+        (b"\x1B[0c", Said::Report(b"\x1B[?6c")),
+        (b"\x1B[1c", Said::Nothing),
+        (b"\x1BZ", Said::Report(b"\x1B[?6c")),
+        (b"\x1B[q", Said::Lights(0)),
+        (b"\x1B[1q", Said::Lights(1)),
+        (b"\x1B[2q", Said::Lights(2)),
+        (b"\x1B[3q", Said::Lights(4)),
+        (b"\x1B[4q", Said::Nothing),
+        (b"\x1B[12;1]", Said::To(1)),
+        (b"\x1B[12;63]", Said::To(63)),
+        (b"\x1B[12;64]", Said::Nothing),
+        (b"\x1B[12]", Said::Nothing),
+        (b"\x1B[15]", Said::Last),
+        (b"\x1B[9;5]\x1B[10;5]\x1B[11;5]\x1B[14;5]", Said::Nothing),
+        (b"\x1B[2;3r\x1B[1;4H\x1B[6n", Said::Report(b"\x1B[1;4R")),
+        (b"\x1B]0;t\x07", Said::Nothing),
+    ];
+    for (text, said) in cases {
+        assert!(rt; says(rt.alloc(), text, said)?, "{text:?}");
+    }
+    Ok(())
+}
+
+#[test]
+fn texts_set(rt: HostRuntime) -> Result<(), Fail> {
+    // cursor keys, reversed, autowrap, repeat, visible, keypad, control characters shown
+    let cases: [(&[u8], [bool; 7]); 15] = [
+        (b"", [false, false, true, true, true, false, false]),
+        (b"\x1B[?1h", [true, false, true, true, true, false, false]),
+        (b"\x1B[?5h", [false, true, true, true, true, false, false]),
+        (b"\x1B[?7l", [false, false, false, true, true, false, false]),
+        (b"\x1B[?8l", [false, false, true, false, true, false, false]),
+        (
+            b"\x1B[?25l",
+            [false, false, true, true, false, false, false],
+        ),
+        (
+            b"\x1B[?1;5;25l\x1B[?1;25h",
+            [true, false, true, true, true, false, false],
+        ),
+        (b"\x1B=", [false, false, true, true, true, true, false]),
+        (
+            b"\x1B=\x1B>",
+            [false, false, true, true, true, false, false],
+        ),
+        (b"\x1B[3h", [false, false, true, true, true, false, true]),
+        (
+            b"\x1B[3h\x1B[3l",
+            [false, false, true, true, true, false, false],
+        ),
+        (b"\x1B[11m", [false, false, true, true, true, false, true]),
+        (
+            b"\x1B[?1;5h\x1B[?7;8;25l\x1B=\x1B[3h\x1Bc",
+            [false, false, true, true, true, false, false],
+        ),
+        (
+            b"\x1B[1;5;25h",
+            [false, false, true, true, true, false, false],
+        ),
+        (
+            b"\x1B[?3;4h",
+            [false, false, true, true, true, false, false],
+        ),
+    ];
+    for (text, [cursor, reverse, autowrap, repeat, visible, keypad, display]) in cases {
+        let mut emu = start(rt.alloc(), SIZE)?;
+        emu.write(text);
+        let state = emu.state();
+        assert_eq!(rt;
+            (state.cursor, state.reverse),
+            (cursor, reverse),
+            "{text:?}"
+        );
+        assert_eq!(rt;
+            (state.autowrap, state.repeat),
+            (autowrap, repeat),
+            "{text:?}"
+        );
+        assert_eq!(rt;
+            (state.visible, state.keypad),
+            (visible, keypad),
+            "{text:?}"
+        );
+        assert_eq!(rt; state.pen.display, display, "{text:?}");
+    }
+    Ok(())
+}
+
+#[test]
+fn stops_tables_and_colours_are_kept(rt: HostRuntime) -> Result<(), Fail> {
+    let mut emu = start(rt.alloc(), SIZE)?;
+    emu.write(b"\x1B[1;5H\x1BH\x1B(0\x1B)U\x0E\x1B7\x1B(B\x1B)B\x0F\x1B]P1A0b0C0");
+    let state = emu.state();
+    assert!(rt; state.stops.has(4) && state.stops.has(8) && state.stops.has(248));
+    assert!(rt; !state.stops.has(0) && !state.stops.has(5) && !state.stops.has(255));
+    assert_eq!(rt; (state.g0, state.g1, state.shift), (0, 0, 0));
+    assert_eq!(rt; state.palette.get(1), (0xA0, 0xB0, 0xC0));
+    emu.write(b"\x1B8");
+    let state = emu.state();
+    assert_eq!(rt; (state.g0, state.g1, state.shift), (1, 2, 1));
+    emu.write(b"\x1Bc");
+    let state = emu.state();
+    assert_eq!(rt; (state.g0, state.g1, state.shift), (0, 1, 0));
+    assert!(rt; !state.stops.has(4) && state.stops.has(8));
+    assert_eq!(rt; state.palette.get(1), (0xA0, 0xB0, 0xC0));
+    emu.write(b"\x1B]R\x1B[3g");
+    let state = emu.state();
+    assert!(rt; !state.stops.has(8));
+    assert_eq!(rt; state.palette.get(1), (0xAA, 0, 0));
+    emu.palette_mut().set(2, (1, 2, 3));
+    assert_eq!(rt; emu.state().palette.get(2), (1, 2, 3));
+    Ok(())
+}
