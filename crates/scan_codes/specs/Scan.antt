@@ -1,5 +1,6 @@
 -- What a scan byte comes to behind the bytes before it.
-use Rattle.std.specs.Prelude.{◌≡◌, ℕ, Option, None, List, [], ◌∷◌, ◌++◌, length, if◌then◌else◌, EachIndex, slice_index, slice_set}
+use Rattle.std.specs.Prelude.{ℕ, Option, None, List, [], ◌∷◌, ◌++◌, map, if◌then◌else◌, slice_set}
+use Rattle.std.specs.List.{range_with_len}
 use Rattle.scan_codes.specs.Groups.{is_group, named_by}
 use Rattle.scan_codes.specs.Start.{start_code}
 use Rattle.scan_codes.specs.declared.key_event.KeyEvent.{KeyEvent}
@@ -12,11 +13,13 @@ pub record Scan : Type 0 where
 abbrev pub scan_of : List ℕ → List ℕ → Scan
 scan_of bytes codes = record { bytes = bytes; codes = codes }
 
+-- the translation of the start
+unfoldable pub start_codes : List ℕ
+start_codes = map start_code (range_with_len 0 256)
+
 -- no bytes, and the translation of the start
-pub record IsStart (s : Scan) : Type 0 where
-  pub bytes : s.bytes ≡ []
-  pub all : length s.codes ≡ 256
-  pub codes : EachIndex s.codes (λ scan. slice_index s.codes scan ≡ start_code scan)
+abbrev pub start_scan : Scan
+start_scan = scan_of [] start_codes
 
 -- the byte ends a group: what that names, in the translation as it is now
 abbrev pub event_after : List ℕ → List ℕ → ℕ → Option KeyEvent

@@ -1,7 +1,7 @@
 ghost use Rattle.std.specs.Prelude.{◌≡◌, ◌≤◌, ◌↔◌, ◌⊎◌, [], ◌∷◌, ◌++◌, None, IsTrue, IsOk, OnOk, OnErr, IfOk, slice_index};
 ghost use Rattle.scan_codes.specs.Groups.{Begins, is_down, is_group, is_scan, key, named_by, pause};
 ghost use Rattle.scan_codes.specs.Kept.{IsTranslation, bytes_of};
-ghost use Rattle.scan_codes.specs.Scan.{IsStart, bytes_after, event_after, with_code};
+ghost use Rattle.scan_codes.specs.Scan.{bytes_after, event_after, start_scan, with_code};
 
 use crate::KeyEvent;
 use crate::start::start_code;
@@ -41,7 +41,7 @@ impl Model for Scanner {
 impl Scanner {
     /// Nothing read yet, and the keycodes of the start.
     pub fn start() -> Scanner
-        ensures { IsStart result }
+        ensures { result ≡ start_scan }
     {
         let mut codes = [0; 256];
         for scan in 0..256 {

@@ -24,7 +24,8 @@ pub fn reply_bytes(e: &Event) -> usize
     ensures { result ≡ greatest_reply e.now }
 {
     match e {
-        Event::OpenCon(..)
+        Event::Scan(..)
+        | Event::OpenCon(..)
         | Event::Write(..)
         | Event::Activate(..)
         | Event::SetMode(..)

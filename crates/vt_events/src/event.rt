@@ -7,6 +7,8 @@ use vt_base::{Bytes, NoMemory};
 /// A call of a caller: each variant holds the words behind its name, in order.
 #[derive(Debug, Drop)]
 pub enum Event {
+    /// `scan HH`: a byte of the keyboard.
+    Scan(u8),
     /// `open N`: a descriptor for console N, or for the one in front where N is 0.
     OpenCon(u16),
     /// `write FD B`: the bytes B to the descriptor's console.
@@ -27,6 +29,7 @@ impl Event {
         ensures { IfOk result (λ copy. copy ≡ plain_event self.now) }
     {
         Ok(match self {
+            Event::Scan(b) => Event::Scan(*b),
             Event::OpenCon(n) => Event::OpenCon(*n),
             Event::Write(fd, b) => Event::Write(*fd, Bytes::from_slice(alloc, b.as_slice())?),
             Event::Activate(fd, n) => Event::Activate(*fd, *n),

@@ -7,6 +7,7 @@ fn copies_and_counts(rt: HostRuntime) -> Result<(), Fail> {
     let write = Event::Write(3, Bytes::from_slice(rt.alloc(), b"hi")?);
     assert_eq!(rt; charge(&write), 66);
     assert_eq!(rt; charge(&Event::RelDisp(0, 1)), 64);
+    assert_eq!(rt; charge(&Event::Scan(0x1E)), 64);
     let Event::Write(fd, b) = write.copy(rt.alloc())? else {
         return Err(Fail::from("another call"));
     };

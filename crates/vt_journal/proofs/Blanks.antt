@@ -52,6 +52,7 @@ cut-spelled word (next ∷ words) first others =
 
 -- names are words
 pub is_word-name : (k : Kind) → is_word (name_of k) ≡ true
+is_word-name kind.Scan = refl
 is_word-name kind.OpenCon = refl
 is_word-name kind.Write = refl
 is_word-name kind.Activate = refl

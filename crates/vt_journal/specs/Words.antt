@@ -14,12 +14,18 @@ use Rattle.vt_journal.specs.Kinds.{holds_bytes, kind_of, name_of}
 
 -- the numbers among the words of a call, in order
 abbrev pub numbers_of : Event → List ℕ
+numbers_of (event.Scan b) = []
 numbers_of (event.OpenCon n) = n ∷ []
 numbers_of (event.Write fd b) = fd ∷ []
 numbers_of (event.Activate fd n) = fd ∷ n ∷ []
 numbers_of (event.SetMode fd mode waitv relsig acqsig frsig) =
     fd ∷ mode ∷ waitv ∷ relsig ∷ acqsig ∷ frsig ∷ []
 numbers_of (event.RelDisp fd arg) = fd ∷ arg ∷ []
+
+-- the bytes that it holds
+abbrev pub held_of : Event → List ℕ
+held_of (event.Scan b) = b ∷ []
+held_of e = text_of_event e
 
 -- the word of the bytes that a call holds, where its kind has one
 abbrev pub held_words : Bool → List ℕ → List (List ℕ)
@@ -30,7 +36,7 @@ held_words false bytes = []
 abbrev pub event_words : Event → List (List ℕ)
 event_words e =
     name_of (kind_of e)
-    ∷ (map decimal (numbers_of e) ++ held_words (holds_bytes (kind_of e)) (text_of_event e))
+    ∷ (map decimal (numbers_of e) ++ held_words (holds_bytes (kind_of e)) (held_of e))
 
 -- the words of an answer
 abbrev pub reply_words : Reply → List (List ℕ)
@@ -46,7 +52,7 @@ spelled words = join_with_byte 0x20 words
 -- the numbers of a call have 16 bits, and the bytes that it holds have 8
 pub record IsFit (e : Event) : Type 0 where
   pub numbers : All (λ n. n < 2 ^ 16) (numbers_of e)
-  pub bytes : All (λ b. b < 2 ^ 8) (text_of_event e)
+  pub bytes : All (λ b. b < 2 ^ 8) (held_of e)
 
 -- the text is the one spelling of the call, which is fit and has no room
 pub record Spells (text : List ℕ) (e : Event) : Type 0 where

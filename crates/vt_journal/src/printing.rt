@@ -83,6 +83,7 @@ fn add_event(alloc: Global, text: &mut Bytes, e: &Event) -> Result<(), NoMemory>
     ensures kept { Begins text.old.bytes text.new.bytes }
 {
     match e {
+        Event::Scan(b) => add_call_with(alloc, text, b"scan", &[], &[*b]),
         Event::OpenCon(n) => add_call(alloc, text, b"open", &[*n]),
         Event::Write(fd, b) => add_call_with(alloc, text, b"write", &[*fd], b.as_slice()),
         Event::Activate(fd, n) => add_call(alloc, text, b"activate", &[*fd, *n]),

@@ -35,6 +35,9 @@ pub fn read_event(alloc: Global, words: &[u8]) -> Result<Option<Event>, NoMemory
     if words.next().is_some() {
         return Ok(None);
     }
+    if !kind.takes(bytes.as_slice().len()) {
+        return Ok(None);
+    }
     Ok(Some(kind.call(numbers.as_slice(), bytes)))
 }
 

@@ -28,7 +28,8 @@ const CALLS: [Row; 6] = [
     (1, 3, b"reldisp 0 1", Answer::Done),
 ];
 
-const ODD: [Row; 4] = [
+const ODD: [Row; 5] = [
+    (0, 3, b"scan e0", Answer::Done),
     (
         64,
         4_294_967_295,
@@ -124,13 +125,14 @@ fn prints_what_a_log_holds(rt: HostRuntime) -> Result<(), Fail> {
         },
         Case {
             rows: &ODD,
-            events: 3,
+            events: 4,
             bytes: 1_000,
             text: b"%journal 1\n\
+            0 3 scan e0 = ok\n\
             64 4294967295 write 65535 - = err 9\n\
             0 4 reldisp 0 2 = bytes 00a9\n\
             0 5 reldisp 0 3 = bytes -\n\
-            %full 3 192 64\n",
+            %full 4 256 64\n",
         },
         Case {
             rows: &ODD,
@@ -150,7 +152,12 @@ fn prints_what_a_log_holds(rt: HostRuntime) -> Result<(), Fail> {
 
 #[test]
 fn knows_one_spelling(rt: HostRuntime) -> Result<(), Fail> {
-    let cases: [(&[u8], bool); 24] = [
+    let cases: [(&[u8], bool); 29] = [
+        (b"scan e0", true),
+        (b"scan 1", false),
+        (b"scan 1E", false),
+        (b"scan -", false),
+        (b"scan 1e1e", false),
         (b"open 0", true),
         (b"open 65535", true),
         (b"write 0 00ff", true),

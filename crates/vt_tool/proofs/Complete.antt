@@ -9,13 +9,21 @@ use Rattle.vt_io.specs.Stream.{Stream}
 use Rattle.vt_tool.specs.Input.{intake_of, ReadsAll, StopsAtFault, PassesLimit, Offers}
 use Rattle.vt_tool.specs.Outcome.{Outcome, Gives}
 use Rattle.vt_tool.specs.Run.{Answers, Begins, Tells, ProgramRun, Completes}
-use Rattle.vt_tool.specs.Words.{AreWordsOf}
+use Rattle.vt_tool.specs.Words.{AreWordsOf, words_of}
 use Rattle.vt_tool.specs.declared.command.Command.{Command}
-use Rattle.vt_tool.specs.declared.command.Command.TheVariants.{Screen, Keys, Play}
+use Rattle.vt_tool.specs.declared.command.Command.TheVariants.{Screen, Keys, Play, Typing}
 use Rattle.vt_tool.specs.declared.intake.Intake.{Intake}
 use Rattle.vt_tool.specs.declared.intake.Intake.TheVariants.{ToEnd}
 use Rattle.vt_tool.specs.declared.status.Status.{Status}
 use Rattle.vt_tool.specs.declared.status.Status.TheVariants.{Fine, Usage, ReadFault, WriteFault, NoMemory, Refused, TooLong, JournalFull}
+
+-- the first letter of a command's name
+abbrev initial : List (List ℕ) → ℕ
+initial words = get_or (get_or words 0 []) 0 0
+
+same_initial : (a b : Command) (words : List (List ℕ)) → AreWordsOf a words → AreWordsOf b words
+    → initial (words_of a) ≡ initial (words_of b)
+same_initial a b words first second = ap initial (sym first.spelled ∙ second.spelled)
 
 -- two commands of the same words are one
 one_command : (a b : Command) (words : List (List ℕ)) → AreWordsOf a words → AreWordsOf b words
@@ -33,32 +41,33 @@ one_command (Screen rows cols) (Screen rows' cols') words first second =
     let same_cols : cols ≡ cols' =
     decimal_injective cols cols' (omega (arith, fit.1.1)) (omega (arith, fit'.1.1)) wide in
     λ i. Screen (same_rows i) (same_cols i)
-one_command (Screen rows cols) Play words first second =
-    let same : codes "screen" ∷ decimal rows ∷ decimal cols ∷ [] ≡ codes "play" ∷ [] =
-    sym first.spelled ∙ second.spelled in
-    absurd (let impossible : ⊥ = cc in impossible)
-one_command Play (Screen rows cols) words first second =
-    let same : codes "play" ∷ [] ≡ codes "screen" ∷ decimal rows ∷ decimal cols ∷ [] =
-    sym first.spelled ∙ second.spelled in
-    absurd (let impossible : ⊥ = cc in impossible)
-one_command Play Play words first second = refl
 one_command (Screen rows cols) Keys words first second =
-    let same : codes "screen" ∷ decimal rows ∷ decimal cols ∷ [] ≡ codes "keys" ∷ [] =
-    sym first.spelled ∙ second.spelled in
-    absurd (let impossible : ⊥ = cc in impossible)
+    let clash : 115 ≡ 107 = same_initial _ _ words first second in absurd (omega (arith, clash))
+one_command (Screen rows cols) Play words first second =
+    let clash : 115 ≡ 112 = same_initial _ _ words first second in absurd (omega (arith, clash))
+one_command (Screen rows cols) Typing words first second =
+    let clash : 115 ≡ 116 = same_initial _ _ words first second in absurd (omega (arith, clash))
 one_command Keys (Screen rows cols) words first second =
-    let same : codes "keys" ∷ [] ≡ codes "screen" ∷ decimal rows ∷ decimal cols ∷ [] =
-    sym first.spelled ∙ second.spelled in
-    absurd (let impossible : ⊥ = cc in impossible)
-one_command Play Keys words first second =
-    let same : codes "play" ∷ [] ≡ codes "keys" ∷ [] = sym first.spelled ∙ second.spelled in
-    let initial : 112 ≡ 107 = ap (λ (ws : List (List ℕ)). get_or (get_or ws 0 []) 0 0) same in
-    absurd (omega (arith, initial))
-one_command Keys Play words first second =
-    let same : codes "keys" ∷ [] ≡ codes "play" ∷ [] = sym first.spelled ∙ second.spelled in
-    let initial : 107 ≡ 112 = ap (λ (ws : List (List ℕ)). get_or (get_or ws 0 []) 0 0) same in
-    absurd (omega (arith, initial))
+    let clash : 107 ≡ 115 = same_initial _ _ words first second in absurd (omega (arith, clash))
 one_command Keys Keys words first second = refl
+one_command Keys Play words first second =
+    let clash : 107 ≡ 112 = same_initial _ _ words first second in absurd (omega (arith, clash))
+one_command Keys Typing words first second =
+    let clash : 107 ≡ 116 = same_initial _ _ words first second in absurd (omega (arith, clash))
+one_command Play (Screen rows cols) words first second =
+    let clash : 112 ≡ 115 = same_initial _ _ words first second in absurd (omega (arith, clash))
+one_command Play Keys words first second =
+    let clash : 112 ≡ 107 = same_initial _ _ words first second in absurd (omega (arith, clash))
+one_command Play Play words first second = refl
+one_command Play Typing words first second =
+    let clash : 112 ≡ 116 = same_initial _ _ words first second in absurd (omega (arith, clash))
+one_command Typing (Screen rows cols) words first second =
+    let clash : 116 ≡ 115 = same_initial _ _ words first second in absurd (omega (arith, clash))
+one_command Typing Keys words first second =
+    let clash : 116 ≡ 107 = same_initial _ _ words first second in absurd (omega (arith, clash))
+one_command Typing Play words first second =
+    let clash : 116 ≡ 112 = same_initial _ _ words first second in absurd (omega (arith, clash))
+one_command Typing Typing words first second = refl
 
 -- a source that stopped at a fault has counted it
 stop-rose : (i : Intake) (src src' : Stream) → StopsAtFault i src src' → Rose src.faults src'.faults

@@ -8,5 +8,9 @@ mod FinalTexts
 mod PlayEnds
 mod Plays
 mod Sides
+pub mod Documents
 pub mod Streams
+pub mod Tables
 mod Texts
+pub mod TypeTables
+pub mod Typed

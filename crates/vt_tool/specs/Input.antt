@@ -4,7 +4,7 @@ use Rattle.std.specs.Io.KnownBytes.{Consumes, IsAtEnd}
 use Rattle.vt_io.specs.Faults.{Rose}
 use Rattle.vt_io.specs.Stream.{Stream}
 use Rattle.vt_tool.specs.declared.command.Command.{Command}
-use Rattle.vt_tool.specs.declared.command.Command.TheVariants.{Screen, Keys, Play}
+use Rattle.vt_tool.specs.declared.command.Command.TheVariants.{Screen, Keys, Play, Typing}
 use Rattle.vt_tool.specs.declared.intake.Intake.{Intake}
 use Rattle.vt_tool.specs.declared.intake.Intake.TheVariants.{ToEnd}
 
@@ -21,6 +21,7 @@ abbrev pub intake_of : Command → Intake
 intake_of (Screen rows cols) = ToEnd screen_limit
 intake_of Keys = ToEnd text_limit
 intake_of Play = ToEnd text_limit
+intake_of Typing = ToEnd text_limit
 
 -- the input isn't longer than the command takes
 abbrev pub IsWithin : Intake → List ℕ → Type 0

@@ -1,4 +1,6 @@
 pub mod Calls
+pub mod Checked
+pub mod Fields
 pub mod Final
 pub mod Input
 pub mod Outcome
@@ -7,5 +9,7 @@ pub mod Player
 pub mod Reading
 pub mod Run
 pub mod Status
+pub mod Typed
+pub mod Typing
 pub mod Words
 pub mod Writing

@@ -13,10 +13,12 @@ use Rattle.vt_journal.specs.declared.tail.Tail.{Tail}
 use Rattle.vt_tool.specs.Calls.{CallText, HasFaultAt, IsGood, call_text}
 use Rattle.vt_tool.specs.Play.{IsPlay, opening_of, play_text, status_of}
 use Rattle.vt_dump.specs.Rows.{rows_text}
+use Rattle.vt_tool.specs.Typing.{TypeTable, type_table_of, typed_text}
 use Rattle.vt_tool.specs.declared.command.Command.{Command}
 use Rattle.vt_tool.specs.declared.command.Command.TheVariants as command
 use Rattle.vt_tool.specs.declared.status.Status.{Status}
 use Rattle.vt_tool.specs.declared.status.Status.TheVariants.{Fine, Refused}
+use Rattle.vt_tool.specs.declared.table.fault.TableFault.{TableFault}
 
 -- the status that the run has, if no fault comes, and the defined text
 pub record Outcome : Type 0 where
@@ -71,9 +73,26 @@ pub record GivesKeyFault (input : List ℕ) (outcome : Outcome) : Type 0 where
   pub refused :
       outcome ≡ record { status = Refused fault.kind fault.line fault.column; text = [] }
 
+-- the lines of the scan bytes of a table, by the tables of its keymap
+pub record GivesTyped (input : List ℕ) (outcome : Outcome) : Type 0 where
+  pub table : TypeTable
+  pub tables : Tables
+  pub read : type_table_of input ≡ Ok table
+  pub compiled : AreTablesOf table.lines tables
+  pub written :
+      outcome ≡ record { status = Fine; text = typed_text tables table.mode table.keys }
+
+-- the table is refused at its first fault
+pub record GivesTableFault (input : List ℕ) (outcome : Outcome) : Type 0 where
+  pub fault : TableFault
+  pub found : type_table_of input ≡ Err fault
+  pub refused :
+      outcome ≡ record { status = Refused fault.code fault.part fault.item; text = [] }
+
 -- the outcome that a command gives for an input
 abbrev pub Gives : Command → List ℕ → Outcome → Type 0
 Gives (command.Screen rows cols) input outcome =
     GivesRows rows cols input outcome
 Gives command.Keys input outcome = GivesListing input outcome ⊎ GivesKeyFault input outcome
 Gives command.Play input outcome = GivesPlayed input outcome ⊎ GivesFault input outcome
+Gives command.Typing input outcome = GivesTyped input outcome ⊎ GivesTableFault input outcome

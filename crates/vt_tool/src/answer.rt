@@ -8,6 +8,7 @@ use crate::keys_answer::keys_answer;
 use crate::play_answer::play_answer;
 use crate::screen::screen_answer;
 use crate::status::Status;
+use crate::type_answer::type_answer;
 use std::alloc::Global;
 use vt_base::{Bytes, NoMemory, Size};
 
@@ -28,5 +29,6 @@ pub fn answer_to(alloc: Global, command: Command, input: &[u8]) -> Result<Answer
         Command::Screen { rows, cols } => screen_answer(alloc, Size { rows, cols }, input),
         Command::Keys => keys_answer(alloc, input),
         Command::Play => play_answer(alloc, input),
+        Command::Typing => type_answer(alloc, input),
     }
 }

@@ -7,4 +7,6 @@ pub enum Command {
     Keys,
     /// The journal of the calls of the input, and the console after them.
     Play,
+    /// A line for each scan byte of the input's table, by the tables of its keymap.
+    Typing,
 }

@@ -22,6 +22,6 @@ pub fn intake_for(command: Command) -> Intake
 {
     match command {
         Command::Screen { .. } => Intake::ToEnd(SCREEN_LIMIT),
-        Command::Keys | Command::Play => Intake::ToEnd(TEXT_LIMIT),
+        Command::Keys | Command::Play | Command::Typing => Intake::ToEnd(TEXT_LIMIT),
     }
 }

@@ -13,10 +13,13 @@ mod read_end;
 mod reading;
 mod screen;
 mod status;
+mod table;
 mod telling;
 #[cfg(test)]
 mod tests;
 mod tool;
+mod type_answer;
+mod typing;
 mod words;
 mod writing;
 

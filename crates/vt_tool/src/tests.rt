@@ -9,6 +9,7 @@ use vt_io::{MemSink, MemSource};
 
 mod keys;
 mod play;
+mod typing;
 
 const USAGE: &[u8] = b"vt: usage: screen R C | keys | type | play | race | check | drill N SEED\n";
 
@@ -33,7 +34,7 @@ const PLAIN: Case = Case {
     line: "screen 2 5",
     input: b"",
     read_fails: b"",
-    out_room: 1_000,
+    out_room: 10_000,
     out_fails: b"",
     err_room: 1_000,
     err_fails: b"",
@@ -41,6 +42,27 @@ const PLAIN: Case = Case {
     out: b"",
     err: b"",
 };
+
+// A run that writes this text.
+fn gives(line: &'static str, input: &'static [u8], out: &'static [u8]) -> Case {
+    Case {
+        line,
+        input,
+        out,
+        ..PLAIN
+    }
+}
+
+// A run whose input is refused, with this line on err.
+fn refuses(line: &'static str, input: &'static [u8], err: &'static [u8]) -> Case {
+    Case {
+        line,
+        input,
+        number: 5,
+        err,
+        ..PLAIN
+    }
+}
 
 fn words_of(alloc: Global, line: &str) -> Result<Vec<String>, NoMemory> {
     let mut words = Vec::new(alloc);
@@ -71,6 +93,13 @@ fn check(rt: &impl Abort, alloc: Global, case: Case) -> Result<(), NoMemory> {
     assert_eq!(rt; status.number(), case.number, "{line}, {input:?}");
     assert_eq!(rt; out.held(), case.out, "{line}, {input:?}");
     assert_eq!(rt; err.held(), case.err, "{line}, {input:?}");
+    Ok(())
+}
+
+fn check_all(rt: &impl Abort, alloc: Global, cases: &[Case]) -> Result<(), NoMemory> {
+    for case in cases {
+        check(rt, alloc, *case)?;
+    }
     Ok(())
 }
 
@@ -108,51 +137,35 @@ fn check_long(rt: &impl Abort, alloc: Global, line: &str, case: Long) -> Result<
 
 #[test]
 fn draws_the_rows(rt: HostRuntime) -> Result<(), Fail> {
-    let cases: [(&'static str, &'static [u8], &'static [u8]); 12] = [
-        ("screen 2 5", b"", b"|     |\n|     |\n"),
-        ("screen 2 5", b"abcde", b"|abcde|\n|     |\n"),
-        ("screen 2 5", b"abcdef", b"|abcde|\n|f    |\n"),
-        ("screen 2 5", b"abcdefghijk", b"|fghij|\n|k    |\n"),
-        ("screen 1 3", b"a\x08b", b"|b  |\n"),
-        ("screen 1 3", b"a\rbc", b"|bc |\n"),
-        ("screen 1 3", b"\x08\x08a", b"|a  |\n"),
-        ("screen 1 3", b"abc\x08d", b"|adc|\n"),
-        ("screen 1 3", b"abc\rd", b"|dbc|\n"),
-        ("screen 2 3", b"abc\nd", b"|abc|\n|  d|\n"),
-        ("screen 2 3", b"a\nb\nc", b"| b |\n|  c|\n"),
-        ("screen 1 1", b"ab", b"|b|\n"),
+    let cases = [
+        gives("screen 2 5", b"", b"|     |\n|     |\n"),
+        gives("screen 2 5", b"abcde", b"|abcde|\n|     |\n"),
+        gives("screen 2 5", b"abcdef", b"|abcde|\n|f    |\n"),
+        gives("screen 2 5", b"abcdefghijk", b"|fghij|\n|k    |\n"),
+        gives("screen 1 3", b"a\x08b", b"|b  |\n"),
+        gives("screen 1 3", b"a\rbc", b"|bc |\n"),
+        gives("screen 1 3", b"\x08\x08a", b"|a  |\n"),
+        gives("screen 1 3", b"abc\x08d", b"|adc|\n"),
+        gives("screen 1 3", b"abc\rd", b"|dbc|\n"),
+        gives("screen 2 3", b"abc\nd", b"|abc|\n|  d|\n"),
+        gives("screen 2 3", b"a\nb\nc", b"| b |\n|  c|\n"),
+        gives("screen 1 1", b"ab", b"|b|\n"),
     ];
-    for (line, input, out) in cases {
-        let case = Case {
-            line,
-            input,
-            out,
-            ..PLAIN
-        };
-        check(&rt, rt.alloc(), case)?;
-    }
+    check_all(&rt, rt.alloc(), &cases)?;
     Ok(())
 }
 
 #[test]
 fn reads_every_byte(rt: HostRuntime) -> Result<(), Fail> {
-    let cases: [(&'static str, &'static [u8], &'static [u8]); 6] = [
-        ("screen 1 4", b"\xC3(", b"|\xEF\xBF\xBD(  |\n"),
-        ("screen 1 4", b"\x1B]0;t\x07ok", b"|ok  |\n"),
-        ("screen 1 3", b"\x1B[[AB", b"|B  |\n"),
-        ("screen 1 4", b"\x0Eq\x0Fq", b"|\xE2\x94\x80q  |\n"),
-        ("screen 1 3", b"a\x1B[31", b"|a  |\n"),
-        ("screen 1 3", b"\x7F\x07\xFFa", b"|\xEF\xBF\xBDa |\n"),
+    let cases = [
+        gives("screen 1 4", b"\xC3(", b"|\xEF\xBF\xBD(  |\n"),
+        gives("screen 1 4", b"\x1B]0;t\x07ok", b"|ok  |\n"),
+        gives("screen 1 3", b"\x1B[[AB", b"|B  |\n"),
+        gives("screen 1 4", b"\x0Eq\x0Fq", b"|\xE2\x94\x80q  |\n"),
+        gives("screen 1 3", b"a\x1B[31", b"|a  |\n"),
+        gives("screen 1 3", b"\x7F\x07\xFFa", b"|\xEF\xBF\xBDa |\n"),
     ];
-    for (line, input, out) in cases {
-        let case = Case {
-            line,
-            input,
-            out,
-            ..PLAIN
-        };
-        check(&rt, rt.alloc(), case)?;
-    }
+    check_all(&rt, rt.alloc(), &cases)?;
     let zeros = Long {
         first: b"\x1B[",
         piece: b"0",
@@ -183,21 +196,26 @@ fn reads_every_byte(rt: HostRuntime) -> Result<(), Fail> {
 
 #[test]
 fn tries_no_read_again(rt: HostRuntime) -> Result<(), Fail> {
-    let cases: [(&'static [u8], &'static [u8]); 3] = [
-        (b"abcdefghij", b"\x00\x01"),
-        (b"abc", b"\x01"),
-        (b"a\x1B", b"\x00\x01"),
-    ];
-    for (input, read_fails) in cases {
-        let case = Case {
-            input,
-            read_fails,
-            number: 2,
-            err: b"vt: read failed\n",
-            ..PLAIN
-        };
-        check(&rt, rt.alloc(), case)?;
-    }
+    let fails = Case {
+        input: b"abcdefghij",
+        read_fails: b"\x00\x01",
+        number: 2,
+        err: b"vt: read failed\n",
+        ..PLAIN
+    };
+    let fails_at_once = Case {
+        read_fails: b"\x01",
+        ..fails
+    };
+    let fails_in_a_sequence = Case {
+        input: b"a\x1B",
+        ..fails
+    };
+    check_all(
+        &rt,
+        rt.alloc(),
+        &[fails, fails_at_once, fails_in_a_sequence],
+    )?;
     Ok(())
 }
 
@@ -220,7 +238,7 @@ fn knows_one_spelling(rt: HostRuntime) -> Result<(), Fail> {
         "--help",
         "keys 1",
         "play 1",
-        "type",
+        "type 1",
         "",
     ];
     for line in cases {
@@ -274,9 +292,7 @@ fn tries_no_write_again(rt: HostRuntime) -> Result<(), Fail> {
         err: b"vt: usa",
         ..PLAIN
     };
-    for case in [out_fails, err_fails, err_is_short] {
-        check(&rt, rt.alloc(), case)?;
-    }
+    check_all(&rt, rt.alloc(), &[out_fails, err_fails, err_is_short])?;
     Ok(())
 }
 

@@ -15,6 +15,7 @@ pub fn parse_words(words: &[String]) -> Option<Command>
         "screen" => parse_screen(others),
         "keys" => parse_keys(others),
         "play" => parse_play(others),
+        "type" => parse_type(others),
         _ => None,
     }
 }
@@ -53,6 +54,18 @@ fn parse_play(words: &[String]) -> Option<Command>
         return None;
     }
     Some(Command::Play)
+}
+
+// The words behind `type`, which has none.
+fn parse_type(words: &[String]) -> Option<Command>
+    ensures found { IfSome result (λ command. IsSerial command
+        × AreWordsOf command (codes "type" ∷ map string_bytes words.now)) }
+    ensures none { IfNone result (AreNone IsSerial (codes "type" ∷ map string_bytes words.now)) }
+{
+    if !words.is_empty() {
+        return None;
+    }
+    Some(Command::Typing)
 }
 
 // A number of rows or columns.

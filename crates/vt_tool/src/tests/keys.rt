@@ -1,5 +1,5 @@
 //! `keys` over keymap texts. Expected listings were reckoned by hand from the rules of keymaps.
-use super::{Case, Long, PLAIN, check, check_long};
+use super::{Long, check_all, check_long, gives, refuses};
 use std::test::Fail;
 
 const NO_LINES: &[u8] = b"maps 0 1 2 4 5 8 12\n";
@@ -39,31 +39,20 @@ map 12 30 3 1
 
 #[test]
 fn lists_keymaps(rt: HostRuntime) -> Result<(), Fail> {
-    let cases: [(&'static [u8], u8, &'static [u8], &'static [u8]); 7] = [
-        (b"", 0, NO_LINES, b""),
-        (FEW, 0, FEW_LISTED, b""),
-        (LETTER, 0, LETTER_LISTED, b""),
-        (b"keycode 30 = U+0041\n", 0, CODE_POINT_LISTED, b""),
-        (
+    let cases = [
+        gives("keys", b"", NO_LINES),
+        gives("keys", FEW, FEW_LISTED),
+        gives("keys", LETTER, LETTER_LISTED),
+        gives("keys", b"keycode 30 = U+0041\n", CODE_POINT_LISTED),
+        refuses(
+            "keys",
             b"keycode 1 = a\nkeymaps 0\n",
-            5,
-            b"",
             b"vt: refused 5 at 2:1\n",
         ),
-        (b"keycode 30 = foo\n", 5, b"", b"vt: refused 2 at 1:14\n"),
-        (b"include \"a\"\n", 5, b"", b"vt: refused 7 at 1:9\n"),
+        refuses("keys", b"keycode 30 = foo\n", b"vt: refused 2 at 1:14\n"),
+        refuses("keys", b"include \"a\"\n", b"vt: refused 7 at 1:9\n"),
     ];
-    for (input, number, out, err) in cases {
-        let case = Case {
-            line: "keys",
-            input,
-            number,
-            out,
-            err,
-            ..PLAIN
-        };
-        check(&rt, rt.alloc(), case)?;
-    }
+    check_all(&rt, rt.alloc(), &cases)?;
     Ok(())
 }
 

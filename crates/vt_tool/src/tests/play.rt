@@ -1,61 +1,58 @@
 //! `play` over call texts. Expected journals and screens were reckoned by hand from the table of events.
-use super::{Case, Long, PLAIN, check, check_long};
+use super::{Long, check_all, check_long, gives, refuses};
 use std::test::Fail;
 
 #[test]
 fn plays_calls(rt: HostRuntime) -> Result<(), Fail> {
-    let cases: [(&'static [u8], &'static [u8]); 6] = [
-        (BELLS, BELLS_JOURNAL),
-        (SWITCH, SWITCH_JOURNAL),
-        (OWNER, OWNER_JOURNAL),
-        (REFUSED, REFUSED_JOURNAL),
-        (HANDSHAKE, HANDSHAKE_JOURNAL),
-        (OPENS, OPENS_JOURNAL),
+    let cases = [
+        gives("play", BELLS, BELLS_JOURNAL),
+        gives("play", SWITCH, SWITCH_JOURNAL),
+        gives("play", OWNER, OWNER_JOURNAL),
+        gives("play", REFUSED, REFUSED_JOURNAL),
+        gives("play", HANDSHAKE, HANDSHAKE_JOURNAL),
+        gives("play", OPENS, OPENS_JOURNAL),
     ];
-    for (input, out) in cases {
-        let case = Case {
-            line: "play",
-            input,
-            out_room: 10_000,
-            out,
-            ..PLAIN
-        };
-        check(&rt, rt.alloc(), case)?;
-    }
+    check_all(&rt, rt.alloc(), &cases)?;
     Ok(())
 }
 
 #[test]
 fn refuses_call_texts(rt: HostRuntime) -> Result<(), Fail> {
-    let cases: [(&'static [u8], &'static [u8]); 8] = [
-        (b"", b"vt: refused 91 at 1:1\n"),
-        (b"%calls 2 5 2 2", b"vt: refused 91 at 1:1\n"),
-        (b"%calls 2 5 9 2\n1 open 1\n", b"vt: refused 91 at 1:1\n"),
-        (
+    let cases = [
+        refuses("play", b"", b"vt: refused 91 at 1:1\n"),
+        refuses("play", b"%calls 2 5 2 2", b"vt: refused 91 at 1:1\n"),
+        refuses(
+            "play",
+            b"%calls 2 5 9 2\n1 open 1\n",
+            b"vt: refused 91 at 1:1\n",
+        ),
+        refuses(
+            "play",
             b"%calls 2 5 2 2\n1 open 1\n1 open 2",
             b"vt: refused 91 at 3:1\n",
         ),
-        (b"%calls 2 5 2 2\n0 open 1\n", b"vt: refused 91 at 2:1\n"),
-        (b"%calls 2 5 2 2\n1 open  1\n", b"vt: refused 91 at 2:1\n"),
-        (
+        refuses(
+            "play",
+            b"%calls 2 5 2 2\n0 open 1\n",
+            b"vt: refused 91 at 2:1\n",
+        ),
+        refuses(
+            "play",
+            b"%calls 2 5 2 2\n1 open  1\n",
+            b"vt: refused 91 at 2:1\n",
+        ),
+        refuses(
+            "play",
             b"%calls 2 5 2 2\n1 write 0 1b\n1 no\n",
             b"vt: refused 91 at 3:1\n",
         ),
-        (
+        refuses(
+            "play",
             b"%calls 2 5 2 2\n1 open 1\n1 no\n1 write 0 1b\n",
             b"vt: refused 91 at 3:1\n",
         ),
     ];
-    for (input, err) in cases {
-        let case = Case {
-            line: "play",
-            input,
-            number: 5,
-            err,
-            ..PLAIN
-        };
-        check(&rt, rt.alloc(), case)?;
-    }
+    check_all(&rt, rt.alloc(), &cases)?;
     Ok(())
 }
 

@@ -1,7 +1,8 @@
-use Rattle.std.proofs.Common.{[], sym, ◌∙◌}
+use Rattle.std.proofs.Common.{ℕ, List, [], length, sym, ap, ◌∙◌, true≢false}
+use Rattle.vt_journal.specs.Kinds.{takes}
 use Rattle.std.proofs.lemmas.List.{append-nil}
 use Rattle.vt_journal.specs.Words.{Spells}
-use Rattle.vt_journal.proofs.Spellings.{bytes_are, cut_parts, held_end, kind_is, none_next, some_next, spelled_once, spells_call}
+use Rattle.vt_journal.proofs.Spellings.{bytes_are, cut_parts, held_end, kind_is, none_next, some_next, spelled_once, spells_call, takes_all}
 use Rattle.vt_journal.proofs.reading.read_event.Goals as goal
 
 pub returns-in_default-clause-none : goal.returns-in_default-clause-none
@@ -40,6 +41,24 @@ returns-then-is_some-clause-none c =
     some_next c.next.result c.read_bytes.new.words _ c.next.ensures (sym c.if-is_some.ensures)
     (held_end c.holds_bytes.result c.in-Some-2.bytes.bytes _ _ (sym found ∙ are))
 
+pub returns-then-not-takes-clause-none : goal.returns-then-not-takes-clause-none
+returns-then-not-takes-clause-none c =
+    λ e s.
+    let found = rw c.in-Some-2.is at c.in_ok-bytes.ensures.found in
+    let fit = rw c.in-Some-2.is at c.in_ok-bytes.ensures.fit in
+    let all =
+    takes_all c.args.words.now e c.in-Some.kind c.in-Some-read_numbers.numbers.items
+    c.in-Some-2.bytes.bytes c.holds_bytes.result c.read_kind.new.words c.read_numbers.new.words
+    c.read_bytes.new.words s (sym c.of-words.ensures ∙ c.in-Some.ensures.found)
+    c.in-Some-read_numbers.ensures.found found
+    (none_next c.next.result c.read_bytes.new.words _ c.next.ensures (sym c.if-is_some.ensures))
+    (c.in-Some-read_numbers.ensures.many ∙ c.count.ensures.same) c.holds_bytes.ensures fit in
+    true≢false
+    (sym all
+    ∙ ap (λ (bs : List ℕ). takes c.in-Some.kind (length bs)) (sym c.as_slice.ensures)
+    ∙ sym c.takes.ensures
+    ∙ c.if-not-takes.true)
+
 spelled : (c : goal.After-call) → Spells c.args.words.now c.call.result
 spelled c =
     let found = rw c.in-Some-2.is at c.in_ok-bytes.ensures.found in
@@ -50,7 +69,7 @@ spelled c =
     (sym c.of-words.ensures ∙ c.in-Some.ensures.found) c.in-Some-read_numbers.ensures.found found
     (none_next c.next.result c.read_bytes.new.words _ c.next.ensures (sym c.if-is_some.ensures))
     c.holds_bytes.ensures c.call.ensures.kind
-    (c.call.ensures.numbers ∙ c.as_slice.ensures.value) c.call.ensures.bytes
+    (c.call.ensures.numbers ∙ c.as_slice-2.ensures.value) c.call.ensures.bytes
     c.in-Some-read_numbers.ensures.fit fit c.call.ensures.plain
 
 pub returns-clause-found : goal.returns-clause-found
