@@ -1,0 +1,28 @@
+ghost use Rattle.std.specs.Prelude.{◌≡◌};
+ghost use Rattle.sig_hooks.specs.Hooks.{Answers, act_of};
+
+use crate::{Act, HookTable};
+use vt_base::Signal;
+
+/// What can be a hook: every closure from a signal to an act is one.
+pub trait Handler: Drop {
+    ghost use Rattle.std.specs.Prelude.{List};
+    ghost use Rattle.sig_hooks.specs.declared.act.Act.{Act};
+
+    // It may be called on each signal, and answers the table's act.
+    ghost answers: { Self → List Act → Type 0 };
+
+    /// The act of the signal.
+    fn answer(&self, table: &HookTable, s: Signal) -> Act
+        requires { answers self.now table.now }
+        ensures { result ≡ act_of table.now s };
+}
+
+impl<F: Fn(Signal) -> Act> Handler for F {
+    ghost answers = { λ f table. Answers (λ n. F.pre f n) (λ n a. F.post f n a) table };
+
+    fn answer(&self, _table: &HookTable, s: Signal) -> Act {
+        let _number = s.get();
+        self(s)
+    }
+}

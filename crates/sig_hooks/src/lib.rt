@@ -1,0 +1,14 @@
+//! What processes do at signals: a table of acts, and stored closures that answer by a table.
+#![tactic(auto)]
+
+mod act;
+mod handler;
+mod hook;
+mod hook_table;
+#[cfg(test)]
+mod tests;
+
+pub use act::Act;
+pub use handler::Handler;
+pub use hook::Hook;
+pub use hook_table::HookTable;
