@@ -1,10 +1,10 @@
 -- What says something beside the screen: reports, lights and requests for another console
 -- (console_codes(4)).
-use Rattle.std.specs.Prelude.{ℕ, ◌+◌, ◌-◌, ◌==◌, ◌&&◌, nat_le, nat_lt, List, ◌∷◌, ◌++◌, Option, Some, None, codes, decimal, if◌then◌else◌}
+use Rattle.std.specs.Prelude.{ℕ, Bool, true, false, ◌+◌, ◌-◌, ◌==◌, ◌&&◌, nat_le, nat_lt, List, ◌∷◌, ◌++◌, Option, Some, None, codes, decimal, if◌then◌else◌}
 use Rattle.vt_screen.specs.Screen.{Screen}
 use Rattle.vt_screen.specs.Settings.{with_pen}
 use Rattle.vt_screen.specs.declared.out.Out.{Out}
-use Rattle.vt_screen.specs.declared.out.Out.TheVariants.{Lights, Report, SwitchLast, SwitchTo}
+use Rattle.vt_screen.specs.declared.out.Out.TheVariants.{Bell, Lights, Report, SwitchLast, SwitchTo}
 
 -- the screen after a unit, and what the unit says beside it
 pub record Done : Type 0 where
@@ -16,6 +16,11 @@ quiet s = record { screen = s; said = None }
 
 abbrev pub saying : Out → Screen → Done
 saying out s = record { screen = s; said = Some out }
+
+-- the bell, if it rings
+abbrev pub rung : Bool → Option Out
+rung true = Some Bell
+rung false = None
 
 -- a report: ESC and these characters
 abbrev pub report : List ℕ → Screen → Done

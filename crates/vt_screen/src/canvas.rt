@@ -114,7 +114,7 @@ impl Canvas {
         match unit {
             Unit::Char(code) => self.print(*code),
             Unit::Byte(b) => self.print(self.shown(*b)),
-            Unit::Control(code) => return self.control(*code),
+            Unit::Control(code) => return Out::bell(self.control(*code)),
             Unit::Esc { mid, last } => return self.escape(*mid, *last),
             Unit::Csi {
                 private,

@@ -9,7 +9,7 @@ ghost use Rattle.vt_screen.specs.declared.out.Out.{Out};
 ghost use Rattle.vt_units.specs.Run.{run, step};
 
 use crate::canvas::Canvas;
-use crate::{Outs, ScreenState};
+use crate::{Out, Outs, ScreenState};
 use std::marker::Model;
 use vt_cells::{Cell, Palette};
 use vt_grid::Grid;
@@ -127,6 +127,7 @@ impl Emu {
     }
 
     // Reads a byte. What it comes to has its effect.
+    #[inline(never)]
     fn take(&mut self, byte: u8, outs: &mut Outs)
         requires room { length outs.old < 64 }
         ensures step { having_said outs.new self.new ≡ step drawing byte (having_said outs.old self.old) }
@@ -138,7 +139,7 @@ impl Emu {
         }
         let said = match read.got {
             Then::Unit(unit) => self.canvas.obey(&unit),
-            Then::Act(code) => self.canvas.control(code),
+            Then::Act(code) => Out::bell(self.canvas.control(code)),
             Then::More | Then::Dropped => None,
         };
         outs.say(said);
@@ -155,7 +156,7 @@ impl Emu {
             self.take(byte, outs);
             return;
         }
-        outs.say(self.canvas.control(byte));
+        outs.say(Out::bell(self.canvas.control(byte)));
     }
 
     // Does what stands at the front of the text, as much at once as can be, and tells how many bytes
@@ -195,6 +196,7 @@ impl Emu {
 
     // Does the sequence that the text begins with, where it is read at once, and tells how many bytes
     // it is.
+    #[inline(never)]
     fn obey_front(&mut self, b: &[u8], outs: &mut Outs) -> usize
         requires room { length outs.old < 64 }
         ensures within { result ≤ length b.now }
@@ -244,6 +246,7 @@ impl Emu {
 
     // Prints the whole characters at the front of the text that end before the last column, and tells
     // how many bytes they are.
+    #[inline(never)]
     fn print_characters(&mut self, b: &[u8]) -> usize
         ensures within { result ≤ length b.now }
         ensures run { (outs : List Out) → run drawing (take result b.now) (having_said outs self.old)
@@ -263,6 +266,7 @@ impl Emu {
 
     // Prints the printable bytes at the front of the text that end before the last column, and
     // tells how many they are.
+    #[inline(never)]
     fn print_run(&mut self, b: &[u8]) -> usize
         ensures within { result ≤ length b.now }
         ensures run { (outs : List Out) → run drawing (take result b.now) (having_said outs self.old)

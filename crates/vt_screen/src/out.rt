@@ -1,3 +1,6 @@
+ghost use Rattle.std.specs.Prelude.{◌≡◌};
+ghost use Rattle.vt_screen.specs.Saying.{rung};
+
 use crate::ReportText;
 
 /// What the machine says beside the screen that it draws.
@@ -14,4 +17,13 @@ pub enum Out {
     /// BEL. (The default is only what an unused place of [`crate::Outs`] holds.)
     #[default]
     Bell,
+}
+
+impl Out {
+    /// The bell, if it rings.
+    pub(crate) fn bell(rings: bool) -> Option<Out>
+        ensures { result ≡ rung rings }
+    {
+        if rings { Some(Out::Bell) } else { None }
+    }
 }

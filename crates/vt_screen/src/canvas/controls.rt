@@ -1,17 +1,17 @@
 ghost use Rattle.std.specs.Prelude.{◌≡◌};
 ghost use Rattle.vt_screen.specs.Effect.{control};
+ghost use Rattle.vt_screen.specs.Saying.{rung};
 
 use super::Canvas;
-use crate::Out;
 
 impl Canvas {
-    /// What a control character does. The answer is what it says beside the screen.
+    /// What a control character does. The answer is whether the bell rings.
     #[tactic(auto, unfolding(crate::specs::Effect::control))]
-    pub fn control(&mut self, code: u8) -> Option<Out>
-        ensures { control code self.old ≡ record { screen = self.new; said = result } }
+    pub fn control(&mut self, code: u8) -> bool
+        ensures { control code self.old ≡ record { screen = self.new; said = rung result } }
     {
         match code {
-            0x07 => return Some(Out::Bell),
+            0x07 => return true,
             0x08 => self.backspace(),
             0x09 => self.tab(),
             0x0A..=0x0C => self.newline(),
@@ -20,6 +20,6 @@ impl Canvas {
             0x0F => self.invoke(0, false),
             _ => {}
         }
-        None
+        false
     }
 }

@@ -17,5 +17,6 @@ returns-clause-step c =
     (λ i. having_said (c.say.ensures.said i) (reached c.control.new.self (left i)))
     ∙ control-step c.controls_are_units.ensures c.args.byte c.args.outs.now s rest c.mode.result
     c.mode.ensures (sym takes ∙ c.if-not-take_control.false)
-    (record { screen = c.control.new.self; said = c.control.result }) c.control.ensures
+    (record { screen = c.control.new.self; said = c.bell.result })
+    (c.control.ensures ∙ (λ i. record { screen = c.control.new.self; said = sym c.bell.ensures i }))
     ∙ ap (λ (m : Reached Screen). step drawing c.args.byte (having_said c.args.outs.now m)) c.self.view_is
