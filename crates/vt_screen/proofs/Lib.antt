@@ -2,6 +2,7 @@ mod Controls
 mod Cuts
 mod Feeds
 mod Printed
+mod Scrolled
 mod Sequences
 mod Shown
 mod Start

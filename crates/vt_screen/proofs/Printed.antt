@@ -22,7 +22,7 @@ use Rattle.vt_units.specs.declared.mode.Mode.{Mode}
 use Rattle.vt_units.specs.declared.read.Read.{Read}
 use Rattle.vt_units.specs.declared.unit.Unit as units
 
-either-mode : (test : Bool) (s t : Screen) (m : Mode) → mode_of s ≡ m → mode_of t ≡ m
+pub either-mode : (test : Bool) (s t : Screen) (m : Mode) → mode_of s ≡ m → mode_of t ≡ m
     → mode_of (cond test s t) ≡ m
 either-mode true s t m first second = first
 either-mode false s t m first second = second
@@ -48,7 +48,7 @@ abbrev pub rest_behind : List ℕ → Mode → Rest → Rest
 rest_behind [] m old = old
 rest_behind (b ∷ bytes) m old = fresh m
 
-fresh-behind : (bytes : List ℕ) (m : Mode) → rest_behind bytes m (fresh m) ≡ fresh m
+pub fresh-behind : (bytes : List ℕ) (m : Mode) → rest_behind bytes m (fresh m) ≡ fresh m
 fresh-behind [] m = refl
 fresh-behind (b ∷ bytes) m = refl
 

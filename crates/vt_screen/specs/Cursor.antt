@@ -1,7 +1,7 @@
 -- Where the cursor goes (console_codes(4)). This project's own are the wrap flag's rules: what moves
 -- the cursor by name switches it off, and a tab leaves it.
 use Rattle.std.specs.List.{prefix_len}
-use Rattle.std.specs.Prelude.{ℕ, max, false, ◌+◌, ◌-◌, ◌==◌, min, not, drop, if◌then◌else◌}
+use Rattle.std.specs.Prelude.{ℕ, zero, suc, max, false, ◌+◌, ◌-◌, ◌==◌, min, not, drop, if◌then◌else◌}
 use Rattle.vt_grid.specs.Grid.{scrolled_down, scrolled_up}
 use Rattle.vt_screen.specs.Screen.{Screen, blank_of, with_state}
 
@@ -41,6 +41,11 @@ reverse_linefeed s =
 -- what LF does: in newline mode the cursor goes to the first column too
 abbrev pub newline : Screen → Screen
 newline s = linefeed (if s.state.newline then at_column 0 s else s)
+
+-- line feeds, one after another
+abbrev pub newlines : ℕ → Screen → Screen
+newlines zero s = s
+newlines (suc n) s = newlines n (newline s)
 
 -- to the next tab stop to the right, and not past the last column
 unfoldable pub tab : Screen → Screen

@@ -1,4 +1,4 @@
-ghost use Rattle.std.specs.Prelude.{◌≡◌, ◌<◌, ◌≤◌, ◌+◌, [], List, length, take};
+ghost use Rattle.std.specs.Prelude.{All, ◌≡◌, ◌<◌, ◌≤◌, ◌+◌, [], List, length, take};
 ghost use Rattle.vt_screen.specs.Run.{after, drawing, having_said, said, start};
 ghost use Rattle.vt_screen.specs.Screen.{IsWhole};
 ghost use Rattle.std.specs.Borrow.{Lends, sem};
@@ -187,10 +187,10 @@ impl Emu {
             ≡ having_said outs.new self.new }
         ensures few { length outs.new ≤ length outs.old + result }
     {
-        if b[0] == 0x1B {
-            self.obey_front(b, outs)
-        } else {
-            self.print_front(b)
+        match b[0] {
+            0x1B => self.obey_front(b, outs),
+            b'\n' => self.scroll_front(b),
+            _ => self.print_front(b),
         }
     }
 
@@ -225,6 +225,26 @@ impl Emu {
                 count
             }
         }
+    }
+
+    // Does the line feeds at the front of the text at once, where they scroll, and tells how many they
+    // are.
+    #[inline(never)]
+    fn scroll_front(&mut self, b: &[u8]) -> usize
+        ensures within { result ≤ length b.now }
+        ensures run { (outs : List Out) → run drawing (take result b.now) (having_said outs self.old)
+            ≡ having_said outs self.new }
+    {
+        controls_are_units();
+        let count = line_feeds(b);
+        if count == 0
+            || !self.canvas.scrolls()
+            || !self.pending.take_control(self.canvas.mode(), b'\n')
+        {
+            return 0;
+        }
+        self.canvas.scroll(count as u16);
+        count
     }
 
     // Prints characters at the front of the text that end before the last column, and tells how many
@@ -278,4 +298,18 @@ impl Emu {
         self.canvas.print_bytes(&front[..count]);
         count
     }
+}
+
+// How many of the first bytes are line feeds, up to the greatest number of 16 bits.
+fn line_feeds(b: &[u8]) -> usize
+    ensures feeds { All (λ x. x ≡ 0x0A) (take result b.now) }
+    ensures within { result ≤ length b.now }
+    ensures bound { result ≤ 0xFFFF }
+{
+    let most = b.len().min(0xFFFF);
+    let mut count = 0;
+    while count < most && b[count] == b'\n' {
+        count += 1;
+    }
+    count
 }

@@ -1,6 +1,6 @@
-ghost use Rattle.std.specs.Prelude.{◌≡◌, ◌-◌, ◌+◌, ◌<◌, ◌≤◌, min, not, drop};
+ghost use Rattle.std.specs.Prelude.{◌≡◌, ◌==◌, ◌-◌, ◌+◌, ◌<◌, ◌≤◌, min, not, drop, if◌then◌else◌};
 ghost use Rattle.std.specs.List.{prefix_len};
-ghost use Rattle.vt_screen.specs.Cursor.{at_column, first_row, homed, last_row, linefeed, moved, newline, placed, region_down, region_up, reverse_linefeed, tab};
+ghost use Rattle.vt_screen.specs.Cursor.{at_column, first_row, homed, last_row, linefeed, moved, newline, newlines, placed, region_down, region_up, reverse_linefeed, tab};
 
 use super::Canvas;
 use crate::Stops;
@@ -36,6 +36,35 @@ impl Canvas {
             self.carriage_return();
         }
         self.linefeed();
+    }
+
+    /// Whether a line feed scrolls: the cursor is in the region's last row.
+    pub fn scrolls(&self) -> bool
+        ensures { result ≡ (self.now.state.y == self.now.state.bottom) }
+    {
+        self.state.y == self.state.bottom
+    }
+
+    /// Does line feeds at once, of which each scrolls.
+    pub fn scroll(&mut self, count: u16)
+        requires some { 0 < count }
+        requires scrolls { self.old.state.y ≡ self.old.state.bottom }
+        ensures { self.new ≡ newlines count self.old }
+    {
+        let blank = self.blank();
+        self.state.x = self.line_start();
+        self.state.wrap = false;
+        self.grid
+            .scroll_up(self.state.top, self.state.bottom, count, blank);
+    }
+
+    // The column that a line feed leads to.
+    fn line_start(&self) -> u8
+        ensures column { result ≡ (if self.now.state.newline then 0 else self.now.state.x) }
+        ensures within { result < self.now.sheet.cols }
+    {
+        let _cols = self.grid.size().cols;
+        if self.state.newline { 0 } else { self.state.x }
     }
 
     /// NEL: to the first column of the next row.

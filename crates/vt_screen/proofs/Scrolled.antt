@@ -1,0 +1,227 @@
+-- Line feeds that scroll, one after another and at once.
+use Rattle.std.proofs.Common.{◌≡◌, ◌<◌, ◌≤◌, ◌+◌, ◌-◌, ◌==◌, arith, ℕ, zero, suc, Bool, true, false, cond, List, [], ◌∷◌, ◌++◌, take, drop, length, replicate, refl, sym, ap, ◌∙◌, ⊎_elim}
+use Rattle.std.proofs.Math.Seq.{drop-append_seam, take-append_seam, drop-append-add}
+use Rattle.std.proofs.lemmas.Bool.{cases_lt, cond-true}
+use Rattle.std.proofs.lemmas.List.{append_assoc, append-nil, drop_all, drop-append-le, drop-drop, length-append, length-drop, length-replicate, length-take}
+use Rattle.std.specs.Prelude.{All, min, not, ◌||◌}
+use Rattle.vt_cells.specs.declared.cell.Cell.{Cell}
+use Rattle.vt_grid.specs.Grid.{Sheet, moved_up, scrolled_up}
+use Rattle.vt_screen.proofs.Printed.{either-mode, fresh-behind, rest_behind}
+use Rattle.vt_screen.specs.Cursor.{at_column, at_row, linefeed, newline, newlines, region_up}
+use Rattle.vt_screen.specs.Effect.{control, effect}
+use Rattle.vt_screen.specs.Run.{Told, drawing, having_said, listed, told}
+use Rattle.vt_screen.specs.Saying.{Done, quiet}
+use Rattle.vt_screen.specs.Screen.{Screen, blank_of, mode_of}
+use Rattle.vt_screen.specs.declared.out.Out.{Out}
+use Rattle.vt_units.specs.Answer.{answer, rest_after}
+use Rattle.vt_units.specs.Bytes.{is_control}
+use Rattle.vt_units.specs.Laws.{ControlsAreUnits}
+use Rattle.vt_units.specs.Rest.{Rest, fresh}
+use Rattle.vt_units.specs.Run.{effects_of, reached, run}
+use Rattle.vt_units.specs.declared.mode.Mode.{Mode}
+use Rattle.vt_units.specs.declared.read.Read.{Read}
+use Rattle.vt_units.specs.declared.unit.Unit as units
+
+abbrev Row : Type 0
+Row = List Cell
+
+-- rows that move up by one and then by n
+by_fewer : (n h : ℕ) (f : Row) (rows : List Row) → length rows ≡ h → n < h
+    → drop n (drop 1 rows ++ f ∷ []) ++ replicate n f ≡ drop (suc n) rows ++ replicate (suc n) f
+by_fewer n h f rows tall fewer =
+    let inside : n ≤ length (drop 1 rows) = omega (arith, length-drop 1 rows, tall, fewer) in
+    let count : 1 + n ≡ suc n = omega arith in
+    ap (λ (xs : List Row). xs ++ replicate n f) (drop-append-le n (drop 1 rows) (f ∷ []) inside)
+    ∙ append_assoc (drop n (drop 1 rows)) (f ∷ []) (replicate n f)
+    ∙ ap (λ (xs : List Row). xs ++ replicate (suc n) f)
+    (drop-drop n 1 rows ∙ ap (λ k. drop k rows) count)
+
+by_all : (h : ℕ) (f : Row) (rows : List Row) → length rows ≡ h → 0 < h
+    → drop h (drop 1 rows ++ f ∷ []) ++ replicate h f ≡ drop h rows ++ replicate h f
+by_all h f rows tall some =
+    let long : length (drop 1 rows ++ f ∷ []) ≤ h =
+    omega (arith, length-append (drop 1 rows) (f ∷ []), length-drop 1 rows, tall, some) in
+    ap (λ (xs : List Row). xs ++ replicate h f)
+    (drop_all h (drop 1 rows ++ f ∷ []) long ∙ sym (drop_all h rows (omega (arith, tall))))
+
+moved_more : (n h : ℕ) (f : Row) (rows : List Row) → length rows ≡ h → 0 < h
+    → moved_up (min n h) f (moved_up (min 1 h) f rows) ≡ moved_up (min (suc n) h) f rows
+moved_more n h f rows tall some =
+    let one : min 1 h ≡ 1 = omega (arith, some) in
+    ap (λ k. moved_up (min n h) f (moved_up k f rows)) one
+    ∙ ⊎_elim
+    (λ fewer.
+    let low : min n h ≡ n = omega (arith, fewer) in
+    let high : min (suc n) h ≡ suc n = omega (arith, fewer) in
+    ap (λ k. moved_up k f (moved_up 1 f rows)) low
+    ∙ by_fewer n h f rows tall fewer
+    ∙ ap (λ k. moved_up k f rows) (sym high))
+    (λ all.
+    let low : min n h ≡ h = omega (arith, all) in
+    let high : min (suc n) h ≡ h = omega (arith, all) in
+    ap (λ k. moved_up k f (moved_up 1 f rows)) low
+    ∙ by_all h f rows tall some
+    ∙ ap (λ k. moved_up k f rows) (sym high))
+    (cases_lt n h)
+
+-- a region that scrolls by one and then by n
+scrolled_more : (s : Sheet) (top bottom n : ℕ) (c : Cell) → length s.cells ≡ s.rows → top ≤ bottom
+    → bottom < s.rows
+    → scrolled_up (scrolled_up s top bottom 1 c) top bottom n c ≡ scrolled_up s top bottom (suc n) c
+scrolled_more s top bottom n c tall order within =
+    let xs : List Row = s.cells in
+    let h : ℕ = bottom + 1 - top in
+    let f : Row = replicate s.cols c in
+    let a : List Row = take top xs in
+    let rows : List Row = take h (drop top xs) in
+    let m : List Row = moved_up (min 1 h) f rows in
+    let z : List Row = drop (bottom + 1) xs in
+    let whole : List Row = a ++ (m ++ z) in
+    let above : length a ≡ top = omega (arith, length-take top xs, tall, order, within) in
+    let height : length rows ≡ h =
+    omega (arith, length-take h (drop top xs), length-drop top xs, tall, order, within) in
+    let kept : length m ≡ h =
+    omega (
+      arith,
+      length-append (drop (min 1 h) rows) (replicate (min 1 h) f),
+      length-drop (min 1 h) rows,
+      length-replicate (min 1 h) f,
+      height,
+      order,
+    ) in
+    let seam : bottom + 1 ≡ length a + length m = omega (arith, above, kept, order) in
+    let first : take top whole ≡ a =
+    ap (λ k. take k whole) (sym above) ∙ take-append_seam a (m ++ z) in
+    let rest : drop top whole ≡ m ++ z =
+    ap (λ k. drop k whole) (sym above) ∙ drop-append_seam a (m ++ z) in
+    let middle : take h (drop top whole) ≡ m =
+    ap (take h) rest ∙ ap (λ k. take k (m ++ z)) (sym kept) ∙ take-append_seam m z in
+    let last : drop (bottom + 1) whole ≡ z =
+    ap (λ k. drop k whole) seam ∙ drop-append-add a (m ++ z) (length m) ∙ drop-append_seam m z in
+    let moved : moved_up (min n h) f (take h (drop top whole)) ≡ moved_up (min (suc n) h) f rows =
+    ap (moved_up (min n h) f) middle ∙ moved_more n h f rows height (omega (arith, order)) in
+    λ i. record s { cells = first i ++ (moved i ++ last i) }
+
+-- line feeds at once
+abbrev pub at_once : ℕ → Screen → Screen
+at_once n s = record {
+  sheet = scrolled_up s.sheet s.state.top s.state.bottom n (blank_of s);
+  state = record s.state { x = cond s.state.newline 0 s.state.x; wrap = false };
+}
+
+by_newline : (line : Bool) (s : Screen) → (s.state.y == s.state.bottom) ≡ true
+    → linefeed (cond line (at_column 0 s) s) ≡ record {
+      sheet = scrolled_up s.sheet s.state.top s.state.bottom 1 (blank_of s);
+      state = record s.state { x = cond line 0 s.state.x; wrap = false };
+    }
+by_newline true s is =
+    let from : Screen = at_column 0 s in
+    cond-true (s.state.y == s.state.bottom) (region_up from) (at_row (min (s.state.y + 1) (s.sheet.rows - 1)) from) is
+by_newline false s is =
+    cond-true (s.state.y == s.state.bottom) (region_up s) (at_row (min (s.state.y + 1) (s.sheet.rows - 1)) s) is
+
+twice : (line : Bool) (x : ℕ) → cond line 0 (cond line 0 x) ≡ cond line 0 x
+twice true x = refl
+twice false x = refl
+
+-- the rows stay as many
+scrolled-tall : (s : Screen) → length s.sheet.cells ≡ s.sheet.rows → s.state.top ≤ s.state.bottom
+    → s.state.bottom < s.sheet.rows → length (at_once 1 s).sheet.cells ≡ s.sheet.rows
+scrolled-tall s tall order within =
+    let xs : List Row = s.sheet.cells in
+    let top : ℕ = s.state.top in
+    let bottom : ℕ = s.state.bottom in
+    let h : ℕ = bottom + 1 - top in
+    let f : Row = replicate s.sheet.cols (blank_of s) in
+    let rows : List Row = take h (drop top xs) in
+    let m : List Row = moved_up (min 1 h) f rows in
+    let z : List Row = drop (bottom + 1) xs in
+    omega (
+      arith,
+      tall,
+      order,
+      within,
+      length-append (take top xs) (m ++ z),
+      length-append m z,
+      length-append (drop (min 1 h) rows) (replicate (min 1 h) f),
+      length-drop (min 1 h) rows,
+      length-replicate (min 1 h) f,
+      length-take h (drop top xs),
+      length-drop top xs,
+      length-take top xs,
+      length-drop (bottom + 1) xs,
+    )
+
+-- one line feed in the region's last row
+one : (s : Screen) → s.state.y ≡ s.state.bottom → newline s ≡ at_once 1 s
+one s last =
+    let same : (s.state.y == s.state.bottom) ≡ true = grind (arith, last) in
+    by_newline s.state.newline s same
+
+-- each more goes on
+pub all-at-once : (n : ℕ) (s : Screen) → s.state.y ≡ s.state.bottom
+    → length s.sheet.cells ≡ s.sheet.rows → s.state.top ≤ s.state.bottom → s.state.bottom < s.sheet.rows
+    → newlines (suc n) s ≡ at_once (suc n) s
+all-at-once zero s last tall order within = one s last
+all-at-once (suc n) s last tall order within =
+    let next : Screen = at_once 1 s in
+    let kept : length next.sheet.cells ≡ next.sheet.rows = scrolled-tall s tall order within in
+    ap (newlines (suc n)) (one s last)
+    ∙ all-at-once n next last kept order within
+    ∙ (λ i. record {
+      sheet = scrolled_more s.sheet s.state.top s.state.bottom (suc n) (blank_of s) tall order within i;
+      state = record s.state {
+        x = twice s.state.newline s.state.x i;
+        wrap = false;
+      };
+    })
+
+-- a line feed leaves the mode
+newline-mode : (s : Screen) → mode_of (newline s) ≡ mode_of s
+newline-mode s =
+    let from : Screen = cond s.state.newline (at_column 0 s) s in
+    let same : mode_of from ≡ mode_of s =
+    either-mode s.state.newline (at_column 0 s) s (mode_of s) refl refl in
+    either-mode (from.state.y == from.state.bottom) (region_up from)
+    (at_row (min (from.state.y + 1) (from.sheet.rows - 1)) from) (mode_of s) same same
+
+control-feed : (s : Screen) → control 0x0A s ≡ quiet (newline s)
+unfolding control
+control-feed s = refl
+
+or_true : (b : Bool) → (b || true) ≡ true
+or_true true = refl
+or_true false = refl
+
+feed-controls : (m : Mode) → is_control m 0x0A ≡ true
+feed-controls m = or_true (not m.display)
+
+-- the run of line feeds, where no text is
+pub feeds-run : ControlsAreUnits → (bytes : List ℕ) (outs : List Out) (s : Screen) (rest : Rest)
+    → All (λ b. b ≡ 0x0A) bytes → rest.text ≡ []
+    → run drawing bytes (having_said outs (reached s rest))
+    ≡ having_said outs (reached (newlines (length bytes) s) (rest_behind bytes (mode_of s) rest))
+feeds-run law [] outs s rest all nothing = refl
+feeds-run law (b ∷ bytes) outs s rest all nothing =
+    let m : Mode = mode_of s in
+    let feed : ℕ = 0x0A in
+    let one_step = law rest m feed nothing (feed-controls m) refl in
+    let start : Told = record { screen = s; outs = outs } in
+    let said : told (effect (units.Unit.Control feed)) start ≡ record { screen = newline s; outs = outs } =
+    ap (λ (done : Done). record { screen = done.screen; outs = outs ++ listed done.said }) (control-feed s)
+    ∙ ap (λ (o : List Out). record { screen = newline s; outs = o }) (append-nil outs) in
+    let rests : rest_behind bytes (mode_of (newline s)) (fresh m) ≡ fresh m =
+    ap (λ (n : Mode). rest_behind bytes n (fresh m)) (newline-mode s) ∙ fresh-behind bytes m in
+    let first : reached (effects_of drawing (answer rest m feed) start) (rest_after rest m feed)
+    ≡ having_said outs (reached (newline s) (fresh m)) =
+    ap (λ (r : Read). reached (effects_of drawing r start) (rest_after rest m feed)) one_step.0
+    ∙ (λ i. reached (said i) (one_step.1 i)) in
+    ap (λ (byte : ℕ). run drawing (byte ∷ bytes) (having_said outs (reached s rest))) (all zero 0 (omega arith))
+    ∙ ap (run drawing bytes) first
+    ∙ feeds-run law bytes outs (newline s) (fresh m) (λ k d within. all (suc k) d (omega (arith, within))) refl
+    ∙ ap (λ (r : Rest). having_said outs (reached (newlines (length bytes) (newline s)) r)) rests
+
+pub behind-some : (bytes : List ℕ) (m : Mode) (rest : Rest) → 0 < length bytes
+    → rest_behind bytes m rest ≡ fresh m
+behind-some [] m rest some = absurd (let z : ⊥ = omega (arith, some) in z)
+behind-some (b ∷ bytes) m rest some = refl
