@@ -26,6 +26,15 @@ impl FuncText {
         }
     }
 
+    /// The same string.
+    pub fn copy(&self) -> FuncText
+        ensures { result ≡ self.now }
+    {
+        let mut copy = FuncText::empty();
+        copy.set(self.as_slice());
+        copy
+    }
+
     pub fn as_slice(&self) -> &[u8]
         ensures value { result.now ≡ self.now }
         ensures short { length result.now ≤ 255 }

@@ -46,6 +46,19 @@ impl KeyTables {
         })
     }
 
+    /// The same tables, strings and pairs.
+    pub fn copy(&self, alloc: Global) -> Result<KeyTables, NoMemory>
+        ensures { IfOk result (λ copy. copy ≡ self.now) }
+    {
+        let mut pairs = Vec::with_capacity(alloc, COUNT)?;
+        pairs.extend_from_slice(self.pairs.as_slice())?;
+        Ok(KeyTables {
+            maps: copy_maps(alloc, self.maps.as_slice())?,
+            funcs: copy_funcs(alloc, self.funcs.as_slice())?,
+            pairs,
+        })
+    }
+
     /// Whether there is a table.
     pub fn exists(&self, t: u8) -> bool
         ensures value { result ≡ exists_in self.now t }
@@ -137,6 +150,26 @@ impl KeyTables {
         )?;
         Ok(text)
     }
+}
+
+fn copy_maps(alloc: Global, maps: &[Table]) -> Result<Vec<Table>, NoMemory>
+    ensures { IfOk result (λ copies. copies.items ≡ maps.now) }
+{
+    let mut copies = Vec::with_capacity(alloc, maps.len())?;
+    for map in maps {
+        copies.push(map.copy(alloc)?)?;
+    }
+    Ok(copies)
+}
+
+fn copy_funcs(alloc: Global, funcs: &[FuncText]) -> Result<Vec<FuncText>, NoMemory>
+    ensures { IfOk result (λ copies. copies.items ≡ funcs.now) }
+{
+    let mut copies = Vec::with_capacity(alloc, funcs.len())?;
+    for func in funcs {
+        copies.push(func.copy())?;
+    }
+    Ok(copies)
 }
 
 // The tables from 0 to 255.

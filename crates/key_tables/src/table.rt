@@ -55,6 +55,15 @@ impl Table {
         Ok(Table { entries })
     }
 
+    /// The same table.
+    pub fn copy(&self, alloc: Global) -> Result<Table, NoMemory>
+        ensures { IfOk result (λ copy. copy ≡ self.now) }
+    {
+        Ok(Table {
+            entries: Vec::from_slice(alloc, self.entries.as_slice())?,
+        })
+    }
+
     pub fn exists(&self) -> bool
         ensures value { result ≡ is_some self.now }
         ensures whole { IfSome self.now IsMap }

@@ -82,6 +82,9 @@ solid-call name ns passes fit =
 
 -- no word of a call has a byte below the graphic ones
 solid-words : (e : Event) → IsFit e → All IsSolid (event_words e)
+solid-words (event.Scan b) fit =
+    All-push IsSolid (codes "scan" ∷ []) (hex_text (b ∷ []))
+    (solid-call (codes "scan") [] refl fit.numbers) (solid-hex (b ∷ []))
 solid-words (event.OpenCon n) fit = solid-call (codes "open") (n ∷ []) refl fit.numbers
 solid-words (event.Write fd b) fit =
     All-push IsSolid (codes "write" ∷ decimal fd ∷ []) (hex_text b.bytes)
@@ -109,6 +112,7 @@ lacks-event e fit = lacks-spelled (event_words e) (solid-words e fit)
 -- the words of a call have one more in front of them
 words_split : (word : List ℕ) (e : Event)
     → spelled (word ∷ event_words e) ≡ word ++ 0x20 ∷ spelled (event_words e)
+words_split word (event.Scan b) = refl
 words_split word (event.OpenCon n) = refl
 words_split word (event.Write fd b) = refl
 words_split word (event.Activate fd n) = refl
@@ -137,6 +141,7 @@ heading_read text mark r0 r1 r2 r3 r4 h is is0 is1 is2 is3 is4 =
 
 -- the room of its bytes is nothing of a call's words
 fit-plain : (e : Event) → IsFit e → IsFit (plain_event e)
+fit-plain (event.Scan b) fit = fit
 fit-plain (event.OpenCon n) fit = fit
 fit-plain (event.Write fd b) fit = record { numbers = fit.numbers; bytes = fit.bytes }
 fit-plain (event.Activate fd n) fit = fit
@@ -144,6 +149,7 @@ fit-plain (event.SetMode fd mode waitv relsig acqsig frsig) fit = fit
 fit-plain (event.RelDisp fd arg) fit = fit
 
 plain-plain : (e : Event) → plain_event (plain_event e) ≡ plain_event e
+plain-plain (event.Scan b) = refl
 plain-plain (event.OpenCon n) = refl
 plain-plain (event.Write fd b) = refl
 plain-plain (event.Activate fd n) = refl
@@ -151,6 +157,7 @@ plain-plain (event.SetMode fd mode waitv relsig acqsig frsig) = refl
 plain-plain (event.RelDisp fd arg) = refl
 
 words-plain : (e : Event) → event_words (plain_event e) ≡ event_words e
+words-plain (event.Scan b) = refl
 words-plain (event.OpenCon n) = refl
 words-plain (event.Write fd b) = refl
 words-plain (event.Activate fd n) = refl

@@ -9,6 +9,7 @@ mod PlayEnds
 mod Plays
 mod Sides
 pub mod Documents
+mod Statuses
 pub mod Streams
 pub mod Tables
 mod Texts

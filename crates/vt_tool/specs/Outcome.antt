@@ -11,7 +11,7 @@ use Rattle.vt_screen.specs.Run.{after, start}
 use Rattle.vt_events.specs.declared.entry.Entry.{Entry}
 use Rattle.vt_journal.specs.declared.tail.Tail.{Tail}
 use Rattle.vt_tool.specs.Calls.{CallText, HasFaultAt, IsGood, call_text}
-use Rattle.vt_tool.specs.Play.{IsPlay, opening_of, play_text, status_of}
+use Rattle.vt_tool.specs.Play.{ArePlayed, IsPlay, opening_of, play_text, status_of}
 use Rattle.vt_dump.specs.Rows.{rows_text}
 use Rattle.vt_tool.specs.Typing.{TypeTable, type_table_of, typed_text}
 use Rattle.vt_tool.specs.declared.command.Command.{Command}
@@ -36,13 +36,15 @@ GivesRows rows cols input outcome =
 -- the text of a play of the input's calls; its journal is their legal history
 pub record GivesPlayed (input : List ℕ) (outcome : Outcome) : Type 0 where
   pub text : CallText
+  pub tables : Tables
   pub history : List Entry
   pub end : Tail
   pub spelled : input ≡ call_text text
   pub good : IsGood text
-  pub played : IsPlay (opening_of text.heading) text.calls history end
+  pub holes : ArePlayed tables
+  pub played : IsPlay (opening_of text.heading tables) text.calls history end
   pub status : outcome.status ≡ status_of end
-  pub written : outcome.text ≡ play_text (opening_of text.heading) history end
+  pub written : outcome.text ≡ play_text (opening_of text.heading tables) history end
 
 -- the first line of the input that has a fault
 pub record GivesFault (input : List ℕ) (outcome : Outcome) : Type 0 where

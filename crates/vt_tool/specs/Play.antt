@@ -1,8 +1,9 @@
 -- What `play` makes of a call text: a legal history of its calls, as far as they find room. This
 -- project's own.
-use Rattle.std.specs.Prelude.{◌≡◌, ◌⊎◌, ℕ, ◌+◌, ◌-◌, ◌^◌, ◌≤◌, true, List, ◌++◌, length, map, take, replicate, slice_get, Some}
+use Rattle.std.specs.Prelude.{◌≡◌, ◌⊎◌, ℕ, ◌+◌, ◌-◌, ◌^◌, ◌≤◌, true, List, [], ◌∷◌, ◌++◌, length, map, take, replicate, slice_get, Some}
 use Rattle.vt_events.specs.Charge.{charge_of}
 use Rattle.vt_events.specs.declared.entry.Entry.{Entry}
+use Rattle.key_tables.specs.Tables.{IsEmpty, Tables}
 use Rattle.vt_journal.specs.Journal.{journal_text}
 use Rattle.vt_journal.specs.Log.{HasRoom, charge_of_all}
 use Rattle.vt_journal.specs.declared.tail.Tail.{Tail}
@@ -29,10 +30,14 @@ abbrev pub privileged : ProcStart
 privileged = record { home = 0; privileged = true }
 
 -- the console that a call text begins with: consoles 1 to N, of which 1 is in front, and so many
--- privileged processes
-abbrev pub opening_of : Heading → WorldState
-opening_of h =
-    opening h.rows h.cols (2 ^ (h.consoles + 1) - 2) 1 (replicate h.processes privileged)
+-- privileged processes, and these key tables
+abbrev pub opening_of : Heading → Tables → WorldState
+opening_of h tables =
+    opening h.rows h.cols (2 ^ (h.consoles + 1) - 2) 1 (replicate h.processes privileged) tables
+
+-- the key tables of a call text: table 0 alone, with holes
+abbrev pub ArePlayed : Tables → Type 0
+ArePlayed tables = IsEmpty (0 ∷ []) tables
 
 -- the call of an entry
 abbrev pub call_of : Entry → Call

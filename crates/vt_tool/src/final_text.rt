@@ -1,12 +1,14 @@
-ghost use Rattle.std.specs.Prelude.{◌≡◌, ◌≤◌, ◌∷◌, ◌++◌, codes, decimal, map, OnOk};
+ghost use Rattle.std.specs.Prelude.{◌≡◌, ◌≤◌, ◌∷◌, ◌++◌, codes, decimal, map, IfOk, OnOk};
 ghost use Rattle.vt_journal.specs.Journal.{line_text};
 ghost use Rattle.vt_tool.specs.Final.{console_text, consoles_text, final_text, place_text, queue_words};
+ghost use Rattle.vt_world.specs.Inputs.{input_at};
 ghost use Rattle.vt_world.specs.Terminals.{bells_of, machine_of, terminal_at};
 
+use in_queue::InQueue;
 use std::alloc::Global;
 use vt_dump::add_rows;
 use vt_base::{Bytes, ConsoleNo, NoMemory};
-use vt_journal::{add, add_next};
+use vt_journal::{add, add_hex, add_next};
 use vt_screen::Emu;
 use vt_world::World;
 
@@ -37,13 +39,14 @@ fn add_place(alloc: Global, text: &mut Bytes, world: &World, n: u16) -> Result<(
     requires low { 1 ≤ n }
     requires high { n ≤ 63 }
     ensures { OnOk result (text.new.bytes
-        ≡ text.old.bytes ++ place_text n (terminal_at world.now.terminals n)) }
+        ≡ text.old.bytes ++ place_text n (terminal_at world.now.terminals n)
+        (input_at world.now.inputs n).queue) }
 {
     let Some(c) = ConsoleNo::new(n) else {
         unreachable!()
     };
     match world.screen(c) {
-        Some(screen) => add_console(alloc, text, n, screen, world.bells(c)),
+        Some(screen) => add_console(alloc, text, n, screen, world.bells(c), world.queue(c)),
         None => Ok(()),
     }
 }
@@ -54,9 +57,10 @@ fn add_console(
     n: u16,
     screen: &Emu,
     bells: u32,
+    queue: &InQueue,
 ) -> Result<(), NoMemory>
     ensures { OnOk result (text.new.bytes
-        ≡ text.old.bytes ++ console_text n screen.now.state bells) }
+        ≡ text.old.bytes ++ console_text n screen.now.state bells queue.now) }
 {
     let size = screen.grid().size();
     let state = screen.state();
@@ -70,7 +74,7 @@ fn add_console(
     ];
     add_screen_line(alloc, text, &numbers)?;
     add_rows(alloc, text, screen.grid())?;
-    add_queue_line(alloc, text, n)?;
+    add_queue_line(alloc, text, n, queue)?;
     Ok(())
 }
 
@@ -88,12 +92,26 @@ fn add_screen_line(alloc: Global, text: &mut Bytes, numbers: &[u32]) -> Result<(
 }
 
 // The line behind the rows.
-fn add_queue_line(alloc: Global, text: &mut Bytes, n: u16) -> Result<(), NoMemory>
-    ensures { OnOk result (text.new.bytes ≡ text.old.bytes ++ line_text (queue_words n)) }
+fn add_queue_line(alloc: Global, text: &mut Bytes, n: u16, queue: &InQueue) -> Result<(), NoMemory>
+    ensures { OnOk result (text.new.bytes ≡ text.old.bytes ++ line_text (queue_words n queue.now)) }
 {
+    let bytes = bytes_of(alloc, queue)?;
     add(alloc, text, b"%queue")?;
     add_next(alloc, text, u64::from(n))?;
-    add_next(alloc, text, 0)?;
-    add(alloc, text, b" -\n")?;
+    add_next(alloc, text, u64::from(queue.dropped()))?;
+    add(alloc, text, b" ")?;
+    add_hex(alloc, text, bytes.as_slice())?;
+    add(alloc, text, b"\n")?;
     Ok(())
+}
+
+// The bytes that a queue has.
+fn bytes_of(alloc: Global, queue: &InQueue) -> Result<Bytes, NoMemory>
+    ensures { IfOk result (λ bytes. bytes.bytes ≡ queue.now.bytes) }
+{
+    let mut bytes = Bytes::with_room(alloc, queue.len())?;
+    for i in 0..queue.len() {
+        bytes.append(&[queue.at(i)]);
+    }
+    Ok(bytes)
 }

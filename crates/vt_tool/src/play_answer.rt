@@ -12,6 +12,7 @@ use crate::calls::read_calls;
 use crate::final_text::add_final_text;
 use crate::play::play;
 use crate::status::Status;
+use key_tables::KeyTables;
 use std::alloc::Global;
 use vt_base::{Bytes, NoMemory};
 use vt_journal::{Tail, print};
@@ -51,7 +52,8 @@ fn answer_played(alloc: Global, text: CallText) -> Result<Answer, NoMemory>
         (record { status = answer.status; text = answer.text.bytes })) }
 {
     let CallText { heading, calls } = text;
-    let played = play(alloc, heading, calls)?;
+    let tables = KeyTables::empty(alloc, &[0])?;
+    let played = play(alloc, heading, &tables, calls)?;
     let mut text = Bytes::new(alloc);
     print(alloc, played.log.entries(), &played.end, &mut text)?;
     add_final_text(alloc, &mut text, &played.world)?;

@@ -1,3 +1,5 @@
+mod Requests
 mod Bells
 mod Histories
 mod Places
+mod Writes

@@ -1,7 +1,9 @@
 pub mod History
+pub mod Inputs
 pub mod Rows
 pub mod Spare
 pub mod Start
 pub mod State
 pub mod Step
 pub mod Terminals
+pub mod Wanted

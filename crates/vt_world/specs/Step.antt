@@ -1,10 +1,11 @@
 -- The console step: what one event of one caller makes of the console, and what it is answered. The
 -- order of refusals is this project's own.
-use Rattle.std.specs.Prelude.{◌≡◌, ℕ, ◌==◌, not, List, [], ◌∷◌, Option, Some, None, if◌then◌else◌}
+use Rattle.std.specs.Prelude.{◌≡◌, ℕ, ◌==◌, Bool, not, List, [], ◌∷◌, Option, Some, None, if◌then◌else◌}
 use Rattle.vt_base.specs.declared.errno.Errno.{Errno}
 use Rattle.vt_base.specs.declared.errno.Errno.TheVariants.{Srch, Notty}
 use Rattle.vt_events.specs.Plain.{plain_reply}
 use Rattle.vt_events.specs.declared.event.Event.{Event}
+use Rattle.vt_events.specs.declared.event.Event.TheVariants as event
 use Rattle.vt_events.specs.declared.reply.Reply.{Reply}
 use Rattle.vt_events.specs.declared.reply.Reply.TheVariants as reply
 use Rattle.vt_procs.specs.Callers.{caller_at}
@@ -21,11 +22,16 @@ abbrev pub first_failing : List Test → Option Errno
 first_failing [] = None
 first_failing (t ∷ tests) = if t.fails then Some t.with else first_failing tests
 
--- what refuses an event, in order: its caller isn't live; it is the keyboard, which makes none of
--- them; and the event's own tests
+-- the keyboard makes scans, and processes all others
+abbrev pub may_make : ℕ → Event → Bool
+may_make p (event.Scan b) = p == 0
+may_make p e = not (p == 0)
+
+-- what refuses an event, in order: its caller isn't live, it can't make such an event, and the
+-- event's own tests
 abbrev pub tests : WorldState → ℕ → Event → List Test
 tests w p e =
-    test (not (caller_at w.callers p).live) Srch ∷ test (p == 0) Notty ∷ own_tests w p e
+    test (not (caller_at w.callers p).live) Srch ∷ test (not (may_make p e)) Notty ∷ own_tests w p e
 
 -- a refused event changes nothing; else its deeds are done
 abbrev pub answered : WorldState → Option Errno → Row → Outcome

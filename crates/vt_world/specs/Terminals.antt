@@ -1,5 +1,6 @@
 -- What the consoles show, in a list by number: None where a console isn't allocated.
-use Rattle.std.specs.Prelude.{ℕ, Bool, true, false, ◌+◌, min, count_by, List, Option, Some, None, option_map, slice_index_or, slice_set}
+use Rattle.std.specs.Prelude.{ℕ, Bool, true, false, ◌+◌, min, count_by, List, [], Option, Some, None, option_map, slice_index_or, slice_set}
+use Rattle.key_machine.specs.declared.key_modes.KeyModes.{KeyModes}
 use Rattle.vt_screen.specs.Run.{after, said, start}
 use Rattle.vt_screen.specs.Screen.{Screen}
 use Rattle.vt_screen.specs.declared.out.Out.{Out}
@@ -50,6 +51,21 @@ or_new rows cols (Some t) = t
 abbrev pub with_start : ℕ → ℕ → ℕ → List (Option TerminalState) → List (Option TerminalState)
 with_start n rows cols terminals =
     slice_set terminals n (Some (or_new rows cols (terminal_at terminals n)))
+
+-- what these bytes say when they are written to console n, beside what they draw
+abbrev pub said_of : Option TerminalState → List ℕ → List Out
+said_of None bytes = []
+said_of (Some t) bytes = said t.machine bytes
+
+-- the modes of a screen that keys depend on; those of a start screen where there is none
+abbrev pub key_modes_of : Option TerminalState → KeyModes
+key_modes_of None = record { cursor = false; keypad = false; repeat = true; newline = false }
+key_modes_of (Some t) = record {
+  cursor = t.machine.state.state.cursor;
+  keypad = t.machine.state.state.keypad;
+  repeat = t.machine.state.state.repeat;
+  newline = t.machine.state.state.newline;
+}
 
 -- these bytes are written to console n, if it has a terminal
 abbrev pub written : ℕ → List ℕ → List (Option TerminalState) → List (Option TerminalState)

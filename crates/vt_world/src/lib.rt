@@ -1,6 +1,10 @@
 //! The console of one thread: it takes the calls of its callers one by one, and answers each.
 #![tactic(auto)]
 
+mod asking;
+mod board;
+mod input;
+mod inputs;
 mod laws;
 mod rows;
 mod spare;
@@ -9,6 +13,7 @@ mod terminal;
 mod terminals;
 #[cfg(test)]
 mod tests;
+mod wanted;
 mod world;
 
 pub use laws::legal_grows;

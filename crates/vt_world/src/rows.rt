@@ -6,4 +6,5 @@ mod open;
 mod permission;
 mod refusals;
 mod release;
+mod scan;
 mod write;

@@ -1,6 +1,6 @@
 ghost use Rattle.std.specs.Prelude.{◌≡◌, IsTrue};
 ghost use Rattle.vt_world.specs.Spare.{Fits, HasSize, allocates};
-ghost use Rattle.vt_world.specs.Step.{Gives, own_step, step};
+ghost use Rattle.vt_world.specs.Step.{Gives, may_make, own_step, step};
 
 use crate::spare::Spare;
 use crate::world::World;
@@ -22,7 +22,7 @@ impl World {
         let Spare { grid, unused, .. } = spare;
         let reply = if !self.procs.live(caller) {
             Reply::Err(Errno::Srch)
-        } else if caller.get() == KEYBOARD {
+        } else if !may_make(caller, event) {
             Reply::Err(Errno::Notty)
         } else {
             self.carry_out(caller, event, grid)
@@ -35,6 +35,7 @@ impl World {
         ensures { Gives (own_step self.old p event.now) self.new result }
     {
         match event {
+            Event::Scan(b) => self.scan(p, *b),
             Event::OpenCon(n) => self.open(p, *n, grid),
             Event::Write(fd, b) => self.write(p, *fd, b),
             Event::Activate(fd, n) => self.activate(p, *fd, *n, grid),
@@ -50,5 +51,15 @@ impl World {
             }
             Event::RelDisp(fd, arg) => self.release(p, *fd, *arg),
         }
+    }
+}
+
+// Whether the caller can make such an event: the keyboard makes scans, and processes all others.
+fn may_make(caller: CallerNo, event: &Event) -> bool
+    ensures { result ≡ may_make caller event.now }
+{
+    match event {
+        Event::Scan(_) => caller.get() == KEYBOARD,
+        _ => caller.get() != KEYBOARD,
     }
 }

@@ -1,9 +1,10 @@
-ghost use Rattle.std.specs.Prelude.{◌≡◌};
+ghost use Rattle.std.specs.Prelude.{◌≡◌, ◌≤◌, [], length};
+ghost use Rattle.vt_screen.specs.Run.{said};
 ghost use Rattle.vt_world.specs.Terminals.{new_terminal, rung, written_on};
 
 use std::marker::Model;
 use vt_grid::Grid;
-use vt_screen::{Emu, FEED_BYTES, Out, Outs, any_cut};
+use vt_screen::{Emu, Out, Outs};
 
 /// What a console shows: its screen, and how often its bell rang.
 #[derive(Debug, Drop)]
@@ -48,20 +49,15 @@ impl Terminal {
         self.bells
     }
 
-    /// Runs the bytes on the screen, and takes what they say.
-    pub fn write(&mut self, b: &[u8])
-        ensures { self.new ≡ written_on b.now self.old }
+    /// Runs at most 64 bytes on the screen, and counts their bells. All that they say is in `outs`.
+    pub fn feed(&mut self, b: &[u8], outs: &mut Outs)
+        requires short { length b.now ≤ 64 }
+        requires empty { outs.old ≡ [] }
+        ensures terminal { self.new ≡ written_on b.now self.old }
+        ensures outs { outs.new ≡ said self.old.machine b.now }
     {
-        any_cut();
-        let mut outs = Outs::new();
-        let mut at = 0;
-        while at < b.len() {
-            let end = b.len().min(at + FEED_BYTES);
-            outs.clear();
-            self.emu.feed(&b[at..end], &mut outs);
-            self.bells = rung(self.bells, outs.as_slice());
-            at = end;
-        }
+        self.emu.feed(b, outs);
+        self.bells = rung(self.bells, outs.as_slice());
     }
 }
 

@@ -1,13 +1,13 @@
-ghost use Rattle.std.specs.Prelude.{◌≡◌, Some, None, IfOk, is_some, option_copied, if◌then◌else◌};
+ghost use Rattle.std.specs.Prelude.{◌≡◌, ◌≤◌, [], Some, None, IfOk, length, is_some, option_copied, if◌then◌else◌};
 ghost use Rattle.vt_base.specs.ConsoleSet.{at_each};
-ghost use Rattle.vt_world.specs.Terminals.{new_terminal, terminal_at, with_start, written};
+ghost use Rattle.vt_world.specs.Terminals.{new_terminal, said_of, terminal_at, with_start, written};
 
 use crate::terminal::Terminal;
 use std::alloc::Global;
 use std::marker::Model;
 use vt_base::{ConsoleNo, NoMemory, Size, is_among};
 use vt_grid::Grid;
-use vt_screen::BLANK;
+use vt_screen::{BLANK, Outs};
 
 /// The places for consoles by their numbers, of which 0 stays free.
 const PLACES: usize = 64;
@@ -60,12 +60,15 @@ impl Terminals {
         }
     }
 
-    /// Writes the bytes to the console, where it has a terminal.
-    pub fn write(&mut self, c: ConsoleNo, b: &[u8])
-        ensures { self.new ≡ written c b.now self.old }
+    /// Writes at most 64 bytes to the console, where it has a terminal. What they say is in `outs`.
+    pub fn write(&mut self, c: ConsoleNo, b: &[u8], outs: &mut Outs)
+        requires short { length b.now ≤ 64 }
+        requires empty { outs.old ≡ [] }
+        ensures terminals { self.new ≡ written c b.now self.old }
+        ensures outs { outs.new ≡ said_of (terminal_at self.old c) b.now }
     {
         if let Some(terminal) = &mut self.places[usize::from(c.get())] {
-            terminal.write(b);
+            terminal.feed(b, outs);
         }
     }
 }

@@ -1,5 +1,8 @@
 //! Calls of a world. Expected answers were reckoned by hand from the table of events.
+mod typing;
+
 use crate::{Spare, World, spare_for};
+use key_tables::KeyTables;
 use std::alloc::Global;
 use std::test::Fail;
 use vt_base::{Bytes, CallerNo, ConsoleNo, NoMemory, Size};
@@ -28,7 +31,8 @@ fn start(alloc: Global) -> Result<Option<World>, NoMemory> {
         front,
         procs,
     };
-    Ok(Some(World::start(alloc, &config)?))
+    let tables = KeyTables::empty(alloc, &[0])?;
+    Ok(Some(World::start(alloc, &config, &tables)?))
 }
 
 // What stands for an answer: a number from 1,000 on, an error's number below 0, or 0.

@@ -1,10 +1,15 @@
 ghost use Rattle.std.specs.Prelude.{◌≡◌, IfOk, is_some, option_copied};
 ghost use Rattle.vt_switch.specs.Display.{is_allocated};
 ghost use Rattle.vt_base.specs.ConsoleSet.{IsFitSet};
+ghost use Rattle.vt_world.specs.Inputs.{input_at};
 ghost use Rattle.vt_world.specs.Start.{opening};
 ghost use Rattle.vt_world.specs.Terminals.{bells_of, machine_of, terminal_at};
 
+use crate::board::Board;
+use crate::inputs::Inputs;
 use crate::terminals::Terminals;
+use in_queue::InQueue;
+use key_tables::KeyTables;
 use std::alloc::Global;
 use std::marker::Model;
 use vt_base::{ConsoleNo, NoMemory, Size};
@@ -12,13 +17,17 @@ use vt_procs::{Config, Procs};
 use vt_screen::Emu;
 use vt_switch::Switch;
 
-/// All consoles with what they show, the display, and the callers.
+/// All consoles with what they show and what was typed into them, the display, the callers, and the
+/// keyboard.
 #[derive(Debug, Drop)]
 pub struct World {
     pub(crate) size: Size,
     pub(crate) switch: Switch,
     pub(crate) procs: Procs,
     pub(crate) terminals: Terminals,
+    pub(crate) inputs: Inputs,
+    pub(crate) board: Board,
+    pub(crate) tables: KeyTables,
 }
 
 impl Model for World {
@@ -32,6 +41,9 @@ impl Model for World {
       display = w.switch;
       callers = w.procs;
       terminals = w.terminals;
+      inputs = w.inputs;
+      board = w.board;
+      tables = w.tables;
     } };
 
     ghost use Rattle.vt_world.specs.State.{HasTerminals};
@@ -42,22 +54,31 @@ impl Model for World {
       display = w.switch;
       callers = w.procs;
       terminals = w.terminals;
+      inputs = w.inputs;
+      board = w.board;
+      tables = w.tables;
     }) };
 }
 
 impl World {
-    /// All consoles of the set are new, and every process lives and has nothing open.
-    pub fn start(alloc: Global, c: &Config) -> Result<World, NoMemory>
+    /// All consoles of the set are new, every process lives and has nothing open, no key is down, and
+    /// the key tables are these. All memory for what is typed is taken here.
+    pub fn start(alloc: Global, c: &Config, t: &KeyTables) -> Result<World, NoMemory>
         requires { IsFitSet c.now.consoles c.now.front }
         ensures { IfOk result (λ w. w ≡ opening c.now.size.rows c.now.size.cols c.now.consoles
-            c.now.front c.now.procs) }
+            c.now.front c.now.procs t.now) }
     {
         let terminals = Terminals::start(alloc, c.size, c.consoles)?;
+        let inputs = Inputs::start(alloc)?;
+        let tables = t.copy(alloc)?;
         Ok(World {
             size: c.size,
             switch: Switch::start(c.front, c.consoles),
             procs: Procs::start(c.procs.as_slice()),
             terminals,
+            inputs,
+            board: Board::start(),
+            tables,
         })
     }
 
@@ -87,6 +108,13 @@ impl World {
             Some(terminal) => terminal.bells(),
             None => 0,
         }
+    }
+
+    /// The bytes that a console's input has.
+    pub fn queue(&self, c: ConsoleNo) -> &InQueue
+        ensures { result.now ≡ (input_at self.now.inputs c).queue }
+    {
+        self.inputs.queue(c)
     }
 
     /// The rows and columns of every new screen.

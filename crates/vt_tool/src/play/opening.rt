@@ -4,6 +4,7 @@ ghost use Rattle.vt_tool.specs.Play.{opening_of, privileged};
 ghost use Rattle.vt_base.specs.ConsoleSet.{IsFitSet};
 
 use crate::calls::heading::Heading;
+use key_tables::KeyTables;
 use std::alloc::Global;
 use vt_base::{ConsoleNo, NoMemory, Size};
 use vt_procs::{Config, ProcList, ProcStart};
@@ -16,9 +17,9 @@ const PRIVILEGED: ProcStart = ProcStart {
 };
 
 /// The console that a call text begins with.
-pub fn open_world(alloc: Global, heading: Heading) -> Result<World, NoMemory>
+pub fn open_world(alloc: Global, heading: Heading, tables: &KeyTables) -> Result<World, NoMemory>
     requires { IsFitHeading heading }
-    ensures { IfOk result (λ world. world ≡ opening_of heading) }
+    ensures { IfOk result (λ world. world ≡ opening_of heading tables.now) }
 {
     let Some(front) = ConsoleNo::new(1) else {
         unreachable!()
@@ -32,7 +33,7 @@ pub fn open_world(alloc: Global, heading: Heading) -> Result<World, NoMemory>
         front,
         procs: processes(heading.processes),
     };
-    World::start(alloc, &config)
+    World::start(alloc, &config, tables)
 }
 
 // So many privileged processes.

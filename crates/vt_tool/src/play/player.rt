@@ -12,6 +12,7 @@ use crate::calls::heading::Heading;
 use crate::play::Played;
 use crate::play::counts::Counts;
 use crate::play::opening::open_world;
+use key_tables::KeyTables;
 use std::alloc::Global;
 use std::marker::Model;
 use vt_base::NoMemory;
@@ -42,14 +43,14 @@ impl Model for Player {
 }
 
 impl Player {
-    fn open(alloc: Global, heading: Heading) -> Result<Player, NoMemory>
+    fn open(alloc: Global, heading: Heading, tables: &KeyTables) -> Result<Player, NoMemory>
         requires { IsFitHeading heading }
-        ensures from { IfOk result (λ player. IsFrom (opening_of heading) player) }
+        ensures from { IfOk result (λ player. IsFrom (opening_of heading tables.now) player) }
         ensures entries { IfOk result (λ player. player.log.entries ≡ []) }
         ensures limits { IfOk result (λ player. HasPlayLimits player.log) }
     {
         legal_grows();
-        let world = open_world(alloc, heading)?;
+        let world = open_world(alloc, heading, tables)?;
         let log = Log::with_room(alloc, MOST_EVENTS, MOST_BYTES)?;
         Ok(Player {
             world,
@@ -123,15 +124,21 @@ impl Player {
     }
 }
 
-/// Makes the calls in order, on the console that the heading names, until one finds no room.
-pub fn play(alloc: Global, heading: Heading, calls: Vec<Call>) -> Result<Played, NoMemory>
+/// Makes the calls in order, on the console that the heading names, with these key tables, until one
+/// finds no room.
+pub fn play(
+    alloc: Global,
+    heading: Heading,
+    tables: &KeyTables,
+    calls: Vec<Call>,
+) -> Result<Played, NoMemory>
     requires heading { IsFitHeading heading }
     ensures play { IfOk result (λ played.
-        IsPlay (opening_of heading) calls.items played.log.entries played.end) }
+        IsPlay (opening_of heading tables.now) calls.items played.log.entries played.end) }
     ensures world { IfOk result (λ played.
-        played.world ≡ replay (opening_of heading) played.log.entries) }
+        played.world ≡ replay (opening_of heading tables.now) played.log.entries) }
 {
-    let mut player = Player::open(alloc, heading)?;
+    let mut player = Player::open(alloc, heading, tables)?;
     for call in calls {
         let charge = charge(&call.event);
         if !player.log.room(charge) {

@@ -11,6 +11,7 @@ fn plays_calls(rt: HostRuntime) -> Result<(), Fail> {
         gives("play", REFUSED, REFUSED_JOURNAL),
         gives("play", HANDSHAKE, HANDSHAKE_JOURNAL),
         gives("play", OPENS, OPENS_JOURNAL),
+        gives("play", REPORT, REPORT_JOURNAL),
     ];
     check_all(&rt, rt.alloc(), &cases)?;
     Ok(())
@@ -138,7 +139,7 @@ const BELLS_JOURNAL: &[u8] = b"%journal 1
 |b  |
 %queue 1 0 -
 %screen 2 1 3 2 0 4
-|ac |
+|a c|
 %queue 2 0 -
 %done
 ";
@@ -320,5 +321,23 @@ const OPENS_JOURNAL: &[u8] = b"%journal 1
 %screen 1 1 1 0 0 0
 | |
 %queue 1 0 -
+%done
+";
+
+const REPORT: &[u8] = b"%calls 1 3 1 1
+1 open 1
+1 write 0 1b5b366e
+1 scan 1e
+";
+
+const REPORT_JOURNAL: &[u8] = b"%journal 1
+1 0 open 1 = num 0
+1 1 write 0 1b5b366e = num 4
+1 2 scan 1e = err 25
+%end 3 196
+%display 1
+%screen 1 1 3 0 0 0
+|   |
+%queue 1 0 1b5b313b3152
 %done
 ";

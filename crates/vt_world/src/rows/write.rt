@@ -1,11 +1,16 @@
-ghost use Rattle.std.specs.Prelude.{◌≡◌};
+ghost use Rattle.std.specs.Prelude.{◌≡◌, ◌≤◌, length};
+ghost use Rattle.std.specs.List.{flat_map};
 ghost use Rattle.vt_events.specs.declared.event.Event.TheVariants as event;
+ghost use Rattle.vt_world.specs.Rows.{out_deeds, write_deeds};
+ghost use Rattle.vt_world.specs.State.{all_done};
 ghost use Rattle.vt_world.specs.Step.{Gives, own_step};
 
 use crate::World;
 use crate::rows::refusals::{INVALID, NOT_OPEN};
-use vt_base::{Bytes, CallerNo};
+use crate::wanted::Wanted;
+use vt_base::{Bytes, CallerNo, ConsoleNo};
 use vt_events::Reply;
+use vt_screen::{FEED_BYTES, Out, Outs, any_cut};
 
 /// The most bytes of one write. This project's own.
 const WRITE_LIMIT: usize = 4_096;
@@ -22,7 +27,53 @@ impl World {
         if text.len() > WRITE_LIMIT {
             return INVALID;
         }
-        self.terminals.write(c, text);
+        self.run(c, text);
         Reply::Num(text.len() as u32)
+    }
+
+    // Runs a text on a console, and does what it says.
+    fn run(&mut self, c: ConsoleNo, b: &[u8])
+        ensures { self.new ≡ all_done self.old (write_deeds self.old c b.now) }
+    {
+        any_cut();
+        let mut outs = Outs::new();
+        let mut at = b.len().min(FEED_BYTES);
+        self.run_piece(c, &b[..at], &mut outs);
+        while at < b.len() {
+            let end = b.len().min(at + FEED_BYTES);
+            self.run_piece(c, &b[at..end], &mut outs);
+            at = end;
+        }
+    }
+
+    // Runs at most 64 bytes on a console, and does what they say. What stands in `outs` is forgotten.
+    fn run_piece(&mut self, c: ConsoleNo, b: &[u8], outs: &mut Outs)
+        requires { length b.now ≤ 64 }
+        ensures { self.new ≡ all_done self.old (write_deeds self.old c b.now) }
+    {
+        outs.clear();
+        self.terminals.write(c, b, outs);
+        self.take_outs(c, outs.as_slice());
+    }
+
+    // What a text says on a console, in order.
+    fn take_outs(&mut self, c: ConsoleNo, outs: &[Out])
+        ensures { self.new ≡ all_done self.old (flat_map (out_deeds c) outs.now) }
+    {
+        for out in outs {
+            self.take_out(c, out);
+        }
+    }
+
+    fn take_out(&mut self, c: ConsoleNo, out: &Out)
+        ensures { self.new ≡ all_done self.old (out_deeds c out.now) }
+    {
+        match out {
+            Out::Report(text) => self.inputs.put(c, text.as_slice()),
+            Out::SwitchTo(n) => self.ask(Wanted::Number(u16::from(*n))),
+            Out::SwitchLast => self.ask(Wanted::Last),
+            Out::Lights(lights) => self.inputs.light(c, *lights),
+            Out::Bell => {}
+        }
     }
 }

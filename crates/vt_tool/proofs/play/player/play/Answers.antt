@@ -18,7 +18,7 @@ none_left (x ∷ xs) none = absurd (let impossible : ⊥ = omega (arith, none) i
 pub returns-then-not-room-clause-play : goal.returns-then-not-room-clause-play
 returns-then-not-room-clause-play c =
     let player : PlayerView = c.loop-call.player in
-    let start : WorldState = opening_of c.args.heading in
+    let start : WorldState = opening_of c.args.heading c.args.tables.now in
     let rest : List Call = into_iter_items c.next.new.self in
     let call : Call = c.in-Some.call in
     let order : map call_of player.log.entries ++ call ∷ rest ≡ c.args.calls.items =
@@ -41,11 +41,11 @@ pub returns-then-not-room-clause-world : goal.returns-then-not-room-clause-world
 returns-then-not-room-clause-world c =
     c.stop.ensures.world
     ∙ c.loop-call.invariant.from.replayed
-    ∙ ap (λ (log : Logged). replay (opening_of c.args.heading) log.entries) (sym c.stop.ensures.log)
+    ∙ ap (λ (log : Logged). replay (opening_of c.args.heading c.args.tables.now) log.entries) (sym c.stop.ensures.log)
 
 pub loop-call-preserved : goal.loop-call-preserved
 loop-call-preserved c = record {
-  from = c.in_ok-make.ensures.from (opening_of c.args.heading) c.loop-call.invariant.from;
+  from = c.in_ok-make.ensures.from (opening_of c.args.heading c.args.tables.now) c.loop-call.invariant.from;
   order =
       ap (λ made. made ++ into_iter_items c.next.new.self) c.in_ok-make.ensures.calls
       ∙ append_assoc (map call_of c.loop-call.player.log.entries) (c.in-Some.call ∷ []) (into_iter_items c.next.new.self)
@@ -68,9 +68,9 @@ returns-clause-play c =
     (none_left (into_iter_items c.loop-call.call-iterator)
     (sym c.loop-call.invariant.left ∙ c.in-None.ensures.steps.0))
     ∙ c.loop-call.invariant.order in
-    subst (λ (log : Logged). IsPlay (opening_of c.args.heading) c.args.calls.items log.entries c.finish.result.end)
+    subst (λ (log : Logged). IsPlay (opening_of c.args.heading c.args.tables.now) c.args.calls.items log.entries c.finish.result.end)
     (sym c.finish.ensures.log)
-    (finishes (opening_of c.args.heading) player c.args.calls.items c.finish.result.end
+    (finishes (opening_of c.args.heading c.args.tables.now) player c.args.calls.items c.finish.result.end
     c.loop-call.invariant.from c.loop-call.invariant.limits c.finish.ensures.events
     c.finish.ensures.bytes order c.finish.ensures.end)
 
@@ -78,4 +78,4 @@ pub returns-clause-world : goal.returns-clause-world
 returns-clause-world c =
     c.finish.ensures.world
     ∙ c.loop-call.invariant.from.replayed
-    ∙ ap (λ (log : Logged). replay (opening_of c.args.heading) log.entries) (sym c.finish.ensures.log)
+    ∙ ap (λ (log : Logged). replay (opening_of c.args.heading c.args.tables.now) log.entries) (sym c.finish.ensures.log)

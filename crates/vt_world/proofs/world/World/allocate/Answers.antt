@@ -15,6 +15,9 @@ returns-then-allocated c =
       display = inside.switch;
       callers = inside.procs;
       terminals = inside.terminals;
+      inputs = inside.inputs;
+      board = inside.board;
+      tables = inside.tables;
     } in
     subst (λ (v : WorldState). v ≡ all_done v (allocating c.args.c [])) c.self.view_is
     (allocating_same w c.args.c c.self.invariant (sym c.allocated.ensures ∙ c.if-allocated.true))

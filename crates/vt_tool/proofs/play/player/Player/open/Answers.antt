@@ -10,5 +10,5 @@ returns-clause-from c =
       log = c.in_ok-log.log;
       counts = c.new.result;
     } in
-    from_start (opening_of c.args.heading) player c.legal_grows.ensures.nothing
+    from_start (opening_of c.args.heading c.args.tables.now) player c.legal_grows.ensures.nothing
     c.in_ok-world.ensures c.in_ok-log.ensures.entries c.new.ensures

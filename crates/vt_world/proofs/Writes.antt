@@ -1,0 +1,139 @@
+-- A text that is run on a console piece by piece.
+use Rattle.std.proofs.Common.{◌≡◌, ◌≤◌, ℕ, zero, suc, List, [], ◌∷◌, ◌++◌, length, get_or, set, Option, Some, None, false, ltb, refl, sym, ap, ◌∙◌, append-nil, arith}
+use Rattle.std.proofs.lemmas.Bool.{le-ltb}
+use Rattle.std.proofs.lemmas.Grind.{flat_map-append}
+use Rattle.std.specs.List.{flat_map}
+use Rattle.std.specs.Prelude.{option_map}
+use Rattle.vt_screen.specs.Run.{AnyCut, said}
+use Rattle.vt_screen.specs.declared.out.Out.{Out}
+use Rattle.vt_screen.specs.declared.out.Out.TheVariants as outs
+use Rattle.vt_world.specs.Rows.{out_deeds, write_deeds}
+use Rattle.vt_world.specs.State.{Asks, Deed, Lights, Own, Puts, WorldState, Writes, all_done, done}
+use Rattle.vt_base.specs.Bytes.{Text}
+use Rattle.vt_events.specs.declared.event.Event.TheVariants as event
+use Rattle.vt_events.specs.declared.reply.Reply.TheVariants as reply
+use Rattle.vt_procs.specs.Callers.{console_of}
+use Rattle.vt_world.specs.Step.{own_step}
+use Rattle.vt_world.specs.Terminals.{TerminalState, said_of, terminal_at, written, written_on}
+use Rattle.vt_world.specs.declared.wanted.Wanted.TheVariants.{Last, Number}
+use Rattle.vt_world.proofs.Bells.{written-more}
+
+-- deeds, and then more of them
+pub all_done-append : (w : WorldState) (xs ys : List Deed)
+    → all_done w (xs ++ ys) ≡ all_done (all_done w xs) ys
+all_done-append w [] ys = refl
+all_done-append w (x ∷ xs) ys = all_done-append (done w x) xs ys
+
+-- what is said, one behind another
+abbrev pub heard : ℕ → List Out → WorldState → WorldState
+heard c said w = all_done w (flat_map (out_deeds c) said)
+
+pub heard-append : (c : ℕ) (xs ys : List Out) (w : WorldState)
+    → heard c ys (heard c xs w) ≡ heard c (xs ++ ys) w
+heard-append c xs ys w =
+    sym (all_done-append w (flat_map (out_deeds c) xs) (flat_map (out_deeds c) ys))
+    ∙ ap (all_done w) (sym (flat_map-append (out_deeds c) xs ys))
+
+-- one thing more is said
+pub heard-more : (c : ℕ) (xs : List Out) (x : Out) (w : WorldState)
+    → all_done (heard c xs w) (out_deeds c x) ≡ heard c (xs ++ x ∷ []) w
+heard-more c xs x w =
+    ap (all_done (heard c xs w)) (sym (append-nil (out_deeds c x)))
+    ∙ heard-append c xs (x ∷ []) w
+
+-- what is said draws nothing
+heard-terminals : (c : ℕ) (said : List Out) (w : WorldState)
+    → (heard c said w).terminals ≡ w.terminals
+heard-terminals c [] w = refl
+heard-terminals c (outs.Report text ∷ more) w = heard-terminals c more (done w (Own (Puts c text)))
+heard-terminals c (outs.SwitchTo n ∷ more) w = heard-terminals c more (done w (Asks (Number n)))
+heard-terminals c (outs.SwitchLast ∷ more) w = heard-terminals c more (done w (Asks Last))
+heard-terminals c (outs.Lights lights ∷ more) w =
+    heard-terminals c more (done w (Own (Lights c lights)))
+heard-terminals c (outs.Bell ∷ more) w = heard-terminals c more w
+
+-- so a text may be drawn before
+heard-writes : (c : ℕ) (bytes : List ℕ) (said : List Out) (w : WorldState)
+    → done (heard c said w) (Own (Writes c bytes)) ≡ heard c said (done w (Own (Writes c bytes)))
+heard-writes c bytes [] w = refl
+heard-writes c bytes (outs.Report text ∷ more) w =
+    heard-writes c bytes more (done w (Own (Puts c text)))
+heard-writes c bytes (outs.SwitchTo n ∷ more) w =
+    heard-writes c bytes more (done w (Asks (Number n)))
+heard-writes c bytes (outs.SwitchLast ∷ more) w = heard-writes c bytes more (done w (Asks Last))
+heard-writes c bytes (outs.Lights lights ∷ more) w =
+    heard-writes c bytes more (done w (Own (Lights c lights)))
+heard-writes c bytes (outs.Bell ∷ more) w = heard-writes c bytes more w
+
+-- what a place has after it changes
+at_changed : (n : ℕ) (f : TerminalState → TerminalState) (ts : List (Option TerminalState))
+    → get_or (set ts n (option_map f (get_or ts n None))) n None ≡ option_map f (get_or ts n None)
+at_changed n f [] = refl
+at_changed zero f (t ∷ ts) = refl
+at_changed (suc n) f (t ∷ ts) = at_changed n f ts
+
+-- a place that changes twice
+changed_twice : (n : ℕ) (f g : TerminalState → TerminalState) (ts : List (Option TerminalState))
+    (o : Option TerminalState) → o ≡ option_map f (get_or ts n None)
+    → set (set ts n o) n (option_map g o) ≡ set ts n (option_map g o)
+changed_twice n f g [] o is = refl
+changed_twice zero f g (t ∷ ts) o is = refl
+changed_twice (suc n) f g (t ∷ ts) o is = ap (λ more. t ∷ more) (changed_twice n f g ts o is)
+
+both_written : AnyCut → (a b : List ℕ) (o : Option TerminalState)
+    → option_map (written_on b) (option_map (written_on a) o) ≡ option_map (written_on (a ++ b)) o
+both_written law a b None = refl
+both_written law a b (Some t) = ap Some (written-more law t a b _ _ _ refl refl refl)
+
+-- two pieces draw what the whole draws
+written-append : AnyCut → (c : ℕ) (a b : List ℕ) (ts : List (Option TerminalState))
+    → written c b (written c a ts) ≡ written c (a ++ b) ts
+written-append law c a b ts =
+    ap (λ o. set (written c a ts) c (option_map (written_on b) o)) (at_changed c (written_on a) ts)
+    ∙ changed_twice c (written_on a) (written_on b) ts (option_map (written_on a) (get_or ts c None))
+    refl
+    ∙ ap (set ts c) (both_written law a b (get_or ts c None))
+
+both_said : AnyCut → (a b : List ℕ) (o : Option TerminalState)
+    → said_of o a ++ said_of (option_map (written_on a) o) b ≡ said_of o (a ++ b)
+both_said law a b None = refl
+both_said law a b (Some t) = sym (law t.machine a b).1
+
+-- and say what the whole says
+said-append : AnyCut → (c : ℕ) (a b : List ℕ) (ts : List (Option TerminalState))
+    → said_of (terminal_at ts c) a ++ said_of (terminal_at (written c a ts) c) b
+    ≡ said_of (terminal_at ts c) (a ++ b)
+said-append law c a b ts =
+    ap (λ o. said_of (terminal_at ts c) a ++ said_of o b) (at_changed c (written_on a) ts)
+    ∙ both_said law a b (terminal_at ts c)
+
+abbrev pub ran : WorldState → ℕ → List ℕ → WorldState
+ran w c bytes = all_done w (write_deeds w c bytes)
+
+-- a text that is run in two pieces is run
+pub ran-append : AnyCut → (w : WorldState) (c : ℕ) (a b : List ℕ)
+    → ran (ran w c a) c b ≡ ran w c (a ++ b)
+ran-append law w c a b =
+    let drawn : WorldState = done w (Own (Writes c a)) in
+    let said_a : List Out = said_of (terminal_at w.terminals c) a in
+    let said_b : List Out = said_of (terminal_at drawn.terminals c) b in
+    ap (λ ts. heard c (said_of (terminal_at ts c) b) (done (heard c said_a drawn) (Own (Writes c b))))
+    (heard-terminals c said_a drawn)
+    ∙ ap (heard c said_b) (heard-writes c b said_a drawn)
+    ∙ heard-append c said_a said_b (done drawn (Own (Writes c b)))
+    ∙ (λ i. heard c (said-append law c a b w.terminals i)
+    (record w { terminals = written-append law c a b w.terminals i }))
+
+-- a write that isn't refused
+pub write-answered : (w : WorldState) (p fd : ℕ) (b : Text) (c : ℕ) (text : List ℕ) (w' : WorldState)
+    → console_of w.callers p fd ≡ Some c → text ≡ b.bytes → length text ≤ 4096
+    → w' ≡ ran w c text
+    → own_step w p (event.Write fd b) ≡ record { world = w'; reply = reply.Num (length text) }
+write-answered w p fd b c text w' found is short ran_is =
+    let within : ltb 4096 (length b.bytes) ≡ false =
+    le-ltb 4096 (length b.bytes) (omega (arith, short, ap length is)) in
+    rw (found, within)
+    (λ i. record {
+      world = (ap (ran w c) (sym is) ∙ sym ran_is) i;
+      reply = reply.Num (length (sym is i));
+    })

@@ -1,0 +1,6 @@
+use Rattle.std.proofs.Common.{◌≡◌, take}
+use Rattle.vt_world.proofs.Writes.{heard}
+use Rattle.vt_world.proofs.world.World.take_outs.Given as goal
+
+abbrev pub invariant-loop-out : goal.invariant-loop-out
+invariant-loop-out l = l.self ≡ heard l.c (take l.out-index l.outs) l.fn.self

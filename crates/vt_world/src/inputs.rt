@@ -1,0 +1,100 @@
+ghost use Rattle.std.specs.Prelude.{◌≡◌, IfOk, replicate};
+ghost use Rattle.vt_world.specs.Inputs.{input_at, keyed, lit, new_input, queued, scanned, with_bytes};
+
+use crate::input::Input;
+use in_queue::InQueue;
+use key_machine::{KbState, mode};
+use std::alloc::Global;
+use std::marker::Model;
+use vt_base::{ConsoleNo, NoMemory};
+
+/// The places for consoles by their numbers, of which 0 stays free.
+const PLACES: usize = 64;
+
+/// What the keyboard puts into each console, by its number.
+#[derive(Debug, Drop)]
+pub(crate) struct Inputs {
+    places: Vec<Input>,
+}
+
+impl Model for Inputs {
+    ghost use Rattle.std.specs.Prelude.{◌≡◌, List, vec_len};
+    ghost use Rattle.vt_world.specs.declared.input.Input.{Input};
+
+    ghost Value = { List Input };
+
+    ghost view = { λ i. i.places.items };
+
+    ghost invariant = { λ i. vec_len i.places ≡ 64 };
+}
+
+impl Inputs {
+    /// A new place for each console.
+    pub(crate) fn start(alloc: Global) -> Result<Inputs, NoMemory>
+        ensures { IfOk result (λ inputs. inputs ≡ replicate 64 new_input) }
+    {
+        let mut places = Vec::with_capacity(alloc, PLACES)?;
+        for _n in 0..PLACES {
+            places.push(Input {
+                queue: InQueue::new(alloc)?,
+                keys: KbState::start(),
+            })?;
+        }
+        Ok(Inputs { places })
+    }
+
+    /// The queue of the console.
+    pub(crate) fn queue(&self, c: ConsoleNo) -> &InQueue
+        ensures { result.now ≡ (input_at self.now c).queue }
+    {
+        &self.places[usize::from(c.get())].queue
+    }
+
+    /// The key state of the console.
+    pub(crate) fn keys(&self, c: ConsoleNo) -> KbState
+        ensures { result ≡ (input_at self.now c).keys }
+    {
+        self.places[usize::from(c.get())].keys
+    }
+
+    /// Puts the bytes into the console's queue, whole or not at all.
+    pub(crate) fn put(&mut self, c: ConsoleNo, piece: &[u8])
+        ensures { self.new ≡ queued c piece.now self.old }
+    {
+        let input = &mut self.places[usize::from(c.get())];
+        put_whole(&mut input.queue, piece);
+    }
+
+    /// Gives the console this key state.
+    pub(crate) fn set_keys(&mut self, c: ConsoleNo, keys: KbState)
+        ensures { self.new ≡ keyed c keys self.old }
+    {
+        let input = &mut self.places[usize::from(c.get())];
+        input.keys = keys;
+    }
+
+    /// Sets the console's lights.
+    pub(crate) fn light(&mut self, c: ConsoleNo, lights: u8)
+        ensures { self.new ≡ lit c lights self.old }
+    {
+        let mut keys = self.keys(c);
+        keys.lights = Some(lights);
+        self.set_keys(c, keys);
+    }
+
+    /// Puts a scan byte into the console's queue, where its keyboard mode is K_RAW.
+    pub(crate) fn scan(&mut self, c: ConsoleNo, b: u8)
+        ensures { self.new ≡ scanned c b self.old }
+    {
+        if self.keys(c).mode == mode::RAW {
+            self.put(c, &[b]);
+        }
+    }
+}
+
+// Puts the bytes into the queue, whole or not at all.
+fn put_whole(queue: &mut InQueue, piece: &[u8])
+    ensures { queue.new ≡ with_bytes queue.old piece.now }
+{
+    let _whole = queue.put(piece);
+}
