@@ -141,7 +141,7 @@ const BELLS_JOURNAL: &[u8] = b"%journal 1
 |b  |
 %queue 1 0 -
 %screen 2 1 3 2 0 4
-|ac |
+|a c|
 %queue 2 0 -
 %done
 ";
