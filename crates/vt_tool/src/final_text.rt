@@ -6,8 +6,8 @@ ghost use Rattle.vt_world.specs.Terminals.{bells_of, machine_of, terminal_at};
 
 use in_queue::InQueue;
 use std::alloc::Global;
-use vt_dump::add_rows;
 use vt_base::{Bytes, ConsoleNo, NoMemory};
+use vt_dump::add_rows;
 use vt_journal::{add, add_hex, add_next};
 use vt_screen::Emu;
 use vt_world::World;

@@ -331,4 +331,3 @@ fn takes_the_greatest_input(rt: HostRuntime) -> Result<(), Fail> {
     }
     Ok(())
 }
-
