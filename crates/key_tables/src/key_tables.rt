@@ -89,7 +89,8 @@ impl KeyTables {
 
     /// The string of a function key.
     pub fn func(&self, i: u8) -> &[u8]
-        ensures { result.now ≡ func_of self.now i }
+        ensures text { result.now ≡ func_of self.now i }
+        ensures short { length result.now ≤ 255 }
     {
         self.funcs[usize::from(i)].as_slice()
     }
@@ -129,7 +130,8 @@ impl KeyTables {
 
     /// The pairs in order.
     pub fn pairs(&self) -> &[Pair]
-        ensures { result.now ≡ self.now.pairs }
+        ensures pairs { result.now ≡ self.now.pairs }
+        ensures few { length result.now ≤ 256 }
     {
         self.pairs.as_slice()
     }

@@ -48,6 +48,13 @@ impl CharMap {
         }
     }
 
+    /// The user's table: a code point for each byte.
+    pub fn user(&self) -> &[u16; 256]
+        ensures { result.now ≡ self.now }
+    {
+        &self.user
+    }
+
     /// Replaces the user's table: a code point for each byte.
     pub fn set_user(&mut self, words: &[u16; 256])
         ensures { self.new ≡ words.now }
