@@ -15,6 +15,10 @@ text bytes = record { bytes = bytes; room = 0 }
 -- a call
 abbrev pub plain_event : Event → Event
 plain_event (event.Write fd b) = event.Write fd (text b.bytes)
+plain_event (event.SetFunc fd i b) = event.SetFunc fd i (text b.bytes)
+plain_event (event.SetDia fd b) = event.SetDia fd (text b.bytes)
+plain_event (event.SetMap fd b) = event.SetMap fd (text b.bytes)
+plain_event (event.SetPal fd b) = event.SetPal fd (text b.bytes)
 plain_event e = e
 
 -- an answer

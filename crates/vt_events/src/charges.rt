@@ -1,5 +1,5 @@
-ghost use Rattle.std.specs.Prelude.{◌≡◌};
-ghost use Rattle.vt_events.specs.Charge.{charge_of, greatest_reply};
+ghost use Rattle.std.specs.Prelude.{◌≡◌, ◌≤◌, length};
+ghost use Rattle.vt_events.specs.Charge.{charge_of, greatest_dump, greatest_reply, text_of_event};
 
 use crate::Event;
 
@@ -11,24 +11,49 @@ const ENTRY_BYTES: usize = 64;
 pub fn charge(e: &Event) -> u32
     ensures { result ≡ charge_of e.now }
 {
-    let held = match e {
-        Event::Write(_, b) => b.as_slice().len(),
-        _ => 0,
-    };
-    let sum = held.saturating_add(ENTRY_BYTES + reply_bytes(e));
+    let sum = held_bytes(e).saturating_add(ENTRY_BYTES + reply_bytes(e));
     u32::try_from(sum).unwrap_or(u32::MAX)
+}
+
+// How many bytes the call holds.
+fn held_bytes(e: &Event) -> usize
+    ensures { result ≡ length (text_of_event e.now) }
+{
+    match e {
+        Event::Write(_, b)
+        | Event::SetFunc(_, _, b)
+        | Event::SetDia(_, b)
+        | Event::SetMap(_, b)
+        | Event::SetPal(_, b) => b.as_slice().len(),
+        _ => 0,
+    }
 }
 
 /// The most bytes that the answer to the call can have.
 pub fn reply_bytes(e: &Event) -> usize
-    ensures { result ≡ greatest_reply e.now }
+    ensures same { result ≡ greatest_reply e.now }
+    ensures most { result ≤ 260_100 }
 {
     match e {
-        Event::Scan(..)
-        | Event::OpenCon(..)
-        | Event::Write(..)
-        | Event::Activate(..)
-        | Event::SetMode(..)
-        | Event::RelDisp(..) => 0,
+        Event::ReadIn(_, most) => usize::from(*most).min(4_096),
+        Event::GetFunc(..) => 255,
+        Event::GetDia(_) => 3_072,
+        Event::GetMap(_) => 512,
+        Event::GetPal(_) => 48,
+        Event::Dump(kind, _) => dump_bytes(*kind),
+        _ => 0,
+    }
+}
+
+// The most bytes of a dump of the kind: each screen has at most 255 rows and columns.
+fn dump_bytes(kind: u16) -> usize
+    ensures same { result ≡ greatest_dump kind }
+    ensures most { result ≤ 260_100 }
+{
+    match kind {
+        0 => 65_025,
+        1 => 130_054,
+        2 => 260_100,
+        _ => 0,
     }
 }

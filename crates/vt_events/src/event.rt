@@ -1,26 +1,120 @@
 ghost use Rattle.std.specs.Prelude.{◌≡◌, IfOk};
-ghost use Rattle.vt_events.specs.Plain.{plain_event};
+ghost use Rattle.vt_events.specs.Plain.{plain_event, text};
 
 use std::alloc::Global;
 use vt_base::{Bytes, NoMemory};
 
-/// A call of a caller: each variant holds the words behind its name, in order.
+/// A call of a caller: each variant holds the words behind its name, in order. HH is a byte, B is
+/// bytes, and every other word is a number. FD is one of the caller's descriptors, which names the
+/// console that it was opened on.
 #[derive(Debug, Drop)]
 pub enum Event {
     /// `scan HH`: a byte of the keyboard.
     Scan(u8),
+    /// `exit`: the end of the caller.
+    Exit,
     /// `open N`: a descriptor for console N, or for the one in front where N is 0.
     OpenCon(u16),
+    /// `close FD`: the descriptor is given back (close(2)).
+    CloseFd(u16),
     /// `write FD B`: the bytes B to the descriptor's console.
     Write(u16, Bytes),
+    /// `read FD M`: the first M bytes of the console's input, or all where there are fewer
+    /// (read(2)).
+    ReadIn(u16, u16),
+    /// `waitinput FD`: waits until the console has input. This project's own.
+    WaitInput(u16),
+    /// `waitactive FD N`: waits until console N is in front (ioctl_console(2), VT_WAITACTIVE).
+    WaitActive(u16, u16),
+    /// `waitsignal`: waits for a signal (pause(2)).
+    WaitSignal,
+    /// `waitend`: how the caller's wait ended. This project's own.
+    WaitEnd,
     /// `activate FD N`: a request to bring console N to the front (ioctl_console(2), VT_ACTIVATE).
     Activate(u16, u16),
+    /// `disallocate FD N`: frees console N, or all that are not in use where N is 0
+    /// (ioctl_console(2), VT_DISALLOCATE).
+    Disallocate(u16, u16),
+    /// `openqry FD`: the lowest console that nobody has open (ioctl_console(2), VT_OPENQRY).
+    OpenQry(u16),
+    /// `getstate FD`: the console in front, and those that are allocated (ioctl_console(2),
+    /// VT_GETSTATE).
+    GetState(u16),
+    /// `resize FD R C`: R rows and C columns for the console (ioctl_console(2), VT_RESIZE).
+    Resize(u16, u16, u16),
+    /// `lock FD`: no more switches (ioctl_console(2), VT_LOCKSWITCH).
+    LockSwitch(u16),
+    /// `unlock FD`: switches again (ioctl_console(2), VT_UNLOCKSWITCH).
+    UnlockSwitch(u16),
+    /// `setkd FD M`: 0 shows text, 1 leaves the display to graphics (ioctl_console(2), KDSETMODE).
+    SetKd(u16, u16),
+    /// `getkd FD`: which of the two it is (ioctl_console(2), KDGETMODE).
+    GetKd(u16),
     /// `setmode FD M W R A F`: who handles the switches of the descriptor's console, by the words of
     /// a [`vt_base::VtMode`] (ioctl_console(2), VT_SETMODE).
     SetMode(u16, u16, u16, u16, u16, u16),
+    /// `getmode FD`: those words (ioctl_console(2), VT_GETMODE).
+    GetMode(u16),
     /// `reldisp FD A`: 1 lets the display go, 0 keeps it, 2 acknowledges having got it
     /// (ioctl_console(2), VT_RELDISP).
     RelDisp(u16, u16),
+    /// `setkb FD M`: what the console's keys give, from 0 for scan bytes to 4 for nothing
+    /// (ioctl_console(2), KDSKBMODE).
+    SetKb(u16, u16),
+    /// `getkb FD`: that mode (ioctl_console(2), KDGKBMODE).
+    GetKb(u16),
+    /// `setmeta FD M`: the meta key sets the high bit by 3, and puts ESC before by 4
+    /// (ioctl_console(2), KDSKBMETA).
+    SetMeta(u16, u16),
+    /// `getmeta FD`: which of the two it is (ioctl_console(2), KDGKBMETA).
+    GetMeta(u16),
+    /// `setled FD V`: the lights, which show the flags again by a V above 7 (ioctl_console(2),
+    /// KDSETLED).
+    SetLed(u16, u16),
+    /// `getled FD`: the lights (ioctl_console(2), KDGETLED).
+    GetLed(u16),
+    /// `setflags FD V`: the keyboard flags, and 16 times those that a reset gives
+    /// (ioctl_console(2), KDSKBLED).
+    SetFlags(u16, u16),
+    /// `getflags FD`: both (ioctl_console(2), KDGKBLED).
+    GetFlags(u16),
+    /// `setent FD T C K V`: in key table T, keycode C gets the action of kind K and value V
+    /// (ioctl_console(2), KDSKBENT).
+    SetEntry(u16, u16, u16, u16, u16),
+    /// `getent FD T C`: that action (ioctl_console(2), KDGKBENT).
+    GetEntry(u16, u16, u16),
+    /// `setfunc FD I B`: function string I (ioctl_console(2), KDSKBSENT).
+    SetFunc(u16, u16, Bytes),
+    /// `getfunc FD I`: that string (ioctl_console(2), KDGKBSENT).
+    GetFunc(u16, u16),
+    /// `setdia FD B`: the pairs of composed characters, twelve bytes each (ioctl_console(2),
+    /// KDSKBDIACRUC).
+    SetDia(u16, Bytes),
+    /// `getdia FD`: those pairs (ioctl_console(2), KDGKBDIACRUC).
+    GetDia(u16),
+    /// `setcode FD S C`: scan code S gives keycode C (ioctl_console(2), KDSETKEYCODE).
+    SetCode(u16, u16, u16),
+    /// `getcode FD S`: that keycode (ioctl_console(2), KDGETKEYCODE).
+    GetCode(u16, u16),
+    /// `accept FD S`: signal S comes to the caller at the key for it (ioctl_console(2),
+    /// KDSIGACCEPT).
+    Accept(u16, u16),
+    /// `setmap FD B`: the console's own table of characters, two bytes for each of 256
+    /// (ioctl_console(2), PIO_UNISCRNMAP).
+    SetMap(u16, Bytes),
+    /// `getmap FD`: that table (ioctl_console(2), GIO_UNISCRNMAP).
+    GetMap(u16),
+    /// `setpal FD B`: the palette, three bytes for each of 16 colours (ioctl_console(2), PIO_CMAP).
+    SetPal(u16, Bytes),
+    /// `getpal FD`: the palette (ioctl_console(2), GIO_CMAP).
+    GetPal(u16),
+    /// `dump K N`: the screen of console N, or of the one in front where N is 0: by 0 its bytes, by
+    /// 1 those with attributes (vcs(4)), by 2 its characters.
+    Dump(u16, u16),
+    /// `signals`: the caller's pending signals, which are pending no more. This project's own.
+    TakeSignals,
+    /// `kill P S`: signal S to caller P (kill(2)).
+    Kill(u16, u16),
 }
 
 impl Event {
@@ -30,13 +124,62 @@ impl Event {
     {
         Ok(match self {
             Event::Scan(b) => Event::Scan(*b),
+            Event::Exit => Event::Exit,
             Event::OpenCon(n) => Event::OpenCon(*n),
-            Event::Write(fd, b) => Event::Write(*fd, Bytes::from_slice(alloc, b.as_slice())?),
+            Event::CloseFd(fd) => Event::CloseFd(*fd),
+            Event::Write(fd, b) => Event::Write(*fd, plain(alloc, b)?),
+            Event::ReadIn(fd, most) => Event::ReadIn(*fd, *most),
+            Event::WaitInput(fd) => Event::WaitInput(*fd),
+            Event::WaitActive(fd, n) => Event::WaitActive(*fd, *n),
+            Event::WaitSignal => Event::WaitSignal,
+            Event::WaitEnd => Event::WaitEnd,
             Event::Activate(fd, n) => Event::Activate(*fd, *n),
+            Event::Disallocate(fd, n) => Event::Disallocate(*fd, *n),
+            Event::OpenQry(fd) => Event::OpenQry(*fd),
+            Event::GetState(fd) => Event::GetState(*fd),
+            Event::Resize(fd, rows, cols) => Event::Resize(*fd, *rows, *cols),
+            Event::LockSwitch(fd) => Event::LockSwitch(*fd),
+            Event::UnlockSwitch(fd) => Event::UnlockSwitch(*fd),
+            Event::SetKd(fd, mode) => Event::SetKd(*fd, *mode),
+            Event::GetKd(fd) => Event::GetKd(*fd),
             Event::SetMode(fd, mode, waitv, relsig, acqsig, frsig) => {
                 Event::SetMode(*fd, *mode, *waitv, *relsig, *acqsig, *frsig)
             }
+            Event::GetMode(fd) => Event::GetMode(*fd),
             Event::RelDisp(fd, arg) => Event::RelDisp(*fd, *arg),
+            Event::SetKb(fd, mode) => Event::SetKb(*fd, *mode),
+            Event::GetKb(fd) => Event::GetKb(*fd),
+            Event::SetMeta(fd, meta) => Event::SetMeta(*fd, *meta),
+            Event::GetMeta(fd) => Event::GetMeta(*fd),
+            Event::SetLed(fd, lights) => Event::SetLed(*fd, *lights),
+            Event::GetLed(fd) => Event::GetLed(*fd),
+            Event::SetFlags(fd, flags) => Event::SetFlags(*fd, *flags),
+            Event::GetFlags(fd) => Event::GetFlags(*fd),
+            Event::SetEntry(fd, table, code, kind, value) => {
+                Event::SetEntry(*fd, *table, *code, *kind, *value)
+            }
+            Event::GetEntry(fd, table, code) => Event::GetEntry(*fd, *table, *code),
+            Event::SetFunc(fd, i, b) => Event::SetFunc(*fd, *i, plain(alloc, b)?),
+            Event::GetFunc(fd, i) => Event::GetFunc(*fd, *i),
+            Event::SetDia(fd, b) => Event::SetDia(*fd, plain(alloc, b)?),
+            Event::GetDia(fd) => Event::GetDia(*fd),
+            Event::SetCode(fd, scan, code) => Event::SetCode(*fd, *scan, *code),
+            Event::GetCode(fd, scan) => Event::GetCode(*fd, *scan),
+            Event::Accept(fd, signal) => Event::Accept(*fd, *signal),
+            Event::SetMap(fd, b) => Event::SetMap(*fd, plain(alloc, b)?),
+            Event::GetMap(fd) => Event::GetMap(*fd),
+            Event::SetPal(fd, b) => Event::SetPal(*fd, plain(alloc, b)?),
+            Event::GetPal(fd) => Event::GetPal(*fd),
+            Event::Dump(kind, n) => Event::Dump(*kind, *n),
+            Event::TakeSignals => Event::TakeSignals,
+            Event::Kill(caller, signal) => Event::Kill(*caller, *signal),
         })
     }
+}
+
+// A copy of the bytes, with no room.
+fn plain(alloc: Global, b: &Bytes) -> Result<Bytes, NoMemory>
+    ensures { IfOk result (λ copy. copy ≡ text b.now.bytes) }
+{
+    Bytes::from_slice(alloc, b.as_slice())
 }
