@@ -1,5 +1,5 @@
 -- What refuses each event, in order (ioctl_console(2)). The order of refusals is this project's own.
-use Rattle.std.specs.Prelude.{ℕ, ◌==◌, ◌&&◌, ◌||◌, ◌%◌, Bool, true, not, nat_le, nat_lt, List, [], ◌∷◌, length, Option, Result, Ok, Err, false, is_some, unwrap_or, if◌then◌else◌}
+use Rattle.std.specs.Prelude.{ℕ, ◌==◌, ◌&&◌, ◌||◌, ◌%◌, Bool, true, not, nat_le, nat_lt, List, [], ◌∷◌, length, Option, Some, None, Result, Ok, Err, false, is_some, unwrap_or, if◌then◌else◌}
 use Rattle.call_bytes.specs.Colours.{colours_in}
 use Rattle.call_bytes.specs.Pairs.{pairs_in}
 use Rattle.call_bytes.specs.Words.{words_in}

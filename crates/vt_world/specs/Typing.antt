@@ -1,5 +1,5 @@
 -- What a scan byte does. What the rules leave open is this project's own.
-use Rattle.std.specs.Prelude.{ℕ, ◌==◌, ◌||◌, Bool, List, [], ◌∷◌, filter, map, Option, Some, None, if◌then◌else◌}
+use Rattle.std.specs.Prelude.{ℕ, ◌==◌, ◌||◌, Bool, false, List, [], ◌∷◌, filter, Option, Some, None, if◌then◌else◌}
 use Rattle.std.specs.List.{range_with_len}
 use Rattle.key_machine.specs.Step.{Step, key_step}
 use Rattle.key_machine.specs.declared.key_out.KeyOut.{KeyOut}
