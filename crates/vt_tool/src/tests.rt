@@ -7,6 +7,7 @@ use std::test::Fail;
 use vt_base::{Bytes, NoMemory};
 use vt_io::{MemSink, MemSource};
 
+mod events;
 mod keys;
 mod play;
 mod typing;
