@@ -8,7 +8,6 @@ mod FinalTexts
 mod PlayEnds
 mod Plays
 mod Sides
-pub mod Documents
 mod Statuses
 pub mod Streams
 pub mod Tables

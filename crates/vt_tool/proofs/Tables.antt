@@ -4,7 +4,7 @@ use Rattle.std.specs.List.{list_all}
 use Rattle.std.specs.Map.{keys_of}
 use Rattle.toml.specs.View.{members_view}
 use Rattle.toml.specs.declared.value.Value.{Value}
-use Rattle.vt_tool.specs.Fields.{keys_pass}
+use Rattle.table_fields.specs.Fields.{keys_pass}
 
 -- every key of the members is one of the keys of the map
 pub keys_view : (p : List ℕ → Bool) (es : List (String Global × Value))

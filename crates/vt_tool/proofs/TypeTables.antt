@@ -1,11 +1,9 @@
 -- The table of `type`, read field by field.
-use Rattle.std.proofs.Common.{◌≡◌, ℕ, true, false, List, [], ◌∷◌, length, Option, Ok, codes, refl, sym, ap, ◌∙◌, true≢false}
-use Rattle.std.specs.Prelude.{◌==◌}
-use Rattle.std.specs.List.{slice_split}
+use Rattle.std.proofs.Common.{◌≡◌, ℕ, true, List, Option, Ok, codes, refl, sym, ap, ◌∙◌}
 use Rattle.key_text.specs.Included.{Named}
 use Rattle.key_text.specs.Told.{Told}
 use Rattle.toml.specs.Data.{Data, Members, get_member}
-use Rattle.vt_tool.specs.Fields.{items_of, keymap_of, keys_pass, number_of, scan_bytes_of, text_of, texts_of}
+use Rattle.table_fields.specs.Fields.{keymap_of, keys_pass, number_of, scan_bytes_of, text_of, texts_of}
 use Rattle.vt_tool.specs.Typing.{is_type_key, type_table_at}
 
 pub type_table-read : (members : Members) (m t k s : Option Data) (mode : ℕ) (texts : List Named)
@@ -25,9 +23,3 @@ type_table-read members m t k s mode texts keymap lines text keys known m_is num
     let map' = ap (text_of 0 3) (sym k_is) ∙ map in
     let scans' = ap (text_of 0 4) (sym s_is) ∙ scans in
     rw (known, number', included', map', lines_are, scans', bytes) refl
-
--- a text that isn't empty has the parts between its blanks
-pub items-some : (text : List ℕ) → (length text == 0) ≡ false
-    → items_of text ≡ slice_split (λ b. b == 0x20) text
-items-some [] none = absurd (true≢false none)
-items-some (c ∷ text) some = refl

@@ -1,6 +1,4 @@
 pub mod Calls
-pub mod Checked
-pub mod Fields
 pub mod Final
 pub mod Input
 pub mod Outcome

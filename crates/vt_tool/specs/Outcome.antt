@@ -18,7 +18,7 @@ use Rattle.vt_tool.specs.declared.command.Command.{Command}
 use Rattle.vt_tool.specs.declared.command.Command.TheVariants as command
 use Rattle.vt_tool.specs.declared.status.Status.{Status}
 use Rattle.vt_tool.specs.declared.status.Status.TheVariants.{Fine, Refused}
-use Rattle.vt_tool.specs.declared.table.fault.TableFault.{TableFault}
+use Rattle.table_fields.specs.declared.fault.TableFault.{TableFault}
 
 -- the status that the run has, if no fault comes, and the defined text
 pub record Outcome : Type 0 where
@@ -89,7 +89,7 @@ pub record GivesTableFault (input : List ℕ) (outcome : Outcome) : Type 0 where
   pub fault : TableFault
   pub found : type_table_of input ≡ Err fault
   pub refused :
-      outcome ≡ record { status = Refused fault.code fault.part fault.item; text = [] }
+      outcome ≡ record { status = Refused fault.kind fault.part fault.item; text = [] }
 
 -- the outcome that a command gives for an input
 abbrev pub Gives : Command → List ℕ → Outcome → Type 0

@@ -1,23 +1,17 @@
 -- What `type` keeps on its way. No public clause names this.
-use Rattle.std.specs.Prelude.{◌≡◌, [], ◌++◌, ℕ, List, Result, Ok, Err}
+use Rattle.std.specs.Prelude.{◌≡◌, [], ℕ, List}
 use Rattle.key_compile.specs.Compiled.{AreTablesOf}
 use Rattle.key_machine.specs.Keys.{Keys, State}
 use Rattle.key_tables.specs.Tables.{Tables}
 use Rattle.scan_codes.specs.Laws.{events, rest}
 use Rattle.scan_codes.specs.Scan.{Scan, scan_of, start_codes}
 use Rattle.vt_tool.specs.Typing.{TypeTable, after_typing, start_typing, typing}
-use Rattle.vt_tool.specs.declared.table.fault.TableFault.{TableFault}
 use Rattle.vt_tool.specs.declared.typing.type_table.TypeTable.{TypeTable as CodeTable}
 
 -- a table that was read is this one
 abbrev pub IsReadAs : CodeTable → TypeTable → Type 0
 IsReadAs code table =
     (code.mode ≡ table.mode) × AreTablesOf table.lines code.tables × (code.keys.bytes ≡ table.keys)
-
--- what is found behind those that were found
-abbrev pub behind : {B : Type 0} → List B → Result (List B) TableFault → Result (List B) TableFault
-behind found (Ok more) = Ok (found ++ more)
-behind found (Err e) = Err e
 
 -- a scanner and a keyboard with its state
 pub record TypistView : Type 0 where

@@ -16,9 +16,9 @@ use Rattle.scan_codes.specs.declared.key_event.KeyEvent.{KeyEvent}
 use Rattle.toml.specs.Data.{Members, get_member}
 use Rattle.vt_journal.specs.Hex.{hex_byte, hex_text}
 use Rattle.vt_journal.specs.Journal.{line_text}
-use Rattle.vt_tool.specs.Checked.{check, fault, ◌>>=◌}
-use Rattle.vt_tool.specs.Fields.{document_of, keymap_of, keys_pass, number_of, scan_bytes_of, text_of, texts_of}
-use Rattle.vt_tool.specs.declared.table.fault.TableFault.{TableFault}
+use Rattle.table_fields.specs.Checked.{check, fault, ◌>>=◌}
+use Rattle.table_fields.specs.Fields.{document_of, keymap_of, keys_pass, number_of, scan_bytes_of, text_of, texts_of}
+use Rattle.table_fields.specs.declared.fault.TableFault.{TableFault}
 
 -- what a table says: the keyboard mode, the lines of the keymap, and the scan bytes
 pub record TypeTable : Type 0 where

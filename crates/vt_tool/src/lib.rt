@@ -13,7 +13,6 @@ mod read_end;
 mod reading;
 mod screen;
 mod status;
-mod table;
 mod telling;
 #[cfg(test)]
 mod tests;

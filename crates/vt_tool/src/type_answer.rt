@@ -4,10 +4,10 @@ ghost use Rattle.vt_tool.specs.Typing.{typed_text};
 
 use crate::answer::Answer;
 use crate::status::Status;
-use crate::table::fault::{TableError, TableFault};
 use crate::typing::lines::add_typed;
 use crate::typing::type_table::{TypeTable, read_type_table};
 use std::alloc::Global;
+use table_fields::{TableError, TableFault};
 use vt_base::{Bytes, NoMemory};
 
 /// A line for each scan byte of the table, or the table's first fault.
@@ -44,12 +44,12 @@ fn answer_typed(alloc: Global, table: &TypeTable) -> Result<Answer, NoMemory>
 }
 
 fn answer_refused(alloc: Global, fault: TableFault) -> Answer
-    ensures status { result.status ≡ Status.Refused fault.code fault.part fault.item }
+    ensures status { result.status ≡ Status.Refused fault.kind fault.part fault.item }
     ensures text { result.text.bytes ≡ [] }
 {
     Answer {
         status: Status::Refused {
-            code: fault.code,
+            code: fault.kind,
             a: fault.part,
             b: fault.item,
         },

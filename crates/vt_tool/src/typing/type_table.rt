@@ -2,19 +2,14 @@ ghost use Rattle.std.specs.Prelude.{◌≡◌, ◌≤◌, IfOk, IsTrue, string_b
 ghost use Rattle.std.specs.List.{list_all};
 ghost use Rattle.std.specs.Map.{keys_of};
 ghost use Rattle.toml.specs.View.{table_view};
-ghost use Rattle.vt_tool.specs.Checked.{GivesBy};
-ghost use Rattle.vt_tool.specs.Fields.{keys_pass};
+ghost use Rattle.table_fields.specs.Checked.{GivesBy};
+ghost use Rattle.table_fields.specs.Fields.{keys_pass};
 ghost use Rattle.vt_tool.specs.Typed.{IsReadAs};
 ghost use Rattle.vt_tool.specs.Typing.{is_type_key, type_table_at, type_table_of};
 
-use crate::table::document::document;
-use crate::table::fault::{TableError, refused};
-use crate::table::fields::{Numbers, at, number, text};
-use crate::table::keymap::keymap;
-use crate::table::scan_bytes::scan_bytes;
-use crate::table::texts::texts;
 use key_tables::KeyTables;
 use std::alloc::Global;
+use table_fields::{Numbers, TableError, at, document, keymap, number, refused, scan_bytes, text, texts};
 use toml::Table;
 use vt_base::Bytes;
 
