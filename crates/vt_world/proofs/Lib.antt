@@ -1,5 +1,9 @@
-mod Requests
 mod Bells
 mod Histories
+mod Lives
 mod Places
+mod Requests
+mod Stays
+mod Typed
+mod Users
 mod Writes
