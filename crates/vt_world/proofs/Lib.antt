@@ -1,5 +1,10 @@
-mod Requests
 mod Bells
+mod Cores
+mod Displays
 mod Histories
+mod Orders
 mod Places
+mod Requests
+mod Steps
+mod Traces
 mod Writes

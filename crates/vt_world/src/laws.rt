@@ -1,5 +1,8 @@
 //! The laws of histories.
 ghost use Rattle.vt_world.specs.History.{LegalGrows, NothingIsLegal, ReplayGrows};
+ghost use Rattle.vt_world.specs.Laws.{ActsMakeCores, DisplaysAreLawful, OwnersAreLive, TargetsAreExplained, TracesTellActs, TracesTellHops};
+
+use vt_switch::{each_hop_was_allowed, each_target_was_asked_for};
 
 /// How a legal history grows, entry by entry.
 pub fn legal_grows()
@@ -7,3 +10,16 @@ pub fn legal_grows()
     ensures more { LegalGrows }
     ensures replay { ReplayGrows }
 {}
+
+/// Why the display changed hands in every history from a start, and what the traces tell of it.
+pub fn displays_are_lawful()
+    ensures lawful { DisplaysAreLawful }
+    ensures waiting { TargetsAreExplained }
+    ensures owners { OwnersAreLive }
+    ensures acts { ActsMakeCores }
+    ensures told { TracesTellActs }
+    ensures hops { TracesTellHops }
+{
+    each_hop_was_allowed();
+    each_target_was_asked_for();
+}
