@@ -21,15 +21,15 @@ use Rattle.vt_world.specs.Laws.{ActsMakeCores, DisplaysAreLawful, IsStart, Owner
 use Rattle.vt_world.specs.Rows.{row}
 use Rattle.vt_world.specs.Start.{opening}
 use Rattle.vt_world.specs.State.{WorldState, core}
-use Rattle.vt_world.specs.Step.{step}
+use Rattle.vt_world.specs.Step.{Outcome, step}
 use Rattle.key_tables.specs.Tables.{Tables}
 
 pub acts-make-cores : ActsMakeCores
 acts-make-cores w p e =
     by_step
-    (λ (deeds : List Deed) (after : WorldState).
-    core after ≡ all_after (core w) (all_acts (cleared w) deeds))
-    w p e refl
+    (λ (deeds : List Deed) (after : Outcome).
+    core after.world ≡ all_after (core w) (all_acts (cleared w) deeds))
+    w p e (λ errno. refl)
     (λ accepted.
     let deeds : List Deed = (row (cleared w) p e).deeds in
     let end : WorldState = all_done (cleared w) deeds in
@@ -38,9 +38,9 @@ acts-make-cores w p e =
 event_ordered : (w : WorldState) (p : ℕ) (e : Event) → is_ordered false (event_acts w p e) ≡ true
 event_ordered w p e =
     by_step
-    (λ (deeds : List Deed) (after : WorldState).
+    (λ (deeds : List Deed) (after : Outcome).
     is_ordered false (all_acts (cleared w) deeds) ≡ true)
-    w p e refl
+    w p e (λ errno. refl)
     (λ accepted.
     acts_ordered false (cleared w) (row (cleared w) p e).deeds (row_ordered (cleared w) p e))
 

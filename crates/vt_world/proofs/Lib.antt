@@ -1,9 +1,11 @@
 mod Bells
+mod Called
 mod Cores
 mod Displays
 mod Histories
 mod Orders
 mod Places
+mod Quiet
 mod Requests
 mod Steps
 mod Traces

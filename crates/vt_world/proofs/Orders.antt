@@ -39,11 +39,11 @@ abbrev pub in_order : Bool → List Deed → Bool
 in_order asked [] = true
 in_order asked (deed ∷ deeds) = not (asked && ends deed) && in_order (asked || asks deed) deeds
 
-left_of : (a b : Bool) → (a && b) ≡ true → a ≡ true
+pub left_of : (a b : Bool) → (a && b) ≡ true → a ≡ true
 left_of true b both = refl
 left_of false b both = both
 
-right_of : (a b : Bool) → (a && b) ≡ true → b ≡ true
+pub right_of : (a b : Bool) → (a && b) ≡ true → b ≡ true
 right_of true b both = both
 right_of false true both = refl
 right_of false false both = both

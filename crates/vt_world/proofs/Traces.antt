@@ -11,10 +11,10 @@ use Rattle.vt_world.proofs.Steps.{by_step}
 use Rattle.vt_world.specs.Acts.{all_acts, event_acts, request_of}
 use Rattle.vt_world.specs.Deeds.{Deed, By, Asks, Own, OwnDeed, Raises, acted, all_done, done, own_done, requested}
 use Rattle.vt_world.specs.Heard.{cleared, heard, tell}
-use Rattle.vt_world.specs.Laws.{TellsActs, TracesTellActs, TracesTellHops, hops_of, is_raise}
+use Rattle.vt_world.specs.Laws.{TellsActs, TracesTellActs, TracesTellDeeds, TracesTellHops, all_told, hops_of, is_raise, told_by, told_by_request}
 use Rattle.vt_world.specs.Rows.{row}
 use Rattle.vt_world.specs.State.{WorldState, core}
-use Rattle.vt_world.specs.Step.{step}
+use Rattle.vt_world.specs.Step.{Outcome, step}
 use Rattle.vt_world.specs.Wanted.{wanted_in}
 
 both_pass : (a b : List Mark) → list_all is_raise a ≡ true → list_all is_raise b ≡ true
@@ -121,13 +121,50 @@ deeds_tell w (Own deed ∷ deeds) =
 pub traces-tell-acts : TracesTellActs
 traces-tell-acts w p e =
     by_step
-    (λ (deeds : List Deed) (after : WorldState).
-    TellsActs (core w) (all_acts (cleared w) deeds) after.told.trace)
-    w p e refl
+    (λ (deeds : List Deed) (after : Outcome).
+    TellsActs (core w) (all_acts (cleared w) deeds) after.world.told.trace)
+    w p e (λ errno. refl)
     (λ accepted.
     let deeds : List Deed = (row (cleared w) p e).deeds in
     let adds = deeds_tell (cleared w) deeds in
     subst (TellsActs (core w) (all_acts (cleared w) deeds)) (sym adds.is) adds.tells)
+
+-- the trace of deeds is what they tell
+requested_trace : (w : WorldState) (wanted : Option ℕ)
+    → (requested w wanted).told.trace ≡ w.told.trace ++ told_by_request w wanted
+requested_trace w None = sym (append-nil w.told.trace)
+requested_trace w (Some n) =
+    let k : Core = core_after (core w) (Request n) in
+    tell_trace (record w { display = k.display }) (marks (core w) (Request n))
+
+own_trace : (w : WorldState) (deed : OwnDeed)
+    → (own_done w deed).told.trace ≡ w.told.trace ++ told_by w (Own deed)
+own_trace w (Raises p signal) = tell_trace w (raise (core w) p signal)
+own_trace w deed = sym (append-nil w.told.trace)
+
+deed_trace : (w : WorldState) (deed : Deed)
+    → (done w deed).told.trace ≡ w.told.trace ++ told_by w deed
+deed_trace w (By act) =
+    let k : Core = core_after (core w) act in
+    tell_trace (record w { display = k.display }) (marks (core w) act)
+deed_trace w (Asks wanted) = requested_trace w (wanted_in w.display wanted)
+deed_trace w (Own deed) = own_trace w deed
+
+deeds_trace : (w : WorldState) (deeds : List Deed)
+    → (all_done w deeds).told.trace ≡ w.told.trace ++ all_told w deeds
+deeds_trace w [] = sym (append-nil w.told.trace)
+deeds_trace w (deed ∷ deeds) =
+    let rest : List Mark = all_told (done w deed) deeds in
+    deeds_trace (done w deed) deeds
+    ∙ ap (λ (trace : List Mark). trace ++ rest) (deed_trace w deed)
+    ∙ append_assoc w.told.trace (told_by w deed) rest
+
+pub traces-tell-deeds : TracesTellDeeds
+traces-tell-deeds w p e =
+    by_step
+    (λ (deeds : List Deed) (after : Outcome). after.world.told.trace ≡ all_told (cleared w) deeds)
+    w p e (λ errno. refl)
+    (λ accepted. deeds_trace (cleared w) (row (cleared w) p e).deeds)
 
 hops_append : (a b : List Mark) → hops (a ++ b) ≡ hops a ++ hops b
 hops_append [] b = refl

@@ -1,6 +1,6 @@
 //! The laws of histories.
 ghost use Rattle.vt_world.specs.History.{LegalGrows, NothingIsLegal, ReplayGrows};
-ghost use Rattle.vt_world.specs.Laws.{ActsMakeCores, DisplaysAreLawful, OwnersAreLive, TargetsAreExplained, TracesTellActs, TracesTellHops};
+ghost use Rattle.vt_world.specs.Laws.{ActsAreCalls, ActsMakeCores, DisplaysAreLawful, OwnersAreLive, TargetsAreExplained, TracesTellActs, TracesTellDeeds, TracesTellHops};
 
 use vt_switch::{each_hop_was_allowed, each_target_was_asked_for};
 
@@ -17,6 +17,8 @@ pub fn displays_are_lawful()
     ensures waiting { TargetsAreExplained }
     ensures owners { OwnersAreLive }
     ensures acts { ActsMakeCores }
+    ensures calls { ActsAreCalls }
+    ensures trace { TracesTellDeeds }
     ensures told { TracesTellActs }
     ensures hops { TracesTellHops }
 {

@@ -1,5 +1,6 @@
+use Rattle.vt_world.proofs.Called.{acts-are-calls}
 use Rattle.vt_world.proofs.Displays.{acts-make-cores, displays-are-lawful, owners-are-live, targets-are-explained}
-use Rattle.vt_world.proofs.Traces.{traces-tell-acts, traces-tell-hops}
+use Rattle.vt_world.proofs.Traces.{traces-tell-acts, traces-tell-deeds, traces-tell-hops}
 use Rattle.vt_world.proofs.laws.displays_are_lawful.Goals as goal
 
 pub returns-clause-lawful : goal.returns-clause-lawful
@@ -19,3 +20,9 @@ returns-clause-told c = traces-tell-acts
 
 pub returns-clause-hops : goal.returns-clause-hops
 returns-clause-hops c = traces-tell-hops
+
+pub returns-clause-trace : goal.returns-clause-trace
+returns-clause-trace c = traces-tell-deeds
+
+pub returns-clause-calls : goal.returns-clause-calls
+returns-clause-calls c = acts-are-calls
