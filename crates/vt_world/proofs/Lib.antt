@@ -1,3 +1,4 @@
+mod Allocation
 mod Bells
 mod Called
 mod Cores
@@ -7,6 +8,9 @@ mod Orders
 mod Places
 mod Quiet
 mod Requests
+mod Reruns
+mod Screens
 mod Steps
+mod Taping
 mod Traces
 mod Writes

@@ -1,7 +1,8 @@
 //! The laws of histories.
 ghost use Rattle.vt_world.specs.History.{LegalGrows, NothingIsLegal, ReplayGrows};
-ghost use Rattle.vt_world.specs.Laws.{ActsAreCalls, ActsMakeCores, DisplaysAreLawful, OwnersAreLive, TargetsAreExplained, TracesTellActs, TracesTellDeeds, TracesTellHops};
+ghost use Rattle.vt_world.specs.Laws.{ActsAreCalls, ActsMakeCores, DisplaysAreLawful, OwnersAreLive, ScreensAreTapes, TargetsAreExplained, TerminalsAreAllocated, TracesTellActs, TracesTellDeeds, TracesTellHops};
 
+use vt_screen::tapes_run;
 use vt_switch::{each_hop_was_allowed, each_target_was_asked_for};
 
 /// How a legal history grows, entry by entry.
@@ -24,4 +25,12 @@ pub fn displays_are_lawful()
 {
     each_hop_was_allowed();
     each_target_was_asked_for();
+}
+
+/// What each screen shows after every history from a start: its console's tape.
+pub fn screens_are_tapes()
+    ensures screens { ScreensAreTapes }
+    ensures terminals { TerminalsAreAllocated }
+{
+    tapes_run();
 }
