@@ -1,5 +1,5 @@
 -- The consoles that have a terminal are those that are allocated, after every event.
-use Rattle.std.proofs.Common.{◌≡◌, ℕ, zero, suc, Bool, true, false, true≢false, cond, List, [], ◌∷◌, filter, flat_map, get_or, set, map, Option, Some, None, Result, Ok, Err, refl, sym, ap, subst, ◌∙◌}
+use Rattle.std.proofs.Common.{◌≡◌, ℕ, zero, suc, Bool, true, false, cond, List, [], ◌∷◌, filter, flat_map, get_or, set, map, Option, Some, None, Result, Ok, Err, refl, sym, ap, subst, ◌∙◌}
 use Rattle.std.proofs.Math.Seq.{map-set_same}
 use Rattle.std.proofs.lemmas.List.{map-set}
 use Rattle.std.specs.List.{range_with_len}
@@ -29,9 +29,9 @@ use Rattle.vt_switch.specs.declared.console.Console.{Console}
 use Rattle.vt_switch.specs.declared.handling.Handling.{Handling}
 use Rattle.vt_switch.specs.declared.hop.Hop.{Hop}
 use Rattle.vt_switch.specs.declared.mark.Mark.{Mark}
-use Rattle.vt_world.proofs.Orders.{left_of, right_of}
 use Rattle.vt_world.proofs.Quiet.{are_quiet, is_quiet_act, is_quiet_own, outs_quiet, scan_quiet, sent_quiet, wait_quiet}
 use Rattle.vt_world.proofs.Steps.{by_step}
+use Rattle.vt_world.proofs.Truths.{differ, left_of, or_false, or_left, or_right, right_of}
 use Rattle.vt_world.specs.Deeds.{Deed, Asks, By, Clears, Own, OwnDeed, Alters, Raises, Starts, Writes, acted, all_done, done, own_done, requested}
 use Rattle.vt_world.specs.Heard.{cleared, heard, tell}
 use Rattle.vt_world.specs.History.{replay}
@@ -44,9 +44,6 @@ use Rattle.vt_world.specs.Terminals.{altered_by, new_terminal, or_new, said_of, 
 use Rattle.vt_world.specs.Tests.{Test, first_failing, is_empty, is_in_use, mode_of, named, needs_console_or_0, needs_open, needs_right, own_tests, target, test}
 use Rattle.vt_world.specs.Wanted.{wanted_in}
 use Rattle.key_tables.specs.Tables.{Tables}
-
-differ : {X : Type 0} → false ≡ true → X
-differ same = absurd (true≢false (sym same))
 
 -- which places are taken
 abbrev taken : {A : Type 0} → List (Option A) → List Bool
@@ -206,18 +203,6 @@ frees_keeps w n loose has =
     (ap (λ (d : Display). taken d.consoles) (free_if (is_held w.display n) w.display n loose)
     ∙ map-set is_some w.display.consoles n None)
     has
-
-or_left : (a b : Bool) → (a || b) ≡ false → a ≡ false
-or_left true b isnt = isnt
-or_left false b isnt = refl
-
-or_right : (a b : Bool) → (a || b) ≡ false → b ≡ false
-or_right true b isnt = differ (sym isnt)
-or_right false b isnt = isnt
-
-or_false : (a b : Bool) → a ≡ false → b ≡ false → (a || b) ≡ false
-or_false true b one other = one
-or_false false b one other = other
 
 abbrev is_owned : Option Console → Bool
 is_owned place = is_some (owner_of (or_fresh place).handling)

@@ -1,5 +1,5 @@
 -- Every release and every set mode is a call of its event's caller.
-use Rattle.std.proofs.Common.{◌≡◌, ℕ, Bool, true, false, true≢false, cond, List, [], ◌∷◌, ◌++◌, filter, flat_map, Option, Some, None, refl, sym}
+use Rattle.std.proofs.Common.{◌≡◌, ℕ, Bool, true, false, cond, List, [], ◌∷◌, ◌++◌, filter, flat_map, Option, Some, None, refl}
 use Rattle.std.specs.List.{range_with_len}
 use Rattle.std.specs.Prelude.{◌==◌, not}
 use Rattle.vt_events.specs.declared.event.Event.{Event}
@@ -7,9 +7,9 @@ use Rattle.vt_events.specs.declared.event.Event.TheVariants as event
 use Rattle.vt_procs.specs.declared.ticket.Ticket.TheVariants.{Active, Input}
 use Rattle.vt_screen.specs.declared.out.Out.{Out}
 use Rattle.vt_switch.specs.Acts.{SwitchAct, Release, SetMode, Free}
-use Rattle.vt_world.proofs.Orders.{left_of, right_of}
 use Rattle.vt_world.proofs.Quiet.{are_quiet, is_quiet_act, is_quiet_own, outs_quiet, scan_quiet, sent_quiet, wait_quiet}
 use Rattle.vt_world.proofs.Steps.{by_step}
+use Rattle.vt_world.proofs.Truths.{differ, left_of, right_of}
 use Rattle.vt_world.specs.Acts.{all_acts, request_of}
 use Rattle.vt_world.specs.Deeds.{Deed, Asks, By, Clears, Own, Writes, done}
 use Rattle.vt_world.specs.Heard.{cleared}
@@ -20,9 +20,6 @@ use Rattle.vt_world.specs.Step.{Outcome}
 use Rattle.vt_world.specs.Terminals.{said_of, terminal_at}
 use Rattle.vt_world.specs.Tests.{is_empty, is_in_use, target}
 use Rattle.vt_world.specs.Wanted.{wanted_in}
-
-differ : {X : Type 0} → false ≡ true → X
-differ same = absurd (true≢false (sym same))
 
 -- the deeds of a list stand for calls where these are releases or set modes; w, p and e say of which
 -- event, and v is the console that the deeds meet

@@ -13,4 +13,5 @@ mod Screens
 mod Steps
 mod Taping
 mod Traces
+mod Truths
 mod Writes

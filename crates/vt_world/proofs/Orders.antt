@@ -14,6 +14,7 @@ use Rattle.vt_screen.specs.declared.out.Out.{Out}
 use Rattle.vt_screen.specs.declared.out.Out.TheVariants as outs
 use Rattle.vt_switch.specs.Acts.{SwitchAct, End, SetKd}
 use Rattle.vt_switch.specs.Moments.{is_ordered, is_request, settles}
+use Rattle.vt_world.proofs.Truths.{both_of, left_of, right_of}
 use Rattle.vt_world.specs.Acts.{all_acts, request_of}
 use Rattle.vt_world.specs.Deeds.{Deed, Asks, By, Own, Puts, Raises, done}
 use Rattle.vt_world.specs.Inputs.{input_at}
@@ -38,19 +39,6 @@ ends (Own deed) = false
 abbrev pub in_order : Bool → List Deed → Bool
 in_order asked [] = true
 in_order asked (deed ∷ deeds) = not (asked && ends deed) && in_order (asked || asks deed) deeds
-
-pub left_of : (a b : Bool) → (a && b) ≡ true → a ≡ true
-left_of true b both = refl
-left_of false b both = both
-
-pub right_of : (a b : Bool) → (a && b) ≡ true → b ≡ true
-right_of true b both = both
-right_of false true both = refl
-right_of false false both = both
-
-both_of : (a b : Bool) → a ≡ true → b ≡ true → (a && b) ≡ true
-both_of true b one other = other
-both_of false b one other = one
 
 -- acts that are in order after a request are so without it
 at_either : (request : Bool) (acts : List SwitchAct) → is_ordered true acts ≡ true

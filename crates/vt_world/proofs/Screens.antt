@@ -1,5 +1,5 @@
 -- The screen law of histories from a start.
-use Rattle.std.proofs.Common.{◌≡◌, ◌≢◌, ◌<◌, ℕ, zero, suc, Bool, true, false, true≢false, cond, List, [], ◌∷◌, length, get_or, map, set, Option, Some, None, is_some, refl, sym, ap, subst, ◌∙◌, arith}
+use Rattle.std.proofs.Common.{◌≡◌, ◌<◌, ℕ, zero, suc, Bool, true, false, true≢false, cond, List, [], ◌∷◌, length, get_or, map, set, Option, Some, None, is_some, refl, sym, ap, subst, ◌∙◌}
 use Rattle.std.proofs.Math.ListN.{get_or-map}
 use Rattle.std.proofs.lemmas.List.{get_or-set_other, get_or-set_same, length-set}
 use Rattle.std.specs.List.{range_with_len}
@@ -21,6 +21,7 @@ use Rattle.vt_world.proofs.Allocation.{start_has, step_keeps}
 use Rattle.vt_world.proofs.Reruns.{tape_marks, tape_writes}
 use Rattle.vt_world.proofs.Steps.{by_step}
 use Rattle.vt_world.proofs.Taping.{Tape, accepted_tape, begun, refused_tape, tape_by, tape_of_deeds, taped}
+use Rattle.vt_world.proofs.Truths.{equal, unequal}
 use Rattle.vt_world.specs.Deeds.{Deed, By, Asks, Own, OwnDeed, Starts, Clears, Writes, Alters, Raises, acted, all_done, done, own_done, requested}
 use Rattle.vt_world.specs.Heard.{cleared, heard, tell}
 use Rattle.vt_world.specs.History.{replay}
@@ -43,7 +44,7 @@ abbrev Shows : ℕ → ℕ → Option TerminalState → Tape → Type 0
 Shows rows cols terminal tape = machine_of terminal ≡ option_map (screen_of rows cols) tape
 
 -- new screens have this size, console c has a place, and it shows this tape
-record IsShown (rows cols c : ℕ) (new_rows new_cols : ℕ) (terminals : List (Option TerminalState)) (tape : Tape) : Type 0 where
+record IsShown (rows cols c new_rows new_cols : ℕ) (terminals : List (Option TerminalState)) (tape : Tape) : Type 0 where
   rows_are : new_rows ≡ rows
   cols_are : new_cols ≡ cols
   room : c < length terminals
@@ -110,13 +111,6 @@ alters_show laws rows cols m (Some t) (Some tape) shows =
 abbrev changed : (Option TerminalState → Option TerminalState) → ℕ → List (Option TerminalState)
     → List (Option TerminalState)
 changed change n terminals = set terminals n (change (terminal_at terminals n))
-
-equal : (n m : ℕ) → (n == m) ≡ true → n ≡ m
-equal n m same = grind (arith, same)
-
-unequal : (n m : ℕ) → (n == m) ≡ false → m ≢ n
-unequal n m other same =
-    let here : (n == m) ≡ true = grind (arith, same) in true≢false (sym here ∙ other)
 
 seen_change : (rows cols c n : ℕ) (here : Bool) (change : Option TerminalState → Option TerminalState)
     (add : Tape → Tape) (terminals : List (Option TerminalState)) (tape : Tape)

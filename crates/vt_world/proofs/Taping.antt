@@ -1,7 +1,7 @@
 -- The tape of a console by deeds, and what it has after an event: what the event adds to it.
-use Rattle.std.proofs.Common.{◌≡◌, ℕ, ◌⊎◌, inl, inr, Bool, true, false, true≢false, cond, List, [], ◌∷◌, ◌++◌, filter, flat_map, map, Option, Some, None, is_some, refl, sym, ap, subst, ◌∙◌, append-nil}
+use Rattle.std.proofs.Common.{◌≡◌, ℕ, ◌⊎◌, inl, inr, Bool, true, false, cond, List, [], ◌∷◌, ◌++◌, filter, flat_map, map, Option, Some, None, is_some, refl, sym, ap, subst, ◌∙◌, append-nil}
 use Rattle.std.specs.List.{range_with_len}
-use Rattle.std.specs.Prelude.{◌&&◌, ◌==◌, not, option_map, unwrap_or}
+use Rattle.std.specs.Prelude.{◌==◌, not, option_map, unwrap_or}
 use Rattle.call_bytes.specs.Colours.{colours_in}
 use Rattle.call_bytes.specs.Words.{words_in}
 use Rattle.vt_events.specs.declared.event.Event.{Event}
@@ -11,8 +11,8 @@ use Rattle.vt_events.specs.declared.reply.Reply.TheVariants as reply
 use Rattle.vt_procs.specs.declared.ticket.Ticket.TheVariants.{Active, Input}
 use Rattle.vt_screen.specs.Tape.{Taped, byte, mark, palette, resize, user_map}
 use Rattle.vt_screen.specs.declared.out.Out.{Out}
-use Rattle.vt_world.proofs.Orders.{right_of}
 use Rattle.vt_world.proofs.Quiet.{are_quiet, is_quiet_act, is_quiet_own, outs_quiet, scan_quiet, sent_quiet, wait_quiet}
+use Rattle.vt_world.proofs.Truths.{differ, left_of, right_of}
 use Rattle.vt_world.specs.Deeds.{Deed, Alters, Asks, By, Clears, Own, OwnDeed, Starts, Writes}
 use Rattle.vt_world.specs.Rows.{freeing, out_deeds, row}
 use Rattle.vt_world.specs.State.{WorldState}
@@ -45,9 +45,6 @@ tape_of_deeds c tape (By act ∷ deeds) = tape_of_deeds c tape deeds
 tape_of_deeds c tape (Asks wanted ∷ deeds) = tape_of_deeds c tape deeds
 tape_of_deeds c tape (Own deed ∷ deeds) = tape_of_deeds c (tape_by c tape deed) deeds
 
-differ : {X : Type 0} → false ≡ true → X
-differ same = absurd (true≢false (sym same))
-
 quiet_own : (c : ℕ) (tape : Tape) (deed : OwnDeed) → is_quiet_own deed ≡ true
     → tape_by c tape deed ≡ tape
 quiet_own c tape (Starts n) quiet = differ quiet
@@ -55,10 +52,6 @@ quiet_own c tape (Clears n) quiet = differ quiet
 quiet_own c tape (Writes n bytes) quiet = differ quiet
 quiet_own c tape (Alters n m) quiet = differ quiet
 quiet_own c tape deed quiet = refl
-
-first_of : (a b : Bool) → (a && b) ≡ true → a ≡ true
-first_of true b both = refl
-first_of false b both = both
 
 -- quiet deeds leave the tape
 leaves : (c : ℕ) (tape : Tape) (deeds : List Deed) → are_quiet deeds ≡ true
@@ -69,7 +62,7 @@ leaves c tape (By act ∷ deeds) quiet =
 leaves c tape (Asks wanted ∷ deeds) quiet = leaves c tape deeds quiet
 leaves c tape (Own deed ∷ deeds) quiet =
     leaves c (tape_by c tape deed) deeds (right_of (is_quiet_own deed) (are_quiet deeds) quiet)
-    ∙ quiet_own c tape deed (first_of (is_quiet_own deed) (are_quiet deeds) quiet)
+    ∙ quiet_own c tape deed (left_of (is_quiet_own deed) (are_quiet deeds) quiet)
 
 -- the new tape is none, or the old one with these items behind it
 abbrev Grows : List Taped → Tape → Tape → Type 0

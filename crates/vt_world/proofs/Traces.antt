@@ -1,5 +1,5 @@
 -- What an event tells: what its acts tell, and signals that were raised beside them.
-use Rattle.std.proofs.Common.{◌≡◌, ℕ, Bool, true, false, true≢false, cond, List, [], ◌∷◌, ◌++◌, Option, Some, None, refl, sym, ap, subst, subst₂, ◌∙◌, append_assoc, append-nil}
+use Rattle.std.proofs.Common.{◌≡◌, ℕ, Bool, true, false, cond, List, [], ◌∷◌, ◌++◌, Option, Some, None, refl, sym, ap, subst, subst₂, ◌∙◌, append_assoc, append-nil}
 use Rattle.std.specs.List.{list_all}
 use Rattle.vt_switch.specs.Acts.{SwitchAct, Request}
 use Rattle.vt_switch.specs.Moments.{Core, core_after, hops, is_live, marks, raise}
@@ -8,6 +8,7 @@ use Rattle.vt_switch.specs.declared.mark.Mark.{Mark}
 use Rattle.vt_switch.specs.declared.mark.Mark.TheVariants as mark
 use Rattle.vt_world.proofs.Cores.{acted_core, own_core}
 use Rattle.vt_world.proofs.Steps.{by_step}
+use Rattle.vt_world.proofs.Truths.{differ}
 use Rattle.vt_world.specs.Acts.{all_acts, event_acts, request_of}
 use Rattle.vt_world.specs.Deeds.{Deed, By, Asks, Own, OwnDeed, Raises, acted, all_done, done, own_done, requested}
 use Rattle.vt_world.specs.Heard.{cleared, heard, tell}
@@ -172,9 +173,6 @@ hops_append (mark.Asked n ∷ a) b = hops_append a b
 hops_append (mark.Raised p signal ∷ a) b = hops_append a b
 hops_append (mark.Hopped hop ∷ a) b = ap (λ (list : List Hop). hop ∷ list) (hops_append a b)
 hops_append (mark.Ended p ∷ a) b = hops_append a b
-
-differ : {X : Type 0} → false ≡ true → X
-differ same = absurd (true≢false (sym same))
 
 no_hops : (signals : List Mark) → list_all is_raise signals ≡ true → hops signals ≡ []
 no_hops [] raised = refl
