@@ -48,7 +48,8 @@ fn first_character(b: &[u8]) -> Option<(u32, usize)>
 }
 
 // The character that begins with these bytes and has two or three, where it is whole and is shown, and
-// how many it has. Text often has both in turn, so no branch asks how many there are.
+// how many it has. Text often has both in turn, so no branch asks how many there are: the code and the
+// length are chosen apart, since one choice of both is compiled into a branch.
 #[inline(always)]
 fn common_character(a: u8, b: u8, c: u8) -> Option<(u32, usize)>
     requires common { is_common a ≡ true }
