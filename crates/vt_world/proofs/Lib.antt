@@ -1,4 +1,5 @@
 mod Bells
+mod Freed
 mod Histories
 mod Lives
 mod Places
