@@ -3,6 +3,7 @@ mod Bells
 mod Called
 mod Cores
 mod Displays
+mod Freed
 mod Histories
 mod Lives
 mod Orders
