@@ -3,6 +3,7 @@
 
 mod acts;
 mod allocating;
+mod altering;
 mod asking;
 mod attention;
 mod board;
