@@ -1,6 +1,8 @@
+mod Alters
 mod Bells
 mod Histories
 mod Lives
+mod Masks
 mod Places
 mod Requests
 mod Stays

@@ -1,5 +1,5 @@
 //! Which consoles are open, and which are allocated.
-ghost use Rattle.std.specs.Prelude.{◌≡◌, ◌≤◌, ◌^◌, ◌<◌, Some, None, not, find, if◌then◌else◌};
+ghost use Rattle.std.specs.Prelude.{◌≡◌, ◌≤◌, ◌+◌, ◌^◌, not, find, if◌then◌else◌};
 ghost use Rattle.std.specs.List.{range_with_len};
 ghost use Rattle.vt_events.specs.declared.event.Event.TheVariants as event;
 ghost use Rattle.vt_procs.specs.Callers.{is_opened};
@@ -45,12 +45,21 @@ impl World {
     fn lowest_unopened(&self) -> u16
         ensures { result ≡ lowest_unopened self.now }
     {
-        for n in 1..64 {
-            if !self.is_opened(n) {
-                return n;
+        self.first_unopened(1, LAST).unwrap_or(0)
+    }
+
+    // The lowest of so many consoles that nobody has open.
+    fn first_unopened(&self, low: u16, len: u16) -> Option<u16>
+        requires low { 1 ≤ low }
+        requires high { low + len ≤ 64 }
+        ensures { result ≡ find (λ c. not (is_opened self.now.callers c)) (range_with_len low len) }
+    {
+        for k in 0..len {
+            if !self.is_opened(low + k) {
+                return Some(low + k);
             }
         }
-        0
+        None
     }
 
     fn is_opened(&self, n: u16) -> bool
@@ -68,8 +77,8 @@ impl World {
         ensures { result ≡ allocated_mask self.now.display }
     {
         let mut mask = 0;
-        for n in 1..64 {
-            mask += self.allocated_bit(n);
+        for k in 0..LAST {
+            mask += self.allocated_bit(k + 1);
         }
         mask
     }
