@@ -1,11 +1,20 @@
+<<<<<<< HEAD
 mod Allocation
+=======
+mod Alters
+>>>>>>> ace7c2907b9bf20a89abdc0a5dad479458834fed
 mod Bells
 mod Called
 mod Cores
 mod Displays
+mod Freed
 mod Histories
 mod Lives
+<<<<<<< HEAD
 mod Orders
+=======
+mod Masks
+>>>>>>> ace7c2907b9bf20a89abdc0a5dad479458834fed
 mod Places
 mod Quiet
 mod Requests
