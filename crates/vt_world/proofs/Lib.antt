@@ -1,8 +1,5 @@
-<<<<<<< HEAD
 mod Allocation
-=======
 mod Alters
->>>>>>> ace7c2907b9bf20a89abdc0a5dad479458834fed
 mod Bells
 mod Called
 mod Cores
@@ -10,11 +7,8 @@ mod Displays
 mod Freed
 mod Histories
 mod Lives
-<<<<<<< HEAD
-mod Orders
-=======
 mod Masks
->>>>>>> ace7c2907b9bf20a89abdc0a5dad479458834fed
+mod Orders
 mod Places
 mod Quiet
 mod Requests

@@ -1,21 +1,17 @@
 //! The table of events: one method for each, which refuses it or does it.
 
 mod activate;
-<<<<<<< HEAD
-mod close;
-mod disallocate;
-mod exit;
-mod kd;
-mod locks;
-=======
 mod answers;
+mod close;
 mod consoles;
+mod disallocate;
 mod dumps;
 mod exit;
 mod handled;
+mod kd;
 mod keyboard;
 mod keymaps;
->>>>>>> ace7c2907b9bf20a89abdc0a5dad479458834fed
+mod locks;
 mod mode;
 mod open;
 mod permission;
@@ -23,10 +19,7 @@ mod read;
 mod refusals;
 mod release;
 mod scan;
-<<<<<<< HEAD
+mod screens;
 mod signals;
 mod waits;
-=======
-mod screens;
->>>>>>> ace7c2907b9bf20a89abdc0a5dad479458834fed
 mod write;

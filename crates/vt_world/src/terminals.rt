@@ -1,11 +1,7 @@
 ghost use Rattle.std.specs.Prelude.{◌≡◌, ◌≤◌, [], Some, None, IfOk, length, is_some, option_copied, if◌then◌else◌};
 ghost use Rattle.vt_base.specs.ConsoleSet.{at_each};
-<<<<<<< HEAD
-ghost use Rattle.vt_world.specs.Terminals.{new_terminal, said_of, terminal_at, with_start, without_terminal, written};
-=======
 ghost use Rattle.vt_screen.specs.Tape.{palette, resize, user_map};
-ghost use Rattle.vt_world.specs.Terminals.{altered, new_terminal, said_of, terminal_at, with_start, written};
->>>>>>> ace7c2907b9bf20a89abdc0a5dad479458834fed
+ghost use Rattle.vt_world.specs.Terminals.{altered, new_terminal, said_of, terminal_at, with_start, without_terminal, written};
 
 use crate::terminal::Terminal;
 use std::alloc::Global;
