@@ -1,5 +1,6 @@
 mod Alters
 mod Bells
+mod Freed
 mod Histories
 mod Lives
 mod Masks

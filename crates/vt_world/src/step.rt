@@ -4,7 +4,7 @@ ghost use Rattle.vt_procs.specs.Callers.{caller_at, is_live};
 ghost use Rattle.vt_procs.specs.Tickets.{told};
 ghost use Rattle.vt_procs.specs.declared.waited.Waited.{Waited};
 ghost use Rattle.vt_world.specs.Spare.{Fits, HasGrid, extent, needed_grid};
-ghost use Rattle.vt_world.specs.Step.{Gives, own_step, step};
+ghost use Rattle.vt_world.specs.Step.{Gives, after_common, own_step, step};
 ghost use Rattle.vt_world.specs.Tests.{common_tests, ends_wait, first_failing, may_make};
 
 use crate::spare::Spare;
@@ -31,11 +31,21 @@ impl World {
             unused,
         } = spare;
         self.told.clear();
-        let reply = match self.refusal(caller, event) {
+        (self.answer(caller, event, grid, reply), unused)
+    }
+
+    // What refuses every event comes before what refuses this one.
+    fn answer(&mut self, p: CallerNo, event: &Event, grid: Option<Grid>, reply: Bytes) -> Reply
+        requires told { self.old.told.trace ≡ [] }
+        requires grid { HasGrid (needed_grid (extent self.old.rows self.old.cols) event.now) grid }
+        requires reply { greatest_reply event.now ≤ reply.room }
+        ensures { Gives (after_common self.old p event.now
+            (first_failing (common_tests self.old p event.now))) self.new result }
+    {
+        match self.refusal(p, event) {
             Some(errno) => Reply::Err(errno),
-            None => self.carry_out(caller, event, grid, reply),
-        };
-        (reply, unused)
+            None => self.carry_out(p, event, grid, reply),
+        }
     }
 
     // What refuses any event of the caller.
@@ -70,8 +80,19 @@ impl World {
             Event::Scan(b) => self.scan(p, *b),
             Event::Exit => self.exit(p),
             Event::OpenCon(n) => self.open(p, *n, grid),
+            Event::CloseFd(fd) => self.close(p, *fd),
             Event::Write(fd, b) => self.write(p, *fd, b),
+            Event::ReadIn(fd, most) => self.read_in(p, *fd, *most, reply),
+            Event::WaitInput(fd) => self.wait_input(p, *fd),
+            Event::WaitActive(fd, n) => self.wait_active(p, *fd, *n),
+            Event::WaitSignal => self.wait_signal(p),
+            Event::WaitEnd => self.wait_end(p),
             Event::Activate(fd, n) => self.activate(p, *fd, *n, grid),
+            Event::Disallocate(fd, n) => self.disallocate(p, *fd, *n),
+            Event::LockSwitch(fd) => self.lock_switch(p, *fd),
+            Event::UnlockSwitch(fd) => self.unlock_switch(p, *fd),
+            Event::SetKd(fd, mode) => self.set_kd(p, *fd, *mode),
+            Event::GetKd(fd) => self.get_kd(p, *fd),
             Event::SetMode(fd, mode, waitv, relsig, acqsig, frsig) => {
                 let mode = VtMode {
                     mode: *mode,
@@ -83,7 +104,11 @@ impl World {
                 self.set_mode(p, *fd, mode)
             }
             Event::RelDisp(fd, arg) => self.release(p, *fd, *arg),
-            _ => Reply::Text(reply),
+            Event::GetMode(fd) => self.get_mode(p, *fd),
+            Event::Accept(fd, signal) => self.accept(p, *fd, *signal),
+            Event::TakeSignals => self.take_signals(p),
+            Event::Kill(q, signal) => self.kill(p, *q, *signal),
+            _ => Reply::Wait,
         }
     }
 }

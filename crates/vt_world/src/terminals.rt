@@ -1,7 +1,7 @@
 ghost use Rattle.std.specs.Prelude.{◌≡◌, ◌≤◌, [], Some, None, IfOk, length, is_some, option_copied, if◌then◌else◌};
 ghost use Rattle.vt_base.specs.ConsoleSet.{at_each};
 ghost use Rattle.vt_screen.specs.Tape.{palette, resize, user_map};
-ghost use Rattle.vt_world.specs.Terminals.{altered, new_terminal, said_of, terminal_at, with_start, written};
+ghost use Rattle.vt_world.specs.Terminals.{altered, new_terminal, said_of, terminal_at, with_start, without_terminal, written};
 
 use crate::terminal::Terminal;
 use std::alloc::Global;
@@ -60,6 +60,13 @@ impl Terminals {
         if place.is_none() {
             *place = Some(Terminal::new(grid));
         }
+    }
+
+    /// The console has no terminal any more.
+    pub(crate) fn end(&mut self, c: ConsoleNo)
+        ensures { self.new ≡ without_terminal c self.old }
+    {
+        self.places[usize::from(c.get())] = None;
     }
 
     /// Writes at most 64 bytes to the console, where it has a terminal. What they say is in `outs`.
