@@ -30,7 +30,7 @@ impl World {
     }
 
     /// The console in front, and those that are allocated (ioctl_console(2), VT_GETSTATE).
-    pub(crate) fn state(&mut self, p: CallerNo, fd: u16) -> Reply
+    pub(crate) fn get_state(&mut self, p: CallerNo, fd: u16) -> Reply
         ensures { Gives (own_step self.old p (event.GetState fd)) self.new result }
     {
         if self.procs.console_of(p, fd).is_none() {

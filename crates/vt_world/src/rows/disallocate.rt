@@ -11,8 +11,8 @@ use crate::rows::refusals::{IN_USE, NO_SUCH_NUMBER, NO_PERMISSION, NOT_OPEN};
 use vt_base::{CallerNo, ConsoleNo};
 use vt_events::Reply;
 
-/// The numbers of consoles are from 1 to 63.
-const CONSOLES: u16 = 64;
+/// The greatest number of a console.
+const LAST_CONSOLE: u16 = 63;
 
 impl World {
     /// Frees console `n`, or all that are not in use where `n` is 0 (ioctl_console(2),
@@ -26,13 +26,16 @@ impl World {
         if !self.may_handle(p, c) {
             return NO_PERMISSION;
         }
+        if LAST_CONSOLE < n {
+            return NO_SUCH_NUMBER;
+        }
         if n == 0 {
             self.free_unused();
             self.settle(p);
             return Reply::Done;
         }
         let Some(c) = ConsoleNo::new(n) else {
-            return NO_SUCH_NUMBER;
+            unreachable!()
         };
         if self.in_use(c) {
             return IN_USE;
@@ -46,7 +49,7 @@ impl World {
     fn free_unused(&mut self)
         ensures { self.new ≡ all_done self.old (disallocating self.old 0) }
     {
-        for n in 1..CONSOLES {
+        for n in 1..LAST_CONSOLE + 1 {
             self.free_if_unused(n);
         }
     }

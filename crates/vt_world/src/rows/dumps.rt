@@ -11,7 +11,7 @@ ghost use Rattle.vt_world.specs.Tests.{caller, named, sees};
 
 use crate::World;
 use crate::rows::answers::emptied;
-use crate::rows::refusals::{INVALID, NO_CONSOLE, NO_PERMISSION};
+use crate::rows::refusals::{INVALID, NO_PERMISSION, NO_SUCH_NUMBER};
 use vt_base::{Bytes, CallerNo, ConsoleNo};
 use vt_dump::{codes, vcs, vcsa};
 use vt_events::Reply;
@@ -30,7 +30,7 @@ impl World {
             return NO_PERMISSION;
         }
         let Some(c) = self.named(n) else {
-            return NO_CONSOLE;
+            return NO_SUCH_NUMBER;
         };
         if kind > LAST_KIND || !self.switch.allocated(c) {
             return INVALID;

@@ -32,7 +32,7 @@ impl World {
     }
 
     /// The keyboard mode of the descriptor's console (ioctl_console(2), KDGKBMODE).
-    pub(crate) fn keyboard_mode(&mut self, p: CallerNo, fd: u16) -> Reply
+    pub(crate) fn get_keyboard_mode(&mut self, p: CallerNo, fd: u16) -> Reply
         ensures { Gives (own_step self.old p (event.GetKb fd)) self.new result }
     {
         let Some(c) = self.procs.console_of(p, fd) else {
@@ -60,7 +60,7 @@ impl World {
     }
 
     /// What Meta does on the descriptor's console (ioctl_console(2), KDGKBMETA).
-    pub(crate) fn meta(&mut self, p: CallerNo, fd: u16) -> Reply
+    pub(crate) fn get_meta(&mut self, p: CallerNo, fd: u16) -> Reply
         ensures { Gives (own_step self.old p (event.GetMeta fd)) self.new result }
     {
         let Some(c) = self.procs.console_of(p, fd) else {
@@ -88,7 +88,7 @@ impl World {
     }
 
     /// The lights of the descriptor's console, which may be its flags (ioctl_console(2), KDGETLED).
-    pub(crate) fn lights(&mut self, p: CallerNo, fd: u16) -> Reply
+    pub(crate) fn get_lights(&mut self, p: CallerNo, fd: u16) -> Reply
         ensures { Gives (own_step self.old p (event.GetLed fd)) self.new result }
     {
         let Some(c) = self.procs.console_of(p, fd) else {
@@ -119,7 +119,7 @@ impl World {
 
     /// The keyboard flags of the descriptor's console, and those of a reset (ioctl_console(2),
     /// KDGKBLED).
-    pub(crate) fn flags(&mut self, p: CallerNo, fd: u16) -> Reply
+    pub(crate) fn get_flags(&mut self, p: CallerNo, fd: u16) -> Reply
         ensures { Gives (own_step self.old p (event.GetFlags fd)) self.new result }
     {
         let Some(c) = self.procs.console_of(p, fd) else {

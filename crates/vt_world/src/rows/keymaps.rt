@@ -56,7 +56,7 @@ impl World {
     }
 
     /// What a keycode does in a key table (ioctl_console(2), KDGKBENT).
-    pub(crate) fn entry(&mut self, p: CallerNo, fd: u16, t: u16, code: u16) -> Reply
+    pub(crate) fn get_entry(&mut self, p: CallerNo, fd: u16, t: u16, code: u16) -> Reply
         ensures { Gives (own_step self.old p (event.GetEntry fd t code)) self.new result }
     {
         if self.procs.console_of(p, fd).is_none() {
@@ -90,7 +90,7 @@ impl World {
     }
 
     /// A function string (ioctl_console(2), KDGKBSENT).
-    pub(crate) fn func(&mut self, p: CallerNo, fd: u16, i: u16, reply: Bytes) -> Reply
+    pub(crate) fn get_func(&mut self, p: CallerNo, fd: u16, i: u16, reply: Bytes) -> Reply
         requires { 255 ≤ reply.room }
         ensures { Gives (own_step self.old p (event.GetFunc fd i)) self.new result }
     {
@@ -121,7 +121,7 @@ impl World {
     }
 
     /// The pairs of compose keys (ioctl_console(2), KDGKBDIACRUC).
-    pub(crate) fn pairs(&mut self, p: CallerNo, fd: u16, reply: Bytes) -> Reply
+    pub(crate) fn get_pairs(&mut self, p: CallerNo, fd: u16, reply: Bytes) -> Reply
         requires { 3072 ≤ reply.room }
         ensures { Gives (own_step self.old p (event.GetDia fd)) self.new result }
     {
@@ -149,7 +149,7 @@ impl World {
     }
 
     /// The keycode of a scan number (ioctl_console(2), KDGETKEYCODE).
-    pub(crate) fn code(&mut self, p: CallerNo, fd: u16, scan: u16) -> Reply
+    pub(crate) fn get_code(&mut self, p: CallerNo, fd: u16, scan: u16) -> Reply
         ensures { Gives (own_step self.old p (event.GetCode fd scan)) self.new result }
     {
         if self.procs.console_of(p, fd).is_none() {

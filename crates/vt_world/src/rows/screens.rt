@@ -56,7 +56,7 @@ impl World {
     }
 
     /// The user's table of the descriptor's console (ioctl_console(2), GIO_UNISCRNMAP).
-    pub(crate) fn map(&mut self, p: CallerNo, fd: u16, reply: Bytes) -> Reply
+    pub(crate) fn get_map(&mut self, p: CallerNo, fd: u16, reply: Bytes) -> Reply
         requires { 512 ≤ reply.room }
         ensures { Gives (own_step self.old p (event.GetMap fd)) self.new result }
     {
@@ -86,7 +86,7 @@ impl World {
     }
 
     /// The palette of the descriptor's console (ioctl_console(2), GIO_CMAP).
-    pub(crate) fn palette(&mut self, p: CallerNo, fd: u16, reply: Bytes) -> Reply
+    pub(crate) fn get_palette(&mut self, p: CallerNo, fd: u16, reply: Bytes) -> Reply
         requires { 48 ≤ reply.room }
         ensures { Gives (own_step self.old p (event.GetPal fd)) self.new result }
     {
