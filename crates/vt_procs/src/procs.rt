@@ -1,5 +1,5 @@
-ghost use Rattle.std.specs.Prelude.{◌≡◌, true, is_some};
-ghost use Rattle.vt_procs.specs.Callers.{IsFit, accepts, caller_at, callers_of, console_of, ended, free_fd, is_live, is_opened, opened, plain_caller, shut, starting};
+ghost use Rattle.std.specs.Prelude.{◌≡◌, true, Some, None, is_some, if◌then◌else◌};
+ghost use Rattle.vt_procs.specs.Callers.{IsFit, accepts, caller_at, callers_of, console_of, ended, free_fd, has_open, is_live, is_opened, opened, plain_caller, shut, starting};
 ghost use Rattle.vt_procs.specs.Tickets.{accepting};
 
 use crate::opens::NO_OPENS;
@@ -73,6 +73,14 @@ impl Procs {
         process.opens.at(fd)
     }
 
+    /// The descriptor of the number, where that is open.
+    pub fn number(&self, p: CallerNo, fd: u16) -> Option<Fd>
+        ensures { result ≡ (if is_some (console_of self.now p fd) then Some fd else None) }
+    {
+        let process = &self.callers[usize::from(p.get())];
+        process.opens.number(fd)
+    }
+
     /// Opens the console at the lowest free descriptor, where there is one.
     pub fn add_open(&mut self, p: CallerNo, c: ConsoleNo) -> Option<Fd>
         ensures answer { result ≡ free_fd self.old p }
@@ -89,6 +97,14 @@ impl Procs {
     {
         let process = &mut self.callers[usize::from(p.get())];
         process.opens.shut(fd);
+    }
+
+    /// Whether `p` has the console open.
+    pub fn has_open(&self, p: CallerNo, c: ConsoleNo) -> bool
+        ensures { result ≡ has_open (caller_at self.now p).opens c }
+    {
+        let process = &self.callers[usize::from(p.get())];
+        process.opens.has(c)
     }
 
     /// Whether somebody has the console open. It looks at every descriptor.
@@ -114,10 +130,9 @@ impl Procs {
         self.accepter
     }
 
-    /// The end of a live caller: its descriptors, its ticket and its pending signals are gone, and it
+    /// The end of a caller: its descriptors, its ticket and its pending signals are gone, and it
     /// accepts no key signal.
     pub fn end(&mut self, p: CallerNo)
-        requires { is_live self.old p ≡ true }
         ensures { self.new ≡ ended p self.old }
     {
         if self.accepts(p) {

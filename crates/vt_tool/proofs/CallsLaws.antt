@@ -17,7 +17,7 @@ one_line : (call call' : Call) (more more' : List ℕ) → IsFitCall call → Is
     → call_line call ++ more ≡ call_line call' ++ more'
     → (spelled (event_words call.event) ≡ spelled (event_words call'.event)) × (more ≡ more')
 one_line call call' more more' fit fit' same =
-    let rest = rest_of_number 0x20 call.caller call'.caller _ _ _ (omega arith) (omega (arith, fit.process)) (omega (arith, fit'.process))
+    let rest = rest_of_number 0x20 call.caller call'.caller _ _ _ (omega arith) (omega (arith, fit.caller)) (omega (arith, fit'.caller))
     (call_split call more) (same ∙ call_split call' more') in
     one_cut 0x0A (spelled (event_words call.event)) (spelled (event_words call'.event)) more more'
     (lacks-event call.event fit.event) (lacks-event call'.event fit'.event) rest

@@ -1,8 +1,10 @@
 -- Call texts: the calls of a console, one a line, behind a line that says what it begins with. This
 -- project's own.
-use Rattle.std.specs.Prelude.{◌≡◌, ◌≢◌, ℕ, zero, suc, ◌+◌, ◌≤◌, List, [], ◌∷◌, ◌++◌, length, codes, decimal, ⊤}
+use Rattle.std.specs.Prelude.{◌≡◌, ◌≢◌, ℕ, zero, suc, ◌+◌, ◌≤◌, List, [], ◌∷◌, ◌++◌, length, codes, decimal, Bool, true, false, ⊤}
 use Rattle.std.specs.List.{All, flat_map}
 use Rattle.vt_events.specs.Plain.{plain_event}
+use Rattle.vt_events.specs.declared.event.Event.{Event}
+use Rattle.vt_events.specs.declared.event.Event.TheVariants as event
 use Rattle.vt_journal.specs.Journal.{line_text}
 use Rattle.vt_journal.specs.Words.{event_words}
 use Rattle.vt_journal.specs.Words as words
@@ -39,9 +41,16 @@ pub record IsFitHeading (h : Heading) : Type 0 where
   pub consoles : (1 ≤ h.consoles) × (h.consoles ≤ 8)
   pub processes : (1 ≤ h.processes) × (h.processes ≤ 64)
 
--- the caller of a call is a process, and its words are in their ranges
+-- the keyboard makes scans and its exit
+abbrev pub is_keyboards : Event → Bool
+is_keyboards (event.Scan b) = true
+is_keyboards event.Exit = true
+is_keyboards e = false
+
+-- the call's words are in their ranges, and 0, the keyboard, makes but what it can
 pub record IsFitCall (call : Call) : Type 0 where
-  pub process : (1 ≤ call.caller) × (call.caller ≤ 64)
+  pub caller : call.caller ≤ 64
+  pub keyboard : call.caller ≡ 0 → is_keyboards call.event ≡ true
   pub event : words.IsFit call.event
 
 -- the bytes that a call holds have no room

@@ -1,6 +1,6 @@
 //! Call texts, read. This project's own.
 ghost use Rattle.std.specs.Prelude.{◌≡◌, ◌≢◌, ◌≤◌, ◌↔◌, List, ◌++◌, codes, length, All, IsTrue, IfOk, IfErr, IfSome, IfNone};
-ghost use Rattle.vt_tool.specs.Calls.{BeginsNoCall, BeginsNoHeading, IsFitCall, IsFitHeading, IsGood, IsPlainCall, StopsAtLine, StopsReading, call_line, call_text, heading_words};
+ghost use Rattle.vt_tool.specs.Calls.{BeginsNoCall, BeginsNoHeading, IsFitCall, IsFitHeading, IsGood, IsPlainCall, StopsAtLine, StopsReading, call_line, call_text, heading_words, is_keyboards};
 ghost use Rattle.vt_journal.specs.Journal.{line_text};
 ghost use Rattle.vt_tool.specs.Input.{text_limit};
 
@@ -12,6 +12,7 @@ use cutting::{cut_at, cut_number};
 use heading::Heading;
 use std::alloc::Global;
 use vt_base::{CallerNo, NoMemory};
+use vt_events::Event;
 use vt_journal::read_event;
 
 pub mod call;
@@ -78,7 +79,7 @@ fn read_call(alloc: Global, text: &[u8]) -> Result<Option<(Call, &[u8])>, NoMemo
         text.now ≡ call_line read.0 ++ read.1.now)) }
     ensures none { IfOk result (λ found. IfNone found (BeginsNoCall text.now)) }
 {
-    let Some((n, rest)) = cut_number(text, 64, b' ') else {
+    let Some((n, rest)) = cut_number(text, 0, 64, b' ') else {
         return Ok(None);
     };
     let Some(caller) = CallerNo::new(u16::from(n)) else {
@@ -90,7 +91,17 @@ fn read_call(alloc: Global, text: &[u8]) -> Result<Option<(Call, &[u8])>, NoMemo
     let Some(event) = read_event(alloc, words)? else {
         return Ok(None);
     };
+    if n == 0 && !is_keyboards(&event) {
+        return Ok(None);
+    }
     Ok(Some((Call { caller, event }, rest)))
+}
+
+// Whether the keyboard can make the call.
+fn is_keyboards(event: &Event) -> bool
+    ensures { result ≡ is_keyboards event.now }
+{
+    matches!(event, Event::Scan(_) | Event::Exit)
 }
 
 // The heading that the text begins with, and the bytes behind it.
@@ -104,10 +115,10 @@ fn read_heading(text: &[u8]) -> Option<(Heading, &[u8])>
     if !is_mark(mark) {
         return None;
     }
-    let (rows, rest) = cut_number(rest, 255, b' ')?;
-    let (cols, rest) = cut_number(rest, 255, b' ')?;
-    let (consoles, rest) = cut_number(rest, 8, b' ')?;
-    let (processes, rest) = cut_number(rest, 64, b'\n')?;
+    let (rows, rest) = cut_number(rest, 1, 255, b' ')?;
+    let (cols, rest) = cut_number(rest, 1, 255, b' ')?;
+    let (consoles, rest) = cut_number(rest, 1, 8, b' ')?;
+    let (processes, rest) = cut_number(rest, 1, 64, b'\n')?;
     let heading = Heading {
         rows,
         cols,

@@ -1,12 +1,12 @@
-ghost use Rattle.std.specs.Prelude.{◌≡◌, IfOk, replicate};
-ghost use Rattle.vt_world.specs.Inputs.{input_at, keyed, lit, new_input, queued, scanned, with_bytes};
+ghost use Rattle.std.specs.Prelude.{◌≡◌, ◌≤◌, ◌++◌, IfOk, length, min, replicate, take};
+ghost use Rattle.vt_world.specs.Inputs.{comes, emptied, input_at, keyed, lit, new_input, queued, with_bytes, without_bytes};
 
 use crate::input::Input;
 use in_queue::InQueue;
-use key_machine::{KbState, mode};
+use key_machine::KbState;
 use std::alloc::Global;
 use std::marker::Model;
-use vt_base::{ConsoleNo, NoMemory};
+use vt_base::{Bytes, ConsoleNo, NoMemory};
 
 /// The places for consoles by their numbers, of which 0 stays free.
 const PLACES: usize = 64;
@@ -57,12 +57,34 @@ impl Inputs {
         self.places[usize::from(c.get())].keys
     }
 
-    /// Puts the bytes into the console's queue, whole or not at all.
-    pub(crate) fn put(&mut self, c: ConsoleNo, piece: &[u8])
-        ensures { self.new ≡ queued c piece.now self.old }
+    /// Puts the bytes into the console's queue, whole or not at all, and tells whether some came.
+    pub(crate) fn put(&mut self, c: ConsoleNo, piece: &[u8]) -> bool
+        ensures queues { self.new ≡ queued c piece.now self.old }
+        ensures some { result ≡ comes (input_at self.old c).queue piece.now }
     {
         let input = &mut self.places[usize::from(c.get())];
-        put_whole(&mut input.queue, piece);
+        put_whole(&mut input.queue, piece)
+    }
+
+    /// Takes the first bytes of the console's queue, so many or all, and adds them to `out`.
+    pub(crate) fn take(&mut self, c: ConsoleNo, out: &mut Bytes, max: usize)
+        requires { max ≤ out.old.room }
+        ensures queues { let count = min max (length (input_at self.old c).queue.bytes) in
+            self.new ≡ without_bytes c count self.old }
+        ensures taken { let bytes = (input_at self.old c).queue.bytes in
+            out.new.bytes ≡ out.old.bytes ++ take (min max (length bytes)) bytes }
+    {
+        let input = &mut self.places[usize::from(c.get())];
+        let _count = input.queue.take(out, max);
+    }
+
+    /// The place of the console is a new one's.
+    pub(crate) fn clear(&mut self, c: ConsoleNo)
+        ensures { self.new ≡ emptied c self.old }
+    {
+        let input = &mut self.places[usize::from(c.get())];
+        input.queue.clear();
+        input.keys = KbState::start();
     }
 
     /// Gives the console this key state.
@@ -81,20 +103,13 @@ impl Inputs {
         keys.lights = Some(lights);
         self.set_keys(c, keys);
     }
-
-    /// Puts a scan byte into the console's queue, where its keyboard mode is K_RAW.
-    pub(crate) fn scan(&mut self, c: ConsoleNo, b: u8)
-        ensures { self.new ≡ scanned c b self.old }
-    {
-        if self.keys(c).mode == mode::RAW {
-            self.put(c, &[b]);
-        }
-    }
 }
 
-// Puts the bytes into the queue, whole or not at all.
-fn put_whole(queue: &mut InQueue, piece: &[u8])
-    ensures { queue.new ≡ with_bytes queue.old piece.now }
+// Puts the bytes into the queue, whole or not at all, and tells whether some came.
+fn put_whole(queue: &mut InQueue, piece: &[u8]) -> bool
+    ensures queue { queue.new ≡ with_bytes queue.old piece.now }
+    ensures some { result ≡ comes queue.old piece.now }
 {
-    let _whole = queue.put(piece);
+    let whole = queue.put(piece);
+    whole && !piece.is_empty()
 }

@@ -14,18 +14,18 @@ pub fn cut_at(text: &[u8], byte: u8) -> Option<(&[u8], &[u8])>
     Some((&text[..i], &text[i + 1..]))
 }
 
-/// The number from 1 to `most` that the text begins with, up to the first such byte, and the bytes
+/// The number from `low` to `most` that the text begins with, up to the first such byte, and the bytes
 /// behind that.
-pub fn cut_number(text: &[u8], most: u8, end: u8) -> Option<(u8, &[u8])>
+pub fn cut_number(text: &[u8], low: u8, most: u8, end: u8) -> Option<(u8, &[u8])>
     requires { end ≤ 0x20 }
-    ensures range { IfSome result (λ cut. (1 ≤ cut.0) × (cut.0 ≤ most)) }
+    ensures range { IfSome result (λ cut. (low ≤ cut.0) × (cut.0 ≤ most)) }
     ensures found { IfSome result (λ cut. text.now ≡ decimal cut.0 ++ end ∷ cut.1.now) }
-    ensures none { IfNone result ((n : ℕ) (more : List ℕ) → 1 ≤ n → n ≤ most
+    ensures none { IfNone result ((n : ℕ) (more : List ℕ) → low ≤ n → n ≤ most
         → text.now ≢ decimal n ++ end ∷ more) }
 {
     let (word, rest) = cut_at(text, end)?;
     let n = parse_decimal(word, u64::from(most))?;
-    if n == 0 {
+    if n < u64::from(low) {
         return None;
     }
     Some((n as u8, rest))

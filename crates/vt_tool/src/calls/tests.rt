@@ -48,7 +48,7 @@ fn answer_of(rt: &impl Abort, alloc: Global, input: &[u8]) -> Result<Answer, NoM
 
 #[test]
 fn finds_the_first_fault(rt: HostRuntime) -> Result<(), Fail> {
-    let cases: [(&'static [u8], Answer); 25] = [
+    let cases: [(&'static [u8], Answer); 28] = [
         (b"%calls 2 5 2 64\n", read(0)),
         (b"%calls 2 5 2 64\n64 open 0\n1 write 65535 -\n", read(2)),
         (
@@ -68,6 +68,9 @@ fn finds_the_first_fault(rt: HostRuntime) -> Result<(), Fail> {
         (b"%calls 2 5 2 64\n\n", fault(91, 2)),
         (b"%calls 2 5 2 64\n1 open 1", fault(91, 2)),
         (b"%calls 2 5 2 64\n0 open 1\n", fault(91, 2)),
+        (b"%calls 2 5 2 64\n0 signals\n", fault(91, 2)),
+        (b"%calls 2 5 2 64\n0 scan 1e\n0 exit\n", read(2)),
+        (b"%calls 2 5 2 64\n0 scan 1e\n00 exit\n", fault(91, 3)),
         (b"%calls 2 5 2 64\n65 open 1\n", fault(91, 2)),
         (b"%calls 2 5 2 64\n1  open 1\n", fault(91, 2)),
         (b"%calls 2 5 2 64\n1 open 65536\n", fault(91, 2)),

@@ -12,6 +12,7 @@ fn plays_calls(rt: HostRuntime) -> Result<(), Fail> {
         gives("play", HANDSHAKE, HANDSHAKE_JOURNAL),
         gives("play", OPENS, OPENS_JOURNAL),
         gives("play", REPORT, REPORT_JOURNAL),
+        gives("play", IDLE, IDLE_JOURNAL),
     ];
     check_all(&rt, rt.alloc(), &cases)?;
     Ok(())
@@ -140,6 +141,36 @@ const BELLS_JOURNAL: &[u8] = b"%journal 1
 %queue 1 0 -
 %screen 2 1 3 2 0 4
 |a c|
+%queue 2 0 -
+%done
+";
+
+// The keyboard is gone, and nobody is left who could go on.
+const IDLE: &[u8] = b"%calls 1 3 2 2
+0 exit
+1 open 1
+2 open 2
+1 waitinput 0
+2 waitinput 0
+1 waitend
+2 waitend
+";
+
+const IDLE_JOURNAL: &[u8] = b"%journal 1
+0 0 exit = ok
+1 0 open 1 = num 0
+2 0 open 2 = num 0
+1 1 waitinput 0 = wait
+2 1 waitinput 0 = wait
+1 2 waitend = err 4
+2 2 waitend = err 4
+%end 7 448
+%display 1
+%screen 1 1 3 0 0 0
+|   |
+%queue 1 0 -
+%screen 2 1 3 0 0 0
+|   |
 %queue 2 0 -
 %done
 ";

@@ -17,13 +17,13 @@ returns-in_err-n-clause-none c =
     (number_there c.args.end n c.args.text.now c.in_ok-word.word.now c.in_ok-word.rest.now more
     c.requires (omega arith) c.in_ok-word.ensures.first c.in_ok-word.ensures.found same))
 
-pub returns-then-n-eq0-clause-none : goal.returns-then-n-eq0-clause-none
-returns-then-n-eq0-clause-none c =
+pub returns-then-n-from-clause-none : goal.returns-then-n-from-clause-none
+returns-then-n-from-clause-none c =
     λ n more low high same.
     let there : decimal n ≡ c.in_ok-word.word.now =
     number_there c.args.end n c.args.text.now c.in_ok-word.word.now c.in_ok-word.rest.now more
     c.requires (omega arith) c.in_ok-word.ensures.first c.in_ok-word.ensures.found same in
     let zero_too : decimal c.in_ok-n.n ≡ c.in_ok-word.word.now = c.in_ok-n.ensures.found.1 in
     let none : n ≡ c.in_ok-n.n =
-    decimal_injective n c.in_ok-n.n (omega arith) (omega (arith, c.if-n-eq0.true)) (there ∙ sym zero_too) in
-    omega (arith, none, c.if-n-eq0.true)
+    decimal_injective n c.in_ok-n.n (omega arith) (omega (arith, c.if-n-from.true)) (there ∙ sym zero_too) in
+    omega (arith, none, c.if-n-from.true, low)
