@@ -1,2 +1,4 @@
 pub mod Acts
 pub mod Walks
+pub mod HookWords
+pub mod Saying

@@ -4,6 +4,9 @@
 mod acting;
 mod answers;
 mod asks;
+mod hook_texts;
+mod hooked;
+mod hooks;
 mod items;
 mod program;
 mod walk;
