@@ -1,4 +1,5 @@
 pub mod Acts
-pub mod Walks
+pub mod Consoles
 pub mod HookWords
 pub mod Saying
+pub mod Walks

@@ -8,7 +8,12 @@ mod hook_texts;
 mod hooked;
 mod hooks;
 mod items;
+mod keyboard;
+mod keyboards;
+mod opening;
+mod openings;
 mod program;
+mod turns;
 mod walk;
 
 pub use items::Items;
