@@ -1,6 +1,6 @@
 use Rattle.std.proofs.Common.{◌≡◌, ◌∷◌, ◌++◌, decimal, take, map}
 use Rattle.vt_journal.specs.Text.{Begins, spaced}
-use Rattle.vt_journal.proofs.adding.add_call.Given as goal
+use Rattle.vt_journal.proofs.adding.add_named.Given as goal
 
 abbrev pub invariant-loop-n : goal.invariant-loop-n
 invariant-loop-n l =
