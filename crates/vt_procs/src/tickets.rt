@@ -1,6 +1,6 @@
 //! Signals, and waits for them, for the display and for input.
 ghost use Rattle.std.specs.List.{list_any};
-ghost use Rattle.std.specs.Prelude.{◌≡◌, ◌≢◌, ◌==◌, true, not, if◌then◌else◌};
+ghost use Rattle.std.specs.Prelude.{◌≡◌, ◌==◌, true, not, if◌then◌else◌};
 ghost use Rattle.vt_procs.specs.Callers.{caller_at, is_live};
 ghost use Rattle.vt_procs.specs.Tickets.{all_ended_by, broken, can_go, collected, ended_by, filled, is_for_display, is_for_input, is_open, left, raised, settled, shown, taken, told, waits, waits_for};
 ghost use Rattle.vt_procs.specs.declared.waited.Waited.{Waited};
@@ -12,11 +12,10 @@ use crate::{Process, Procs, Ticket, Waited, Waiting};
 use vt_base::{CallerNo, ConsoleNo, SigSet, Signal};
 
 impl Procs {
-    /// A signal is pending for `p`, and its open ticket ends. Signal 9 isn't raised: it ends its
-    /// process (signal(7)).
+    /// A signal is pending for `p`, and its open ticket ends. Signal 9 isn't for this: it ends its
+    /// process (signal(7)), by [`Procs::end`].
     pub fn raise(&mut self, p: CallerNo, s: Signal)
-        requires live { is_live self.old p ≡ true }
-        requires raised { s ≢ 9 }
+        requires { is_live self.old p ≡ true }
         ensures { self.new ≡ raised p s self.old }
     {
         let process = &mut self.callers[usize::from(p.get())];

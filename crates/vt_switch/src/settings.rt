@@ -1,8 +1,9 @@
 //! What is set of the display and of a console, and read again.
-ghost use Rattle.std.specs.Prelude.{◌≡◌, true, false};
+ghost use Rattle.std.specs.Prelude.{◌≡◌, false};
 ghost use Rattle.vt_switch.specs.Calls.{freed, is_held, with_kd, with_lock, words_of};
-ghost use Rattle.vt_switch.specs.Display.{console, is_allocated, owner_of};
+ghost use Rattle.vt_switch.specs.Display.{console, owner_of};
 
+use crate::state::FRESH;
 use crate::{Handling, Switch};
 use vt_base::{CallerNo, ConsoleNo, VtMode};
 
@@ -14,9 +15,8 @@ impl Switch {
         self.locked = on;
     }
 
-    /// The console shows graphics, or text (ioctl_console(2), KDSETMODE).
+    /// The console shows graphics, or text (ioctl_console(2), KDSETMODE), if it is allocated.
     pub fn set_kd(&mut self, c: ConsoleNo, graphics: bool)
-        requires { is_allocated self.old c ≡ true }
         ensures { self.new ≡ with_kd self.old c graphics }
     {
         if let Some(console) = &mut self.consoles[usize::from(c.get())] {
@@ -26,7 +26,6 @@ impl Switch {
 
     /// Whether the console shows graphics (ioctl_console(2), KDGETMODE).
     pub fn kd(&self, c: ConsoleNo) -> bool
-        requires { is_allocated self.now c ≡ true }
         ensures { result ≡ (console self.now c).graphics }
     {
         match &self.consoles[usize::from(c.get())] {
@@ -38,7 +37,6 @@ impl Switch {
     /// The five words that say who handles the switches of the console (ioctl_console(2),
     /// VT_GETMODE).
     pub fn mode(&self, c: ConsoleNo) -> VtMode
-        requires { is_allocated self.now c ≡ true }
         ensures { result ≡ words_of (console self.now c).handling }
     {
         match &self.consoles[usize::from(c.get())] {
@@ -53,9 +51,18 @@ impl Switch {
         }
     }
 
+    /// Who handles the switches of the console: itself, where it isn't allocated.
+    pub fn handling(&self, c: ConsoleNo) -> Handling
+        ensures { result ≡ (console self.now c).handling }
+    {
+        match &self.consoles[usize::from(c.get())] {
+            Some(console) => console.handling,
+            None => FRESH.handling,
+        }
+    }
+
     /// The process that handles the switches of the console, where one does.
     pub fn owner(&self, c: ConsoleNo) -> Option<CallerNo>
-        requires { is_allocated self.now c ≡ true }
         ensures { result ≡ owner_of (console self.now c).handling }
     {
         match &self.consoles[usize::from(c.get())] {

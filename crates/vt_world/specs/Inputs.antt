@@ -1,6 +1,6 @@
 -- What the keyboard puts into consoles, in a list by number: every console has a place.
-use Rattle.std.specs.Prelude.{ℕ, ◌+◌, ◌==◌, nat_le, Some, List, [], ◌∷◌, length, slice_index_or, slice_set, if◌then◌else◌}
-use Rattle.in_queue.specs.Queue.{Queue, empty, with_drop, with_piece}
+use Rattle.std.specs.Prelude.{ℕ, ◌+◌, ◌&&◌, Bool, nat_le, Some, List, length, slice_index_or, slice_set, if◌then◌else◌}
+use Rattle.in_queue.specs.Queue.{Queue, empty, with_drop, with_piece, without_front}
 use Rattle.key_machine.specs.Keys.{State, start_state}
 use Rattle.vt_world.specs.declared.input.Input.{Input}
 
@@ -11,17 +11,30 @@ new_input = record { queue = empty; keys = start_state }
 abbrev pub input_at : List Input → ℕ → Input
 input_at inputs n = slice_index_or inputs n new_input
 
--- a piece goes into a queue whole, or is dropped and counted; a queue has room for 4,096 bytes
+-- there is room for a piece; a queue holds 4,096 bytes
+abbrev pub has_room : Queue → List ℕ → Bool
+has_room q piece = nat_le (length q.bytes + length piece) 4096
+
+-- a piece goes into a queue whole, or is dropped and counted
 abbrev pub with_bytes : Queue → List ℕ → Queue
-with_bytes q piece =
-    if nat_le (length q.bytes + length piece) 4096 then with_piece q piece else with_drop q
+with_bytes q piece = if has_room q piece then with_piece q piece else with_drop q
+
+-- bytes come with a piece: it has some, and there is room for it
+abbrev pub comes : Queue → List ℕ → Bool
+comes q piece = nat_le 1 (length piece) && has_room q piece
+
+-- console n has this queue
+abbrev pub with_queue : ℕ → Queue → List Input → List Input
+with_queue n queue inputs = slice_set inputs n (record (input_at inputs n) { queue = queue })
 
 -- a piece goes into the queue of console n
 abbrev pub queued : ℕ → List ℕ → List Input → List Input
-queued n piece inputs =
-    slice_set inputs n (record (input_at inputs n) {
-      queue = with_bytes (input_at inputs n).queue piece;
-    })
+queued n piece inputs = with_queue n (with_bytes (input_at inputs n).queue piece) inputs
+
+-- the first bytes of the queue of console n are taken, so many of them
+abbrev pub without_bytes : ℕ → ℕ → List Input → List Input
+without_bytes n count inputs =
+    with_queue n (without_front (input_at inputs n).queue count) inputs
 
 -- console n has this key state
 abbrev pub keyed : ℕ → State → List Input → List Input
@@ -32,7 +45,6 @@ abbrev pub lit : ℕ → ℕ → List Input → List Input
 lit n lights inputs =
     keyed n (record (input_at inputs n).keys { lights = Some lights }) inputs
 
--- a scan byte goes into the queue of console n, where its keyboard mode is K_RAW
-abbrev pub scanned : ℕ → ℕ → List Input → List Input
-scanned n b inputs =
-    if (input_at inputs n).keys.mode == 0 then queued n (b ∷ []) inputs else inputs
+-- the place of console n is a new one's
+abbrev pub emptied : ℕ → List Input → List Input
+emptied n inputs = slice_set inputs n new_input

@@ -1,9 +1,16 @@
+pub mod Acts
+pub mod Deeds
+pub mod Heard
 pub mod History
 pub mod Inputs
+pub mod Laws
 pub mod Rows
 pub mod Spare
 pub mod Start
 pub mod State
 pub mod Step
+pub mod Tapes
 pub mod Terminals
+pub mod Tests
+pub mod Typing
 pub mod Wanted

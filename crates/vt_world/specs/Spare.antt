@@ -1,6 +1,7 @@
 -- What an event needs beside the world, taken before.
-use Rattle.std.specs.Prelude.{◌≡◌, ◌≤◌, ℕ, Bool, false, ◌&&◌, nat_le, IsTrue, Option, Some, None, []}
+use Rattle.std.specs.Prelude.{◌≡◌, ◌≤◌, ⊤, ℕ, Bool, ◌&&◌, nat_le, Option, Some, None, [], if◌then◌else◌}
 use Rattle.vt_base.specs.Bytes.{Text}
+use Rattle.vt_base.specs.declared.size.Size.{Size}
 use Rattle.vt_events.specs.Charge.{greatest_reply}
 use Rattle.vt_events.specs.declared.event.Event.{Event}
 use Rattle.vt_events.specs.declared.event.Event.TheVariants as event
@@ -20,23 +21,46 @@ empty_with n = record { bytes = []; room = n }
 abbrev pub no_spare : SpareView
 no_spare = record { grid = None; reply = empty_with 0; unused = empty_with 0 }
 
--- the number of a console that may have to be allocated
+-- the number of a console
 abbrev pub is_console : ℕ → Bool
 is_console n = nat_le 1 n && nat_le n 63
 
--- whether the event may allocate a console
-abbrev pub allocates : Event → Bool
-allocates (event.OpenCon n) = is_console n
-allocates (event.Activate fd n) = is_console n
-allocates e = false
+-- rows and columns, or a size that a screen can't have
+pub record Extent : Type 0 where
+  pub rows : ℕ
+  pub cols : ℕ
+
+abbrev pub extent : ℕ → ℕ → Extent
+extent rows cols = record { rows = rows; cols = cols }
+
+abbrev pub extent_of : Size → Extent
+extent_of size = extent size.rows size.cols
+
+-- a screen can have so many rows and columns
+abbrev pub is_extent : ℕ → ℕ → Bool
+is_extent rows cols = (nat_le 1 rows && nat_le rows 255) && (nat_le 1 cols && nat_le cols 255)
+
+-- the size of the grid that an event may need, in a world of this size: the world's where a console
+-- may be allocated, and the new one where a screen is resized
+abbrev pub needed_grid : Extent → Event → Option Extent
+needed_grid size (event.OpenCon n) = if is_console n then Some size else None
+needed_grid size (event.Activate fd n) = if is_console n then Some size else None
+needed_grid size (event.Resize fd rows cols) =
+    if is_extent rows cols then Some (extent rows cols) else None
+needed_grid size e = None
 
 -- a grid of this size is there
-abbrev pub HasSize : ℕ → ℕ → Option Sheet → Type 0
-HasSize rows cols None = ⊥
-HasSize rows cols (Some sheet) = (sheet.rows ≡ rows) × (sheet.cols ≡ cols)
+abbrev pub HasSize : Extent → Option Sheet → Type 0
+HasSize size None = ⊥
+HasSize size (Some sheet) = (sheet.rows ≡ size.rows) × (sheet.cols ≡ size.cols)
+
+-- the grid that is needed is there
+abbrev pub HasGrid : Option Extent → Option Sheet → Type 0
+HasGrid None grid = ⊤
+HasGrid (Some size) grid = HasSize size grid
 
 -- the spare is enough for the event, in a world of this size
 pub record Fits (rows cols : ℕ) (e : Event) (spare : SpareView) : Type 0 where
-  pub grid : IsTrue (allocates e) → HasSize rows cols spare.grid
+  pub grid : HasGrid (needed_grid (extent rows cols) e) spare.grid
   pub reply : greatest_reply e ≤ spare.reply.room
   pub unused : greatest_reply e ≤ spare.unused.room

@@ -1,5 +1,5 @@
 -- The console at the start. This project's own.
-use Rattle.std.specs.Prelude.{ℕ, List, replicate}
+use Rattle.std.specs.Prelude.{ℕ, List, [], replicate}
 use Rattle.key_machine.specs.Keys.{start_keys}
 use Rattle.key_tables.specs.Tables.{Tables}
 use Rattle.scan_codes.specs.Scan.{start_scan}
@@ -20,6 +20,6 @@ opening rows cols consoles front starts tables = record {
   callers = callers_of starts;
   terminals = at_each consoles (new_terminal rows cols);
   inputs = replicate 64 new_input;
-  board = record { scanner = start_scan; keyboard = start_keys };
-  tables = tables;
+  board = record { scanner = start_scan; keyboard = start_keys; tables = tables };
+  told = record { trace = []; hops = 0 };
 }

@@ -1,7 +1,6 @@
 -- What a key or a text asks for, where it asks for a console. This project's own.
 use Rattle.std.specs.Prelude.{ℕ, ◌+◌, ◌-◌, Option, Some, None, List, ◌++◌, find, map, if◌then◌else◌}
 use Rattle.std.specs.List.{range_with_len}
-use Rattle.vt_switch.specs.Calls.{request}
 use Rattle.vt_switch.specs.Display.{Display, is_allocated}
 use Rattle.vt_world.specs.Spare.{is_console}
 use Rattle.vt_world.specs.declared.wanted.Wanted.{Wanted}
@@ -25,11 +24,3 @@ wanted_in d (Number n) = if is_console n then Some n else None
 wanted_in d Last = Some d.last
 wanted_in d Above = find (is_allocated d) (upwards d.front)
 wanted_in d Below = find (is_allocated d) (downwards d.front)
-
-abbrev pub requested : Display → Option ℕ → Display
-requested d None = d
-requested d (Some n) = request d n
-
--- a request for the console that is wanted
-abbrev pub asked_for : Display → Wanted → Display
-asked_for d wanted = requested d (wanted_in d wanted)

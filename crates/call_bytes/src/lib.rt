@@ -1,0 +1,18 @@
+//! Tables of calls as the bytes that calls and answers hold: pairs of compose keys, a user's table
+//! and a palette.
+#![tactic(auto)]
+
+mod colours;
+mod laws;
+mod numbers;
+mod pair_list;
+mod pairs;
+#[cfg(test)]
+mod tests;
+mod words;
+
+pub use colours::{add_colours, read_colours};
+pub use laws::reads_what_was_added;
+pub use pair_list::PairList;
+pub use pairs::{add_pairs, read_pairs};
+pub use words::{add_words, read_words};

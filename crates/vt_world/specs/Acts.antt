@@ -1,0 +1,51 @@
+-- What an event does to the display: a list of acts of the switch.
+use Rattle.std.specs.Prelude.{ℕ, ◌++◌, List, [], ◌∷◌, Option, Some, None}
+use Rattle.vt_base.specs.declared.errno.Errno.{Errno}
+use Rattle.vt_events.specs.declared.entry.Entry.{Entry}
+use Rattle.vt_events.specs.declared.event.Event.{Event}
+use Rattle.vt_switch.specs.Acts.{SwitchAct, Request}
+use Rattle.vt_world.specs.Deeds.{Deed, Asks, By, Own, done}
+use Rattle.vt_world.specs.Heard.{cleared}
+use Rattle.vt_world.specs.Rows.{row}
+use Rattle.vt_world.specs.State.{WorldState}
+use Rattle.vt_world.specs.Step.{step}
+use Rattle.vt_world.specs.Tests.{common_tests, first_failing, own_tests}
+use Rattle.vt_world.specs.Wanted.{wanted_in}
+
+abbrev pub request_of : Option ℕ → List SwitchAct
+request_of None = []
+request_of (Some n) = Request n ∷ []
+
+-- the acts of a deed
+abbrev pub acts_of : WorldState → Deed → List SwitchAct
+acts_of w (By act) = act ∷ []
+acts_of w (Asks wanted) = request_of (wanted_in w.display wanted)
+acts_of w (Own deed) = []
+
+-- the acts of deeds, one after another
+abbrev pub all_acts : WorldState → List Deed → List SwitchAct
+all_acts w [] = []
+all_acts w (deed ∷ deeds) = acts_of w deed ++ all_acts (done w deed) deeds
+
+-- the deeds of an event that nothing refuses
+abbrev pub deeds_unless : Option Errno → List Deed → List Deed
+deeds_unless None deeds = deeds
+deeds_unless (Some errno) deeds = []
+
+abbrev pub deeds_after : WorldState → ℕ → Event → Option Errno → List Deed
+deeds_after w p e None = deeds_unless (first_failing (own_tests w p e)) (row w p e).deeds
+deeds_after w p e (Some errno) = []
+
+-- what an event of a caller does, from the console on which nothing is told yet
+abbrev pub event_deeds : WorldState → ℕ → Event → List Deed
+event_deeds w p e = deeds_after w p e (first_failing (common_tests w p e))
+
+abbrev pub event_acts : WorldState → ℕ → Event → List SwitchAct
+event_acts w p e = all_acts (cleared w) (event_deeds (cleared w) p e)
+
+-- the acts of each entry of a history
+abbrev pub history_acts : WorldState → List Entry → List (List SwitchAct)
+history_acts w [] = []
+history_acts w (entry ∷ entries) =
+    event_acts w entry.caller entry.event
+    ∷ history_acts (step w entry.caller entry.event).world entries

@@ -1,0 +1,84 @@
+-- What a scan byte does. What the rules leave open is this project's own.
+use Rattle.std.specs.Prelude.{ℕ, ◌==◌, ◌||◌, Bool, false, List, [], ◌∷◌, filter, Option, Some, None, if◌then◌else◌}
+use Rattle.std.specs.List.{range_with_len}
+use Rattle.key_machine.specs.Step.{Step, key_step}
+use Rattle.key_machine.specs.declared.key_out.KeyOut.{KeyOut}
+use Rattle.key_machine.specs.declared.key_out.KeyOut.TheVariants as heard
+use Rattle.scan_codes.specs.Scan.{Scan, bytes_after, event_after}
+use Rattle.scan_codes.specs.declared.key_event.KeyEvent.{KeyEvent}
+use Rattle.vt_procs.specs.Callers.{caller_at, has_open}
+use Rattle.vt_switch.specs.Acts.{End, SetKd}
+use Rattle.vt_switch.specs.Calls.{owns}
+use Rattle.vt_world.specs.Deeds.{Deed, Asks, By, Own, Puts, Raises, Scanned, Types}
+use Rattle.vt_world.specs.Inputs.{input_at}
+use Rattle.vt_world.specs.State.{WorldState}
+use Rattle.vt_world.specs.Terminals.{key_modes_of, terminal_at}
+use Rattle.vt_world.specs.declared.wanted.Wanted.TheVariants.{Above, Below, Last, Number}
+
+-- a signal is sent: 9 ends its process (signal(7)), and any other is raised
+abbrev pub sent : ℕ → ℕ → Deed
+sent p signal = if signal == 9 then By (End p) else Own (Raises p signal)
+
+-- the key signal goes to who accepts it
+abbrev pub spawn_deeds : Option (ℕ × ℕ) → List Deed
+spawn_deeds None = []
+spawn_deeds (Some accepter) = sent accepter.0 accepter.1 ∷ []
+
+-- p handles the switches of console n, or has it open
+abbrev pub uses : WorldState → ℕ → ℕ → Bool
+uses w n p = owns w.display p n || has_open (caller_at w.callers p).opens n
+
+-- the processes that use console n, rising
+abbrev pub users : WorldState → ℕ → List ℕ
+users w n = filter (uses w n) (range_with_len 1 64)
+
+-- each of them ends, and then
+abbrev pub ends_of : List ℕ → List Deed → List Deed
+ends_of [] deeds = deeds
+ends_of (p ∷ processes) deeds = By (End p) ∷ ends_of processes deeds
+
+-- the attention key: every process that uses the console in front ends, and that shows text
+abbrev pub attention_deeds : WorldState → ℕ → List Deed
+attention_deeds w n = ends_of (users w n) (By (SetKd n false) ∷ [])
+
+-- what is done where a key says something; n is the console that was in front
+abbrev pub key_out_deeds : WorldState → ℕ → KeyOut → List Deed
+key_out_deeds w n (heard.Bytes bytes) = Own (Puts n bytes) ∷ []
+key_out_deeds w n (heard.Switch m) = Asks (Number m) ∷ []
+key_out_deeds w n heard.Last = Asks Last ∷ []
+key_out_deeds w n heard.Next = Asks Above ∷ []
+key_out_deeds w n heard.Prev = Asks Below ∷ []
+key_out_deeds w n heard.Spawn = spawn_deeds w.callers.accepter
+key_out_deeds w n heard.Attention = attention_deeds w n
+key_out_deeds w n heard.Nothing = []
+
+-- a key event, with console n in front
+abbrev pub key_on : WorldState → ℕ → KeyEvent → Step
+key_on w n e =
+    key_step w.board.tables (key_modes_of (terminal_at w.terminals n)) e w.board.keyboard
+    (input_at w.inputs n).keys
+
+-- the key is typed, and then what it says is done
+abbrev pub typed_deeds : WorldState → ℕ → Step → List Deed
+typed_deeds w n s = Own (Types n s.keys s.state) ∷ key_out_deeds w n s.out
+
+abbrev pub key_deeds : WorldState → ℕ → Option KeyEvent → List Deed
+key_deeds w n None = []
+key_deeds w n (Some e) = typed_deeds w n (key_on w n e)
+
+-- the scanner has read a byte
+abbrev pub read_by : Scan → ℕ → Scan
+read_by scanner b = record scanner { bytes = bytes_after scanner.bytes b }
+
+-- the byte is read, and the key that it ends is typed
+abbrev pub read_deeds : WorldState → ℕ → ℕ → List Deed
+read_deeds w n b =
+    Own (Scanned (read_by w.board.scanner b))
+    ∷ key_deeds w n (event_after w.board.scanner.codes w.board.scanner.bytes b)
+
+-- a scan byte, with console n in front: where its keyboard mode is K_RAW, the byte goes into its
+-- queue first
+abbrev pub scan_deeds : WorldState → ℕ → ℕ → List Deed
+scan_deeds w n b =
+    if (input_at w.inputs n).keys.mode == 0 then Own (Puts n (b ∷ [])) ∷ read_deeds w n b
+    else read_deeds w n b
