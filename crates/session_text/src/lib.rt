@@ -7,12 +7,16 @@ mod asks;
 mod hook_texts;
 mod hooked;
 mod hooks;
+mod item_texts;
 mod items;
 mod keyboard;
 mod keyboards;
 mod opening;
 mod openings;
+mod process;
+mod processes;
 mod program;
+mod script_items;
 mod turns;
 mod walk;
 
