@@ -8,5 +8,6 @@ pub mod Processes
 pub mod Programs
 pub mod Says
 pub mod Scripts
+pub mod Sessions
 pub mod Turns
 pub mod Walks

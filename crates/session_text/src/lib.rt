@@ -17,9 +17,11 @@ mod process;
 mod processes;
 mod program;
 mod script_items;
+mod session;
 mod turns;
 mod walk;
 
 pub use items::Items;
 pub use program::Program;
+pub use session::Session;
 pub use walk::Walk;
