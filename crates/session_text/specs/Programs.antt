@@ -1,0 +1,115 @@
+-- Programs: the next call of a caller, by the calls that it made and their answers. This project's
+-- own.
+use Rattle.std.specs.Prelude.{◌≡◌, ℕ, ◌-◌, Bool, true, false, not, ◌&&◌, ◌||◌, Option, Some, None, List, [], ◌∷◌, filter_map, if◌then◌else◌}
+use Rattle.std.specs.List.{range_with_len}
+use Rattle.sig_hooks.specs.Hooks.{act_of}
+use Rattle.sig_hooks.specs.declared.act.Act.{Act}
+use Rattle.sig_hooks.specs.declared.act.Act.TheVariants as acts
+use Rattle.vt_base.specs.Signals.{has_signal}
+use Rattle.vt_base.specs.declared.errno.Errno.{Errno}
+use Rattle.vt_base.specs.declared.errno.Errno.TheVariants as errno
+use Rattle.vt_events.specs.Plain.{plain_event, text}
+use Rattle.vt_events.specs.declared.event.Event.{Event}
+use Rattle.vt_events.specs.declared.event.Event.TheVariants as event
+use Rattle.vt_events.specs.declared.reply.Reply.{Reply}
+use Rattle.vt_events.specs.declared.reply.Reply.TheVariants as reply
+use Rattle.session_text.specs.declared.program.Program.{Program}
+use Rattle.session_text.specs.declared.program.Program.TheVariants as program
+
+-- a call that was made, and its answer
+pub record Call : Type 0 where
+  pub event : Event
+  pub reply : Reply
+
+abbrev pub call : Event → Reply → Call
+call event reply = record { event = event; reply = reply }
+
+abbrev pub is_exit : Event → Bool
+is_exit event.Exit = true
+is_exit e = false
+
+abbrev pub is_kill : Event → Bool
+is_kill (event.Kill p s) = true
+is_kill e = false
+
+abbrev pub is_wait : Reply → Bool
+is_wait reply.Wait = true
+is_wait r = false
+
+abbrev pub is_srch : Errno → Bool
+is_srch errno.Srch = true
+is_srch e = false
+
+-- the answer ESRCH, which a caller gets that isn't alive
+abbrev pub is_gone : Reply → Bool
+is_gone (reply.Err e) = is_srch e
+is_gone r = false
+
+-- a call that ends its program: exit, and one other than kill that is answered ESRCH; what a kill is
+-- answered doesn't tell a dead target from a dead caller
+abbrev pub ends : Event → Reply → Bool
+ends e r = is_exit e || (not (is_kill e) && is_gone r)
+
+-- the call e, and what comes behind it; between them waitend as often as the answer is wait
+abbrev pub calls : Event → (List Call → Option Event) → List Call → Option Event
+calls e behind [] = Some e
+calls e behind (c ∷ made) =
+    if ends c.event c.reply then None
+    else (if is_wait c.reply then calls event.WaitEnd behind made else behind made)
+
+-- each of these calls, and what comes behind them
+abbrev pub all_calls : List Event → (List Call → Option Event) → List Call → Option Event
+all_calls [] behind = behind
+all_calls (e ∷ events) behind = calls e (all_calls events behind)
+
+abbrev pub nothing : List Call → Option Event
+nothing made = None
+
+abbrev pub exits : List Call → Option Event
+exits = calls event.Exit nothing
+
+-- the call that an act is, None where it is nothing
+abbrev pub act_call : Act → Option Event
+act_call acts.Nothing = None
+act_call (acts.Disp fd arg) = Some (event.RelDisp fd arg)
+act_call (acts.Put fd byte) = Some (event.Write fd (text (byte ∷ [])))
+act_call acts.Leave = Some event.Exit
+
+-- the act at signal s, nothing where the set has no s
+abbrev pub act_at : List Act → ℕ → ℕ → Act
+act_at table set s = if has_signal set s then act_of table s else acts.Nothing
+
+-- the calls at the signals of the set from s on, rising
+unfoldable pub calls_from : List Act → ℕ → ℕ → List Event
+calls_from table set s =
+    filter_map (λ n. act_call (act_at table set n)) (range_with_len s (65 - s))
+
+-- the signals that an answer gives
+abbrev pub signals_in : Reply → ℕ
+signals_in (reply.Sigs set) = set
+signals_in r = 0
+
+-- the signals are taken; the acts at those that were given follow, and what comes behind them
+abbrev pub takes : List Act → (List Call → Option Event) → List Call → Option Event
+takes table behind [] = Some event.TakeSignals
+takes table behind (c ∷ made) =
+    calls event.TakeSignals (all_calls (calls_from table (signals_in c.reply) 1) behind) (c ∷ made)
+
+-- each item, with the signals taken behind it; then exit
+abbrev pub script : List Act → List Event → List Call → Option Event
+script table [] = exits
+script table (item ∷ items) = calls (plain_event item) (takes table (script table items))
+
+-- each scan byte; then exit
+abbrev pub scans : List ℕ → List Call → Option Event
+scans [] = exits
+scans (b ∷ bytes) = calls (event.Scan b) (scans bytes)
+
+-- the next call of a program, None where it is over
+abbrev pub next : Program → List Call → Option Event
+next (program.Keys bytes) = scans bytes.bytes
+next (program.Script items table) = script table items.events
+
+-- a program that was walked so has no next call
+abbrev pub IsOver : Program → List Call → Type 0
+IsOver p made = next p made ≡ None

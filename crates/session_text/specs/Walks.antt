@@ -1,0 +1,52 @@
+-- Where a walk through a program stands.
+use Rattle.std.specs.Prelude.{◌≡◌, ℕ, Bool, Option, Some, List, [], ◌∷◌, ◌++◌, drop, if◌then◌else◌}
+use Rattle.sig_hooks.specs.declared.act.Act.{Act}
+use Rattle.vt_events.specs.declared.event.Event.{Event}
+use Rattle.vt_events.specs.declared.event.Event.TheVariants as event
+use Rattle.vt_events.specs.declared.reply.Reply.{Reply}
+use Rattle.session_text.specs.Programs.{Call, all_calls, call, calls, calls_from, next, nothing, scans, script, takes}
+use Rattle.session_text.specs.declared.program.Program.{Program}
+use Rattle.session_text.specs.declared.program.Program.TheVariants as program
+
+-- what contracts see of `Walk`
+pub record Place : Type 0 where
+  -- how many items or scan bytes were called
+  pub item : ℕ
+  -- the signals are taken before the next one
+  pub taking : Bool
+  -- the signals that were given last, and the first of them whose act may be left
+  pub given : ℕ
+  pub signal : ℕ
+  -- waitend is called before all that
+  pub waiting : Bool
+  -- nothing is called any more
+  pub over : Bool
+
+-- what is called from there on, but for waitend
+abbrev pub ahead : Program → Place → List Call → Option Event
+ahead (program.Keys bytes) w = scans (drop w.item bytes.bytes)
+ahead (program.Script items table) w =
+    (if w.taking then takes table else all_calls (calls_from table w.given w.signal))
+    (script table (drop w.item items.events))
+
+-- what is called from there on
+abbrev pub left : Program → Place → List Call → Option Event
+left p w =
+    if w.over then nothing
+    else (if w.waiting then calls event.WaitEnd (ahead p w) else ahead p w)
+
+-- the walk stands where these calls of the program were made: whatever follows them, what is left is
+-- called
+pub record Stands (p : Program) (w : Place) (made : List Call) : Type 0 where
+  pub same : (more : List Call) → next p (made ++ more) ≡ left p w more
+
+-- the call that is left first is made, and the walk moves behind it
+pub record Moves (p : Program) (w : Place) (r : Reply) (moved : Place) : Type 0 where
+  pub same :
+      (e : Event) (more : List Call) → left p w [] ≡ Some e
+      → left p w (call e r ∷ more) ≡ left p moved more
+
+-- a script whose acts are those of the table
+abbrev pub HasActs : Program → List Act → Type 0
+HasActs (program.Keys bytes) table = ⊥
+HasActs (program.Script items acts) table = acts ≡ table

@@ -1,0 +1,69 @@
+//! The acts that are left of the signals that a process was given.
+ghost use Rattle.std.specs.Prelude.{◌≡◌, ◌≢◌, ◌+◌, ◌≤◌, None, [], ◌++◌, IfOk, IfSome, IfNone, is_none, option_to_list};
+ghost use Rattle.session_text.specs.Programs.{act_at, act_call, calls_from};
+
+use crate::asks::Asks;
+use sig_hooks::Act;
+use std::alloc::Global;
+use vt_base::{Bytes, NoMemory, SigSet, Signal};
+use vt_events::Event;
+
+/// An act, and the signal at which it is made.
+#[derive(Clone, Copy, Debug)]
+pub struct Found {
+    pub signal: u16,
+    pub act: Act,
+}
+
+/// The call that the act is, where it isn't nothing.
+pub fn act_call(alloc: Global, act: Act) -> Result<Option<Event>, NoMemory>
+    ensures { IfOk result (λ e. e ≡ act_call act) }
+{
+    Ok(match act {
+        Act::Nothing => None,
+        Act::Disp { fd, arg } => Some(Event::RelDisp(fd, arg)),
+        Act::Put { fd, byte } => Some(Event::Write(fd, Bytes::from_slice(alloc, &[byte])?)),
+        Act::Leave => Some(Event::Exit),
+    })
+}
+
+/// The first act that isn't nothing, of the signals of the set from one on.
+pub fn first_act<H: Asks>(hooks: &H, given: SigSet, from: u16) -> Option<Found>
+    requires { 1 ≤ from }
+    ensures found { IfSome result (λ found. calls_from (H.acts hooks.now) given from
+        ≡ option_to_list (act_call found.act)
+        ++ calls_from (H.acts hooks.now) given (found.signal + 1)) }
+    ensures some { IfSome result (λ found. act_call found.act ≢ None) }
+    ensures within { IfSome result (λ found. found.signal ≤ 64) }
+    ensures none { IfNone result (calls_from (H.acts hooks.now) given from ≡ []) }
+{
+    for signal in from..65 {
+        let act = act_at(hooks, given, signal);
+        if !is_nothing(act) {
+            return Some(Found { signal, act });
+        }
+    }
+    None
+}
+
+fn is_nothing(act: Act) -> bool
+    ensures { result ≡ is_none (act_call act) }
+{
+    matches!(act, Act::Nothing)
+}
+
+// The act at signal n, which is asked for where the set has it.
+fn act_at<H: Asks>(hooks: &H, given: SigSet, n: u16) -> Act
+    requires low { 1 ≤ n }
+    requires high { n ≤ 64 }
+    ensures { result ≡ act_at (H.acts hooks.now) given n }
+{
+    let Some(s) = Signal::new(n) else {
+        unreachable!()
+    };
+    if given.has(s) {
+        hooks.ask_for(s)
+    } else {
+        Act::Nothing
+    }
+}

@@ -1,0 +1,16 @@
+use crate::Items;
+use sig_hooks::HookTable;
+use vt_base::Bytes;
+
+/// What a caller calls, one call after another.
+#[derive(Debug, Drop)]
+pub enum Program {
+    /// The keyboard's scan bytes, and then exit.
+    Keys(Bytes),
+    /// A process's items, each with the signals taken behind it, and then exit.
+    Script {
+        items: Items,
+        /// What it does at the signals that it takes.
+        hooks: HookTable,
+    },
+}
