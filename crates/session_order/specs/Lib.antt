@@ -1,0 +1,5 @@
+pub mod Calls
+pub mod Ends
+pub mod Follows
+pub mod Laws
+pub mod Serial
