@@ -50,11 +50,11 @@ pub record Stops (o : Opening) (history : List Entry) (full : Full) : Type 0 whe
   pub no_room : has_room o.limits history (charge_of call) ≡ false
   pub numbers : full ≡ full_at history (charge_of call)
 
--- every program is over, with these numbers of entries and bytes
+-- every program is over, and these are the numbers of entries and bytes
 pub record Finishes (o : Opening) (history : List Entry) (events bytes : ℕ) : Type 0 where
   pub over : all_over o.programs history ≡ true
-  pub events : events ≡ length history
-  pub bytes : bytes ≡ charge_of_all history
+  pub entries : events ≡ length history
+  pub charge : bytes ≡ charge_of_all history
 
 abbrev pub EndsBy : Opening → List Entry → Tail → Type 0
 EndsBy o history (tail.End events bytes) = Finishes o history events bytes
@@ -63,4 +63,4 @@ EndsBy o history (tail.Full full) = Stops o history full
 -- a history within the limits, and its journal's end
 pub record Ends (o : Opening) (history : List Entry) (end : Tail) : Type 0 where
   pub within : IsWithin o.limits history
-  pub end : EndsBy o history end
+  pub rightly : EndsBy o history end
