@@ -1,0 +1,4 @@
+pub mod Ages
+pub mod Alive
+pub mod Programs
+pub mod Rounds

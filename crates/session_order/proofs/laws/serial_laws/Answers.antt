@@ -1,0 +1,8 @@
+use Rattle.session_order.proofs.Rounds.{finished-stays, serial-one}
+use Rattle.session_order.proofs.laws.serial_laws.Goals as goal
+
+pub returns-clause-stays : goal.returns-clause-stays
+returns-clause-stays c = finished-stays
+
+pub returns-clause-one : goal.returns-clause-one
+returns-clause-one c = serial-one
