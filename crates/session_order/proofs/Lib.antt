@@ -1,4 +1,7 @@
 pub mod Ages
 pub mod Alive
+pub mod Callers
+pub mod Deeds
 pub mod Programs
 pub mod Rounds
+pub mod Steps
