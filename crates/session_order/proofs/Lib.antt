@@ -5,3 +5,4 @@ pub mod Deeds
 pub mod Programs
 pub mod Rounds
 pub mod Steps
+pub mod Turns

@@ -1,4 +1,5 @@
 use Rattle.session_order.proofs.Rounds.{finished-stays, serial-one}
+use Rattle.session_order.proofs.Turns.{serial-right}
 use Rattle.session_order.proofs.laws.serial_laws.Goals as goal
 
 pub returns-clause-stays : goal.returns-clause-stays
@@ -6,3 +7,6 @@ returns-clause-stays c = finished-stays
 
 pub returns-clause-one : goal.returns-clause-one
 returns-clause-one c = serial-one
+
+pub returns-clause-right : goal.returns-clause-right
+returns-clause-right c = serial-right
