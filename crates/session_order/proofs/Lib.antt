@@ -2,6 +2,7 @@ pub mod Ages
 pub mod Alive
 pub mod Callers
 pub mod Deeds
+pub mod Lively
 pub mod Programs
 pub mod Rounds
 pub mod Steps
