@@ -161,7 +161,8 @@ breaks process = with_waiting process (broken process.waiting)
 
 pub settled-age : (c : Callers) → AllAge c (settled c)
 settled-age c =
-    elim (list_any can_go c.list) as (λ b. AllAge c (cond b c (with_all breaks c)))
-    [ true ↦ all-stay c
-    | false ↦ all-age c breaks refl
-    (λ a. waiting_ages a (broken a.waiting) (broken_held a.waiting)) ]
+    elim (list_any can_go c.list) as (λ b. AllAge c (cond b c (with_all breaks c))) [
+      | true ↦ all-stay c
+      | false ↦ all-age c breaks refl
+          (λ a. waiting_ages a (broken a.waiting) (broken_held a.waiting))
+    ]

@@ -37,17 +37,21 @@ goes_calls : (e : Event) (behind : List Call → Option Event) → Alive behind 
     (next : Event) (r : Reply) → Walked (calls e behind) made → calls e behind made ≡ Some next
     → calls e behind (made ++ call next r ∷ []) ≡ None → ends next r ≡ true
 goes_calls e behind alive [] next r = λ walked here.
-    elim (ends next r) as (λ b. behind_first b (is_wait r) behind [] ≡ None → b ≡ true)
-    [ true ↦ λ none. refl
-    | false ↦ elim (is_wait r) as (λ b. behind_first false b behind [] ≡ None → false ≡ true)
-    [ true ↦ λ none. absurd (some-none event.WaitEnd none)
-    | false ↦ λ none. absurd (alive.starts none) ] ]
+    elim (ends next r) as (λ b. behind_first b (is_wait r) behind [] ≡ None → b ≡ true) [
+      | true ↦ λ none. refl
+      | false ↦ elim (is_wait r) as (λ b. behind_first false b behind [] ≡ None → false ≡ true) [
+        | true ↦ λ none. absurd (some-none event.WaitEnd none)
+        | false ↦ λ none. absurd (alive.starts none)
+      ]
+    ]
 goes_calls e behind alive (c ∷ made) next r = λ walked.
-    (elim (ends c.event c.reply) as (λ b. Walked (λ more. behind_first b (is_wait c.reply) behind more) made → behind_first b (is_wait c.reply) behind made ≡ Some next → behind_first b (is_wait c.reply) behind (made ++ call next r ∷ []) ≡ None → ends next r ≡ true)
-    [ true ↦ λ more here none. absurd (none-some next here)
-    | false ↦ elim (is_wait c.reply) as (λ b. Walked (λ more. behind_first false b behind more) made → behind_first false b behind made ≡ Some next → behind_first false b behind (made ++ call next r ∷ []) ≡ None → ends next r ≡ true)
-    [ true ↦ goes_calls event.WaitEnd behind alive made next r
-    | false ↦ alive.goes made next r ] ])
+    (elim (ends c.event c.reply) as (λ b. Walked (λ more. behind_first b (is_wait c.reply) behind more) made → behind_first b (is_wait c.reply) behind made ≡ Some next → behind_first b (is_wait c.reply) behind (made ++ call next r ∷ []) ≡ None → ends next r ≡ true) [
+      | true ↦ λ more here none. absurd (none-some next here)
+      | false ↦ elim (is_wait c.reply) as (λ b. Walked (λ more. behind_first false b behind more) made → behind_first false b behind made ≡ Some next → behind_first false b behind (made ++ call next r ∷ []) ≡ None → ends next r ≡ true) [
+        | true ↦ goes_calls event.WaitEnd behind alive made next r
+        | false ↦ alive.goes made next r
+      ]
+    ])
     walked.1
 
 calls-alive : (e : Event) (behind : List Call → Option Event) → Alive behind → Alive (calls e behind)

@@ -138,9 +138,10 @@ out_quiet c out = refl
 
 free_quiet : (w : WorldState) (n : ℕ) → all_quiet (disallocating w n) ≡ true
 free_quiet w n =
-    elim (n == 0) as (λ b. all_quiet (if b then flat_map freeing (filter (λ c. not (is_in_use w c)) (range_with_len 1 63)) else freeing n) ≡ true)
-    [ true ↦ flat_quiet freeing (filter (λ c. not (is_in_use w c)) (range_with_len 1 63)) (λ c. refl)
-    | false ↦ refl ]
+    elim (n == 0) as (λ b. all_quiet (if b then flat_map freeing (filter (λ c. not (is_in_use w c)) (range_with_len 1 63)) else freeing n) ≡ true) [
+      | true ↦ flat_quiet freeing (filter (λ c. not (is_in_use w c)) (range_with_len 1 63)) (λ c. refl)
+      | false ↦ refl
+    ]
 
 -- what an accepted event does: nothing that is a wait, or just a wait of its caller, which is told so
 pub data RowDoes (p : ℕ) : Row → Type 0 where

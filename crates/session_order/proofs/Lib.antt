@@ -4,6 +4,7 @@ pub mod Callers
 pub mod Deeds
 pub mod Lively
 pub mod Programs
+pub mod Progress
 pub mod Rounds
 pub mod Steps
 pub mod Turns

@@ -85,10 +85,11 @@ same_calls : (e : Event) (behind : List Call → Option Event) → Fine behind �
 same_calls e behind fine [] = refl
 same_calls e behind fine (c ∷ made) =
     (λ i. behind_first (ends-plain c i) (wait-plain c.reply i) behind (map plain_call made))
-    ∙ elim (ends c.event c.reply) as (λ b. behind_first b (is_wait c.reply) behind (map plain_call made) ≡ behind_first b (is_wait c.reply) behind made)
-    [ true ↦ refl
-    | false ↦ elim (is_wait c.reply) as (λ b. behind_first false b behind (map plain_call made) ≡ behind_first false b behind made)
-    [ true ↦ same_calls event.WaitEnd behind fine made | false ↦ fine.same made ] ]
+    ∙ elim (ends c.event c.reply) as (λ b. behind_first b (is_wait c.reply) behind (map plain_call made) ≡ behind_first b (is_wait c.reply) behind made) [
+      | true ↦ refl
+      | false ↦ elim (is_wait c.reply) as (λ b. behind_first false b behind (map plain_call made) ≡ behind_first false b behind made)
+          [ true ↦ same_calls event.WaitEnd behind fine made | false ↦ fine.same made ]
+    ]
 
 plain_calls : (e : Event) (behind : List Call → Option Event) → plain_event e ≡ e → Fine behind
     → (made : List Call) (next : Event) → calls e behind made ≡ Some next
@@ -96,10 +97,11 @@ plain_calls : (e : Event) (behind : List Call → Option Event) → plain_event 
 plain_calls e behind is fine [] next = λ here.
     subst (λ x. plain_event x ≡ x) (same_Some e next here) is
 plain_calls e behind is fine (c ∷ made) next =
-    elim (ends c.event c.reply) as (λ b. behind_first b (is_wait c.reply) behind made ≡ Some next → plain_event next ≡ next)
-    [ true ↦ λ none. absurd (none-some next none)
-    | false ↦ elim (is_wait c.reply) as (λ b. behind_first false b behind made ≡ Some next → plain_event next ≡ next)
-    [ true ↦ plain_calls event.WaitEnd behind refl fine made next | false ↦ fine.plain made next ] ]
+    elim (ends c.event c.reply) as (λ b. behind_first b (is_wait c.reply) behind made ≡ Some next → plain_event next ≡ next) [
+      | true ↦ λ none. absurd (none-some next none)
+      | false ↦ elim (is_wait c.reply) as (λ b. behind_first false b behind made ≡ Some next → plain_event next ≡ next)
+          [ true ↦ plain_calls event.WaitEnd behind refl fine made next | false ↦ fine.plain made next ]
+    ]
 
 waits_calls : (e : Event) (behind : List Call → Option Event) → Fine behind
     → (made : List Call) (next : Event) (r : Reply) → calls e behind made ≡ Some next
@@ -108,10 +110,11 @@ waits_calls : (e : Event) (behind : List Call → Option Event) → Fine behind
 waits_calls e behind fine [] next r = λ here going wait i.
     behind_first (going i) (wait i) behind []
 waits_calls e behind fine (c ∷ made) next r =
-    elim (ends c.event c.reply) as (λ b. behind_first b (is_wait c.reply) behind made ≡ Some next → ends next r ≡ false → is_wait r ≡ true → behind_first b (is_wait c.reply) behind (made ++ call next r ∷ []) ≡ Some event.WaitEnd)
-    [ true ↦ λ none going wait. absurd (none-some next none)
-    | false ↦ elim (is_wait c.reply) as (λ b. behind_first false b behind made ≡ Some next → ends next r ≡ false → is_wait r ≡ true → behind_first false b behind (made ++ call next r ∷ []) ≡ Some event.WaitEnd)
-    [ true ↦ waits_calls event.WaitEnd behind fine made next r | false ↦ fine.waits made next r ] ]
+    elim (ends c.event c.reply) as (λ b. behind_first b (is_wait c.reply) behind made ≡ Some next → ends next r ≡ false → is_wait r ≡ true → behind_first b (is_wait c.reply) behind (made ++ call next r ∷ []) ≡ Some event.WaitEnd) [
+      | true ↦ λ none going wait. absurd (none-some next none)
+      | false ↦ elim (is_wait c.reply) as (λ b. behind_first false b behind made ≡ Some next → ends next r ≡ false → is_wait r ≡ true → behind_first false b behind (made ++ call next r ∷ []) ≡ Some event.WaitEnd)
+          [ true ↦ waits_calls event.WaitEnd behind fine made next r | false ↦ fine.waits made next r ]
+    ]
 
 calls-fine : (e : Event) (behind : List Call → Option Event) → plain_event e ≡ e → Fine behind
     → Fine (calls e behind)

@@ -100,9 +100,10 @@ failing_no_srch [] with none = λ same. absurd (none-some with same)
 failing_no_srch (t ∷ tests) with none =
     let parts : (is_no_srch t ≡ true) × (list_all is_no_srch tests ≡ true) =
     and_parts (is_no_srch t) (list_all is_no_srch tests) none in
-    elim t.fails as (λ b. (if b then Some t.with else first_failing tests) ≡ Some with → is_srch with ≡ false)
-    [ true ↦ λ same. subst (λ e. is_srch e ≡ false) (same_Some t.with with same) (not-true (is_srch t.with) parts.0)
-    | false ↦ failing_no_srch tests with parts.1 ]
+    elim t.fails as (λ b. (if b then Some t.with else first_failing tests) ≡ Some with → is_srch with ≡ false) [
+      | true ↦ λ same. subst (λ e. is_srch e ≡ false) (same_Some t.with with same) (not-true (is_srch t.with) parts.0)
+      | false ↦ failing_no_srch tests with parts.1
+    ]
 
 own_no_srch : (w : WorldState) (p : ℕ) (e : Event) → is_kill e ≡ false
     → list_all is_no_srch (own_tests w p e) ≡ true

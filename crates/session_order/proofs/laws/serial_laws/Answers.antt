@@ -1,3 +1,4 @@
+use Rattle.session_order.proofs.Progress.{rounds-go-on, serial-ends}
 use Rattle.session_order.proofs.Rounds.{finished-stays, serial-one}
 use Rattle.session_order.proofs.Turns.{serial-right}
 use Rattle.session_order.proofs.laws.serial_laws.Goals as goal
@@ -10,3 +11,9 @@ returns-clause-one c = serial-one
 
 pub returns-clause-right : goal.returns-clause-right
 returns-clause-right c = serial-right
+
+pub returns-clause-goes_on : goal.returns-clause-goes_on
+returns-clause-goes_on c = rounds-go-on
+
+pub returns-clause-ends : goal.returns-clause-ends
+returns-clause-ends c = serial-ends
