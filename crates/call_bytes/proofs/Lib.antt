@@ -1,0 +1,4 @@
+pub mod Again
+pub mod Blocks
+pub mod Tables
+pub mod Texts

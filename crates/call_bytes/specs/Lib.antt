@@ -1,3 +1,5 @@
 pub mod Colours
+pub mod Laws
+pub mod Numbers
 pub mod Pairs
 pub mod Words

@@ -1,8 +1,9 @@
 -- Pairs of compose keys as bytes (ioctl_console(2), KDGKBDIACRUC). That a call holds them without
 -- their count in front is this project's own.
-use Rattle.std.specs.Prelude.{ℕ, ◌+◌, ◌*◌, ◌/◌, ◌%◌, ◌==◌, ◌&&◌, Bool, nat_le, List, ◌++◌, length, map, slice_index_or, Option, Some, None, if◌then◌else◌}
+use Rattle.std.specs.Prelude.{ℕ, ◌+◌, ◌*◌, ◌/◌, ◌%◌, ◌==◌, ◌&&◌, Bool, nat_le, List, ◌++◌, length, map, Option, Some, None, if◌then◌else◌}
 use Rattle.std.specs.Int.{to_le_bytes, w32}
 use Rattle.std.specs.List.{flat_map, list_all, range_with_len}
+use Rattle.call_bytes.specs.Numbers.{is_number_at, number_at}
 use Rattle.key_syms.specs.declared.pair.Pair.{Pair}
 
 -- the accent, the base and the result, each in four bytes, the lowest first
@@ -12,16 +13,6 @@ pair_bytes pair =
 
 abbrev pub pairs_text : List Pair → List ℕ
 pairs_text pairs = flat_map pair_bytes pairs
-
-abbrev pub byte_at : List ℕ → ℕ → ℕ
-byte_at bytes i = slice_index_or bytes i 0
-
--- the number of four bytes, where it has 16 bits: the other two are 0
-abbrev pub number_at : List ℕ → ℕ → ℕ
-number_at bytes i = byte_at bytes i + 256 * byte_at bytes (i + 1)
-
-abbrev pub is_number_at : List ℕ → ℕ → Bool
-is_number_at bytes i = byte_at bytes (i + 2) == 0 && byte_at bytes (i + 3) == 0
 
 abbrev pub is_pair_at : List ℕ → ℕ → Bool
 is_pair_at bytes k =

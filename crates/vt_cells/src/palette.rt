@@ -1,4 +1,4 @@
-ghost use Rattle.std.specs.Prelude.{◌≡◌, ◌<◌, slice_get, slice_set, Some};
+ghost use Rattle.std.specs.Prelude.{◌≡◌, ◌<◌, length, slice_get, slice_set, Some};
 ghost use Rattle.vt_cells.specs.Colours.{start_palette};
 
 use crate::rgb_of;
@@ -54,6 +54,14 @@ impl Palette {
         ensures { slice_get self.now n ≡ Some result }
     {
         self.colours[usize::from(n)]
+    }
+
+    /// Red, green and blue of all numbers in order.
+    pub fn as_slice(&self) -> &[(u8, u8, u8)]
+        ensures colours { result.now ≡ self.now }
+        ensures whole { length self.now ≡ 16 }
+    {
+        &self.colours
     }
 
     /// Sets one number's colour.

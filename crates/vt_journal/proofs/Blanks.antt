@@ -1,5 +1,5 @@
 -- Words have no blanks, so they are found again in their text.
-use Rattle.std.proofs.Common.{◌≡◌, ◌≢◌, ℕ, ◌+◌, ◌/◌, ◌%◌, ◌<◌, ◌^◌, Bool, true, false, not, ◌&&◌, eqb, ltb, cond, List, [], ◌∷◌, map, suc, zero, decimal, refl, ap, ◌∙◌, arith}
+use Rattle.std.proofs.Common.{◌≡◌, ◌≢◌, ℕ, ◌+◌, ◌/◌, ◌%◌, ◌<◌, ◌^◌, Bool, true, false, not, ◌&&◌, eqb, ltb, cond, Option, Some, None, List, [], ◌∷◌, map, suc, zero, decimal, refl, ap, ◌∙◌, arith}
 use Rattle.std.specs.List.{All, list_all, flat_map}
 use Rattle.std.proofs.lemmas.Bool.Decides.{nat_tests}
 use Rattle.std.proofs.lemmas.Fmt.{decimal_by_steps}
@@ -8,10 +8,10 @@ use Rattle.std.proofs.lemmas.List.Splits.{slice_split_at, slice_split_none}
 use Rattle.vt_journal.specs.Cut.{cut}
 use Rattle.vt_journal.specs.Words.{held_words}
 use Rattle.vt_journal.specs.Hex.{hex_byte, hex_digit}
-use Rattle.vt_journal.specs.Kinds.{name_of}
+use Rattle.vt_journal.specs.Calls.{name_of}
 use Rattle.vt_journal.specs.Words.{spelled}
-use Rattle.vt_journal.specs.declared.kind.Kind.{Kind}
-use Rattle.vt_journal.specs.declared.kind.Kind.TheVariants as kind
+use Rattle.vt_events.specs.declared.event.Event.{Event}
+use Rattle.vt_events.specs.declared.event.Event.TheVariants as event
 
 -- a word has no blank
 abbrev pub is_word : List ℕ → Bool
@@ -51,13 +51,9 @@ cut-spelled word (next ∷ words) first others =
     and_both false b is = cc
 
 -- names are words
-pub is_word-name : (k : Kind) → is_word (name_of k) ≡ true
-is_word-name kind.Scan = refl
-is_word-name kind.OpenCon = refl
-is_word-name kind.Write = refl
-is_word-name kind.Activate = refl
-is_word-name kind.SetMode = refl
-is_word-name kind.RelDisp = refl
+pub is_word-name : (e : Event) → is_word (name_of e) ≡ true
+is_word-name (event.Scan b) = refl
+is_word-name e = refl
 
 -- numbers are words
 pub is_word-decimal : (n : ℕ) → n < 2 ^ 64 → is_word (decimal n) ≡ true
@@ -93,7 +89,7 @@ is_word-pairs (b ∷ bytes) =
     λ j. hex_digit-word (b / 16) j && (hex_digit-word (b % 16) j && is_word-pairs bytes j)
 
 -- bytes are a word
-pub are_words-held : (holds : Bool) (bytes : List ℕ) → are_words (held_words holds bytes) ≡ true
-are_words-held true [] = refl
-are_words-held true (b ∷ bytes) = ap (λ r. r && true) (is_word-pairs (b ∷ bytes))
-are_words-held false bytes = refl
+pub are_words-held : (held : Option (List ℕ)) → are_words (held_words held) ≡ true
+are_words-held None = refl
+are_words-held (Some []) = refl
+are_words-held (Some (b ∷ bytes)) = ap (λ r. r && true) (is_word-pairs (b ∷ bytes))

@@ -48,7 +48,7 @@ pub fn add_next(alloc: Global, text: &mut Bytes, n: u64) -> Result<(), NoMemory>
 }
 
 /// Adds the name and the numbers, each behind a blank.
-pub fn add_call(
+pub fn add_named(
     alloc: Global,
     text: &mut Bytes,
     name: &[u8],

@@ -1,61 +1,101 @@
-ghost use Rattle.std.specs.Prelude.{◌≡◌, ◌≢◌, ◌≤◌, [], true, length, if◌then◌else◌, IfSome, IfNone};
+ghost use Rattle.std.specs.Prelude.{◌≡◌, ◌≢◌, ◌≤◌, true, length, is_some, IfSome, IfNone};
 ghost use Rattle.vt_events.specs.Plain.{plain_event};
-ghost use Rattle.vt_journal.specs.Kinds.{count_of, holds_bytes, kind_of, name_of, takes};
-ghost use Rattle.vt_journal.specs.Words.{held_of, numbers_of};
+ghost use Rattle.vt_journal.specs.Calls.{held_of, name_of, numbers_of};
+ghost use Rattle.vt_journal.specs.Kinds.{blank, call_of, takes};
 ghost use Rattle.vt_journal.specs.declared.kind.Kind.{Kind};
 
+use crate::rows::{row_of, rows};
 use vt_base::Bytes;
 use vt_events::Event;
 
 /// The most numbers of a call.
 pub const NUMBERS: usize = 6;
 
-/// Which call it is.
+/// Which call it is, as its [`Event`] is named.
 #[derive(Clone, Copy, Debug, PartialEq, Eq)]
 pub enum Kind {
     Scan,
+    Exit,
     OpenCon,
+    CloseFd,
     Write,
+    ReadIn,
+    WaitInput,
+    WaitActive,
+    WaitSignal,
+    WaitEnd,
     Activate,
+    Disallocate,
+    OpenQry,
+    GetState,
+    Resize,
+    LockSwitch,
+    UnlockSwitch,
+    SetKd,
+    GetKd,
     SetMode,
+    GetMode,
     RelDisp,
+    SetKb,
+    GetKb,
+    SetMeta,
+    GetMeta,
+    SetLed,
+    GetLed,
+    SetFlags,
+    GetFlags,
+    SetEntry,
+    GetEntry,
+    SetFunc,
+    GetFunc,
+    SetDia,
+    GetDia,
+    SetCode,
+    GetCode,
+    Accept,
+    SetMap,
+    GetMap,
+    SetPal,
+    GetPal,
+    Dump,
+    TakeSignals,
+    Kill,
 }
 
 impl Kind {
     /// The kind of the calls of this name.
     pub fn named(name: &[u8]) -> Option<Kind>
-        ensures found { IfSome result (λ kind. name_of kind ≡ name.now) }
-        ensures none { IfNone result ((kind : Kind) → name_of kind ≢ name.now) }
+        ensures found { IfSome result (λ kind. name_of (blank kind) ≡ name.now) }
+        ensures none { IfNone result ((kind : Kind) → name_of (blank kind) ≢ name.now) }
     {
-        Some(match name {
-            b"scan" => Kind::Scan,
-            b"open" => Kind::OpenCon,
-            b"write" => Kind::Write,
-            b"activate" => Kind::Activate,
-            b"setmode" => Kind::SetMode,
-            b"reldisp" => Kind::RelDisp,
-            _ => return None,
-        })
+        for row in rows() {
+            if row.name == name {
+                return Some(row.kind);
+            }
+        }
+        None
+    }
+
+    /// The name of its calls.
+    pub fn name(self) -> &'static [u8]
+        ensures { result.now ≡ name_of (blank self) }
+    {
+        row_of(self).name
     }
 
     /// How many numbers follow the name.
     pub fn count(self) -> usize
-        ensures same { result ≡ count_of self }
+        ensures same { result ≡ length (numbers_of (blank self)) }
         ensures most { result ≤ NUMBERS }
     {
-        match self {
-            Kind::Scan => 0,
-            Kind::OpenCon | Kind::Write => 1,
-            Kind::Activate | Kind::RelDisp => 2,
-            Kind::SetMode => 6,
-        }
+        row_of(self).numbers
     }
 
     /// Whether bytes follow them.
     pub fn holds_bytes(self) -> bool
-        ensures { result ≡ holds_bytes self }
+        ensures { result ≡ is_some (held_of (blank self)) }
     {
-        matches!(self, Kind::Scan | Kind::Write)
+        row_of(self).bytes
     }
 
     /// Whether there may be so many bytes.
@@ -70,21 +110,58 @@ impl Kind {
 
     /// The call of these numbers, which holds these bytes where it holds any.
     pub fn call(self, n: &[u16], b: Bytes) -> Event
-        requires many { length n.now ≡ count_of self }
+        requires many { length n.now ≡ length (numbers_of (blank self)) }
         requires few { takes self (length b.bytes) ≡ true }
         requires room { b.room ≡ 0 }
-        ensures kind { kind_of result ≡ self }
-        ensures numbers { numbers_of result ≡ n.now }
-        ensures bytes { held_of result ≡ (if holds_bytes self then b.bytes else []) }
-        ensures plain { plain_event result ≡ result }
+        ensures { result ≡ call_of self n.now b.bytes }
     {
         match self {
             Kind::Scan => Event::Scan(b.as_slice()[0]),
+            Kind::Exit => Event::Exit,
             Kind::OpenCon => Event::OpenCon(n[0]),
+            Kind::CloseFd => Event::CloseFd(n[0]),
             Kind::Write => Event::Write(n[0], b),
+            Kind::ReadIn => Event::ReadIn(n[0], n[1]),
+            Kind::WaitInput => Event::WaitInput(n[0]),
+            Kind::WaitActive => Event::WaitActive(n[0], n[1]),
+            Kind::WaitSignal => Event::WaitSignal,
+            Kind::WaitEnd => Event::WaitEnd,
             Kind::Activate => Event::Activate(n[0], n[1]),
+            Kind::Disallocate => Event::Disallocate(n[0], n[1]),
+            Kind::OpenQry => Event::OpenQry(n[0]),
+            Kind::GetState => Event::GetState(n[0]),
+            Kind::Resize => Event::Resize(n[0], n[1], n[2]),
+            Kind::LockSwitch => Event::LockSwitch(n[0]),
+            Kind::UnlockSwitch => Event::UnlockSwitch(n[0]),
+            Kind::SetKd => Event::SetKd(n[0], n[1]),
+            Kind::GetKd => Event::GetKd(n[0]),
             Kind::SetMode => Event::SetMode(n[0], n[1], n[2], n[3], n[4], n[5]),
+            Kind::GetMode => Event::GetMode(n[0]),
             Kind::RelDisp => Event::RelDisp(n[0], n[1]),
+            Kind::SetKb => Event::SetKb(n[0], n[1]),
+            Kind::GetKb => Event::GetKb(n[0]),
+            Kind::SetMeta => Event::SetMeta(n[0], n[1]),
+            Kind::GetMeta => Event::GetMeta(n[0]),
+            Kind::SetLed => Event::SetLed(n[0], n[1]),
+            Kind::GetLed => Event::GetLed(n[0]),
+            Kind::SetFlags => Event::SetFlags(n[0], n[1]),
+            Kind::GetFlags => Event::GetFlags(n[0]),
+            Kind::SetEntry => Event::SetEntry(n[0], n[1], n[2], n[3], n[4]),
+            Kind::GetEntry => Event::GetEntry(n[0], n[1], n[2]),
+            Kind::SetFunc => Event::SetFunc(n[0], n[1], b),
+            Kind::GetFunc => Event::GetFunc(n[0], n[1]),
+            Kind::SetDia => Event::SetDia(n[0], b),
+            Kind::GetDia => Event::GetDia(n[0]),
+            Kind::SetCode => Event::SetCode(n[0], n[1], n[2]),
+            Kind::GetCode => Event::GetCode(n[0], n[1]),
+            Kind::Accept => Event::Accept(n[0], n[1]),
+            Kind::SetMap => Event::SetMap(n[0], b),
+            Kind::GetMap => Event::GetMap(n[0]),
+            Kind::SetPal => Event::SetPal(n[0], b),
+            Kind::GetPal => Event::GetPal(n[0]),
+            Kind::Dump => Event::Dump(n[0], n[1]),
+            Kind::TakeSignals => Event::TakeSignals,
+            Kind::Kill => Event::Kill(n[0], n[1]),
         }
     }
 }

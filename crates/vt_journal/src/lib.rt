@@ -8,8 +8,10 @@ mod kind;
 mod limits;
 mod log;
 mod numbers;
+mod parts;
 mod printing;
 mod reading;
+mod rows;
 mod tail;
 #[cfg(test)]
 mod tests;

@@ -1,11 +1,11 @@
 //! The text of a journal.
-ghost use Rattle.std.specs.Prelude.{◌≡◌, ◌∷◌, ◌++◌, [], decimal, map, OnOk, OnErr};
-ghost use Rattle.vt_journal.specs.Hex.{hex_text};
+ghost use Rattle.std.specs.Prelude.{◌≡◌, ◌∷◌, ◌++◌, option_copied, OnOk, OnErr};
 ghost use Rattle.vt_journal.specs.Journal.{entry_words, journal_text, line_text, tail_words};
 ghost use Rattle.vt_journal.specs.Text.{Begins, spaced};
-ghost use Rattle.vt_journal.specs.Words.{event_words, reply_words};
+ghost use Rattle.vt_journal.specs.Words.{event_words, held_words, reply_words};
 
-use crate::adding::{add, add_bytes, add_call, add_next, add_number, add_word};
+use crate::adding::{add, add_bytes, add_named, add_next, add_number, add_word};
+use crate::parts::Parts;
 use crate::{Full, Tail};
 use std::alloc::Global;
 use vt_base::{Bytes, NoMemory};
@@ -82,34 +82,22 @@ fn add_event(alloc: Global, text: &mut Bytes, e: &Event) -> Result<(), NoMemory>
     ensures ok { OnOk result (text.new.bytes ≡ text.old.bytes ++ spaced (event_words e.now)) }
     ensures kept { Begins text.old.bytes text.new.bytes }
 {
-    match e {
-        Event::Scan(b) => add_call_with(alloc, text, b"scan", &[], &[*b]),
-        Event::OpenCon(n) => add_call(alloc, text, b"open", &[*n]),
-        Event::Write(fd, b) => add_call_with(alloc, text, b"write", &[*fd], b.as_slice()),
-        Event::Activate(fd, n) => add_call(alloc, text, b"activate", &[*fd, *n]),
-        Event::SetMode(fd, mode, waitv, relsig, acqsig, frsig) => {
-            let numbers = [*fd, *mode, *waitv, *relsig, *acqsig, *frsig];
-            add_call(alloc, text, b"setmode", &numbers)
-        }
-        Event::RelDisp(fd, arg) => add_call(alloc, text, b"reldisp", &[*fd, *arg]),
-    }
+    let parts = Parts::of(e);
+    add_named(alloc, text, parts.kind.name(), parts.numbers.as_slice())?;
+    add_held(alloc, text, parts.held)?;
+    Ok(())
 }
 
-// The name, the numbers and the bytes, each behind a blank.
-fn add_call_with(
-    alloc: Global,
-    text: &mut Bytes,
-    name: &[u8],
-    numbers: &[u16],
-    b: &[u8],
-) -> Result<(), NoMemory>
-    ensures ok { OnOk result (text.new.bytes ≡ text.old.bytes
-        ++ spaced (name.now ∷ map decimal numbers.now ++ hex_text b.now ∷ [])) }
+// The bytes that a call holds behind a blank, where it holds any.
+fn add_held(alloc: Global, text: &mut Bytes, held: Option<&[u8]>) -> Result<(), NoMemory>
+    ensures ok { OnOk result
+        (text.new.bytes ≡ text.old.bytes ++ spaced (held_words (option_copied held.entry))) }
     ensures kept { Begins text.old.bytes text.new.bytes }
 {
-    add_call(alloc, text, name, numbers)?;
-    add_bytes(alloc, text, b)?;
-    Ok(())
+    match held {
+        None => Ok(()),
+        Some(b) => add_bytes(alloc, text, b),
+    }
 }
 
 // The words of an answer, each behind a blank.
@@ -118,19 +106,31 @@ fn add_reply(alloc: Global, text: &mut Bytes, r: &Reply) -> Result<(), NoMemory>
     ensures kept { Begins text.old.bytes text.new.bytes }
 {
     match r {
-        Reply::Done => add_word(alloc, text, b"ok")?,
+        Reply::Done => add_named(alloc, text, b"ok", &[]),
         Reply::Num(n) => {
             add_word(alloc, text, b"num")?;
-            add_next(alloc, text, u64::from(*n))?;
+            add_next(alloc, text, u64::from(*n))
+        }
+        Reply::State { front, mask } => {
+            add_named(alloc, text, b"state", &[u16::from(*front)])?;
+            add_next(alloc, text, *mask)
         }
         Reply::Text(b) => {
             add_word(alloc, text, b"bytes")?;
-            add_bytes(alloc, text, b.as_slice())?;
+            add_bytes(alloc, text, b.as_slice())
         }
-        Reply::Err(errno) => {
-            add_word(alloc, text, b"err")?;
-            add_next(alloc, text, u64::from(errno.number()))?;
+        Reply::Mode(m) => {
+            let numbers = [m.mode, m.waitv, m.relsig, m.acqsig, m.frsig];
+            add_named(alloc, text, b"mode", &numbers)
         }
+        Reply::Act { kind, value } => {
+            add_named(alloc, text, b"act", &[u16::from(*kind), *value])
+        }
+        Reply::Wait => add_named(alloc, text, b"wait", &[]),
+        Reply::Sigs(signals) => {
+            add_word(alloc, text, b"sigs")?;
+            add_next(alloc, text, signals.bits())
+        }
+        Reply::Err(errno) => add_named(alloc, text, b"err", &[errno.number()]),
     }
-    Ok(())
 }

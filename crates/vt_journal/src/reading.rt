@@ -1,11 +1,11 @@
 //! Calls read from their words.
-ghost use Rattle.std.specs.Prelude.{◌≡◌, ◌≢◌, ℕ, ◌<◌, ◌^◌, List, ◌∷◌, ◌++◌, IfOk, IfSome, IfNone};
+ghost use Rattle.std.specs.Prelude.{◌≡◌, ◌≢◌, ℕ, ◌<◌, ◌^◌, List, ◌∷◌, ◌++◌, Some, None, if◌then◌else◌, IfOk, IfSome, IfNone};
 ghost use Rattle.std.specs.List.{All};
 ghost use Rattle.vt_events.specs.declared.event.Event.{Event};
-ghost use Rattle.vt_journal.specs.Words.{held_words};
-ghost use Rattle.vt_journal.specs.Kinds.{name_of};
-ghost use Rattle.vt_journal.specs.Words.{Spells};
+ghost use Rattle.vt_journal.specs.Calls.{name_of};
+ghost use Rattle.vt_journal.specs.Kinds.{blank};
 ghost use Rattle.vt_journal.specs.declared.kind.Kind.{Kind};
+ghost use Rattle.vt_journal.specs.Words.{Spells, held_words};
 
 use crate::hex::parse_hex;
 use crate::kind::Kind;
@@ -43,9 +43,9 @@ pub fn read_event(alloc: Global, words: &[u8]) -> Result<Option<Event>, NoMemory
 
 // The next word as the name of a kind.
 fn read_kind(words: &mut Words) -> Option<Kind>
-    ensures found { IfSome result (λ kind. words.old ≡ name_of kind ∷ words.new) }
+    ensures found { IfSome result (λ kind. words.old ≡ name_of (blank kind) ∷ words.new) }
     ensures none { IfNone result
-        ((kind : Kind) (rest : List (List ℕ)) → words.old ≢ name_of kind ∷ rest) }
+        ((kind : Kind) (rest : List (List ℕ)) → words.old ≢ name_of (blank kind) ∷ rest) }
 {
     let name = words.next()?;
     Kind::named(name)
@@ -54,12 +54,12 @@ fn read_kind(words: &mut Words) -> Option<Kind>
 // The next word as bytes in hexadecimal, where the call holds any; else none, and no word.
 fn read_bytes(alloc: Global, words: &mut Words, holds: bool) -> Result<Option<Bytes>, NoMemory>
     ensures found { IfOk result
-        (λ found. IfSome found (λ b. words.old ≡ held_words holds b.bytes ++ words.new)) }
+        (λ found. IfSome found (λ b. words.old ≡ held_words (if holds then Some b.bytes else None) ++ words.new)) }
     ensures fit { IfOk result (λ found. IfSome found (λ b. All (λ x. x < 2 ^ 8) b.bytes)) }
     ensures room { IfOk result (λ found. IfSome found (λ b. b.room ≡ 0)) }
     ensures none { IfOk result (λ found. IfNone found
         ((bytes : List ℕ) (rest : List (List ℕ)) → All (λ x. x < 2 ^ 8) bytes
-        → words.old ≢ held_words holds bytes ++ rest)) }
+        → words.old ≢ held_words (if holds then Some bytes else None) ++ rest)) }
 {
     if !holds {
         return Ok(Some(Bytes::new(alloc)));

@@ -1,5 +1,5 @@
 ghost use Rattle.std.specs.Prelude.{◌≡◌, true, is_some};
-ghost use Rattle.vt_procs.specs.Callers.{IsFit, accepts, caller_at, callers_of, console_of, ended, free_fd, is_live, is_opened, opened, plain_caller, shut, starting};
+ghost use Rattle.vt_procs.specs.Callers.{IsFit, accepts, caller_at, callers_of, console_of, ended, free_fd, has_open, is_live, is_opened, opened, plain_caller, shut, starting};
 ghost use Rattle.vt_procs.specs.Tickets.{accepting};
 
 use crate::opens::NO_OPENS;
@@ -91,6 +91,14 @@ impl Procs {
         process.opens.shut(fd);
     }
 
+    /// Whether `p` has the console open.
+    pub fn has_open(&self, p: CallerNo, c: ConsoleNo) -> bool
+        ensures { result ≡ has_open (caller_at self.now p).opens c }
+    {
+        let process = &self.callers[usize::from(p.get())];
+        process.opens.has(c)
+    }
+
     /// Whether somebody has the console open. It looks at every descriptor.
     pub fn opened(&self, c: ConsoleNo) -> bool
         ensures { result ≡ is_opened self.now c }
@@ -114,10 +122,9 @@ impl Procs {
         self.accepter
     }
 
-    /// The end of a live caller: its descriptors, its ticket and its pending signals are gone, and it
+    /// The end of a caller: its descriptors, its ticket and its pending signals are gone, and it
     /// accepts no key signal.
     pub fn end(&mut self, p: CallerNo)
-        requires { is_live self.old p ≡ true }
         ensures { self.new ≡ ended p self.old }
     {
         if self.accepts(p) {

@@ -1,16 +1,16 @@
 -- The display law, entry by entry.
-use Rattle.std.proofs.Common.{◌≡◌, ℕ, ◌+◌, ◌≤◌, Bool, true, false, List, [], ◌∷◌, refl, sym, ◌∙◌, arith}
-use Rattle.std.specs.Prelude.{◌&&◌, ◌||◌, not}
+use Rattle.std.proofs.Common.{◌≡◌, ℕ, ◌+◌, ◌≤◌, Bool, true, false, List, [], ◌∷◌, None, refl, sym, ◌∙◌, arith}
+use Rattle.std.specs.Prelude.{◌&&◌, ◌||◌, not, length}
 use Rattle.vt_switch.proofs.Lookups.{differ, nothing}
 use Rattle.vt_switch.proofs.Owners.{owners_live}
-use Rattle.vt_switch.proofs.Reasons.{Explained, Waits, allowed, ask, carry, moment, since_more}
+use Rattle.vt_switch.proofs.Reasons.{allowed, ask, carry, moment, since_more}
 use Rattle.vt_switch.specs.Acts.{SwitchAct, Allocate, Request, Release, SetMode, SetKd, Lock, Free, End}
-use Rattle.vt_switch.specs.Law.{AllOrdered, DisplayLaw, IsLawful, OwnersLive}
-use Rattle.vt_switch.specs.Moments.{Core, Moment, all_after, core_after, history, is_ordered, is_request, settles, told}
+use Rattle.vt_switch.specs.Law.{AllOrdered, DisplayLaw, IsExplained, IsLawful, OwnersLive, OwnersStayLive, TargetLaw, WasAskedFor}
+use Rattle.vt_switch.specs.Moments.{Core, Moment, after_entries, all_after, core_after, history, is_ordered, is_request, settles, told}
 
 -- between two acts: what waits is explained, owners live, and every hop so far was allowed
 record Good (i : ℕ) (k : Core) (h : List Moment) : Type 0 where
-  explained : Explained i k h
+  explained : IsExplained i k h
   owners : OwnersLive k
   lawful : IsLawful h
 
@@ -19,9 +19,9 @@ abbrev bound : Bool → ℕ → ℕ
 bound true e = e + 1
 bound false e = e
 
-explained_more : (i j : ℕ) (k : Core) (h : List Moment) → i ≤ j → Explained i k h → Explained j k h
+explained_more : (i j : ℕ) (k : Core) (h : List Moment) → i ≤ j → IsExplained i k h → IsExplained j k h
 explained_more i j k h more explained n waits =
-    let w : Waits i k h n = explained n waits in
+    let w : WasAskedFor i k h n = explained n waits in
     record {
       owner = w.owner;
       owned = w.owned;
@@ -34,8 +34,8 @@ bound_within false e = omega arith
 
 -- a request
 by_request : (i e : ℕ) (k : Core) (h : List Moment) (act : SwitchAct) → is_request act ≡ true
-    → i ≤ e + 1 → OwnersLive k → Explained i k h
-    → Explained (e + 1) (core_after k act) (moment e k act ∷ h)
+    → i ≤ e + 1 → OwnersLive k → IsExplained i k h
+    → IsExplained (e + 1) (core_after k act) (moment e k act ∷ h)
 by_request i e k h (Allocate n) does more owners explained = differ does
 by_request i e k h (Request n) does more owners explained = ask i e k h n more owners explained
 by_request i e k h (Release c p arg) does more owners explained = differ does
@@ -46,8 +46,8 @@ by_request i e k h (Free n) does more owners explained = differ does
 by_request i e k h (End p) does more owners explained = differ does
 
 explain : (e : ℕ) (asked request : Bool) (k : Core) (h : List Moment) (act : SwitchAct)
-    → is_request act ≡ request → OwnersLive k → Explained (bound asked e) k h
-    → Explained (bound (asked || request) e) (core_after k act) (moment e k act ∷ h)
+    → is_request act ≡ request → OwnersLive k → IsExplained (bound asked e) k h
+    → IsExplained (bound (asked || request) e) (core_after k act) (moment e k act ∷ h)
 explain e true true k h act is owners explained =
     by_request (e + 1) e k h act is (omega arith) owners explained
 explain e false true k h act is owners explained =
@@ -57,8 +57,8 @@ explain e false false k h act is owners explained = carry e e k h act is explain
 
 -- in order, nothing was asked before a release or an end
 before : (e : ℕ) (asked settle : Bool) (k : Core) (h : List Moment)
-    → not (asked && settle) ≡ true → Explained (bound asked e) k h → settle ≡ true
-    → Explained e k h
+    → not (asked && settle) ≡ true → IsExplained (bound asked e) k h → settle ≡ true
+    → IsExplained e k h
 before e true true k h ordered explained does = differ ordered
 before e true false k h ordered explained does = differ does
 before e false settle k h ordered explained does = explained
@@ -98,17 +98,48 @@ entry e asked k (act ∷ acts) h ordered good =
     (step e asked k h act (both_left (not (asked && settles act)) rest ordered) good)
 
 entries : (i : ℕ) (k : Core) (list : List (List SwitchAct)) (h : List Moment) → AllOrdered list
-    → Good i k h → IsLawful (history i k list h)
-entries i k [] h ordered good = good.lawful
+    → Good i k h → Good (i + length list) (after_entries k list) (history i k list h)
+entries i k [] h ordered good = record {
+  explained = explained_more i (i + length {A = List SwitchAct} []) k h (omega arith) good.explained;
+  owners = good.owners;
+  lawful = good.lawful;
+}
 entries i k (acts ∷ list) h ordered good =
+    let after : Core = after_entries (all_after k acts) list in
+    let more : List Moment = history (i + 1) (all_after k acts) list (told i k acts h) in
+    let all : Good (i + 1 + length list) after more =
     entries (i + 1) (all_after k acts) list (told i k acts h) ordered.1
-    (entry i false k acts h ordered.0 good)
+    (entry i false k acts h ordered.0 good) in
+    record {
+      explained = explained_more (i + 1 + length list) (i + length (acts ∷ list)) after more
+          (omega arith) all.explained;
+      owners = all.owners;
+      lawful = all.lawful;
+    }
 
-pub display-law : DisplayLaw
-display-law k list owners none ordered =
+from_nothing : (k : Core) (list : List (List SwitchAct)) → OwnersLive k → k.display.pending ≡ None
+    → AllOrdered list → Good (0 + length list) (after_entries k list) (history 0 k list [])
+from_nothing k list owners none ordered =
     entries 0 k list [] ordered
     (record {
       explained = λ n waits. nothing n (sym none ∙ waits);
       owners = owners;
       lawful = tt;
     })
+
+pub display-law : DisplayLaw
+display-law k list owners none ordered = (from_nothing k list owners none ordered).lawful
+
+pub target-law : TargetLaw
+target-law k list owners none ordered =
+    explained_more (0 + length list) (length list) (after_entries k list) (history 0 k list [])
+    (omega arith) (from_nothing k list owners none ordered).explained
+
+acts_live : (k : Core) (acts : List SwitchAct) → OwnersLive k → OwnersLive (all_after k acts)
+acts_live k [] owners = owners
+acts_live k (act ∷ acts) owners = acts_live (core_after k act) acts (owners_live k act owners)
+
+pub owners-stay-live : OwnersStayLive
+owners-stay-live k [] owners = owners
+owners-stay-live k (acts ∷ list) owners =
+    owners-stay-live (all_after k acts) list (acts_live k acts owners)

@@ -8,23 +8,13 @@ use Rattle.vt_switch.specs.Acts.{SwitchAct, Allocate, Request, Release, SetMode,
 use Rattle.vt_switch.specs.Calls.{after_asked, asked, asked_of, inval, kept, let_go, owns}
 use Rattle.vt_switch.specs.Deaths.{falls_to}
 use Rattle.vt_switch.specs.Display.{Display, console, is_allocated, owner_of}
-use Rattle.vt_switch.specs.Law.{EachAllowed, Handed, OwnersLive, Quiet, Raises, Since, release_of}
+use Rattle.vt_switch.specs.Law.{EachAllowed, Handed, IsExplained, OwnersLive, Quiet, Raises, Since, WasAskedFor, release_of}
 use Rattle.vt_switch.specs.Moments.{Core, Moment, core_after, hop_marks, hops, is_live, is_request, raise_release, settles, trace}
 use Rattle.vt_switch.specs.declared.asked.Asked.{Asked}
 use Rattle.vt_switch.specs.declared.asked.Asked.TheVariants.{Hopped, Signalled, Ignored}
 use Rattle.vt_switch.specs.declared.handling.Handling.{Handling}
 use Rattle.vt_switch.specs.declared.handling.Handling.TheVariants.{Auto, Process}
 use Rattle.vt_switch.specs.declared.mark.Mark.TheVariants as mark
-
--- what waits was asked for: in an entry before the i-th the front's owner got its release signal for
--- it, and nothing came between
-pub record Waits (i : ℕ) (k : Core) (h : List Moment) (n : ℕ) : Type 0 where
-  pub owner : ℕ
-  pub owned : owner_of (console k.display k.display.front).handling ≡ Some owner
-  pub asked : Since (Quiet k.display.front n) (Raises i k.display.front owner n) h
-
-abbrev pub Explained : ℕ → Core → List Moment → Type 0
-Explained i k h = (n : ℕ) → k.display.pending ≡ Some n → Waits i k h n
 
 -- what was in an entry before the i-th was in one before the j-th
 pub since_more : (i j a p n : ℕ) (h : List Moment) → i ≤ j → Since (Quiet a n) (Raises i a p n) h
@@ -46,10 +36,10 @@ moment e k act = record { entry = e; before = k; act = act }
 
 -- an act that asks for nothing leaves the reasons of what waits
 pub carry : (i e : ℕ) (k : Core) (h : List Moment) (act : SwitchAct) → is_request act ≡ false
-    → Explained i k h → Explained i (core_after k act) (moment e k act ∷ h)
+    → IsExplained i k h → IsExplained i (core_after k act) (moment e k act ∷ h)
 carry i e k h act isnt explained n waits =
     let s : Stays k act n = stays k act n isnt waits in
-    let w : Waits i k h n = explained n s.waits in
+    let w : WasAskedFor i k h n = explained n s.waits in
     let m : Moment = moment e k act in
     let quiet : Quiet k.display.front n m = record {
       no_mode = s.no_mode;
@@ -126,9 +116,9 @@ raised_trace e k n owner signal there is lives =
 
 -- what a request leaves, by its answer
 ask_by : (i e : ℕ) (k : Core) (h : List Moment) (n : ℕ) (a : Asked) → asked k.display n ≡ a
-    → i ≤ e + 1 → OwnersLive k → Explained i k h → (w : ℕ)
+    → i ≤ e + 1 → OwnersLive k → IsExplained i k h → (w : ℕ)
     → (core_after k (Request n)).display.pending ≡ Some w
-    → Waits (e + 1) (core_after k (Request n)) (moment e k (Request n) ∷ h) w
+    → WasAskedFor (e + 1) (core_after k (Request n)) (moment e k (Request n) ∷ h) w
 ask_by i e k h n (Hopped hop) is more owners explained w waits =
     nothing w (sym (ap (λ (a : Asked). (after_asked k.display n a).pending) is) ∙ waits)
 ask_by i e k h n Ignored is more owners explained w waits =
@@ -136,7 +126,7 @@ ask_by i e k h n Ignored is more owners explained w waits =
     let m : Moment = moment e k (Request n) in
     let same : (core_after k (Request n)).display ≡ d =
     ap (λ (a : Asked). after_asked d n a) is in
-    let before : Waits i k h w = explained w (sym (ap (λ (x : Display). x.pending) same) ∙ waits) in
+    let before : WasAskedFor i k h w = explained w (sym (ap (λ (x : Display). x.pending) same) ∙ waits) in
     let quiet : Quiet d.front w m = record {
       no_mode = refl;
       no_refusal = refl;
@@ -180,7 +170,7 @@ ask_by i e k h n (Signalled owner signal) is more owners explained w waits =
     }
 
 pub ask : (i e : ℕ) (k : Core) (h : List Moment) (n : ℕ) → i ≤ e + 1 → OwnersLive k
-    → Explained i k h → Explained (e + 1) (core_after k (Request n)) (moment e k (Request n) ∷ h)
+    → IsExplained i k h → IsExplained (e + 1) (core_after k (Request n)) (moment e k (Request n) ∷ h)
 ask i e k h n more owners explained w waits =
     ask_by i e k h n (asked k.display n) refl more owners explained w waits
 
@@ -200,14 +190,14 @@ asked_allowed e k h n false false false false (Auto words) is shows handles =
     (record { from = refl; because = (ap owner_of handles, shows, is) }, tt)
 
 -- the owner had been asked
-handed : (e : ℕ) (k : Core) (h : List Moment) (act : SwitchAct) (p n : ℕ) → Explained e k h
+handed : (e : ℕ) (k : Core) (h : List Moment) (act : SwitchAct) (p n : ℕ) → IsExplained e k h
     → owns k.display p k.display.front ≡ true → k.display.pending ≡ Some n
     → Handed h (moment e k act) k.display.front p n
 handed e k h act p n explained mine waits =
     let d = k.display in
     let owned : owner_of (console d d.front).handling ≡ Some p =
     named p (owner_of (console d d.front).handling) mine in
-    let w : Waits e k h n = explained n waits in
+    let w : WasAskedFor e k h n = explained n waits in
     record {
       owner = owned;
       waits = waits;
@@ -217,7 +207,7 @@ handed e k h act p n explained mine waits =
 
 -- a hop at a release
 released_allowed : (e : ℕ) (k : Core) (h : List Moment) (c p arg : ℕ)
-    (mine keeps goes knows here : Bool) (waits : Option ℕ) → Explained e k h
+    (mine keeps goes knows here : Bool) (waits : Option ℕ) → IsExplained e k h
     → owns k.display p c ≡ mine → (arg == 1) ≡ goes → (c == k.display.front) ≡ here
     → k.display.pending ≡ waits
     → EachAllowed h (moment e k (Release c p arg))
@@ -248,7 +238,7 @@ released_allowed e k h c p arg true false false false here waits explained owned
 
 -- a hop at an end
 ended_allowed : (e : ℕ) (k : Core) (h : List Moment) (p : ℕ) (mine : Bool) (waits : Option ℕ)
-    → Explained e k h → owns k.display p k.display.front ≡ mine → k.display.pending ≡ waits
+    → IsExplained e k h → owns k.display p k.display.front ≡ mine → k.display.pending ≡ waits
     → EachAllowed h (moment e k (End p))
     (hop_list (cond mine (falls_to k.display p waits) None))
 ended_allowed e k h p false waits explained owned pend = tt
@@ -258,7 +248,7 @@ ended_allowed e k h p true (Some n) explained owned pend =
 
 -- the hop of an act was allowed, where what waits is explained before a release or an end
 by_act : (e : ℕ) (k : Core) (h : List Moment) (act : SwitchAct)
-    → (settles act ≡ true → Explained e k h)
+    → (settles act ≡ true → IsExplained e k h)
     → EachAllowed h (moment e k act) (hop_list (hop_of k.display act))
 by_act e k h (Allocate n) explained = tt
 by_act e k h (Request n) explained =
@@ -278,7 +268,7 @@ by_act e k h (End p) explained =
     refl
 
 pub allowed : (e : ℕ) (k : Core) (h : List Moment) (act : SwitchAct)
-    → (settles act ≡ true → Explained e k h)
+    → (settles act ≡ true → IsExplained e k h)
     → EachAllowed h (moment e k act) (hops (trace (moment e k act)))
 allowed e k h act explained =
     subst (EachAllowed h (moment e k act)) (sym (hops_of_marks k act)) (by_act e k h act explained)

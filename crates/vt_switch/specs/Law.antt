@@ -1,8 +1,8 @@
 -- The display law: why each hop was allowed. This project's own.
-use Rattle.std.specs.Prelude.{◌≡◌, ⊤, ◌⊎◌, ◌<◌, ℕ, true, false, List, [], ◌∷◌, Option, Some, None}
+use Rattle.std.specs.Prelude.{◌≡◌, ⊤, ◌⊎◌, ◌<◌, ℕ, true, false, List, [], ◌∷◌, length, Option, Some, None}
 use Rattle.vt_switch.specs.Acts.{SwitchAct, Release, End}
 use Rattle.vt_switch.specs.Display.{console, owner_of}
-use Rattle.vt_switch.specs.Moments.{Core, Moment, history, hops, is_live, is_ordered, left, refuses, sets_mode, trace}
+use Rattle.vt_switch.specs.Moments.{Core, Moment, after_entries, history, hops, is_live, is_ordered, left, refuses, sets_mode, trace}
 use Rattle.vt_switch.specs.declared.cause.Cause.{Cause}
 use Rattle.vt_switch.specs.declared.cause.Cause.TheVariants.{Free, Released, Died}
 use Rattle.vt_switch.specs.declared.handling.Handling.{Handling}
@@ -81,3 +81,27 @@ abbrev pub DisplayLaw : Type 0
 DisplayLaw =
     (k : Core) (entries : List (List SwitchAct)) → OwnersLive k → k.display.pending ≡ None
     → AllOrdered entries → IsLawful (history 0 k entries [])
+
+-- console n was asked for: in an entry before the i-th, the release signal of the console in front
+-- was raised to its present owner and n became the console that waits, and nothing came between
+pub record WasAskedFor (i : ℕ) (k : Core) (earlier : List Moment) (n : ℕ) : Type 0 where
+  pub owner : ℕ
+  pub owned : owner_of (console k.display k.display.front).handling ≡ Some owner
+  pub asked : Since (Quiet k.display.front n) (Raises i k.display.front owner n) earlier
+
+-- what waits for the display was asked for
+abbrev pub IsExplained : ℕ → Core → List Moment → Type 0
+IsExplained i k earlier = (n : ℕ) → k.display.pending ≡ Some n → WasAskedFor i k earlier n
+
+-- from a core where nothing waits and every owner lives, what waits after a history was asked for
+-- in it
+abbrev pub TargetLaw : Type 0
+TargetLaw =
+    (k : Core) (entries : List (List SwitchAct)) → OwnersLive k → k.display.pending ≡ None
+    → AllOrdered entries
+    → IsExplained (length entries) (after_entries k entries) (history 0 k entries [])
+
+-- owners that live at first live after every history
+abbrev pub OwnersStayLive : Type 0
+OwnersStayLive =
+    (k : Core) (entries : List (List SwitchAct)) → OwnersLive k → OwnersLive (after_entries k entries)

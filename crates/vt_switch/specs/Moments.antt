@@ -107,6 +107,11 @@ history i k [] earlier = earlier
 history i k (acts ∷ entries) earlier =
     history (i + 1) (all_after k acts) entries (told i k acts earlier)
 
+-- the core after the acts of all entries
+abbrev pub after_entries : Core → List (List SwitchAct) → Core
+after_entries k [] = k
+after_entries k (acts ∷ entries) = after_entries (all_after k acts) entries
+
 abbrev pub is_request : SwitchAct → Bool
 is_request (Allocate n) = false
 is_request (Request n) = true

@@ -1,6 +1,6 @@
 //! The laws of the switch.
 ghost use Rattle.vt_switch.specs.Acts.{OnlyHopsSwitch};
-ghost use Rattle.vt_switch.specs.Law.{DisplayLaw};
+ghost use Rattle.vt_switch.specs.Law.{DisplayLaw, OwnersStayLive, TargetLaw};
 
 /// Each act of the switch changes the console in front by its hop alone.
 pub fn only_hops_switch()
@@ -11,4 +11,11 @@ pub fn only_hops_switch()
 /// wasn't locked; or its owner let the display go, or died, after it had been asked to.
 pub fn each_hop_was_allowed()
     ensures { DisplayLaw }
+{}
+
+/// What waits for the display was asked for: the owner of the console in front got its release
+/// signal, and neither refused nor set a mode since. Owners of consoles live.
+pub fn each_target_was_asked_for()
+    ensures asked { TargetLaw }
+    ensures owners { OwnersStayLive }
 {}

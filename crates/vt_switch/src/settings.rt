@@ -3,6 +3,7 @@ ghost use Rattle.std.specs.Prelude.{◌≡◌, false};
 ghost use Rattle.vt_switch.specs.Calls.{freed, is_held, with_kd, with_lock, words_of};
 ghost use Rattle.vt_switch.specs.Display.{console, owner_of};
 
+use crate::state::FRESH;
 use crate::{Handling, Switch};
 use vt_base::{CallerNo, ConsoleNo, VtMode};
 
@@ -47,6 +48,16 @@ impl Switch {
                 acqsig: 0,
                 frsig: 0,
             },
+        }
+    }
+
+    /// Who handles the switches of the console: itself, where it isn't allocated.
+    pub fn handling(&self, c: ConsoleNo) -> Handling
+        ensures { result ≡ (console self.now c).handling }
+    {
+        match &self.consoles[usize::from(c.get())] {
+            Some(console) => console.handling,
+            None => FRESH.handling,
         }
     }
 

@@ -20,5 +20,6 @@ mod Printables
 mod Lanes
 mod Rests
 mod Sizes
+mod Commons
 mod Bodies
 pub mod Wholes

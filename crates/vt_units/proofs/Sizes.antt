@@ -70,7 +70,7 @@ head-take zero text some = absurd (omega (arith, some))
 head-take (suc n) [] some = refl
 head-take (suc n) (x ∷ text) some = refl
 
-sized : (text : List ℕ) (code n : ℕ) → Begins text code n → Sized (get_or text 0 0) n
+pub sized : (text : List ℕ) (code n : ℕ) → Begins text code n → Sized (get_or text 0 0) n
 sized text code n is =
     let len : length (take n text) ≡ n = length-take-le n text is.within in
     subst (λ (a : ℕ). Sized a n) (head-take n text is.some)
@@ -92,7 +92,7 @@ take-two : (text : List ℕ) → 2 ≤ length text → take 2 text ≡ get_or te
 take-two [] long = absurd (omega (arith, long))
 take-two (a ∷ text) long = ap (λ (xs : List ℕ). a ∷ xs) (take-one text (omega (arith, long)))
 
-take-three : (text : List ℕ) → 3 ≤ length text → take 3 text ≡ get_or text 0 0 ∷ get_or text 1 0 ∷ get_or text 2 0 ∷ []
+pub take-three : (text : List ℕ) → 3 ≤ length text → take 3 text ≡ get_or text 0 0 ∷ get_or text 1 0 ∷ get_or text 2 0 ∷ []
 take-three [] long = absurd (omega (arith, long))
 take-three (a ∷ text) long = ap (λ (xs : List ℕ). a ∷ xs) (take-two text (omega (arith, long)))
 
@@ -130,3 +130,7 @@ module _ (text : List ℕ) where
 pub if-none : {A : Type 0} (r : Option A) (P : Type 0) → P → IfNone r P
 if-none None P is = is
 if-none (Some x) P is = tt
+
+pub none-then : {A : Type 0} (r : Option A) (P Q : Type 0) → IfNone r P → (P → Q) → IfNone r Q
+none-then None P Q is then = then is
+none-then (Some x) P Q is then = tt

@@ -1,5 +1,5 @@
 -- Text that is whole characters, one after another.
-use Rattle.std.specs.Prelude.{◌≡◌, ℕ, Bool, true, not, ◌&&◌, ◌<◌, ◌≤◌, nat_le, List, [], ◌∷◌, ◌++◌, length, take}
+use Rattle.std.specs.Prelude.{◌≡◌, ℕ, Bool, true, not, ◌&&◌, ◌==◌, ◌<◌, ◌≤◌, nat_le, List, [], ◌∷◌, ◌++◌, length, take}
 use Rattle.vt_chars.specs.Utf8.{decoded, within}
 use Rattle.vt_chars.specs.declared.decoded.Decoded.{Decoded}
 use Rattle.vt_chars.specs.declared.decoded.Decoded.TheVariants.{Character}
@@ -22,6 +22,10 @@ abbrev pub AreTextsOf : List ℕ → List ℕ → Type 0
 AreTextsOf text [] = text ≡ []
 AreTextsOf text (code ∷ codes) =
     (first : List ℕ) × (more : List ℕ) × (text ≡ first ++ more) × IsTextOf first code × AreTextsOf more codes
+
+-- the first byte of a character of two or three bytes that is shown, whatever tails follow
+abbrev pub is_common : ℕ → Bool
+is_common a = within 0xC3 0xEF a && not (a == 0xE0) && not (a == 0xED)
 
 -- the first n bytes of the text are this character
 pub record Begins (text : List ℕ) (code n : ℕ) : Type 0 where

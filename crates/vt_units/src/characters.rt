@@ -1,9 +1,16 @@
 //! Whole characters at the front of a text.
-ghost use Rattle.std.specs.Prelude.{◌≡◌, ◌≤◌, ◌<◌, [], true, drop, length, take, IfNone, IfSome};
-ghost use Rattle.vt_units.specs.Characters.{AreTextsOf, Begins, IsHidden, NoneBegins, is_shown};
+ghost use Rattle.std.specs.Prelude.{◌≡◌, ◌≤◌, ◌<◌, [], ◌∷◌, true, drop, length, take, IfNone, IfSome};
+ghost use Rattle.vt_chars.specs.Utf8.{is_tail};
+ghost use Rattle.vt_units.specs.Characters.{AreTextsOf, Begins, IsHidden, NoneBegins, is_common, is_shown};
 
 use crate::codes::Codes;
 use vt_chars::{Decoded, decode_four, decode_one, decode_three, decode_two};
+
+// What the bits that mark the bytes of a character of two add up to.
+const TWO_MARKS: u32 = 0xC0 * 0x40 + 0x80;
+
+// The same of three.
+const THREE_MARKS: u32 = (0xE0 * 0x40 + 0x80) * 0x40 + 0x80;
 
 /// Reads whole characters at the front of the text that are shown, as many as are wanted at most, and
 /// tells how many bytes they are.
@@ -29,6 +36,57 @@ pub(crate) fn read_characters(b: &[u8], most: usize, codes: &mut Codes) -> usize
 // The character that the text begins with, where it is whole and is shown, and how many bytes it has.
 #[inline(always)]
 fn first_character(b: &[u8]) -> Option<(u32, usize)>
+    ensures some { IfSome result (λ read. Begins b.now read.0 read.1) }
+    ensures none { IfNone result (NoneBegins b.now) }
+{
+    match b {
+        [first, second, third, ..] if is_common(*first) => common_character(
+            *first, *second, *third,
+        ),
+        _ => any_character(b),
+    }
+}
+
+// The character that begins with these bytes and has two or three, where it is whole and is shown, and
+// how many it has. Text often has both in turn, so no branch asks how many there are: the code and the
+// length are chosen apart, since one choice of both is compiled into a branch.
+#[inline(always)]
+fn common_character(a: u8, b: u8, c: u8) -> Option<(u32, usize)>
+    requires common { is_common a ≡ true }
+    ensures some { IfSome result (λ read. Begins (a ∷ b ∷ c ∷ []) read.0 read.1) }
+    ensures none { IfNone result (NoneBegins (a ∷ b ∷ c ∷ [])) }
+{
+    let three = a >= 0xE0;
+    let last = if three { c } else { 0x80 };
+    if !is_tail(b) || !is_tail(last) {
+        return None;
+    }
+    let two = u32::from(a) * 0x40 + u32::from(b);
+    let code = if three {
+        two * 0x40 + u32::from(c) - THREE_MARKS
+    } else {
+        two - TWO_MARKS
+    };
+    Some((code, if three { 3 } else { 2 }))
+}
+
+#[inline(always)]
+fn is_common(a: u8) -> bool
+    ensures { result ≡ is_common a }
+{
+    0xC3 <= a && a <= 0xEF && a != 0xE0 && a != 0xED
+}
+
+#[inline(always)]
+fn is_tail(b: u8) -> bool
+    ensures { result ≡ is_tail b }
+{
+    0x80 <= b && b <= 0xBF
+}
+
+// The same, whatever the first byte is.
+#[inline(always)]
+fn any_character(b: &[u8]) -> Option<(u32, usize)>
     ensures some { IfSome result (λ read. Begins b.now read.0 read.1) }
     ensures none { IfNone result (NoneBegins b.now) }
 {

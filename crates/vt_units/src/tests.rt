@@ -357,7 +357,7 @@ fn takes_controls(rt: HostRuntime) {
 #[test]
 fn takes_characters(rt: HostRuntime) {
     // A text, how many characters are wanted, the bytes that are taken, and the characters.
-    let cases: [(&[u8], usize, usize, &[u32]); 8] = [
+    let cases: [(&[u8], usize, usize, &[u32]); 10] = [
         (b"", 64, 0, &[]),
         (
             b"\xC3\xA9a\xE2\x82\xAC\xF0\x9F\x98\x80\n",
@@ -367,6 +367,8 @@ fn takes_characters(rt: HostRuntime) {
         ),
         (b"\xC3\xA9a\xE2\x82\xAC", 2, 3, &[0xE9, 0x61]),
         (b"\xC3\xA9\xE2\x82", 64, 2, &[0xE9]),
+        (b"\xC3\xA9\xE2\x82A", 64, 2, &[0xE9]),
+        (b"\xE0\xA0\x80\xEF\xBF\xBD", 64, 6, &[0x800, 0xFFFD]),
         (b"\xC3\xA9\xC2\x9B", 64, 2, &[0xE9]),
         (b"\xC2\xA0\xC2\x85", 64, 2, &[0xA0]),
         (b"a\xED\xA0\x80", 64, 1, &[0x61]),

@@ -9,14 +9,15 @@ use Rattle.std.specs.Prelude.{◌==◌, is_some, option_map, if◌then◌else◌
 use Rattle.vt_switch.specs.Display.{Display, or_fresh, is_allocated}
 use Rattle.vt_world.specs.Rows.{allocating}
 use Rattle.vt_base.specs.ConsoleSet.{at_each, is_among}
-use Rattle.vt_world.specs.State.{WorldState, HasTerminals, all_done}
+use Rattle.vt_world.specs.Deeds.{all_done}
+use Rattle.vt_world.specs.State.{WorldState, HasTerminals}
 use Rattle.vt_switch.specs.Calls.{after_mode, handled}
 use Rattle.vt_world.specs.Terminals.{TerminalState, with_start, or_new, terminal_at, written, written_on}
 use Rattle.vt_switch.specs.declared.console.Console.{Console}
 use Rattle.vt_switch.specs.declared.handling.Handling.{Handling}
 
 -- whether a place is taken isn't changed by changing what it has
-kept : {A : Type 0} (f : A → A) (o : Option A) → is_some (option_map f o) ≡ is_some o
+pub kept : {A : Type 0} (f : A → A) (o : Option A) → is_some (option_map f o) ≡ is_some o
 kept f None = refl
 kept f (Some a) = refl
 
@@ -36,7 +37,7 @@ written_alike n bytes terminals =
     map-set_same is_some terminals n (option_map (written_on bytes) (terminal_at terminals n)) None
     (kept (written_on bytes) (terminal_at terminals n))
 
-either : (b : Bool) (d e : Display) → d.consoles ≡ e.consoles
+pub either : (b : Bool) (d e : Display) → d.consoles ≡ e.consoles
     → (cond b d e).consoles ≡ e.consoles
 either true d e same = same
 either false d e same = refl

@@ -1,6 +1,6 @@
 -- A text that is run on a console piece by piece.
-use Rattle.std.proofs.Common.{◌≡◌, ◌≤◌, ℕ, zero, suc, List, [], ◌∷◌, ◌++◌, length, get_or, set, Option, Some, None, false, ltb, refl, sym, ap, ◌∙◌, append-nil, arith}
-use Rattle.std.proofs.lemmas.Bool.{le-ltb}
+use Rattle.std.proofs.Common.{◌≡◌, ◌≤◌, ℕ, zero, suc, List, [], ◌∷◌, ◌++◌, length, get_or, set, Option, Some, None, true, leb, refl, sym, ap, ◌∙◌, append-nil, arith}
+use Rattle.std.proofs.lemmas.Bool.{le-leb}
 use Rattle.std.proofs.lemmas.Grind.{flat_map-append}
 use Rattle.std.specs.List.{flat_map}
 use Rattle.std.specs.Prelude.{option_map}
@@ -8,12 +8,18 @@ use Rattle.vt_screen.specs.Run.{AnyCut, said}
 use Rattle.vt_screen.specs.declared.out.Out.{Out}
 use Rattle.vt_screen.specs.declared.out.Out.TheVariants as outs
 use Rattle.vt_world.specs.Rows.{out_deeds, write_deeds}
-use Rattle.vt_world.specs.State.{Asks, Deed, Lights, Own, Puts, WorldState, Writes, all_done, done}
+use Rattle.vt_world.specs.Deeds.{Asks, Deed, Lights, Own, Puts, Writes, all_done, done, requested}
+use Rattle.vt_switch.specs.Acts.{Request}
+use Rattle.vt_switch.specs.Moments.{core_after, marks}
+use Rattle.vt_switch.specs.declared.mark.Mark.{Mark}
+use Rattle.vt_world.specs.Heard.{heard as heard_mark, tell}
+use Rattle.vt_world.specs.State.{WorldState, core}
+use Rattle.vt_world.specs.Wanted.{wanted_in}
 use Rattle.vt_base.specs.Bytes.{Text}
 use Rattle.vt_events.specs.declared.event.Event.TheVariants as event
 use Rattle.vt_events.specs.declared.reply.Reply.TheVariants as reply
 use Rattle.vt_procs.specs.Callers.{console_of}
-use Rattle.vt_world.specs.Step.{own_step}
+use Rattle.vt_world.specs.Step.{own_step, with_idle_rule}
 use Rattle.vt_world.specs.Terminals.{TerminalState, said_of, terminal_at, written, written_on}
 use Rattle.vt_world.specs.declared.wanted.Wanted.TheVariants.{Last, Number}
 use Rattle.vt_world.proofs.Bells.{written-more}
@@ -41,18 +47,45 @@ heard-more c xs x w =
     ap (all_done (heard c xs w)) (sym (append-nil (out_deeds c x)))
     ∙ heard-append c xs (x ∷ []) w
 
+-- what is told draws nothing
+tell-terminals : (w : WorldState) (marks : List Mark) → (tell w marks).terminals ≡ w.terminals
+tell-terminals w [] = refl
+tell-terminals w (m ∷ marks) = tell-terminals (heard_mark w m) marks
+
+requested-terminals : (w : WorldState) (n : Option ℕ) → (requested w n).terminals ≡ w.terminals
+requested-terminals w None = refl
+requested-terminals w (Some n) =
+    tell-terminals (record w { display = (core_after (core w) (Request n)).display })
+    (marks (core w) (Request n))
+
+-- so a text may be drawn before
+tell-writes : (c : ℕ) (bytes : List ℕ) (w : WorldState) (marks : List Mark)
+    → done (tell w marks) (Own (Writes c bytes)) ≡ tell (done w (Own (Writes c bytes))) marks
+tell-writes c bytes w [] = refl
+tell-writes c bytes w (m ∷ marks) = tell-writes c bytes (heard_mark w m) marks
+
+requested-writes : (c : ℕ) (bytes : List ℕ) (w : WorldState) (n : Option ℕ)
+    → done (requested w n) (Own (Writes c bytes)) ≡ requested (done w (Own (Writes c bytes))) n
+requested-writes c bytes w None = refl
+requested-writes c bytes w (Some n) =
+    tell-writes c bytes (record w { display = (core_after (core w) (Request n)).display })
+    (marks (core w) (Request n))
+
 -- what is said draws nothing
 heard-terminals : (c : ℕ) (said : List Out) (w : WorldState)
     → (heard c said w).terminals ≡ w.terminals
 heard-terminals c [] w = refl
 heard-terminals c (outs.Report text ∷ more) w = heard-terminals c more (done w (Own (Puts c text)))
-heard-terminals c (outs.SwitchTo n ∷ more) w = heard-terminals c more (done w (Asks (Number n)))
-heard-terminals c (outs.SwitchLast ∷ more) w = heard-terminals c more (done w (Asks Last))
+heard-terminals c (outs.SwitchTo n ∷ more) w =
+    heard-terminals c more (done w (Asks (Number n)))
+    ∙ requested-terminals w (wanted_in w.display (Number n))
+heard-terminals c (outs.SwitchLast ∷ more) w =
+    heard-terminals c more (done w (Asks Last)) ∙ requested-terminals w (wanted_in w.display Last)
 heard-terminals c (outs.Lights lights ∷ more) w =
     heard-terminals c more (done w (Own (Lights c lights)))
 heard-terminals c (outs.Bell ∷ more) w = heard-terminals c more w
 
--- so a text may be drawn before
+-- so a text may be drawn before it
 heard-writes : (c : ℕ) (bytes : List ℕ) (said : List Out) (w : WorldState)
     → done (heard c said w) (Own (Writes c bytes)) ≡ heard c said (done w (Own (Writes c bytes)))
 heard-writes c bytes [] w = refl
@@ -60,7 +93,10 @@ heard-writes c bytes (outs.Report text ∷ more) w =
     heard-writes c bytes more (done w (Own (Puts c text)))
 heard-writes c bytes (outs.SwitchTo n ∷ more) w =
     heard-writes c bytes more (done w (Asks (Number n)))
-heard-writes c bytes (outs.SwitchLast ∷ more) w = heard-writes c bytes more (done w (Asks Last))
+    ∙ ap (heard c more) (requested-writes c bytes w (wanted_in w.display (Number n)))
+heard-writes c bytes (outs.SwitchLast ∷ more) w =
+    heard-writes c bytes more (done w (Asks Last))
+    ∙ ap (heard c more) (requested-writes c bytes w (wanted_in w.display Last))
 heard-writes c bytes (outs.Lights lights ∷ more) w =
     heard-writes c bytes more (done w (Own (Lights c lights)))
 heard-writes c bytes (outs.Bell ∷ more) w = heard-writes c bytes more w
@@ -127,13 +163,12 @@ ran-append law w c a b =
 -- a write that isn't refused
 pub write-answered : (w : WorldState) (p fd : ℕ) (b : Text) (c : ℕ) (text : List ℕ) (w' : WorldState)
     → console_of w.callers p fd ≡ Some c → text ≡ b.bytes → length text ≤ 4096
-    → w' ≡ ran w c text
+    → w' ≡ with_idle_rule (ran w c text)
     → own_step w p (event.Write fd b) ≡ record { world = w'; reply = reply.Num (length text) }
 write-answered w p fd b c text w' found is short ran_is =
-    let within : ltb 4096 (length b.bytes) ≡ false =
-    le-ltb 4096 (length b.bytes) (omega (arith, short, ap length is)) in
+    let within : leb (length b.bytes) 4096 ≡ true = le-leb _ _ (omega (arith, short, ap length is)) in
     rw (found, within)
     (λ i. record {
-      world = (ap (ran w c) (sym is) ∙ sym ran_is) i;
+      world = (ap (λ (t : List ℕ). with_idle_rule (ran w c t)) (sym is) ∙ sym ran_is) i;
       reply = reply.Num (length (sym is i));
     })

@@ -27,11 +27,6 @@ abbrev pub all_acts : WorldState → List Deed → List SwitchAct
 all_acts w [] = []
 all_acts w (deed ∷ deeds) = acts_of w deed ++ all_acts (done w deed) deeds
 
--- a refused event has none
-abbrev pub acts_unless : Option Errno → List SwitchAct → List SwitchAct
-acts_unless None acts = acts
-acts_unless (Some errno) acts = []
-
 -- the deeds of an event that nothing refuses
 abbrev pub deeds_unless : Option Errno → List Deed → List Deed
 deeds_unless None deeds = deeds

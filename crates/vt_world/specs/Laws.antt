@@ -1,22 +1,31 @@
 -- The laws of every history from a start: why each hop was allowed, and what each screen shows. This
 -- project's own.
-use Rattle.std.specs.Prelude.{◌≡◌, ◌<◌, ℕ, List, [], ◌∷◌, ◌++◌, option_map}
+use Rattle.std.specs.Prelude.{◌≡◌, ◌<◌, ⊤, ℕ, Bool, true, false, List, [], ◌∷◌, ◌++◌, length, Option, Some, None, option_map}
+use Rattle.std.specs.List.{list_all}
 use Rattle.key_tables.specs.Tables.{Tables}
 use Rattle.vt_base.specs.ConsoleSet.{IsFitSet}
+use Rattle.vt_base.specs.declared.vt_mode.VtMode.{VtMode}
 use Rattle.vt_events.specs.declared.entry.Entry.{Entry}
 use Rattle.vt_events.specs.declared.event.Event.{Event}
+use Rattle.vt_events.specs.declared.event.Event.TheVariants as event
 use Rattle.vt_procs.specs.declared.proc_start.ProcStart.{ProcStart}
-use Rattle.vt_switch.specs.Acts.{SwitchAct}
-use Rattle.vt_switch.specs.Law.{IsLawful}
-use Rattle.vt_switch.specs.Moments.{Core, core_after, history, hops, marks}
+use Rattle.vt_switch.specs.Acts.{SwitchAct, Release, Request, SetMode}
+use Rattle.vt_switch.specs.Law.{IsExplained, IsLawful, OwnersLive}
+use Rattle.vt_switch.specs.Moments.{Core, Moment, all_after, core_after, history, hops, marks, raise}
 use Rattle.vt_switch.specs.declared.hop.Hop.{Hop}
-use Rattle.vt_world.specs.Acts.{event_acts, history_acts}
+use Rattle.vt_switch.specs.declared.mark.Mark.{Mark}
+use Rattle.vt_switch.specs.declared.mark.Mark.TheVariants as mark
+use Rattle.vt_world.specs.Acts.{event_acts, event_deeds, history_acts}
+use Rattle.vt_world.specs.Deeds.{Deed, Asks, By, Own, Raises, done}
+use Rattle.vt_world.specs.Heard.{cleared}
 use Rattle.vt_world.specs.History.{replay}
 use Rattle.vt_world.specs.Start.{opening}
-use Rattle.vt_world.specs.State.{WorldState, core}
+use Rattle.vt_world.specs.State.{WorldState, HasTerminals, core}
 use Rattle.vt_world.specs.Step.{step}
-use Rattle.vt_world.specs.Tapes.{first_tape, screen_of, tape_of}
+use Rattle.vt_world.specs.Tapes.{screen_of, tape_of}
 use Rattle.vt_world.specs.Terminals.{machine_of, terminal_at}
+use Rattle.vt_world.specs.Tests.{target}
+use Rattle.vt_world.specs.Wanted.{wanted_in}
 
 -- the console at a start
 pub record IsStart (w : WorldState) : Type 0 where
@@ -29,11 +38,77 @@ pub record IsStart (w : WorldState) : Type 0 where
   pub fit : IsFitSet consoles front
   pub opened : w ≡ opening rows cols consoles front processes tables
 
+-- the acts of a history, each at its time; the newest comes first
+abbrev pub moments : WorldState → List Entry → List Moment
+moments w entries = history 0 (core w) (history_acts w entries) []
+
 -- the display law: in every history from a start each hop was allowed
 abbrev pub DisplaysAreLawful : Type 0
 DisplaysAreLawful =
+    (w : WorldState) (entries : List Entry) → IsStart w → IsLawful (moments w entries)
+
+-- and what waits for the display after it was asked for in it
+abbrev pub TargetsAreExplained : Type 0
+TargetsAreExplained =
     (w : WorldState) (entries : List Entry) → IsStart w
-    → IsLawful (history 0 (core w) (history_acts w entries) [])
+    → IsExplained (length entries) (core (replay w entries)) (moments w entries)
+
+-- after every history from a start, whoever handles the switches of a console lives
+abbrev pub OwnersAreLive : Type 0
+OwnersAreLive =
+    (w : WorldState) (entries : List Entry) → IsStart w → OwnersLive (core (replay w entries))
+
+-- the display, and who lives, change by acts alone: after an event they are what its acts leave
+abbrev pub ActsMakeCores : Type 0
+ActsMakeCores =
+    (w : WorldState) (p : ℕ) (e : Event)
+    → core (step w p e).world ≡ all_after (core w) (event_acts w p e)
+
+abbrev pub is_raise : Mark → Bool
+is_raise (mark.Asked n) = false
+is_raise (mark.Raised p signal) = true
+is_raise (mark.Hopped hop) = false
+is_raise (mark.Ended p) = false
+
+-- a trace has some raised signals, then these marks, and then the rest
+pub record TellsFirst (own : List Mark) (IsRest : List Mark → Type 0) (trace : List Mark) : Type 0 where
+  pub signals : List Mark
+  pub more : List Mark
+  pub raised : list_all is_raise signals ≡ true
+  pub parts : trace ≡ signals ++ (own ++ more)
+  pub rest : IsRest more
+
+-- a trace tells what these acts tell, in order, and beside that only raised signals
+abbrev pub TellsActs : Core → List SwitchAct → List Mark → Type 0
+TellsActs k [] trace = list_all is_raise trace ≡ true
+TellsActs k (act ∷ acts) trace =
+    TellsFirst (marks k act) (λ more. TellsActs (core_after k act) acts more) trace
+
+abbrev pub TracesTellActs : Type 0
+TracesTellActs =
+    (w : WorldState) (p : ℕ) (e : Event)
+    → TellsActs (core w) (event_acts w p e) (step w p e).world.told.trace
+
+-- what a deed tells: what its acts tell, or the signal that it raises beside them
+abbrev pub told_by_request : WorldState → Option ℕ → List Mark
+told_by_request w None = []
+told_by_request w (Some n) = marks (core w) (Request n)
+
+abbrev pub told_by : WorldState → Deed → List Mark
+told_by w (By act) = marks (core w) act
+told_by w (Asks wanted) = told_by_request w (wanted_in w.display wanted)
+told_by w (Own (Raises p signal)) = raise (core w) p signal
+told_by w (Own deed) = []
+
+abbrev pub all_told : WorldState → List Deed → List Mark
+all_told w [] = []
+all_told w (deed ∷ deeds) = told_by w deed ++ all_told (done w deed) deeds
+
+-- the trace of an event is what its deeds tell
+abbrev pub TracesTellDeeds : Type 0
+TracesTellDeeds =
+    (w : WorldState) (p : ℕ) (e : Event)
+    → (step w p e).world.told.trace ≡ all_told (cleared w) (event_deeds (cleared w) p e)
 
 -- the hops of acts, one after another
 abbrev pub hops_of : Core → List SwitchAct → List Hop
@@ -46,12 +121,41 @@ TracesTellHops =
     (w : WorldState) (p : ℕ) (e : Event)
     → hops (step w p e).world.told.trace ≡ hops_of (core w) (event_acts w p e)
 
+-- p called to release console c, with this argument
+pub record CallsRelease (w : WorldState) (p : ℕ) (e : Event) (c arg : ℕ) : Type 0 where
+  pub fd : ℕ
+  pub call : e ≡ event.RelDisp fd arg
+  pub console : c ≡ target w p fd
+
+-- p called to set these words of console c
+pub record CallsSetMode (w : WorldState) (p : ℕ) (e : Event) (c : ℕ) (m : VtMode) : Type 0 where
+  pub fd : ℕ
+  pub call : e ≡ event.SetMode fd m.mode m.waitv m.relsig m.acqsig m.frsig
+  pub console : c ≡ target w p fd
+
+-- an act that is a release or a set mode is the caller's, who called for it
+abbrev pub IsCalled : WorldState → ℕ → Event → SwitchAct → Type 0
+IsCalled w p e (Release c q arg) = (q ≡ p) × CallsRelease w p e c arg
+IsCalled w p e (SetMode c q m) = (q ≡ p) × CallsSetMode w p e c m
+IsCalled w p e act = ⊤
+
+abbrev pub AllCalled : WorldState → ℕ → Event → List SwitchAct → Type 0
+AllCalled w p e [] = ⊤
+AllCalled w p e (act ∷ acts) = IsCalled w p e act × AllCalled w p e acts
+
+-- every release and every set mode in a history is a call of its entry's caller
+abbrev pub ActsAreCalls : Type 0
+ActsAreCalls = (w : WorldState) (p : ℕ) (e : Event) → AllCalled w p e (event_acts w p e)
+
+-- after every history from a start, the consoles that have a terminal are those that are allocated
+abbrev pub TerminalsAreAllocated : Type 0
+TerminalsAreAllocated =
+    (w : WorldState) (entries : List Entry) → IsStart w → HasTerminals (replay w entries)
+
 -- the screen law: after every history from a start the screen of each console, with the rest of its
 -- text, is its tape, run from the start screen; where it isn't allocated there is neither
 abbrev pub ScreensAreTapes : Type 0
 ScreensAreTapes =
-    (rows cols consoles front : ℕ) (processes : List ProcStart) (tables : Tables)
-    (entries : List Entry) (c : ℕ) → c < 64
-    → let w : WorldState = opening rows cols consoles front processes tables in
-    machine_of (terminal_at (replay w entries).terminals c)
-    ≡ option_map (screen_of rows cols) (tape_of c (first_tape consoles c) w entries)
+    (w : WorldState) (entries : List Entry) (start : IsStart w) (c : ℕ) → c < 64
+    → machine_of (terminal_at (replay w entries).terminals c)
+    ≡ option_map (screen_of start.rows start.cols) (tape_of c w entries)

@@ -1,6 +1,7 @@
 -- What an event needs beside the world, taken before.
 use Rattle.std.specs.Prelude.{◌≡◌, ◌≤◌, ⊤, ℕ, Bool, ◌&&◌, nat_le, Option, Some, None, [], if◌then◌else◌}
 use Rattle.vt_base.specs.Bytes.{Text}
+use Rattle.vt_base.specs.declared.size.Size.{Size}
 use Rattle.vt_events.specs.Charge.{greatest_reply}
 use Rattle.vt_events.specs.declared.event.Event.{Event}
 use Rattle.vt_events.specs.declared.event.Event.TheVariants as event
@@ -31,6 +32,9 @@ pub record Extent : Type 0 where
 
 abbrev pub extent : ℕ → ℕ → Extent
 extent rows cols = record { rows = rows; cols = cols }
+
+abbrev pub extent_of : Size → Extent
+extent_of size = extent size.rows size.cols
 
 -- a screen can have so many rows and columns
 abbrev pub is_extent : ℕ → ℕ → Bool

@@ -1,47 +1,63 @@
--- The tape of a console: the bytes that were written to it since it was allocated, and between them
--- what calls changed of its screen.
-use Rattle.std.specs.Prelude.{ℕ, ◌==◌, ◌++◌, List, [], ◌∷◌, map, Option, Some, None, option_map, slice_index_or, unwrap_or, if◌then◌else◌}
-use Rattle.vt_base.specs.ConsoleSet.{at_each}
+-- The tape of a console: the bytes of the accepted writes since it was allocated, and between them
+-- what accepted calls changed of its screen.
+use Rattle.std.specs.Prelude.{ℕ, ◌==◌, ◌++◌, Bool, List, [], ◌∷◌, map, Option, Some, None, unwrap_or, if◌then◌else◌}
+use Rattle.call_bytes.specs.Colours.{colours_in}
+use Rattle.call_bytes.specs.Words.{words_in}
 use Rattle.vt_events.specs.declared.entry.Entry.{Entry}
+use Rattle.vt_events.specs.declared.event.Event.{Event}
+use Rattle.vt_events.specs.declared.event.Event.TheVariants as event
+use Rattle.vt_events.specs.declared.reply.Reply.{Reply}
+use Rattle.vt_events.specs.declared.reply.Reply.TheVariants as reply
 use Rattle.vt_screen.specs.Run.{Told, having_said, start}
 use Rattle.vt_screen.specs.Screen.{Screen}
-use Rattle.vt_screen.specs.Tape.{Taped, byte, mark, run_tape}
+use Rattle.vt_screen.specs.Tape.{Taped, byte, mark, palette, resize, run_tape, user_map}
+use Rattle.vt_switch.specs.Display.{is_allocated}
 use Rattle.vt_units.specs.Run.{Reached, reached}
-use Rattle.vt_world.specs.Acts.{event_deeds}
-use Rattle.vt_world.specs.Deeds.{Deed, Asks, By, Own, OwnDeed, Alters, Clears, Starts, Writes}
-use Rattle.vt_world.specs.Heard.{cleared}
 use Rattle.vt_world.specs.State.{WorldState}
 use Rattle.vt_world.specs.Step.{step}
+use Rattle.vt_world.specs.Tests.{target}
 
--- these items stand behind the others, where there is a tape
-abbrev pub taped : List Taped → Option (List Taped) → Option (List Taped)
-taped items tape = option_map (λ (old : List Taped). old ++ items) tape
+-- these items, if console n is console c
+abbrev pub if_same : ℕ → ℕ → List Taped → List Taped
+if_same n c items = if n == c then items else []
 
--- a console that is allocated begins an empty tape, one that is freed has none, what is written to it
--- is added, and what a call changes is marked; all else leaves the tape
-abbrev pub tape_after : ℕ → Option (List Taped) → OwnDeed → Option (List Taped)
-tape_after c tape (Starts n) = if n == c then Some (unwrap_or tape []) else tape
-tape_after c tape (Clears n) = if n == c then None else tape
-tape_after c tape (Writes n bytes) = if n == c then taped (map byte bytes) tape else tape
-tape_after c tape (Alters n m) = if n == c then taped (mark m ∷ []) tape else tape
-tape_after c tape deed = tape
+-- what an accepted event of p adds to the tape of console c: the bytes that it writes there, or a
+-- mark of what it changes there
+abbrev pub items_of : WorldState → ℕ → ℕ → Event → List Taped
+items_of w p c (event.Write fd b) = if_same (target w p fd) c (map byte b.bytes)
+items_of w p c (event.Resize fd rows cols) =
+    if_same (target w p fd) c (mark (resize rows cols) ∷ [])
+items_of w p c (event.SetMap fd b) =
+    if_same (target w p fd) c (mark (user_map (unwrap_or (words_in b.bytes) [])) ∷ [])
+items_of w p c (event.SetPal fd b) =
+    if_same (target w p fd) c (mark (palette (unwrap_or (colours_in b.bytes) [])) ∷ [])
+items_of w p c e = []
 
-abbrev pub tape_of_deeds : ℕ → Option (List Taped) → List Deed → Option (List Taped)
-tape_of_deeds c tape [] = tape
-tape_of_deeds c tape (By act ∷ deeds) = tape_of_deeds c tape deeds
-tape_of_deeds c tape (Asks wanted ∷ deeds) = tape_of_deeds c tape deeds
-tape_of_deeds c tape (Own deed ∷ deeds) = tape_of_deeds c (tape_after c tape deed) deeds
+-- an event that is answered by an error isn't accepted, and adds nothing
+abbrev pub unless_refused : Reply → List Taped → List Taped
+unless_refused (reply.Err errno) items = []
+unless_refused answer items = items
 
--- the tape of console c after a history, which began with this one
-abbrev pub tape_of : ℕ → Option (List Taped) → WorldState → List Entry → Option (List Taped)
-tape_of c tape w [] = tape
-tape_of c tape w (entry ∷ entries) =
-    tape_of c (tape_of_deeds c tape (event_deeds (cleared w) entry.caller entry.event))
-    (step w entry.caller entry.event).world entries
+abbrev pub accepted_items : WorldState → ℕ → ℕ → Event → List Taped
+accepted_items w p c e = unless_refused (step w p e).reply (items_of w p c e)
 
--- the tape of a console at a start: empty where it is allocated
-abbrev pub first_tape : ℕ → ℕ → Option (List Taped)
-first_tape consoles c = slice_index_or (at_each consoles []) c None
+-- a tape after an event: a console that isn't allocated has none, and one that wasn't before begins
+-- an empty one
+abbrev pub tape_after : Bool → List Taped → Option (List Taped) → Option (List Taped)
+tape_after allocated items tape = if allocated then Some (unwrap_or tape [] ++ items) else None
+
+-- the tape of console c after these entries, where it was this one before
+abbrev pub tape_from : ℕ → Option (List Taped) → WorldState → List Entry → Option (List Taped)
+tape_from c tape w [] = tape
+tape_from c tape w (entry ∷ entries) =
+    let after : WorldState = (step w entry.caller entry.event).world in
+    tape_from c
+    (tape_after (is_allocated after.display c) (accepted_items w entry.caller c entry.event) tape)
+    after entries
+
+-- the tape of console c after a history from a start, where every allocated console has an empty one
+abbrev pub tape_of : ℕ → WorldState → List Entry → Option (List Taped)
+tape_of c w entries = tape_from c (tape_after (is_allocated w.display c) [] None) w entries
 
 -- the screen, with the rest of the text, that a tape gives from the start screen
 abbrev pub screen_of : ℕ → ℕ → List Taped → Reached Screen

@@ -1,21 +1,24 @@
 //! Requests for a console that a key or a text names.
-ghost use Rattle.std.specs.Prelude.{◌≡◌, ◌+◌, ◌≤◌, Some, None, find, if◌then◌else◌};
+ghost use Rattle.std.specs.Prelude.{◌≡◌, ◌+◌, ◌≤◌, Some, None, find, length, if◌then◌else◌};
 ghost use Rattle.std.specs.List.{range_with_len};
 ghost use Rattle.vt_switch.specs.Display.{is_allocated};
-ghost use Rattle.vt_world.specs.State.{Asks, done};
+ghost use Rattle.vt_world.specs.Deeds.{Asks, done};
 ghost use Rattle.vt_world.specs.Wanted.{downwards, falling, upwards, wanted_in};
 
 use crate::World;
+use crate::told::TRACE_MARKS;
 use crate::wanted::Wanted;
 use vt_base::ConsoleNo;
 
 impl World {
     /// Requests the console that is wanted, if it is one.
     pub(crate) fn ask(&mut self, wanted: Wanted)
-        ensures { self.new ≡ done self.old (Asks wanted) }
+        requires { length self.old.told.trace + 3 ≤ TRACE_MARKS }
+        ensures state { self.new ≡ done self.old (Asks wanted) }
+        ensures room { length self.new.told.trace ≤ length self.old.told.trace + 3 }
     {
         if let Some(c) = self.wanted(wanted) {
-            let _ = self.switch.request(c);
+            self.request(c);
         }
     }
 

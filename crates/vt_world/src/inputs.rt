@@ -1,9 +1,9 @@
 ghost use Rattle.std.specs.Prelude.{◌≡◌, IfOk, replicate};
-ghost use Rattle.vt_world.specs.Inputs.{input_at, keyed, lit, new_input, queued, scanned, with_bytes};
+ghost use Rattle.vt_world.specs.Inputs.{comes, input_at, keyed, lit, new_input, queued, with_bytes};
 
 use crate::input::Input;
 use in_queue::InQueue;
-use key_machine::{KbState, mode};
+use key_machine::KbState;
 use std::alloc::Global;
 use std::marker::Model;
 use vt_base::{ConsoleNo, NoMemory};
@@ -57,12 +57,13 @@ impl Inputs {
         self.places[usize::from(c.get())].keys
     }
 
-    /// Puts the bytes into the console's queue, whole or not at all.
-    pub(crate) fn put(&mut self, c: ConsoleNo, piece: &[u8])
-        ensures { self.new ≡ queued c piece.now self.old }
+    /// Puts the bytes into the console's queue, whole or not at all, and tells whether some came.
+    pub(crate) fn put(&mut self, c: ConsoleNo, piece: &[u8]) -> bool
+        ensures queues { self.new ≡ queued c piece.now self.old }
+        ensures some { result ≡ comes (input_at self.old c).queue piece.now }
     {
         let input = &mut self.places[usize::from(c.get())];
-        put_whole(&mut input.queue, piece);
+        put_whole(&mut input.queue, piece)
     }
 
     /// Gives the console this key state.
@@ -81,20 +82,13 @@ impl Inputs {
         keys.lights = Some(lights);
         self.set_keys(c, keys);
     }
-
-    /// Puts a scan byte into the console's queue, where its keyboard mode is K_RAW.
-    pub(crate) fn scan(&mut self, c: ConsoleNo, b: u8)
-        ensures { self.new ≡ scanned c b self.old }
-    {
-        if self.keys(c).mode == mode::RAW {
-            self.put(c, &[b]);
-        }
-    }
 }
 
-// Puts the bytes into the queue, whole or not at all.
-fn put_whole(queue: &mut InQueue, piece: &[u8])
-    ensures { queue.new ≡ with_bytes queue.old piece.now }
+// Puts the bytes into the queue, whole or not at all, and tells whether some came.
+fn put_whole(queue: &mut InQueue, piece: &[u8]) -> bool
+    ensures queue { queue.new ≡ with_bytes queue.old piece.now }
+    ensures some { result ≡ comes queue.old piece.now }
 {
-    let _whole = queue.put(piece);
+    let whole = queue.put(piece);
+    whole && !piece.is_empty()
 }

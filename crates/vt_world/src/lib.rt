@@ -1,21 +1,29 @@
 //! The console of one thread: it takes the calls of its callers one by one, and answers each.
 #![tactic(auto)]
 
+mod acts;
+mod allocating;
 mod asking;
+mod attention;
 mod board;
 mod input;
 mod inputs;
 mod laws;
+mod marks;
+mod queues;
 mod rows;
+mod settling;
 mod spare;
 mod step;
 mod terminal;
 mod terminals;
 #[cfg(test)]
 mod tests;
+mod told;
 mod wanted;
 mod world;
 
 pub use laws::legal_grows;
 pub use spare::{Spare, spare_for};
+pub use vt_switch::{Hop, Mark};
 pub use world::World;

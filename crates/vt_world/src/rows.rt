@@ -1,6 +1,7 @@
 //! The table of events: one method for each, which refuses it or does it.
 
 mod activate;
+mod exit;
 mod mode;
 mod open;
 mod permission;

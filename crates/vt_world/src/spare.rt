@@ -1,6 +1,6 @@
-ghost use Rattle.std.specs.Prelude.{◌≡◌, IfOk, IsTrue, is_some};
+ghost use Rattle.std.specs.Prelude.{◌≡◌, IfOk, Some, None, is_some, option_map, if◌then◌else◌};
 ghost use Rattle.vt_events.specs.Charge.{greatest_reply};
-ghost use Rattle.vt_world.specs.Spare.{Fits, HasSize, allocates, empty_with, no_spare};
+ghost use Rattle.vt_world.specs.Spare.{Fits, HasGrid, empty_with, extent, extent_of, is_extent, needed_grid, no_spare};
 
 use std::alloc::Global;
 use std::marker::Model;
@@ -42,11 +42,12 @@ impl Spare {
 /// What the call may need in a world of this size.
 pub fn spare_for(alloc: Global, e: &Event, size: Size) -> Result<Spare, NoMemory>
     ensures fits { IfOk result (λ spare. Fits size.rows size.cols e.now spare) }
-    ensures grid { IfOk result (λ spare. is_some spare.grid ≡ allocates e.now) }
+    ensures grid { IfOk result (λ spare. is_some spare.grid
+        ≡ is_some (needed_grid (extent size.rows size.cols) e.now)) }
     ensures buffers { IfOk result (λ spare. (spare.reply ≡ empty_with (greatest_reply e.now))
         × (spare.unused ≡ empty_with (greatest_reply e.now))) }
 {
-    let grid = grid_for(alloc, e, size)?;
+    let grid = grid_of(alloc, needed_grid(e, size))?;
     let bytes = reply_bytes(e);
     Ok(Spare {
         grid,
@@ -55,21 +56,37 @@ pub fn spare_for(alloc: Global, e: &Event, size: Size) -> Result<Spare, NoMemory
     })
 }
 
-fn grid_for(alloc: Global, e: &Event, size: Size) -> Result<Option<Grid>, NoMemory>
-    ensures size { IfOk result (λ grid. IsTrue (allocates e.now) → HasSize size.rows size.cols grid) }
-    ensures some { IfOk result (λ grid. is_some grid ≡ allocates e.now) }
+fn grid_of(alloc: Global, needed: Option<Size>) -> Result<Option<Grid>, NoMemory>
+    ensures size { IfOk result (λ grid. HasGrid (option_map extent_of needed) grid) }
+    ensures some { IfOk result (λ grid. is_some grid ≡ is_some needed) }
 {
-    if !allocates(e) {
-        return Ok(None);
+    match needed {
+        Some(size) => Ok(Some(Grid::blank(alloc, size, BLANK)?)),
+        None => Ok(None),
     }
-    Ok(Some(Grid::blank(alloc, size, BLANK)?))
 }
 
-fn allocates(e: &Event) -> bool
-    ensures { result ≡ allocates e.now }
+// The size of the grid that the call may need.
+fn needed_grid(e: &Event, size: Size) -> Option<Size>
+    ensures { option_map extent_of result ≡ needed_grid (extent size.rows size.cols) e.now }
 {
     match e {
-        Event::OpenCon(n) | Event::Activate(_, n) => (1..=63).contains(n),
-        _ => false,
+        Event::OpenCon(n) | Event::Activate(_, n) if (1..=63).contains(n) => Some(size),
+        Event::Resize(_, rows, cols) => size_from(*rows, *cols),
+        _ => None,
     }
+}
+
+// A size of so many rows and columns, if a screen can have it.
+fn size_from(rows: u16, cols: u16) -> Option<Size>
+    ensures { option_map extent_of result
+        ≡ (if is_extent rows cols then Some (extent rows cols) else None) }
+{
+    if !(1..=255).contains(&rows) || !(1..=255).contains(&cols) {
+        return None;
+    }
+    Some(Size {
+        rows: rows as u8,
+        cols: cols as u8,
+    })
 }

@@ -55,6 +55,7 @@ impl Terminal {
         requires empty { outs.old ≡ [] }
         ensures terminal { self.new ≡ written_on b.now self.old }
         ensures outs { outs.new ≡ said self.old.machine b.now }
+        ensures few { length outs.new ≤ length b.now }
     {
         self.emu.feed(b, outs);
         self.bells = rung(self.bells, outs.as_slice());

@@ -66,6 +66,7 @@ impl Terminals {
         requires empty { outs.old ≡ [] }
         ensures terminals { self.new ≡ written c b.now self.old }
         ensures outs { outs.new ≡ said_of (terminal_at self.old c) b.now }
+        ensures few { length outs.new ≤ length b.now }
     {
         if let Some(terminal) = &mut self.places[usize::from(c.get())] {
             terminal.feed(b, outs);

@@ -1,4 +1,6 @@
 ghost use Rattle.std.specs.Prelude.{◌≡◌, IfOk, is_some, option_copied};
+ghost use Rattle.vt_procs.specs.Callers.{caller_at};
+ghost use Rattle.vt_procs.specs.Tickets.{is_open};
 ghost use Rattle.vt_switch.specs.Display.{is_allocated};
 ghost use Rattle.vt_base.specs.ConsoleSet.{IsFitSet};
 ghost use Rattle.vt_world.specs.Inputs.{input_at};
@@ -8,17 +10,18 @@ ghost use Rattle.vt_world.specs.Terminals.{bells_of, machine_of, terminal_at};
 use crate::board::Board;
 use crate::inputs::Inputs;
 use crate::terminals::Terminals;
+use crate::told::Told;
 use in_queue::InQueue;
 use key_tables::KeyTables;
 use std::alloc::Global;
 use std::marker::Model;
-use vt_base::{ConsoleNo, NoMemory, Size};
-use vt_procs::{Config, Procs};
+use vt_base::{CallerNo, ConsoleNo, NoMemory, Size};
+use vt_procs::{Config, Procs, Waited};
 use vt_screen::Emu;
-use vt_switch::Switch;
+use vt_switch::{Mark, Switch};
 
-/// All consoles with what they show and what was typed into them, the display, the callers, and the
-/// keyboard.
+/// All consoles with what they show and what was typed into them, the display, the callers, the
+/// keyboard, and what the last event told.
 #[derive(Debug, Drop)]
 pub struct World {
     pub(crate) size: Size,
@@ -27,7 +30,7 @@ pub struct World {
     pub(crate) terminals: Terminals,
     pub(crate) inputs: Inputs,
     pub(crate) board: Board,
-    pub(crate) tables: KeyTables,
+    pub(crate) told: Told,
 }
 
 impl Model for World {
@@ -43,7 +46,7 @@ impl Model for World {
       terminals = w.terminals;
       inputs = w.inputs;
       board = w.board;
-      tables = w.tables;
+      told = w.told;
     } };
 
     ghost use Rattle.vt_world.specs.State.{HasTerminals};
@@ -56,7 +59,7 @@ impl Model for World {
       terminals = w.terminals;
       inputs = w.inputs;
       board = w.board;
-      tables = w.tables;
+      told = w.told;
     }) };
 }
 
@@ -71,14 +74,15 @@ impl World {
         let terminals = Terminals::start(alloc, c.size, c.consoles)?;
         let inputs = Inputs::start(alloc)?;
         let tables = t.copy(alloc)?;
+        let told = Told::start(alloc)?;
         Ok(World {
             size: c.size,
             switch: Switch::start(c.front, c.consoles),
             procs: Procs::start(c.procs.as_slice()),
             terminals,
             inputs,
-            board: Board::start(),
-            tables,
+            board: Board::start(tables),
+            told,
         })
     }
 
@@ -123,5 +127,27 @@ impl World {
         ensures cols { result.cols ≡ self.now.cols }
     {
         self.size
+    }
+
+    /// What the last event told of what it did to the display and to the callers, in order: nothing
+    /// before the first one, or where it was refused.
+    pub fn trace(&self) -> &[Mark]
+        ensures { result.now ≡ self.now.told.trace }
+    {
+        self.told.trace()
+    }
+
+    /// How often the display switched since the start, up to the greatest number.
+    pub fn hops(&self) -> u64
+        ensures { result ≡ self.now.told.hops }
+    {
+        self.told.hops()
+    }
+
+    /// Whether the caller has an open ticket.
+    pub fn waiting(&self, p: CallerNo) -> bool
+        ensures { result ≡ is_open (caller_at self.now.callers p).waiting }
+    {
+        self.procs.ticket(p) == Waited::Still
     }
 }

@@ -1,6 +1,6 @@
-ghost use Rattle.std.specs.Prelude.{◌≡◌, IsTrue};
+ghost use Rattle.std.specs.Prelude.{◌≡◌, []};
 ghost use Rattle.vt_events.specs.declared.event.Event.TheVariants as event;
-ghost use Rattle.vt_world.specs.Spare.{HasSize, allocates};
+ghost use Rattle.vt_world.specs.Spare.{HasGrid, extent, needed_grid};
 ghost use Rattle.vt_world.specs.Step.{Gives, own_step};
 
 use crate::World;
@@ -12,7 +12,8 @@ use vt_grid::Grid;
 impl World {
     /// Requests the display for console `n` (ioctl_console(2), VT_ACTIVATE).
     pub(crate) fn activate(&mut self, p: CallerNo, fd: u16, n: u16, grid: Option<Grid>) -> Reply
-        requires { IsTrue (allocates (event.Activate fd n)) → HasSize self.old.rows self.old.cols grid }
+        requires told { self.old.told.trace ≡ [] }
+        requires grid { HasGrid (needed_grid (extent self.old.rows self.old.cols) (event.Activate fd n)) grid }
         ensures { Gives (own_step self.old p (event.Activate fd n)) self.new result }
     {
         let Some(c) = self.procs.console_of(p, fd) else {
@@ -28,7 +29,8 @@ impl World {
             return IN_USE;
         }
         self.allocate(to, grid);
-        let _ = self.switch.request(to);
+        self.request(to);
+        self.settle(p);
         Reply::Done
     }
 }

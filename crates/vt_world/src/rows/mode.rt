@@ -1,5 +1,6 @@
-ghost use Rattle.std.specs.Prelude.{◌≡◌};
+ghost use Rattle.std.specs.Prelude.{◌≡◌, true};
 ghost use Rattle.vt_events.specs.declared.event.Event.TheVariants as event;
+ghost use Rattle.vt_procs.specs.Callers.{is_live};
 ghost use Rattle.vt_world.specs.Step.{Gives, own_step};
 
 use crate::World;
@@ -10,6 +11,7 @@ use vt_events::Reply;
 impl World {
     /// Sets who handles the switches of the descriptor's console (ioctl_console(2), VT_SETMODE).
     pub(crate) fn set_mode(&mut self, p: CallerNo, fd: u16, m: VtMode) -> Reply
+        requires { is_live self.old.callers p ≡ true }
         ensures { Gives (own_step self.old p
             (event.SetMode fd m.mode m.waitv m.relsig m.acqsig m.frsig)) self.new result }
     {
@@ -19,9 +21,10 @@ impl World {
         if !self.may_handle(p, c) {
             return NO_PERMISSION;
         }
-        match self.switch.set_mode(c, p, m) {
-            Ok(()) => Reply::Done,
-            Err(_) => INVALID,
+        if !self.handle(c, p, m) {
+            return INVALID;
         }
+        self.settle(p);
+        Reply::Done
     }
 }

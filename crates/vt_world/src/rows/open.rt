@@ -1,7 +1,6 @@
-ghost use Rattle.std.specs.Prelude.{◌≡◌, ◌≤◌, IsTrue, IfSome, Some};
+ghost use Rattle.std.specs.Prelude.{◌≡◌};
 ghost use Rattle.vt_events.specs.declared.event.Event.TheVariants as event;
-ghost use Rattle.vt_world.specs.Rows.{named};
-ghost use Rattle.vt_world.specs.Spare.{HasSize, allocates};
+ghost use Rattle.vt_world.specs.Spare.{HasGrid, extent, needed_grid};
 ghost use Rattle.vt_world.specs.Step.{Gives, own_step};
 
 use crate::World;
@@ -13,7 +12,7 @@ use vt_grid::Grid;
 impl World {
     /// Opens console `n`, or the one in front where `n` is 0, at the lowest free descriptor.
     pub(crate) fn open(&mut self, p: CallerNo, n: u16, grid: Option<Grid>) -> Reply
-        requires { IsTrue (allocates (event.OpenCon n)) → HasSize self.old.rows self.old.cols grid }
+        requires { HasGrid (needed_grid (extent self.old.rows self.old.cols) (event.OpenCon n)) grid }
         ensures { Gives (own_step self.old p (event.OpenCon n)) self.new result }
     {
         let Some(c) = self.named(n) else {
@@ -23,6 +22,7 @@ impl World {
             return IN_USE;
         };
         self.allocate(c, grid);
+        self.settle(p);
         Reply::Num(u32::from(fd.get()))
     }
 }

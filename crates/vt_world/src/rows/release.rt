@@ -1,4 +1,4 @@
-ghost use Rattle.std.specs.Prelude.{◌≡◌};
+ghost use Rattle.std.specs.Prelude.{◌≡◌, []};
 ghost use Rattle.vt_events.specs.declared.event.Event.TheVariants as event;
 ghost use Rattle.vt_world.specs.Step.{Gives, own_step};
 
@@ -11,6 +11,7 @@ impl World {
     /// The answer of the process that handles the descriptor's console (ioctl_console(2),
     /// VT_RELDISP).
     pub(crate) fn release(&mut self, p: CallerNo, fd: u16, arg: u16) -> Reply
+        requires { self.old.told.trace ≡ [] }
         ensures { Gives (own_step self.old p (event.RelDisp fd arg)) self.new result }
     {
         let Some(c) = self.procs.console_of(p, fd) else {
@@ -19,9 +20,10 @@ impl World {
         if !self.may_handle(p, c) {
             return NO_PERMISSION;
         }
-        match self.switch.release(c, p, arg) {
-            Ok(_) => Reply::Done,
-            Err(_) => INVALID,
+        if !self.release_console(c, p, arg) {
+            return INVALID;
         }
+        self.settle(p);
+        Reply::Done
     }
 }

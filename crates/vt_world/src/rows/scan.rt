@@ -1,14 +1,13 @@
-ghost use Rattle.std.specs.Prelude.{◌≡◌};
-ghost use Rattle.key_machine.specs.Step.{key_step};
+ghost use Rattle.std.specs.Prelude.{◌≡◌, []};
 ghost use Rattle.vt_events.specs.declared.event.Event.TheVariants as event;
-ghost use Rattle.vt_world.specs.Rows.{key_out_deeds, typed_deeds};
-ghost use Rattle.vt_world.specs.State.{all_done};
+ghost use Rattle.vt_world.specs.Deeds.{all_done};
 ghost use Rattle.vt_world.specs.Step.{Gives, own_step};
 ghost use Rattle.vt_world.specs.Terminals.{key_modes_of, terminal_at};
+ghost use Rattle.vt_world.specs.Typing.{key_on, key_out_deeds, read_deeds, scan_deeds, typed_deeds};
 
 use crate::World;
 use crate::wanted::Wanted;
-use key_machine::{KbState, KeyModes, KeyOut};
+use key_machine::{KeyModes, KeyOut, mode};
 use scan_codes::KeyEvent;
 use vt_base::{CallerNo, ConsoleNo};
 use vt_events::Reply;
@@ -22,28 +21,50 @@ const START_MODES: KeyModes = KeyModes {
 };
 
 impl World {
-    /// A byte of the keyboard, with a console in front.
+    /// A byte of the keyboard.
     pub(crate) fn scan(&mut self, p: CallerNo, b: u8) -> Reply
+        requires { self.old.told.trace ≡ [] }
         ensures { Gives (own_step self.old p (event.Scan b)) self.new result }
     {
-        let _keyboard = p;
         let front = self.switch.front();
-        let keys = self.inputs.keys(front);
-        self.inputs.scan(front, b);
-        if let Some(e) = self.board.scanner.push(b) {
-            self.type_key(front, e, keys);
-        }
+        self.scan_on(front, b);
+        self.settle(p);
         Reply::Done
     }
 
-    // A key goes down or up, with console `n` in front, which has this key state.
-    fn type_key(&mut self, n: ConsoleNo, e: KeyEvent, keys: KbState)
-        ensures { self.new ≡ all_done self.old (typed_deeds n (key_step self.old.tables
-            (key_modes_of (terminal_at self.old.terminals n)) e self.old.board.keyboard keys)) }
+    // A byte of the keyboard, with console `n` in front.
+    fn scan_on(&mut self, n: ConsoleNo, b: u8)
+        requires { self.old.told.trace ≡ [] }
+        ensures { self.new ≡ all_done self.old (scan_deeds self.old n b) }
     {
-        let mut keys = keys;
+        if self.inputs.keys(n).mode == mode::RAW {
+            self.put(n, &[b]);
+            return self.read(n, b);
+        }
+        self.read(n, b);
+    }
+
+    // The byte is read, and the key that it ends is typed.
+    fn read(&mut self, n: ConsoleNo, b: u8)
+        requires { self.old.told.trace ≡ [] }
+        ensures { self.new ≡ all_done self.old (read_deeds self.old n b) }
+    {
+        if let Some(e) = self.board.scanner.push(b) {
+            self.type_key(n, e);
+        }
+    }
+
+    // A key goes down or up, with console `n` in front.
+    fn type_key(&mut self, n: ConsoleNo, e: KeyEvent)
+        requires { self.old.told.trace ≡ [] }
+        ensures { self.new ≡ all_done self.old (typed_deeds self.old n (key_on self.old n e)) }
+    {
+        let mut keys = self.inputs.keys(n);
         let modes = self.key_modes(n);
-        let out = self.board.keyboard.key(e, &self.tables, &mut keys, modes);
+        let out = self
+            .board
+            .keyboard
+            .key(e, &self.board.tables, &mut keys, modes);
         self.inputs.set_keys(n, keys);
         self.take_key(n, &out);
     }
@@ -66,15 +87,18 @@ impl World {
 
     // What a key says; `n` is the console that was in front.
     fn take_key(&mut self, n: ConsoleNo, out: &KeyOut)
-        ensures { self.new ≡ all_done self.old (key_out_deeds n out.now) }
+        requires { self.old.told.trace ≡ [] }
+        ensures { self.new ≡ all_done self.old (key_out_deeds self.old n out.now) }
     {
         match out {
-            KeyOut::Bytes(bytes) => self.inputs.put(n, bytes.as_slice()),
+            KeyOut::Bytes(bytes) => self.put(n, bytes.as_slice()),
             KeyOut::Switch(m) => self.ask(Wanted::Number(u16::from(*m))),
             KeyOut::Last => self.ask(Wanted::Last),
             KeyOut::Next => self.ask(Wanted::Above),
             KeyOut::Prev => self.ask(Wanted::Below),
-            KeyOut::Spawn | KeyOut::Attention | KeyOut::Nothing => {}
+            KeyOut::Spawn => self.spawn(),
+            KeyOut::Attention => self.attend(n),
+            KeyOut::Nothing => {}
         }
     }
 }

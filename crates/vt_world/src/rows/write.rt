@@ -1,12 +1,13 @@
-ghost use Rattle.std.specs.Prelude.{◌≡◌, ◌≤◌, length};
+ghost use Rattle.std.specs.Prelude.{◌≡◌, ◌≤◌, ◌+◌, ◌*◌, [], length};
 ghost use Rattle.std.specs.List.{flat_map};
 ghost use Rattle.vt_events.specs.declared.event.Event.TheVariants as event;
+ghost use Rattle.vt_world.specs.Deeds.{all_done};
 ghost use Rattle.vt_world.specs.Rows.{out_deeds, write_deeds};
-ghost use Rattle.vt_world.specs.State.{all_done};
 ghost use Rattle.vt_world.specs.Step.{Gives, own_step};
 
 use crate::World;
 use crate::rows::refusals::{INVALID, NOT_OPEN};
+use crate::told::TRACE_MARKS;
 use crate::wanted::Wanted;
 use vt_base::{Bytes, CallerNo, ConsoleNo};
 use vt_events::Reply;
@@ -18,6 +19,7 @@ const WRITE_LIMIT: usize = 4_096;
 impl World {
     /// Writes the bytes on the screen of the descriptor's console.
     pub(crate) fn write(&mut self, p: CallerNo, fd: u16, b: &Bytes) -> Reply
+        requires { self.old.told.trace ≡ [] }
         ensures { Gives (own_step self.old p (event.Write fd b.now)) self.new result }
     {
         let Some(c) = self.procs.console_of(p, fd) else {
@@ -28,11 +30,14 @@ impl World {
             return INVALID;
         }
         self.run(c, text);
+        self.settle(p);
         Reply::Num(text.len() as u32)
     }
 
     // Runs a text on a console, and does what it says.
     fn run(&mut self, c: ConsoleNo, b: &[u8])
+        requires told { self.old.told.trace ≡ [] }
+        requires short { length b.now ≤ 4096 }
         ensures { self.new ≡ all_done self.old (write_deeds self.old c b.now) }
     {
         any_cut();
@@ -48,8 +53,10 @@ impl World {
 
     // Runs at most 64 bytes on a console, and does what they say. What stands in `outs` is forgotten.
     fn run_piece(&mut self, c: ConsoleNo, b: &[u8], outs: &mut Outs)
-        requires { length b.now ≤ 64 }
-        ensures { self.new ≡ all_done self.old (write_deeds self.old c b.now) }
+        requires short { length b.now ≤ 64 }
+        requires room { length self.old.told.trace + 3 * length b.now ≤ TRACE_MARKS }
+        ensures state { self.new ≡ all_done self.old (write_deeds self.old c b.now) }
+        ensures room { length self.new.told.trace ≤ length self.old.told.trace + 3 * length b.now }
     {
         outs.clear();
         self.terminals.write(c, b, outs);
@@ -58,7 +65,9 @@ impl World {
 
     // What a text says on a console, in order.
     fn take_outs(&mut self, c: ConsoleNo, outs: &[Out])
-        ensures { self.new ≡ all_done self.old (flat_map (out_deeds c) outs.now) }
+        requires { length self.old.told.trace + 3 * length outs.now ≤ TRACE_MARKS }
+        ensures state { self.new ≡ all_done self.old (flat_map (out_deeds c) outs.now) }
+        ensures room { length self.new.told.trace ≤ length self.old.told.trace + 3 * length outs.now }
     {
         for out in outs {
             self.take_out(c, out);
@@ -66,13 +75,15 @@ impl World {
     }
 
     fn take_out(&mut self, c: ConsoleNo, out: &Out)
-        ensures { self.new ≡ all_done self.old (out_deeds c out.now) }
+        requires { length self.old.told.trace + 3 ≤ TRACE_MARKS }
+        ensures state { self.new ≡ all_done self.old (out_deeds c out.now) }
+        ensures room { length self.new.told.trace ≤ length self.old.told.trace + 3 }
     {
         match out {
-            Out::Report(text) => self.inputs.put(c, text.as_slice()),
+            Out::Report(text) => self.put(c, text.as_slice()),
             Out::SwitchTo(n) => self.ask(Wanted::Number(u16::from(*n))),
             Out::SwitchLast => self.ask(Wanted::Last),
-            Out::Lights(lights) => self.inputs.light(c, *lights),
+            Out::Lights(lights) => self.light(c, *lights),
             Out::Bell => {}
         }
     }

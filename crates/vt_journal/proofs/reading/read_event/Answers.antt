@@ -1,13 +1,15 @@
-use Rattle.std.proofs.Common.{ℕ, List, [], length, sym, ap, ◌∙◌, true≢false}
-use Rattle.vt_journal.specs.Kinds.{takes}
+use Rattle.std.proofs.Common.{ℕ, List, [], length, sym, ap, ◌∙◌, subst, true≢false}
 use Rattle.std.proofs.lemmas.List.{append-nil}
+use Rattle.vt_journal.specs.Kinds.{call_of, takes}
 use Rattle.vt_journal.specs.Words.{Spells}
-use Rattle.vt_journal.proofs.Spellings.{bytes_are, cut_parts, held_end, kind_is, none_next, some_next, spelled_once, spells_call, takes_all}
+use Rattle.vt_journal.proofs.Spellings.{bytes_are, cut_kind, fit_bytes, held_end, kind_is, none_next, some_next, spelled_once, spells_call, takes_all}
 use Rattle.vt_journal.proofs.reading.read_event.Goals as goal
 
 pub returns-in_default-clause-none : goal.returns-in_default-clause-none
 returns-in_default-clause-none c =
-    λ e s. c.in_default.ensures.none _ _ (c.of-words.ensures ∙ cut_parts c.args.words.now e s)
+    λ e s.
+    let begins = cut_kind c.args.words.now e s in
+    c.in_default.ensures.none begins.0 begins.1 (c.of-words.ensures ∙ begins.2)
 
 pub returns-in_default-read_numbers-clause-none : goal.returns-in_default-read_numbers-clause-none
 returns-in_default-read_numbers-clause-none c =
@@ -15,7 +17,8 @@ returns-in_default-read_numbers-clause-none c =
     let is =
     kind_is c.args.words.now e c.in-Some.kind c.read_kind.new.words s
     (sym c.of-words.ensures ∙ c.in-Some.ensures.found) in
-    c.in_default-read_numbers.ensures.none _ _ (is.many ∙ sym c.count.ensures.same) s.fit.numbers
+    c.in_default-read_numbers.ensures.none _ _
+    (is.kind.many ∙ sym c.count.ensures.same) s.fit.numbers
     is.words
 
 pub returns-in_default-2-clause-none : goal.returns-in_default-2-clause-none
@@ -27,7 +30,7 @@ returns-in_default-2-clause-none c =
     (sym c.of-words.ensures ∙ c.in-Some.ensures.found) c.in-Some-read_numbers.ensures.found
     (c.in-Some-read_numbers.ensures.many ∙ c.count.ensures.same) c.holds_bytes.ensures in
     let none = rw c.in_default-2.is at c.in_ok-bytes.ensures.none in
-    none _ [] s.fit.bytes (are ∙ sym (append-nil _))
+    none _ [] (fit_bytes e s.fit.bytes) (are ∙ sym (append-nil _))
 
 pub returns-then-is_some-clause-none : goal.returns-then-is_some-clause-none
 returns-then-is_some-clause-none c =
@@ -63,14 +66,20 @@ spelled : (c : goal.After-call) → Spells c.args.words.now c.call.result
 spelled c =
     let found = rw c.in-Some-2.is at c.in_ok-bytes.ensures.found in
     let fit = rw c.in-Some-2.is at c.in_ok-bytes.ensures.fit in
-    spells_call c.args.words.now c.in-Some.kind c.in-Some-read_numbers.numbers.items
-    c.in-Some-2.bytes.bytes c.holds_bytes.result c.call.result c.read_kind.new.words
+    subst (Spells c.args.words.now)
+    (sym
+    (c.call.ensures
+    ∙ ap (λ n. call_of c.in-Some.kind n c.in-Some-2.bytes.bytes) c.as_slice-2.ensures.value))
+    (spells_call c.args.words.now c.in-Some.kind c.in-Some-read_numbers.numbers.items
+    c.in-Some-2.bytes.bytes c.holds_bytes.result c.read_kind.new.words
     c.read_numbers.new.words c.read_bytes.new.words
     (sym c.of-words.ensures ∙ c.in-Some.ensures.found) c.in-Some-read_numbers.ensures.found found
     (none_next c.next.result c.read_bytes.new.words _ c.next.ensures (sym c.if-is_some.ensures))
-    c.holds_bytes.ensures c.call.ensures.kind
-    (c.call.ensures.numbers ∙ c.as_slice-2.ensures.value) c.call.ensures.bytes
-    c.in-Some-read_numbers.ensures.fit fit c.call.ensures.plain
+    (c.in-Some-read_numbers.ensures.many ∙ c.count.ensures.same) c.holds_bytes.ensures
+    (ap (λ (bs : List ℕ). takes c.in-Some.kind (length bs)) (sym c.as_slice.ensures)
+    ∙ sym c.takes.ensures
+    ∙ c.if-not-takes.false)
+    c.in-Some-read_numbers.ensures.fit fit)
 
 pub returns-clause-found : goal.returns-clause-found
 returns-clause-found c = spelled c

@@ -3,7 +3,8 @@ use Rattle.std.specs.Prelude.{is_some}
 use Rattle.vt_world.proofs.Places.{allocated_alike, allocating_same}
 use Rattle.vt_switch.specs.Display.{Display}
 use Rattle.vt_world.specs.Rows.{allocating}
-use Rattle.vt_world.specs.State.{WorldState, all_done}
+use Rattle.vt_world.specs.Deeds.{all_done}
+use Rattle.vt_world.specs.State.{WorldState}
 use Rattle.vt_world.proofs.world.World.allocate.Goals as goal
 
 pub returns-then-allocated : goal.returns-then-allocated
@@ -17,7 +18,7 @@ returns-then-allocated c =
       terminals = inside.terminals;
       inputs = inside.inputs;
       board = inside.board;
-      tables = inside.tables;
+      told = inside.told;
     } in
     subst (λ (v : WorldState). v ≡ all_done v (allocating c.args.c [])) c.self.view_is
     (allocating_same w c.args.c c.self.invariant (sym c.allocated.ensures ∙ c.if-allocated.true))

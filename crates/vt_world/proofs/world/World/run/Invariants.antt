@@ -1,9 +1,13 @@
-use Rattle.std.proofs.Common.{◌≡◌, ◌≤◌, ◌-◌, length, take}
+use Rattle.std.proofs.Common.{◌≡◌, ◌≤◌, ◌-◌, ◌*◌, length, take}
 use Rattle.vt_world.proofs.Writes.{ran}
 use Rattle.vt_world.proofs.world.World.run.Given as goal
 
 abbrev pub invariant-loop-at : goal.invariant-loop-at
-invariant-loop-at l = (l.at ≤ length l.b) × (l.self ≡ ran l.fn.self l.c (take l.at l.b))
+invariant-loop-at l = record {
+  within : l.at ≤ length l.b;
+  done : l.self ≡ ran l.fn.self l.c (take l.at l.b);
+  room : length l.self.told.trace ≤ 3 * l.at;
+}
 
 abbrev pub decreases-loop-at : goal.decreases-loop-at
 decreases-loop-at l = length l.b - l.at

@@ -10,4 +10,4 @@ invariant_of-result c =
     ap (λ (terminals : List (Option TerminalState)). map is_some terminals) c.in_ok-terminals.ensures
     ∙ each_alike c.args.c.now.consoles
     (new_terminal c.args.c.now.size.rows c.args.c.now.size.cols) fresh
-    ∙ sym (ap (λ (d : Display). map is_some d.consoles) c.start-3.ensures)
+    ∙ sym (ap (λ (d : Display). map is_some d.consoles) c.start-4.ensures)

@@ -1,6 +1,9 @@
-use Rattle.std.proofs.Common.{◌≡◌, take}
+use Rattle.std.proofs.Common.{◌≡◌, ◌≤◌, ◌+◌, ◌*◌, length, take}
 use Rattle.vt_world.proofs.Writes.{heard}
 use Rattle.vt_world.proofs.world.World.take_outs.Given as goal
 
 abbrev pub invariant-loop-out : goal.invariant-loop-out
-invariant-loop-out l = l.self ≡ heard l.c (take l.out-index l.outs) l.fn.self
+invariant-loop-out l = record {
+  done : l.self ≡ heard l.c (take l.out-index l.outs) l.fn.self;
+  room : length l.self.told.trace ≤ length l.fn.self.told.trace + 3 * l.out-index;
+}

@@ -1,0 +1,115 @@
+-- The display law of histories from a start.
+use Rattle.std.proofs.Common.{◌≡◌, ℕ, Bool, true, false, true≢false, cond, List, [], ◌∷◌, length, map, get_or, zero, suc, Option, Some, None, is_some, refl, sym, ap, subst, subst₂, ◌∙◌}
+use Rattle.std.specs.List.{range_with_len}
+use Rattle.vt_base.specs.ConsoleSet.{is_among}
+use Rattle.vt_events.specs.declared.entry.Entry.{Entry}
+use Rattle.vt_events.specs.declared.event.Event.{Event}
+use Rattle.vt_procs.specs.Tickets.{settled}
+use Rattle.vt_procs.specs.declared.proc_start.ProcStart.{ProcStart}
+use Rattle.vt_switch.specs.Display.{fresh, or_fresh, owner_of}
+use Rattle.vt_switch.specs.Law.{AllOrdered, DisplayLaw, IsExplained, OwnersLive, OwnersStayLive, TargetLaw}
+use Rattle.vt_switch.specs.Moments.{Core, after_entries, all_after, is_ordered}
+use Rattle.vt_switch.specs.declared.console.Console.{Console}
+use Rattle.vt_world.proofs.Cores.{deeds_core, same_core, settled_kept}
+use Rattle.vt_world.proofs.Orders.{acts_ordered, row_ordered}
+use Rattle.vt_world.proofs.Steps.{by_step}
+use Rattle.vt_world.specs.Acts.{all_acts, event_acts, history_acts}
+use Rattle.vt_world.specs.Deeds.{Deed, all_done}
+use Rattle.vt_world.specs.Heard.{cleared}
+use Rattle.vt_world.specs.History.{replay}
+use Rattle.vt_world.specs.Laws.{ActsMakeCores, DisplaysAreLawful, IsStart, OwnersAreLive, TargetsAreExplained, moments}
+use Rattle.vt_world.specs.Rows.{row}
+use Rattle.vt_world.specs.Start.{opening}
+use Rattle.vt_world.specs.State.{WorldState, core}
+use Rattle.vt_world.specs.Step.{Outcome, step}
+use Rattle.key_tables.specs.Tables.{Tables}
+
+pub acts-make-cores : ActsMakeCores
+acts-make-cores w p e =
+    by_step
+    (λ (deeds : List Deed) (after : Outcome).
+    core after.world ≡ all_after (core w) (all_acts (cleared w) deeds))
+    w p e (λ errno. refl)
+    (λ accepted.
+    let deeds : List Deed = (row (cleared w) p e).deeds in
+    let end : WorldState = all_done (cleared w) deeds in
+    same_core end (settled end.callers) (settled_kept end.callers) ∙ deeds_core (cleared w) deeds)
+
+event_ordered : (w : WorldState) (p : ℕ) (e : Event) → is_ordered false (event_acts w p e) ≡ true
+event_ordered w p e =
+    by_step
+    (λ (deeds : List Deed) (after : Outcome).
+    is_ordered false (all_acts (cleared w) deeds) ≡ true)
+    w p e (λ errno. refl)
+    (λ accepted.
+    acts_ordered false (cleared w) (row (cleared w) p e).deeds (row_ordered (cleared w) p e))
+
+history_ordered : (w : WorldState) (entries : List Entry) → AllOrdered (history_acts w entries)
+history_ordered w [] = tt
+history_ordered w (entry ∷ entries) = (
+  event_ordered w entry.caller entry.event,
+  history_ordered (step w entry.caller entry.event).world entries,
+)
+
+replay_core : (w : WorldState) (entries : List Entry)
+    → after_entries (core w) (history_acts w entries) ≡ core (replay w entries)
+replay_core w [] = refl
+replay_core w (entry ∷ entries) =
+    let next : WorldState = (step w entry.caller entry.event).world in
+    ap (λ (k : Core). after_entries k (history_acts next entries))
+    (sym (acts-make-cores w entry.caller entry.event))
+    ∙ replay_core next entries
+
+acts_length : (w : WorldState) (entries : List Entry)
+    → length (history_acts w entries) ≡ length entries
+acts_length w [] = refl
+acts_length w (entry ∷ entries) =
+    ap suc (acts_length (step w entry.caller entry.event).world entries)
+
+-- at a start every console is fresh
+fresh_if : (b : Bool) → or_fresh (cond b (Some fresh) None) ≡ fresh
+fresh_if true = refl
+fresh_if false = refl
+
+all_fresh : (consoles : ℕ) (numbers : List ℕ) (c : ℕ)
+    → or_fresh (get_or (map (λ n. cond (is_among consoles n) (Some fresh) None) numbers) c None)
+    ≡ fresh
+all_fresh consoles [] c = refl
+all_fresh consoles (n ∷ numbers) zero = fresh_if (is_among consoles n)
+all_fresh consoles (n ∷ numbers) (suc c) = all_fresh consoles numbers c
+
+nobody : {X : Type 0} (p : ℕ) → None ≡ Some p → X
+nobody p same = absurd (true≢false (sym (ap (λ (o : Option ℕ). is_some o) same)))
+
+opening_owners : (rows cols consoles front : ℕ) (processes : List ProcStart) (tables : Tables)
+    → OwnersLive (core (opening rows cols consoles front processes tables))
+opening_owners rows cols consoles front processes tables c p owned =
+    nobody p
+    (sym (ap (λ (place : Console). owner_of place.handling)
+    (all_fresh consoles (range_with_len 0 64) c))
+    ∙ owned)
+
+start_owners : (w : WorldState) → IsStart w → OwnersLive (core w)
+start_owners w start =
+    subst (λ (x : WorldState). OwnersLive (core x)) (sym start.opened)
+    (opening_owners start.rows start.cols start.consoles start.front start.processes start.tables)
+
+nothing_waits : (w : WorldState) → IsStart w → w.display.pending ≡ None
+nothing_waits w start = ap (λ (x : WorldState). x.display.pending) start.opened
+
+pub displays-are-lawful : DisplayLaw → DisplaysAreLawful
+displays-are-lawful law w entries start =
+    law (core w) (history_acts w entries) (start_owners w start) (nothing_waits w start)
+    (history_ordered w entries)
+
+pub targets-are-explained : TargetLaw → TargetsAreExplained
+targets-are-explained law w entries start =
+    subst₂ (λ (i : ℕ) (k : Core). IsExplained i k (moments w entries))
+    (acts_length w entries) (replay_core w entries)
+    (law (core w) (history_acts w entries) (start_owners w start) (nothing_waits w start)
+    (history_ordered w entries))
+
+pub owners-are-live : OwnersStayLive → OwnersAreLive
+owners-are-live law w entries start =
+    subst OwnersLive (replay_core w entries)
+    (law (core w) (history_acts w entries) (start_owners w start))

@@ -1,0 +1,49 @@
+-- Who lives after a mark, and what a hop tells.
+use Rattle.std.proofs.Common.{◌≡◌, ℕ, List, [], ◌∷◌, map, Option, Some, refl, sym, ap, ◌∙◌}
+use Rattle.std.proofs.lemmas.List.{map-set}
+use Rattle.std.specs.Prelude.{Bool, false, slice_set}
+use Rattle.vt_procs.specs.Callers.{caller_at, gone}
+use Rattle.vt_procs.specs.Tickets.{shown}
+use Rattle.vt_procs.specs.declared.process.Process.{Process}
+use Rattle.vt_switch.specs.Display.{console}
+use Rattle.vt_switch.specs.Moments.{Core, hop_marks, raise, raise_acquire}
+use Rattle.vt_switch.specs.declared.handling.Handling.{Handling}
+use Rattle.vt_switch.specs.declared.handling.Handling.TheVariants.{Process as HandledBy}
+use Rattle.vt_switch.specs.declared.handshake.Handshake.{Handshake}
+use Rattle.vt_switch.specs.declared.hop.Hop.{Hop}
+use Rattle.vt_switch.specs.declared.mark.Mark.TheVariants as mark
+use Rattle.vt_world.specs.Heard.{heard, tell}
+use Rattle.vt_world.specs.State.{WorldState, core}
+
+abbrev pub lives : List Process → List Bool
+lives list = map (λ (caller : Process). caller.live) list
+
+-- a hop ends tickets, and leaves who lives
+lives-shown : (c : ℕ) (accepter : Option (ℕ × ℕ)) (list : List Process)
+    → lives (shown c (record { list = list; accepter = accepter })).list ≡ lives list
+lives-shown c accepter [] = refl
+lives-shown c accepter (caller ∷ list) =
+    ap (λ more. caller.live ∷ more) (lives-shown c accepter list)
+
+pub core-hop : (w : WorldState) (hop : Hop) → core (heard w (mark.Hopped hop)) ≡ core w
+core-hop w hop =
+    λ i. record { display = w.display; live = lives-shown hop.to w.callers.accepter w.callers.list i }
+
+-- who ended is dead
+pub core-end : (w : WorldState) (p : ℕ)
+    → core (heard w (mark.Ended p)) ≡ record (core w) { live = slice_set (core w).live p false }
+core-end w p = λ i. record {
+  display = w.display;
+  live = map-set (λ (caller : Process). caller.live) w.callers.list p (gone (caller_at w.callers p)) i;
+}
+
+-- a hop and the acquire signal behind it are what a hop tells
+pub hop-told : (w v : WorldState) (hop : Hop) (handshake : Handshake)
+    → v ≡ heard w (mark.Hopped hop)
+    → (console w.display hop.to).handling ≡ HandledBy handshake
+    → tell v (raise (core v) handshake.owner handshake.acqsig) ≡ tell w (hop_marks (core w) (Some hop))
+hop-told w v hop handshake heard_it handling =
+    let after : WorldState = heard w (mark.Hopped hop) in
+    ap (λ (u : WorldState). tell u (raise (core u) handshake.owner handshake.acqsig)) heard_it
+    ∙ ap (λ (k : Core). tell after (raise k handshake.owner handshake.acqsig)) (core-hop w hop)
+    ∙ ap (λ (h : Handling). tell after (raise_acquire (core w) h)) (sym handling)

@@ -1,0 +1,300 @@
+-- The screen law of histories from a start.
+use Rattle.std.proofs.Common.{◌≡◌, ◌<◌, ℕ, zero, suc, Bool, true, false, true≢false, cond, List, [], ◌∷◌, length, get_or, map, set, Option, Some, None, is_some, refl, sym, ap, subst, ◌∙◌}
+use Rattle.std.proofs.Math.ListN.{get_or-map}
+use Rattle.std.proofs.lemmas.List.{get_or-set_other, get_or-set_same, length-set}
+use Rattle.std.specs.List.{range_with_len}
+use Rattle.std.specs.Prelude.{◌==◌, option_map}
+use Rattle.key_tables.specs.Tables.{Tables}
+use Rattle.vt_base.specs.ConsoleSet.{is_among}
+use Rattle.vt_events.specs.declared.entry.Entry.{Entry}
+use Rattle.vt_events.specs.declared.event.Event.{Event}
+use Rattle.vt_procs.specs.declared.proc_start.ProcStart.{ProcStart}
+use Rattle.vt_screen.specs.Run.{after, start}
+use Rattle.vt_screen.specs.Screen.{Screen}
+use Rattle.vt_screen.specs.Tape.{AnyTapeCut, Mark, StretchesRun, byte, mark, with_mark}
+use Rattle.vt_switch.specs.Acts.{SwitchAct, Request}
+use Rattle.vt_switch.specs.Display.{Display, fresh, is_allocated}
+use Rattle.vt_switch.specs.Moments.{core_after, marks, raise}
+use Rattle.vt_switch.specs.declared.mark.Mark as told
+use Rattle.vt_units.specs.Run.{Reached}
+use Rattle.vt_world.proofs.Allocation.{start_has, step_keeps}
+use Rattle.vt_world.proofs.Reruns.{tape_marks, tape_writes}
+use Rattle.vt_world.proofs.Steps.{by_step}
+use Rattle.vt_world.proofs.Taping.{Tape, accepted_tape, begun, refused_tape, tape_by, tape_of_deeds, taped}
+use Rattle.vt_world.proofs.Truths.{equal, unequal}
+use Rattle.vt_world.specs.Deeds.{Deed, By, Asks, Own, OwnDeed, Starts, Clears, Writes, Alters, Raises, acted, all_done, done, own_done, requested}
+use Rattle.vt_world.specs.Heard.{cleared, heard, tell}
+use Rattle.vt_world.specs.History.{replay}
+use Rattle.vt_world.specs.Laws.{IsStart, ScreensAreTapes}
+use Rattle.vt_world.specs.Rows.{row}
+use Rattle.vt_world.specs.Start.{opening}
+use Rattle.vt_world.specs.State.{WorldState, HasTerminals, core}
+use Rattle.vt_world.specs.Step.{Outcome, step}
+use Rattle.vt_world.specs.Tapes.{accepted_items, items_of, screen_of, tape_after, tape_from, unless_refused}
+use Rattle.vt_world.specs.Terminals.{TerminalState, altered_by, machine_of, new_terminal, or_new, terminal_at, written_on}
+use Rattle.vt_world.specs.Wanted.{wanted_in}
+
+-- the laws of runs that the proof stands on
+record RunLaws : Type 0 where
+  stretches : StretchesRun
+  cuts : AnyTapeCut
+
+-- a terminal shows a tape
+abbrev Shows : ℕ → ℕ → Option TerminalState → Tape → Type 0
+Shows rows cols terminal tape = machine_of terminal ≡ option_map (screen_of rows cols) tape
+
+-- new screens have this size, console c has a place, and it shows this tape
+record IsShown (rows cols c new_rows new_cols : ℕ) (terminals : List (Option TerminalState)) (tape : Tape) : Type 0 where
+  rows_are : new_rows ≡ rows
+  cols_are : new_cols ≡ cols
+  room : c < length terminals
+  shows : Shows rows cols (terminal_at terminals c) tape
+
+abbrev ShownIn : ℕ → ℕ → ℕ → WorldState → Tape → Type 0
+ShownIn rows cols c w tape = IsShown rows cols c w.rows w.cols w.terminals tape
+
+machine_or : Reached Screen → Option (Reached Screen) → Reached Screen
+machine_or m None = m
+machine_or m (Some other) = other
+
+same_machine : (a b : Reached Screen) → Some a ≡ Some b → a ≡ b
+unfolding machine_or
+same_machine a b same = ap (machine_or a) same
+
+no_machine : {X : Type 0} (a : Reached Screen) → None ≡ Some a → X
+no_machine a same =
+    absurd (true≢false (sym (ap (λ (m : Option (Reached Screen)). is_some m) same)))
+
+-- what each change of a terminal and of its tape keeps
+abbrev Keeps : ℕ → ℕ → (Option TerminalState → Option TerminalState) → (Tape → Tape) → Type 0
+Keeps rows cols change add =
+    (terminal : Option TerminalState) (tape : Tape) → Shows rows cols terminal tape
+    → Shows rows cols (change terminal) (add tape)
+
+starts_show : (rows cols new_rows new_cols : ℕ) → new_rows ≡ rows → new_cols ≡ cols
+    → Keeps rows cols (λ terminal. Some (or_new new_rows new_cols terminal)) begun
+starts_show rows cols new_rows new_cols rows_are cols_are None None shows =
+    ap (λ r. machine_of (Some (new_terminal r new_cols))) rows_are
+    ∙ ap (λ k. machine_of (Some (new_terminal rows k))) cols_are
+starts_show rows cols new_rows new_cols rows_are cols_are None (Some tape) shows =
+    no_machine (screen_of rows cols tape) shows
+starts_show rows cols new_rows new_cols rows_are cols_are (Some t) None shows =
+    no_machine t.machine (sym shows)
+starts_show rows cols new_rows new_cols rows_are cols_are (Some t) (Some tape) shows = shows
+
+clears_show : (rows cols : ℕ) → Keeps rows cols (λ terminal. None) (λ tape. None)
+clears_show rows cols terminal tape shows = refl
+
+writes_show : RunLaws → (rows cols : ℕ) (bytes : List ℕ)
+    → Keeps rows cols (option_map (written_on bytes)) (taped (map byte bytes))
+writes_show laws rows cols bytes None None shows = refl
+writes_show laws rows cols bytes None (Some tape) shows =
+    no_machine (screen_of rows cols tape) shows
+writes_show laws rows cols bytes (Some t) None shows = no_machine t.machine (sym shows)
+writes_show laws rows cols bytes (Some t) (Some tape) shows =
+    ap (λ (m : Reached Screen). Some (after m bytes))
+    (same_machine t.machine (screen_of rows cols tape) shows)
+    ∙ ap (λ (m : Reached Screen). Some m)
+    (tape_writes laws.stretches laws.cuts rows cols tape bytes)
+
+alters_show : RunLaws → (rows cols : ℕ) (m : Mark)
+    → Keeps rows cols (option_map (altered_by m)) (taped (mark m ∷ []))
+alters_show laws rows cols m None None shows = refl
+alters_show laws rows cols m None (Some tape) shows = no_machine (screen_of rows cols tape) shows
+alters_show laws rows cols m (Some t) None shows = no_machine t.machine (sym shows)
+alters_show laws rows cols m (Some t) (Some tape) shows =
+    ap (λ (at : Reached Screen). Some (with_mark m at))
+    (same_machine t.machine (screen_of rows cols tape) shows)
+    ∙ ap (λ (at : Reached Screen). Some at) (tape_marks laws.cuts rows cols tape m)
+
+-- such a change at console n, as console c sees it
+abbrev changed : (Option TerminalState → Option TerminalState) → ℕ → List (Option TerminalState)
+    → List (Option TerminalState)
+changed change n terminals = set terminals n (change (terminal_at terminals n))
+
+seen_change : (rows cols c n : ℕ) (here : Bool) (change : Option TerminalState → Option TerminalState)
+    (add : Tape → Tape) (terminals : List (Option TerminalState)) (tape : Tape)
+    → (n == c) ≡ here → c < length terminals → Keeps rows cols change add
+    → Shows rows cols (terminal_at terminals c) tape
+    → Shows rows cols (terminal_at (changed change n terminals) c) (cond here (add tape) tape)
+seen_change rows cols c n true change add terminals tape is room keeps shows =
+    ap (λ k. machine_of (terminal_at (changed change k terminals) c)) (equal n c is)
+    ∙ ap machine_of
+    (get_or-set_same terminals c (change (terminal_at terminals c)) None room)
+    ∙ keeps (terminal_at terminals c) tape shows
+seen_change rows cols c n false change add terminals tape is room keeps shows =
+    ap machine_of
+    (get_or-set_other terminals n c (change (terminal_at terminals n)) None (unequal n c is))
+    ∙ shows
+
+is_changed : (rows cols c n new_rows new_cols : ℕ)
+    (change : Option TerminalState → Option TerminalState) (add : Tape → Tape)
+    (terminals : List (Option TerminalState)) (tape : Tape) → Keeps rows cols change add
+    → IsShown rows cols c new_rows new_cols terminals tape
+    → IsShown rows cols c new_rows new_cols (changed change n terminals)
+    (cond (n == c) (add tape) tape)
+is_changed rows cols c n new_rows new_cols change add terminals tape keeps shown = record {
+  rows_are = shown.rows_are;
+  cols_are = shown.cols_are;
+  room = subst (λ k. c < k)
+      (sym (length-set terminals n (change (terminal_at terminals n)))) shown.room;
+  shows = seen_change rows cols c n (n == c) change add terminals tape refl shown.room keeps
+      shown.shows;
+}
+
+tell_shows : (rows cols c : ℕ) (w : WorldState) (tape : Tape) (marks : List told.Mark)
+    → ShownIn rows cols c w tape → ShownIn rows cols c (tell w marks) tape
+tell_shows rows cols c w tape [] shown = shown
+tell_shows rows cols c w tape (m ∷ marks) shown =
+    tell_shows rows cols c (heard w m) tape marks shown
+
+acted_shows : (rows cols c : ℕ) (w : WorldState) (tape : Tape) (act : SwitchAct)
+    → ShownIn rows cols c w tape → ShownIn rows cols c (acted w act) tape
+acted_shows rows cols c w tape act shown =
+    let display : Display = (core_after (core w) act).display in
+    tell_shows rows cols c (record w { display = display }) tape (marks (core w) act) shown
+
+requested_shows : (rows cols c : ℕ) (w : WorldState) (tape : Tape) (wanted : Option ℕ)
+    → ShownIn rows cols c w tape → ShownIn rows cols c (requested w wanted) tape
+requested_shows rows cols c w tape None shown = shown
+requested_shows rows cols c w tape (Some n) shown = acted_shows rows cols c w tape (Request n) shown
+
+own_shows : RunLaws → (rows cols c : ℕ) (w : WorldState) (tape : Tape) (deed : OwnDeed)
+    → ShownIn rows cols c w tape → ShownIn rows cols c (own_done w deed) (tape_by c tape deed)
+own_shows laws rows cols c w tape (Starts n) shown =
+    is_changed rows cols c n w.rows w.cols (λ terminal. Some (or_new w.rows w.cols terminal)) begun
+    w.terminals tape (starts_show rows cols w.rows w.cols shown.rows_are shown.cols_are) shown
+own_shows laws rows cols c w tape (Clears n) shown =
+    is_changed rows cols c n w.rows w.cols (λ terminal. None) (λ tape. None) w.terminals tape
+    (clears_show rows cols) shown
+own_shows laws rows cols c w tape (Writes n bytes) shown =
+    is_changed rows cols c n w.rows w.cols (option_map (written_on bytes)) (taped (map byte bytes))
+    w.terminals tape (writes_show laws rows cols bytes) shown
+own_shows laws rows cols c w tape (Alters n m) shown =
+    is_changed rows cols c n w.rows w.cols (option_map (altered_by m)) (taped (mark m ∷ []))
+    w.terminals tape (alters_show laws rows cols m) shown
+own_shows laws rows cols c w tape (Raises p signal) shown =
+    tell_shows rows cols c w tape (raise (core w) p signal) shown
+own_shows laws rows cols c w tape deed shown = shown
+
+deeds_show : RunLaws → (rows cols c : ℕ) (w : WorldState) (tape : Tape) (deeds : List Deed)
+    → ShownIn rows cols c w tape
+    → ShownIn rows cols c (all_done w deeds) (tape_of_deeds c tape deeds)
+deeds_show laws rows cols c w tape [] shown = shown
+deeds_show laws rows cols c w tape (By act ∷ deeds) shown =
+    deeds_show laws rows cols c (acted w act) tape deeds (acted_shows rows cols c w tape act shown)
+deeds_show laws rows cols c w tape (Asks wanted ∷ deeds) shown =
+    deeds_show laws rows cols c (done w (Asks wanted)) tape deeds
+    (requested_shows rows cols c w tape (wanted_in w.display wanted) shown)
+deeds_show laws rows cols c w tape (Own deed ∷ deeds) shown =
+    deeds_show laws rows cols c (own_done w deed) (tape_by c tape deed) deeds
+    (own_shows laws rows cols c w tape deed shown)
+
+-- a tape is there where the console is allocated
+machine_there : (terminal : Option TerminalState) → is_some (machine_of terminal) ≡ is_some terminal
+machine_there None = refl
+machine_there (Some t) = refl
+
+screen_there : (rows cols : ℕ) (tape : Tape)
+    → is_some tape ≡ is_some (option_map (screen_of rows cols) tape)
+screen_there rows cols None = refl
+screen_there rows cols (Some items) = refl
+
+allocated_there : (w : WorldState) (c : ℕ) → HasTerminals w
+    → is_some (terminal_at w.terminals c) ≡ is_allocated w.display c
+allocated_there w c has =
+    sym (get_or-map is_some w.terminals c None)
+    ∙ ap (λ (list : List Bool). get_or list c false) has
+    ∙ get_or-map is_some w.display.consoles c None
+
+tape_there : (rows cols c : ℕ) (w : WorldState) (tape : Tape) → HasTerminals w
+    → ShownIn rows cols c w tape → is_some tape ≡ is_allocated w.display c
+tape_there rows cols c w tape has shown =
+    screen_there rows cols tape
+    ∙ sym (ap (λ (m : Option (Reached Screen)). is_some m) shown.shows)
+    ∙ machine_there (terminal_at w.terminals c) ∙ allocated_there w c has
+
+-- an event
+abbrev Follows : ℕ → ℕ → ℕ → WorldState → ℕ → Event → Tape → Outcome → Type 0
+Follows rows cols c w p e tape after =
+    ShownIn rows cols c after.world
+    (tape_after (is_allocated after.world.display c)
+    (unless_refused after.reply (items_of w p c e)) tape)
+
+follow : RunLaws → (rows cols c : ℕ) (w : WorldState) (p : ℕ) (e : Event) (tape : Tape)
+    → HasTerminals w → ShownIn rows cols c w tape
+    → HasTerminals (step w p e).world → Follows rows cols c w p e tape (step w p e)
+follow laws rows cols c w p e tape has shown =
+    by_step
+    (λ (deeds : List Deed) (after : Outcome).
+    HasTerminals after.world → Follows rows cols c w p e tape after)
+    w p e
+    (λ errno still.
+    subst (ShownIn rows cols c w)
+    (refused_tape tape (is_allocated w.display c) (tape_there rows cols c w tape has shown)) shown)
+    (λ accepted still.
+    let v : WorldState = cleared w in
+    let deeds : List Deed = (row v p e).deeds in
+    let end : WorldState = all_done v deeds in
+    let new : Tape = tape_of_deeds c tape deeds in
+    let shown_after : ShownIn rows cols c end new = deeds_show laws rows cols c v tape deeds shown in
+    subst (ShownIn rows cols c end)
+    (accepted_tape c tape v p e (is_allocated end.display c)
+    (tape_there rows cols c end new still shown_after))
+    shown_after)
+
+replay_shows : RunLaws → (rows cols c : ℕ) (w : WorldState) (tape : Tape) (entries : List Entry)
+    → HasTerminals w → ShownIn rows cols c w tape
+    → ShownIn rows cols c (replay w entries) (tape_from c tape w entries)
+replay_shows laws rows cols c w tape [] has shown = shown
+replay_shows laws rows cols c w tape (entry ∷ entries) has shown =
+    let p : ℕ = entry.caller in
+    let next : WorldState = (step w p entry.event).world in
+    let still : HasTerminals next = step_keeps w p entry.event has in
+    replay_shows laws rows cols c next
+    (tape_after (is_allocated next.display c) (accepted_items w p c entry.event) tape) entries still
+    (follow laws rows cols c w p entry.event tape has shown still)
+
+-- at a start
+new_if : (b : Bool) (rows cols : ℕ)
+    → Shows rows cols (cond b (Some (new_terminal rows cols)) None)
+    (tape_after (is_some (cond b (Some fresh) None)) [] None)
+new_if true rows cols = refl
+new_if false rows cols = refl
+
+new_shows : (rows cols consoles : ℕ) (numbers : List ℕ) (c : ℕ)
+    → Shows rows cols
+    (get_or (map (λ n. cond (is_among consoles n) (Some (new_terminal rows cols)) None) numbers) c None)
+    (tape_after
+    (is_some (get_or (map (λ n. cond (is_among consoles n) (Some fresh) None) numbers) c None)) []
+    None)
+new_shows rows cols consoles [] c = refl
+new_shows rows cols consoles (n ∷ numbers) zero = new_if (is_among consoles n) rows cols
+new_shows rows cols consoles (n ∷ numbers) (suc c) = new_shows rows cols consoles numbers c
+
+opening_shows : (rows cols consoles front : ℕ) (processes : List ProcStart) (tables : Tables)
+    (c : ℕ) → c < 64
+    → ShownIn rows cols c (opening rows cols consoles front processes tables)
+    (tape_after (is_allocated (opening rows cols consoles front processes tables).display c) [] None)
+opening_shows rows cols consoles front processes tables c within = record {
+  rows_are = refl;
+  cols_are = refl;
+  room = within;
+  shows = new_shows rows cols consoles (range_with_len 0 64) c;
+}
+
+start_shows : (w : WorldState) (start : IsStart w) (c : ℕ) → c < 64
+    → ShownIn start.rows start.cols c w (tape_after (is_allocated w.display c) [] None)
+start_shows w start c within =
+    subst
+    (λ (x : WorldState).
+    ShownIn start.rows start.cols c x (tape_after (is_allocated x.display c) [] None))
+    (sym start.opened)
+    (opening_shows start.rows start.cols start.consoles start.front start.processes start.tables c
+    within)
+
+pub screens-are-tapes : StretchesRun → AnyTapeCut → ScreensAreTapes
+screens-are-tapes stretches cuts w entries start c within =
+    (replay_shows (record { stretches = stretches; cuts = cuts }) start.rows start.cols c w
+    (tape_after (is_allocated w.display c) [] None) entries (start_has w start)
+    (start_shows w start c within)).shows

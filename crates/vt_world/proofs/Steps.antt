@@ -1,0 +1,43 @@
+-- A step, by its cases: the event is refused, or nothing refuses it.
+use Rattle.std.proofs.Common.{◌≡◌, ℕ, List, [], Option, Some, None, refl}
+use Rattle.vt_base.specs.declared.errno.Errno.{Errno}
+use Rattle.vt_events.specs.declared.event.Event.{Event}
+use Rattle.vt_events.specs.declared.reply.Reply.TheVariants as reply
+use Rattle.vt_world.specs.Acts.{deeds_after, deeds_unless, event_deeds}
+use Rattle.vt_world.specs.Deeds.{Deed, all_done}
+use Rattle.vt_world.specs.Heard.{cleared}
+use Rattle.vt_world.specs.Rows.{Row, row}
+use Rattle.vt_world.specs.State.{WorldState}
+use Rattle.vt_world.specs.Step.{Outcome, after_common, answered, step, with_idle_rule}
+use Rattle.vt_world.specs.Tests.{common_tests, first_failing, own_tests}
+
+abbrev refusal : WorldState → Errno → Outcome
+refusal w errno = record { world = w; reply = reply.Err errno }
+
+-- what a row leaves and answers
+abbrev pub outcome : WorldState → Row → Outcome
+outcome w r = record { world = with_idle_rule (all_done w r.deeds); reply = r.reply }
+
+by_answer : (P : List Deed → Outcome → Type 0) (w : WorldState) (r : Row)
+    (refused : Option Errno) → ((errno : Errno) → P [] (refusal w errno))
+    → (refused ≡ None → P r.deeds (outcome w r))
+    → P (deeds_unless refused r.deeds) (answered w refused r)
+by_answer P w r (Some errno) nothing all = nothing errno
+by_answer P w r None nothing all = all refl
+
+by_common : (P : List Deed → Outcome → Type 0) (w : WorldState) (p : ℕ) (e : Event)
+    (refused : Option Errno) → ((errno : Errno) → P [] (refusal w errno))
+    → (first_failing (own_tests w p e) ≡ None → P (row w p e).deeds (outcome w (row w p e)))
+    → P (deeds_after w p e refused) (after_common w p e refused)
+by_common P w p e (Some errno) nothing all = nothing errno
+by_common P w p e None nothing all =
+    by_answer P w (row w p e) (first_failing (own_tests w p e)) nothing all
+
+-- what holds where an event is refused, and where the deeds of its row are done, holds of a step
+pub by_step : (P : List Deed → Outcome → Type 0) (w : WorldState) (p : ℕ) (e : Event)
+    → ((errno : Errno) → P [] (refusal (cleared w) errno))
+    → (first_failing (own_tests (cleared w) p e) ≡ None
+    → P (row (cleared w) p e).deeds (outcome (cleared w) (row (cleared w) p e)))
+    → P (event_deeds (cleared w) p e) (step w p e)
+by_step P w p e nothing all =
+    by_common P (cleared w) p e (first_failing (common_tests (cleared w) p e)) nothing all

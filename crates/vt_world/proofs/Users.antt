@@ -1,0 +1,44 @@
+-- The attention key ends its users one by one.
+use Rattle.std.proofs.Common.{◌≡◌, ◌≤◌, ◌<◌, ℕ, zero, suc, ◌+◌, ◌-◌, Bool, true, false, cond, List, [], ◌∷◌, get_or, set, length, refl, sym, ap, ◌∙◌, arith, ◌⊎◌, ⊎_elim}
+use Rattle.std.proofs.lemmas.Bool.{cases_lt}
+use Rattle.std.proofs.lemmas.Grind.{get_or-set_at}
+use Rattle.std.proofs.lemmas.List.{get_or-set_other}
+use Rattle.std.specs.List.{range_with_len}
+use Rattle.std.specs.Prelude.{filter}
+use Rattle.vt_switch.specs.Acts.{End}
+use Rattle.vt_world.specs.Deeds.{By, Deed, all_done, done}
+use Rattle.vt_world.specs.State.{WorldState}
+use Rattle.vt_world.specs.Typing.{ends_of}
+use Rattle.vt_world.proofs.Requests.{range-first}
+
+-- one flag more
+pub flags-more : (f : ℕ → Bool) (flags : List Bool) (n : ℕ) (b : Bool) → n < length flags → b ≡ f n
+    → ((k : ℕ) → k < n → get_or flags k false ≡ f k)
+    → (k : ℕ) → k < n + 1 → get_or (set flags n b) k false ≡ f k
+flags-more f flags n b inside is before k within = ⊎_elim
+    (λ below. get_or-set_other flags n k b false (omega (arith, below)) ∙ before k below)
+    (λ above.
+    let here : k ≡ n = omega (arith, above, within) in
+    get_or-set_at flags n k b false here inside ∙ is ∙ ap f (sym here))
+    (cases_lt k n)
+
+abbrev pub users_from : (ℕ → Bool) → ℕ → List ℕ
+users_from f p = filter f (range_with_len p (65 - p))
+
+-- the callers from p on that pass: p itself, if it does, and those above
+users-next : (f : ℕ → Bool) (p : ℕ) → p < 65
+    → users_from f p ≡ cond (f p) (p ∷ users_from f (p + 1)) (users_from f (p + 1))
+users-next f p within = ap (filter f) (range-first p p 65 within)
+
+either-ends : (b : Bool) (p : ℕ) (ps : List ℕ) (deeds : List Deed) (w v : WorldState)
+    → v ≡ cond b (done w (By (End p))) w
+    → all_done w (ends_of (cond b (p ∷ ps) ps) deeds) ≡ all_done v (ends_of ps deeds)
+either-ends true p ps deeds w v is = ap (λ (u : WorldState). all_done u (ends_of ps deeds)) (sym is)
+either-ends false p ps deeds w v is = ap (λ (u : WorldState). all_done u (ends_of ps deeds)) (sym is)
+
+pub ends-next : (f : ℕ → Bool) (p : ℕ) → p < 65 → (deeds : List Deed) (w v : WorldState)
+    → v ≡ cond (f p) (done w (By (End p))) w
+    → all_done v (ends_of (users_from f (p + 1)) deeds) ≡ all_done w (ends_of (users_from f p) deeds)
+ends-next f p within deeds w v is =
+    sym (ap (λ (ps : List ℕ). all_done w (ends_of ps deeds)) (users-next f p within)
+    ∙ either-ends (f p) p (users_from f (p + 1)) deeds w v is)

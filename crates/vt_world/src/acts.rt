@@ -1,0 +1,97 @@
+//! The acts of the switch on a world: each is done, and told.
+ghost use Rattle.std.specs.Prelude.{◌≡◌, ◌+◌, ◌≤◌, true, length};
+ghost use Rattle.vt_procs.specs.Callers.{is_live};
+ghost use Rattle.vt_switch.specs.Acts.{End, Lock, Release, Request, SetKd, SetMode};
+ghost use Rattle.vt_switch.specs.Calls.{handling_of, mode_answer, released};
+ghost use Rattle.vt_switch.specs.Moments.{hop_marks};
+ghost use Rattle.vt_world.specs.Deeds.{By, done};
+ghost use Rattle.vt_world.specs.Heard.{tell};
+ghost use Rattle.vt_world.specs.State.{core};
+ghost use Rattle.vt_world.specs.Tests.{is_taken};
+
+use crate::World;
+use crate::told::TRACE_MARKS;
+use vt_base::{CallerNo, ConsoleNo, VtMode};
+use vt_switch::{Asked, Hop};
+
+impl World {
+    /// Requests the display for the console, if that is allocated.
+    pub(crate) fn request(&mut self, n: ConsoleNo)
+        requires { length self.old.told.trace + 3 ≤ TRACE_MARKS }
+        ensures state { self.new ≡ done self.old (By (Request n)) }
+        ensures room { length self.new.told.trace ≤ length self.old.told.trace + 3 }
+    {
+        let allocated = self.switch.allocated(n);
+        let asked = self.switch.request(n);
+        if !allocated {
+            return;
+        }
+        self.hear_asked(n);
+        match &asked {
+            Asked::Hopped(hop) => self.hopped(hop),
+            Asked::Signalled { owner, signal } => self.raise(*owner, *signal),
+            Asked::Ignored => {}
+        }
+    }
+
+    /// The answer of `p` for the console, and whether it makes sense.
+    pub(crate) fn release_console(&mut self, c: ConsoleNo, p: CallerNo, arg: u16) -> bool
+        requires { length self.old.told.trace + 2 ≤ TRACE_MARKS }
+        ensures accepted { result ≡ is_taken (released self.old.display c p arg) }
+        ensures state { self.new ≡ done self.old (By (Release c p arg)) }
+    {
+        match self.switch.release(c, p, arg) {
+            Ok(hop) => {
+                self.hopped_if(&hop);
+                true
+            }
+            Err(_) => false,
+        }
+    }
+
+    /// Sets who handles the switches of the console, as a live caller asks for, and whether that
+    /// makes sense.
+    pub(crate) fn handle(&mut self, c: ConsoleNo, p: CallerNo, m: VtMode) -> bool
+        requires { is_live self.old.callers p ≡ true }
+        ensures accepted { result ≡ is_taken (mode_answer (handling_of p m)) }
+        ensures state { self.new ≡ done self.old (By (SetMode c p m)) }
+    {
+        self.switch.set_mode(c, p, m).is_ok()
+    }
+
+    /// The console shows graphics, or text.
+    pub(crate) fn show(&mut self, c: ConsoleNo, graphics: bool)
+        ensures { self.new ≡ done self.old (By (SetKd c graphics)) }
+    {
+        self.switch.set_kd(c, graphics);
+    }
+
+    /// Whether no request is taken from here on.
+    pub(crate) fn lock(&mut self, on: bool)
+        ensures { self.new ≡ done self.old (By (Lock on)) }
+    {
+        self.switch.set_lock(on);
+    }
+
+    /// The end of a caller.
+    pub(crate) fn end(&mut self, p: CallerNo)
+        requires { length self.old.told.trace + 3 ≤ TRACE_MARKS }
+        ensures state { self.new ≡ done self.old (By (End p)) }
+        ensures room { length self.new.told.trace ≤ length self.old.told.trace + 3 }
+    {
+        let hop = self.switch.leave(p);
+        self.hear_end(p);
+        self.hopped_if(&hop);
+    }
+
+    // The display changed hands, if it did.
+    fn hopped_if(&mut self, hop: &Option<Hop>)
+        requires { length self.old.told.trace + 2 ≤ TRACE_MARKS }
+        ensures state { self.new ≡ tell self.old (hop_marks (core self.old) hop.now) }
+        ensures room { length self.new.told.trace ≤ length self.old.told.trace + 2 }
+    {
+        if let Some(hop) = hop {
+            self.hopped(hop);
+        }
+    }
+}

@@ -1,0 +1,87 @@
+//! Signals that are sent, and the attention key.
+ghost use Rattle.std.specs.Prelude.{◌≡◌, ℕ, ◌<◌, ◌≤◌, ◌+◌, [], false, length, slice_index_or};
+ghost use Rattle.vt_world.specs.Deeds.{By, all_done, done};
+ghost use Rattle.vt_switch.specs.Acts.{End};
+ghost use Rattle.vt_world.specs.Typing.{attention_deeds, sent, spawn_deeds, uses};
+
+use crate::World;
+use crate::told::TRACE_MARKS;
+use vt_base::{CallerNo, ConsoleNo, Signal};
+
+/// SIGKILL, which ends its process (signal(7)).
+const KILL: u16 = 9;
+
+/// The callers by their numbers, of which 0 is the keyboard.
+const CALLERS: usize = 65;
+
+impl World {
+    /// A signal is sent.
+    pub(crate) fn send(&mut self, p: CallerNo, signal: Signal)
+        requires { length self.old.told.trace + 3 ≤ TRACE_MARKS }
+        ensures state { self.new ≡ done self.old (sent p signal) }
+    {
+        if signal.get() == KILL {
+            self.end(p);
+        } else {
+            self.raise(p, signal);
+        }
+    }
+
+    /// The key signal goes to who accepts it.
+    pub(crate) fn spawn(&mut self)
+        requires { length self.old.told.trace + 3 ≤ TRACE_MARKS }
+        ensures { self.new ≡ all_done self.old (spawn_deeds self.old.callers.accepter) }
+    {
+        if let Some((p, signal)) = self.procs.accepter() {
+            self.send(p, signal);
+        }
+    }
+
+    /// The attention key: every process that uses the console ends, and that shows text.
+    pub(crate) fn attend(&mut self, n: ConsoleNo)
+        requires { self.old.told.trace ≡ [] }
+        ensures { self.new ≡ all_done self.old (attention_deeds self.old n) }
+    {
+        let users = self.users(n);
+        for p in 1..CALLERS {
+            if users[p] {
+                self.end_number(p);
+            }
+        }
+        self.show(n, false);
+    }
+
+    fn end_number(&mut self, p: usize)
+        requires number { p ≤ 64 }
+        requires room { length self.old.told.trace + 3 ≤ TRACE_MARKS }
+        ensures state { self.new ≡ done self.old (By (End p)) }
+        ensures room { length self.new.told.trace ≤ length self.old.told.trace + 3 }
+    {
+        let Some(p) = CallerNo::new(p as u16) else {
+            unreachable!()
+        };
+        self.end(p);
+    }
+
+    // Which callers use the console, by their numbers.
+    fn users(&self, n: ConsoleNo) -> [bool; CALLERS]
+        ensures { (p : ℕ) → p < 65 → slice_index_or result p false ≡ uses self.now n p }
+    {
+        let mut users = [false; CALLERS];
+        for p in 0..CALLERS {
+            users[p] = self.uses(p, n);
+        }
+        users
+    }
+
+    // Whether the caller of a number handles the switches of the console, or has it open.
+    fn uses(&self, p: usize, n: ConsoleNo) -> bool
+        requires { p ≤ 64 }
+        ensures { result ≡ uses self.now n p }
+    {
+        let Some(p) = CallerNo::new(p as u16) else {
+            unreachable!()
+        };
+        self.switch.owns(p, n) || self.procs.has_open(p, n)
+    }
+}
