@@ -1,3 +1,9 @@
+pub mod Collected
+pub mod HookTexts
 pub mod Items
+pub mod Keyboards
+pub mod Openings
 pub mod Programs
+pub mod Says
+pub mod Turns
 pub mod Walks

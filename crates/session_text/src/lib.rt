@@ -4,8 +4,16 @@
 mod acting;
 mod answers;
 mod asks;
+mod hook_texts;
+mod hooked;
+mod hooks;
 mod items;
+mod keyboard;
+mod keyboards;
+mod opening;
+mod openings;
 mod program;
+mod turns;
 mod walk;
 
 pub use items::Items;

@@ -1,0 +1,9 @@
+use key_tables::KeyTables;
+use vt_base::Bytes;
+
+/// The keyboard of a session: the tables of its keymap, and its scan bytes.
+#[derive(Debug, Drop)]
+pub struct Keyboard {
+    pub tables: KeyTables,
+    pub keys: Bytes,
+}

@@ -1,0 +1,13 @@
+use vt_base::ConsoleNo;
+
+/// The numbers that a session begins with.
+#[derive(Debug, Drop)]
+pub struct Opening {
+    pub rows: u8,
+    pub cols: u8,
+    /// Bit n is console n.
+    pub consoles: u64,
+    pub front: ConsoleNo,
+    pub events: u32,
+    pub bytes: u64,
+}

@@ -1,0 +1,38 @@
+-- The arrays of a TOML table, each of values of one kind. This project's own.
+use Rattle.std.specs.Prelude.{ℕ, Bool, false, Option, Some, None, Result, Ok, Err, List, [], ◌∷◌, length, ok_or}
+use Rattle.toml.specs.Data.{Data, Items, no_items, item, as_array, as_bool}
+use Rattle.table_fields.specs.Checked.{collect, fault}
+use Rattle.table_fields.specs.declared.fault.TableFault.{TableFault}
+
+-- the values of an array in order
+abbrev pub values_of : Items → List Data
+values_of no_items = []
+values_of (item d ds) = d ∷ values_of ds
+
+-- values that are all of a kind
+abbrev pub of_kind : {A : Type 0} → (Data → Option A) → TableFault → List Data → Result (List A) TableFault
+of_kind as_kind not_one ds = collect (λ n d. ok_or (as_kind d) not_one) 1 ds
+
+abbrev pub array_in : {A : Type 0} → (Data → Option A) → TableFault → Option Items → Result (List A) TableFault
+array_in as_kind not_one None = Err not_one
+array_in as_kind not_one (Some items) = of_kind as_kind not_one (values_of items)
+
+-- the array at a key, without one the empty array: 22 where it is none, or a value in it is of another
+-- kind
+abbrev pub array_of : {A : Type 0} → (Data → Option A) → ℕ → ℕ → Option Data → Result (List A) TableFault
+array_of as_kind part key None = Ok []
+array_of as_kind part key (Some d) = array_in as_kind (fault 22 part key) (as_array d)
+
+abbrev pub count_in : Option Items → ℕ
+count_in None = 0
+count_in (Some items) = length (values_of items)
+
+-- how many values the array at a key has; none where it is no array
+abbrev pub count_of : Option Data → ℕ
+count_of None = 0
+count_of (Some d) = count_in (as_array d)
+
+-- whether a key is set, without one it isn't: 22 where it is no truth value
+abbrev pub flag_of : ℕ → ℕ → Option Data → Result Bool TableFault
+flag_of part key None = Ok false
+flag_of part key (Some d) = ok_or (as_bool d) (fault 22 part key)

@@ -1,0 +1,4 @@
+pub mod Arrays
+pub mod Checked
+pub mod Collecting
+pub mod Fields

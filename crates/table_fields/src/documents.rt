@@ -1,0 +1,25 @@
+ghost use Rattle.toml.specs.View.{table_view};
+ghost use Rattle.table_fields.specs.Checked.{Gives};
+ghost use Rattle.table_fields.specs.Fields.{document_of};
+
+use crate::fault::{TableError, refused};
+use std::alloc::Global;
+use toml::Table;
+
+/// A text that is no TOML document.
+const NO_DOCUMENT: u16 = 20;
+
+/// The table of a TOML document: 20 at 0:0 where the text is none.
+pub fn document(alloc: Global, text: &[u8]) -> Result<Table, TableError>
+    ensures { Gives table_view result (document_of text.now) }
+{
+    match toml::table_from_slice(alloc, text) {
+        Ok(table) => Ok(table),
+        Err(e) => {
+            if e.is_memory() {
+                return Err(TableError::NoMemory);
+            }
+            Err(refused(NO_DOCUMENT, 0, 0))
+        }
+    }
+}

@@ -1,0 +1,75 @@
+ghost use Rattle.std.specs.Prelude.{◌≡◌};
+ghost use Rattle.table_fields.specs.Checked.{fault};
+
+use std::alloc::{AllocError, AllocFailed};
+use vt_base::NoMemory;
+
+/// The first fault of a TOML table, or of a text in it: its kind, and its place. Of a table the place
+/// is the part, 0 for the table itself, and the number of a key or of an item, from 1; of a keymap it
+/// is line and column.
+#[derive(Clone, Copy, Debug, PartialEq, Eq)]
+pub struct TableFault {
+    pub kind: u16,
+    pub part: u32,
+    pub item: u32,
+}
+
+/// Why a table wasn't read.
+#[derive(Clone, Copy, Debug, PartialEq, Eq)]
+pub enum TableError {
+    /// It doesn't pass its checks.
+    Fault(TableFault),
+    /// Memory ran out.
+    NoMemory,
+}
+
+/// The error of a fault of this kind.
+pub fn refused(kind: u16, part: u32, item: u32) -> TableError
+    ensures { result ≡ TableError.Fault (fault kind part item) }
+{
+    TableError::Fault(TableFault { kind, part, item })
+}
+
+impl From<TableFault> for TableError {
+    ghost use Rattle.std.specs.Prelude.{◌≡◌};
+    ghost use Rattle.table_fields.specs.declared.fault.TableError.TheVariants.{Fault as why};
+
+    ghost from_gives = { λ fault e. e ≡ why fault };
+
+    fn from(fault: TableFault) -> TableError {
+        TableError::Fault(fault)
+    }
+}
+
+impl From<NoMemory> for TableError {
+    ghost use Rattle.std.specs.Prelude.{◌≡◌};
+    ghost use Rattle.table_fields.specs.declared.fault.TableError.TheVariants.{NoMemory as want};
+
+    ghost from_gives = { λ _ e. e ≡ want };
+
+    fn from(_error: NoMemory) -> TableError {
+        TableError::NoMemory
+    }
+}
+
+impl From<AllocError> for TableError {
+    ghost use Rattle.std.specs.Prelude.{◌≡◌};
+    ghost use Rattle.table_fields.specs.declared.fault.TableError.TheVariants.{NoMemory as want};
+
+    ghost from_gives = { λ _ e. e ≡ want };
+
+    fn from(_error: AllocError) -> TableError {
+        TableError::NoMemory
+    }
+}
+
+impl<T: Drop> From<AllocFailed<T>> for TableError {
+    ghost use Rattle.std.specs.Prelude.{◌≡◌};
+    ghost use Rattle.table_fields.specs.declared.fault.TableError.TheVariants.{NoMemory as want};
+
+    ghost from_gives = { λ _ e. e ≡ want };
+
+    fn from(_error: AllocFailed<T>) -> TableError {
+        TableError::NoMemory
+    }
+}

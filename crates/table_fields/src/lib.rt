@@ -1,0 +1,19 @@
+//! The fields of TOML tables: numbers, flags, texts, arrays, keymaps and scan bytes, each with the
+//! fault that it has where it isn't as it has to be.
+#![tactic(auto)]
+
+mod arrays;
+mod documents;
+mod fault;
+mod fields;
+mod included;
+mod keymaps;
+mod scans;
+
+pub use arrays::{count, integers, strings, tables};
+pub use documents::document;
+pub use fault::{TableError, TableFault, refused};
+pub use fields::{Numbers, at, flag, number, text, within};
+pub use included::texts;
+pub use keymaps::keymap;
+pub use scans::scan_bytes;
