@@ -5,13 +5,16 @@ use Rattle.std.specs.Prelude.{Bool, false, slice_set}
 use Rattle.vt_procs.specs.Callers.{caller_at, gone}
 use Rattle.vt_procs.specs.Tickets.{shown}
 use Rattle.vt_procs.specs.declared.process.Process.{Process}
+use Rattle.vt_switch.specs.Acts.{End}
+use Rattle.vt_switch.specs.Deaths.{ended, ended_hop}
 use Rattle.vt_switch.specs.Display.{console}
-use Rattle.vt_switch.specs.Moments.{Core, hop_marks, raise, raise_acquire}
+use Rattle.vt_switch.specs.Moments.{Core, core_after, hop_marks, raise, raise_acquire}
 use Rattle.vt_switch.specs.declared.handling.Handling.{Handling}
 use Rattle.vt_switch.specs.declared.handling.Handling.TheVariants.{Process as HandledBy}
 use Rattle.vt_switch.specs.declared.handshake.Handshake.{Handshake}
 use Rattle.vt_switch.specs.declared.hop.Hop.{Hop}
 use Rattle.vt_switch.specs.declared.mark.Mark.TheVariants as mark
+use Rattle.vt_world.specs.Deeds.{acted}
 use Rattle.vt_world.specs.Heard.{heard, tell}
 use Rattle.vt_world.specs.State.{WorldState, core}
 
@@ -36,6 +39,18 @@ core-end w p = λ i. record {
   display = w.display;
   live = map-set (λ (caller : Process). caller.live) w.callers.list p (gone (caller_at w.callers p)) i;
 }
+
+-- an end is told, and the hop that it makes
+pub end-told : (w v : WorldState) (p : ℕ) (hop : Option Hop)
+    → v ≡ heard (record w { display = ended w.display p }) (mark.Ended p)
+    → hop ≡ ended_hop w.display p
+    → tell v (hop_marks (core v) hop) ≡ acted w (End p)
+end-told w v p hop heard_it is =
+    let gone : WorldState = record w { display = ended w.display p } in
+    let after : WorldState = heard gone (mark.Ended p) in
+    ap (λ (u : WorldState). tell u (hop_marks (core u) hop)) heard_it
+    ∙ ap (λ (k : Core). tell after (hop_marks k hop)) (core-end gone p)
+    ∙ ap (λ (h : Option Hop). tell after (hop_marks (core_after (core w) (End p)) h)) is
 
 -- a hop and the acquire signal behind it are what a hop tells
 pub hop-told : (w v : WorldState) (hop : Hop) (handshake : Handshake)

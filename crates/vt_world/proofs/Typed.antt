@@ -1,24 +1,26 @@
 -- What a key does hangs on none of what was done with its byte before.
 use Rattle.std.proofs.Common.{◌≡◌, ℕ, zero, suc, Bool, true, false, cond, List, [], ◌∷◌, get_or, set, Option, Some, None, refl, sym, ap, ◌∙◌}
-use Rattle.std.specs.Prelude.{◌||◌, filter}
+use Rattle.std.specs.Prelude.{◌==◌, ◌&&◌, ◌||◌, filter}
 use Rattle.std.specs.List.{range_with_len}
 use Rattle.in_queue.specs.Queue.{Queue}
-use Rattle.key_machine.specs.Keys.{State}
+use Rattle.key_machine.specs.Keys.{Keys, State}
 use Rattle.key_machine.specs.Step.{Step, key_step}
+use Rattle.key_machine.specs.declared.key_modes.KeyModes.{KeyModes}
 use Rattle.key_machine.specs.declared.key_out.KeyOut.{KeyOut}
 use Rattle.key_machine.specs.declared.key_out.KeyOut.TheVariants as said
-use Rattle.scan_codes.specs.Scan.{event_after}
+use Rattle.scan_codes.specs.Scan.{Scan, event_after}
 use Rattle.scan_codes.specs.declared.key_event.KeyEvent.{KeyEvent}
 use Rattle.vt_procs.specs.Callers.{Callers, caller_at, has_open}
 use Rattle.vt_procs.specs.Tickets.{filled}
 use Rattle.vt_procs.specs.declared.process.Process.{Process}
+use Rattle.vt_procs.specs.declared.waiting.Waiting.TheVariants.{Nothing}
 use Rattle.vt_switch.specs.Acts.{SetKd}
 use Rattle.vt_switch.specs.Calls.{owns}
-use Rattle.vt_world.specs.Deeds.{By, Deed, Own, Scanned, Types, with_input}
-use Rattle.vt_world.specs.Inputs.{comes, input_at, with_bytes, with_queue}
+use Rattle.vt_world.specs.Deeds.{By, Deed, Own, Puts, Scanned, Types, all_done, own_done, with_input}
+use Rattle.vt_world.specs.Inputs.{comes, input_at, keyed, with_bytes, with_queue}
 use Rattle.vt_world.specs.State.{WorldState}
 use Rattle.vt_world.specs.Terminals.{key_modes_of, terminal_at}
-use Rattle.vt_world.specs.Typing.{ends_of, key_deeds, key_on, key_out_deeds, read_by, read_deeds, spawn_deeds, typed_deeds, uses}
+use Rattle.vt_world.specs.Typing.{ends_of, key_deeds, key_on, key_out_deeds, read_by, read_deeds, scan_deeds, spawn_deeds, typed_deeds, uses}
 use Rattle.vt_world.specs.declared.input.Input.{Input}
 
 -- the same processes use the console, and the same one accepts the key signal
@@ -42,27 +44,23 @@ key_out-alike v w n said.Attention alike =
     (filter-alike (uses v n) (uses w n) (range_with_len 1 64) alike.users)
 key_out-alike v w n said.Nothing alike = refl
 
--- a key that is typed
-pub key_out-typed : (w : WorldState) (n : ℕ) (s : Step) (u : WorldState)
-    → u ≡ record w { inputs = u.inputs; board = u.board }
-    → key_out_deeds u n s.out ≡ key_out_deeds w n s.out
-key_out-typed w n s u is =
-    ap (λ (v : WorldState). key_out_deeds v n s.out) is
-    ∙ key_out-alike (record w { inputs = u.inputs; board = u.board }) w n s.out
-    (record { accepter = refl; users = λ p. refl })
+-- a caller but for its ticket
+abbrev without_ticket : Process → Process
+without_ticket process = record process { waiting = Nothing }
 
--- bytes that come leave what everybody has open
-opens-filled : (c p : ℕ) (accepter : Option (ℕ × ℕ)) (list : List Process)
-    → (caller_at (filled c (record { list = list; accepter = accepter })) p).opens
-    ≡ (caller_at (record { list = list; accepter = accepter }) p).opens
-opens-filled c p accepter [] = refl
-opens-filled c zero accepter (caller ∷ list) = refl
-opens-filled c (suc p) accepter (caller ∷ list) = opens-filled c p accepter list
+-- bytes that come end tickets alone
+same-filled : (c p : ℕ) (accepter : Option (ℕ × ℕ)) (list : List Process)
+    → without_ticket (caller_at (filled c (record { list = list; accepter = accepter })) p)
+    ≡ without_ticket (caller_at (record { list = list; accepter = accepter }) p)
+same-filled c p accepter [] = refl
+same-filled c zero accepter (caller ∷ list) = refl
+same-filled c (suc p) accepter (caller ∷ list) = same-filled c p accepter list
 
-opens-either : (b : Bool) (c p : ℕ) (callers : Callers)
-    → (caller_at (cond b (filled c callers) callers) p).opens ≡ (caller_at callers p).opens
-opens-either true c p callers = opens-filled c p callers.accepter callers.list
-opens-either false c p callers = refl
+same-either : (b : Bool) (c p : ℕ) (callers : Callers)
+    → without_ticket (caller_at (cond b (filled c callers) callers) p)
+    ≡ without_ticket (caller_at callers p)
+same-either true c p callers = same-filled c p callers.accepter callers.list
+same-either false c p callers = refl
 
 accepter-either : (b : Bool) (c : ℕ) (callers : Callers)
     → (cond b (filled c callers) callers).accepter ≡ callers.accepter
@@ -74,8 +72,9 @@ input-alike w n piece =
     let some : Bool = comes (input_at w.inputs n).queue piece in
     record {
       accepter = accepter-either some n w.callers;
-      users = λ p. ap (λ (opens : List (Option ℕ)). owns w.display p n || has_open opens n)
-          (opens-either some n p w.callers);
+      users = λ p.
+      ap (λ (process : Process). process.live && (owns w.display p n || has_open process.opens n))
+      (same-either some n p w.callers);
     }
 
 -- and its key state
@@ -102,3 +101,59 @@ pub read-alike : (w : WorldState) (n : ℕ) (piece : List ℕ) (b : ℕ)
 read-alike w n piece b =
     ap (λ (deeds : List Deed). Own (Scanned (read_by w.board.scanner b)) ∷ deeds)
     (key-alike w n piece (event_after w.board.scanner.codes w.board.scanner.bytes b))
+
+-- a key is typed: the keyboard and the key state are left by it, and what it says is done
+pub typed-told : (w v : WorldState) (n : ℕ) (e : KeyEvent) (m : KeyModes) (before : State)
+    (keys : Keys) (state : State) (out : KeyOut) (inputs : List Input)
+    → m ≡ key_modes_of (terminal_at w.terminals n) → before ≡ (input_at w.inputs n).keys
+    → keys ≡ (key_step w.board.tables m e w.board.keyboard before).keys
+    → state ≡ (key_step w.board.tables m e w.board.keyboard before).state
+    → out ≡ (key_step w.board.tables m e w.board.keyboard before).out
+    → inputs ≡ keyed n state w.inputs
+    → let u : WorldState = record w { inputs = inputs; board = record w.board { keyboard = keys } } in
+    v ≡ all_done u (key_out_deeds u n out) → v ≡ all_done w (typed_deeds w n (key_on w n e))
+typed-told w v n e m before keys state out inputs m_is before_is keys_is state_is out_is inputs_is told =
+    let s : Step = key_on w n e in
+    let step : key_step w.board.tables m e w.board.keyboard before ≡ s =
+    λ i. key_step w.board.tables (m_is i) e w.board.keyboard (before_is i) in
+    let state_s : state ≡ s.state = state_is ∙ ap (λ (x : Step). x.state) step in
+    let keys_s : keys ≡ s.keys = keys_is ∙ ap (λ (x : Step). x.keys) step in
+    let out_s : out ≡ s.out = out_is ∙ ap (λ (x : Step). x.out) step in
+    let inputs_s : inputs ≡ keyed n s.state w.inputs =
+    inputs_is ∙ ap (λ (x : State). keyed n x w.inputs) state_s in
+    let typed : WorldState = own_done w (Types n s.keys s.state) in
+    let given : List Input → Keys → WorldState = λ i k. record w { inputs = i; board = record w.board { keyboard = k } } in
+    told
+    ∙ (λ i. all_done (given (inputs_s i) (keys_s i)) (key_out_deeds (given (inputs_s i) (keys_s i)) n (out_s i)))
+    ∙ ap (all_done typed)
+    (key_out-alike typed w n s.out (record { accepter = refl; users = λ p. refl }))
+
+-- a byte is read that ends a key
+pub read-told : (w v : WorldState) (n b : ℕ) (e : KeyEvent) (scanner : Scan)
+    → event_after w.board.scanner.codes w.board.scanner.bytes b ≡ Some e
+    → scanner ≡ read_by w.board.scanner b
+    → let u : WorldState = record w { board = record w.board { scanner = scanner } } in
+    v ≡ all_done u (typed_deeds u n (key_on u n e)) → v ≡ all_done w (read_deeds w n b)
+read-told w v n b e scanner event scanner_is told =
+    let given : Scan → WorldState = λ s. record w { board = record w.board { scanner = s } } in
+    let read : WorldState = given (read_by w.board.scanner b) in
+    let s : Step = key_on w n e in
+    told
+    ∙ ap (λ (x : Scan). all_done (given x) (typed_deeds (given x) n (key_on (given x) n e))) scanner_is
+    ∙ ap (λ (deeds : List Deed). all_done read (Own (Types n s.keys s.state) ∷ deeds))
+    (key_out-alike read w n s.out (record { accepter = refl; users = λ p. refl }))
+    ∙ ap (λ (o : Option KeyEvent). all_done read (key_deeds w n o)) (sym event)
+
+-- in K_RAW a byte goes into the queue first
+pub scan-told : (w v put : WorldState) (n b : ℕ) (keys : State) → keys ≡ (input_at w.inputs n).keys
+    → keys.mode ≡ 0 → put ≡ with_input n (b ∷ []) w → v ≡ all_done put (read_deeds put n b)
+    → v ≡ all_done w (scan_deeds w n b)
+scan-told w v put n b keys keys_is raw put_is told =
+    let after : WorldState = with_input n (b ∷ []) w in
+    let is_raw : (input_at w.inputs n).keys.mode == 0 ≡ true =
+    ap (λ (k : State). k.mode == 0) (sym keys_is) ∙ ap (λ (m : ℕ). m == 0) raw in
+    told
+    ∙ ap (λ (u : WorldState). all_done u (read_deeds u n b)) put_is
+    ∙ ap (all_done after) (read-alike w n (b ∷ []) b)
+    ∙ ap (λ (is : Bool). all_done w (cond is (Own (Puts n (b ∷ [])) ∷ read_deeds w n b) (read_deeds w n b)))
+    (sym is_raw)

@@ -3,7 +3,7 @@ use Rattle.std.specs.Prelude.{ℕ, List, [], ◌∷◌, Option, Some, None, if�
 use Rattle.key_machine.specs.Keys.{Keys, State}
 use Rattle.key_tables.specs.Tables.{Tables}
 use Rattle.scan_codes.specs.Scan.{Scan}
-use Rattle.vt_procs.specs.Callers.{Callers, opened, shut}
+use Rattle.vt_procs.specs.Callers.{opened, shut}
 use Rattle.vt_procs.specs.Tickets.{accepting, collected, filled, taken, waits}
 use Rattle.vt_procs.specs.declared.ticket.Ticket.{Ticket}
 use Rattle.vt_screen.specs.Tape.{Mark}

@@ -1,5 +1,6 @@
 -- What each event answers and does where nothing refuses it (ioctl_console(2), vcs(4)).
-use Rattle.std.specs.Prelude.{ℕ, ◌+◌, ◌*◌, ◌/◌, ◌%◌, ◌^◌, ◌==◌, Bool, true, false, not, nat_lt, List, [], ◌∷◌, filter, find, length, map, min, sum, take, Option, Some, None, option_map, slice_index, unwrap_or, if◌then◌else◌}
+-- That waits, accept, signals and the dump of code points are so is this project's own.
+use Rattle.std.specs.Prelude.{ℕ, ◌+◌, ◌*◌, ◌/◌, ◌%◌, ◌^◌, ◌==◌, Bool, true, false, not, nat_lt, List, [], ◌∷◌, filter, find, length, map, min, sum, take, Option, Some, None, slice_index, unwrap_or, if◌then◌else◌}
 use Rattle.std.specs.List.{flat_map, range_with_len}
 use Rattle.call_bytes.specs.Colours.{colours_in, colours_text}
 use Rattle.call_bytes.specs.Pairs.{pairs_in, pairs_text}
@@ -124,7 +125,7 @@ keys w c = (input_at w.inputs c).keys
 abbrev pub lights_of : ℕ → Option ℕ
 lights_of v = if nat_lt 7 v then None else Some v
 
--- what a key does, as two words; a key of a table that isn't there does nothing, as kind 14
+-- what a key does; 14 0 where there is no such table
 abbrev pub act_of : Option Act → Act
 act_of None = act 14 0
 act_of (Some a) = a

@@ -1,6 +1,5 @@
 -- The console as a whole.
 use Rattle.std.specs.Prelude.{◌≡◌, ℕ, List, Option, is_some, map}
-use Rattle.key_tables.specs.Tables.{Tables}
 use Rattle.vt_procs.specs.Callers.{Callers}
 use Rattle.vt_switch.specs.Display.{Display}
 use Rattle.vt_switch.specs.Moments.{Core}

@@ -1,5 +1,5 @@
 -- The console step: what one event of one caller makes of the console, and what it is answered.
-use Rattle.std.specs.Prelude.{◌≡◌, ℕ, List, Option, Some, None}
+use Rattle.std.specs.Prelude.{◌≡◌, ℕ, Option, Some, None}
 use Rattle.vt_base.specs.declared.errno.Errno.{Errno}
 use Rattle.vt_events.specs.Plain.{plain_reply}
 use Rattle.vt_events.specs.declared.event.Event.{Event}

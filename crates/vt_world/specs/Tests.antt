@@ -16,7 +16,6 @@ use Rattle.vt_procs.specs.Tickets.{is_open, told}
 use Rattle.vt_procs.specs.declared.process.Process.{Process}
 use Rattle.vt_procs.specs.declared.waited.Waited.{Waited}
 use Rattle.vt_procs.specs.declared.waited.Waited.TheVariants as waited
-use Rattle.vt_procs.specs.declared.waiting.Waiting.{Waiting}
 use Rattle.vt_switch.specs.Calls.{handling_of, is_held, released}
 use Rattle.vt_switch.specs.Display.{is_allocated}
 use Rattle.vt_world.specs.Inputs.{input_at}
@@ -52,10 +51,11 @@ named w n = if n == 0 then w.display.front else n
 abbrev pub needs_open : WorldState → ℕ → ℕ → Test
 needs_open w p fd = test (not (is_some (console_of w.callers p fd))) Badf
 
--- EPERM: p is neither privileged, nor is the descriptor's console its home
+-- p is privileged, or console c is its home
 abbrev pub may_handle : WorldState → ℕ → ℕ → Bool
 may_handle w p c = (caller w p).privileged || c == (caller w p).home
 
+-- EPERM: p is neither privileged, nor is the descriptor's console its home
 abbrev pub needs_right : WorldState → ℕ → ℕ → Test
 needs_right w p fd = test (not (may_handle w p (target w p fd))) Perm
 
@@ -94,7 +94,7 @@ mode_of m w r a f = record { mode = m; waitv = w; relsig = r; acqsig = a; frsig 
 abbrev pub transfer_limit : ℕ
 transfer_limit = 4096
 
--- no bytes came to console c
+-- no bytes are left in the queue of console c
 abbrev pub is_empty : WorldState → ℕ → Bool
 is_empty w c = length (input_at w.inputs c).queue.bytes == 0
 

@@ -1,12 +1,12 @@
 -- What a scan byte does. What the rules leave open is this project's own.
-use Rattle.std.specs.Prelude.{ℕ, ◌==◌, ◌||◌, Bool, false, List, [], ◌∷◌, filter, Option, Some, None, if◌then◌else◌}
+use Rattle.std.specs.Prelude.{ℕ, ◌==◌, ◌&&◌, ◌||◌, Bool, false, List, [], ◌∷◌, filter, Option, Some, None, if◌then◌else◌}
 use Rattle.std.specs.List.{range_with_len}
 use Rattle.key_machine.specs.Step.{Step, key_step}
 use Rattle.key_machine.specs.declared.key_out.KeyOut.{KeyOut}
-use Rattle.key_machine.specs.declared.key_out.KeyOut.TheVariants as heard
+use Rattle.key_machine.specs.declared.key_out.KeyOut.TheVariants as key_out
 use Rattle.scan_codes.specs.Scan.{Scan, bytes_after, event_after}
 use Rattle.scan_codes.specs.declared.key_event.KeyEvent.{KeyEvent}
-use Rattle.vt_procs.specs.Callers.{caller_at, has_open}
+use Rattle.vt_procs.specs.Callers.{caller_at, has_open, is_live}
 use Rattle.vt_switch.specs.Acts.{End, SetKd}
 use Rattle.vt_switch.specs.Calls.{owns}
 use Rattle.vt_world.specs.Deeds.{Deed, Asks, By, Own, Puts, Raises, Scanned, Types}
@@ -24,9 +24,10 @@ abbrev pub spawn_deeds : Option (ℕ × ℕ) → List Deed
 spawn_deeds None = []
 spawn_deeds (Some accepter) = sent accepter.0 accepter.1 ∷ []
 
--- p handles the switches of console n, or has it open
+-- p lives, and handles the switches of console n or has it open
 abbrev pub uses : WorldState → ℕ → ℕ → Bool
-uses w n p = owns w.display p n || has_open (caller_at w.callers p).opens n
+uses w n p =
+    is_live w.callers p && (owns w.display p n || has_open (caller_at w.callers p).opens n)
 
 -- the processes that use console n, rising
 abbrev pub users : WorldState → ℕ → List ℕ
@@ -43,14 +44,14 @@ attention_deeds w n = ends_of (users w n) (By (SetKd n false) ∷ [])
 
 -- what is done where a key says something; n is the console that was in front
 abbrev pub key_out_deeds : WorldState → ℕ → KeyOut → List Deed
-key_out_deeds w n (heard.Bytes bytes) = Own (Puts n bytes) ∷ []
-key_out_deeds w n (heard.Switch m) = Asks (Number m) ∷ []
-key_out_deeds w n heard.Last = Asks Last ∷ []
-key_out_deeds w n heard.Next = Asks Above ∷ []
-key_out_deeds w n heard.Prev = Asks Below ∷ []
-key_out_deeds w n heard.Spawn = spawn_deeds w.callers.accepter
-key_out_deeds w n heard.Attention = attention_deeds w n
-key_out_deeds w n heard.Nothing = []
+key_out_deeds w n (key_out.Bytes bytes) = Own (Puts n bytes) ∷ []
+key_out_deeds w n (key_out.Switch m) = Asks (Number m) ∷ []
+key_out_deeds w n key_out.Last = Asks Last ∷ []
+key_out_deeds w n key_out.Next = Asks Above ∷ []
+key_out_deeds w n key_out.Prev = Asks Below ∷ []
+key_out_deeds w n key_out.Spawn = spawn_deeds w.callers.accepter
+key_out_deeds w n key_out.Attention = attention_deeds w n
+key_out_deeds w n key_out.Nothing = []
 
 -- a key event, with console n in front
 abbrev pub key_on : WorldState → ℕ → KeyEvent → Step

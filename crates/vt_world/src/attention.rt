@@ -1,5 +1,5 @@
 //! Signals that are sent, and the attention key.
-ghost use Rattle.std.specs.Prelude.{◌≡◌, ℕ, ◌<◌, ◌≤◌, ◌+◌, [], false, length, slice_index_or};
+ghost use Rattle.std.specs.Prelude.{◌≡◌, ℕ, ◌<◌, ◌≤◌, ◌+◌, [], false, length, slice_index_or, if◌then◌else◌};
 ghost use Rattle.vt_world.specs.Deeds.{By, all_done, done};
 ghost use Rattle.vt_switch.specs.Acts.{End};
 ghost use Rattle.vt_world.specs.Typing.{attention_deeds, sent, spawn_deeds, uses};
@@ -44,23 +44,24 @@ impl World {
     {
         let users = self.users(n);
         for p in 1..CALLERS {
-            if users[p] {
-                self.end_number(p);
-            }
+            self.end_user(p, users[p]);
         }
         self.show(n, false);
     }
 
-    fn end_number(&mut self, p: usize)
+    // The end of the caller of a number, if it uses the console.
+    fn end_user(&mut self, p: usize, uses: bool)
         requires number { p ≤ 64 }
         requires room { length self.old.told.trace + 3 ≤ TRACE_MARKS }
-        ensures state { self.new ≡ done self.old (By (End p)) }
+        ensures state { self.new ≡ (if uses then done self.old (By (End p)) else self.old) }
         ensures room { length self.new.told.trace ≤ length self.old.told.trace + 3 }
     {
         let Some(p) = CallerNo::new(p as u16) else {
             unreachable!()
         };
-        self.end(p);
+        if uses {
+            self.end(p);
+        }
     }
 
     // Which callers use the console, by their numbers.
@@ -74,7 +75,7 @@ impl World {
         users
     }
 
-    // Whether the caller of a number handles the switches of the console, or has it open.
+    // Whether the caller of a number lives, and handles the switches of the console or has it open.
     fn uses(&self, p: usize, n: ConsoleNo) -> bool
         requires { p ≤ 64 }
         ensures { result ≡ uses self.now n p }
@@ -82,6 +83,6 @@ impl World {
         let Some(p) = CallerNo::new(p as u16) else {
             unreachable!()
         };
-        self.switch.owns(p, n) || self.procs.has_open(p, n)
+        self.procs.live(p) && (self.switch.owns(p, n) || self.procs.has_open(p, n))
     }
 }
