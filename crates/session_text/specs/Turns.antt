@@ -21,4 +21,4 @@ turns_of processes d = do
 -- the bytes are these turns, if there are few processes
 abbrev pub AreTurns : ℕ → Text → List ℕ → Type 0
 AreTurns processes bytes turns =
-    (length turns ≤ most_turns) × (processes ≤ 64 → bytes.bytes ≡ turns)
+    (length bytes.bytes ≤ most_turns) × (processes ≤ 64 → bytes.bytes ≡ turns)

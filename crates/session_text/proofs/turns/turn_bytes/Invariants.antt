@@ -7,6 +7,7 @@ use Rattle.session_text.proofs.turns.turn_bytes.Given as goal
 abbrev pub invariant-loop-i : goal.invariant-loop-i
 invariant-loop-i l =
     (l.bytes.room + l.i ≡ length l.numbers)
+    × (length l.bytes.bytes ≡ l.i)
     × TurnsSoFar l.processes l.bytes.bytes
     (collect (λ n z. number_within 0 l.processes (fault 28 0 n) z) (l.i + 1) (drop l.i l.numbers))
     (collect (λ n z. number_within 0 l.processes (fault 28 0 n) z) 1 l.numbers)

@@ -1,0 +1,48 @@
+-- Turns, one after another.
+use Rattle.std.proofs.Common.{◌≡◌, ℕ, ℤ, ◌+◌, ◌≤◌, ◌<◌, List, [], ◌∷◌, ◌++◌, Result, Ok, Err, drop, get_or, length, min, pos, refl, sym, ap, ◌∙◌, subst, arith}
+use Rattle.std.proofs.lemmas.List.{append_assoc, append-nil, at_drop_more, drop_all}
+use Rattle.table_fields.specs.Checked.{collect, ◌>>=◌}
+use Rattle.table_fields.specs.Collecting.{behind}
+use Rattle.table_fields.specs.declared.fault.TableFault.{TableFault}
+use Rattle.session_text.specs.Collected.{TurnsSoFar}
+
+-- behind those that were found and one more
+behind_one : (found : List ℕ) (n : ℕ) (more : Result (List ℕ) TableFault)
+    → behind (found ++ n ∷ []) more ≡ behind found (more >>= (λ ns. Ok (n ∷ ns)))
+behind_one found n (Ok ns) = ap Ok (append_assoc found (n ∷ []) ns)
+behind_one found n (Err e) = refl
+
+collect_one : (f : ℕ → ℤ → Result ℕ TableFault) (k n : ℕ) (x : ℤ) (xs : List ℤ) → f k x ≡ Ok n
+    → collect f k (x ∷ xs) ≡ (collect f (k + 1) xs >>= (λ ns. Ok (n ∷ ns)))
+collect_one f k n x xs is = ap (λ r. r >>= (λ y. collect f (k + 1) xs >>= (λ ns. Ok (y ∷ ns)))) is
+
+pub turns_more : (processes i : ℕ) (bytes : List ℕ) (f : ℕ → ℤ → Result ℕ TableFault) (xs : List ℤ)
+    (whole : Result (List ℕ) TableFault) (d : ℤ) (n : ℕ) → i < length xs
+    → TurnsSoFar processes bytes (collect f (i + 1) (drop i xs)) whole
+    → f (i + 1) (get_or xs i d) ≡ Ok n → n ≤ processes
+    → TurnsSoFar processes (bytes ++ min n 64 ∷ []) (collect f (i + 1 + 1) (drop (i + 1) xs)) whole
+turns_more processes i bytes f xs whole d n within so_far is low = record {
+  found = so_far.found ++ n ∷ [];
+  bytes_are = λ few.
+    let same : min n 64 ≡ n = omega arith in
+    (λ j. so_far.bytes_are few j ++ same j ∷ []);
+  whole_is =
+    behind_one so_far.found n (collect f (i + 1 + 1) (drop (i + 1) xs))
+    ∙ ap (behind so_far.found)
+    (sym
+    (at_drop_more (collect f (i + 1)) xs i d within
+    ∙ collect_one f (i + 1) n (get_or xs i d) (drop (i + 1) xs) is))
+    ∙ so_far.whole_is;
+}
+
+pub turns_end : (processes i : ℕ) (bytes : List ℕ) (f : ℕ → ℤ → Result ℕ TableFault) (xs : List ℤ)
+    (whole : Result (List ℕ) TableFault) → length xs ≤ i
+    → TurnsSoFar processes bytes (collect f (i + 1) (drop i xs)) whole
+    → (turns : List ℕ) × (whole ≡ Ok turns) × (processes ≤ 64 → bytes ≡ turns)
+turns_end processes i bytes f xs whole end so_far = (
+  so_far.found,
+  sym so_far.whole_is
+  ∙ ap (λ ys. behind so_far.found (collect f (i + 1) ys)) (drop_all i xs end)
+  ∙ ap Ok (append-nil so_far.found),
+  so_far.bytes_are,
+)
