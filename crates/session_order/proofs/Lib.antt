@@ -3,6 +3,7 @@ pub mod Alive
 pub mod Callers
 pub mod Deeds
 pub mod Lively
+pub mod Meant
 pub mod Programs
 pub mod Progress
 pub mod Rounds

@@ -6,6 +6,7 @@ use Rattle.std.specs.List.{range_with_len, cons_option}
 use Rattle.std.specs.Prelude.{⊤, ◌-◌, not, ◌&&◌, ◌||◌, filter_map, if◌then◌else◌}
 use Rattle.sig_hooks.specs.declared.act.Act.{Act}
 use Rattle.sig_hooks.specs.declared.act.Act.TheVariants as acts
+use Rattle.session_order.specs.Calls.{as_meant}
 use Rattle.session_text.specs.Programs.{Call, act_at, act_call, all_calls, call, calls, calls_from, ends, exits, is_exit, is_gone, is_kill, is_wait, next, nothing, scans, script, signals_in, takes}
 use Rattle.session_text.specs.declared.program.Program.{Program}
 use Rattle.session_text.specs.declared.program.Program.TheVariants as program
@@ -14,10 +15,6 @@ use Rattle.vt_events.specs.declared.event.Event.{Event}
 use Rattle.vt_events.specs.declared.event.Event.TheVariants as event
 use Rattle.vt_events.specs.declared.reply.Reply.{Reply}
 use Rattle.vt_events.specs.declared.reply.Reply.TheVariants as reply
-
--- a call as it is meant
-abbrev pub plain_call : Call → Call
-plain_call c = call (plain_event c.event) (plain_reply c.reply)
 
 pub plain-twice : (e : Event) → plain_event (plain_event e) ≡ plain_event e
 plain-twice (event.Write fd b) = refl
@@ -55,7 +52,7 @@ signals-plain : (r : Reply) → signals_in (plain_reply r) ≡ signals_in r
 signals-plain (reply.Text b) = refl
 signals-plain r = refl
 
-ends-plain : (c : Call) → ends (plain_call c).event (plain_call c).reply ≡ ends c.event c.reply
+ends-plain : (c : Call) → ends (as_meant c).event (as_meant c).reply ≡ ends c.event c.reply
 ends-plain c = λ i.
     exit-plain c.event i || (not (kill-plain c.event i) && gone-plain c.reply i)
 
@@ -67,7 +64,7 @@ behind_first over waits behind more =
 
 -- how the calls ahead depend on those that were made: as they are meant, and by waits
 pub record Fine (f : List Call → Option Event) : Type 0 where
-  pub same : (made : List Call) → f (map plain_call made) ≡ f made
+  pub same : (made : List Call) → f (map as_meant made) ≡ f made
   pub plain : (made : List Call) (e : Event) → f made ≡ Some e → plain_event e ≡ e
   pub waits :
       (made : List Call) (e : Event) (r : Reply) → f made ≡ Some e → ends e r ≡ false
@@ -81,13 +78,13 @@ nothing-fine = record {
 }
 
 same_calls : (e : Event) (behind : List Call → Option Event) → Fine behind → (made : List Call)
-    → calls e behind (map plain_call made) ≡ calls e behind made
+    → calls e behind (map as_meant made) ≡ calls e behind made
 same_calls e behind fine [] = refl
 same_calls e behind fine (c ∷ made) =
-    (λ i. behind_first (ends-plain c i) (wait-plain c.reply i) behind (map plain_call made))
-    ∙ elim (ends c.event c.reply) as (λ b. behind_first b (is_wait c.reply) behind (map plain_call made) ≡ behind_first b (is_wait c.reply) behind made) [
+    (λ i. behind_first (ends-plain c i) (wait-plain c.reply i) behind (map as_meant made))
+    ∙ elim (ends c.event c.reply) as (λ b. behind_first b (is_wait c.reply) behind (map as_meant made) ≡ behind_first b (is_wait c.reply) behind made) [
       | true ↦ refl
-      | false ↦ elim (is_wait c.reply) as (λ b. behind_first false b behind (map plain_call made) ≡ behind_first false b behind made)
+      | false ↦ elim (is_wait c.reply) as (λ b. behind_first false b behind (map as_meant made) ≡ behind_first false b behind made)
           [ true ↦ same_calls event.WaitEnd behind fine made | false ↦ fine.same made ]
     ]
 
@@ -162,10 +159,10 @@ taken-fine table behind fine set =
     (all-fine (calls_from table set 1) behind (from_plain table set 1) fine)
 
 takes_same : (table : List Act) (behind : List Call → Option Event) → Fine behind
-    → (made : List Call) → takes table behind (map plain_call made) ≡ takes table behind made
+    → (made : List Call) → takes table behind (map as_meant made) ≡ takes table behind made
 takes_same table behind fine [] = refl
 takes_same table behind fine (c ∷ made) =
-    ap (λ set. taken table behind set (map plain_call (c ∷ made))) (signals-plain c.reply)
+    ap (λ set. taken table behind set (map as_meant (c ∷ made))) (signals-plain c.reply)
     ∙ (taken-fine table behind fine (signals_in c.reply)).same (c ∷ made)
 
 takes_plain : (table : List Act) (behind : List Call → Option Event) → Fine behind

@@ -8,9 +8,13 @@ use Rattle.vt_events.specs.Plain.{plain_event, plain_reply}
 use Rattle.vt_events.specs.declared.entry.Entry.{Entry}
 use Rattle.vt_events.specs.declared.event.Event.{Event}
 
--- the call of an entry, as it is meant
+-- a call with its answer, as they are meant: the room that their bytes have is nothing of theirs
+abbrev pub as_meant : Call → Call
+as_meant c = call (plain_event c.event) (plain_reply c.reply)
+
+-- the call of an entry
 abbrev pub call_of : Entry → Call
-call_of entry = call (plain_event entry.event) (plain_reply entry.reply)
+call_of entry = as_meant (call entry.event entry.reply)
 
 -- the calls that caller p made, in order
 abbrev pub calls_by : ℕ → List Entry → List Call

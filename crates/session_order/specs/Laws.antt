@@ -25,6 +25,11 @@ abbrev pub FinishedStays : Type 0
 FinishedStays =
     (o : Opening) (n : ℕ) (t : Played) → is_finished o t ≡ true → rounds o n t ≡ t
 
+-- to play some rounds and then others is to play them all
+abbrev pub RoundsAddUp : Type 0
+RoundsAddUp =
+    (o : Opening) (m n : ℕ) (t : Played) → rounds o (m + n) t ≡ rounds o n (rounds o m t)
+
 -- the schedule plays one history
 abbrev pub SerialIsOne : Type 0
 SerialIsOne =

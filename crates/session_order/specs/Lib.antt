@@ -2,4 +2,5 @@ pub mod Calls
 pub mod Ends
 pub mod Follows
 pub mod Laws
+pub mod Meant
 pub mod Serial

@@ -1,5 +1,5 @@
 use Rattle.session_order.proofs.Progress.{rounds-go-on, serial-ends}
-use Rattle.session_order.proofs.Rounds.{finished-stays, serial-one}
+use Rattle.session_order.proofs.Rounds.{finished-stays, rounds-more, serial-one}
 use Rattle.session_order.proofs.Turns.{serial-right}
 use Rattle.session_order.proofs.laws.serial_laws.Goals as goal
 
@@ -17,3 +17,6 @@ returns-clause-goes_on c = rounds-go-on
 
 pub returns-clause-ends : goal.returns-clause-ends
 returns-clause-ends c = serial-ends
+
+pub returns-clause-sum : goal.returns-clause-sum
+returns-clause-sum c = rounds-more
