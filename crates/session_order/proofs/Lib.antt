@@ -1,0 +1,11 @@
+pub mod Ages
+pub mod Alive
+pub mod Callers
+pub mod Deeds
+pub mod Lively
+pub mod Meant
+pub mod Programs
+pub mod Progress
+pub mod Rounds
+pub mod Steps
+pub mod Turns

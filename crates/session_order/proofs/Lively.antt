@@ -1,0 +1,187 @@
+-- What every play from a start keeps of its callers: whose program is over is dead, who holds a ticket
+-- has waitend next, and where somebody waits, somebody else can go on.
+use Rattle.std.proofs.Common.{◌≡◌, ◌⊎◌, ℕ, ◌+◌, ◌-◌, ◌<◌, ◌≤◌, zero, suc, Bool, true, false, cond, ⊎_elim, inl, inr, arith, List, [], ◌∷◌, ◌++◌, length, get_or, map, filter, Option, Some, None, refl, sym, ap, ◌∙◌, subst}
+use Rattle.std.proofs.lemmas.Bool.{and_parts, both_ways, cases_Bool, cases_eq, cases_lt, eq-eqb, false_from_ne_true, false≢true, ne_eqb, not-true, or_cases, or_from, true≢false, and_right}
+use Rattle.std.proofs.lemmas.List.{append-nil, get_or_past, length-map, map-append}
+use Rattle.std.proofs.lemmas.List.Elements.{filter-append}
+use Rattle.std.proofs.lemmas.List.FromFn.{get_or-map-range_with_len, length-map-range_with_len}
+use Rattle.std.proofs.lemmas.Option.{none-some, same_Some, slice_get-get_or, slice_get_within}
+use Rattle.std.specs.List.{list_any, range_with_len}
+use Rattle.std.specs.Prelude.{◌==◌, ◌&&◌, ◌||◌, not, slice_get, if◌then◌else◌}
+use Rattle.session_order.proofs.Ages.{holds}
+use Rattle.session_order.proofs.Alive.{Walked, next-alive, walked-more}
+use Rattle.session_order.proofs.Callers.{Awake, Sound, Stepped, exit-kills, stepped, waitend-collects}
+use Rattle.session_order.proofs.Programs.{next-fine}
+use Rattle.session_order.proofs.Steps.{exit-never-waits, gone-dead, keyboard-never-waits}
+use Rattle.session_order.proofs.Turns.{Enters, FindsFull, Skips, TurnDoes, event-plain, reply-plain, turn-does}
+use Rattle.session_order.specs.Calls.{call_of, calls_by, next_by, next_of}
+use Rattle.session_order.specs.Ends.{Opening}
+use Rattle.session_order.specs.Follows.{is_waiting}
+use Rattle.session_order.specs.Laws.{IsOpening}
+use Rattle.session_order.specs.Serial.{Played, entry_at, nothing_played, round, rounds, turn, turns}
+use Rattle.session_text.specs.Programs.{Call, call, ends, is_exit, is_gone, is_kill, is_srch, is_wait, next}
+use Rattle.session_text.specs.declared.program.Program.{Program}
+use Rattle.vt_events.specs.declared.entry.Entry.{Entry}
+use Rattle.vt_events.specs.declared.event.Event.{Event}
+use Rattle.vt_events.specs.declared.event.Event.TheVariants as event
+use Rattle.vt_events.specs.declared.reply.Reply.{Reply}
+use Rattle.vt_events.specs.declared.reply.Reply.TheVariants as reply
+use Rattle.vt_journal.specs.declared.full.Full.{Full}
+use Rattle.vt_procs.specs.Callers.{Callers, caller_at, caller_of, callers_of, is_live, no_caller, starting}
+use Rattle.vt_procs.specs.Tickets.{can_go, is_open}
+use Rattle.vt_procs.specs.declared.proc_start.ProcStart.{ProcStart}
+use Rattle.vt_procs.specs.declared.process.Process.{Process}
+use Rattle.vt_world.specs.History.{replay}
+use Rattle.vt_world.specs.State.{WorldState}
+use Rattle.vt_world.specs.Step.{step}
+use Rattle.vt_world.specs.Tests.{ends_wait}
+
+-- p has waitend next, and isn't the keyboard
+pub record HasWaitEnd (p : ℕ) (next : Option Event) : Type 0 where
+  pub waitend : next ≡ Some event.WaitEnd
+  pub process : (p == 0) ≡ false
+
+-- the callers c after a history h of the programs
+pub record IsLively (programs : List Program) (h : List Entry) (c : Callers) : Type 0 where
+  pub sound : Sound c
+  pub awake : Awake c
+  pub known : (q : ℕ) → is_live c q ≡ true → q < length programs
+  pub over : (q : ℕ) → next_by programs q h ≡ None → is_live c q ≡ false
+  pub waits :
+      (q : ℕ) → holds (caller_at c q).waiting ≡ true → HasWaitEnd q (next_by programs q h)
+  pub walked :
+      (q : ℕ) (program : Program) → slice_get programs q ≡ Some program
+      → Walked (next program) (calls_by q h)
+
+-- the calls of p behind an entry of its own, and of another
+calls_mine : (h : List Entry) (entry : Entry) (p : ℕ) → (entry.caller == p) ≡ true
+    → calls_by p (h ++ entry ∷ []) ≡ calls_by p h ++ call_of entry ∷ []
+calls_mine h entry p mine =
+    ap (map call_of) (filter-append (λ (x : Entry). x.caller == p) h (entry ∷ [])
+    ∙ ap (λ b. filter (λ (x : Entry). x.caller == p) h ++ cond b (entry ∷ []) []) mine)
+    ∙ map-append call_of (filter (λ (x : Entry). x.caller == p) h) (entry ∷ [])
+
+calls_others : (h : List Entry) (entry : Entry) (p : ℕ) → (entry.caller == p) ≡ false
+    → calls_by p (h ++ entry ∷ []) ≡ calls_by p h
+calls_others h entry p other =
+    ap (map call_of) (filter-append (λ (x : Entry). x.caller == p) h (entry ∷ [])
+    ∙ ap (λ b. filter (λ (x : Entry). x.caller == p) h ++ cond b (entry ∷ []) []) other)
+    ∙ map-append call_of (filter (λ (x : Entry). x.caller == p) h) []
+    ∙ append-nil (calls_by p h)
+
+wait_not_gone : (r : Reply) → is_wait r ≡ true → is_gone r ≡ false
+wait_not_gone (reply.Err e) wait = absurd (false≢true wait)
+wait_not_gone r wait = refl
+
+-- a program that has a next call
+has_program : (program : Option Program) (made : List Call) (e : Event) → next_of program made ≡ Some e
+    → (found : Program) × (program ≡ Some found) × (next found made ≡ Some e)
+has_program None made e is = absurd (none-some e is)
+has_program (Some found) made e is = (found, refl, is)
+
+-- p's call e of a history, which it can make now
+pub record Now (programs : List Program) (h : List Entry) (w : WorldState) (p : ℕ) (e : Event) : Type 0 where
+  pub next : next_by programs p h ≡ Some e
+  pub shut : is_open (caller_at w.callers p).waiting ≡ false
+
+-- who makes a call that ends its program is dead then
+ending_dies : (programs : List Program) (h : List Entry) (w : WorldState) (p : ℕ) (e : Event)
+    → IsLively programs h w.callers → Now programs h w p e
+    → ends e (step w p e).reply ≡ true → is_live (step w p e).world.callers p ≡ false
+ending_dies programs h w p e lively now last =
+    let d : Callers = (step w p e).world.callers in
+    let stays_dead : is_live w.callers p ≡ false → is_live d p ≡ false =
+    λ dead. false_from_ne_true (is_live d p)
+    (λ live. both_ways (is_live w.callers p) dead ((stepped w p e).live p live)) in
+    let exits : is_exit e ≡ true → is_live d p ≡ false =
+    λ exit. ⊎_elim
+    (λ live. ⊎_elim
+    (λ held.
+    let same : event.WaitEnd ≡ e =
+    same_Some event.WaitEnd e (sym (lively.waits p held).waitend ∙ now.next) in
+    absurd (false≢true (subst (λ x. is_exit x ≡ true) (sym same) exit)))
+    (λ free. exit-kills w p e exit live free)
+    (cases_Bool (holds (caller_at w.callers p).waiting)))
+    stays_dead (cases_Bool (is_live w.callers p)) in
+    ⊎_elim exits
+    (λ gone.
+    let parts : (not (is_kill e) ≡ true) × (is_gone (step w p e).reply ≡ true) =
+    and_parts (not (is_kill e)) (is_gone (step w p e).reply) gone in
+    stays_dead (gone-dead w p e (not-true (is_kill e) parts.0) parts.1))
+    (or_cases (is_exit e) (not (is_kill e) && is_gone (step w p e).reply) last)
+
+-- who holds no ticket before and isn't answered wait, or collects it, holds none behind
+holds_wait : (programs : List Program) (h : List Entry) (w : WorldState) (p : ℕ) (e : Event)
+    → IsLively programs h w.callers → Now programs h w p e
+    → holds (caller_at (step w p e).world.callers p).waiting ≡ true
+    → is_wait (step w p e).reply ≡ true
+holds_wait programs h w p e lively now held = ⊎_elim
+    (λ wait. wait)
+    (λ no.
+    let before : holds (caller_at w.callers p).waiting ≡ true = (stepped w p e).own no held in
+    let has : HasWaitEnd p (next_by programs p h) = lively.waits p before in
+    let same : event.WaitEnd ≡ e = same_Some event.WaitEnd e (sym has.waitend ∙ now.next) in
+    let waitend : ends_wait e ≡ true = subst (λ x. ends_wait x ≡ true) same refl in
+    absurd (both_ways (holds (caller_at (step w p e).world.callers p).waiting)
+    (waitend-collects w p e waitend (lively.sound p before) has.process before now.shut) held))
+    (cases_Bool (is_wait (step w p e).reply))
+
+-- a call that is answered wait doesn't end its program
+wait_goes_on : (w : WorldState) (p : ℕ) (e : Event) → is_wait (step w p e).reply ≡ true
+    → ends e (step w p e).reply ≡ false
+wait_goes_on w p e wait =
+    let exit : is_exit e ≡ false =
+    false_from_ne_true (is_exit e)
+    (λ is. both_ways (is_wait (step w p e).reply) (exit-never-waits w p e is) wait) in
+    or_from (is_exit e) (not (is_kill e) && is_gone (step w p e).reply) exit
+    (and_right (not (is_kill e)) (is_gone (step w p e).reply) (wait_not_gone (step w p e).reply wait))
+
+-- one entry more
+pub lively-more : (programs : List Program) (h : List Entry) (w : WorldState) (p : ℕ) (e : Event) (entry : Entry)
+    → IsLively programs h w.callers → Now programs h w p e → entry.caller ≡ p
+    → call_of entry ≡ call e (step w p e).reply
+    → IsLively programs (h ++ entry ∷ []) (step w p e).world.callers
+lively-more programs h w p e entry lively now by is =
+    let r : Reply = (step w p e).reply in
+    let d : Callers = (step w p e).world.callers in
+    let s : Stepped p w.callers (is_wait r) d = stepped w p e in
+    let mine : (q : ℕ) → q ≡ p → calls_by q (h ++ entry ∷ []) ≡ calls_by q h ++ call e r ∷ [] =
+    λ q same. calls_mine h entry q (eq-eqb entry.caller q (by ∙ sym same)) ∙ ap (λ c. calls_by q h ++ c ∷ []) is in
+    let others : (q : ℕ) → (q ≡ p → ⊥) → calls_by q (h ++ entry ∷ []) ≡ calls_by q h =
+    λ q apart. calls_others h entry q (ne_eqb entry.caller q (λ same. apart (sym same ∙ by))) in
+    let dead : (q : ℕ) → is_live w.callers q ≡ false → is_live d q ≡ false =
+    λ q gone. false_from_ne_true (is_live d q) (λ live. both_ways (is_live w.callers q) gone (s.live q live)) in
+    let found : (program : Program) × (slice_get programs p ≡ Some program) × (next program (calls_by p h) ≡ Some e) =
+    has_program (slice_get programs p) (calls_by p h) e now.next in
+    let program : Program = found.0 in
+    let next_mine : next_by programs p (h ++ entry ∷ []) ≡ next program (calls_by p h ++ call e r ∷ []) =
+    λ i. next_of (found.1 i) (mine p refl i) in
+    let over_mine : next_by programs p (h ++ entry ∷ []) ≡ None → is_live d p ≡ false =
+    λ none. ending_dies programs h w p e lively now
+    ((next-alive program).goes (calls_by p h) e r (lively.walked p program found.1) found.2 (sym next_mine ∙ none)) in
+    let waits_mine : holds (caller_at d p).waiting ≡ true → HasWaitEnd p (next_by programs p (h ++ entry ∷ [])) =
+    λ held.
+    let wait : is_wait r ≡ true = holds_wait programs h w p e lively now held in
+    record {
+      waitend = next_mine ∙ (next-fine program).waits (calls_by p h) e r found.2 (wait_goes_on w p e wait) wait;
+      process = keyboard-never-waits w p e wait;
+    } in
+    record {
+      sound = s.sound lively.sound;
+      awake = s.awake lively.awake;
+      known = λ q live. lively.known q (s.live q live);
+      over = λ q none. ⊎_elim
+          (λ same. subst (λ k. is_live d k ≡ false) (sym same) (over_mine (subst (λ k. next_by programs k (h ++ entry ∷ []) ≡ None) same none)))
+          (λ apart. dead q (lively.over q (ap (next_of (slice_get programs q)) (sym (others q apart)) ∙ none)))
+          (cases_eq q p);
+      waits = λ q held. ⊎_elim
+          (λ same. subst (λ k. HasWaitEnd k (next_by programs k (h ++ entry ∷ []))) (sym same) (waits_mine (subst (λ k. holds (caller_at d k).waiting ≡ true) same held)))
+          (λ apart. subst (λ made. HasWaitEnd q (next_of (slice_get programs q) made)) (sym (others q apart)) (lively.waits q (s.others q apart held)))
+          (cases_eq q p);
+      walked = λ q other is_other. ⊎_elim
+          (λ same. subst (Walked (next other)) (sym (mine q same))
+          (walked-more (next other) (calls_by q h) e r (lively.walked q other is_other)
+          (ap (λ o. next_of o (calls_by q h)) (sym is_other) ∙ ap (λ k. next_by programs k h) same ∙ now.next)))
+          (λ apart. subst (Walked (next other)) (sym (others q apart)) (lively.walked q other is_other))
+          (cases_eq q p);
+    }

@@ -1,0 +1,174 @@
+-- Histories and their entries as they are meant.
+use Rattle.std.proofs.Common.{◌≡◌, ℕ, ◌+◌, ◌≤◌, Bool, true, false, cond, suc, zero, List, [], ◌∷◌, ◌++◌, length, filter, map, take, Option, Some, None, option_map, refl, sym, ap, ◌∙◌, subst}
+use Rattle.std.proofs.lemmas.List.{length-map, take-map}
+use Rattle.std.proofs.lemmas.List.Folds.{fold-map}
+use Rattle.std.proofs.lemmas.Option.{slice_get-map}
+use Rattle.std.specs.List.{list_all, range_with_len, sum_by}
+use Rattle.std.specs.Prelude.{◌==◌, ◌&&◌, count_by, nat_le, nat_lt, slice_get}
+use Rattle.session_order.proofs.Programs.{next-fine, plain-twice}
+use Rattle.session_order.specs.Calls.{all_over, as_meant, call_of, calls_by, is_none, next_by, next_of}
+use Rattle.session_order.specs.Ends.{Ends, EndsBy, Finishes, IsWithin, Opening, Stops, full_at, has_room, tail_at}
+use Rattle.session_order.specs.Follows.{Follows, IsNextCall, is_waiting}
+use Rattle.session_order.specs.Meant.{EndsIsMeant, FollowsIsMeant, LegalIsMeant, NextIsMeant, NextIsPlain, ReplayIsMeant, meant}
+use Rattle.session_text.specs.Programs.{Call, call, next}
+use Rattle.session_text.specs.declared.program.Program.{Program}
+use Rattle.vt_base.specs.declared.errno.Errno.{Errno}
+use Rattle.vt_events.specs.Charge.{charge_of}
+use Rattle.vt_events.specs.Plain.{plain_entry, plain_event, plain_reply}
+use Rattle.vt_events.specs.declared.entry.Entry.{Entry}
+use Rattle.vt_events.specs.declared.event.Event.{Event}
+use Rattle.vt_events.specs.declared.event.Event.TheVariants as event
+use Rattle.vt_events.specs.declared.reply.Reply.{Reply}
+use Rattle.vt_events.specs.declared.reply.Reply.TheVariants as reply
+use Rattle.vt_journal.specs.Log.{charge_of_all}
+use Rattle.vt_journal.specs.declared.full.Full.{Full}
+use Rattle.vt_world.specs.Heard.{cleared}
+use Rattle.vt_world.specs.History.{IsLegal, IsNext, replay}
+use Rattle.vt_world.specs.Rows.{row}
+use Rattle.vt_world.specs.State.{WorldState}
+use Rattle.vt_world.specs.Step.{Outcome, after_common, answered, own_step, step}
+use Rattle.vt_world.specs.Tests.{common_tests, ends_wait, first_failing, own_tests}
+
+pub next-meant : NextIsMeant
+next-meant p made = (next-fine p).same made
+
+pub next-plain : NextIsPlain
+next-plain p made e is = (next-fine p).plain made e is
+
+reply_twice : (r : Reply) → plain_reply (plain_reply r) ≡ plain_reply r
+reply_twice (reply.Text b) = refl
+reply_twice r = refl
+
+pub step-meant : (w : WorldState) (p : ℕ) (e : Event) → step w p (plain_event e) ≡ step w p e
+step-meant w p (event.Write fd b) = refl
+step-meant w p (event.SetFunc fd i b) = refl
+step-meant w p (event.SetDia fd b) = refl
+step-meant w p (event.SetMap fd b) = refl
+step-meant w p (event.SetPal fd b) = refl
+step-meant w p e = refl
+
+charge_meant : (e : Event) → charge_of (plain_event e) ≡ charge_of e
+charge_meant (event.Write fd b) = refl
+charge_meant (event.SetFunc fd i b) = refl
+charge_meant (event.SetDia fd b) = refl
+charge_meant (event.SetMap fd b) = refl
+charge_meant (event.SetPal fd b) = refl
+charge_meant e = refl
+
+wait_meant : (e : Event) → ends_wait (plain_event e) ≡ ends_wait e
+wait_meant (event.Write fd b) = refl
+wait_meant (event.SetFunc fd i b) = refl
+wait_meant (event.SetDia fd b) = refl
+wait_meant (event.SetMap fd b) = refl
+wait_meant (event.SetPal fd b) = refl
+wait_meant e = refl
+
+pub replay-meant : ReplayIsMeant
+replay-meant start [] = refl
+replay-meant start (entry ∷ entries) =
+    ap (λ (o : Outcome). replay o.world (meant entries)) (step-meant start entry.caller entry.event)
+    ∙ replay-meant (step start entry.caller entry.event).world entries
+
+pub charges-meant : (entries : List Entry) → charge_of_all (meant entries) ≡ charge_of_all entries
+charges-meant entries =
+    fold-map (λ n (x : Entry). n + charge_of x.event) plain_entry 0 entries
+    ∙ (λ i. sum_by (λ (x : Entry). charge_meant x.event i) entries)
+
+call_meant : (entry : Entry) → call_of (plain_entry entry) ≡ call_of entry
+call_meant entry = λ i. call (plain-twice entry.event i) (reply_twice entry.reply i)
+
+-- the calls of p
+pub calls-meant : (p : ℕ) (entries : List Entry) → calls_by p (meant entries) ≡ calls_by p entries
+calls-meant p [] = refl
+calls-meant p (entry ∷ entries) =
+    elim (entry.caller == p) as (λ b. map call_of (cond b (plain_entry entry ∷ filter (λ (x : Entry). x.caller == p) (meant entries)) (filter (λ (x : Entry). x.caller == p) (meant entries))) ≡ map call_of (cond b (entry ∷ filter (λ (x : Entry). x.caller == p) entries) (filter (λ (x : Entry). x.caller == p) entries)))
+    [ true ↦ (λ i. call_meant entry i ∷ calls-meant p entries i) | false ↦ calls-meant p entries ]
+
+counts_meant : (p : ℕ) (entries : List Entry)
+    → count_by (λ (x : Entry). x.caller == p) (meant entries) ≡ count_by (λ (x : Entry). x.caller == p) entries
+counts_meant p entries =
+    fold-map (λ n (x : Entry). n + cond (x.caller == p) 1 0) plain_entry 0 entries
+
+next_meant : (programs : List Program) (p : ℕ) (entries : List Entry)
+    → next_by programs p (meant entries) ≡ next_by programs p entries
+next_meant programs p entries = ap (next_of (slice_get programs p)) (calls-meant p entries)
+
+waiting_meant : (start : WorldState) (p : ℕ) (entries : List Entry)
+    → is_waiting (replay start (meant entries)) p ≡ is_waiting (replay start entries) p
+waiting_meant start p entries = ap (λ w. is_waiting w p) (replay-meant start entries)
+
+-- an entry of a history as it is meant, right behind those before it
+at_meant : (P : List Entry → Entry → Type 0) (entries : List Entry) (k : ℕ) (entry : Entry)
+    → slice_get entries k ≡ Some entry
+    → ((entry : Entry) → slice_get (meant entries) k ≡ Some entry → P (take k (meant entries)) entry)
+    → P (meant (take k entries)) (plain_entry entry)
+at_meant P entries k entry here each =
+    let there : slice_get (meant entries) k ≡ Some (plain_entry entry) =
+    slice_get-map plain_entry entries k ∙ ap (option_map plain_entry) here in
+    subst (λ before. P before (plain_entry entry)) (take-map plain_entry k entries) (each (plain_entry entry) there)
+
+pub legal-meant : LegalIsMeant
+legal-meant start entries legal k entry here =
+    let before : List Entry = take k entries in
+    let next : IsNext start (meant before) (plain_entry entry) =
+    at_meant (IsNext start) entries k entry here (legal k) in
+    record {
+      answer =
+          sym (reply_twice entry.reply)
+          ∙ next.answer
+          ∙ (λ i. (step (replay-meant start before i) entry.caller (plain_event entry.event)).reply)
+          ∙ ap (λ (o : Outcome). o.reply) (step-meant (replay start before) entry.caller entry.event);
+      number = next.number ∙ counts_meant entry.caller before;
+    }
+
+pub follows-meant : FollowsIsMeant
+follows-meant start programs entries follows k entry here =
+    let before : List Entry = take k entries in
+    let next : IsNextCall start programs (meant before) (plain_entry entry) =
+    at_meant (IsNextCall start programs) entries k entry here (follows k) in
+    record {
+      next = sym (next_meant programs entry.caller before) ∙ next.next ∙ ap Some (plain-twice entry.event);
+      ended = λ waitend. sym (waiting_meant start entry.caller before) ∙ next.ended (wait_meant entry.event ∙ waitend);
+    }
+
+room_meant : (o : Opening) (entries : List Entry) (charge : ℕ)
+    → has_room o.limits (meant entries) charge ≡ has_room o.limits entries charge
+room_meant o entries charge =
+    λ i. nat_lt (length-map entries plain_entry i) o.limits.events && nat_le (charges-meant entries i + charge) o.limits.bytes
+
+over_meant : (programs : List Program) (entries : List Entry) (callers : List ℕ)
+    → list_all (λ p. is_none (next_by programs p (meant entries))) callers ≡ list_all (λ p. is_none (next_by programs p entries)) callers
+over_meant programs entries [] = refl
+over_meant programs entries (p ∷ callers) =
+    λ i. is_none (next_meant programs p entries i) && over_meant programs entries callers i
+
+within_meant : (o : Opening) (entries : List Entry) → IsWithin o.limits (meant entries) → IsWithin o.limits entries
+within_meant o entries within = record {
+  events = subst (λ n. n ≤ o.limits.events) (length-map entries plain_entry) within.events;
+  bytes = subst (λ n. n ≤ o.limits.bytes) (charges-meant entries) within.bytes;
+}
+
+pub ends-meant : EndsIsMeant
+ends-meant o entries None ends = record {
+  within = within_meant o entries ends.within;
+  rightly = record {
+    over = sym (over_meant o.programs entries (range_with_len 0 (length o.programs))) ∙ ends.rightly.over;
+    entries = refl;
+    charge = refl;
+  };
+}
+ends-meant o entries (Some full) ends = record {
+  within = within_meant o entries ends.within;
+  rightly = record {
+    caller = ends.rightly.caller;
+    call = ends.rightly.call;
+    next = sym (next_meant o.programs ends.rightly.caller entries) ∙ ends.rightly.next;
+    goes = sym (waiting_meant o.start ends.rightly.caller entries) ∙ ends.rightly.goes;
+    no_room = sym (room_meant o entries (charge_of ends.rightly.call)) ∙ ends.rightly.no_room;
+    numbers = ends.rightly.numbers ∙ (λ i. record {
+      events = length-map entries plain_entry i;
+      bytes = charges-meant entries i;
+      charge = charge_of ends.rightly.call;
+    });
+  };
+}

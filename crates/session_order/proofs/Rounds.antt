@@ -1,0 +1,99 @@
+-- Rounds of a play that is finished.
+use Rattle.std.proofs.Common.{◌≡◌, ℕ, ◌+◌, zero, suc, ◌<◌, ◌≤◌, Bool, true, false, cond, ⊎_elim, inl, inr, arith, List, [], ◌∷◌, length, get_or, Option, Some, None, refl, sym, ap, ◌∙◌, subst}
+use Rattle.std.proofs.lemmas.Bool.{cases_Bool, cases_lt, both_ways}
+use Rattle.std.proofs.lemmas.List.Folds.{list_all_at}
+use Rattle.std.proofs.lemmas.List.FromFn.{get_or-range_with_len, length-range_with_len}
+use Rattle.std.proofs.lemmas.Option.{slice_get_past}
+use Rattle.std.specs.List.{range_with_len}
+use Rattle.std.specs.Prelude.{slice_get}
+use Rattle.session_order.specs.Calls.{all_over, calls_by, is_none, next_by, next_of}
+use Rattle.session_order.specs.Ends.{Opening}
+use Rattle.session_order.specs.Follows.{is_waiting}
+use Rattle.session_order.specs.Laws.{FinishedStays, SerialIsOne}
+use Rattle.session_order.specs.Serial.{IsSerial, Played, call_now, calls, is_finished, nothing_played, round, rounds, turn, turns}
+use Rattle.session_text.specs.declared.program.Program.{Program}
+use Rattle.vt_events.specs.declared.entry.Entry.{Entry}
+use Rattle.vt_events.specs.declared.event.Event.{Event}
+use Rattle.vt_journal.specs.declared.full.Full.{Full}
+use Rattle.vt_world.specs.History.{replay}
+
+pub is_none_none : (o : Option Event) → is_none o ≡ true → o ≡ None
+is_none_none None is = refl
+is_none_none (Some e) is = absurd (both_ways false refl is)
+
+-- where every program is over, nobody has a next call
+pub none-next : (programs : List Program) (history : List Entry) (p : ℕ)
+    → all_over programs history ≡ true → next_by programs p history ≡ None
+none-next programs history p over =
+    let n : ℕ = length programs in
+    let test : ℕ → Bool = λ q. is_none (next_by programs q history) in
+    ⊎_elim
+    (λ within. ⊎_elim
+    (λ is. is_none_none (next_by programs p history) is)
+    (λ isnt.
+    let here : get_or (range_with_len 0 n) p 0 ≡ p =
+    get_or-range_with_len 0 n p 0 within ∙ omega arith in
+    let inside : p < length (range_with_len 0 n) =
+    omega (arith, within, length-range_with_len 0 n) in
+    absurd (both_ways (all_over programs history)
+    (list_all_at test (range_with_len 0 n) p 0 inside (ap test here ∙ isnt)) over))
+    (cases_Bool (test p)))
+    (λ past. ap (λ program. next_of program (calls_by p history)) (slice_get_past programs p past))
+    (cases_lt p n)
+
+-- who has no next call is skipped
+skipped : (o : Opening) (p : ℕ) (history : List Entry) → next_by o.programs p history ≡ None
+    → calls o p (call_now o history p) history ≡ record { history = history; stop = None }
+skipped o p history none =
+    let waits : Bool = is_waiting (replay o.start history) p in
+    let now : call_now o history p ≡ None =
+    ap (λ e. cond waits None e) none
+    ∙ elim waits as (λ b. ◌≡◌ {A = Option Event} (cond b None None) None) [ true ↦ refl | false ↦ refl ] in
+    ap (λ e. calls o p e history) now
+
+pub turn-stays : (o : Opening) (p : ℕ) (history : List Entry) (stop : Option Full)
+    → is_finished o (record { history = history; stop = stop }) ≡ true
+    → turn o p (record { history = history; stop = stop })
+    ≡ record { history = history; stop = stop }
+turn-stays o p history (Some full) over = refl
+turn-stays o p history None over = skipped o p history (none-next o.programs history p over)
+
+pub turns-stay : (o : Opening) (callers : List ℕ) (t : Played) → is_finished o t ≡ true
+    → turns o callers t ≡ t
+turns-stay o [] t over = refl
+turns-stay o (p ∷ callers) t over =
+    ap (turns o callers) (turn-stays o p t.history t.stop over) ∙ turns-stay o callers t over
+
+pub finished-stays : FinishedStays
+finished-stays o zero t over = refl
+finished-stays o (suc n) t over =
+    ap (rounds o n) (turns-stay o (range_with_len 0 (length o.programs)) t over)
+    ∙ finished-stays o n t over
+
+-- rounds and more rounds
+pub rounds-more : (o : Opening) (m n : ℕ) (t : Played)
+    → rounds o (m + n) t ≡ rounds o n (rounds o m t)
+rounds-more o zero n t = ap (λ k. rounds o k t) (let e : 0 + n ≡ n = omega arith in e)
+rounds-more o (suc m) n t =
+    ap (λ k. rounds o k t) (let e : suc m + n ≡ suc (m + n) = omega arith in e)
+    ∙ rounds-more o m n (round o t)
+
+-- the same rounds in two counts
+same : (o : Opening) (m k : ℕ) (t : Played) → is_finished o (rounds o m t) ≡ true
+    → rounds o (m + k) t ≡ rounds o m t
+same o m k t over = rounds-more o m k t ∙ finished-stays o k (rounds o m t) over
+
+pub serial-one : SerialIsOne
+serial-one o first a b sa sb =
+    let t : Played = turns o first nothing_played in
+    let over_a : is_finished o (rounds o sa.count t) ≡ true =
+    subst (λ x. is_finished o x ≡ true) sa.played sa.finished in
+    let over_b : is_finished o (rounds o sb.count t) ≡ true =
+    subst (λ x. is_finished o x ≡ true) sb.played sb.finished in
+    let meets : rounds o (sa.count + sb.count) t ≡ rounds o (sb.count + sa.count) t =
+    ap (λ k. rounds o k t) (let e : sa.count + sb.count ≡ sb.count + sa.count = omega arith in e) in
+    sa.played
+    ∙ sym (same o sa.count sb.count t over_a)
+    ∙ meets
+    ∙ same o sb.count sa.count t over_b
+    ∙ sym sb.played

@@ -1,0 +1,177 @@
+-- What a step of the console does: it refuses the event, or accepts it.
+use Rattle.std.proofs.Common.{◌≡◌, ◌⊎◌, ℕ, Bool, true, false, inl, inr, List, [], ◌∷◌, Option, Some, None, refl, sym, subst}
+use Rattle.std.proofs.lemmas.Bool.{and_parts, both_ways, false≢true, not-true, true≢false}
+use Rattle.std.proofs.lemmas.Option.{none-some, same_Some}
+use Rattle.std.specs.List.{list_all}
+use Rattle.std.specs.Prelude.{◌==◌, not, ◌&&◌, if◌then◌else◌}
+use Rattle.session_text.specs.Programs.{is_exit, is_gone, is_kill, is_srch, is_wait}
+use Rattle.vt_base.specs.declared.errno.Errno.{Errno}
+use Rattle.vt_base.specs.declared.errno.Errno.TheVariants as errno
+use Rattle.vt_events.specs.declared.event.Event.{Event}
+use Rattle.vt_events.specs.declared.event.Event.TheVariants as event
+use Rattle.vt_events.specs.declared.reply.Reply.{Reply}
+use Rattle.vt_events.specs.declared.reply.Reply.TheVariants as reply
+use Rattle.vt_procs.specs.Callers.{is_live}
+use Rattle.vt_procs.specs.declared.ticket.Ticket.{Ticket}
+use Rattle.vt_procs.specs.declared.ticket.Ticket.TheVariants.{Active, Input}
+use Rattle.vt_procs.specs.declared.waiting.Waiting.{Waiting}
+use Rattle.vt_procs.specs.declared.waiting.Waiting.TheVariants.{Nothing, Open, Done, Broken}
+use Rattle.vt_world.specs.Deeds.{all_done}
+use Rattle.vt_world.specs.Heard.{cleared}
+use Rattle.vt_world.specs.Rows.{Row, ended_reply, row, waits_unless}
+use Rattle.vt_world.specs.State.{WorldState}
+use Rattle.vt_world.specs.Step.{Outcome, after_common, answered, step, with_idle_rule}
+use Rattle.vt_world.specs.Tests.{Test, caller, common_tests, ends_wait, first_failing, holds_ticket, is_empty, may_make, own_tests, target}
+
+-- the first of the tests of every event that fails, and of those of this one
+abbrev pub common : WorldState → ℕ → Event → Option Errno
+common w p e = first_failing (common_tests (cleared w) p e)
+
+abbrev pub own : WorldState → ℕ → Event → Option Errno
+own w p e = first_failing (own_tests (cleared w) p e)
+
+abbrev pub refused : WorldState → Errno → Outcome
+refused w with = record { world = cleared w; reply = reply.Err with }
+
+abbrev pub accepted : WorldState → Row → Outcome
+accepted w r = record { world = with_idle_rule (all_done (cleared w) r.deeds); reply = r.reply }
+
+pub data StepDoes (w : WorldState) (p : ℕ) (e : Event) : Outcome → Type 0 where
+  RefusedByAll : (with : Errno) → common w p e ≡ Some with → StepDoes w p e (refused w with)
+  RefusedByOwn : (with : Errno) → common w p e ≡ None → own w p e ≡ Some with → StepDoes w p e (refused w with)
+  Accepted : common w p e ≡ None → own w p e ≡ None → StepDoes w p e (accepted w (row (cleared w) p e))
+
+own_does : (w : WorldState) (p : ℕ) (e : Event) (o : Option Errno) → common w p e ≡ None
+    → own w p e ≡ o → StepDoes w p e (answered (cleared w) o (row (cleared w) p e))
+own_does w p e None none is = Accepted none is
+own_does w p e (Some with) none is = RefusedByOwn with none is
+
+all_does : (w : WorldState) (p : ℕ) (e : Event) (o : Option Errno) → common w p e ≡ o
+    → StepDoes w p e (after_common (cleared w) p e o)
+all_does w p e None is = own_does w p e (own w p e) is refl
+all_does w p e (Some with) is = RefusedByAll with is
+
+pub step-does : (w : WorldState) (p : ℕ) (e : Event) → StepDoes w p e (step w p e)
+step-does w p e = all_does w p e (common w p e) refl
+
+-- the tests of every event, by what they test
+abbrev pub tested : Bool → Bool → Bool → Option Errno
+tested live may held =
+    if not live then Some errno.Srch
+    else (if not may then Some errno.Notty else (if held then Some errno.Inval else None))
+
+tested_none : (live may held : Bool) → tested live may held ≡ None
+    → (live ≡ true) × (may ≡ true)
+tested_none true true held none = (refl, refl)
+tested_none true false held none = absurd (none-some errno.Notty (sym none))
+tested_none false may held none = absurd (none-some errno.Srch (sym none))
+
+pub common-none : (w : WorldState) (p : ℕ) (e : Event) → common w p e ≡ None
+    → (is_live w.callers p ≡ true) × (may_make p e ≡ true)
+common-none w p e none =
+    tested_none (is_live w.callers p) (may_make p e) (holds_ticket w p && not (ends_wait e)) none
+
+pub none-common : (w : WorldState) (p : ℕ) (e : Event) → is_live w.callers p ≡ true
+    → may_make p e ≡ true → (holds_ticket w p && not (ends_wait e)) ≡ false
+    → common w p e ≡ None
+none-common w p e live may held = λ i. tested (live i) (may i) (held i)
+
+-- another error is no ESRCH
+other : {A : Type 0} (known with : Errno) → is_srch known ≡ false → Some known ≡ Some with
+    → is_srch with ≡ true → A
+other known with isnt same is =
+    absurd (both_ways (is_srch with) (subst (λ e. is_srch e ≡ false) (same_Some known with same) isnt) is)
+
+-- that every event can get ESRCH comes of the dead alone
+tested_srch : (live may held : Bool) (with : Errno) → tested live may held ≡ Some with
+    → is_srch with ≡ true → live ≡ false
+tested_srch true true true with same is = other errno.Inval with refl same is
+tested_srch true true false with same is = absurd (none-some with same)
+tested_srch true false held with same is = other errno.Notty with refl same is
+tested_srch false may held with same is = refl
+
+-- no test of the list refuses with ESRCH
+abbrev is_no_srch : Test → Bool
+is_no_srch t = not (is_srch t.with)
+
+failing_no_srch : (tests : List Test) (with : Errno) → list_all is_no_srch tests ≡ true
+    → first_failing tests ≡ Some with → is_srch with ≡ false
+failing_no_srch [] with none = λ same. absurd (none-some with same)
+failing_no_srch (t ∷ tests) with none =
+    let parts : (is_no_srch t ≡ true) × (list_all is_no_srch tests ≡ true) =
+    and_parts (is_no_srch t) (list_all is_no_srch tests) none in
+    elim t.fails as (λ b. (if b then Some t.with else first_failing tests) ≡ Some with → is_srch with ≡ false) [
+      | true ↦ λ same. subst (λ e. is_srch e ≡ false) (same_Some t.with with same) (not-true (is_srch t.with) parts.0)
+      | false ↦ failing_no_srch tests with parts.1
+    ]
+
+own_no_srch : (w : WorldState) (p : ℕ) (e : Event) → is_kill e ≡ false
+    → list_all is_no_srch (own_tests w p e) ≡ true
+own_no_srch w p (event.Kill q s) isnt = absurd (true≢false isnt)
+own_no_srch w p e isnt = refl
+
+waits_replies : (there : Bool) (p : ℕ) (ticket : Ticket)
+    → is_gone (waits_unless there p ticket).reply ≡ false
+waits_replies true p ticket = refl
+waits_replies false p ticket = refl
+
+ended_replies : (waiting : Waiting) → is_gone (ended_reply waiting) ≡ false
+ended_replies Nothing = refl
+ended_replies (Open ticket) = refl
+ended_replies Done = refl
+ended_replies Broken = refl
+
+row_replies : (w : WorldState) (p : ℕ) (e : Event) → is_gone (row w p e).reply ≡ false
+row_replies w p (event.WaitInput fd) =
+    waits_replies (not (is_empty w (target w p fd))) p (Input (target w p fd))
+row_replies w p (event.WaitActive fd n) = waits_replies (n == w.display.front) p (Active n)
+row_replies w p event.WaitEnd = ended_replies (caller w p).waiting
+row_replies w p e = refl
+
+gone_does : (w : WorldState) (p : ℕ) (e : Event) (o : Outcome) → StepDoes w p e o
+    → is_kill e ≡ false → is_gone o.reply ≡ true → is_live w.callers p ≡ false
+gone_does w p e o (RefusedByAll with is) kill gone =
+    tested_srch (is_live w.callers p) (may_make p e) (holds_ticket w p && not (ends_wait e)) with is gone
+gone_does w p e o (RefusedByOwn with none is) kill gone =
+    absurd (both_ways (is_srch with) (failing_no_srch (own_tests (cleared w) p e) with (own_no_srch (cleared w) p e kill) is) gone)
+gone_does w p e o (Accepted none is) kill gone =
+    absurd (both_ways (is_gone (row (cleared w) p e).reply) (row_replies (cleared w) p e) gone)
+
+-- who gets ESRCH, but by a kill, is dead
+pub gone-dead : (w : WorldState) (p : ℕ) (e : Event) → is_kill e ≡ false
+    → is_gone (step w p e).reply ≡ true → is_live w.callers p ≡ false
+gone-dead w p e = gone_does w p e (step w p e) (step-does w p e)
+
+exit_reply : (w : WorldState) (p : ℕ) (e : Event) → is_exit e ≡ true
+    → is_wait (row w p e).reply ≡ false
+exit_reply w p event.Exit is = refl
+exit_reply w p e is = absurd (false≢true is)
+
+exit_waits : (w : WorldState) (p : ℕ) (e : Event) (o : Outcome) → StepDoes w p e o
+    → is_exit e ≡ true → is_wait o.reply ≡ false
+exit_waits w p e o (RefusedByAll with is) exit = refl
+exit_waits w p e o (RefusedByOwn with none is) exit = refl
+exit_waits w p e o (Accepted none is) exit = exit_reply (cleared w) p e exit
+
+-- exit isn't answered wait
+pub exit-never-waits : (w : WorldState) (p : ℕ) (e : Event) → is_exit e ≡ true
+    → is_wait (step w p e).reply ≡ false
+exit-never-waits w p e = exit_waits w p e (step w p e) (step-does w p e)
+
+keyboard_reply : (w : WorldState) (p : ℕ) (e : Event) → may_make p e ≡ true
+    → is_wait (row w p e).reply ≡ true → (p == 0) ≡ false
+keyboard_reply w p (event.Scan b) may wait = absurd (false≢true wait)
+keyboard_reply w p event.Exit may wait = absurd (false≢true wait)
+keyboard_reply w p e may wait = not-true (p == 0) may
+
+keyboard_waits : (w : WorldState) (p : ℕ) (e : Event) (o : Outcome) → StepDoes w p e o
+    → is_wait o.reply ≡ true → (p == 0) ≡ false
+keyboard_waits w p e o (RefusedByAll with is) wait = absurd (false≢true wait)
+keyboard_waits w p e o (RefusedByOwn with none is) wait = absurd (false≢true wait)
+keyboard_waits w p e o (Accepted none is) wait =
+    keyboard_reply (cleared w) p e (common-none w p e none).1 wait
+
+-- the keyboard never waits
+pub keyboard-never-waits : (w : WorldState) (p : ℕ) (e : Event)
+    → is_wait (step w p e).reply ≡ true → (p == 0) ≡ false
+keyboard-never-waits w p e = keyboard_waits w p e (step w p e) (step-does w p e)

@@ -1,0 +1,39 @@
+-- The calls of a session's callers in a history. Programs are given by the numbers of their callers:
+-- the first is the keyboard's. This project's own.
+use Rattle.std.specs.Prelude.{ℕ, ◌==◌, Bool, true, false, List, filter, length, map, Option, Some, None, slice_get}
+use Rattle.std.specs.List.{list_all, range_with_len}
+use Rattle.session_text.specs.Programs.{Call, call, next}
+use Rattle.session_text.specs.declared.program.Program.{Program}
+use Rattle.vt_events.specs.Plain.{plain_event, plain_reply}
+use Rattle.vt_events.specs.declared.entry.Entry.{Entry}
+use Rattle.vt_events.specs.declared.event.Event.{Event}
+
+-- a call with its answer, as they are meant: the room that their bytes have is nothing of theirs
+abbrev pub as_meant : Call → Call
+as_meant c = call (plain_event c.event) (plain_reply c.reply)
+
+-- the call of an entry
+abbrev pub call_of : Entry → Call
+call_of entry = as_meant (call entry.event entry.reply)
+
+-- the calls that caller p made, in order
+abbrev pub calls_by : ℕ → List Entry → List Call
+calls_by p history = map call_of (filter (λ entry. entry.caller == p) history)
+
+-- the next call behind those that were made; where there is no program there is none
+abbrev pub next_of : Option Program → List Call → Option Event
+next_of None made = None
+next_of (Some program) made = next program made
+
+-- the next call of caller p after a history, None where its program is over
+abbrev pub next_by : List Program → ℕ → List Entry → Option Event
+next_by programs p history = next_of (slice_get programs p) (calls_by p history)
+
+abbrev pub is_none : Option Event → Bool
+is_none None = true
+is_none (Some e) = false
+
+-- every program is over
+abbrev pub all_over : List Program → List Entry → Bool
+all_over programs history =
+    list_all (λ p. is_none (next_by programs p history)) (range_with_len 0 (length programs))

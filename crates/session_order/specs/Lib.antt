@@ -1,0 +1,6 @@
+pub mod Calls
+pub mod Ends
+pub mod Follows
+pub mod Laws
+pub mod Meant
+pub mod Serial

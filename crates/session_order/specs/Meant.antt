@@ -1,0 +1,46 @@
+-- Histories as they are meant: the room that the bytes of calls and answers have changes nothing.
+use Rattle.std.specs.Prelude.{◌≡◌, ℕ, List, map, Some, Option}
+use Rattle.session_order.specs.Calls.{as_meant}
+use Rattle.session_order.specs.Ends.{Ends, Opening, tail_at}
+use Rattle.session_order.specs.Follows.{Follows}
+use Rattle.session_text.specs.Programs.{Call, next}
+use Rattle.session_text.specs.declared.program.Program.{Program}
+use Rattle.vt_events.specs.Plain.{plain_entry, plain_event}
+use Rattle.vt_events.specs.declared.entry.Entry.{Entry}
+use Rattle.vt_events.specs.declared.event.Event.{Event}
+use Rattle.vt_journal.specs.declared.full.Full.{Full}
+use Rattle.vt_world.specs.History.{IsLegal, replay}
+use Rattle.vt_world.specs.State.{WorldState}
+
+-- the entries as they are meant
+abbrev pub meant : List Entry → List Entry
+meant entries = map plain_entry entries
+
+-- the next call goes by the calls as they are meant, and is one itself
+abbrev pub NextIsMeant : Type 0
+NextIsMeant =
+    (p : Program) (made : List Call) → next p (map as_meant made) ≡ next p made
+
+abbrev pub NextIsPlain : Type 0
+NextIsPlain =
+    (p : Program) (made : List Call) (e : Event) → next p made ≡ Some e → plain_event e ≡ e
+
+-- so do replay, and what makes a history right
+abbrev pub ReplayIsMeant : Type 0
+ReplayIsMeant =
+    (start : WorldState) (entries : List Entry) → replay start (meant entries) ≡ replay start entries
+
+abbrev pub LegalIsMeant : Type 0
+LegalIsMeant =
+    (start : WorldState) (entries : List Entry) → IsLegal start (meant entries)
+    → IsLegal start entries
+
+abbrev pub FollowsIsMeant : Type 0
+FollowsIsMeant =
+    (start : WorldState) (programs : List Program) (entries : List Entry)
+    → Follows start programs (meant entries) → Follows start programs entries
+
+abbrev pub EndsIsMeant : Type 0
+EndsIsMeant =
+    (o : Opening) (entries : List Entry) (stop : Option Full)
+    → Ends o (meant entries) (tail_at (meant entries) stop) → Ends o entries (tail_at entries stop)
