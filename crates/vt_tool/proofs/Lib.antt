@@ -1,12 +1,5 @@
-pub mod CallsCuts
-pub mod CallsLaws
-pub mod CallsLines
-pub mod CallsTexts
 mod Complete
-mod Consoles
 mod FinalTexts
-mod PlayEnds
-mod Plays
 mod Sides
 mod Statuses
 pub mod Streams

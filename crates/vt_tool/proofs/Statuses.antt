@@ -1,6 +1,7 @@
 -- The statuses that a command gives for an input.
 use Rattle.std.proofs.Common.{◌≡◌, ℕ, Bool, true, false, inl, inr, List, refl, sym, ap, ◌∙◌, true≢false}
 use Rattle.vt_io.specs.Stream.{Stream}
+use Rattle.session_order.specs.Ends.{tail_at}
 use Rattle.vt_journal.specs.declared.tail.Tail.{Tail}
 use Rattle.vt_journal.specs.declared.tail.Tail.TheVariants as tail
 use Rattle.vt_tool.specs.Outcome.{Gives, Outcome}
@@ -31,7 +32,8 @@ gives-own : (command : Command) (input : List ℕ) (outcome : Outcome) → Gives
 gives-own (Screen rows cols) input outcome gives = own_of outcome _ gives refl
 gives-own Keys input outcome (inl listing) = own_of outcome _ listing.listed refl
 gives-own Keys input outcome (inr fault) = own_of outcome _ fault.refused refl
-gives-own Play input outcome (inl played) = ap is_own played.status ∙ played_own played.end
+gives-own Play input outcome (inl played) =
+    ap is_own played.played.status_is ∙ played_own (tail_at played.played.history played.played.stop)
 gives-own Play input outcome (inr fault) = own_of outcome _ fault.refused refl
 gives-own Typing input outcome (inl typed) = own_of outcome _ typed.written refl
 gives-own Typing input outcome (inr fault) = own_of outcome _ fault.refused refl

@@ -1,9 +1,7 @@
-pub mod Calls
 pub mod Final
 pub mod Input
 pub mod Outcome
 pub mod Play
-pub mod Player
 pub mod Reading
 pub mod Run
 pub mod Status

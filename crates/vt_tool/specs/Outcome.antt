@@ -7,12 +7,10 @@ use Rattle.key_tables.specs.Tables.{Tables}
 use Rattle.key_text.specs.Reading.{lines_of}
 use Rattle.key_text.specs.Told.{Told}
 use Rattle.key_text.specs.declared.fault.KeyFault.{KeyFault}
+use Rattle.session_text.specs.Sessions.{IsSessionOf, SessionValue, SessionView, session_says}
 use Rattle.vt_screen.specs.Run.{after, start}
-use Rattle.vt_events.specs.declared.entry.Entry.{Entry}
-use Rattle.vt_journal.specs.declared.tail.Tail.{Tail}
-use Rattle.vt_tool.specs.Calls.{CallText, HasFaultAt, IsGood, call_text}
-use Rattle.vt_tool.specs.Play.{ArePlayed, IsPlay, opening_of, play_text, status_of}
 use Rattle.vt_dump.specs.Rows.{rows_text}
+use Rattle.vt_tool.specs.Play.{IsPlayed}
 use Rattle.vt_tool.specs.Typing.{TypeTable, type_table_of, typed_text}
 use Rattle.vt_tool.specs.declared.command.Command.{Command}
 use Rattle.vt_tool.specs.declared.command.Command.TheVariants as command
@@ -33,25 +31,20 @@ GivesRows rows cols input outcome =
       text = rows_text (after (start rows cols) input).state.sheet.cells;
     }
 
--- the text of a play of the input's calls; its journal is their legal history
+-- what is printed of the serial play of the session that the input says
 pub record GivesPlayed (input : List ℕ) (outcome : Outcome) : Type 0 where
-  pub text : CallText
-  pub tables : Tables
-  pub history : List Entry
-  pub end : Tail
-  pub spelled : input ≡ call_text text
-  pub good : IsGood text
-  pub holes : ArePlayed tables
-  pub played : IsPlay (opening_of text.heading tables) text.calls history end
-  pub status : outcome.status ≡ status_of end
-  pub written : outcome.text ≡ play_text (opening_of text.heading tables) history end
+  pub value : SessionValue
+  pub session : SessionView
+  pub said : session_says input (Ok value)
+  pub is : IsSessionOf session value
+  pub played : IsPlayed session outcome.status outcome.text
 
--- the first line of the input that has a fault
-pub record GivesFault (input : List ℕ) (outcome : Outcome) : Type 0 where
-  pub code : ℕ
-  pub line : ℕ
-  pub fault : HasFaultAt input code line
-  pub refused : outcome ≡ record { status = Refused code line 1; text = [] }
+-- the session is refused at its first fault
+pub record GivesSessionFault (input : List ℕ) (outcome : Outcome) : Type 0 where
+  pub fault : TableFault
+  pub found : session_says input (Err fault)
+  pub refused :
+      outcome ≡ record { status = Refused fault.kind fault.part fault.item; text = [] }
 
 -- the first fault of a keymap text: of its grammar, or of its lines
 abbrev pub HasKeyFault : List ℕ → KeyFault → Type 0
@@ -96,5 +89,5 @@ abbrev pub Gives : Command → List ℕ → Outcome → Type 0
 Gives (command.Screen rows cols) input outcome =
     GivesRows rows cols input outcome
 Gives command.Keys input outcome = GivesListing input outcome ⊎ GivesKeyFault input outcome
-Gives command.Play input outcome = GivesPlayed input outcome ⊎ GivesFault input outcome
+Gives command.Play input outcome = GivesPlayed input outcome ⊎ GivesSessionFault input outcome
 Gives command.Typing input outcome = GivesTyped input outcome ⊎ GivesTableFault input outcome

@@ -1,95 +1,61 @@
--- What `play` makes of a call text: a legal history of its calls, as far as they find room. This
--- project's own.
-use Rattle.std.specs.Prelude.{◌≡◌, ◌⊎◌, ℕ, ◌+◌, ◌-◌, ◌^◌, ◌≤◌, true, List, [], ◌∷◌, ◌++◌, length, map, take, replicate, slice_get, Some}
-use Rattle.vt_events.specs.Charge.{charge_of}
+-- What `play` prints of a session: its serial play, and the console after it. This project's own.
+use Rattle.std.specs.Prelude.{◌≡◌, ◌<◌, ℕ, List, ◌++◌, length, Option, option_map}
+use Rattle.session_order.specs.Ends.{Ends, Opening, tail_at}
+use Rattle.session_order.specs.Follows.{Follows}
+use Rattle.session_order.specs.Meant.{meant}
+use Rattle.session_order.specs.Serial.{IsSerial}
+use Rattle.session_run.specs.Final.{final_text}
+use Rattle.session_run.specs.Runs.{opening_of}
+use Rattle.session_text.specs.Sessions.{SessionView}
 use Rattle.vt_events.specs.declared.entry.Entry.{Entry}
-use Rattle.key_tables.specs.Tables.{IsEmpty, Tables}
 use Rattle.vt_journal.specs.Journal.{journal_text}
-use Rattle.vt_journal.specs.Log.{HasRoom, charge_of_all}
+use Rattle.vt_journal.specs.declared.full.Full.{Full}
 use Rattle.vt_journal.specs.declared.tail.Tail.{Tail}
 use Rattle.vt_journal.specs.declared.tail.Tail.TheVariants as tail
-use Rattle.vt_tool.specs.Final.{final_text}
-use Rattle.vt_tool.specs.declared.calls.call.Call.{Call}
-use Rattle.vt_tool.specs.declared.calls.heading.Heading.{Heading}
+use Rattle.vt_switch.specs.Law.{IsExplained, IsLawful}
 use Rattle.vt_tool.specs.declared.status.Status.{Status}
 use Rattle.vt_tool.specs.declared.status.Status.TheVariants as status
 use Rattle.vt_world.specs.History.{IsLegal, replay}
-use Rattle.vt_world.specs.Start.{opening}
-use Rattle.vt_world.specs.State.{WorldState}
-use Rattle.vt_procs.specs.declared.proc_start.ProcStart.{ProcStart}
+use Rattle.vt_world.specs.Laws.{moments}
+use Rattle.vt_world.specs.State.{core}
+use Rattle.vt_world.specs.Tapes.{screen_of, tape_of}
+use Rattle.vt_world.specs.Terminals.{machine_of, terminal_at}
 
--- the most entries of a journal, and the most bytes that they count for
-abbrev pub most_events : ℕ
-most_events = 65_536
+-- where a session begins
+abbrev pub session_opening : SessionView → Opening
+session_opening s = opening_of s.config s.tables s.limits s.programs
 
-abbrev pub most_bytes : ℕ
-most_bytes = 67_108_864
-
--- a process that may handle every console
-abbrev pub privileged : ProcStart
-privileged = record { home = 0; privileged = true }
-
--- the console that a call text begins with: consoles 1 to N, of which 1 is in front, and so many
--- privileged processes, and these key tables
-abbrev pub opening_of : Heading → Tables → WorldState
-opening_of h tables =
-    opening h.rows h.cols (2 ^ (h.consoles + 1) - 2) 1 (replicate h.processes privileged) tables
-
--- the key tables of a call text: table 0 alone, with holes
-abbrev pub ArePlayed : Tables → Type 0
-ArePlayed tables = IsEmpty (0 ∷ []) tables
-
--- the call of an entry
-abbrev pub call_of : Entry → Call
-call_of entry = record { caller = entry.caller; event = entry.event }
-
--- the entries are within the limits
-pub record IsWithinLimits (history : List Entry) : Type 0 where
-  pub events : length history ≤ most_events
-  pub bytes : charge_of_all history ≤ most_bytes
-
--- there is no room for one more entry that counts for so much
-abbrev pub HasNoRoom : List Entry → ℕ → Type 0
-HasNoRoom history charge =
-    ¬ HasRoom (record {
-      entries = history;
-      limits = record { events = most_events; bytes = most_bytes };
-    }) charge
-
--- the end of a journal where all calls stand, and where a call of that charge found no room
-abbrev pub end_tail : List Entry → Tail
-end_tail history = tail.End (length history) (charge_of_all history)
-
-abbrev pub full_tail : List Entry → ℕ → Tail
-full_tail history charge = tail.Full (record {
-  events = length history;
-  bytes = charge_of_all history;
-  charge = charge;
-})
-
--- all of these calls stand
-pub record EndsWhole (calls : List Call) (history : List Entry) (end : Tail) : Type 0 where
-  pub all : length history ≡ length calls
-  pub numbers : end ≡ end_tail history
-
--- the next of these calls finds no room
-pub record EndsFull (calls : List Call) (history : List Entry) (end : Tail) : Type 0 where
-  pub call : Call
-  pub next : slice_get calls (length history) ≡ Some call
-  pub no_room : HasNoRoom history (charge_of call.event)
-  pub numbers : end ≡ full_tail history (charge_of call.event)
-
--- a play of these calls: their legal history, in their order, as far as there is room
-pub record IsPlay (start : WorldState) (calls : List Call) (history : List Entry) (end : Tail) : Type 0 where
-  pub legal : IsLegal start history
-  pub order : map call_of history ≡ take (length history) calls
-  pub within : IsWithinLimits history
-  pub ends : EndsWhole calls history end ⊎ EndsFull calls history end
-
+-- Fine where all programs are over, and JournalFull where a call found no room
 abbrev pub status_of : Tail → Status
 status_of (tail.End events bytes) = status.Fine
 status_of (tail.Full full) = status.JournalFull full
 
--- the text of a play
-abbrev pub play_text : WorldState → List Entry → Tail → List ℕ
-play_text start history end = journal_text history end ++ final_text (replay start history)
+-- a history of a session's opening, which follows its programs, and its end: it is legal; each hop of
+-- the display was allowed, and what waits for it was asked for; and each screen is its console's tape,
+-- run from the start screen
+pub record IsRightPlay (o : Opening) (rows cols : ℕ) (history : List Entry) (end : Tail) : Type 0 where
+  pub legal : IsLegal o.start history
+  pub follows : Follows o.start o.programs history
+  pub ends : Ends o history end
+  pub lawful : IsLawful (moments o.start history)
+  pub explained :
+      IsExplained (length history) (core (replay o.start history)) (moments o.start history)
+  pub screens :
+      (c : ℕ) → c < 64
+      → machine_of (terminal_at (replay o.start history).terminals c)
+      ≡ option_map (screen_of rows cols) (tape_of c o.start history)
+
+-- the serial play of a session, and what is printed of it: its journal, and the console after it
+pub record IsPlayed (s : SessionView) (status : Status) (written : List ℕ) : Type 0 where
+  pub history : List Entry
+  pub stop : Option Full
+  pub serial :
+      IsSerial (session_opening s) s.turns (record { history = meant history; stop = stop })
+  pub right :
+      IsRightPlay (session_opening s) s.config.size.rows s.config.size.cols history
+      (tail_at history stop)
+  pub status_is : status ≡ status_of (tail_at history stop)
+  pub text :
+      written
+      ≡ journal_text history (tail_at history stop)
+      ++ final_text (replay (session_opening s).start history)

@@ -2,15 +2,14 @@
 #![tactic(auto)]
 
 mod answer;
-mod calls;
 mod command;
 mod final_text;
 mod intake;
 mod keys_answer;
-mod play;
 mod play_answer;
 mod read_end;
 mod reading;
+mod refused_answer;
 mod screen;
 mod status;
 mod telling;
@@ -22,6 +21,5 @@ mod typing;
 mod words;
 mod writing;
 
-pub use calls::laws::one_answer;
 pub use status::Status;
 pub use tool::vt_command;

@@ -9,7 +9,7 @@ use vt_io::{MemSink, MemSource};
 
 mod events;
 mod keys;
-mod play;
+mod sessions;
 mod typing;
 
 const USAGE: &[u8] = b"vt: usage: screen R C | keys | type | play | race | check | drill N SEED\n";

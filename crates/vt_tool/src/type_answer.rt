@@ -1,13 +1,14 @@
-ghost use Rattle.std.specs.Prelude.{◌≡◌, ◌≤◌, ◌⊎◌, [], IfOk};
+ghost use Rattle.std.specs.Prelude.{◌≡◌, ◌≤◌, ◌⊎◌, IfOk};
 ghost use Rattle.vt_tool.specs.Outcome.{GivesTableFault, GivesTyped};
 ghost use Rattle.vt_tool.specs.Typing.{typed_text};
 
 use crate::answer::Answer;
+use crate::refused_answer::refused_answer;
 use crate::status::Status;
 use crate::typing::lines::add_typed;
 use crate::typing::type_table::{TypeTable, read_type_table};
 use std::alloc::Global;
-use table_fields::{TableError, TableFault};
+use table_fields::TableError;
 use vt_base::{Bytes, NoMemory};
 
 /// A line for each scan byte of the table, or the table's first fault.
@@ -18,7 +19,7 @@ pub fn type_answer(alloc: Global, input: &[u8]) -> Result<Answer, NoMemory>
 {
     match read_type_table(alloc, input) {
         Ok(table) => answer_typed(alloc, &table),
-        Err(TableError::Fault(fault)) => Ok(answer_refused(alloc, fault)),
+        Err(TableError::Fault(fault)) => Ok(refused_answer(alloc, fault)),
         Err(TableError::NoMemory) => Err(NoMemory),
     }
 }
@@ -41,18 +42,4 @@ fn answer_typed(alloc: Global, table: &TypeTable) -> Result<Answer, NoMemory>
         status: Status::Fine,
         text,
     })
-}
-
-fn answer_refused(alloc: Global, fault: TableFault) -> Answer
-    ensures status { result.status ≡ Status.Refused fault.kind fault.part fault.item }
-    ensures text { result.text.bytes ≡ [] }
-{
-    Answer {
-        status: Status::Refused {
-            code: fault.kind,
-            a: fault.part,
-            b: fault.item,
-        },
-        text: Bytes::new(alloc),
-    }
 }

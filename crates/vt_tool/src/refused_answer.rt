@@ -1,0 +1,22 @@
+ghost use Rattle.std.specs.Prelude.{◌≡◌, []};
+
+use crate::answer::Answer;
+use crate::status::Status;
+use std::alloc::Global;
+use table_fields::TableFault;
+use vt_base::Bytes;
+
+/// The answer to a table that is refused at this fault.
+pub fn refused_answer(alloc: Global, fault: TableFault) -> Answer
+    ensures status { result.status ≡ Status.Refused fault.kind fault.part fault.item }
+    ensures text { result.text.bytes ≡ [] }
+{
+    Answer {
+        status: Status::Refused {
+            code: fault.kind,
+            a: fault.part,
+            b: fault.item,
+        },
+        text: Bytes::new(alloc),
+    }
+}
