@@ -73,8 +73,8 @@ input-alike w n piece =
     record {
       accepter = accepter-either some n w.callers;
       users = λ p.
-      ap (λ (process : Process). process.live && (owns w.display p n || has_open process.opens n))
-      (same-either some n p w.callers);
+          ap (λ (process : Process). process.live && (owns w.display p n || has_open process.opens n))
+          (same-either some n p w.callers);
     }
 
 -- and its key state
