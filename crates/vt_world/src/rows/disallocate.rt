@@ -7,7 +7,7 @@ ghost use Rattle.vt_world.specs.Step.{Gives, own_step};
 ghost use Rattle.vt_world.specs.Tests.{is_in_use};
 
 use crate::World;
-use crate::rows::refusals::{IN_USE, NO_SUCH_NUMBER, NO_PERMISSION, NOT_OPEN};
+use crate::rows::refusals::{IN_USE, NO_PERMISSION, NO_SUCH_NUMBER, NOT_OPEN};
 use vt_base::{CallerNo, ConsoleNo};
 use vt_events::Reply;
 

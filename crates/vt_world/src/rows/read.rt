@@ -3,7 +3,7 @@ ghost use Rattle.vt_events.specs.declared.event.Event.TheVariants as event;
 ghost use Rattle.vt_world.specs.Step.{Gives, own_step};
 
 use crate::World;
-use crate::rows::refusals::{INVALID, NOTHING_THERE, NOT_OPEN};
+use crate::rows::refusals::{INVALID, NOT_OPEN, NOTHING_THERE};
 use vt_base::{Bytes, CallerNo};
 use vt_events::Reply;
 

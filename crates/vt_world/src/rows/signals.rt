@@ -6,7 +6,7 @@ ghost use Rattle.vt_world.specs.Step.{Gives, own_step};
 
 use crate::World;
 use crate::attention::KILL;
-use crate::rows::refusals::{DEAD, INVALID, NO_SUCH_NUMBER, NO_PERMISSION, NOT_OPEN};
+use crate::rows::refusals::{DEAD, INVALID, NO_PERMISSION, NO_SUCH_NUMBER, NOT_OPEN};
 use vt_base::{CallerNo, Signal};
 use vt_events::Reply;
 

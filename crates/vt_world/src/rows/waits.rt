@@ -12,7 +12,9 @@ ghost use Rattle.vt_world.specs.Step.{Gives, answered, own_step};
 ghost use Rattle.vt_world.specs.Tests.{caller};
 
 use crate::World;
-use crate::rows::refusals::{INTERRUPTED, INVALID, NOTHING_THERE, NOT_OPEN, NO_SUCH_NUMBER, NO_PERMISSION};
+use crate::rows::refusals::{
+    INTERRUPTED, INVALID, NO_PERMISSION, NO_SUCH_NUMBER, NOT_OPEN, NOTHING_THERE,
+};
 use vt_base::{CallerNo, ConsoleNo};
 use vt_events::Reply;
 use vt_procs::{Ticket, Waited};
