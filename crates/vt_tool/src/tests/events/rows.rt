@@ -203,8 +203,16 @@ const TABLES: [Said; 11] = [
     (1, "getcode 0 30", "num 30"),
     (1, "setcode 0 30 48", "ok"),
     (1, "getcode 0 30", "num 48"),
-    (1, "setpal 0 000000aa000000aa00aa55000000aaaa00aa00aaaaaaaaaa555555ff555555ff55ffff555555ffff55ff55fffffffffe", "ok"),
-    (1, "getpal 0", "bytes 000000aa000000aa00aa55000000aaaa00aa00aaaaaaaaaa555555ff555555ff55ffff555555ffff55ff55fffffffffe"),
+    (
+        1,
+        "setpal 0 000000aa000000aa00aa55000000aaaa00aa00aaaaaaaaaa555555ff555555ff55ffff555555ffff55ff55fffffffffe",
+        "ok",
+    ),
+    (
+        1,
+        "getpal 0",
+        "bytes 000000aa000000aa00aa55000000aaaa00aa00aaaaaaaaaa555555ff555555ff55ffff555555ffff55ff55fffffffffe",
+    ),
 ];
 
 // A screen that gets another size.
