@@ -22,6 +22,8 @@ mod reading;
 mod script_items;
 mod session;
 mod starts;
+#[cfg(test)]
+mod tests;
 mod tops;
 mod turns;
 mod walk;
