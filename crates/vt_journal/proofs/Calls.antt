@@ -1,5 +1,5 @@
 -- Calls by their kind, their numbers and their bytes.
-use Rattle.std.proofs.Common.{◌≡◌, ℕ, Bool, true, ◌==◌, cond, Option, Some, None, is_some, List, [], ◌∷◌, length, find, get_or, map, option_map, Contains, refl, sym, ap, subst, ◌∙◌, arith}
+use Rattle.std.proofs.Common.{◌≡◌, ℕ, Bool, true, cond, Option, Some, None, is_some, List, [], ◌∷◌, length, find, get_or, map, option_map, Contains, refl, sym, ap, subst, ◌∙◌, arith}
 use Rattle.std.specs.List.{position_or_len, range_with_len}
 use Rattle.std.specs.Option.{unwrap_or}
 use Rattle.std.specs.Str.{bytes_eq}

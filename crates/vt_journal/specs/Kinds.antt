@@ -1,5 +1,5 @@
 -- The kinds of calls, by which calls are made of their words.
-use Rattle.std.specs.Prelude.{ℕ, ◌==◌, Bool, true, List, [], unwrap_or}
+use Rattle.std.specs.Prelude.{ℕ, ◌==◌, Bool, true, List, []}
 use Rattle.std.specs.List.{slice_index}
 use Rattle.vt_events.specs.Plain.{text}
 use Rattle.vt_events.specs.declared.event.Event.{Event}

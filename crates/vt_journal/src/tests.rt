@@ -1,5 +1,7 @@
 //! Logs, their text, and the words of calls. Expected texts were written by hand from the rules of
 //! the journal text.
+mod all_words;
+
 use crate::{Full, Log, Tail, add_hex, print, read_event};
 use std::alloc::Global;
 use std::process::Abort;
@@ -152,7 +154,7 @@ fn prints_what_a_log_holds(rt: HostRuntime) -> Result<(), Fail> {
 
 #[test]
 fn knows_one_spelling(rt: HostRuntime) -> Result<(), Fail> {
-    let cases: [(&[u8], bool); 29] = [
+    let cases: [(&[u8], bool); 44] = [
         (b"scan e0", true),
         (b"scan 1", false),
         (b"scan 1E", false),
@@ -171,7 +173,22 @@ fn knows_one_spelling(rt: HostRuntime) -> Result<(), Fail> {
         (b"open 1 1", false),
         (b"Open 1", false),
         (b"opens 1", false),
-        (b"close 1", false),
+        (b"exits", false),
+        (b"exit 1", false),
+        (b"exit ", false),
+        (b"waitend -", false),
+        (b"signals 0", false),
+        (b"resize 0 25", false),
+        (b"resize 0 25 80 0", false),
+        (b"setent 0 1 30 0", false),
+        (b"setent 0 1 30 0 97 0", false),
+        (b"setfunc 0 1b5b41", false),
+        (b"setfunc 0 1 1B", false),
+        (b"setdia 0", false),
+        (b"getdia 0 -", false),
+        (b"setmap 0 0", false),
+        (b"kill 1 65536", false),
+        (b"poweroff", false),
         (b"", false),
         (b"write 0", false),
         (b"write 0 ", false),

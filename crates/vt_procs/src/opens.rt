@@ -1,4 +1,4 @@
-ghost use Rattle.std.specs.Prelude.{◌≡◌, ◌<◌, IfSome, length, slice_index_or, slice_set, None};
+ghost use Rattle.std.specs.Prelude.{◌≡◌, ◌<◌, IfSome, is_some, length, slice_index_or, slice_set, Some, None, if◌then◌else◌};
 ghost use Rattle.vt_procs.specs.Callers.{has_open, is_console, lowest_free, with_open};
 
 use std::marker::Model;
@@ -38,6 +38,13 @@ impl Opens {
         if fd < places.len() { places[fd] } else { None }
     }
 
+    /// The descriptor of the number, where that is open.
+    pub fn number(&self, fd: u16) -> Option<Fd>
+        ensures { result ≡ (if is_some (slice_index_or self.now fd None) then Some fd else None) }
+    {
+        number_in(&self.places, fd)
+    }
+
     /// Shuts the descriptor.
     pub fn shut(&mut self, fd: Fd)
         ensures { self.new ≡ slice_set self.old fd None }
@@ -60,6 +67,19 @@ impl Opens {
         let free = lowest_free(&self.places)?;
         self.places[free] = Some(c);
         Fd::new(free as u16)
+    }
+}
+
+// The descriptor of the number, where that is open in these places.
+fn number_in(places: &[Option<ConsoleNo>], fd: u16) -> Option<Fd>
+    requires { length places.now ≡ 16 }
+    ensures { result ≡ (if is_some (slice_index_or places.now fd None) then Some fd else None) }
+{
+    let at = usize::from(fd);
+    if at < places.len() && places[at].is_some() {
+        Fd::new(fd)
+    } else {
+        None
     }
 }
 

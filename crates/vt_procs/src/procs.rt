@@ -1,4 +1,4 @@
-ghost use Rattle.std.specs.Prelude.{◌≡◌, true, is_some};
+ghost use Rattle.std.specs.Prelude.{◌≡◌, true, Some, None, is_some, if◌then◌else◌};
 ghost use Rattle.vt_procs.specs.Callers.{IsFit, accepts, caller_at, callers_of, console_of, ended, free_fd, has_open, is_live, is_opened, opened, plain_caller, shut, starting};
 ghost use Rattle.vt_procs.specs.Tickets.{accepting};
 
@@ -71,6 +71,14 @@ impl Procs {
     {
         let process = &self.callers[usize::from(p.get())];
         process.opens.at(fd)
+    }
+
+    /// The descriptor of the number, where that is open.
+    pub fn number(&self, p: CallerNo, fd: u16) -> Option<Fd>
+        ensures { result ≡ (if is_some (console_of self.now p fd) then Some fd else None) }
+    {
+        let process = &self.callers[usize::from(p.get())];
+        process.opens.number(fd)
     }
 
     /// Opens the console at the lowest free descriptor, where there is one.

@@ -1,10 +1,13 @@
 mod Allocation
+mod Alters
 mod Bells
 mod Called
 mod Cores
 mod Displays
+mod Freed
 mod Histories
 mod Lives
+mod Masks
 mod Orders
 mod Places
 mod Quiet

@@ -1,7 +1,7 @@
 -- Which consoles are allocated is left by all acts but an allocate and a free.
 use Rattle.std.proofs.Common.{◌≡◌, ℕ, Bool, true, false, true≢false, List, [], ◌∷◌, get_or, map, Option, Some, None, refl, sym, ap, ◌∙◌}
 use Rattle.std.proofs.Math.Seq.{map-set_same}
-use Rattle.std.specs.Prelude.{◌==◌, Result, Ok, Err, is_some, option_map, if◌then◌else◌}
+use Rattle.std.specs.Prelude.{◌==◌, Result, Ok, Err, is_some, option_map}
 use Rattle.vt_base.specs.declared.inval.Inval.{Inval}
 use Rattle.vt_switch.specs.Acts.{SwitchAct, Allocate, Request, Release, SetMode, SetKd, Lock, Free, End, after}
 use Rattle.vt_switch.specs.Calls.{after_released, handling_of, released}

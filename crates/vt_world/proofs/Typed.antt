@@ -1,5 +1,5 @@
 -- What a key does hangs on none of what was done with its byte before.
-use Rattle.std.proofs.Common.{◌≡◌, ℕ, zero, suc, Bool, true, false, cond, List, [], ◌∷◌, get_or, set, Option, Some, None, refl, sym, ap, ◌∙◌}
+use Rattle.std.proofs.Common.{◌≡◌, ℕ, zero, suc, Bool, true, false, cond, List, [], ◌∷◌, Option, Some, None, refl, sym, ap, ◌∙◌}
 use Rattle.std.specs.Prelude.{◌==◌, ◌&&◌, ◌||◌, filter}
 use Rattle.std.specs.List.{range_with_len}
 use Rattle.in_queue.specs.Queue.{Queue}
@@ -73,8 +73,8 @@ input-alike w n piece =
     record {
       accepter = accepter-either some n w.callers;
       users = λ p.
-      ap (λ (process : Process). process.live && (owns w.display p n || has_open process.opens n))
-      (same-either some n p w.callers);
+          ap (λ (process : Process). process.live && (owns w.display p n || has_open process.opens n))
+          (same-either some n p w.callers);
     }
 
 -- and its key state

@@ -63,9 +63,13 @@ needs_right w p fd = test (not (may_handle w p (target w p fd))) Perm
 abbrev pub needs_privilege : WorldState → ℕ → Test
 needs_privilege w p = test (not (caller w p).privileged) Perm
 
+-- p is privileged, or has console c open
+abbrev pub sees : WorldState → ℕ → ℕ → Bool
+sees w p c = (caller w p).privileged || is_console c && has_open (caller w p).opens c
+
 -- EPERM: p is neither privileged, nor has it the console open
 abbrev pub needs_sight : WorldState → ℕ → ℕ → Test
-needs_sight w p c = test (not ((caller w p).privileged || has_open (caller w p).opens c)) Perm
+needs_sight w p c = test (not (sees w p c)) Perm
 
 -- ENXIO: no console has the number
 abbrev pub needs_console : ℕ → Test

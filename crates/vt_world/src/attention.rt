@@ -9,7 +9,7 @@ use crate::told::TRACE_MARKS;
 use vt_base::{CallerNo, ConsoleNo, Signal};
 
 /// SIGKILL, which ends its process (signal(7)).
-const KILL: u16 = 9;
+pub(crate) const KILL: u16 = 9;
 
 /// The callers by their numbers, of which 0 is the keyboard.
 const CALLERS: usize = 65;

@@ -1,12 +1,12 @@
-ghost use Rattle.std.specs.Prelude.{◌≡◌, IfOk, replicate};
-ghost use Rattle.vt_world.specs.Inputs.{comes, input_at, keyed, lit, new_input, queued, with_bytes};
+ghost use Rattle.std.specs.Prelude.{◌≡◌, ◌≤◌, ◌++◌, IfOk, length, min, replicate, take};
+ghost use Rattle.vt_world.specs.Inputs.{comes, emptied, input_at, keyed, lit, new_input, queued, with_bytes, without_bytes};
 
 use crate::input::Input;
 use in_queue::InQueue;
 use key_machine::KbState;
 use std::alloc::Global;
 use std::marker::Model;
-use vt_base::{ConsoleNo, NoMemory};
+use vt_base::{Bytes, ConsoleNo, NoMemory};
 
 /// The places for consoles by their numbers, of which 0 stays free.
 const PLACES: usize = 64;
@@ -64,6 +64,27 @@ impl Inputs {
     {
         let input = &mut self.places[usize::from(c.get())];
         put_whole(&mut input.queue, piece)
+    }
+
+    /// Takes the first bytes of the console's queue, so many or all, and adds them to `out`.
+    pub(crate) fn take(&mut self, c: ConsoleNo, out: &mut Bytes, max: usize)
+        requires { max ≤ out.old.room }
+        ensures queues { let count = min max (length (input_at self.old c).queue.bytes) in
+            self.new ≡ without_bytes c count self.old }
+        ensures taken { let bytes = (input_at self.old c).queue.bytes in
+            out.new.bytes ≡ out.old.bytes ++ take (min max (length bytes)) bytes }
+    {
+        let input = &mut self.places[usize::from(c.get())];
+        let _count = input.queue.take(out, max);
+    }
+
+    /// The place of the console is a new one's.
+    pub(crate) fn clear(&mut self, c: ConsoleNo)
+        ensures { self.new ≡ emptied c self.old }
+    {
+        let input = &mut self.places[usize::from(c.get())];
+        input.queue.clear();
+        input.keys = KbState::start();
     }
 
     /// Gives the console this key state.

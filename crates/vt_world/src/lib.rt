@@ -3,6 +3,7 @@
 
 mod acts;
 mod allocating;
+mod altering;
 mod asking;
 mod attention;
 mod board;
@@ -23,7 +24,7 @@ mod told;
 mod wanted;
 mod world;
 
-pub use laws::legal_grows;
+pub use laws::{displays_are_lawful, legal_grows, screens_are_tapes};
 pub use spare::{Spare, spare_for};
 pub use vt_switch::{Hop, Mark};
 pub use world::World;

@@ -3,8 +3,8 @@ ghost use Rattle.vt_events.specs.Charge.{greatest_reply};
 ghost use Rattle.vt_procs.specs.Callers.{caller_at, is_live};
 ghost use Rattle.vt_procs.specs.Tickets.{told};
 ghost use Rattle.vt_procs.specs.declared.waited.Waited.{Waited};
-ghost use Rattle.vt_world.specs.Spare.{Fits, HasGrid, extent, needed_grid};
-ghost use Rattle.vt_world.specs.Step.{Gives, own_step, step};
+ghost use Rattle.vt_world.specs.Spare.{Fits, HasGrid, extent, needed_grid, takes_spare};
+ghost use Rattle.vt_world.specs.Step.{Gives, after_common, own_step, step};
 ghost use Rattle.vt_world.specs.Tests.{common_tests, ends_wait, first_failing, may_make};
 
 use crate::spare::Spare;
@@ -31,11 +31,21 @@ impl World {
             unused,
         } = spare;
         self.told.clear();
-        let reply = match self.refusal(caller, event) {
+        (self.answer(caller, event, grid, reply), unused)
+    }
+
+    // What refuses every event comes before what refuses this one.
+    fn answer(&mut self, p: CallerNo, event: &Event, grid: Option<Grid>, reply: Bytes) -> Reply
+        requires told { self.old.told.trace ≡ [] }
+        requires grid { HasGrid (needed_grid (extent self.old.rows self.old.cols) event.now) grid }
+        requires reply { greatest_reply event.now ≤ reply.room }
+        ensures { Gives (after_common self.old p event.now
+            (first_failing (common_tests self.old p event.now))) self.new result }
+    {
+        match self.refusal(p, event) {
             Some(errno) => Reply::Err(errno),
-            None => self.carry_out(caller, event, grid, reply),
-        };
-        (reply, unused)
+            None => self.carry_out(p, event, grid, reply),
+        }
     }
 
     // What refuses any event of the caller.
@@ -57,6 +67,7 @@ impl World {
         None
     }
 
+    // Carries out an event that the caller may make now.
     fn carry_out(&mut self, p: CallerNo, event: &Event, grid: Option<Grid>, reply: Bytes) -> Reply
         requires told { self.old.told.trace ≡ [] }
         requires live { is_live self.old.callers p ≡ true }
@@ -67,11 +78,44 @@ impl World {
         ensures { Gives (own_step self.old p event.now) self.new result }
     {
         match event {
+            Event::OpenCon(n) => self.open(p, *n, grid),
+            Event::ReadIn(fd, most) => self.read_in(p, *fd, *most, reply),
+            Event::Activate(fd, n) => self.activate(p, *fd, *n, grid),
+            Event::Resize(fd, rows, cols) => self.resize(p, *fd, *rows, *cols, grid),
+            Event::GetFunc(fd, i) => self.get_func(p, *fd, *i, reply),
+            Event::GetDia(fd) => self.get_pairs(p, *fd, reply),
+            Event::GetMap(fd) => self.get_map(p, *fd, reply),
+            Event::GetPal(fd) => self.get_palette(p, *fd, reply),
+            Event::Dump(kind, n) => self.dump(p, *kind, *n, reply),
+            _ => self.carry_out_alone(p, event),
+        }
+    }
+
+    // Carries out an event that needs nothing beside the world.
+    fn carry_out_alone(&mut self, p: CallerNo, event: &Event) -> Reply
+        requires alone { takes_spare event.now ≡ false }
+        requires told { self.old.told.trace ≡ [] }
+        requires live { is_live self.old.callers p ≡ true }
+        requires free { ends_wait event.now ≡ false
+            → told (caller_at self.old.callers p).waiting ≡ Waited.None }
+        ensures { Gives (own_step self.old p event.now) self.new result }
+    {
+        match event {
             Event::Scan(b) => self.scan(p, *b),
             Event::Exit => self.exit(p),
-            Event::OpenCon(n) => self.open(p, *n, grid),
+            Event::CloseFd(fd) => self.close(p, *fd),
             Event::Write(fd, b) => self.write(p, *fd, b),
-            Event::Activate(fd, n) => self.activate(p, *fd, *n, grid),
+            Event::WaitInput(fd) => self.wait_input(p, *fd),
+            Event::WaitActive(fd, n) => self.wait_active(p, *fd, *n),
+            Event::WaitSignal => self.wait_signal(p),
+            Event::WaitEnd => self.wait_end(p),
+            Event::Disallocate(fd, n) => self.disallocate(p, *fd, *n),
+            Event::OpenQry(fd) => self.open_query(p, *fd),
+            Event::GetState(fd) => self.get_state(p, *fd),
+            Event::LockSwitch(fd) => self.lock_switch(p, *fd),
+            Event::UnlockSwitch(fd) => self.unlock_switch(p, *fd),
+            Event::SetKd(fd, mode) => self.set_kd(p, *fd, *mode),
+            Event::GetKd(fd) => self.get_kd(p, *fd),
             Event::SetMode(fd, mode, waitv, relsig, acqsig, frsig) => {
                 let mode = VtMode {
                     mode: *mode,
@@ -82,8 +126,38 @@ impl World {
                 };
                 self.set_mode(p, *fd, mode)
             }
+            Event::GetMode(fd) => self.get_mode(p, *fd),
             Event::RelDisp(fd, arg) => self.release(p, *fd, *arg),
-            _ => Reply::Text(reply),
+            Event::SetKb(fd, mode) => self.set_keyboard_mode(p, *fd, *mode),
+            Event::GetKb(fd) => self.get_keyboard_mode(p, *fd),
+            Event::SetMeta(fd, meta) => self.set_meta(p, *fd, *meta),
+            Event::GetMeta(fd) => self.get_meta(p, *fd),
+            Event::SetLed(fd, lights) => self.set_lights(p, *fd, *lights),
+            Event::GetLed(fd) => self.get_lights(p, *fd),
+            Event::SetFlags(fd, flags) => self.set_flags(p, *fd, *flags),
+            Event::GetFlags(fd) => self.get_flags(p, *fd),
+            Event::SetEntry(fd, table, code, kind, value) => {
+                self.set_entry(p, *fd, *table, *code, *kind, *value)
+            }
+            Event::GetEntry(fd, table, code) => self.get_entry(p, *fd, *table, *code),
+            Event::SetFunc(fd, i, b) => self.set_func(p, *fd, *i, b),
+            Event::SetDia(fd, b) => self.set_pairs(p, *fd, b),
+            Event::SetCode(fd, scan, code) => self.set_code(p, *fd, *scan, *code),
+            Event::GetCode(fd, scan) => self.get_code(p, *fd, *scan),
+            Event::Accept(fd, signal) => self.accept(p, *fd, *signal),
+            Event::SetMap(fd, b) => self.set_map(p, *fd, b),
+            Event::SetPal(fd, b) => self.set_palette(p, *fd, b),
+            Event::TakeSignals => self.take_signals(p),
+            Event::Kill(q, signal) => self.kill(p, *q, *signal),
+            Event::OpenCon(_)
+            | Event::ReadIn(_, _)
+            | Event::Activate(_, _)
+            | Event::Resize(_, _, _)
+            | Event::GetFunc(_, _)
+            | Event::GetDia(_)
+            | Event::GetMap(_)
+            | Event::GetPal(_)
+            | Event::Dump(_, _) => unreachable!(),
         }
     }
 }

@@ -1,8 +1,10 @@
 ghost use Rattle.std.specs.Prelude.{◌≡◌, ◌≤◌, [], length};
 ghost use Rattle.vt_screen.specs.Run.{said};
-ghost use Rattle.vt_world.specs.Terminals.{new_terminal, rung, written_on};
+ghost use Rattle.vt_screen.specs.Tape.{palette, resize, user_map};
+ghost use Rattle.vt_world.specs.Terminals.{altered_by, new_terminal, rung, written_on};
 
 use std::marker::Model;
+use vt_cells::Palette;
 use vt_grid::Grid;
 use vt_screen::{Emu, Out, Outs};
 
@@ -59,6 +61,27 @@ impl Terminal {
     {
         self.emu.feed(b, outs);
         self.bells = rung(self.bells, outs.as_slice());
+    }
+
+    /// Gives the screen the size of this grid.
+    pub fn resize(&mut self, grid: Grid)
+        ensures { self.new ≡ altered_by (resize grid.rows grid.cols) self.old }
+    {
+        let _old = self.emu.resize(grid);
+    }
+
+    /// Gives the screen this user's table.
+    pub fn set_user(&mut self, words: &[u16; 256])
+        ensures { self.new ≡ altered_by (user_map words.now) self.old }
+    {
+        self.emu.set_user(words);
+    }
+
+    /// Gives the screen this palette.
+    pub fn set_palette(&mut self, colours: Palette)
+        ensures { self.new ≡ altered_by (palette colours) self.old }
+    {
+        *self.emu.palette_mut() = colours;
     }
 }
 

@@ -1,11 +1,13 @@
 ghost use Rattle.std.specs.Prelude.{◌≡◌, ◌≤◌, [], Some, None, IfOk, length, is_some, option_copied, if◌then◌else◌};
 ghost use Rattle.vt_base.specs.ConsoleSet.{at_each};
-ghost use Rattle.vt_world.specs.Terminals.{new_terminal, said_of, terminal_at, with_start, written};
+ghost use Rattle.vt_screen.specs.Tape.{palette, resize, user_map};
+ghost use Rattle.vt_world.specs.Terminals.{altered, new_terminal, said_of, terminal_at, with_start, without_terminal, written};
 
 use crate::terminal::Terminal;
 use std::alloc::Global;
 use std::marker::Model;
 use vt_base::{ConsoleNo, NoMemory, Size, is_among};
+use vt_cells::Palette;
 use vt_grid::Grid;
 use vt_screen::{BLANK, Outs};
 
@@ -60,6 +62,13 @@ impl Terminals {
         }
     }
 
+    /// The console has no terminal any more.
+    pub(crate) fn end(&mut self, c: ConsoleNo)
+        ensures { self.new ≡ without_terminal c self.old }
+    {
+        self.places[usize::from(c.get())] = None;
+    }
+
     /// Writes at most 64 bytes to the console, where it has a terminal. What they say is in `outs`.
     pub fn write(&mut self, c: ConsoleNo, b: &[u8], outs: &mut Outs)
         requires short { length b.now ≤ 64 }
@@ -70,6 +79,33 @@ impl Terminals {
     {
         if let Some(terminal) = &mut self.places[usize::from(c.get())] {
             terminal.feed(b, outs);
+        }
+    }
+
+    /// Gives the console's screen, if it has one, the size of this grid.
+    pub fn resize(&mut self, c: ConsoleNo, grid: Grid)
+        ensures { self.new ≡ altered c (resize grid.rows grid.cols) self.old }
+    {
+        if let Some(terminal) = &mut self.places[usize::from(c.get())] {
+            terminal.resize(grid);
+        }
+    }
+
+    /// Gives the console's screen, if it has one, this user's table.
+    pub fn set_user(&mut self, c: ConsoleNo, words: &[u16; 256])
+        ensures { self.new ≡ altered c (user_map words.now) self.old }
+    {
+        if let Some(terminal) = &mut self.places[usize::from(c.get())] {
+            terminal.set_user(words);
+        }
+    }
+
+    /// Gives the console's screen, if it has one, this palette.
+    pub fn set_palette(&mut self, c: ConsoleNo, colours: Palette)
+        ensures { self.new ≡ altered c (palette colours) self.old }
+    {
+        if let Some(terminal) = &mut self.places[usize::from(c.get())] {
+            terminal.set_palette(colours);
         }
     }
 }

@@ -1,4 +1,5 @@
 //! Calls of a world. Expected answers were reckoned by hand from the table of events.
+mod switching;
 mod typing;
 
 use crate::{Spare, World, spare_for};
@@ -35,13 +36,15 @@ fn start(alloc: Global) -> Result<Option<World>, NoMemory> {
     Ok(Some(World::start(alloc, &config, &tables)?))
 }
 
-// What stands for an answer: a number from 1,000 on, an error's number below 0, or 0.
+// What stands for an answer: a number from 1,000 on, an error's number below 0, or its kind.
 fn code_of(reply: &Reply) -> i64 {
     match reply {
         Reply::Done => 0,
         Reply::Num(n) => 1_000 + i64::from(*n),
         Reply::Text(_) => 1,
+        Reply::Wait => 2,
         Reply::Err(errno) => -i64::from(errno.number()),
+        _ => 3,
     }
 }
 

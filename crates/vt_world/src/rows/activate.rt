@@ -4,7 +4,7 @@ ghost use Rattle.vt_world.specs.Spare.{HasGrid, extent, needed_grid};
 ghost use Rattle.vt_world.specs.Step.{Gives, own_step};
 
 use crate::World;
-use crate::rows::refusals::{IN_USE, NO_CONSOLE, NO_PERMISSION, NOT_OPEN};
+use crate::rows::refusals::{IN_USE, NO_PERMISSION, NO_SUCH_NUMBER, NOT_OPEN};
 use vt_base::{CallerNo, ConsoleNo};
 use vt_events::Reply;
 use vt_grid::Grid;
@@ -23,7 +23,7 @@ impl World {
             return NO_PERMISSION;
         }
         let Some(to) = ConsoleNo::new(n) else {
-            return NO_CONSOLE;
+            return NO_SUCH_NUMBER;
         };
         if self.switch.locked() {
             return IN_USE;

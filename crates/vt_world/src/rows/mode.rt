@@ -27,4 +27,16 @@ impl World {
         self.settle(p);
         Reply::Done
     }
+
+    /// Those words (ioctl_console(2), VT_GETMODE).
+    pub(crate) fn get_mode(&mut self, p: CallerNo, fd: u16) -> Reply
+        ensures { Gives (own_step self.old p (event.GetMode fd)) self.new result }
+    {
+        let Some(c) = self.procs.console_of(p, fd) else {
+            return NOT_OPEN;
+        };
+        let mode = self.switch.mode(c);
+        self.settle(p);
+        Reply::Mode(mode)
+    }
 }

@@ -4,7 +4,7 @@ ghost use Rattle.vt_world.specs.Spare.{HasGrid, extent, needed_grid};
 ghost use Rattle.vt_world.specs.Step.{Gives, own_step};
 
 use crate::World;
-use crate::rows::refusals::{IN_USE, NO_CONSOLE};
+use crate::rows::refusals::{IN_USE, NO_SUCH_NUMBER};
 use vt_base::{CallerNo, ConsoleNo};
 use vt_events::Reply;
 use vt_grid::Grid;
@@ -16,7 +16,7 @@ impl World {
         ensures { Gives (own_step self.old p (event.OpenCon n)) self.new result }
     {
         let Some(c) = self.named(n) else {
-            return NO_CONSOLE;
+            return NO_SUCH_NUMBER;
         };
         let Some(fd) = self.procs.add_open(p, c) else {
             return IN_USE;

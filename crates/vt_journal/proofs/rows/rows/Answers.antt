@@ -1,4 +1,4 @@
-use Rattle.std.proofs.Common.{◌≡◌, Bool, true, List, nat_eq, refl, sym}
+use Rattle.std.proofs.Common.{◌≡◌, Bool, true, List, nat_eq, sym}
 use Rattle.std.specs.Cmp.Lexicographic.{pointwise, same_text}
 use Rattle.std.specs.List.{All, list_all}
 use Rattle.std.proofs.lemmas.List.Elements.{All-weaker}

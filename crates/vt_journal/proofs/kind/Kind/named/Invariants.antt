@@ -1,4 +1,4 @@
-use Rattle.std.proofs.Common.{◌≡◌, ◌≢◌, take}
+use Rattle.std.proofs.Common.{◌≢◌, take}
 use Rattle.std.specs.List.{All}
 use Rattle.vt_journal.proofs.kind.Kind.named.Given as goal
 

@@ -1,0 +1,8 @@
+use Rattle.std.proofs.Common.{ap, ◌∙◌}
+use Rattle.vt_events.specs.declared.event.Event.{Event}
+use Rattle.vt_world.specs.Step.{own_step}
+use Rattle.vt_world.proofs.world.World.carry_out.Goals as goal
+
+pub returns-in-Dump : goal.returns-in-Dump
+returns-in-Dump c =
+    ap (λ (e : Event). own_step c.args.self.now c.args.p e) c.in-Dump.is ∙ c.dump.ensures

@@ -1,0 +1,17 @@
+use Rattle.std.proofs.Common.{◌∙◌, arith}
+use Rattle.vt_world.specs.State.{WorldState}
+use Rattle.vt_world.proofs.Freed.{frees-next, rest-kept}
+use Rattle.vt_world.proofs.world.World.free_unused.Goals as goal
+
+pub loop-n-preserved : goal.loop-n-preserved
+loop-n-preserved c =
+    let w : WorldState = c.args.self.now in
+    let u : WorldState = c.loop-n.self in
+    let v : WorldState = c.free_if_unused.new.self in
+    record {
+      done =
+          frees-next w u v c.loop-n.n c.loop-n-test.true
+          (c.loop-n.invariant.rest c.loop-n.n (omega arith)) c.free_if_unused.ensures
+          ∙ c.loop-n.invariant.done;
+      rest = rest-kept w u v c.loop-n.n c.loop-n.invariant.rest c.free_if_unused.ensures;
+    }

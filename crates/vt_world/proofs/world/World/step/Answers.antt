@@ -1,0 +1,21 @@
+use Rattle.std.proofs.Common.{◌≡◌, ℕ, sym, ap, ◌∙◌}
+use Rattle.vt_events.specs.declared.event.Event.{Event}
+use Rattle.vt_world.specs.Heard.{cleared}
+use Rattle.vt_world.specs.State.{WorldState}
+use Rattle.vt_world.specs.Step.{after_common}
+use Rattle.vt_world.specs.Tests.{common_tests, first_failing}
+use Rattle.vt_world.specs.contracts.world.World.{the_view}
+use Rattle.vt_world.proofs.world.World.step.Goals as goal
+
+pub returns-clause-step : goal.returns-clause-step
+returns-clause-step c =
+    let w : WorldState = the_view c.self.inside in
+    let p : ℕ = c.args.caller in
+    let e : Event = c.args.event.now in
+    let clear : record w { told = c.clear.new.self } ≡ cleared w =
+    λ i. record w {
+      told = record { trace = c.clear.ensures.trace i; hops = c.clear.ensures.hops i };
+    } in
+    sym (ap (λ (v : WorldState). after_common v p e (first_failing (common_tests v p e)))
+    (clear ∙ ap cleared c.self.view_is))
+    ∙ c.answer.ensures
