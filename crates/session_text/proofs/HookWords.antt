@@ -49,11 +49,13 @@ hooks_fault p i item hooked texts d within is f first =
 pub hook_fault : (p item : ℕ) (hooked : Hooked) (text : List ℕ) (words : List (List ℕ)) (s t : ℕ)
     (act : Act) → words ≡ words_of text → IsHook words s act → s ≡ t
     → has_signal hooked.signals t ≡ true → hook_says p item hooked text (Err (fault 26 p item))
-hook_fault p item hooked text words s t act are hook same taken =
-    (λ signal other h.
-    let one : t ≡ signal =
-    sym same ∙ one_signal (words_of text) s signal act other (subst (λ w. IsHook w s act) are hook) h in
-    subst (λ n. has_signal hooked.signals n ≡ true) one taken, refl)
+hook_fault p item hooked text words s t act are hook same taken = (
+  λ signal other h.
+      let one : t ≡ signal =
+      sym same ∙ one_signal (words_of text) s signal act other (subst (λ w. IsHook w s act) are hook) h in
+      subst (λ n. has_signal hooked.signals n ≡ true) one taken,
+  refl,
+)
 
 -- a number of a range is itself
 pub in_range_same : (low high n m : ℕ) → in_range low high n ≡ Some m → n ≡ m

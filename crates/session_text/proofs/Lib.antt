@@ -1,6 +1,8 @@
 pub mod Acts
 pub mod Consoles
 pub mod HookWords
+pub mod Hooking
+pub mod ItemWords
 pub mod KeyTyping
 pub mod Saying
 pub mod Turning

@@ -1,6 +1,6 @@
 -- What a list says, one after another.
-use Rattle.std.proofs.Common.{◌≡◌, ℕ, ◌+◌, List, [], ◌∷◌, ◌++◌, Result, Ok, Err, inl, inr, refl, sym, ap}
-use Rattle.std.proofs.lemmas.List.{append_assoc}
+use Rattle.std.proofs.Common.{◌≡◌, ℕ, ◌+◌, ◌<◌, ◌≤◌, length, get_or, map, drop, subst, List, [], ◌∷◌, ◌++◌, Result, Ok, Err, inl, inr, refl, sym, ap}
+use Rattle.std.proofs.lemmas.List.{append_assoc, append-nil, at_drop_more, drop_all}
 use Rattle.table_fields.specs.Collecting.{behind}
 use Rattle.table_fields.specs.declared.fault.TableFault.{TableFault}
 use Rattle.table_fields.specs.declared.fault.TableError.{TableError}
@@ -29,3 +29,37 @@ pub reads_err : {X Y : Type 0} (e : TableError)
     → Reads {X = X} (λ x. x) (Err e) part → Reads {X = Y} (λ y. y) (Err e) whole
 reads_err (errors.Fault f) part whole step says = step f says
 reads_err errors.NoMemory part whole step says = tt
+
+-- what was found so far stands in front of what the rest of the list says
+abbrev pub SoFar : {X A B : Type 0} → (ℕ → A → Result B TableFault → Type 0) → (X → A) → List X → ℕ → List B → Type 0
+SoFar {B = B} says g xs i found =
+    (said : Result (List B) TableFault) → each_says says (i + 1) (map g (drop i xs)) said
+    → each_says says 1 (map g xs) (behind found said)
+
+pub so_far_more : {X A B : Type 0} (says : ℕ → A → Result B TableFault → Type 0) (g : X → A) (xs : List X)
+    (d : X) (i : ℕ) (found : List B) (y : B) → i < length xs
+    → says (i + 1) (g (get_or xs i d)) (Ok y) → SoFar says g xs i found
+    → SoFar says g xs (i + 1) (found ++ y ∷ [])
+so_far_more says g xs d i found y within first so_far said rest =
+    subst (each_says says 1 (map g xs)) (behind_more found y said)
+    (so_far (behind (y ∷ []) said)
+    (subst (λ ys. each_says says (i + 1) ys (behind (y ∷ []) said))
+    (sym (at_drop_more (map g) xs i d within))
+    (each_more says (i + 1) (g (get_or xs i d)) (map g (drop (i + 1) xs)) y said first rest)))
+
+pub so_far_fault : {X A B : Type 0} (says : ℕ → A → Result B TableFault → Type 0) (g : X → A) (xs : List X)
+    (d : X) (i : ℕ) (found : List B) (f : TableFault) → i < length xs
+    → SoFar says g xs i found → says (i + 1) (g (get_or xs i d)) (Err f)
+    → each_says {B = B} says 1 (map g xs) (Err f)
+so_far_fault says g xs d i found f within so_far first =
+    so_far (Err f)
+    (subst (λ ys. each_says says (i + 1) ys (Err f)) (sym (at_drop_more (map g) xs i d within))
+    (each_fault says (i + 1) (g (get_or xs i d)) (map g (drop (i + 1) xs)) f first))
+
+pub so_far_end : {X A B : Type 0} (says : ℕ → A → Result B TableFault → Type 0) (g : X → A) (xs : List X)
+    (i : ℕ) (found : List B) → length xs ≤ i → SoFar says g xs i found
+    → each_says says 1 (map g xs) (Ok found)
+so_far_end says g xs i found end so_far =
+    subst (λ ys. each_says says 1 (map g xs) (Ok ys)) (append-nil found)
+    (so_far (Ok [])
+    (subst (λ ys. each_says says (i + 1) ys (Ok [])) (sym (ap (map g) (drop_all i xs end))) refl))

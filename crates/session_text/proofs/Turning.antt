@@ -24,15 +24,15 @@ pub turns_more : (processes i : ℕ) (bytes : List ℕ) (f : ℕ → ℤ → Res
 turns_more processes i bytes f xs whole d n within so_far is low = record {
   found = so_far.found ++ n ∷ [];
   bytes_are = λ few.
-    let same : min n 64 ≡ n = omega arith in
-    (λ j. so_far.bytes_are few j ++ same j ∷ []);
+      let same : min n 64 ≡ n = omega arith in
+      (λ j. so_far.bytes_are few j ++ same j ∷ []);
   whole_is =
-    behind_one so_far.found n (collect f (i + 1 + 1) (drop (i + 1) xs))
-    ∙ ap (behind so_far.found)
-    (sym
-    (at_drop_more (collect f (i + 1)) xs i d within
-    ∙ collect_one f (i + 1) n (get_or xs i d) (drop (i + 1) xs) is))
-    ∙ so_far.whole_is;
+      behind_one so_far.found n (collect f (i + 1 + 1) (drop (i + 1) xs))
+      ∙ ap (behind so_far.found)
+      (sym
+      (at_drop_more (collect f (i + 1)) xs i d within
+      ∙ collect_one f (i + 1) n (get_or xs i d) (drop (i + 1) xs) is))
+      ∙ so_far.whole_is;
 }
 
 pub turns_end : (processes i : ℕ) (bytes : List ℕ) (f : ℕ → ℤ → Result ℕ TableFault) (xs : List ℤ)
@@ -42,7 +42,7 @@ pub turns_end : (processes i : ℕ) (bytes : List ℕ) (f : ℕ → ℤ → Resu
 turns_end processes i bytes f xs whole end so_far = (
   so_far.found,
   sym so_far.whole_is
-  ∙ ap (λ ys. behind so_far.found (collect f (i + 1) ys)) (drop_all i xs end)
-  ∙ ap Ok (append-nil so_far.found),
+      ∙ ap (λ ys. behind so_far.found (collect f (i + 1) ys)) (drop_all i xs end)
+      ∙ ap Ok (append-nil so_far.found),
   so_far.bytes_are,
 )

@@ -1,9 +1,13 @@
 pub mod Collected
 pub mod HookTexts
+pub mod ItemTexts
 pub mod Items
 pub mod Keyboards
 pub mod Openings
+pub mod Processes
 pub mod Programs
 pub mod Says
+pub mod Scripts
+pub mod Sessions
 pub mod Turns
 pub mod Walks

@@ -20,11 +20,7 @@ const TURN: u16 = 28;
 const TOO_MANY: u16 = 29;
 
 /// The turns, each from 0 to the number of processes.
-pub fn turns(
-    alloc: Global,
-    processes: usize,
-    value: Option<&Value>,
-) -> Result<Bytes, TableError>
+pub fn turns(alloc: Global, processes: usize, value: Option<&Value>) -> Result<Bytes, TableError>
     ensures { GivesBy (AreTurns processes) result
         (turns_of processes (option_map (λ v. view v.now) value.entry)) }
 {

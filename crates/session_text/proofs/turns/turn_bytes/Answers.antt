@@ -19,12 +19,12 @@ loop-i-preserved c =
       omega (arith, c.append.ensures.room, room),
       longer ∙ ap (λ n. n + 1) many,
       subst
-      (λ bytes.
-        TurnsSoFar c.args.processes bytes
-        (collect f (c.loop-i.i + 1 + 1) (drop (c.loop-i.i + 1) c.args.numbers.now))
-        (collect f 1 c.args.numbers.now)) (sym made)
-      (turns_more c.args.processes c.loop-i.i c.loop-i.bytes.bytes f c.args.numbers.now _ (pos 0)
-      c.in_ok-turn.turn c.loop-i-test.true so_far value c.in_ok-turn.ensures.high),
+          (λ bytes.
+          TurnsSoFar c.args.processes bytes
+          (collect f (c.loop-i.i + 1 + 1) (drop (c.loop-i.i + 1) c.args.numbers.now))
+          (collect f 1 c.args.numbers.now)) (sym made)
+          (turns_more c.args.processes c.loop-i.i c.loop-i.bytes.bytes f c.args.numbers.now _ (pos 0)
+          c.in_ok-turn.turn c.loop-i-test.true so_far value c.in_ok-turn.ensures.high),
     )
 
 pub returns : goal.returns

@@ -1,0 +1,11 @@
+use crate::Items;
+use sig_hooks::HookTable;
+use vt_procs::ProcStart;
+
+/// A process of a session: what it has at the start, and its program.
+#[derive(Debug, Drop)]
+pub struct Process {
+    pub start: ProcStart,
+    pub items: Items,
+    pub hooks: HookTable,
+}

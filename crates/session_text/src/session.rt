@@ -1,0 +1,130 @@
+ghost use Rattle.std.specs.Prelude.{◌≡◌, ◌≤◌, length};
+ghost use Rattle.std.specs.List.{All};
+ghost use Rattle.vt_base.specs.ConsoleSet.{IsFitSet};
+ghost use Rattle.session_text.specs.Sessions.{ArePrograms, IsSession, acts_of};
+
+use crate::Program;
+use key_tables::KeyTables;
+use sig_hooks::HookTable;
+use std::marker::Model;
+use vt_base::{Bytes, CallerNo};
+use vt_journal::Limits;
+use vt_procs::Config;
+
+/// What the callers of a console have and do, and how they take turns.
+#[derive(Debug, Drop)]
+pub struct Session {
+    config: Config,
+    tables: KeyTables,
+    limits: Limits,
+    turns: Bytes,
+    programs: Vec<Program>,
+}
+
+impl Model for Session {
+    ghost use Rattle.session_text.specs.Sessions.{IsSession, SessionView};
+
+    ghost Value = { SessionView };
+
+    ghost view = { λ s. record {
+        config = s.config;
+        tables = s.tables;
+        limits = s.limits;
+        turns = s.turns.bytes;
+        programs = s.programs.items
+    } };
+
+    ghost invariant = { λ s. IsSession (record {
+        config = s.config;
+        tables = s.tables;
+        limits = s.limits;
+        turns = s.turns.bytes;
+        programs = s.programs.items
+    }) };
+}
+
+impl Session {
+    /// A session of these parts: there is a program for each caller, the keyboard's first.
+    pub fn make(
+        config: Config,
+        tables: KeyTables,
+        limits: Limits,
+        turns: Bytes,
+        programs: Vec<Program>,
+    ) -> Session
+        requires { IsSession (record {
+            config = config;
+            tables = tables;
+            limits = limits;
+            turns = turns.bytes;
+            programs = programs.items
+        }) }
+        ensures { result ≡ record {
+            config = config;
+            tables = tables;
+            limits = limits;
+            turns = turns.bytes;
+            programs = programs.items
+        } }
+    {
+        Session {
+            config,
+            tables,
+            limits,
+            turns,
+            programs,
+        }
+    }
+
+    /// What the console begins with.
+    pub fn config(&self) -> &Config
+        ensures same { result.now ≡ self.now.config }
+        ensures fit { IsFitSet result.now.consoles result.now.front }
+    {
+        &self.config
+    }
+
+    /// The key tables.
+    pub fn key_tables(&self) -> &KeyTables
+        ensures { result.now ≡ self.now.tables }
+    {
+        &self.tables
+    }
+
+    /// How much the journal may hold.
+    pub fn limits(&self) -> Limits
+        ensures same { result ≡ self.now.limits }
+        ensures events { result.events ≤ 1_000_000 }
+        ensures bytes { result.bytes ≤ 1_073_741_824 }
+    {
+        self.limits
+    }
+
+    /// Who makes the first calls, one after another: each number is that of a caller.
+    pub fn turns(&self) -> &[u8]
+        ensures same { result.now ≡ self.now.turns }
+        ensures callers { All (λ t. t ≤ length self.now.config.procs) result.now }
+    {
+        self.turns.as_slice()
+    }
+
+    /// The programs of the callers, the keyboard's first.
+    pub fn programs(&self) -> &[Program]
+        ensures same { result.now ≡ self.now.programs }
+        ensures are { ArePrograms (length self.now.config.procs) result.now }
+    {
+        self.programs.as_slice()
+    }
+
+    /// What process `p` does at signals.
+    pub fn table(&self, p: CallerNo) -> &HookTable
+        requires low { 1 ≤ p }
+        requires high { p ≤ length self.now.config.procs }
+        ensures { result.now ≡ acts_of self.now p }
+    {
+        match &self.programs[usize::from(p.get())] {
+            Program::Script { hooks, .. } => hooks,
+            Program::Keys(_) => unreachable!(),
+        }
+    }
+}
