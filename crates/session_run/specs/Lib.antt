@@ -1,2 +1,3 @@
+pub mod Final
 pub mod Playing
 pub mod Runs

@@ -1,7 +1,7 @@
 -- A play on its way. No public clause names this.
 use Rattle.std.specs.Prelude.{◌≡◌, ℕ, ◌≤◌, ◌==◌, List, length, count_by, map, Option, Some, slice_get, slice_index, slice_index_or}
 use Rattle.session_order.specs.Calls.{as_meant, calls_by}
-use Rattle.session_order.specs.Ends.{Opening}
+use Rattle.session_order.specs.Ends.{Stage}
 use Rattle.session_order.specs.Meant.{meant}
 use Rattle.session_order.specs.Serial.{Played}
 use Rattle.session_text.specs.Programs.{Call}
@@ -28,7 +28,7 @@ pub record StandsAfter (program : Program) (walk : Place) (made : List Call) : T
   pub meant : map as_meant calls ≡ made
 
 -- the player is at this point of a play
-pub record IsAt (o : Opening) (t : Played) (p : PlayerView) : Type 0 where
+pub record IsAt (o : Stage) (t : Played) (p : PlayerView) : Type 0 where
   pub history : meant p.log.entries ≡ t.history
   pub stop : p.stop ≡ t.stop
   pub limits : p.log.limits ≡ o.limits

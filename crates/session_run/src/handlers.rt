@@ -1,17 +1,23 @@
 //! The hooks of a session's processes.
-ghost use Rattle.std.specs.Prelude.{◌≡◌, ℕ, ◌<◌, ◌≤◌, ◌+◌, [], Some, length, IfOk, slice_get, slice_index_or, vec_len};
-ghost use Rattle.session_run.specs.Runs.{HasHooks, IsScript};
-ghost use Rattle.session_text.specs.declared.program.Program.{Program};
+ghost use Rattle.std.specs.Prelude.{◌≡◌, ℕ, ◌<◌, ◌≤◌, [], length, IfOk, slice_index_or, vec_len};
+ghost use Rattle.session_run.specs.Runs.{HasHooks, HasScripts};
 
-use session_text::Program;
+use session_text::{Program, Session};
 use sig_hooks::{Handler, Hook, HookTable};
 use std::alloc::Global;
 use vt_base::NoMemory;
 
-/// The tables of the processes, whose programs follow the keyboard's.
-pub(crate) fn tables_of(alloc: Global, programs: &[Program]) -> Result<Vec<HookTable>, NoMemory>
+/// The tables of the session's processes.
+pub(crate) fn tables_of(alloc: Global, s: &Session) -> Result<Vec<HookTable>, NoMemory>
+    ensures { IfOk result (λ tables. HasHooks s.now.programs tables.items) }
+{
+    tables_in(alloc, s.programs())
+}
+
+// The tables of scripts, which follow the keyboard's program.
+fn tables_in(alloc: Global, programs: &[Program]) -> Result<Vec<HookTable>, NoMemory>
     requires keyboard { 1 ≤ length programs.now }
-    requires scripts { (i : ℕ) (p : Program) → slice_get programs.now (i + 1) ≡ Some p → IsScript p }
+    requires scripts { HasScripts programs.now }
     ensures { IfOk result (λ tables. HasHooks programs.now tables.items) }
 {
     let mut tables = Vec::new(alloc);

@@ -2,12 +2,14 @@
 #![tactic(auto)]
 
 mod counts;
+mod final_texts;
 mod handlers;
-mod play;
 mod player;
 mod rounds;
 mod run;
+mod serial;
 mod turn;
 
-pub use play::play_programs;
+pub use final_texts::{add_final_text, final_text};
 pub use run::Run;
+pub use serial::play;

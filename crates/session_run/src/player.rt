@@ -1,25 +1,22 @@
 ghost use Rattle.std.specs.Prelude.{◌≡◌, ◌≤◌, ◌<◌, List, ◌∷◌, ◌++◌, [], None, Some, length, All, IfOk, OnOk, slice_get};
-ghost use Rattle.session_order.specs.Ends.{Opening};
+ghost use Rattle.session_order.specs.Ends.{Stage};
 ghost use Rattle.session_order.specs.Serial.{Played, call_now, entry_at, nothing_played, turn};
 ghost use Rattle.session_run.specs.Playing.{IsAt};
-ghost use Rattle.session_run.specs.Runs.{opening_of};
+ghost use Rattle.session_run.specs.Runs.{stage_of};
 ghost use Rattle.session_text.specs.Walks.{Stands};
 ghost use Rattle.session_text.specs.declared.program.Program.{Program};
-ghost use Rattle.vt_base.specs.ConsoleSet.{IsFitSet};
 ghost use Rattle.vt_events.specs.Charge.{charge_of};
 ghost use Rattle.vt_journal.specs.Log.{HasRoom};
 
 use crate::counts::Counts;
 use crate::run::Run;
-use key_tables::KeyTables;
 use session_order::meant_laws;
-use session_text::{Program, Walk};
+use session_text::{Program, Session, Walk};
 use std::alloc::Global;
 use std::marker::Model;
 use vt_base::{CallerNo, NoMemory};
 use vt_events::{Entry, Event, charge};
-use vt_journal::{Full, Limits, Log};
-use vt_procs::Config;
+use vt_journal::{Full, Log};
 use vt_world::{World, legal_grows, spare_for};
 
 /// A console, its journal so far, where each caller's walk through its program stands, how many calls
@@ -49,22 +46,14 @@ impl Model for Player {
 
 impl Player {
     /// Nothing is called yet.
-    pub(crate) fn open(
-        alloc: Global,
-        config: &Config,
-        tables: &KeyTables,
-        limits: Limits,
-        callers: usize,
-    ) -> Result<Player, NoMemory>
-        requires fit { IsFitSet config.now.consoles config.now.front }
-        requires events { limits.events ≤ 1_000_000 }
-        requires bytes { limits.bytes ≤ 1_073_741_824 }
-        ensures { IfOk result (λ player. (programs : List Program) → length programs ≡ callers
-            → IsAt (opening_of config.now tables.now limits programs) nothing_played player) }
+    pub(crate) fn open(alloc: Global, s: &Session) -> Result<Player, NoMemory>
+        ensures at { IfOk result (λ player. IsAt (stage_of s.now) nothing_played player) }
+        ensures walks { IfOk result (λ player. length player.walks ≡ length s.now.programs) }
     {
-        let world = World::start(alloc, config, tables)?;
+        let limits = s.limits();
+        let world = World::start(alloc, s.config(), s.key_tables())?;
         let log = Log::with_room(alloc, limits.events, limits.bytes)?;
-        let walks = first_walks(alloc, callers)?;
+        let walks = first_walks(alloc, s.programs().len())?;
         Ok(Player {
             world,
             log,
@@ -83,7 +72,7 @@ impl Player {
         event: Event,
     ) -> Result<(), NoMemory>
         requires { p < length self.old.walks }
-        ensures at { OnOk result ((o : Opening) (t : Played)
+        ensures at { OnOk result ((o : Stage) (t : Played)
             → slice_get o.programs p ≡ Some program.now → t.stop ≡ None
             → call_now o t.history p ≡ Some event
             → IsAt o t self.old → IsAt o (turn o p t) self.new) }
@@ -124,7 +113,7 @@ impl Player {
     ) -> Result<(), NoMemory>
         requires walk { p < length self.old.walks }
         requires room { HasRoom self.old.log (charge_of event) }
-        ensures at { OnOk result ((o : Opening) (t : Played)
+        ensures at { OnOk result ((o : Stage) (t : Played)
             → slice_get o.programs p ≡ Some program.now → t.stop ≡ None
             → call_now o t.history p ≡ Some event → IsAt o t self.old
             → IsAt o (record { history = t.history ++ entry_at o.start t.history p event ∷ []; stop = None })

@@ -1,6 +1,6 @@
-ghost use Rattle.std.specs.Prelude.{◌≡◌, ◌≤◌, ◌<◌, ℕ, List, length, OnOk, slice_index, EachIndex};
-ghost use Rattle.session_order.specs.Ends.{Opening};
-ghost use Rattle.session_order.specs.Laws.{IsOpening};
+ghost use Rattle.std.specs.Prelude.{◌≡◌, ◌≤◌, ◌<◌, ℕ, List, length, All, OnOk};
+ghost use Rattle.session_order.specs.Ends.{Stage};
+ghost use Rattle.session_order.specs.Laws.{IsFromStart};
 ghost use Rattle.session_order.specs.Serial.{IsSerial, Played, nothing_played, round, turns};
 ghost use Rattle.session_run.specs.Playing.{IsAt};
 ghost use Rattle.session_run.specs.Runs.{HasHooks};
@@ -23,9 +23,9 @@ impl Player {
     ) -> Result<(), NoMemory>
         requires hooks { HasHooks programs.now hooks.now }
         requires most { length programs.now ≤ 65 }
-        requires known { EachIndex callers.now (λ k. slice_index callers.now k < length programs.now) }
+        requires known { All (λ p. p < length programs.now) callers.now }
         requires walks { length self.old.walks ≡ length programs.now }
-        ensures at { OnOk result ((o : Opening) (t : Played) → o.programs ≡ programs.now
+        ensures at { OnOk result ((o : Stage) (t : Played) → o.programs ≡ programs.now
             → IsAt o t self.old → IsAt o (turns o callers.now t) self.new) }
         ensures walks { OnOk result (length self.new.walks ≡ length programs.now) }
     {
@@ -48,7 +48,7 @@ impl Player {
         requires hooks { HasHooks programs.now hooks.now }
         requires most { length programs.now ≤ 65 }
         requires walks { length self.old.walks ≡ length programs.now }
-        ensures at { OnOk result ((o : Opening) (t : Played) → o.programs ≡ programs.now
+        ensures at { OnOk result ((o : Stage) (t : Played) → o.programs ≡ programs.now
             → IsAt o t self.old → IsAt o (round o t) self.new) }
         ensures walks { OnOk result (length self.new.walks ≡ length programs.now) }
     {
@@ -74,16 +74,19 @@ impl Player {
         requires most { length programs.now ≤ 65 }
         requires walks { length self.old.walks ≡ length programs.now }
         requires events { events ≤ 1_000_000 }
-        ensures { OnOk result ((o : Opening) (first : List ℕ) → IsOpening o
+        ensures { OnOk result ((o : Stage) (first : List ℕ) → IsFromStart o
             → o.programs ≡ programs.now → o.limits.events ≡ events
             → IsAt o (turns o first nothing_played) self.old
             → (t : Played) × IsSerial o first t × IsAt o t self.new) }
     {
         serial_laws();
-        for _round in 0..=events {
+        for _round in 0..events + 1 {
             let before = self.log.entries().len();
             self.round(alloc, programs, hooks)?;
-            if self.stop.is_some() || self.log.entries().len() == before {
+            if self.stop.is_some() {
+                return Ok(());
+            }
+            if self.log.entries().len() == before {
                 return Ok(());
             }
         }

@@ -4,13 +4,15 @@ use Rattle.std.proofs.lemmas.Option.{slice_get_read}
 use Rattle.std.proofs.lemmas.Result.{IfOk-weaker}
 use Rattle.std.specs.Prelude.{slice_get, IfOk}
 use Rattle.session_order.specs.Calls.{calls_by}
-use Rattle.session_order.specs.Ends.{Opening}
+use Rattle.session_order.specs.Ends.{Stage}
 use Rattle.session_order.specs.Serial.{Played, call_now}
 use Rattle.session_run.proofs.Plays.{now-is}
 use Rattle.session_run.specs.Playing.{IsAt, PlayerView}
 use Rattle.session_text.specs.Walks.{HasActs}
 use Rattle.session_text.specs.declared.program.Program.{Program}
 use Rattle.sig_hooks.specs.declared.act.Act.{Act}
+use Rattle.vt_procs.specs.Callers.{caller_at}
+use Rattle.vt_procs.specs.Tickets.{is_open}
 use Rattle.session_run.proofs.player.Player.next.Goals as goal
 
 -- the table of the hook of a process
@@ -38,8 +40,46 @@ next_by-requires g c =
 
 pub returns-then-i-eq0 : goal.returns-then-i-eq0
 returns-then-i-eq0 g c =
-    IfOk-weaker c.next.result _ _ (λ e is o t same at. ?) c.next.ensures
+    let i : ℕ = c.from-i.result in
+    let p : i ≡ c.args.p = c.from-i.ensures ∙ c.get.ensures.same in
+    let view : PlayerView = record {
+      world = c.self.inside.world;
+      log = c.self.inside.log;
+      walks = c.self.inside.walks.items;
+      counts = c.self.inside.counts;
+      stop = c.self.inside.stop;
+    } in
+    let within : i < length c.args.programs.now = omega (arith, c.requires.known, p) in
+    let here : slice_get c.args.programs.now i ≡ Some c.index-programs-i.result =
+    slice_get_read c.args.programs.now (length c.args.programs.now) i c.index-programs-i.result refl within c.index-programs-i.is in
+    let shut : is_open (caller_at c.self.inside.world.callers i).waiting ≡ false =
+    ap (λ k. is_open (caller_at c.self.inside.world.callers k).waiting) p ∙ sym c.waiting.ensures ∙ c.if-waiting.false in
+    IfOk-weaker c.next.result _ _
+    (λ e is o t same at.
+    now-is c.meant_laws.ensures.next o t view c.args.programs.now i c.index-programs-i.result c.index-walk.result.now e is
+    same here c.index-walk.ensures shut (subst (IsAt o t) (sym c.self.view_is) at)
+    ∙ ap (call_now o t.history) p)
+    c.next.ensures
 
 pub returns-else-i-eq0 : goal.returns-else-i-eq0
 returns-else-i-eq0 g c =
-    IfOk-weaker c.next_by.result _ _ (λ e is o t same at. ?) c.next_by.ensures
+    let i : ℕ = c.from-i.result in
+    let p : i ≡ c.args.p = c.from-i.ensures ∙ c.get.ensures.same in
+    let view : PlayerView = record {
+      world = c.self.inside.world;
+      log = c.self.inside.log;
+      walks = c.self.inside.walks.items;
+      counts = c.self.inside.counts;
+      stop = c.self.inside.stop;
+    } in
+    let within : i < length c.args.programs.now = omega (arith, c.requires.known, p) in
+    let here : slice_get c.args.programs.now i ≡ Some c.index-programs-i.result =
+    slice_get_read c.args.programs.now (length c.args.programs.now) i c.index-programs-i.result refl within c.index-programs-i.is in
+    let shut : is_open (caller_at c.self.inside.world.callers i).waiting ≡ false =
+    ap (λ k. is_open (caller_at c.self.inside.world.callers k).waiting) p ∙ sym c.waiting.ensures ∙ c.if-waiting.false in
+    IfOk-weaker c.next_by.result _ _
+    (λ e is o t same at.
+    now-is c.meant_laws.ensures.next o t view c.args.programs.now i c.index-programs-i.result c.index-walk.result.now e is
+    same here c.index-walk.ensures shut (subst (IsAt o t) (sym c.self.view_is) at)
+    ∙ ap (call_now o t.history) p)
+    c.next_by.ensures

@@ -2,7 +2,7 @@ use Rattle.std.proofs.Common.{◌≡◌, ℕ, ◌+◌, ◌<◌, [], Some, get_or
 use Rattle.std.specs.Prelude.{slice_get}
 use Rattle.session_text.specs.Walks.{HasActs}
 use Rattle.session_text.specs.declared.program.Program.{Program}
-use Rattle.session_run.proofs.handlers.tables_of.Given as goal
+use Rattle.session_run.proofs.handlers.tables_in.Given as goal
 
 abbrev pub invariant-loop-i : goal.invariant-loop-i
 invariant-loop-i l = record {
