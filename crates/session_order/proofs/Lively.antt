@@ -15,9 +15,9 @@ use Rattle.session_order.proofs.Programs.{next-fine}
 use Rattle.session_order.proofs.Steps.{exit-never-waits, gone-dead, keyboard-never-waits}
 use Rattle.session_order.proofs.Turns.{Enters, FindsFull, Skips, TurnDoes, event-plain, reply-plain, turn-does}
 use Rattle.session_order.specs.Calls.{call_of, calls_by, next_by, next_of}
-use Rattle.session_order.specs.Ends.{Opening}
+use Rattle.session_order.specs.Ends.{Stage}
 use Rattle.session_order.specs.Follows.{is_waiting}
-use Rattle.session_order.specs.Laws.{IsOpening}
+use Rattle.session_order.specs.Laws.{IsFromStart}
 use Rattle.session_order.specs.Serial.{Played, entry_at, nothing_played, round, rounds, turn, turns}
 use Rattle.session_text.specs.Programs.{Call, call, ends, is_exit, is_gone, is_kill, is_srch, is_wait, next}
 use Rattle.session_text.specs.declared.program.Program.{Program}

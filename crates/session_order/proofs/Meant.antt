@@ -7,7 +7,7 @@ use Rattle.std.specs.List.{list_all, range_with_len, sum_by}
 use Rattle.std.specs.Prelude.{◌==◌, ◌&&◌, count_by, nat_le, nat_lt, slice_get}
 use Rattle.session_order.proofs.Programs.{next-fine, plain-twice}
 use Rattle.session_order.specs.Calls.{all_over, as_meant, call_of, calls_by, is_none, next_by, next_of}
-use Rattle.session_order.specs.Ends.{Ends, EndsBy, Finishes, IsWithin, Opening, Stops, full_at, has_room, tail_at}
+use Rattle.session_order.specs.Ends.{Ends, EndsBy, Finishes, IsWithin, Stage, Stops, full_at, has_room, tail_at}
 use Rattle.session_order.specs.Follows.{Follows, IsNextCall, is_waiting}
 use Rattle.session_order.specs.Meant.{EndsIsMeant, FollowsIsMeant, LegalIsMeant, NextIsMeant, NextIsPlain, ReplayIsMeant, meant}
 use Rattle.session_text.specs.Programs.{Call, call, next}
@@ -131,7 +131,7 @@ follows-meant start programs entries follows k entry here =
       ended = λ waitend. sym (waiting_meant start entry.caller before) ∙ next.ended (wait_meant entry.event ∙ waitend);
     }
 
-room_meant : (o : Opening) (entries : List Entry) (charge : ℕ)
+room_meant : (o : Stage) (entries : List Entry) (charge : ℕ)
     → has_room o.limits (meant entries) charge ≡ has_room o.limits entries charge
 room_meant o entries charge =
     λ i. nat_lt (length-map entries plain_entry i) o.limits.events && nat_le (charges-meant entries i + charge) o.limits.bytes
@@ -142,7 +142,7 @@ over_meant programs entries [] = refl
 over_meant programs entries (p ∷ callers) =
     λ i. is_none (next_meant programs p entries i) && over_meant programs entries callers i
 
-within_meant : (o : Opening) (entries : List Entry) → IsWithin o.limits (meant entries) → IsWithin o.limits entries
+within_meant : (o : Stage) (entries : List Entry) → IsWithin o.limits (meant entries) → IsWithin o.limits entries
 within_meant o entries within = record {
   events = subst (λ n. n ≤ o.limits.events) (length-map entries plain_entry) within.events;
   bytes = subst (λ n. n ≤ o.limits.bytes) (charges-meant entries) within.bytes;

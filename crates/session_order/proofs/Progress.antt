@@ -14,9 +14,9 @@ use Rattle.session_order.proofs.Lively.{HasWaitEnd, IsLively, Now, lively-more}
 use Rattle.session_order.proofs.Rounds.{finished-stays, is_none_none}
 use Rattle.session_order.proofs.Turns.{Enters, FindsFull, Goes, Skips, TurnDoes, event-plain, goes-nothing, reply-plain, rounds-go, turn-does, turns-go}
 use Rattle.session_order.specs.Calls.{all_over, call_of, calls_by, is_none, next_by, next_of}
-use Rattle.session_order.specs.Ends.{Opening}
+use Rattle.session_order.specs.Ends.{Stage}
 use Rattle.session_order.specs.Follows.{is_waiting}
-use Rattle.session_order.specs.Laws.{IsOpening, RoundsGoOn, SerialEnds}
+use Rattle.session_order.specs.Laws.{IsFromStart, RoundsGoOn, SerialEnds}
 use Rattle.session_order.specs.Serial.{IsSerial, Played, call_now, entry_at, is_finished, nothing_played, round, rounds, turn, turns}
 use Rattle.session_text.specs.Programs.{Call, call, next}
 use Rattle.session_text.specs.declared.program.Program.{Program}
@@ -104,10 +104,10 @@ replay_more start (first ∷ h) entry =
     replay_more (step start first.caller first.event).world h entry
 
 -- the callers after a play
-abbrev pub Lives : Opening → List Entry → Type 0
+abbrev pub Lives : Stage → List Entry → Type 0
 Lives o h = IsLively o.programs h (replay o.start h).callers
 
-lives_turn : (o : Opening) (p : ℕ) (h : List Entry) (t : Played) → TurnDoes o p h t → Lives o h
+lives_turn : (o : Stage) (p : ℕ) (h : List Entry) (t : Played) → TurnDoes o p h t → Lives o h
     → Lives o t.history
 lives_turn o p h _ (Skips none) lives = lives
 lives_turn o p h _ (Enters e shut next room) lives =
@@ -119,33 +119,33 @@ lives_turn o p h _ (Enters e shut next room) lives =
     (λ i. call (event-plain o.programs p h e next i) (reply-plain w p e i)))
 lives_turn o p h _ (FindsFull e shut next none) lives = lives
 
-turn_lives : (o : Opening) (p : ℕ) (h : List Entry) (stop : Option Full) → Lives o h
+turn_lives : (o : Stage) (p : ℕ) (h : List Entry) (stop : Option Full) → Lives o h
     → Lives o (turn o p (record { history = h; stop = stop })).history
 turn_lives o p h (Some full) lives = lives
 turn_lives o p h None lives = lives_turn o p h _ (turn-does o p h) lives
 
-turns_live : (o : Opening) (callers : List ℕ) (t : Played) → Lives o t.history
+turns_live : (o : Stage) (callers : List ℕ) (t : Played) → Lives o t.history
     → Lives o (turns o callers t).history
 turns_live o [] t lives = lives
 turns_live o (p ∷ callers) t lives =
     turns_live o callers (turn o p t) (turn_lives o p t.history t.stop lives)
 
 -- a play on its way from a start
-pub record OnWay (o : Opening) (t : Played) : Type 0 where
+pub record OnWay (o : Stage) (t : Played) : Type 0 where
   pub goes : Goes o t
   pub lives : Lives o t.history
 
-round_goes_on : (o : Opening) (t : Played) → OnWay o t → OnWay o (round o t)
+round_goes_on : (o : Stage) (t : Played) → OnWay o t → OnWay o (round o t)
 round_goes_on o t way = record {
   goes = turns-go o (range_with_len 0 (length o.programs)) t way.goes;
   lives = turns_live o (range_with_len 0 (length o.programs)) t way.lives;
 }
 
-rounds_go_on : (o : Opening) (n : ℕ) (t : Played) → OnWay o t → OnWay o (rounds o n t)
+rounds_go_on : (o : Stage) (n : ℕ) (t : Played) → OnWay o t → OnWay o (rounds o n t)
 rounds_go_on o zero t way = way
 rounds_go_on o (suc n) t way = rounds_go_on o n (round o t) (round_goes_on o t way)
 
-first_goes_on : (o : Opening) (first : List ℕ) → IsOpening o → OnWay o (turns o first nothing_played)
+first_goes_on : (o : Stage) (first : List ℕ) → IsFromStart o → OnWay o (turns o first nothing_played)
 first_goes_on o first is = record {
   goes = turns-go o first nothing_played (goes-nothing o);
   lives = turns_live o first nothing_played
@@ -187,13 +187,13 @@ known_program programs q None made e here is = absurd (none-some e is)
 known_program programs q (Some program) made e here is = slice_get_within programs q program here
 
 -- a caller that can make a call now
-pub record CanCall (o : Opening) (h : List Entry) : Type 0 where
+pub record CanCall (o : Stage) (h : List Entry) : Type 0 where
   pub caller : ℕ
   pub known : caller < length o.programs
   pub call : Event
   pub now : call_now o h caller ≡ Some call
 
-can_call : (o : Opening) (h : List Entry) (q : ℕ) (e : Event) → next_by o.programs q h ≡ Some e
+can_call : (o : Stage) (h : List Entry) (q : ℕ) (e : Event) → next_by o.programs q h ≡ Some e
     → is_waiting (replay o.start h) q ≡ false → CanCall o h
 can_call o h q e next shut = record {
   caller = q;
@@ -202,7 +202,7 @@ can_call o h q e next shut = record {
   now = ap (λ b. if b then None else next_by o.programs q h) shut ∙ next;
 }
 
-somebody : (o : Opening) (h : List Entry) → Lives o h → all_over o.programs h ≡ false → CanCall o h
+somebody : (o : Stage) (h : List Entry) → Lives o h → all_over o.programs h ≡ false → CanCall o h
 somebody o h lives going =
     let w : WorldState = replay o.start h in
     let open_one : (p : ℕ) × (is_none (next_by o.programs p h) ≡ false) =
@@ -228,7 +228,7 @@ somebody o h lives going =
 abbrev pub Moved : List Entry → Played → Type 0
 Moved h t = (length h < length t.history) ⊎ (is_some t.stop ≡ true)
 
-moved_on : (o : Opening) (p : ℕ) (h g : List Entry) (t : Played) → TurnDoes o p g t
+moved_on : (o : Stage) (p : ℕ) (h g : List Entry) (t : Played) → TurnDoes o p g t
     → (length h < length g) ⊎ ⊥ → Moved h t
 moved_on o p h g _ (Skips none) longer = ⊎_elim (λ more. inl more) (λ no. absurd no) longer
 moved_on o p h g _ (Enters e shut next room) longer = ⊎_elim
@@ -236,7 +236,7 @@ moved_on o p h g _ (Enters e shut next room) longer = ⊎_elim
     (λ no. absurd no) longer
 moved_on o p h g _ (FindsFull e shut next none) longer = inr refl
 
-turn_moved : (o : Opening) (p : ℕ) (h g : List Entry) (stop : Option Full)
+turn_moved : (o : Stage) (p : ℕ) (h g : List Entry) (stop : Option Full)
     → Moved h (record { history = g; stop = stop })
     → Moved h (turn o p (record { history = g; stop = stop }))
 turn_moved o p h g (Some full) moved = moved
@@ -244,14 +244,14 @@ turn_moved o p h g None moved =
     moved_on o p h g _ (turn-does o p g)
     (⊎_elim (λ more. inl more) (λ no. absurd (false≢true no)) moved)
 
-turns_moved : (o : Opening) (callers : List ℕ) (h : List Entry) (t : Played) → Moved h t
+turns_moved : (o : Stage) (callers : List ℕ) (h : List Entry) (t : Played) → Moved h t
     → Moved h (turns o callers t)
 turns_moved o [] h t moved = moved
 turns_moved o (p ∷ callers) h t moved =
     turns_moved o callers h (turn o p t) (turn_moved o p h t.history t.stop moved)
 
 -- the turn of p moves the play, or p has no call
-moves_or : (o : Opening) (p : ℕ) (h : List Entry) (t : Played) → TurnDoes o p h t
+moves_or : (o : Stage) (p : ℕ) (h : List Entry) (t : Played) → TurnDoes o p h t
     → Moved h t ⊎ ((call_now o h p ≡ None) × (t ≡ record { history = h; stop = None }))
 moves_or o p h _ (Skips none) = inr (none, refl)
 moves_or o p h _ (Enters e shut next room) =
@@ -269,7 +269,7 @@ abbrev still : List Entry → Played
 still h = record { history = h; stop = None }
 
 -- a turn of a, and those of others, of whom q has a call
-turn_then : (o : Opening) (h : List Entry) (q : ℕ) (e : Event) (callers : List ℕ) (a : ℕ) (t : Played)
+turn_then : (o : Stage) (h : List Entry) (q : ℕ) (e : Event) (callers : List ℕ) (a : ℕ) (t : Played)
     → call_now o h q ≡ Some e → Moved h t ⊎ ((call_now o h a ≡ None) × (t ≡ still h))
     → ((a ≡ q → ⊥) → Moved h (turns o callers (still h))) → Moved h (turns o callers t)
 turn_then o h q e callers a t now (inl moved) others = turns_moved o callers h t moved
@@ -279,7 +279,7 @@ turn_then o h q e callers a t now (inr skips) others =
     subst (λ x. Moved h (turns o callers x)) (sym skips.1) (others apart)
 
 -- so do turns in which somebody has a call
-range_moves : (o : Opening) (h : List Entry) (q : ℕ) (e : Event) → call_now o h q ≡ Some e
+range_moves : (o : Stage) (h : List Entry) (q : ℕ) (e : Event) → call_now o h q ≡ Some e
     → (a n : ℕ) → a ≤ q → q < a + n → Moved h (turns o (range_with_len a n) (still h))
 range_moves o h q e now a zero low high = absurd (let no : ⊥ = omega (arith, low, high) in no)
 range_moves o h q e now a (suc n) low high =
@@ -287,7 +287,7 @@ range_moves o h q e now a (suc n) low high =
     (moves_or o a h (turn o a (still h)) (turn-does o a h))
     (λ apart. range_moves o h q e now (a + 1) n (above a q low apart) (within a n q high))
 
-round_moves : (o : Opening) (h : List Entry) (stop : Option Full) → Lives o h
+round_moves : (o : Stage) (h : List Entry) (stop : Option Full) → Lives o h
     → is_finished o (record { history = h; stop = stop }) ≡ false
     → Moved h (round o (record { history = h; stop = stop }))
 round_moves o h (Some full) lives going = absurd (true≢false going)
@@ -303,7 +303,7 @@ rounds-go-on o first n is going =
     round_moves o t.history t.stop way.lives going
 
 -- after n rounds a play is finished, or has n entries more
-enough : (o : Opening) (n : ℕ) (t : Played) → OnWay o t
+enough : (o : Stage) (n : ℕ) (t : Played) → OnWay o t
     → (is_finished o (rounds o n t) ≡ true) ⊎ (length t.history + n ≤ length (rounds o n t).history)
 enough o zero t way = inr (omega arith)
 enough o (suc n) t way =

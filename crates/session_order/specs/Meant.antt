@@ -1,7 +1,7 @@
 -- Histories as they are meant: the room that the bytes of calls and answers have changes nothing.
 use Rattle.std.specs.Prelude.{◌≡◌, ℕ, List, map, Some, Option}
 use Rattle.session_order.specs.Calls.{as_meant}
-use Rattle.session_order.specs.Ends.{Ends, Opening, tail_at}
+use Rattle.session_order.specs.Ends.{Ends, Stage, tail_at}
 use Rattle.session_order.specs.Follows.{Follows}
 use Rattle.session_text.specs.Programs.{Call, next}
 use Rattle.session_text.specs.declared.program.Program.{Program}
@@ -42,5 +42,5 @@ FollowsIsMeant =
 
 abbrev pub EndsIsMeant : Type 0
 EndsIsMeant =
-    (o : Opening) (entries : List Entry) (stop : Option Full)
+    (o : Stage) (entries : List Entry) (stop : Option Full)
     → Ends o (meant entries) (tail_at (meant entries) stop) → Ends o entries (tail_at entries stop)

@@ -1,0 +1,5 @@
+pub mod FinalTexts
+pub mod Numbers
+pub mod Plays
+pub mod Sessions
+pub mod Texts

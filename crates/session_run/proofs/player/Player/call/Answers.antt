@@ -1,0 +1,37 @@
+use Rattle.std.proofs.Common.{◌≡◌, length, refl, sym, ap, ◌∙◌, subst}
+use Rattle.std.proofs.lemmas.Bool.{false≢true}
+use Rattle.session_run.proofs.Plays.{turn-enters, turn-fills}
+use Rattle.session_run.specs.Playing.{IsAt, PlayerView}
+use Rattle.vt_events.specs.Charge.{charge_of}
+use Rattle.vt_journal.specs.Log.{HasRoom}
+use Rattle.session_run.proofs.player.Player.call.Goals as goal
+
+pub returns-then-room-clause-at : goal.returns-then-room-clause-at
+returns-then-room-clause-at c = λ o t is going now at.
+    let before : PlayerView = record {
+      world = c.self.inside.world;
+      log = c.self.inside.log;
+      walks = c.self.inside.walks.items;
+      counts = c.self.inside.counts;
+      stop = c.self.inside.stop;
+    } in
+    let here : IsAt o t before = subst (IsAt o t) (sym c.self.view_is) at in
+    let room : HasRoom c.self.inside.log (charge_of c.args.event) =
+    subst (HasRoom c.self.inside.log) c.charge-charge.ensures (c.room.ensures.0 c.if-room.true) in
+    turn-enters o t c.args.p c.args.event before c.enter.new.self room here going now
+    (c.in_ok-enter.ensures.at o t is going now at)
+
+pub returns-clause-at : goal.returns-clause-at
+returns-clause-at c = λ o t is going now at.
+    let before : PlayerView = record {
+      world = c.self.inside.world;
+      log = c.self.inside.log;
+      walks = c.self.inside.walks.items;
+      counts = c.self.inside.counts;
+      stop = c.self.inside.stop;
+    } in
+    turn-fills o t c.args.p c.args.event before
+    (record { events = length c.entries.result.now; bytes = c.bytes.result; charge = c.charge-charge.result })
+    (λ room. false≢true (sym c.if-room.false ∙ c.room.ensures.1 (subst (HasRoom c.self.inside.log) (sym c.charge-charge.ensures) room)))
+    (subst (IsAt o t) (sym c.self.view_is) at) going now
+    (λ i. record { events = length (c.entries.ensures.same i); bytes = c.bytes.ensures.sum i; charge = c.charge-charge.ensures i })

@@ -1,0 +1,42 @@
+-- The final text: the display, and each console with its screen. This project's own.
+use Rattle.std.specs.Prelude.{ℕ, List, [], ◌∷◌, ◌++◌, codes, decimal, map, Option, Some, None}
+use Rattle.std.specs.List.{flat_map, range_with_len}
+use Rattle.in_queue.specs.Queue.{Queue}
+use Rattle.vt_journal.specs.Hex.{hex_text}
+use Rattle.vt_journal.specs.Journal.{line_text}
+use Rattle.vt_screen.specs.Screen.{Screen}
+use Rattle.vt_dump.specs.Rows.{rows_text}
+use Rattle.vt_world.specs.Inputs.{input_at}
+use Rattle.vt_world.specs.State.{WorldState}
+use Rattle.vt_world.specs.Terminals.{TerminalState, terminal_at}
+
+-- a console's screen: its number, rows, columns, the cursor's column and row, and how often its bell
+-- rang
+abbrev pub screen_words : ℕ → Screen → ℕ → List (List ℕ)
+screen_words n s bells =
+    codes "%screen" ∷ map decimal (n ∷ s.sheet.rows ∷ s.sheet.cols ∷ s.state.x ∷ s.state.y ∷ bells ∷ [])
+
+-- its queue: the number of the console, how many pieces were dropped, and the bytes that it has
+abbrev pub queue_words : ℕ → Queue → List (List ℕ)
+queue_words n queue =
+    codes "%queue" ∷ decimal n ∷ decimal queue.dropped ∷ hex_text queue.bytes ∷ []
+
+-- a console: these two lines, and between them the rows of its screen
+abbrev pub console_text : ℕ → Screen → ℕ → Queue → List ℕ
+console_text n s bells queue =
+    line_text (screen_words n s bells)
+    ++ (rows_text s.sheet.cells ++ line_text (queue_words n queue))
+
+abbrev pub place_text : ℕ → Option TerminalState → Queue → List ℕ
+place_text n None queue = []
+place_text n (Some t) queue = console_text n t.machine.state t.bells queue
+
+-- the allocated consoles in rising order
+abbrev pub consoles_text : WorldState → ℕ → ℕ → List ℕ
+consoles_text w from len =
+    flat_map (λ n. place_text n (terminal_at w.terminals n) (input_at w.inputs n).queue) (range_with_len from len)
+
+abbrev pub final_text : WorldState → List ℕ
+final_text w =
+    line_text (codes "%display" ∷ decimal w.display.front ∷ [])
+    ++ (consoles_text w 1 63 ++ line_text (codes "%done" ∷ []))

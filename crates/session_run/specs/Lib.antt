@@ -1,0 +1,3 @@
+pub mod Final
+pub mod Playing
+pub mod Runs
