@@ -1,5 +1,4 @@
 mod Complete
-mod FinalTexts
 mod Sides
 mod Statuses
 pub mod Streams

@@ -1,4 +1,3 @@
-pub mod Final
 pub mod Input
 pub mod Outcome
 pub mod Play

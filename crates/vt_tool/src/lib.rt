@@ -3,7 +3,6 @@
 
 mod answer;
 mod command;
-mod final_text;
 mod intake;
 mod keys_answer;
 mod play_answer;
