@@ -5,6 +5,10 @@ pub mod HookWords
 pub mod Hooking
 pub mod ItemWords
 pub mod KeyTyping
+pub mod OneHook
+pub mod OneItem
+pub mod OneResult
+pub mod OneSession
 pub mod Saying
 pub mod TopReading
 pub mod Turning

@@ -83,6 +83,12 @@ session_says input = do
   members ← is (document_of input)
   session_at members
 
+-- a text says one thing only
+abbrev pub OneSession : Type 0
+OneSession =
+    (text : List ℕ) (a b : Result SessionValue TableFault)
+    → session_says text a → session_says text b → a ≡ b
+
 abbrev pub script_of : Process → Program
 script_of process = programs.Script process.items process.hooks
 

@@ -11,6 +11,7 @@ mod item_texts;
 mod items;
 mod keyboard;
 mod keyboards;
+mod laws;
 mod making;
 mod opening;
 mod openings;
@@ -29,6 +30,7 @@ mod turns;
 mod walk;
 
 pub use items::Items;
+pub use laws::one_session;
 pub use program::Program;
 pub use reading::read;
 pub use session::Session;

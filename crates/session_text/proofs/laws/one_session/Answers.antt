@@ -1,0 +1,5 @@
+use Rattle.session_text.proofs.OneSession.{one_session}
+use Rattle.session_text.proofs.laws.one_session.Goals as goal
+
+pub returns : goal.returns
+returns c = one_session
