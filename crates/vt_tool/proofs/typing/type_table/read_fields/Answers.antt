@@ -9,7 +9,7 @@ returns-clause-table c =
     let read =
     type_table-read (table_view c.args.table.now) _ _ _ _ _ _ _ lines _ _ (sym c.knows_keys.ensures ∙ c.if-not-knows_keys.false)
     c.at.ensures c.in_ok-mode.ensures.value c.at-2.ensures c.in_ok-included.ensures c.at-3.ensures
-    c.in_ok-keymap_text.ensures are c.at-4.ensures c.in_ok-keys_text.ensures c.in_ok-keys.ensures in (
+    c.in_ok-keymap_text.ensures are c.at-4.ensures c.in_ok-keys_text.ensures c.in_ok-keys.ensures.bytes in (
       record { mode = c.in_ok-mode.mode; lines = lines; keys = c.in_ok-keys.keys.bytes },
       read,
       (refl, tables, refl),
