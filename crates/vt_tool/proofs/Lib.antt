@@ -1,4 +1,5 @@
 mod Complete
+mod Oks
 mod Sides
 mod Statuses
 pub mod Streams

@@ -17,7 +17,7 @@ pub fn play_answer(alloc: Global, input: &[u8]) -> Result<Answer, NoMemory>
     ensures { IfOk result (λ answer.
         GivesPlayed input.now (record { status = answer.status; text = answer.text.bytes })
         ⊎ GivesSessionFault input.now
-            (record { status = answer.status; text = answer.text.bytes })) }
+        (record { status = answer.status; text = answer.text.bytes })) }
 {
     match read(alloc, input) {
         Ok(session) => answer_played(alloc, &session),

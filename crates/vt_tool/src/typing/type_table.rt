@@ -9,7 +9,9 @@ ghost use Rattle.vt_tool.specs.Typing.{is_type_key, type_table_at, type_table_of
 
 use key_tables::KeyTables;
 use std::alloc::Global;
-use table_fields::{Numbers, TableError, at, document, keymap, number, refused, scan_bytes, text, texts};
+use table_fields::{
+    Numbers, TableError, at, document, keymap, number, refused, scan_bytes, text, texts,
+};
 use toml::Table;
 use vt_base::Bytes;
 

@@ -1,8 +1,17 @@
-use Rattle.std.proofs.Common.{rules, ◌≡◌, ◌⊎◌, IfOk, ℕ, ◌+◌, ◌-◌, ◌*◌, ◌<◌, ◌≤◌, length, ◌/◌, ◌%◌, Bool, true, false, nat_eq, nat_lt, List, [], ◌∷◌, ◌++◌, slice_index_or, slice_set, bit_and, bit_or, Fits, w8, w32, w64, Bor, MutBor}
+use Rattle.std.proofs.Common.{inl}
+use Rattle.vt_tool.proofs.Oks.{ok_more}
 use Rattle.vt_tool.specs.Outcome.{GivesPlayed, GivesSessionFault}
-use Rattle.vt_tool.specs.Play.{IsPlayed, status_of}
+use Rattle.vt_tool.specs.Play.{IsPlayed}
 use Rattle.vt_tool.proofs.play_answer.play_answer.Goals as goal
 
--- src/play_answer.rt:16:1
 pub returns-in-Ok : goal.returns-in-Ok
-returns-in-Ok c = ?
+returns-in-Ok c =
+    let (value, said, is) = c.in-Ok.ensures in
+    ok_more _ _ c.answer_played.result
+    (λ answer played. inl (record {
+      value = value;
+      session = c.in-Ok.session;
+      said = said;
+      is = is;
+      played = played;
+    })) c.answer_played.ensures
