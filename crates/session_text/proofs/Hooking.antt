@@ -1,5 +1,5 @@
 -- A process that has a fault in its hooks.
-use Rattle.std.proofs.Common.{◌≡◌, ℕ, List, Option, Result, Ok, Err, codes, refl, sym, ap, ◌∙◌}
+use Rattle.std.proofs.Common.{◌≡◌, ℕ, List, Option, Ok, Err, codes, refl, sym, ap, ◌∙◌}
 use Rattle.table_fields.specs.Arrays.{array_of}
 use Rattle.table_fields.specs.declared.fault.TableFault.{TableFault}
 use Rattle.toml.specs.Data.{Data, Members, as_str, get_member}

@@ -1,5 +1,5 @@
 -- The words of script items.
-use Rattle.std.proofs.Common.{◌≡◌, ℕ, ◌+◌, ◌<◌, ◌≤◌, ◌^◌, List, [], ◌∷◌, ◌++◌, Bor, Option, Some, None, Result, Ok, Err, IfOk, IfNone, codes, decimal, length, get_or, map, drop, true, false, inl, inr, refl, subst, sym, ap, ◌∙◌, true≢false, arith}
+use Rattle.std.proofs.Common.{◌≡◌, ℕ, ◌+◌, ◌<◌, ◌≤◌, ◌^◌, List, [], ◌∷◌, ◌++◌, Bor, Option, Some, None, Result, Ok, Err, IfOk, IfNone, codes, decimal, length, get_or, map, drop, false, inl, inr, sym, ap, ◌∙◌, true≢false, arith}
 use Rattle.std.proofs.Math.Seq.{drop-append_seam}
 use Rattle.std.proofs.lemmas.List.{append_assoc, length-append}
 use Rattle.std.proofs.lemmas.List.Splits.{join_with_byte-slice_split}
@@ -7,7 +7,7 @@ use Rattle.vt_base.specs.declared.no_memory.NoMemory.{NoMemory}
 use Rattle.vt_events.specs.declared.event.Event.{Event}
 use Rattle.vt_journal.specs.Words.{Spells, spelled}
 use Rattle.session_text.specs.HookTexts.{words_of}
-use Rattle.session_text.specs.ItemTexts.{AreSay, IsItem, IsSaid, IsSay, is_item}
+use Rattle.session_text.specs.ItemTexts.{IsItem, IsSaid, IsSay, is_item}
 use Rattle.session_text.specs.declared.item_texts.Said.{Said}
 
 pub say_words : (words : List (Bor (List ℕ))) (d : Bor (List ℕ)) (fd : ℕ) → 3 ≤ length words

@@ -1,9 +1,11 @@
 pub mod Acts
 pub mod Consoles
+pub mod Counting
 pub mod HookWords
 pub mod Hooking
 pub mod ItemWords
 pub mod KeyTyping
 pub mod Saying
+pub mod TopReading
 pub mod Turning
 pub mod Walks

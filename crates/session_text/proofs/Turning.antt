@@ -1,5 +1,5 @@
 -- Turns, one after another.
-use Rattle.std.proofs.Common.{◌≡◌, ℕ, ℤ, ◌+◌, ◌≤◌, ◌<◌, List, [], ◌∷◌, ◌++◌, Result, Ok, Err, drop, get_or, length, min, pos, refl, sym, ap, ◌∙◌, subst, arith}
+use Rattle.std.proofs.Common.{◌≡◌, ℕ, ℤ, ◌+◌, ◌≤◌, ◌<◌, List, [], ◌∷◌, ◌++◌, Result, Ok, Err, drop, get_or, length, min, refl, sym, ap, ◌∙◌, arith}
 use Rattle.std.proofs.lemmas.List.{append_assoc, append-nil, at_drop_more, drop_all}
 use Rattle.table_fields.specs.Checked.{collect, ◌>>=◌}
 use Rattle.table_fields.specs.Collecting.{behind}

@@ -4,10 +4,12 @@ pub mod ItemTexts
 pub mod Items
 pub mod Keyboards
 pub mod Openings
+pub mod Parts
 pub mod Processes
 pub mod Programs
 pub mod Says
 pub mod Scripts
 pub mod Sessions
+pub mod Tops
 pub mod Turns
 pub mod Walks

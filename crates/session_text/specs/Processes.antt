@@ -1,6 +1,5 @@
 -- The processes of a session's table. This project's own.
-use Rattle.std.specs.Prelude.{◌≡◌, ℕ, ◌≤◌, Bool, true, ◌||◌, nat_le, Option, Result, Ok, List, length, codes}
-use Rattle.std.specs.List.{All}
+use Rattle.std.specs.Prelude.{ℕ, Bool, ◌||◌, nat_le, Result, Ok, List, length, codes}
 use lib.Pointwise.{pointwise}
 use lib.Dec.{eqb}
 use Rattle.table_fields.specs.Arrays.{array_of, flag_of}

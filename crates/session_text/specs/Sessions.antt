@@ -1,25 +1,21 @@
 -- Sessions: what the callers of a console have and do, and the text that says it. This project's own.
-use Rattle.std.specs.Prelude.{◌≡◌, ℕ, ◌≤◌, Bool, ◌||◌, nat_le, Option, Some, None, Result, Ok, List, [], ◌∷◌, length, map, slice_get, codes}
+use Rattle.std.specs.Prelude.{◌≡◌, ℕ, ◌≤◌, Option, Some, None, Result, Ok, List, [], ◌∷◌, length, map, slice_get}
 use Rattle.std.specs.List.{All}
-use lib.Pointwise.{pointwise}
-use lib.Dec.{eqb}
 use Rattle.key_compile.specs.Compiled.{AreTablesOf}
 use Rattle.key_tables.specs.Tables.{Tables}
 use Rattle.sig_hooks.specs.declared.act.Act.{Act}
-use Rattle.table_fields.specs.Arrays.{array_of, count_of}
-use Rattle.table_fields.specs.Checked.{check, fault}
-use Rattle.table_fields.specs.Fields.{document_of, keys_pass, most_scan_bytes}
+use Rattle.table_fields.specs.Fields.{document_of, most_scan_bytes}
 use Rattle.table_fields.specs.declared.fault.TableFault.{TableFault}
-use Rattle.toml.specs.Data.{Data, Members, as_table, get_member}
+use Rattle.toml.specs.Data.{Members}
 use Rattle.vt_base.specs.ConsoleSet.{IsFitSet}
 use Rattle.vt_events.specs.Plain.{text}
 use Rattle.vt_journal.specs.declared.limits.Limits.{Limits}
 use Rattle.vt_procs.specs.declared.config.Config.{Config}
-use Rattle.session_text.specs.Keyboards.{Typed, typed_of}
-use Rattle.session_text.specs.Openings.{opening_of}
+use Rattle.session_text.specs.Keyboards.{Typed}
 use Rattle.session_text.specs.Says.{each_says, is, ◌>>=◌}
 use Rattle.session_text.specs.Scripts.{IsScript, process_says}
-use Rattle.session_text.specs.Turns.{most_turns, turns_of}
+use Rattle.session_text.specs.Tops.{top_of}
+use Rattle.session_text.specs.Turns.{most_turns}
 use Rattle.session_text.specs.declared.opening.Opening.{Opening}
 use Rattle.session_text.specs.declared.process.Process.{Process}
 use Rattle.session_text.specs.declared.program.Program.{Program}
@@ -62,42 +58,27 @@ acts_in (Some (programs.Script items acts)) = acts
 abbrev pub acts_of : SessionView → ℕ → List Act
 acts_of s p = acts_in (slice_get s.programs p)
 
--- the keys of a session, counted from 1 in faults
-abbrev pub is_screen_key : List ℕ → Bool
-is_screen_key key =
-    ((((pointwise eqb key (codes "rows") || pointwise eqb key (codes "cols"))
-    || pointwise eqb key (codes "consoles")) || pointwise eqb key (codes "front"))
-    || pointwise eqb key (codes "events")) || pointwise eqb key (codes "bytes")
-
-abbrev pub is_top_key : List ℕ → Bool
-is_top_key key =
-    is_screen_key key
-    || (((((pointwise eqb key (codes "include") || pointwise eqb key (codes "keymap"))
-    || pointwise eqb key (codes "keys")) || pointwise eqb key (codes "turns"))
-    || pointwise eqb key (codes "process")))
-
 -- what a session's table says
-pub record Said : Type 0 where
+pub record SessionValue : Type 0 where
   pub opening : Opening
   pub typed : Typed
   pub turns : List ℕ
   pub processes : List Process
 
--- a session's table, in the order of the checks
-abbrev pub session_at : Members → Result Said TableFault → Type 0
+-- a session's table: all but its processes, and then these, in the order of the checks
+abbrev pub session_at : Members → Result SessionValue TableFault → Type 0
 session_at members = do
-  known ← is (check (keys_pass is_top_key members) (fault 21 0 0))
-  opening ← is (opening_of members)
-  typed ← is (typed_of members)
-  turns ← is
-    (turns_of (count_of (get_member (codes "process") members)) (get_member (codes "turns") members))
-  tables ← is (array_of as_table 0 11 (get_member (codes "process") members))
-  few ← is (check (nat_le (length tables) 64) (fault 23 0 11))
-  processes ← each_says process_says 1 tables
-  is (Ok (record { opening = opening; typed = typed; turns = turns; processes = processes }))
+  top ← is (top_of members)
+  processes ← each_says process_says 1 top.tables
+  is (Ok (record {
+    opening = top.opening;
+    typed = top.typed;
+    turns = top.turns;
+    processes = processes;
+  }))
 
 -- what a session text says: its session, or its first fault
-abbrev pub session_says : List ℕ → Result Said TableFault → Type 0
+abbrev pub session_says : List ℕ → Result SessionValue TableFault → Type 0
 session_says input = do
   members ← is (document_of input)
   session_at members
@@ -105,15 +86,15 @@ session_says input = do
 abbrev pub script_of : Process → Program
 script_of process = programs.Script process.items process.hooks
 
--- a session is the one that was said
-pub record IsSaid (s : SessionView) (said : Said) : Type 0 where
-  pub rows : s.config.size.rows ≡ said.opening.rows
-  pub cols : s.config.size.cols ≡ said.opening.cols
-  pub consoles : s.config.consoles ≡ said.opening.consoles
-  pub front : s.config.front ≡ said.opening.front
-  pub events : s.limits.events ≡ said.opening.events
-  pub bytes : s.limits.bytes ≡ said.opening.bytes
-  pub tables : AreTablesOf said.typed.lines s.tables
-  pub turns : s.turns ≡ said.turns
-  pub starts : s.config.procs ≡ map (λ process. process.start) said.processes
-  pub programs : s.programs ≡ programs.Keys (text said.typed.keys) ∷ map script_of said.processes
+-- a session is the one of this value
+pub record IsSessionOf (s : SessionView) (value : SessionValue) : Type 0 where
+  pub rows : s.config.size.rows ≡ value.opening.rows
+  pub cols : s.config.size.cols ≡ value.opening.cols
+  pub consoles : s.config.consoles ≡ value.opening.consoles
+  pub front : s.config.front ≡ value.opening.front
+  pub events : s.limits.events ≡ value.opening.events
+  pub bytes : s.limits.bytes ≡ value.opening.bytes
+  pub tables : AreTablesOf value.typed.lines s.tables
+  pub turns : s.turns ≡ value.turns
+  pub starts : s.config.procs ≡ map (λ process. process.start) value.processes
+  pub programs : s.programs ≡ programs.Keys (text value.typed.keys) ∷ map script_of value.processes

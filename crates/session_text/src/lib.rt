@@ -11,17 +11,26 @@ mod item_texts;
 mod items;
 mod keyboard;
 mod keyboards;
+mod making;
 mod opening;
 mod openings;
+mod parts;
 mod process;
 mod processes;
 mod program;
+mod reading;
 mod script_items;
 mod session;
+mod starts;
+#[cfg(test)]
+mod tests;
+mod tops;
 mod turns;
 mod walk;
 
 pub use items::Items;
 pub use program::Program;
+pub use reading::read;
 pub use session::Session;
+pub use table_fields::{TableError as SError, TableFault as SFault};
 pub use walk::Walk;

@@ -1,12 +1,12 @@
 //! The processes of a session's table.
 ghost use Rattle.std.specs.Prelude.{◌≡◌, ◌≤◌, length, map, IfOk, string_bytes};
-ghost use Rattle.std.specs.List.{list_all};
+ghost use Rattle.std.specs.List.{All, list_all};
 ghost use Rattle.std.specs.Map.{keys_of};
 ghost use Rattle.table_fields.specs.Checked.{Gives};
 ghost use Rattle.table_fields.specs.Fields.{keys_pass};
 ghost use Rattle.toml.specs.View.{table_view};
 ghost use Rattle.session_text.specs.Processes.{Head as HeadView, head_of, is_process_key, most_items};
-ghost use Rattle.session_text.specs.Says.{Reads};
+ghost use Rattle.session_text.specs.Says.{Reads, each_says};
 ghost use Rattle.session_text.specs.Scripts.{IsScript, process_says};
 
 use crate::hooks::hooks;
@@ -56,6 +56,24 @@ pub fn process(alloc: Global, part: u32, table: &Table) -> Result<Process, Table
         }),
         Err(e) => Err(e),
     }
+}
+
+/// The processes of a session, each from its table.
+pub fn processes(alloc: Global, tables: &[&Table]) -> Result<Vec<Process>, TableError>
+    requires { length tables.now ≤ 64 }
+    ensures says { Reads (λ found. found.items) result
+        (each_says process_says 1 (map (λ table. table_view table.now) tables.now)) }
+    ensures many { IfOk result (λ found. length found.items ≡ length tables.now) }
+    ensures scripts { IfOk result (λ found. All (λ process. IsScript process.items) found.items) }
+{
+    let mut found = Vec::new(alloc);
+    for (i, table) in tables.iter().enumerate() {
+        match process(alloc, i as u32 + 1, table) {
+            Ok(process) => found.push(process)?,
+            Err(e) => return Err(e),
+        }
+    }
+    Ok(found)
 }
 
 // The first three keys.

@@ -27,19 +27,19 @@ impl Model for Session {
     ghost Value = { SessionView };
 
     ghost view = { λ s. record {
-        config = s.config;
-        tables = s.tables;
-        limits = s.limits;
-        turns = s.turns.bytes;
-        programs = s.programs.items
+      config = s.config;
+      tables = s.tables;
+      limits = s.limits;
+      turns = s.turns.bytes;
+      programs = s.programs.items;
     } };
 
     ghost invariant = { λ s. IsSession (record {
-        config = s.config;
-        tables = s.tables;
-        limits = s.limits;
-        turns = s.turns.bytes;
-        programs = s.programs.items
+      config = s.config;
+      tables = s.tables;
+      limits = s.limits;
+      turns = s.turns.bytes;
+      programs = s.programs.items;
     }) };
 }
 
@@ -53,18 +53,18 @@ impl Session {
         programs: Vec<Program>,
     ) -> Session
         requires { IsSession (record {
-            config = config;
-            tables = tables;
-            limits = limits;
-            turns = turns.bytes;
-            programs = programs.items
+          config = config;
+          tables = tables;
+          limits = limits;
+          turns = turns.bytes;
+          programs = programs.items;
         }) }
         ensures { result ≡ record {
-            config = config;
-            tables = tables;
-            limits = limits;
-            turns = turns.bytes;
-            programs = programs.items
+          config = config;
+          tables = tables;
+          limits = limits;
+          turns = turns.bytes;
+          programs = programs.items;
         } }
     {
         Session {

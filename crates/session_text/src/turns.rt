@@ -1,5 +1,6 @@
 //! The turns of a session, read from its table.
-ghost use Rattle.std.specs.Prelude.{◌≤◌, length, option_map};
+ghost use Rattle.std.specs.Prelude.{◌≤◌, length, option_map, IfOk};
+ghost use Rattle.std.specs.List.{All};
 ghost use Rattle.table_fields.specs.Checked.{GivesBy, collect, fault};
 ghost use Rattle.table_fields.specs.Fields.{number_within};
 ghost use Rattle.toml.specs.View.{view};
@@ -21,8 +22,9 @@ const TOO_MANY: u16 = 29;
 
 /// The turns, each from 0 to the number of processes.
 pub fn turns(alloc: Global, processes: usize, value: Option<&Value>) -> Result<Bytes, TableError>
-    ensures { GivesBy (AreTurns processes) result
+    ensures turns { GivesBy (AreTurns processes) result
         (turns_of processes (option_map (λ v. view v.now) value.entry)) }
+    ensures each { IfOk result (λ b. All (λ t. t ≤ processes) b.bytes) }
 {
     let numbers = integers(alloc, value, 0, 10)?;
     if numbers.len() > MOST {
@@ -34,7 +36,8 @@ pub fn turns(alloc: Global, processes: usize, value: Option<&Value>) -> Result<B
 // A turn past 64 stands for a fault that is found later: there are too many processes.
 fn turn_bytes(alloc: Global, processes: u64, numbers: &[i64]) -> Result<Bytes, TableError>
     requires { length numbers.now ≤ most_turns }
-    ensures { GivesBy (AreTurns processes) result
+    ensures each { IfOk result (λ b. All (λ t. t ≤ processes) b.bytes) }
+    ensures turns { GivesBy (AreTurns processes) result
         (collect (λ n z. number_within 0 processes (fault 28 0 n) z) 1 numbers.now) }
 {
     let mut bytes = Bytes::with_room(alloc, numbers.len())?;

@@ -1,4 +1,4 @@
-use Rattle.std.proofs.Common.{◌≡◌, arith}
+use Rattle.std.proofs.Common.{arith}
 use Rattle.session_text.proofs.ItemWords.{say_words}
 use Rattle.session_text.proofs.item_texts.read_say.Goals as goal
 

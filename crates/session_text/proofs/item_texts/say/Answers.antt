@@ -1,4 +1,4 @@
-use Rattle.std.proofs.Common.{◌≡◌, ℕ, List, Bor, map, subst, sym, ap, ◌∙◌}
+use Rattle.std.proofs.Common.{ℕ, List, Bor, map, subst, sym, ap, ◌∙◌}
 use Rattle.vt_events.specs.declared.event.Event.TheVariants as event
 use Rattle.session_text.specs.HookTexts.{words_of}
 use Rattle.session_text.specs.ItemTexts.{AreSay, IsSaid}

@@ -1,4 +1,3 @@
-use Rattle.std.proofs.Common.{refl}
 use Rattle.toml.specs.View.{table_view}
 use Rattle.session_text.proofs.KeyTyping.{typed-read}
 use Rattle.session_text.proofs.keyboards.keyboard.Goals as goal

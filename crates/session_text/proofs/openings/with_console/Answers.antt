@@ -1,4 +1,4 @@
-use Rattle.std.proofs.Common.{◌≡◌, ap, ◌∙◌}
+use Rattle.std.proofs.Common.{ap, ◌∙◌}
 use Rattle.vt_base.specs.ConsoleSet.{is_among}
 use Rattle.std.specs.Int.RustNames.{bit_or}
 use Rattle.session_text.proofs.Consoles.{with_console-zero}

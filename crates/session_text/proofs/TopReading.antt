@@ -1,0 +1,25 @@
+-- A session's table, read key by key.
+use Rattle.std.proofs.Common.{◌≡◌, ℕ, ◌≤◌, nat_le, true, List, Option, Ok, length, codes, refl, sym, ap, ◌∙◌, arith}
+use Rattle.std.proofs.lemmas.Bool.Decides.{nat_tests}
+use Rattle.table_fields.specs.Arrays.{array_of, count_of}
+use Rattle.table_fields.specs.Fields.{keys_pass}
+use Rattle.toml.specs.Data.{Data, Members, as_table, get_member}
+use Rattle.session_text.specs.Keyboards.{Typed, typed_of}
+use Rattle.session_text.specs.Openings.{opening_of}
+use Rattle.session_text.specs.Tops.{is_top_key, top_of}
+use Rattle.session_text.specs.Turns.{turns_of}
+use Rattle.session_text.specs.declared.opening.Opening.{Opening}
+
+pub top-read : (table : Members) (p t : Option Data) (opening : Opening) (typed : Typed) (n : ℕ)
+    (turns : List ℕ) (tables : List Members)
+    → keys_pass is_top_key table ≡ true → opening_of table ≡ Ok opening → typed_of table ≡ Ok typed
+    → p ≡ get_member (codes "process") table → n ≡ count_of p → t ≡ get_member (codes "turns") table
+    → turns_of n t ≡ Ok turns → array_of as_table 0 11 p ≡ Ok tables → length tables ≤ 64
+    → top_of table
+    ≡ Ok (record { opening = opening; typed = typed; turns = turns; tables = tables })
+top-read table p t opening typed n turns tables known opening_is typed_is p_is n_is t_is turns_are tables_are few =
+    let turns' =
+    (λ i. turns_of ((sym (ap count_of p_is) ∙ sym n_is) i) (sym t_is i)) ∙ turns_are in
+    let tables' = ap (array_of as_table 0 11) (sym p_is) ∙ tables_are in
+    let within : nat_le (length tables) 64 ≡ true = grind (arith, nat_tests) in
+    rw (known, opening_is, typed_is, turns', tables', within) refl

@@ -1,0 +1,39 @@
+//! Sessions made of their parts.
+ghost use Rattle.std.specs.Prelude.{IfOk};
+ghost use Rattle.session_text.specs.Parts.{AreFit, IsMadeOf};
+
+use crate::Session;
+use crate::parts::Parts;
+use crate::starts::{programs, starts};
+use std::alloc::Global;
+use vt_base::{NoMemory, Size};
+use vt_journal::Limits;
+use vt_procs::Config;
+
+/// The session of the parts.
+pub fn session(alloc: Global, parts: Parts) -> Result<Session, NoMemory>
+    requires { AreFit parts }
+    ensures { IfOk result (IsMadeOf parts) }
+{
+    let Parts {
+        opening,
+        keyboard,
+        turns,
+        processes,
+    } = parts;
+    let config = Config {
+        size: Size {
+            rows: opening.rows,
+            cols: opening.cols,
+        },
+        consoles: opening.consoles,
+        front: opening.front,
+        procs: starts(processes.as_slice()),
+    };
+    let limits = Limits {
+        events: opening.events,
+        bytes: opening.bytes,
+    };
+    let programs = programs(alloc, keyboard.keys, processes)?;
+    Ok(Session::make(config, keyboard.tables, limits, turns, programs))
+}

@@ -1,0 +1,42 @@
+//! What processes begin with, and their programs.
+ghost use Rattle.std.specs.Prelude.{◌≡◌, ◌≤◌, ◌∷◌, length, map, IfOk};
+ghost use Rattle.session_text.specs.Sessions.{script_of};
+ghost use Rattle.session_text.specs.declared.program.Program.TheVariants as programs;
+
+use crate::Program;
+use crate::process::Process;
+use std::alloc::Global;
+use vt_base::{Bytes, NoMemory};
+use vt_procs::ProcList;
+
+/// What the processes have at the start.
+pub fn starts(processes: &[Process]) -> ProcList
+    requires { length processes.now ≤ 64 }
+    ensures { result ≡ map (λ process. process.start) processes.now }
+{
+    let mut starts = ProcList::new();
+    for process in processes {
+        starts.push(process.start);
+    }
+    starts
+}
+
+/// The programs of the callers: the keyboard's, and then one for each process.
+pub fn programs(
+    alloc: Global,
+    keys: Bytes,
+    processes: Vec<Process>,
+) -> Result<Vec<Program>, NoMemory>
+    ensures { IfOk result
+        (λ list. list.items ≡ programs.Keys keys ∷ map script_of processes.items) }
+{
+    let mut list = Vec::new(alloc);
+    list.push(Program::Keys(keys))?;
+    for process in processes {
+        list.push(Program::Script {
+            items: process.items,
+            hooks: process.hooks,
+        })?;
+    }
+    Ok(list)
+}

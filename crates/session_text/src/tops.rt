@@ -1,0 +1,97 @@
+//! A session's table but for its processes.
+ghost use Rattle.std.specs.Prelude.{◌≡◌, IfOk, string_bytes};
+ghost use Rattle.std.specs.List.{list_all};
+ghost use Rattle.std.specs.Map.{keys_of};
+ghost use Rattle.table_fields.specs.Checked.{GivesBy};
+ghost use Rattle.table_fields.specs.Fields.{keys_pass};
+ghost use Rattle.toml.specs.View.{table_view};
+ghost use Rattle.session_text.specs.Parts.{IsFitTop, IsTop};
+ghost use Rattle.session_text.specs.Tops.{is_screen_key, is_top_key, top_of};
+
+use crate::keyboard::Keyboard;
+use crate::keyboards::keyboard;
+use crate::opening::Opening;
+use crate::openings::opening;
+use crate::turns::turns;
+use std::alloc::Global;
+use table_fields::{TableError, at, count, refused, tables};
+use toml::Table;
+use vt_base::Bytes;
+
+/// A key that isn't known.
+const UNKNOWN_KEY: u16 = 21;
+
+/// A number out of its range.
+const RANGE: u16 = 23;
+
+/// The most processes. This project's own.
+const PROCESSES: usize = 64;
+
+/// What a session's table says, with the tables of its processes.
+#[derive(Drop)]
+pub struct Top<'a> {
+    pub opening: Opening,
+    pub keyboard: Keyboard,
+    pub turns: Bytes,
+    pub tables: Vec<&'a Table>,
+}
+
+/// The keys in the order of the checks.
+pub fn read_top<'a>(alloc: Global, table: &'a Table) -> Result<Top<'a>, TableError>
+    ensures top { GivesBy IsTop result (top_of (table_view table.entry.now)) }
+    ensures fit { IfOk result IsFitTop }
+{
+    if !knows_keys(table) {
+        return Err(refused(UNKNOWN_KEY, 0, 0));
+    }
+    let opening = opening(alloc, table)?;
+    let keyboard = keyboard(alloc, table)?;
+    let list = at(table, "process");
+    let turns = turns(alloc, count(list), at(table, "turns"))?;
+    let tables = tables(alloc, list, 0, 11)?;
+    if tables.len() > PROCESSES {
+        return Err(refused(RANGE, 0, 11));
+    }
+    Ok(Top {
+        opening,
+        keyboard,
+        turns,
+        tables,
+    })
+}
+
+#[tactic(auto, using(table_fields::proofs::Keys::keys_view))]
+fn knows_keys(table: &Table) -> bool
+    ensures { result ≡ keys_pass is_top_key (table_view table.now) }
+{
+    all_known(table)
+}
+
+// Whether every key is known.
+fn all_known(table: &Table) -> bool
+    ensures { result ≡ list_all (λ key. is_top_key (string_bytes key)) (keys_of table.now.entries) }
+{
+    table.keys().all(|key| is_top_key(key.as_str()))
+}
+
+fn is_top_key(key: &str) -> bool
+    ensures { result ≡ is_top_key key.now }
+{
+    is_screen_key(key)
+        || key == "include"
+        || key == "keymap"
+        || key == "keys"
+        || key == "turns"
+        || key == "process"
+}
+
+fn is_screen_key(key: &str) -> bool
+    ensures { result ≡ is_screen_key key.now }
+{
+    key == "rows"
+        || key == "cols"
+        || key == "consoles"
+        || key == "front"
+        || key == "events"
+        || key == "bytes"
+}
