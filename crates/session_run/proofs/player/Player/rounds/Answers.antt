@@ -1,4 +1,4 @@
-use Rattle.std.proofs.Common.{◌≡◌, ℕ, ◌+◌, ◌≤◌, arith, length, refl, sym, ap, ◌∙◌, subst}
+use Rattle.std.proofs.Common.{◌≡◌, ◌+◌, arith, length, refl, sym, ap, ◌∙◌, subst}
 use Rattle.session_order.specs.Serial.{Played, nothing_played, round, rounds, turns}
 use Rattle.session_run.proofs.Plays.{round-stays, round-stops}
 use Rattle.session_run.specs.Playing.{IsAt, PlayerView}

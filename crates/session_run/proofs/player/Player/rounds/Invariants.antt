@@ -1,4 +1,4 @@
-use Rattle.std.proofs.Common.{◌≡◌, ℕ, List, length}
+use Rattle.std.proofs.Common.{◌≡◌, length}
 use Rattle.session_order.specs.Ends.{Stage}
 use Rattle.session_order.specs.Serial.{Played, rounds}
 use Rattle.session_run.specs.Playing.{IsAt}
