@@ -1,6 +1,6 @@
 -- What callers keep while things happen to them: nobody comes to life, nobody gets a ticket but by a
 -- wait of its own, and who holds one lives on.
-use Rattle.std.proofs.Common.{◌≡◌, ℕ, ◌<◌, zero, suc, Bool, true, false, cond, ⊎_elim, List, [], ◌∷◌, length, get_or, set, map, refl, sym, ap, ◌∙◌, subst}
+use Rattle.std.proofs.Common.{◌≡◌, ℕ, ◌<◌, zero, suc, Bool, true, false, cond, ⊎_elim, List, [], ◌∷◌, length, get_or, set, map, refl, sym, subst}
 use Rattle.std.proofs.lemmas.Bool.{cases_eq, cases_lt, false≢true}
 use Rattle.std.proofs.lemmas.List.{get_or-set_other, get_or-set_same, set_past}
 use Rattle.std.specs.List.{list_any}

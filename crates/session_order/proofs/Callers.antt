@@ -1,26 +1,26 @@
 -- The callers after a step of the console.
-use Rattle.std.proofs.Common.{◌≡◌, ◌⊎◌, ℕ, ◌<◌, Bool, true, false, cond, ⊎_elim, inl, inr, List, [], ◌∷◌, ◌++◌, length, get_or, set, Option, Some, None, refl, sym, ap, ◌∙◌, subst}
-use Rattle.std.proofs.lemmas.Bool.{and_right, both_ways, cases_Bool, cases_eq, cases_lt, false_from_ne_true, false≢true, true≢false}
+use Rattle.std.proofs.Common.{◌≡◌, ◌⊎◌, ℕ, Bool, true, false, cond, ⊎_elim, inl, inr, length, get_or, set, Option, Some, None, refl, sym, ap, ◌∙◌, subst}
+use Rattle.std.proofs.lemmas.Bool.{and_right, both_ways, cases_Bool, cases_lt, false_from_ne_true, false≢true, true≢false}
 use Rattle.std.proofs.lemmas.List.{get_or-set_other, get_or-set_same, get_or_past, set_past}
 use Rattle.std.proofs.lemmas.Option.{none-some}
 use Rattle.std.specs.List.{list_any}
 use Rattle.std.specs.Prelude.{not, ◌==◌, ◌&&◌, if◌then◌else◌}
-use Rattle.session_order.proofs.Ages.{AllAge, Ages, all-stay, at-map, at-set, breaks, holds, settled-age, then_all, with_all}
+use Rattle.session_order.proofs.Ages.{AllAge, all-stay, at-map, at-set, breaks, holds, settled-age, then_all, with_all}
 use Rattle.session_order.proofs.Deeds.{NoWait, OneWait, RowDoes, all-done-age, row-does, tell-age}
-use Rattle.session_order.proofs.Steps.{Accepted, RefusedByAll, RefusedByOwn, StepDoes, accepted, common-none, none-common, refused, step-does}
+use Rattle.session_order.proofs.Steps.{Accepted, RefusedByAll, RefusedByOwn, StepDoes, accepted, common-none, none-common, step-does}
 use Rattle.session_text.specs.Programs.{is_exit, is_wait}
 use Rattle.vt_base.specs.declared.errno.Errno.{Errno}
 use Rattle.vt_base.specs.declared.errno.Errno.TheVariants as errno
 use Rattle.vt_events.specs.declared.event.Event.{Event}
 use Rattle.vt_events.specs.declared.event.Event.TheVariants as event
-use Rattle.vt_procs.specs.Callers.{Callers, caller_at, ended, gone, is_live, no_caller}
+use Rattle.vt_procs.specs.Callers.{Callers, caller_at, gone, is_live, no_caller}
 use Rattle.vt_procs.specs.Tickets.{broken, can_go, collected, is_open, left, settled, waits, with_waiting}
 use Rattle.vt_procs.specs.declared.process.Process.{Process}
 use Rattle.vt_procs.specs.declared.ticket.Ticket.{Ticket}
 use Rattle.vt_procs.specs.declared.waiting.Waiting.{Waiting}
 use Rattle.vt_procs.specs.declared.waiting.Waiting.TheVariants.{Nothing, Open, Done, Broken}
 use Rattle.vt_switch.specs.Acts.{End}
-use Rattle.vt_switch.specs.Moments.{core_after, hop_marks, marks}
+use Rattle.vt_switch.specs.Moments.{core_after, hop_marks}
 use Rattle.vt_switch.specs.Acts.{hop_of}
 use Rattle.vt_switch.specs.declared.mark.Mark.TheVariants as mark
 use Rattle.vt_world.specs.Deeds.{all_done}

@@ -1,10 +1,9 @@
 -- What an event does to the callers.
-use Rattle.std.proofs.Common.{◌≡◌, ◌⊎◌, ℕ, Bool, true, false, cond, ⊎_elim, inl, inr, List, [], ◌∷◌, ◌++◌, filter, Option, Some, None, refl, sym, ap, ◌∙◌}
-use Rattle.std.proofs.lemmas.Bool.{and_parts, and_from, false≢true, true≢false}
+use Rattle.std.proofs.Common.{◌≡◌, ℕ, Bool, true, false, cond, List, [], ◌∷◌, ◌++◌, filter, Option, Some, None, refl, ◌∙◌}
+use Rattle.std.proofs.lemmas.Bool.{and_parts, and_from, false≢true}
 use Rattle.std.proofs.lemmas.List.Folds.{list_all-append}
 use Rattle.std.specs.List.{flat_map, list_all, range_with_len}
 use Rattle.std.specs.Prelude.{◌==◌, not, if◌then◌else◌}
-use Rattle.key_machine.specs.Step.{Step}
 use Rattle.key_machine.specs.declared.key_out.KeyOut.{KeyOut}
 use Rattle.key_machine.specs.declared.key_out.KeyOut.TheVariants as heard_keys
 use Rattle.scan_codes.specs.Scan.{event_after}
@@ -22,14 +21,14 @@ use Rattle.vt_switch.specs.Acts.{End, SetKd, SwitchAct}
 use Rattle.vt_switch.specs.Moments.{core_after, marks, raise}
 use Rattle.vt_switch.specs.declared.mark.Mark.{Mark}
 use Rattle.vt_switch.specs.declared.mark.Mark.TheVariants as mark
-use Rattle.vt_world.specs.Deeds.{Deed, By, Asks, Own, OwnDeed, Starts, Clears, Writes, Alters, Puts, Takes, Lights, Keyed, Scanned, Mapped, Types, Opens, Shuts, Waits, Collects, Receives, Accepts, Raises, acted, all_done, done, own_done, requested}
-use Rattle.vt_world.specs.Heard.{heard, heard_by, tell}
+use Rattle.vt_world.specs.Deeds.{Deed, By, Asks, Own, OwnDeed, Puts, Opens, Shuts, Waits, Collects, Receives, Accepts, Raises, acted, all_done, done, own_done, requested}
+use Rattle.vt_world.specs.Heard.{heard, tell}
 use Rattle.vt_world.specs.Inputs.{comes, input_at}
-use Rattle.vt_world.specs.Rows.{Row, disallocating, freeing, out_deeds, row, waits_unless, write_deeds}
+use Rattle.vt_world.specs.Rows.{Row, disallocating, freeing, out_deeds, row, waits_unless}
 use Rattle.vt_world.specs.State.{WorldState, core}
 use Rattle.vt_world.specs.Terminals.{said_of, terminal_at}
 use Rattle.vt_world.specs.Tests.{is_empty, is_in_use, target}
-use Rattle.vt_world.specs.Typing.{attention_deeds, ends_of, key_deeds, key_on, key_out_deeds, read_by, read_deeds, scan_deeds, sent, spawn_deeds, typed_deeds, users}
+use Rattle.vt_world.specs.Typing.{ends_of, key_deeds, key_on, key_out_deeds, read_deeds, scan_deeds, sent, spawn_deeds, users}
 use Rattle.vt_world.specs.Wanted.{wanted_in}
 
 -- all deeds but a wait

@@ -1,37 +1,26 @@
 -- What every play from a start keeps of its callers: whose program is over is dead, who holds a ticket
 -- has waitend next, and where somebody waits, somebody else can go on.
-use Rattle.std.proofs.Common.{◌≡◌, ◌⊎◌, ℕ, ◌+◌, ◌-◌, ◌<◌, ◌≤◌, zero, suc, Bool, true, false, cond, ⊎_elim, inl, inr, arith, List, [], ◌∷◌, ◌++◌, length, get_or, map, filter, Option, Some, None, refl, sym, ap, ◌∙◌, subst}
-use Rattle.std.proofs.lemmas.Bool.{and_parts, both_ways, cases_Bool, cases_eq, cases_lt, eq-eqb, false_from_ne_true, false≢true, ne_eqb, not-true, or_cases, or_from, true≢false, and_right}
-use Rattle.std.proofs.lemmas.List.{append-nil, get_or_past, length-map, map-append}
+use Rattle.std.proofs.Common.{◌≡◌, ℕ, ◌<◌, true, false, cond, ⊎_elim, List, [], ◌∷◌, ◌++◌, length, map, filter, Option, Some, None, refl, sym, ap, ◌∙◌, subst}
+use Rattle.std.proofs.lemmas.Bool.{and_parts, both_ways, cases_Bool, cases_eq, eq-eqb, false_from_ne_true, false≢true, ne_eqb, not-true, or_cases, or_from, and_right}
+use Rattle.std.proofs.lemmas.List.{append-nil, map-append}
 use Rattle.std.proofs.lemmas.List.Elements.{filter-append}
-use Rattle.std.proofs.lemmas.List.FromFn.{get_or-map-range_with_len, length-map-range_with_len}
-use Rattle.std.proofs.lemmas.Option.{none-some, same_Some, slice_get-get_or, slice_get_within}
-use Rattle.std.specs.List.{list_any, range_with_len}
-use Rattle.std.specs.Prelude.{◌==◌, ◌&&◌, ◌||◌, not, slice_get, if◌then◌else◌}
+use Rattle.std.proofs.lemmas.Option.{none-some, same_Some}
+use Rattle.std.specs.Prelude.{◌==◌, ◌&&◌, not, slice_get}
 use Rattle.session_order.proofs.Ages.{holds}
 use Rattle.session_order.proofs.Alive.{Walked, next-alive, walked-more}
 use Rattle.session_order.proofs.Callers.{Awake, Sound, Stepped, exit-kills, stepped, waitend-collects}
 use Rattle.session_order.proofs.Programs.{next-fine}
 use Rattle.session_order.proofs.Steps.{exit-never-waits, gone-dead, keyboard-never-waits}
-use Rattle.session_order.proofs.Turns.{Enters, FindsFull, Skips, TurnDoes, event-plain, reply-plain, turn-does}
 use Rattle.session_order.specs.Calls.{call_of, calls_by, next_by, next_of}
-use Rattle.session_order.specs.Ends.{Stage}
-use Rattle.session_order.specs.Follows.{is_waiting}
-use Rattle.session_order.specs.Laws.{IsFromStart}
-use Rattle.session_order.specs.Serial.{Played, entry_at, nothing_played, round, rounds, turn, turns}
-use Rattle.session_text.specs.Programs.{Call, call, ends, is_exit, is_gone, is_kill, is_srch, is_wait, next}
+use Rattle.session_text.specs.Programs.{Call, call, ends, is_exit, is_gone, is_kill, is_wait, next}
 use Rattle.session_text.specs.declared.program.Program.{Program}
 use Rattle.vt_events.specs.declared.entry.Entry.{Entry}
 use Rattle.vt_events.specs.declared.event.Event.{Event}
 use Rattle.vt_events.specs.declared.event.Event.TheVariants as event
 use Rattle.vt_events.specs.declared.reply.Reply.{Reply}
 use Rattle.vt_events.specs.declared.reply.Reply.TheVariants as reply
-use Rattle.vt_journal.specs.declared.full.Full.{Full}
-use Rattle.vt_procs.specs.Callers.{Callers, caller_at, caller_of, callers_of, is_live, no_caller, starting}
-use Rattle.vt_procs.specs.Tickets.{can_go, is_open}
-use Rattle.vt_procs.specs.declared.proc_start.ProcStart.{ProcStart}
-use Rattle.vt_procs.specs.declared.process.Process.{Process}
-use Rattle.vt_world.specs.History.{replay}
+use Rattle.vt_procs.specs.Callers.{Callers, caller_at, is_live}
+use Rattle.vt_procs.specs.Tickets.{is_open}
 use Rattle.vt_world.specs.State.{WorldState}
 use Rattle.vt_world.specs.Step.{step}
 use Rattle.vt_world.specs.Tests.{ends_wait}

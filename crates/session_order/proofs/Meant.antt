@@ -1,18 +1,17 @@
 -- Histories and their entries as they are meant.
-use Rattle.std.proofs.Common.{◌≡◌, ℕ, ◌+◌, ◌≤◌, Bool, true, false, cond, suc, zero, List, [], ◌∷◌, ◌++◌, length, filter, map, take, Option, Some, None, option_map, refl, sym, ap, ◌∙◌, subst}
+use Rattle.std.proofs.Common.{◌≡◌, ℕ, ◌+◌, ◌≤◌, true, false, cond, List, [], ◌∷◌, length, filter, map, take, Some, None, option_map, refl, sym, ap, ◌∙◌, subst}
 use Rattle.std.proofs.lemmas.List.{length-map, take-map}
 use Rattle.std.proofs.lemmas.List.Folds.{fold-map}
 use Rattle.std.proofs.lemmas.Option.{slice_get-map}
 use Rattle.std.specs.List.{list_all, range_with_len, sum_by}
 use Rattle.std.specs.Prelude.{◌==◌, ◌&&◌, count_by, nat_le, nat_lt, slice_get}
 use Rattle.session_order.proofs.Programs.{next-fine, plain-twice}
-use Rattle.session_order.specs.Calls.{all_over, as_meant, call_of, calls_by, is_none, next_by, next_of}
-use Rattle.session_order.specs.Ends.{Ends, EndsBy, Finishes, IsWithin, Stage, Stops, full_at, has_room, tail_at}
-use Rattle.session_order.specs.Follows.{Follows, IsNextCall, is_waiting}
+use Rattle.session_order.specs.Calls.{call_of, calls_by, is_none, next_by, next_of}
+use Rattle.session_order.specs.Ends.{IsWithin, Stage, has_room}
+use Rattle.session_order.specs.Follows.{IsNextCall, is_waiting}
 use Rattle.session_order.specs.Meant.{EndsIsMeant, FollowsIsMeant, LegalIsMeant, NextIsMeant, NextIsPlain, ReplayIsMeant, meant}
-use Rattle.session_text.specs.Programs.{Call, call, next}
+use Rattle.session_text.specs.Programs.{call}
 use Rattle.session_text.specs.declared.program.Program.{Program}
-use Rattle.vt_base.specs.declared.errno.Errno.{Errno}
 use Rattle.vt_events.specs.Charge.{charge_of}
 use Rattle.vt_events.specs.Plain.{plain_entry, plain_event, plain_reply}
 use Rattle.vt_events.specs.declared.entry.Entry.{Entry}
@@ -21,13 +20,10 @@ use Rattle.vt_events.specs.declared.event.Event.TheVariants as event
 use Rattle.vt_events.specs.declared.reply.Reply.{Reply}
 use Rattle.vt_events.specs.declared.reply.Reply.TheVariants as reply
 use Rattle.vt_journal.specs.Log.{charge_of_all}
-use Rattle.vt_journal.specs.declared.full.Full.{Full}
-use Rattle.vt_world.specs.Heard.{cleared}
-use Rattle.vt_world.specs.History.{IsLegal, IsNext, replay}
-use Rattle.vt_world.specs.Rows.{row}
+use Rattle.vt_world.specs.History.{IsNext, replay}
 use Rattle.vt_world.specs.State.{WorldState}
-use Rattle.vt_world.specs.Step.{Outcome, after_common, answered, own_step, step}
-use Rattle.vt_world.specs.Tests.{common_tests, ends_wait, first_failing, own_tests}
+use Rattle.vt_world.specs.Step.{Outcome, step}
+use Rattle.vt_world.specs.Tests.{ends_wait}
 
 pub next-meant : NextIsMeant
 next-meant p made = (next-fine p).same made

@@ -1,34 +1,31 @@
 -- A play from a start goes on until it is finished.
 use Rattle.std.proofs.Common.{◌≡◌, ◌⊎◌, ℕ, ◌+◌, ◌-◌, ◌<◌, ◌≤◌, zero, suc, Bool, true, false, ⊎_elim, inl, inr, arith, List, [], ◌∷◌, ◌++◌, length, get_or, map, Option, Some, None, refl, sym, ap, ◌∙◌, subst, length-append}
-use Rattle.std.proofs.lemmas.Bool.{and_cases, and_parts, both_ways, cases_Bool, cases_lt, eqb-false, eqb-true, false_from_ne_true, false≢true, not-true, or_cases, or_left, or_parts, true≢false}
-use Rattle.std.proofs.lemmas.List.{get_or_past, length-map}
+use Rattle.std.proofs.lemmas.Bool.{and_cases, and_parts, both_ways, cases_Bool, cases_lt, eqb-false, eqb-true, false_from_ne_true, false≢true, not-true, or_cases, or_left, true≢false}
+use Rattle.std.proofs.lemmas.List.{get_or_past}
 use Rattle.std.proofs.lemmas.List.FromFn.{get_or-map-range_with_len, length-map-range_with_len}
 use Rattle.std.proofs.lemmas.Option.{none-some, slice_get_cases, slice_get_within}
 use Rattle.std.specs.List.{list_all, list_any, range_with_len}
-use Rattle.std.specs.Prelude.{⊤, ◌==◌, ◌&&◌, ◌||◌, not, is_some, slice_get, if◌then◌else◌}
-use Rattle.key_tables.specs.Tables.{Tables}
+use Rattle.std.specs.Prelude.{◌==◌, not, is_some, slice_get, if◌then◌else◌}
 use Rattle.session_order.proofs.Ages.{holds}
-use Rattle.session_order.proofs.Alive.{Walked, next-alive}
-use Rattle.session_order.proofs.Callers.{Awake}
-use Rattle.session_order.proofs.Lively.{HasWaitEnd, IsLively, Now, lively-more}
+use Rattle.session_order.proofs.Alive.{next-alive}
+use Rattle.session_order.proofs.Lively.{IsLively, Now, lively-more}
 use Rattle.session_order.proofs.Rounds.{finished-stays, is_none_none}
-use Rattle.session_order.proofs.Turns.{Enters, FindsFull, Goes, Skips, TurnDoes, event-plain, goes-nothing, reply-plain, rounds-go, turn-does, turns-go}
-use Rattle.session_order.specs.Calls.{all_over, call_of, calls_by, is_none, next_by, next_of}
+use Rattle.session_order.proofs.Turns.{Enters, FindsFull, Goes, Skips, TurnDoes, event-plain, goes-nothing, reply-plain, turn-does, turns-go}
+use Rattle.session_order.specs.Calls.{all_over, calls_by, is_none, next_by, next_of}
 use Rattle.session_order.specs.Ends.{Stage}
 use Rattle.session_order.specs.Follows.{is_waiting}
 use Rattle.session_order.specs.Laws.{IsFromStart, RoundsGoOn, SerialEnds}
-use Rattle.session_order.specs.Serial.{IsSerial, Played, call_now, entry_at, is_finished, nothing_played, round, rounds, turn, turns}
+use Rattle.session_order.specs.Serial.{Played, call_now, entry_at, is_finished, nothing_played, round, rounds, turn, turns}
 use Rattle.session_text.specs.Programs.{Call, call, next}
 use Rattle.session_text.specs.declared.program.Program.{Program}
 use Rattle.vt_events.specs.declared.entry.Entry.{Entry}
 use Rattle.vt_events.specs.declared.event.Event.{Event}
 use Rattle.vt_journal.specs.declared.full.Full.{Full}
 use Rattle.vt_procs.specs.Callers.{Callers, caller_at, caller_of, callers_of, is_live, keyboard, no_caller, starting}
-use Rattle.vt_procs.specs.Tickets.{can_go, is_open}
+use Rattle.vt_procs.specs.Tickets.{can_go}
 use Rattle.vt_procs.specs.declared.proc_start.ProcStart.{ProcStart}
 use Rattle.vt_procs.specs.declared.process.Process.{Process}
 use Rattle.vt_world.specs.History.{replay}
-use Rattle.vt_world.specs.Start.{opening}
 use Rattle.vt_world.specs.State.{WorldState}
 use Rattle.vt_world.specs.Step.{step}
 

@@ -1,16 +1,15 @@
 -- Rounds of a play that is finished.
-use Rattle.std.proofs.Common.{◌≡◌, ℕ, ◌+◌, zero, suc, ◌<◌, ◌≤◌, Bool, true, false, cond, ⊎_elim, inl, inr, arith, List, [], ◌∷◌, length, get_or, Option, Some, None, refl, sym, ap, ◌∙◌, subst}
+use Rattle.std.proofs.Common.{◌≡◌, ℕ, ◌+◌, zero, suc, ◌<◌, Bool, true, false, cond, ⊎_elim, arith, List, [], ◌∷◌, length, get_or, Option, Some, None, refl, sym, ap, ◌∙◌, subst}
 use Rattle.std.proofs.lemmas.Bool.{cases_Bool, cases_lt, both_ways}
 use Rattle.std.proofs.lemmas.List.Folds.{list_all_at}
 use Rattle.std.proofs.lemmas.List.FromFn.{get_or-range_with_len, length-range_with_len}
 use Rattle.std.proofs.lemmas.Option.{slice_get_past}
 use Rattle.std.specs.List.{range_with_len}
-use Rattle.std.specs.Prelude.{slice_get}
 use Rattle.session_order.specs.Calls.{all_over, calls_by, is_none, next_by, next_of}
 use Rattle.session_order.specs.Ends.{Stage}
 use Rattle.session_order.specs.Follows.{is_waiting}
 use Rattle.session_order.specs.Laws.{FinishedStays, SerialIsOne}
-use Rattle.session_order.specs.Serial.{IsSerial, Played, call_now, calls, is_finished, nothing_played, round, rounds, turn, turns}
+use Rattle.session_order.specs.Serial.{Played, call_now, calls, is_finished, nothing_played, round, rounds, turn, turns}
 use Rattle.session_text.specs.declared.program.Program.{Program}
 use Rattle.vt_events.specs.declared.entry.Entry.{Entry}
 use Rattle.vt_events.specs.declared.event.Event.{Event}

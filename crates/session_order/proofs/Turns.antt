@@ -1,29 +1,26 @@
 -- What a play keeps: its history is legal and follows the programs, within the limits, and stops where
 -- a call finds no room.
-use Rattle.std.proofs.Common.{◌≡◌, ◌⊎◌, ℕ, ◌+◌, ◌<◌, ◌≤◌, zero, suc, Bool, true, false, cond, ⊎_elim, inl, inr, arith, List, [], ◌∷◌, ◌++◌, length, get_or, map, take, Option, Some, None, refl, sym, ap, ◌∙◌, subst, length-append}
+use Rattle.std.proofs.Common.{◌≡◌, ◌⊎◌, ℕ, ◌+◌, ◌<◌, zero, suc, Bool, true, false, ⊎_elim, inl, inr, arith, List, [], ◌∷◌, ◌++◌, length, get_or, take, Option, Some, None, refl, sym, ap, ◌∙◌, subst, length-append}
 use Rattle.std.proofs.Math.ListN.{get_or-append}
 use Rattle.std.proofs.Math.Seq.{get_or-append_seam, take-append_seam}
-use Rattle.std.proofs.lemmas.Bool.{and_parts, both_ways, cases_Bool, cases_lt, leb-true, ltb-true}
+use Rattle.std.proofs.lemmas.Bool.{and_parts, cases_Bool, cases_lt, leb-true, ltb-true}
 use Rattle.std.proofs.lemmas.List.{take-append-le}
 use Rattle.std.proofs.lemmas.List.Sums.{sum_by-append}
 use Rattle.std.proofs.lemmas.Option.{get_or_from_slice_get, none-some, same_Some, slice_get-get_or, slice_get_within}
-use Rattle.std.specs.List.{range_with_len, sum_by}
-use Rattle.std.specs.Prelude.{◌==◌, not, slice_get, count_by, if◌then◌else◌, nat_le, nat_lt}
+use Rattle.std.specs.List.{range_with_len}
+use Rattle.std.specs.Prelude.{◌==◌, not, slice_get, if◌then◌else◌, nat_le, nat_lt}
 use Rattle.session_order.proofs.Programs.{next-fine}
-use Rattle.session_order.specs.Calls.{all_over, calls_by, next_by, next_of}
-use Rattle.session_order.specs.Ends.{Ends, Finishes, IsWithin, Stage, Stops, full_at, has_room}
+use Rattle.session_order.specs.Calls.{calls_by, next_by, next_of}
+use Rattle.session_order.specs.Ends.{Ends, IsWithin, Stage, Stops, full_at, has_room}
 use Rattle.session_order.specs.Follows.{Follows, IsNextCall, is_waiting}
-use Rattle.session_order.specs.Laws.{IsRight, SerialIsRight}
-use Rattle.session_order.specs.Serial.{IsSerial, Played, call_now, calls, entry_at, is_finished, nothing_played, round, rounds, tail_of, turn, turns}
+use Rattle.session_order.specs.Laws.{SerialIsRight}
+use Rattle.session_order.specs.Serial.{Played, call_now, calls, entry_at, is_finished, nothing_played, round, rounds, tail_of, turn, turns}
 use Rattle.session_text.specs.declared.program.Program.{Program}
-use Rattle.vt_base.specs.declared.errno.Errno.{Errno}
 use Rattle.vt_events.specs.Charge.{charge_of}
 use Rattle.vt_events.specs.Plain.{plain_event, plain_reply}
 use Rattle.vt_events.specs.declared.entry.Entry.{Entry}
 use Rattle.vt_events.specs.declared.event.Event.{Event}
 use Rattle.vt_events.specs.declared.event.Event.TheVariants as event
-use Rattle.vt_events.specs.declared.reply.Reply.{Reply}
-use Rattle.vt_events.specs.declared.reply.Reply.TheVariants as reply
 use Rattle.vt_journal.specs.Log.{charge_of_all}
 use Rattle.vt_journal.specs.declared.full.Full.{Full}
 use Rattle.vt_procs.specs.declared.ticket.Ticket.{Ticket}

@@ -1,5 +1,5 @@
 -- Histories as they are meant: the room that the bytes of calls and answers have changes nothing.
-use Rattle.std.specs.Prelude.{◌≡◌, ℕ, List, map, Some, Option}
+use Rattle.std.specs.Prelude.{◌≡◌, List, map, Some, Option}
 use Rattle.session_order.specs.Calls.{as_meant}
 use Rattle.session_order.specs.Ends.{Ends, Stage, tail_at}
 use Rattle.session_order.specs.Follows.{Follows}

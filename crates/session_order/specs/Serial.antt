@@ -1,6 +1,6 @@
 -- The serial schedule: the turns, and then rounds of all callers, one call after another. This
 -- project's own.
-use Rattle.std.specs.Prelude.{◌≡◌, ℕ, zero, suc, ◌==◌, ◌||◌, Bool, true, false, List, [], ◌∷◌, ◌++◌, count_by, length, Option, Some, None, is_some, if◌then◌else◌}
+use Rattle.std.specs.Prelude.{◌≡◌, ℕ, zero, suc, ◌==◌, ◌||◌, Bool, true, List, [], ◌∷◌, ◌++◌, count_by, length, Option, Some, None, is_some, if◌then◌else◌}
 use Rattle.std.specs.List.{range_with_len}
 use Rattle.session_order.specs.Calls.{all_over, next_by}
 use Rattle.session_order.specs.Ends.{Stage, full_at, has_room, tail_at}

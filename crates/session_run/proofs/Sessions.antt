@@ -1,8 +1,8 @@
 -- What a session keeps to, as its play uses it.
-use Rattle.std.proofs.Common.{◌≡◌, ℕ, ◌+◌, ◌<◌, ◌≤◌, zero, suc, arith, List, [], ◌∷◌, Some, get_or, length, refl, sym, ap, ◌∙◌, subst}
+use Rattle.std.proofs.Common.{◌≡◌, ℕ, ◌+◌, suc, arith, List, [], ◌∷◌, Some, length, refl, ap, ◌∙◌, subst}
 use Rattle.std.proofs.lemmas.Option.{get_or_from_slice_get, slice_get_within}
 use Rattle.std.specs.List.{All}
-use Rattle.std.specs.Prelude.{⊤, slice_get}
+use Rattle.std.specs.Prelude.{slice_get}
 use Rattle.session_order.specs.Laws.{IsFromStart}
 use Rattle.session_run.specs.Runs.{HasScripts, IsScript, stage_of, start_of}
 use Rattle.session_text.specs.Sessions.{ArePrograms, IsScriptProgram, SessionView}

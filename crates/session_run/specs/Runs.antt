@@ -9,7 +9,6 @@ use Rattle.session_text.specs.Walks.{HasActs}
 use Rattle.session_text.specs.declared.program.Program.{Program}
 use Rattle.session_text.specs.declared.program.Program.TheVariants as program
 use Rattle.sig_hooks.specs.declared.act.Act.{Act}
-use Rattle.vt_world.specs.History.{replay}
 use Rattle.vt_world.specs.Start.{opening}
 use Rattle.vt_world.specs.State.{WorldState}
 use Rattle.vt_world.specs.Tapes.{screen_of, tape_of}

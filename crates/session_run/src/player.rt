@@ -98,7 +98,10 @@ impl Player {
         ensures stop { result.stop ≡ self.stop }
     {
         let Player {
-            world, log, stop, ..
+            world,
+            log,
+            stop,
+            ..
         } = self;
         Run { world, log, stop }
     }

@@ -6,5 +6,5 @@ invariant-loop-handler g l = record {
   can_next : (goal.iterator-loop-handler g).can_next l.handler-iterator;
   is_finite : (goal.iterator-loop-handler g).is_finite l.handler-iterator;
   hooks : l.hooks.items ≡ take (length l.yielded) l.tables;
-  many : length l.hooks.items ≡ length l.yielded
+  many : length l.hooks.items ≡ length l.yielded;
 }

@@ -7,7 +7,6 @@ use Rattle.std.specs.Prelude.{slice_get}
 use Rattle.session_run.specs.Runs.{IsScript}
 use Rattle.session_text.specs.Walks.{HasActs}
 use Rattle.session_text.specs.declared.program.Program.{Program}
-use Rattle.session_text.specs.declared.program.Program.TheVariants as program
 use Rattle.sig_hooks.specs.declared.act.Act.{Act}
 use Rattle.session_run.proofs.handlers.tables_in.Goals as goal
 

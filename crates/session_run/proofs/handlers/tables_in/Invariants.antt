@@ -8,5 +8,5 @@ abbrev pub invariant-loop-i : goal.invariant-loop-i
 invariant-loop-i l = record {
   many : length l.tables.items + 1 ≡ l.i;
   acts : (k : ℕ) (p : Program) → k < length l.tables.items → slice_get l.programs (k + 1) ≡ Some p
-      → HasActs p (get_or l.tables.items k [])
+      → HasActs p (get_or l.tables.items k []);
 }

@@ -1,4 +1,4 @@
-use Rattle.std.proofs.Common.{◌≤◌, ◌+◌, arith, length, subst, ap}
+use Rattle.std.proofs.Common.{arith, length}
 use Rattle.session_run.proofs.Sessions.{program-count, scripts-follow}
 use Rattle.session_run.proofs.handlers.tables_of.Goals as goal
 

@@ -7,5 +7,5 @@ use Rattle.session_run.proofs.player.first_walks.Given as goal
 abbrev pub invariant-loop-caller : goal.invariant-loop-caller
 invariant-loop-caller l = record {
   many : length l.walks.items ≡ l._caller;
-  stand : All (λ walk. (p : Program) → Stands p walk []) l.walks.items
+  stand : All (λ walk. (p : Program) → Stands p walk []) l.walks.items;
 }

@@ -1,4 +1,4 @@
-use Rattle.std.proofs.Common.{◌≡◌, length, sym, ap, ◌∙◌, subst}
+use Rattle.std.proofs.Common.{length, sym, ap, ◌∙◌, subst}
 use Rattle.session_order.specs.Laws.{IsRight}
 use Rattle.session_run.proofs.Sessions.{is-start}
 use Rattle.session_run.specs.Runs.{played, stage_of, start_of}

@@ -1,14 +1,12 @@
-use Rattle.std.proofs.Common.{◌≡◌, ℕ, ◌+◌, ◌<◌, ◌≤◌, arith, List, length, refl, sym, ap, ◌∙◌, subst}
+use Rattle.std.proofs.Common.{◌≡◌, ℕ, ◌+◌, ◌<◌, ◌≤◌, arith, List, length, sym, ap, ◌∙◌, subst}
 use Rattle.std.proofs.lemmas.List.Elements.{All-weaker}
 use Rattle.session_order.specs.Ends.{Stage}
-use Rattle.session_order.specs.Laws.{IsFromStart}
-use Rattle.session_order.specs.Serial.{IsSerial, Played, nothing_played, turns}
+use Rattle.session_order.specs.Serial.{IsSerial, nothing_played, turns}
 use Rattle.session_run.proofs.Plays.{IsEnd, run-serial, run-world}
 use Rattle.session_run.proofs.Sessions.{from-start, program-count}
-use Rattle.session_run.specs.Playing.{IsAt, PlayerView}
+use Rattle.session_run.specs.Playing.{IsAt}
 use Rattle.session_run.specs.Runs.{played, stage_of}
 use Rattle.session_text.specs.Sessions.{ArePrograms}
-use Rattle.session_text.specs.declared.program.Program.{Program}
 use Rattle.vt_journal.specs.declared.limits.Limits.{Limits}
 use Rattle.vt_procs.specs.declared.config.Config.{Config}
 use Rattle.session_run.proofs.serial.play_by.Goals as goal

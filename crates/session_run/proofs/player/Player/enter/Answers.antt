@@ -1,5 +1,5 @@
-use Rattle.std.proofs.Common.{◌≡◌, ℕ, ◌<◌, ◌≤◌, arith, List, get_or, set, length, refl, sym, ap, ◌∙◌, subst}
-use Rattle.session_run.proofs.Plays.{Enters, Walks, entered}
+use Rattle.std.proofs.Common.{◌≡◌, ◌<◌, arith, List, get_or, set, length, refl, sym, ap, ◌∙◌, subst}
+use Rattle.session_run.proofs.Plays.{Enters, entered}
 use Rattle.session_run.specs.Playing.{IsAt, PlayerView}
 use Rattle.session_text.specs.Walks.{Place}
 use Rattle.session_run.proofs.player.Player.enter.Goals as goal

@@ -1,11 +1,9 @@
-use Rattle.std.proofs.Common.{◌≡◌, ℕ, ◌+◌, ◌-◌, ◌<◌, ◌≤◌, Bool, false, arith, List, [], Option, Some, None, get_or, length, refl, sym, ap, ◌∙◌, subst}
+use Rattle.std.proofs.Common.{◌≡◌, ℕ, ◌+◌, ◌-◌, ◌<◌, false, arith, List, [], Some, get_or, length, refl, sym, ap, ◌∙◌, subst}
 use Rattle.std.proofs.lemmas.List.{get_or_default}
 use Rattle.std.proofs.lemmas.Option.{slice_get_read}
 use Rattle.std.proofs.lemmas.Result.{IfOk-weaker}
-use Rattle.std.specs.Prelude.{slice_get, IfOk}
-use Rattle.session_order.specs.Calls.{calls_by}
-use Rattle.session_order.specs.Ends.{Stage}
-use Rattle.session_order.specs.Serial.{Played, call_now}
+use Rattle.std.specs.Prelude.{slice_get}
+use Rattle.session_order.specs.Serial.{call_now}
 use Rattle.session_run.proofs.Plays.{now-is}
 use Rattle.session_run.specs.Playing.{IsAt, PlayerView}
 use Rattle.session_text.specs.Walks.{HasActs}

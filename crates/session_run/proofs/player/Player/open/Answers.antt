@@ -1,4 +1,4 @@
-use Rattle.std.proofs.Common.{◌≡◌, None, length, refl, sym, ap, ◌∙◌, subst}
+use Rattle.std.proofs.Common.{◌≡◌, None, length, refl, ap, ◌∙◌}
 use Rattle.session_run.proofs.Plays.{first-at}
 use Rattle.session_run.specs.Playing.{PlayerView}
 use Rattle.session_run.specs.Runs.{stage_of, start_of}

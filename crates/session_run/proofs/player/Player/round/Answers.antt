@@ -15,10 +15,11 @@ loop-i-preserved g c = record {
       let p : i ≡ c.in-Some.p = in_range_same 0 64 i c.in-Some.p (sym c.in-Some.ensures) in
       let left : n - i ≡ suc (n - (i + 1)) = omega (arith, c.loop-i-test.true) in
       let more : turns o (range_with_len (i + 1) (n - (i + 1))) (turn o i now) ≡ round o t =
-      ap (λ k. turns o (range_with_len i k) now) (sym left) ∙ (c.loop-i.invariant.at o t same at).2 in
-      (turn o c.in-Some.p now,
-      c.in_ok-turn.ensures.at o now same (c.loop-i.invariant.at o t same at).1,
-      ap (λ k. turns o (range_with_len (i + 1) (n - (i + 1))) (turn o k now)) (sym p) ∙ more);
+      ap (λ k. turns o (range_with_len i k) now) (sym left) ∙ (c.loop-i.invariant.at o t same at).2 in (
+        turn o c.in-Some.p now,
+        c.in_ok-turn.ensures.at o now same (c.loop-i.invariant.at o t same at).1,
+        ap (λ k. turns o (range_with_len (i + 1) (n - (i + 1))) (turn o k now)) (sym p) ∙ more,
+      );
 }
 
 pub returns-clause-at : goal.returns-clause-at

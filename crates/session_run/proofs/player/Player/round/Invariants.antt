@@ -9,5 +9,5 @@ abbrev pub invariant-loop-i : goal.invariant-loop-i
 invariant-loop-i g l = record {
   walks : length l.self.walks ≡ length l.programs;
   at : (o : Stage) (t : Played) → o.programs ≡ l.programs → IsAt o t l.initial.self
-      → (now : Played) × IsAt o now l.self × (turns o (range_with_len l.i (length l.programs - l.i)) now ≡ round o t)
+      → (now : Played) × IsAt o now l.self × (turns o (range_with_len l.i (length l.programs - l.i)) now ≡ round o t);
 }

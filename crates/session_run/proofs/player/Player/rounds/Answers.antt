@@ -1,4 +1,4 @@
-use Rattle.std.proofs.Common.{◌≡◌, ℕ, ◌+◌, ◌≤◌, arith, length, refl, sym, ap, ◌∙◌, subst}
+use Rattle.std.proofs.Common.{◌≡◌, ◌+◌, arith, length, refl, sym, ap, ◌∙◌, subst}
 use Rattle.session_order.specs.Serial.{Played, nothing_played, round, rounds, turns}
 use Rattle.session_run.proofs.Plays.{round-stays, round-stops}
 use Rattle.session_run.specs.Playing.{IsAt, PlayerView}
@@ -31,6 +31,8 @@ returns g c = λ o first start same events at.
     let begun : Played = turns o first nothing_played in
     let count : c.loop-round._round ≡ o.limits.events + 1 =
     omega (arith, events, c.loop-round-test.false, c.loop-round.auto._round-end) in
-    let old : IsAt o (rounds o c.loop-round._round begun) c.loop-round.self = c.loop-round.invariant.at o begun same at in
-    (rounds o (o.limits.events + 1) begun, c.serial_laws.ensures.ends o first start,
-    subst (λ k. IsAt o (rounds o k begun) c.loop-round.self) count old)
+    let old : IsAt o (rounds o c.loop-round._round begun) c.loop-round.self = c.loop-round.invariant.at o begun same at in (
+      rounds o (o.limits.events + 1) begun,
+      c.serial_laws.ensures.ends o first start,
+      subst (λ k. IsAt o (rounds o k begun) c.loop-round.self) count old,
+    )

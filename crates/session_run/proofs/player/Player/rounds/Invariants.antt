@@ -1,4 +1,4 @@
-use Rattle.std.proofs.Common.{◌≡◌, ℕ, List, length}
+use Rattle.std.proofs.Common.{◌≡◌, length}
 use Rattle.session_order.specs.Ends.{Stage}
 use Rattle.session_order.specs.Serial.{Played, rounds}
 use Rattle.session_run.specs.Playing.{IsAt}
@@ -8,5 +8,5 @@ abbrev pub invariant-loop-round : goal.invariant-loop-round
 invariant-loop-round g l = record {
   walks : length l.self.walks ≡ length l.programs;
   at : (o : Stage) (t : Played) → o.programs ≡ l.programs → IsAt o t l.initial.self
-      → IsAt o (rounds o l._round t) l.self
+      → IsAt o (rounds o l._round t) l.self;
 }

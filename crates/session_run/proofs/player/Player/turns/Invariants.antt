@@ -8,5 +8,5 @@ abbrev pub invariant-loop-caller : goal.invariant-loop-caller
 invariant-loop-caller g l = record {
   walks : length l.self.walks ≡ length l.programs;
   at : (o : Stage) (t : Played) → o.programs ≡ l.programs → IsAt o t l.initial.self
-      → (now : Played) × IsAt o now l.self × (turns o (drop l.caller-index l.callers) now ≡ turns o l.callers t)
+      → (now : Played) × IsAt o now l.self × (turns o (drop l.caller-index l.callers) now ≡ turns o l.callers t);
 }
