@@ -2,7 +2,7 @@ use Rattle.std.proofs.Common.{◌≡◌, ℕ, ◌+◌, ◌<◌, ◌≤◌, arith
 use Rattle.std.proofs.lemmas.List.Elements.{All-weaker}
 use Rattle.session_order.specs.Ends.{Stage}
 use Rattle.session_order.specs.Serial.{IsSerial, nothing_played, turns}
-use Rattle.session_run.proofs.Plays.{IsEnd, run-serial, run-world}
+use Rattle.session_run.proofs.Ends.{IsEnd, run-serial, run-world}
 use Rattle.session_run.proofs.Sessions.{from-start, program-count}
 use Rattle.session_run.specs.Playing.{IsAt}
 use Rattle.session_run.specs.Runs.{played, stage_of}

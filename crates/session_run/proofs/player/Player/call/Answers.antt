@@ -1,6 +1,6 @@
 use Rattle.std.proofs.Common.{length, sym, ◌∙◌, subst}
 use Rattle.std.proofs.lemmas.Bool.{false≢true}
-use Rattle.session_run.proofs.Plays.{turn-enters, turn-fills}
+use Rattle.session_run.proofs.Turns.{turn-enters, turn-fills}
 use Rattle.session_run.specs.Playing.{IsAt, PlayerView}
 use Rattle.vt_events.specs.Charge.{charge_of}
 use Rattle.vt_journal.specs.Log.{HasRoom}

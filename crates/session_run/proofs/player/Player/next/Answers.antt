@@ -4,7 +4,7 @@ use Rattle.std.proofs.lemmas.Option.{slice_get_read}
 use Rattle.std.proofs.lemmas.Result.{IfOk-weaker}
 use Rattle.std.specs.Prelude.{slice_get}
 use Rattle.session_order.specs.Serial.{call_now}
-use Rattle.session_run.proofs.Plays.{now-is}
+use Rattle.session_run.proofs.Turns.{now-is}
 use Rattle.session_run.specs.Playing.{IsAt, PlayerView}
 use Rattle.session_text.specs.Walks.{HasActs}
 use Rattle.session_text.specs.declared.program.Program.{Program}

@@ -1,6 +1,6 @@
 use Rattle.std.proofs.Common.{◌≡◌, ◌+◌, arith, length, refl, sym, ap, ◌∙◌, subst}
 use Rattle.session_order.specs.Serial.{Played, nothing_played, round, rounds, turns}
-use Rattle.session_run.proofs.Plays.{round-stays, round-stops}
+use Rattle.session_run.proofs.Ends.{round-stays, round-stops}
 use Rattle.session_run.specs.Playing.{IsAt, PlayerView}
 use Rattle.std.specs.Prelude.{is_some}
 use Rattle.session_run.proofs.player.Player.rounds.Goals as goal

@@ -1,0 +1,78 @@
+-- The end of a play, and what comes of it.
+use Rattle.std.proofs.Common.{◌≡◌, ℕ, ◌+◌, ◌<◌, true, false, ◌⊎◌, ⊎_elim, arith, List, length, sym, ap, ◌∙◌, subst}
+use Rattle.std.proofs.lemmas.Bool.{cases_Bool, or_left}
+use Rattle.std.specs.Prelude.{is_some}
+use Rattle.session_order.specs.Calls.{all_over}
+use Rattle.session_order.specs.Ends.{Stage}
+use Rattle.session_order.specs.Laws.{FinishedStays, IsFromStart, RoundsAddUp, RoundsGoOn}
+use Rattle.session_order.specs.Meant.{ReplayIsMeant, meant}
+use Rattle.session_order.specs.Serial.{IsSerial, Played, is_finished, nothing_played, round, rounds, turns}
+use Rattle.session_run.specs.Playing.{IsAt, PlayerView}
+use Rattle.session_run.specs.Runs.{played}
+use Rattle.session_run.specs.declared.run.Run.{Run}
+use Rattle.vt_journal.specs.Log.{Logged}
+use Rattle.vt_world.specs.History.{replay}
+use Rattle.session_run.proofs.Turns.{lengths}
+
+not_longer : (m n : ℕ) → m < n → n ≡ m → ⊥
+not_longer m n more same = omega (arith, more, same)
+
+-- the end of a play
+abbrev pub IsEnd : Stage → List ℕ → PlayerView → Type 0
+IsEnd o first view = (t : Played) × IsSerial o first t × IsAt o t view
+
+-- a round in which the play stopped is its last one
+pub round-stops : RoundsAddUp → (o : Stage) (first : List ℕ) (k : ℕ) (u : Played) (view : PlayerView)
+    → u ≡ round o (rounds o k (turns o first nothing_played)) → IsAt o u view
+    → is_some view.stop ≡ true → IsEnd o first view
+round-stops sum o first k u view is at stopped =
+    let serial : IsSerial o first u = record {
+      count = k + 1;
+      played = is ∙ sym (sum o k 1 (turns o first nothing_played));
+      finished = or_left (is_some u.stop) (all_over o.programs u.history) (sym (ap is_some at.stop) ∙ stopped);
+    } in
+    (u, serial, at)
+
+-- and so is one that made no entry
+pub round-stays : FinishedStays → RoundsAddUp → RoundsGoOn → (o : Stage) (first : List ℕ) (k : ℕ) (t u : Played) (before view : PlayerView)
+    → IsFromStart o → t ≡ rounds o k (turns o first nothing_played) → u ≡ round o t
+    → IsAt o t before → IsAt o u view → length view.log.entries ≡ length before.log.entries
+    → IsEnd o first view
+round-stays stays sum goes_on o first k t u before view start is_t is_u old at len =
+    let moves : is_finished o t ≡ false → (length t.history < length (round o t).history) ⊎ (is_some (round o t).stop ≡ true) =
+    subst (λ x. is_finished o x ≡ false → (length x.history < length (round o x).history) ⊎ (is_some (round o x).stop ≡ true)) (sym is_t) (goes_on o first k start) in
+    let moved : is_finished o t ≡ false → (length t.history < length u.history) ⊎ (is_some u.stop ≡ true) =
+    λ going. subst (λ x. (length t.history < length x.history) ⊎ (is_some x.stop ≡ true)) (sym is_u) (moves going) in
+    let same_length : length u.history ≡ length t.history =
+    sym (lengths o u view at) ∙ len ∙ lengths o t before old in
+    let over : is_finished o t ≡ true → IsEnd o first view =
+    λ done.
+    let same : u ≡ t = is_u ∙ stays o 1 t done in
+    let serial : IsSerial o first t = record { count = k; played = is_t; finished = done } in
+    (t, serial, subst (λ x. IsAt o x view) same at) in
+    let stops : is_some u.stop ≡ true → IsEnd o first view =
+    λ stopped. round-stops sum o first k u view (is_u ∙ ap (round o) is_t) at (ap is_some at.stop ∙ stopped) in
+    let longer : length t.history < length u.history → IsEnd o first view =
+    λ more. absurd (not_longer (length t.history) (length u.history) more same_length) in
+    ⊎_elim over (λ going. ⊎_elim longer stops (moved going)) (cases_Bool (is_finished o t))
+
+-- what came of a play at its end
+pub run-serial : (o : Stage) (first : List ℕ) (t : Played) (view : PlayerView) (run : Run)
+    → IsSerial o first t → IsAt o t view → run.log ≡ view.log → run.stop ≡ view.stop
+    → IsSerial o first (played run)
+run-serial o first t view run serial at log stop =
+    let same : t ≡ played run =
+    λ i. record {
+      history = (sym at.history ∙ ap (λ (l : Logged). meant l.entries) (sym log)) i;
+      stop = (sym at.stop ∙ sym stop) i;
+    } in
+    subst (IsSerial o first) same serial
+
+pub run-world : ReplayIsMeant → (o : Stage) (t : Played) (view : PlayerView) (run : Run)
+    → IsAt o t view → run.world ≡ view.world → run.log ≡ view.log
+    → run.world ≡ replay o.start run.log.entries
+run-world is_meant o t view run at world log =
+    world
+    ∙ at.replayed
+    ∙ ap (replay o.start) (sym at.history ∙ ap (λ (l : Logged). meant l.entries) (sym log))
+    ∙ is_meant o.start run.log.entries

@@ -1,0 +1,184 @@
+-- A turn of a play: its call is entered, finds no room, or isn't there.
+use Rattle.std.proofs.Common.{◌≡◌, ℕ, ◌+◌, ◌<◌, true, false, arith, List, [], ◌∷◌, ◌++◌, length, get_or, replicate, Option, Some, None, refl, sym, ap, ◌∙◌, subst}
+use Rattle.std.proofs.lemmas.Bool.{and_from, and_parts, false_from_ne_true, le-leb, leb-true, lt-ltb, ltb-true}
+use Rattle.std.proofs.lemmas.List.{get_or-replicate, length-map, length-replicate}
+use Rattle.std.proofs.lemmas.List.Folds.{fold-map}
+use Rattle.std.proofs.lemmas.Option.{slice_get_within}
+use Rattle.std.specs.List.{All, sum_by}
+use Rattle.std.specs.Prelude.{is_some, nat_le, nat_lt, slice_get, if◌then◌else◌}
+use Rattle.session_order.specs.Calls.{calls_by, next_by, next_of}
+use Rattle.session_order.specs.Ends.{Stage, full_at, has_room}
+use Rattle.session_order.specs.Follows.{is_waiting}
+use Rattle.session_order.specs.Meant.{NextIsMeant, meant}
+use Rattle.session_order.specs.Serial.{Played, call_now, calls, entry_at, nothing_played, turn}
+use Rattle.session_run.specs.Playing.{IsAt, PlayerView, StandsAfter}
+use Rattle.session_text.specs.Programs.{Call, next}
+use Rattle.session_text.specs.Walks.{Place, Stands}
+use Rattle.session_text.specs.declared.program.Program.{Program}
+use Rattle.vt_events.specs.Charge.{charge_of}
+use Rattle.vt_events.specs.Plain.{plain_entry, plain_event}
+use Rattle.vt_events.specs.declared.entry.Entry.{Entry}
+use Rattle.vt_events.specs.declared.event.Event.{Event}
+use Rattle.vt_events.specs.declared.event.Event.TheVariants as event
+use Rattle.vt_journal.specs.Log.{HasRoom, charge_of_all}
+use Rattle.vt_journal.specs.declared.full.Full.{Full}
+use Rattle.vt_journal.specs.declared.limits.Limits.{Limits}
+use Rattle.vt_procs.specs.Callers.{caller_at}
+use Rattle.vt_procs.specs.Tickets.{is_open}
+use Rattle.vt_world.specs.History.{replay}
+
+-- a walk that stands says which call p can make
+pub now-is : NextIsMeant → (o : Stage) (t : Played) (view : PlayerView) (programs : List Program) (p : ℕ) (program : Program) (walk : Place) (e : Option Event)
+    → ((made : List Call) → Stands program walk made → e ≡ next program made)
+    → o.programs ≡ programs → slice_get programs p ≡ Some program
+    → walk ≡ get_or view.walks p walk → is_open (caller_at view.world.callers p).waiting ≡ false
+    → IsAt o t view → e ≡ call_now o t.history p
+now-is is_meant o t view programs p program walk e calls same here read shut at =
+    let there : slice_get o.programs p ≡ Some program = ap (λ ps. slice_get ps p) same ∙ here in
+    let after : StandsAfter program walk (calls_by p t.history) = at.stand p program walk there read in
+    let waits : is_waiting (replay o.start t.history) p ≡ false =
+    sym (ap (λ w. is_waiting w p) at.replayed) ∙ shut in
+    let next_is : e ≡ next_by o.programs p t.history =
+    calls after.calls after.stands
+    ∙ sym (is_meant program after.calls)
+    ∙ ap (next program) after.meant
+    ∙ ap (λ found. next_of found (calls_by p t.history)) (sym there) in
+    next_is ∙ ap (λ b. if b then None else next_by o.programs p t.history) (sym waits)
+
+-- a waiting caller can make none
+pub none-now : (o : Stage) (t : Played) (view : PlayerView) (p : ℕ)
+    → is_open (caller_at view.world.callers p).waiting ≡ true → IsAt o t view
+    → None ≡ call_now o t.history p
+none-now o t view p open_one at =
+    ap (λ b. if b then None else next_by o.programs p t.history)
+    (sym (sym (ap (λ w. is_waiting w p) at.replayed) ∙ open_one))
+
+-- the entries as they are meant are as many, and count for as much
+pub lengths : (o : Stage) (t : Played) (view : PlayerView) → IsAt o t view
+    → length view.log.entries ≡ length t.history
+lengths o t view at = sym (length-map view.log.entries plain_entry) ∙ ap length at.history
+
+charge_meant : (e : Event) → charge_of (plain_event e) ≡ charge_of e
+charge_meant (event.Write fd b) = refl
+charge_meant (event.SetFunc fd i b) = refl
+charge_meant (event.SetDia fd b) = refl
+charge_meant (event.SetMap fd b) = refl
+charge_meant (event.SetPal fd b) = refl
+charge_meant e = refl
+
+charges : (o : Stage) (t : Played) (view : PlayerView) → IsAt o t view
+    → charge_of_all view.log.entries ≡ charge_of_all t.history
+charges o t view at =
+    sym
+    (fold-map (λ n (x : Entry). n + charge_of x.event) plain_entry 0 view.log.entries
+    ∙ (λ i. sum_by (λ (x : Entry). charge_meant x.event i) view.log.entries))
+    ∙ ap charge_of_all at.history
+
+-- room in the log is room in the play
+room_is : (o : Stage) (t : Played) (view : PlayerView) (charge : ℕ) → IsAt o t view
+    → HasRoom view.log charge → has_room o.limits t.history charge ≡ true
+room_is o t view charge at room =
+    let events : view.log.limits.events ≡ o.limits.events = ap (λ (l : Limits). l.events) at.limits in
+    let bytes : view.log.limits.bytes ≡ o.limits.bytes = ap (λ (l : Limits). l.bytes) at.limits in
+    and_from (nat_lt (length t.history) o.limits.events) (nat_le (charge_of_all t.history + charge) o.limits.bytes)
+    (lt-ltb (length t.history) o.limits.events (omega (arith, room.entries, lengths o t view at, events)))
+    (le-leb (charge_of_all t.history + charge) o.limits.bytes (omega (arith, room.bytes, charges o t view at, bytes)))
+
+room_from : (o : Stage) (t : Played) (view : PlayerView) (charge : ℕ) → IsAt o t view
+    → has_room o.limits t.history charge ≡ true → HasRoom view.log charge
+room_from o t view charge at is =
+    let events : view.log.limits.events ≡ o.limits.events = ap (λ (l : Limits). l.events) at.limits in
+    let bytes : view.log.limits.bytes ≡ o.limits.bytes = ap (λ (l : Limits). l.bytes) at.limits in
+    let parts : (nat_lt (length t.history) o.limits.events ≡ true) × (nat_le (charge_of_all t.history + charge) o.limits.bytes ≡ true) =
+    and_parts (nat_lt (length t.history) o.limits.events) (nat_le (charge_of_all t.history + charge) o.limits.bytes) is in
+    record {
+      entries = omega (arith, ltb-true (length t.history) o.limits.events parts.0, lengths o t view at, events);
+      bytes = omega (arith, leb-true (charge_of_all t.history + charge) o.limits.bytes parts.1, charges o t view at, bytes);
+    }
+
+-- the turn of p, which makes this call
+pub turn-calls : (o : Stage) (t : Played) (p : ℕ) (now : Option Event) → t.stop ≡ None
+    → call_now o t.history p ≡ now → turn o p t ≡ calls o p now t.history
+turn-calls o t p now going is =
+    ap (λ stop. if is_some stop then t else calls o p (call_now o t.history p) t.history) going
+    ∙ ap (λ e. calls o p e t.history) is
+
+-- where nothing is called, nothing changes
+pub turn-skips : (o : Stage) (t : Played) (p : ℕ) (view : PlayerView) → view.stop ≡ None
+    → None ≡ call_now o t.history p → IsAt o t view → IsAt o (turn o p t) view
+turn-skips o t p view going none at =
+    let stop : t.stop ≡ None = sym at.stop ∙ going in
+    let same : t ≡ turn o p t =
+    (λ i. record { history = t.history; stop = stop i }) ∙ sym (turn-calls o t p None stop (sym none)) in
+    subst (λ x. IsAt o x view) same at
+
+pub turn-stopped : (o : Stage) (t : Played) (p : ℕ) (view : PlayerView) → is_some view.stop ≡ true
+    → IsAt o t view → IsAt o (turn o p t) view
+turn-stopped o t p view stopped at =
+    let same : t ≡ turn o p t =
+    ap (λ b. if b then t else calls o p (call_now o t.history p) t.history)
+    (sym (sym (ap is_some at.stop) ∙ stopped)) in
+    subst (λ x. IsAt o x view) same at
+
+-- where there is room, the call is entered
+pub turn-enters : (o : Stage) (t : Played) (p : ℕ) (e : Event) (before view : PlayerView)
+    → HasRoom before.log (charge_of e) → IsAt o t before → t.stop ≡ None
+    → call_now o t.history p ≡ Some e
+    → IsAt o (record { history = t.history ++ entry_at o.start t.history p e ∷ []; stop = None }) view
+    → IsAt o (turn o p t) view
+turn-enters o t p e before view room at going now entered =
+    let enters : Played = record { history = t.history ++ entry_at o.start t.history p e ∷ []; stop = None } in
+    let full : Played = record { history = t.history; stop = Some (full_at t.history (charge_of e)) } in
+    let test : has_room o.limits t.history (charge_of e) ≡ true = room_is o t before (charge_of e) at room in
+    let same : turn o p t ≡ enters =
+    turn-calls o t p (Some e) going now ∙ ap (λ b. if b then enters else full) test in
+    subst (λ x. IsAt o x view) (sym same) entered
+
+-- where there is none, the play stops
+pub turn-fills : (o : Stage) (t : Played) (p : ℕ) (e : Event) (before : PlayerView) (full : Full)
+    → (HasRoom before.log (charge_of e) → ⊥) → IsAt o t before → t.stop ≡ None
+    → call_now o t.history p ≡ Some e
+    → full ≡ full_at before.log.entries (charge_of e)
+    → IsAt o (turn o p t) (record before { stop = Some full })
+turn-fills o t p e before full none at going now is =
+    let enters : Played = record { history = t.history ++ entry_at o.start t.history p e ∷ []; stop = None } in
+    let stops : Played = record { history = t.history; stop = Some (full_at t.history (charge_of e)) } in
+    let test : has_room o.limits t.history (charge_of e) ≡ false =
+    false_from_ne_true (has_room o.limits t.history (charge_of e)) (λ room. none (room_from o t before (charge_of e) at room)) in
+    let same : turn o p t ≡ stops =
+    turn-calls o t p (Some e) going now ∙ ap (λ b. if b then enters else stops) test in
+    let full_is : full ≡ full_at t.history (charge_of e) =
+    is ∙ (λ i. record { events = lengths o t before at i; bytes = charges o t before at i; charge = charge_of e }) in
+    subst (λ x. IsAt o x (record before { stop = Some full })) (sym same)
+    (record {
+      history = at.history;
+      stop = ap Some full_is;
+      limits = at.limits;
+      replayed = at.replayed;
+      walks = at.walks;
+      stand = at.stand;
+      places = at.places;
+      counted = at.counted;
+    })
+
+-- a player before its first call
+pub first-at : (o : Stage) (view : PlayerView) → view.world ≡ o.start → view.log.entries ≡ []
+    → view.log.limits ≡ o.limits → view.counts ≡ replicate 65 0 → view.stop ≡ None
+    → length view.walks ≡ length o.programs
+    → All (λ walk. (p : Program) → Stands p walk []) view.walks → IsAt o nothing_played view
+first-at o view opened empty limits zero going many stand = record {
+  history = ap meant empty;
+  stop = going;
+  limits = limits;
+  replayed = opened;
+  walks = many;
+  stand = λ q program walk is read.
+      let within : q < length view.walks = omega (arith, slice_get_within o.programs q program is, many) in
+      record {
+        calls = [];
+        stands = subst (λ w. Stands program w []) (sym read) (stand q walk within program);
+        meant = refl;
+      };
+  places = ap length zero ∙ length-replicate {A = ℕ} 65 0;
+  counted = λ q within. ap (λ counts. get_or counts q 0) zero ∙ get_or-replicate 65 q 0 0 (omega (arith, within));
+}
