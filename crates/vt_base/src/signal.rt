@@ -1,6 +1,8 @@
 ghost use Rattle.std.specs.Prelude.{◌≡◌, ◌≤◌};
+ghost use Rattle.vt_base.specs.Limits.{signals};
 ghost use Rattle.vt_base.specs.Range.{in_range};
 
+use crate::SIGNALS;
 use std::marker::Model;
 
 /// The number of a signal, from 1 to 64.
@@ -24,9 +26,9 @@ impl Model for Signal {
 impl Signal {
     /// The signal of this number, where there is one.
     pub fn new(n: u16) -> Option<Signal>
-        ensures { result ≡ in_range 1 64 n }
+        ensures { result ≡ in_range 1 signals n }
     {
-        if n < 1 || 64 < n {
+        if n < 1 || SIGNALS < usize::from(n) {
             return None;
         }
         Some(Signal { n: n as u8 })
