@@ -38,6 +38,19 @@ impl CallerNo {
         Some(CallerNo { n: n as u8 })
     }
 
+    /// The caller of a number that is known to be one's.
+    pub fn numbered(n: u16) -> CallerNo
+        requires { n ≤ 64 }
+        ensures { result ≡ n }
+    {
+        CallerNo { n: n as u8 }
+    }
+
+    /// Nothing is done: the range of the number is known from here on.
+    pub fn stays_in_range(self)
+        ensures { self ≤ 64 }
+    {}
+
     /// The number.
     pub fn get(self) -> u16
         ensures same { result ≡ self }

@@ -35,6 +35,21 @@ impl ConsoleNo {
         Some(ConsoleNo { n: n as u8 })
     }
 
+    /// The console of a number that is known to be one's.
+    pub fn numbered(n: u16) -> ConsoleNo
+        requires low { 1 ≤ n }
+        requires high { n ≤ 63 }
+        ensures { result ≡ n }
+    {
+        ConsoleNo { n: n as u8 }
+    }
+
+    /// Nothing is done: the range of the number is known from here on.
+    pub fn stays_in_range(self)
+        ensures low { 1 ≤ self }
+        ensures high { self ≤ 63 }
+    {}
+
     /// The number.
     pub fn get(self) -> u16
         ensures same { result ≡ self }

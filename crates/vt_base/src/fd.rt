@@ -34,6 +34,19 @@ impl Fd {
         Some(Fd { n: n as u8 })
     }
 
+    /// The descriptor of a number that is known to be one's.
+    pub fn numbered(n: u16) -> Fd
+        requires { n ≤ 15 }
+        ensures { result ≡ n }
+    {
+        Fd { n: n as u8 }
+    }
+
+    /// Nothing is done: the range of the number is known from here on.
+    pub fn stays_in_range(self)
+        ensures { self ≤ 15 }
+    {}
+
     /// The number.
     pub fn get(self) -> u16
         ensures same { result ≡ self }

@@ -34,6 +34,21 @@ impl Signal {
         Some(Signal { n: n as u8 })
     }
 
+    /// The signal of a number that is known to be one's.
+    pub fn numbered(n: u16) -> Signal
+        requires low { 1 ≤ n }
+        requires high { n ≤ 64 }
+        ensures { result ≡ n }
+    {
+        Signal { n: n as u8 }
+    }
+
+    /// Nothing is done: the range of the number is known from here on.
+    pub fn stays_in_range(self)
+        ensures low { 1 ≤ self }
+        ensures high { self ≤ 64 }
+    {}
+
     /// The number.
     pub fn get(self) -> u16
         ensures same { result ≡ self }
