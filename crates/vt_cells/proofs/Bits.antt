@@ -3,7 +3,7 @@ use Rattle.std.proofs.Common.{◌≡◌, ℕ, ◌*◌, ◌/◌, ◌%◌, ◌<◌
 use Rattle.std.proofs.lemmas.Bool.{agree_below, agree_below_at, eqb-true, ltb-true}
 use Rattle.std.proofs.lemmas.Nat.{or_shifted, shl_whole}
 use Rattle.std.specs.Int.Bits.{bit_and, bit_or, bit_xor}
-use Rattle.vt_cells.specs.AttrByte.{byte_of, flipped, swapped}
+use Rattle.vt_cells.specs.AttrByte.{byte_of, flipped, swapped, vga}
 
 -- two functions that agree at each byte by computing are equal there
 same_at : (f g : ℕ → ℕ) → agree_below (λ b. eqb (f b) (g b)) (λ _. true) 256 ≡ true → (b : ℕ) → b < 256 → f b ≡ g b
@@ -23,10 +23,7 @@ pub both-bits : (bg fg : ℕ) → bg < 16 → fg < 16 → bit_or (bg * 16 % 256)
 both-bits bg fg h k =
     ap (λ high. bit_or high fg) (shl_whole bg 4 4 8 h (omega arith)) ∙ or_shifted bg 4 fg k ∙ omega arith
 
-pub vga-below : (c : ℕ) → c < 16 → bit_or (bit_or (bit_and c 10) (bit_and c 1 * 4 % 256)) (bit_and c 4 / 4) < 16
-vga-below c h =
-    ltb-true _ _
-    (agree_below_at (λ c. ltb (bit_or (bit_or (bit_and c 10) (bit_and c 1 * 4 % 256)) (bit_and c 4 / 4)) 16)
-    (λ _. true) 16 c refl h)
+pub vga-below : (c : ℕ) → c < 16 → vga c < 16
+vga-below c h = ltb-true _ _ (agree_below_at (λ c. ltb (vga c) 16) (λ _. true) 16 c refl h)
 
 pub ruleset bits = (vga-below, swapped-bits, blink-bit, bright-bit, both-bits)

@@ -63,12 +63,6 @@ impl CharMap {
     }
 }
 
-impl Default for CharMap {
-    fn default() -> CharMap {
-        CharMap::start()
-    }
-}
-
 fn font_place(b: u16) -> u16
     requires { b < 256 }
     ensures { result ≡ font_place b }

@@ -53,12 +53,6 @@ impl Utf8 {
     }
 }
 
-impl Default for Utf8 {
-    fn default() -> Utf8 {
-        Utf8::new()
-    }
-}
-
 // What b makes of the bytes before it, and what is then kept.
 fn step(kept: Kept, b: u8) -> (Got, Kept)
     ensures answer { result.0 ≡ got_of (bytes_of kept) b }

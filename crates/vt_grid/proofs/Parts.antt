@@ -1,7 +1,7 @@
 -- The first cells of a row, of which some are written.
 use Rattle.std.proofs.Common.{◌≡◌, ◌≢◌, ℕ, ◌+◌, ◌-◌, ◌<◌, ◌≤◌, List, [], ◌∷◌, ◌++◌, map, length, take, drop, set, get_or, sym, ap, ◌∙◌, append_assoc, arith, rules, min, replicate}
 use Rattle.std.proofs.lemmas.Bool.{cases_eq}
-use Rattle.std.proofs.lemmas.List.{places, same_lists, get_or-set_same, length-set, length-map, length-take-le, set_at, drop-drop, length-drop, take-take, drop_more, map_more}
+use Rattle.std.proofs.lemmas.List.{places, same_lists, get_or-set_same, length-set, length-map, length-take-le, set_at, drop-drop, length-drop, take-take, take_all, drop_more, map_more}
 use borrow.Rule.Slice.PartMut.{put_mid}
 use Rattle.vt_grid.specs.Grid.{overlaid}
 use Rattle.vt_grid.specs.Line.{inserted_at, written}
@@ -140,3 +140,10 @@ map_onto_more {X = X} {Y = Y} f from onto i x i_in same x_is =
     ∙ set_at front (get_or onto i (f x)) rest (f x) i len
     ∙ sym (append_assoc front (f x ∷ []) rest)
     ∙ ap (λ ys. ys ++ rest) (sym more)
+
+-- all elements are mapped
+pub written_all : {X Y : Type 0} (f : X → Y) (from : List X) (onto : List Y) (i : ℕ)
+    → length from ≡ i → length from ≡ length onto → take i onto ≡ map f (take i from)
+    → onto ≡ map f from
+written_all f from onto i all same is =
+    sym (take_all i onto (omega arith)) ∙ is ∙ ap (map f) (take_all i from (omega arith))

@@ -80,3 +80,16 @@ IsPermutation-part_turned {A = A} top bottom n xs order last =
     (parts-is top bottom xs order last)
     (IsPermutation-between (take top xs) (take (bottom + 1 - top) (drop top xs))
     (drop (bottom + 1) xs) n)
+
+-- a part that is turned by its number is as it was
+pub part_turned-whole : {A : Type 0} (top bottom n : ℕ) (xs : List A) → top ≤ bottom
+    → bottom < length xs → n ≡ bottom + 1 - top → part_turned top bottom n xs ≡ xs
+part_turned-whole top bottom n xs order last whole =
+    same_lists _ _ (search (rules, places)) (λ k d k_in. grind (arith, places))
+
+-- the pieces of a part in turned order
+pub turned-pieces : {A : Type 0} (top n len : ℕ) (xs : List A) → n ≤ len → top + len ≤ length xs
+    → take (len - n) (drop (top + n) xs) ++ take n (drop top xs)
+    ≡ turned n (take len (drop top xs))
+turned-pieces top n len xs n_in within =
+    same_lists _ _ (search (rules, places)) (λ k d k_in. grind (arith, places))

@@ -32,17 +32,21 @@ pub fn put_run<T: Code, L: Ledger>(
     store.put_run(y, x, codes, attr, &mut steps);
 }
 
-/// Moves the rows `top` to `bottom` up by `n` round their end.
+/// Moves the rows `top` to `bottom` up by `n` round their end. Nothing moves where that is their
+/// number.
 pub fn move_up<L: Ledger>(store: &mut RowStore, top: u8, bottom: u8, n: u8, steps: &mut Steps<L>)
     requires order { top ≤ bottom }
     requires row { bottom < store.old.rows }
     requires some { n ≤ bottom + 1 - top }
     ensures rows { store.new ≡ record store.old { lines = part_turned top bottom n store.old.lines } }
     ensures steps { steps.new
-        ≡ steps.old
+        ≤ steps.old
         + (if bottom + 1 - top == store.old.rows then 1 else (bottom + 1 - top)) }
 {
     let rows = store.size().rows;
+    if n > bottom - top {
+        return;
+    }
     if bottom - top == rows - 1 {
         store.turn(n, steps);
     } else {

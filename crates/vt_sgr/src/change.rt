@@ -1,117 +1,92 @@
 //! The changes that one parameter makes to a pen.
 ghost use Rattle.std.specs.Prelude.{◌≡◌, ◌<◌};
-ghost use Rattle.vt_sgr.specs.PenState.{drawn, mapped, plain, with_bg, with_blink, with_bright, with_fg, with_intensity, with_italic, with_reverse, with_underline};
+ghost use Rattle.vt_sgr.specs.PenState.{mapped, plain, with_bg, with_blink, with_bright, with_fg, with_intensity, with_italic, with_reverse, with_underline};
 
 use crate::Pen;
 use vt_cells::{Attr, Intensity};
 
-pub fn drawn(p: Pen, attr: Attr) -> Pen
-    ensures { result ≡ drawn p attr }
+pub fn set_plain(p: &mut Pen)
+    ensures { p.new ≡ plain p.old }
 {
-    Pen { attr, ..p }
+    p.attr = Attr {
+        fg: p.def_fg,
+        bg: p.def_bg,
+        intensity: Intensity::Normal,
+        italic: false,
+        underline: false,
+        blink: false,
+        reverse: false,
+    };
 }
 
-pub fn plain(p: Pen) -> Pen
-    ensures { result ≡ plain p }
-{
-    drawn(
-        p,
-        Attr {
-            fg: p.def_fg,
-            bg: p.def_bg,
-            intensity: Intensity::Normal,
-            italic: false,
-            underline: false,
-            blink: false,
-            reverse: false,
-        },
-    )
-}
-
-pub fn with_fg(p: Pen, fg: u8) -> Pen
+pub fn set_fg(p: &mut Pen, fg: u8)
     requires { fg < 16 }
-    ensures { result ≡ with_fg p fg }
+    ensures { p.new ≡ with_fg p.old fg }
 {
-    drawn(p, Attr { fg, ..p.attr })
+    p.attr.fg = fg;
 }
 
-pub fn with_bg(p: Pen, bg: u8) -> Pen
+pub fn set_bg(p: &mut Pen, bg: u8)
     requires { bg < 8 }
-    ensures { result ≡ with_bg p bg }
+    ensures { p.new ≡ with_bg p.old bg }
 {
-    drawn(p, Attr { bg, ..p.attr })
+    p.attr.bg = bg;
 }
 
-pub fn with_default_fg(p: Pen) -> Pen
-    ensures { result ≡ with_fg p p.def_fg }
+pub fn set_default_fg(p: &mut Pen)
+    ensures { p.new ≡ with_fg p.old p.old.def_fg }
 {
-    let fg = p.def_fg;
-    with_fg(p, fg)
+    p.attr.fg = p.def_fg;
 }
 
-pub fn with_default_bg(p: Pen) -> Pen
-    ensures { result ≡ with_bg p p.def_bg }
+pub fn set_default_bg(p: &mut Pen)
+    ensures { p.new ≡ with_bg p.old p.old.def_bg }
 {
-    let bg = p.def_bg;
-    with_bg(p, bg)
+    p.attr.bg = p.def_bg;
 }
 
-pub fn with_bright(p: Pen, fg: u8, intensity: Intensity) -> Pen
+pub fn set_bright(p: &mut Pen, fg: u8, intensity: Intensity)
     requires { fg < 16 }
-    ensures { result ≡ with_bright p fg intensity }
+    ensures { p.new ≡ with_bright p.old fg intensity }
 {
-    with_intensity(with_fg(p, fg), intensity)
+    p.attr.fg = fg;
+    p.attr.intensity = intensity;
 }
 
-pub fn with_intensity(p: Pen, intensity: Intensity) -> Pen
-    ensures { result ≡ with_intensity p intensity }
+pub fn set_intensity(p: &mut Pen, intensity: Intensity)
+    ensures { p.new ≡ with_intensity p.old intensity }
 {
-    drawn(
-        p,
-        Attr {
-            intensity,
-            ..p.attr
-        },
-    )
+    p.attr.intensity = intensity;
 }
 
-pub fn with_italic(p: Pen, italic: bool) -> Pen
-    ensures { result ≡ with_italic p italic }
+pub fn set_italic(p: &mut Pen, on: bool)
+    ensures { p.new ≡ with_italic p.old on }
 {
-    drawn(p, Attr { italic, ..p.attr })
+    p.attr.italic = on;
 }
 
-pub fn with_underline(p: Pen, underline: bool) -> Pen
-    ensures { result ≡ with_underline p underline }
+pub fn set_underline(p: &mut Pen, on: bool)
+    ensures { p.new ≡ with_underline p.old on }
 {
-    drawn(
-        p,
-        Attr {
-            underline,
-            ..p.attr
-        },
-    )
+    p.attr.underline = on;
 }
 
-pub fn with_blink(p: Pen, blink: bool) -> Pen
-    ensures { result ≡ with_blink p blink }
+pub fn set_blink(p: &mut Pen, on: bool)
+    ensures { p.new ≡ with_blink p.old on }
 {
-    drawn(p, Attr { blink, ..p.attr })
+    p.attr.blink = on;
 }
 
-pub fn with_reverse(p: Pen, reverse: bool) -> Pen
-    ensures { result ≡ with_reverse p reverse }
+pub fn set_reverse(p: &mut Pen, on: bool)
+    ensures { p.new ≡ with_reverse p.old on }
 {
-    drawn(p, Attr { reverse, ..p.attr })
+    p.attr.reverse = on;
 }
 
-pub fn mapped(p: Pen, alt: bool, display: bool, toggle: bool) -> Pen
-    ensures { result ≡ mapped p alt display toggle }
+pub fn set_mapping(p: &mut Pen, alt: bool, display: bool, toggle: bool)
+    ensures { p.new ≡ mapped p.old alt display toggle }
 {
-    Pen {
-        alt,
-        display,
-        toggle,
-        ..p
-    }
+    p.alt = alt;
+    p.display = display;
+    p.toggle = toggle;
 }

@@ -1,13 +1,8 @@
 -- The parameters of a body, read from its front.
-use Rattle.std.proofs.Common.{◌≡◌, ℕ, ◌==◌, ◌≤◌, ◌<◌, ◌+◌, ◌-◌, ◌*◌, min, true, false, cond, List, [], ◌∷◌, ◌++◌, map, length, take, drop, get_or, sym, ap, ◌∙◌, arith, ⊎_elim}
+use Rattle.std.proofs.Common.{◌≡◌, ℕ, ◌==◌, ◌≤◌, ◌<◌, ◌+◌, ◌-◌, ◌*◌, min, true, false, List, [], ◌∷◌, ◌++◌, map, length, take, drop, get_or, sym, ap, ◌∙◌, arith, ⊎_elim}
 use Rattle.std.proofs.lemmas.Bool.{cases_Bool, cases_lt, cond-true, cond-false}
 use Rattle.std.proofs.lemmas.List.{length-take-le, take-append-le, take-take, take_all, take_at, append_assoc, drop_more}
-use Rattle.vt_units.specs.Numbers.{Fields, fields_of, number_of, params_of, shifted, with_digits}
-
--- the numbers of a body, where n was read before it
-abbrev pub continued : ℕ → List ℕ → List ℕ
-continued n [] = n ∷ []
-continued n (b ∷ bs) = cond (b == 0x3B) (n ∷ continued 0 bs) (continued (shifted n b) bs)
+use Rattle.vt_units.specs.Numbers.{Fields, continued, fields_of, number_of, params_of, shifted, with_digits}
 
 abbrev from : ℕ → List ℕ → ℕ
 from n digits = min 65535 (with_digits n digits)

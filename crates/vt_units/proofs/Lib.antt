@@ -1,5 +1,6 @@
 mod Fields
 mod Fronts
+mod Briefs
 mod Numbered
 mod Comes
 mod Readings

@@ -1,5 +1,5 @@
 -- The parameters of a control sequence (console_codes(4), "ECMA-48 CSI sequences").
-use Rattle.std.specs.Prelude.{ℕ, ◌+◌, ◌-◌, ◌*◌, ◌==◌, min, List, [], ◌∷◌, map, take, if◌then◌else◌}
+use Rattle.std.specs.Prelude.{ℕ, ◌+◌, ◌-◌, ◌*◌, ◌==◌, min, cond, List, [], ◌∷◌, map, take, if◌then◌else◌}
 
 -- the texts between the semicolons, of which there is at least one
 pub record Fields : Type 0 where
@@ -31,3 +31,8 @@ params_of body =
 -- a number with one digit more. No public clause names this
 abbrev pub shifted : ℕ → ℕ → ℕ
 shifted n d = min 65535 (n * 10 + (d - 0x30))
+
+-- the numbers of a body, where n was read before it. No public clause names this
+abbrev pub continued : ℕ → List ℕ → List ℕ
+continued n [] = n ∷ []
+continued n (b ∷ bs) = cond (b == 0x3B) (n ∷ continued 0 bs) (continued (shifted n b) bs)

@@ -4,16 +4,18 @@
 mod ahead;
 #[cfg(test)]
 mod ahead_tests;
+mod brief;
+mod brief_ahead;
 mod bytes;
 mod characters;
 mod codes;
-mod command;
 mod ground;
 mod kept;
 mod laws;
 mod left;
 mod mode;
 mod numbers;
+mod osc;
 mod params;
 mod pending;
 mod printable;
@@ -30,6 +32,7 @@ mod then;
 mod unit;
 
 pub use ahead::Ahead;
+pub use brief::Brief;
 pub use codes::{Codes, MOST_CODES};
 pub use laws::{
     any_cut, controls_are_units, drops_exactly, ended_texts, one_result, pieces_act,

@@ -1,28 +1,31 @@
-ghost use Rattle.std.specs.Prelude.{◌≡◌, false, ◌==◌, ◌≤◌, ◌<◌, ◌&&◌, not, true, drop, take, [], ◌∷◌, ◌++◌, length, if◌then◌else◌};
+ghost use Rattle.std.specs.Prelude.{◌≡◌, false, ◌==◌, ◌≤◌, ◌<◌, ◌&&◌, not, true, drop, take, [], ◌∷◌, ◌++◌, length, Some, IfSome, MatchOption, if◌then◌else◌};
 ghost use Rattle.std.specs.List.{prefix_len};
 ghost use Rattle.vt_units.specs.Ahead.{parameters_ahead, rest_ahead, sequence_of, taken_ahead};
 ghost use Rattle.vt_units.specs.Answer.{answer, rest_after, settled, took};
+ghost use Rattle.vt_units.specs.Briefs.{sequence_in};
 ghost use Rattle.vt_units.specs.Bytes.{decodes, interrupts, is_control, is_printable};
 ghost use Rattle.vt_units.specs.Characters.{AreTextsOf, NoneBegins};
 ghost use Rattle.vt_units.specs.Reading.{is_empty};
 ghost use Rattle.vt_units.specs.Rest.{fresh, start_mode};
 ghost use Rattle.vt_units.specs.Stage.{Inside, Leaves, Quiet, Stands, rest_of};
 ghost use Rattle.vt_units.specs.Units.{IsUnfinished};
+ghost use Rattle.vt_units.specs.declared.unit.Unit.TheVariants.{Esc};
 
+use crate::brief_ahead::{brief_ahead, escape_ahead_of};
 use crate::bytes::{decodes, interrupts, is_body, is_control};
 use crate::characters::read_characters;
 use crate::codes::Codes;
-use crate::command::{command, palette};
 use crate::ground::{ground, part};
 use crate::kept::{Kept, SEQUENCE_BYTES};
 use crate::left::Left;
+use crate::osc::{command, palette};
 use crate::printable::printable_prefix;
 use crate::sequence::sequence;
 use crate::sequence_ahead::sequence_ahead;
 use crate::stage::Stage;
 use crate::step::Step;
 use crate::strings::{string, string_end};
-use crate::{Ahead, Mode, Params, Read, Then};
+use crate::{Ahead, Brief, Mode, Params, Read, Then};
 use std::marker::Model;
 use vt_chars::{Decoded, decode};
 
@@ -150,6 +153,42 @@ impl Pending {
             self.restart(mode);
         }
         ahead
+    }
+
+    /// Reads what [`Pending::take_sequence`] reads, where it is a control sequence of one or two
+    /// short parameters, which no `?` begins. Where there is no answer nothing is known: that call
+    /// says what is there.
+    #[inline(always)]
+    pub fn take_brief(&mut self, mode: Mode, b: &[u8]) -> Option<Brief>
+        ensures sequence { IfSome result (λ brief. taken_ahead self.old b.now ≡ Some (sequence_in brief)) }
+        ensures within { IfSome result (λ brief. brief.count ≤ length b.now) }
+        ensures rest { MatchOption result (self.new ≡ self.old) (λ _. self.new ≡ fresh mode) }
+    {
+        let begins = self.is_empty();
+        if !begins {
+            return None;
+        }
+        let brief = brief_ahead(b)?;
+        self.restart(mode);
+        Some(brief)
+    }
+
+    /// Reads what [`Pending::take_sequence`] reads, where it is an escape sequence of two bytes, and
+    /// gives its last byte. Where there is no answer nothing is known.
+    #[inline(always)]
+    pub fn take_escape(&mut self, mode: Mode, b: &[u8]) -> Option<u8>
+        ensures sequence { IfSome result (λ last. taken_ahead self.old b.now
+            ≡ Some (record { unit = Esc 0 last; count = 2 })) }
+        ensures within { IfSome result (λ _. 2 ≤ length b.now) }
+        ensures rest { MatchOption result (self.new ≡ self.old) (λ _. self.new ≡ fresh mode) }
+    {
+        let starts = self.is_empty();
+        if !starts {
+            return None;
+        }
+        let last = escape_ahead_of(b)?;
+        self.restart(mode);
+        Some(last)
     }
 
     /// Takes a control character where no text is pending, and tells whether the byte was one. It

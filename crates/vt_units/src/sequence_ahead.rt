@@ -103,13 +103,13 @@ fn numbers_ahead(private: bool, before: usize, text: &[u8], params: &mut Params)
     }
 }
 
-fn ends_control(b: u8) -> bool
+pub(crate) fn ends_control(b: u8) -> bool
     ensures { result ≡ ends_control b }
 {
     is_within(0x40, 0x7E, b) && b != b'['
 }
 
-fn ends_escape(b: u8) -> bool
+pub(crate) fn ends_escape(b: u8) -> bool
     ensures { result ≡ ends_escape b }
 {
     is_within(0x30, 0x7E, b) && !(opens_string(b) || b == b'[' || b == b']')

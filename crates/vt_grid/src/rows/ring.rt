@@ -56,6 +56,7 @@ impl Ring {
     }
 
     /// Moves the numbers `top` to `bottom` up by `n` round their end, with a step for each.
+    #[inline(never)]
     pub fn rotate<L: Ledger>(&mut self, top: u8, bottom: u8, n: u8, steps: &mut Steps<L>)
         requires order { top ≤ bottom }
         requires last { bottom < length self.old }
@@ -65,8 +66,7 @@ impl Ring {
     {
         let height = usize::from(bottom - top) + 1;
         let mut part = [0; 255];
-        read_part(&self.numbers, self.head, top, &mut part[..height]);
-        part[..height].rotate_left(usize::from(n));
+        read_turned(&self.numbers, self.head, top, n, &mut part[..height]);
         write_part(&mut self.numbers, self.head, top, &part[..height], steps);
     }
 }
@@ -91,6 +91,20 @@ fn read_part(numbers: &[u8], head: u8, top: u8, part: &mut [u8])
     for i in 0..part.len() {
         part[i] = numbers[place_of(head, top + i as u8, numbers.len())];
     }
+}
+
+// Reads numbers from the one at `top` on, those from `n` on before the first `n`.
+fn read_turned(numbers: &[u8], head: u8, top: u8, n: u8, part: &mut [u8])
+    requires head { head < length numbers.now }
+    requires within { top + length part.old ≤ length numbers.now }
+    requires short { length numbers.now ≤ 255 }
+    requires some { n ≤ length part.old }
+    ensures { part.new ≡ turned n (take (length part.old) (drop top (turned head numbers.now))) }
+{
+    let left = part.len() - usize::from(n);
+    let (front, back) = part.split_at_mut(left);
+    read_part(numbers, head, top + n, front);
+    read_part(numbers, head, top, back);
 }
 
 fn write_part<L: Ledger>(numbers: &mut [u8], head: u8, top: u8, part: &[u8], steps: &mut Steps<L>)

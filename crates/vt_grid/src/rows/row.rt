@@ -8,6 +8,9 @@ use std::marker::Model;
 use vt_base::NoMemory;
 use vt_cells::Cell;
 
+/// The most cells that are written without a loop.
+const SHORT_RUN: usize = 8;
+
 /// One row: room for its cells, of which the first `len` are stored.
 #[derive(Debug, Drop)]
 pub struct Row {
@@ -104,7 +107,7 @@ impl Row {
         let stored = usize::from(self.len);
         let from = usize::from(x);
         let end = from + codes.len();
-        write_all(&mut self.cells[from..end], codes, attr);
+        write_codes(&mut self.cells[from..end], codes, attr);
         if stored < end {
             self.len = end as u8;
         }
@@ -177,6 +180,77 @@ fn move_right(cells: &mut [Kept], count: usize, c: Kept)
     cells[..count].fill(c);
 }
 
+#[inline(always)]
+fn write_codes<T: Code>(cells: &mut [Kept], codes: &[T], attr: u8)
+    requires { length codes.now ≡ length cells.old }
+    ensures { cells.new ≡ map (λ c. record { code = T.code_of c; attr = attr }) codes.now }
+{
+    if codes.len() <= SHORT_RUN {
+        write_short(cells, codes, attr);
+    } else {
+        write_all(cells, codes, attr);
+    }
+}
+
+// Writes at most eight cells: without a loop, which costs more to enter than these cost.
+#[tactic(auto, using(crate::proofs::Parts::written_all))]
+fn write_short<T: Code>(cells: &mut [Kept], codes: &[T], attr: u8)
+    requires same { length codes.now ≡ length cells.old }
+    requires short { length codes.now ≤ 8 }
+    ensures { cells.new ≡ map (λ c. record { code = T.code_of c; attr = attr }) codes.now }
+{
+    if codes.len() == 0 {
+        return;
+    }
+    write_at(cells, codes, 0, attr);
+    if codes.len() == 1 {
+        return;
+    }
+    write_at(cells, codes, 1, attr);
+    if codes.len() == 2 {
+        return;
+    }
+    write_at(cells, codes, 2, attr);
+    if codes.len() == 3 {
+        return;
+    }
+    write_at(cells, codes, 3, attr);
+    if codes.len() == 4 {
+        return;
+    }
+    write_at(cells, codes, 4, attr);
+    if codes.len() == 5 {
+        return;
+    }
+    write_at(cells, codes, 5, attr);
+    if codes.len() == 6 {
+        return;
+    }
+    write_at(cells, codes, 6, attr);
+    if codes.len() == 7 {
+        return;
+    }
+    write_at(cells, codes, 7, attr);
+}
+
+// Writes the cell at place `i`, before which all are written.
+#[inline(always)]
+fn write_at<T: Code>(cells: &mut [Kept], codes: &[T], i: usize, attr: u8)
+    requires place { i < length codes.now }
+    requires same { length codes.now ≡ length cells.old }
+    requires before { take i cells.old
+        ≡ map (λ c. record { code = T.code_of c; attr = attr }) (take i codes.now) }
+    ensures same { length cells.new ≡ length cells.old }
+    ensures cells { take (i + 1) cells.new
+        ≡ map (λ c. record { code = T.code_of c; attr = attr }) (take (i + 1) codes.now) }
+{
+    cells[i] = Kept::new(Cell {
+        code: codes[i].code(),
+        attr,
+    });
+}
+
+#[inline(never)]
 fn write_all<T: Code>(cells: &mut [Kept], codes: &[T], attr: u8)
     requires { length codes.now ≡ length cells.old }
     ensures { cells.new ≡ map (λ c. record { code = T.code_of c; attr = attr }) codes.now }

@@ -14,6 +14,6 @@ loop-at-preserved c =
       within = omega (arith, c.taken_by.ensures.within, ap length all, length-drop (c.loop-at.at + 1) params);
       rest =
           form_more params c.loop-at.at c.taken_by.result (get_or params c.loop-at.at 0) rest c.loop-at.p
-          c.with_form-in-loop-at.result _ c.loop-at-test.true refl all c.with_form-in-loop-at.ensures
+          c.set_form-in-loop-at.new.p _ c.loop-at-test.true refl all c.set_form-in-loop-at.ensures
           c.taken_by.ensures.count c.loop-at.invariant.rest;
     }

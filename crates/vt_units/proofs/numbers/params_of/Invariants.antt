@@ -1,6 +1,5 @@
 use Rattle.std.proofs.Common.{◌≡◌, ◌≤◌, ◌++◌, take, drop}
-use Rattle.vt_units.proofs.Fields.{continued}
-use Rattle.vt_units.specs.Numbers.{params_of}
+use Rattle.vt_units.specs.Numbers.{continued, params_of}
 use Rattle.vt_units.proofs.numbers.params_of.Given as goal
 
 abbrev pub invariant-loop-b : goal.invariant-loop-b

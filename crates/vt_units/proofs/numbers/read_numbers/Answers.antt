@@ -1,9 +1,9 @@
 use Rattle.std.proofs.Common.{◌≡◌, refl, ℕ, ◌==◌, ◌+◌, ◌++◌, ◌∷◌, true, false, List, length, take, drop, get_or, ap, sym, ◌∙◌, arith}
 use Rattle.std.proofs.lemmas.Bool.Decides.{nat_tests}
 use Rattle.std.proofs.lemmas.Bool.{eq-eqb, or_left, or_right}
-use Rattle.vt_units.proofs.Fields.{continued, continued-all, field-ends, field-goes}
+use Rattle.vt_units.proofs.Fields.{continued-all, field-ends, field-goes}
 use Rattle.vt_units.proofs.Numbered.{front-goes}
-use Rattle.vt_units.specs.Numbers.{params_of}
+use Rattle.vt_units.specs.Numbers.{continued, params_of}
 use Rattle.vt_units.specs.Reading.{front}
 use Rattle.vt_units.specs.Sequences.{is_parameter}
 use Rattle.vt_units.proofs.numbers.read_numbers.Goals as goal

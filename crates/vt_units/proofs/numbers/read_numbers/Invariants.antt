@@ -1,6 +1,5 @@
 use Rattle.std.proofs.Common.{◌≡◌, ◌≤◌, ◌+◌, ◌++◌, length, take, drop}
-use Rattle.vt_units.proofs.Fields.{continued}
-use Rattle.vt_units.specs.Numbers.{params_of}
+use Rattle.vt_units.specs.Numbers.{continued, params_of}
 use Rattle.vt_units.specs.Reading.{behind, front}
 use Rattle.vt_units.specs.Sequences.{is_parameter}
 use Rattle.vt_units.proofs.numbers.read_numbers.Given as goal

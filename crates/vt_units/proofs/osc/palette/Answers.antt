@@ -5,7 +5,7 @@ use Rattle.vt_units.specs.Answer.{taken}
 use Rattle.vt_units.specs.Rest.{fresh}
 use Rattle.vt_units.specs.Sequences.{colour_unit}
 use Rattle.vt_units.specs.declared.then.Then as then
-use Rattle.vt_units.proofs.command.palette.Goals as goal
+use Rattle.vt_units.proofs.osc.palette.Goals as goal
 
 pub returns-then-not-is_hex : goal.returns-then-not-is_hex
 returns-then-not-is_hex c =

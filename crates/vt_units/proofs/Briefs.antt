@@ -1,0 +1,117 @@
+-- A control sequence that is read number by number.
+use Rattle.std.proofs.Common.{◌≡◌, ◌≢◌, ℕ, ◌==◌, ◌≤◌, ◌<◌, ◌+◌, true, false, List, [], ◌∷◌, length, take, drop, get_or, Option, Some, refl, sym, ap, ◌∙◌, arith}
+use Rattle.std.proofs.lemmas.Bool.{cond-true, cond-false, eq-eqb, ne_eqb, or_left, or_right}
+use Rattle.std.proofs.lemmas.Bool.Decides.{nat_tests}
+use Rattle.std.proofs.lemmas.List.{drop_more, take_all}
+use Rattle.vt_units.proofs.Fields.{continued-all}
+use Rattle.vt_units.proofs.Numbered.{front-goes, front-stops}
+use Rattle.vt_units.specs.Ahead.{Sequence, ends_control, numbers_ahead, numbers_end, opened_ahead}
+use Rattle.vt_units.specs.Briefs.{Begun, Goes}
+use Rattle.vt_units.specs.Bytes.{is_digit}
+use Rattle.vt_units.specs.Numbers.{continued, params_of, shifted}
+use Rattle.vt_units.specs.Reading.{behind, front}
+use Rattle.vt_units.specs.Sequences.{is_parameter}
+use Rattle.vt_units.specs.declared.unit.Unit.TheVariants.{Csi}
+
+pub goes_none : (text : List ℕ) (n i : ℕ) → Goes text n i n i
+goes_none text n i = record { numbers = refl; count = refl; rest = refl }
+
+-- a digit more
+pub goes_on : (text : List ℕ) (n i m j more : ℕ) → Goes text n i m j → j < length text
+    → is_digit (get_or text j 0) ≡ true → more ≡ shifted m (get_or text j 0) → Goes text n i more (j + 1)
+goes_on text n i m j more before within digit is =
+    let b : ℕ = get_or text j 0 in
+    let left : List ℕ = front is_parameter (drop (j + 1) text) in
+    let one = front-goes is_parameter text j within (or_left _ _ digit) in
+    let other : (b == 0x3B) ≡ false = grind (arith, nat_tests, digit) in
+    record {
+      numbers =
+          before.numbers
+          ∙ ap (continued m) one.0
+          ∙ cond-false _ _ _ other
+          ∙ ap (λ (k : ℕ). continued k left) (sym is);
+      count = omega (arith, before.count, ap (λ (bytes : List ℕ). length bytes) one.0);
+      rest = before.rest ∙ one.1;
+    }
+
+last-stops : (b : ℕ) → ends_control b ≡ true → is_parameter b ≡ false
+last-stops b ends = grind (arith, nat_tests, ends)
+
+-- what is read from place i on, after the number n, up to place j
+pub record Ends (text : List ℕ) (n i : ℕ) (numbers : List ℕ) (j : ℕ) : Type 0 where
+  pub all : continued n (front is_parameter (drop i text)) ≡ numbers
+  pub count : length (front is_parameter (drop i text)) + i ≡ j
+  pub rest : behind is_parameter (drop i text) ≡ drop j text
+
+-- the last number, which ends before place j
+reads-last : (text : List ℕ) (n i m j : ℕ) → Goes text n i m j → j < length text
+    → is_parameter (get_or text j 0) ≡ false → Ends text n i (m ∷ []) j
+reads-last text n i m j goes within stops =
+    let end = front-stops is_parameter text j within stops in
+    record {
+      all = goes.numbers ∙ ap (continued m) end.0;
+      count = omega (arith, goes.count, ap (λ (bytes : List ℕ). length bytes) end.0);
+      rest = goes.rest ∙ end.1;
+    }
+
+-- a number before a semicolon at place j, and those after it
+reads-more : (text : List ℕ) (n i m j : ℕ) (numbers : List ℕ) (e : ℕ) → Goes text n i m j → j < length text
+    → get_or text j 0 ≡ 0x3B → Ends text 0 (j + 1) numbers e → Ends text n i (m ∷ numbers) e
+reads-more text n i m j numbers e goes within parts ends =
+    let is : (get_or text j 0 == 0x3B) ≡ true = eq-eqb _ _ parts in
+    let one = front-goes is_parameter text j within (or_right _ _ is) in
+    record {
+      all =
+          goes.numbers
+          ∙ ap (continued m) one.0
+          ∙ cond-true _ _ _ is
+          ∙ ap (λ (ns : List ℕ). m ∷ ns) ends.all;
+      count = omega (arith, goes.count, ends.count, ap (λ (bytes : List ℕ). length bytes) one.0);
+      rest = goes.rest ∙ one.1 ∙ ends.rest;
+    }
+
+-- behind ESC [
+numbers-is : (rest text numbers : List ℕ) (j : ℕ) → j < length text → ends_control (get_or text j 0) ≡ true
+    → length numbers ≤ 16 → continued 0 (front is_parameter rest) ≡ numbers
+    → length (front is_parameter rest) + 2 ≡ j → behind is_parameter rest ≡ drop j text
+    → numbers_ahead false 2 rest ≡ Some (record { unit = Csi false numbers (get_or text j 0); count = j + 1 })
+numbers-is rest text numbers j within ends few all count left =
+    let kept : List ℕ = front is_parameter rest in
+    let last : ℕ = get_or text j 0 in
+    let params : params_of kept ≡ numbers =
+    sym (continued-all kept) ∙ ap (take 16) all ∙ take_all 16 numbers few in
+    let bytes : 2 + length kept + 1 ≡ j + 1 = omega (arith, count) in
+    ap (numbers_end false 2 kept) (left ∙ drop_more text j 0 within)
+    ∙ cond-true _ _ _ ends
+    ∙ (λ i. Some (record { unit = Csi false (params i) last; count = bytes i }))
+
+brief-is : (text numbers : List ℕ) (j : ℕ) → Begun text → j < length text → ends_control (get_or text j 0) ≡ true
+    → length numbers ≤ 16 → Ends text 0 2 numbers j
+    → opened_ahead text ≡ Some (record { unit = Csi false numbers (get_or text j 0); count = j + 1 })
+brief-is [] numbers j begun within ends few read = absurd (omega (arith, begun.long))
+brief-is (a ∷ []) numbers j begun within ends few read = absurd (omega (arith, begun.long))
+brief-is (a ∷ b ∷ []) numbers j begun within ends few read = absurd (omega (arith, begun.long))
+brief-is (a ∷ b ∷ c ∷ more) numbers j begun within ends few read =
+    cond-true _ _ _ (eq-eqb _ _ begun.escape)
+    ∙ cond-true _ _ _ (eq-eqb _ _ begun.bracket)
+    ∙ cond-false _ _ _ (ne_eqb _ _ begun.plain)
+    ∙ numbers-is (c ∷ more) (a ∷ b ∷ c ∷ more) numbers j within ends few read.all read.count read.rest
+
+-- one number and its end
+pub one_is : (text : List ℕ) (first j : ℕ) → Begun text → Goes text 0 2 first j → j < length text
+    → ends_control (get_or text j 0) ≡ true
+    → opened_ahead text ≡ Some (record { unit = Csi false (first ∷ []) (get_or text j 0); count = j + 1 })
+one_is text first j begun goes within ends =
+    brief-is text (first ∷ []) j begun within ends (omega arith)
+    (reads-last text 0 2 first j goes within (last-stops (get_or text j 0) ends))
+
+-- two numbers and their end
+pub two_is : (text : List ℕ) (first second j e : ℕ) → Begun text → Goes text 0 2 first j
+    → Goes text 0 (j + 1) second e → j < length text → get_or text j 0 ≡ 0x3B → e < length text
+    → ends_control (get_or text e 0) ≡ true
+    → opened_ahead text
+    ≡ Some (record { unit = Csi false (first ∷ second ∷ []) (get_or text e 0); count = e + 1 })
+two_is text first second j e begun goes more within parts end ends =
+    brief-is text (first ∷ second ∷ []) e begun end ends (omega arith)
+    (reads-more text 0 2 first j (second ∷ []) e goes within parts
+    (reads-last text 0 (j + 1) second e more end (last-stops (get_or text e 0) ends)))

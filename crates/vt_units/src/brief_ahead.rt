@@ -1,0 +1,160 @@
+//! A short sequence at the front of a text, read without a list of its parameters.
+ghost use Rattle.std.specs.Prelude.{◌≡◌, ◌≤◌, ◌+◌, ◌*◌, length, slice_index, true, Some, IfSome};
+ghost use Rattle.vt_units.specs.Ahead.{opened_ahead, sequence_ahead};
+ghost use Rattle.vt_units.specs.Briefs.{Begun, Goes, sequence_in};
+ghost use Rattle.vt_units.specs.Bytes.{is_digit};
+ghost use Rattle.vt_units.specs.Numbers.{shifted};
+ghost use Rattle.vt_units.specs.declared.unit.Unit.TheVariants.{Esc};
+
+use crate::Brief;
+use crate::bytes::{is_digit, is_mid};
+use crate::kept::SEQUENCE_BYTES;
+use crate::sequence_ahead::{ends_control, ends_escape};
+
+/// The most bytes of such a sequence: ESC, `[`, two numbers of three digits, `;` and the last byte.
+const BRIEF_BYTES: usize = 10;
+
+/// The control sequence of one or two parameters, each of three digits at most, that the text begins
+/// with, where as many bytes as the longest of them are there. Any other answer is to be had by
+/// [`crate::sequence_ahead`] alone.
+#[inline(always)]
+pub(crate) fn brief_ahead(b: &[u8]) -> Option<Brief>
+    ensures sequence { IfSome result (λ brief. sequence_ahead b.now ≡ Some (sequence_in brief)) }
+    ensures within { IfSome result (λ brief. brief.count ≤ length b.now) }
+{
+    opened_brief(&b[..b.len().min(SEQUENCE_BYTES)])
+}
+
+#[inline(always)]
+fn opened_brief(b: &[u8]) -> Option<Brief>
+    requires short { length b.now ≤ 256 }
+    ensures sequence { IfSome result (λ brief. opened_ahead b.now ≡ Some (sequence_in brief)) }
+    ensures within { IfSome result (λ brief. brief.count ≤ length b.now) }
+{
+    if b.len() < BRIEF_BYTES {
+        return None;
+    }
+    if b[0] != 0x1B {
+        return None;
+    }
+    if b[1] != b'[' {
+        return None;
+    }
+    if b[2] == b'?' {
+        return None;
+    }
+    let (first, at) = number_at(b, 2);
+    if b[at] != b';' {
+        return one_number(b, first, at);
+    }
+    let (second, end) = number_at(b, at + 1);
+    two_numbers(b, first, second, at, end)
+}
+
+// The sequence of one parameter, which ends before place `at`.
+#[inline(always)]
+#[tactic(auto, using(crate::proofs::Briefs::one_is))]
+fn one_number(b: &[u8], first: u16, at: usize) -> Option<Brief>
+    requires begins { Begun b.now }
+    requires first { Goes b.now 0 2 first at }
+    requires within { at + 1 ≤ length b.now }
+    requires short { length b.now ≤ 256 }
+    ensures sequence { IfSome result (λ brief. opened_ahead b.now ≡ Some (sequence_in brief)) }
+    ensures within { IfSome result (λ brief. brief.count ≤ length b.now) }
+{
+    if !ends_control(b[at]) {
+        return None;
+    }
+    Some(Brief {
+        first,
+        second: 0,
+        both: false,
+        last: b[at],
+        count: at + 1,
+    })
+}
+
+// The sequence of two parameters, which end before a `;` at place `at` and before place `end`.
+#[inline(always)]
+#[tactic(auto, using(crate::proofs::Briefs::two_is))]
+fn two_numbers(b: &[u8], first: u16, second: u16, at: usize, end: usize) -> Option<Brief>
+    requires begins { Begun b.now }
+    requires first { Goes b.now 0 2 first at }
+    requires second { Goes b.now 0 (at + 1) second end }
+    requires parts { slice_index b.now at ≡ 0x3B }
+    requires order { at + 1 ≤ end }
+    requires within { end + 1 ≤ length b.now }
+    requires short { length b.now ≤ 256 }
+    ensures sequence { IfSome result (λ brief. opened_ahead b.now ≡ Some (sequence_in brief)) }
+    ensures within { IfSome result (λ brief. brief.count ≤ length b.now) }
+{
+    if !ends_control(b[end]) {
+        return None;
+    }
+    Some(Brief {
+        first,
+        second,
+        both: true,
+        last: b[end],
+        count: end + 1,
+    })
+}
+
+// The number of at most three digits at this place, and the place after it.
+#[inline(always)]
+#[tactic(auto, using(crate::proofs::Briefs::goes_none, crate::proofs::Briefs::goes_on))]
+fn number_at(b: &[u8], at: usize) -> (u16, usize)
+    requires within { at + 4 ≤ length b.now }
+    requires short { length b.now ≤ 256 }
+    ensures goes { Goes b.now 0 at result.0 result.1 }
+    ensures low { at ≤ result.1 }
+    ensures high { result.1 ≤ at + 3 }
+{
+    if !is_digit(b[at]) {
+        return (0, at);
+    }
+    let one = with_digit(0, b[at]);
+    if !is_digit(b[at + 1]) {
+        return (one, at + 1);
+    }
+    let two = with_digit(one, b[at + 1]);
+    if !is_digit(b[at + 2]) {
+        return (two, at + 2);
+    }
+    (with_digit(two, b[at + 2]), at + 3)
+}
+
+// The number with one digit more.
+#[inline(always)]
+fn with_digit(number: u16, digit: u8) -> u16
+    requires small { number ≤ 99 }
+    requires digit { is_digit digit ≡ true }
+    ensures number { result ≡ shifted number digit }
+    ensures bound { result ≤ number * 10 + 9 }
+{
+    number * 10 + u16::from(digit - b'0')
+}
+
+/// The last byte of the escape sequence of two bytes that the text begins with.
+#[inline(always)]
+pub(crate) fn escape_ahead_of(b: &[u8]) -> Option<u8>
+    ensures sequence { IfSome result (λ last. sequence_ahead b.now
+        ≡ Some (record { unit = Esc 0 last; count = 2 })) }
+    ensures within { IfSome result (λ _. 2 ≤ length b.now) }
+{
+    match b {
+        [0x1B, last, ..] => {
+            if *last == b'[' {
+                return None;
+            }
+            if is_mid(*last) {
+                return None;
+            }
+            if !ends_escape(*last) {
+                return None;
+            }
+            Some(*last)
+        }
+        _ => None,
+    }
+}
