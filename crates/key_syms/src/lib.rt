@@ -4,6 +4,7 @@
 mod action;
 mod index;
 pub mod kind;
+mod laws;
 mod name;
 mod numeral;
 mod pair;
@@ -14,6 +15,7 @@ mod table;
 mod tests;
 
 pub use action::Action;
+pub use laws::names_are_their_own;
 pub use name::name_of;
 pub use numeral::number;
 pub use pair::Pair;

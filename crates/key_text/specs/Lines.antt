@@ -1,6 +1,7 @@
 -- The lines of a keymap, by their first words (keymaps(5)).
 use Rattle.std.specs.Prelude.{ℕ, zero, suc, ◌+◌, Bool, true, false, ◌==◌, ◌&&◌, cond, not, nat_le, bit_or, Option, Some, None, Result, Ok, Err, List, [], ◌∷◌, length, codes, take, drop, map}
 use Rattle.std.specs.List.{list_any, prefix_len, range_with_len}
+use Rattle.std.specs.Result.{result_err}
 use Rattle.key_syms.specs.Act.{Act}
 use Rattle.key_syms.specs.Numbers.{number_of}
 use Rattle.key_syms.specs.declared.pair.Pair.{Pair}
@@ -14,11 +15,12 @@ use Rattle.key_text.specs.declared.keymaps_line.TableRange.{TableRange}
 use Rattle.key_text.specs.declared.placed.Place.{Place}
 use Rattle.key_text.specs.declared.placed.Placed.{Placed}
 
--- what a row says: nothing, a line, or that a text is to be included, whose quoted name stands here
+-- what a row says: nothing, a line, or that a text is to be included: its name, the place of the
+-- quoted name, and the fault of what follows the name on the row
 pub data Said : Type 0 where
   nothing : Said
   tells : Telling → Said
-  includes : List ℕ → Place → Said
+  includes : List ℕ → Place → Option KeyFault → Said
 
 abbrev pub comma : ℕ
 comma = 0x2C
@@ -199,8 +201,7 @@ alt_is_meta_line items = ended items >>= λ done. Ok (tells alt_is_meta)
 unfoldable pub include_line : Place → List Placed → Result Said KeyFault
 include_line end items = do
   name ← text_at end items
-  done ← ended name.2
-  Ok (includes name.0 name.1)
+  Ok (includes name.0 name.1 (result_err (ended name.2)))
 
 -- `charset "name"`, which has no effect
 unfoldable pub charset_line : Place → List Placed → Result Said KeyFault

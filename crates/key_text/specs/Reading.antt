@@ -1,5 +1,6 @@
 -- The lines of a keymap: those of its rows in order, with the texts that it includes (keymaps(5)).
 use Rattle.std.specs.Prelude.{ℕ, zero, suc, ◌+◌, cond, nat_le, Option, Some, None, unwrap_or, Result, Ok, Err, List, [], ◌∷◌, ◌++◌}
+use Rattle.std.specs.Option.{option_map}
 use Rattle.key_text.specs.Fault.{fault, ◌>>=◌}
 use Rattle.key_text.specs.Included.{Named, text_named}
 use Rattle.key_text.specs.Lines.{Said, nothing, tells, includes, said_from}
@@ -25,20 +26,24 @@ abbrev pub start : Place
 start = record { line = 1; column = 1 }
 
 -- a fault in an included text is at the outermost include line
+abbrev pub blamed_fault : Option Place → KeyFault → KeyFault
+blamed_fault outer f =
+    fault f.kind (unwrap_or outer (record { line = f.line; column = f.column }))
+
 abbrev pub blamed : {A : Type 0} → Option Place → Result A KeyFault → Result A KeyFault
 blamed outer (Ok x) = Ok x
-blamed outer (Err f) =
-    Err (fault f.kind (unwrap_or outer (record { line = f.line; column = f.column })))
+blamed outer (Err f) = Err (blamed_fault outer f)
 
--- the text of an include line, read by `deeper`; the place is that of the quoted name
+-- the text of an include line, read by `deeper`, where it is given; the place is that of the quoted
+-- name
 abbrev pub included : (List ℕ → Result Got KeyFault) → Place → Option (List ℕ) → Result Got KeyFault
 included deeper quoted None = Err (fault NOT_GIVEN quoted)
 included deeper quoted (Some text) = deeper text
 
--- how a text is read at a place: where the quoted name stands, where the include line starts, and
--- how many texts were included before
+-- how a text is read at a place: where the quoted name stands, where the include line starts, the
+-- fault of what follows the name, and how many texts were included before
 abbrev pub Deeper : Type 0
-Deeper = Place → Place → ℕ → List ℕ → Result Got KeyFault
+Deeper = Place → Place → Option KeyFault → ℕ → List ℕ → Result Got KeyFault
 
 -- what a row gives that starts at this place
 abbrev pub given : Deeper → List Named → Option Place → Place → ℕ → Said → Result Got KeyFault
@@ -46,9 +51,10 @@ given deeper texts outer first count nothing = Ok (got [] count)
 given deeper texts outer first count (tells telling) =
     let at = unwrap_or outer first in
     Ok (got (told telling at.line at.column ∷ []) count)
-given deeper texts outer first count (includes name quoted) =
+given deeper texts outer first count (includes name quoted bad_end) =
     let at = unwrap_or outer quoted in
-    included (deeper at (unwrap_or outer first) count) at (text_named name texts)
+    included (deeper at (unwrap_or outer first) (option_map (blamed_fault outer) bad_end) count) at
+    (text_named name texts)
 
 -- what a row gives by its first word; without one it gives nothing
 abbrev pub read_row_by : Deeper → List Named → Option Place → ℕ → Place → Option (List Placed × List Placed) → Result Got KeyFault
@@ -75,12 +81,18 @@ read_rows deeper texts outer count (row ∷ rows) =
 abbrev pub most_includes : ℕ
 most_includes = 1000
 
--- an included text, where texts may be included this deep
+-- what is read where the include line ends well
+abbrev pub unless : Option KeyFault → Result Got KeyFault → Result Got KeyFault
+unless None read = read
+unless (Some f) read = Err f
+
+-- an included text, where texts may be included this deep: the name is judged first, then the rest
+-- of its line, and then the text is read
 abbrev pub within : ℕ → List Named → Deeper
-within zero texts quoted first count text = Err (fault TOO_DEEP first)
-within (suc n) texts quoted first count text =
+within zero texts quoted first bad_end count text = Err (fault TOO_DEEP first)
+within (suc n) texts quoted first bad_end count text =
     cond (nat_le most_includes count) (Err (fault TOO_MANY_INCLUDES quoted))
-    (read_rows (within n texts) texts (Some first) (count + 1) (rows_of start text))
+    (unless bad_end (read_rows (within n texts) texts (Some first) (count + 1) (rows_of start text)))
 
 -- how deep texts may be included
 abbrev pub most_deep : ℕ

@@ -9,10 +9,10 @@ use Rattle.key_text.specs.declared.saying.Saying.TheVariants as sayings
 abbrev pub said : Saying → Said
 said sayings.Nothing = nothing
 said (sayings.Tells kind) = tells (telling_of kind)
-said (sayings.Includes name at) = includes name.items at
+said (sayings.Includes name at bad_end) = includes name.items at bad_end
 
 -- a line that is told is fit to be one
 abbrev pub is_fit_said : Said → Bool
 is_fit_said nothing = true
 is_fit_said (tells telling) = is_fit telling
-is_fit_said (includes name at) = true
+is_fit_said (includes name at bad_end) = true

@@ -1,9 +1,11 @@
 ghost use Rattle.std.specs.Prelude.{◌≡◌, IfOk, IsTrue};
+ghost use Rattle.std.specs.Result.{result_err};
 ghost use Rattle.key_text.specs.Fault.{Gives};
+ghost use Rattle.key_text.specs.Fields.{ended};
 ghost use Rattle.key_text.specs.Lines.{after_charset, alt_is_meta_line, charset_line, compose_line, include_line, is_next, pair_line, string_line, usual_pairs_line, usual_strings_line};
 ghost use Rattle.key_text.specs.Sayings.{is_fit_said, said};
 
-use crate::fault::KeyError;
+use crate::fault::{KeyError, KeyFault};
 use crate::fields::{character_at, ended, function_at, keyword_at, string_at, text_at};
 use crate::line_kind::LineKind;
 use crate::placed::{Place, Placed};
@@ -11,7 +13,7 @@ use crate::saying::Saying;
 use crate::words::{is_word, word_at};
 use key_syms::Pair;
 use std::alloc::{AllocError, Global};
-use vt_base::Bytes;
+use vt_base::{Bytes, NoMemory};
 
 /// `string NAME = "text"`.
 #[tactic(auto, unfolding(crate::specs::Lines::string_line))]
@@ -121,8 +123,19 @@ pub fn include_line(alloc: Global, end: Place, items: &[Placed]) -> Result<Sayin
     ensures fit { IfOk result (λ s. IsTrue (is_fit_said (said s))) }
 {
     let (name, at, rest) = text_at(alloc, end, items)?;
-    ended(alloc, rest)?;
-    Ok(Saying::Includes(name, at))
+    let bad_end = end_fault(alloc, rest)?;
+    Ok(Saying::Includes(name, at, bad_end))
+}
+
+// The fault of a row that doesn't end.
+fn end_fault(alloc: Global, items: &[Placed]) -> Result<Option<KeyFault>, NoMemory>
+    ensures { IfOk result (λ fault. fault ≡ result_err (ended items.now)) }
+{
+    match ended(alloc, items) {
+        Ok(()) => Ok(None),
+        Err(KeyError::Fault(fault)) => Ok(Some(fault)),
+        Err(KeyError::NoMemory) => Err(NoMemory),
+    }
 }
 
 /// `charset "name"`, which has no effect.

@@ -1,13 +1,14 @@
-ghost use Rattle.std.specs.Prelude.{Result};
+ghost use Rattle.std.specs.Prelude.{◌≡◌, Result};
+ghost use Rattle.std.specs.Option.{option_map};
 ghost use Rattle.key_text.specs.Included.{text_named};
 ghost use Rattle.key_text.specs.Adds.{Adds};
 ghost use Rattle.key_text.specs.Fault.{Fails};
-ghost use Rattle.key_text.specs.Reading.{blamed, included, read_row, read_rows, start, within};
+ghost use Rattle.key_text.specs.Reading.{blamed, blamed_fault, included, read_row, read_rows, start, within};
 ghost use Rattle.key_text.specs.Lines.{Said};
 ghost use Rattle.key_text.specs.Rows.{rows_of};
 ghost use Rattle.key_text.specs.declared.fault.KeyFault.{KeyFault};
 
-use crate::fault::KeyError;
+use crate::fault::{KeyError, KeyFault};
 use crate::fault_kind::{NOT_GIVEN, TOO_DEEP, TOO_MANY_INCLUDES};
 use crate::includes::Includes;
 use crate::line::Line;
@@ -28,13 +29,14 @@ pub struct Depth {
     pub outer: Option<Place>,
 }
 
-/// An include line: how deep texts may still be included, where the outermost include line starts,
-/// and where a fault of the quoted name is told.
-#[derive(Clone, Copy, Debug)]
+// An include line: how deep texts may still be included, where the outermost include line starts,
+// where a fault of the quoted name is told, and the fault of what follows the name.
+#[derive(Clone, Copy)]
 struct IncludeAt {
     left: u8,
     first: Place,
     quoted: Place,
+    bad_end: Option<KeyFault>,
 }
 
 /// Reads a text, of which `count` texts were included before, and adds its lines. The answer is how
@@ -108,11 +110,12 @@ fn read_row(
             })?;
             Ok(count)
         }
-        Saying::Includes(name, quoted) => {
+        Saying::Includes(name, quoted, bad_end) => {
             let at = IncludeAt {
                 left: depth.left,
                 first,
                 quoted: depth.outer.unwrap_or(quoted),
+                bad_end: blamed_end(depth.outer, bad_end),
             };
             include(alloc, texts, at, count, name.as_slice(), out)
         }
@@ -130,7 +133,7 @@ fn include(
     out: &mut Vec<Line>,
 ) -> Result<u16, KeyError>
     ensures { Adds out.old.items out.new.items result
-        (included (within at.left texts.now at.quoted at.first count) at.quoted
+        (included (within at.left texts.now at.quoted at.first at.bad_end count) at.quoted
         (text_named name.now texts.now)) }
 {
     let text = match texts.text_named(name) {
@@ -143,6 +146,9 @@ fn include(
     if count >= MOST_INCLUDES {
         return Err(fault(TOO_MANY_INCLUDES, at.quoted));
     }
+    if let Some(bad_end) = at.bad_end {
+        return Err(KeyError::Fault(bad_end));
+    }
     let depth = Depth {
         left: at.left - 1,
         outer: Some(at.first),
@@ -150,18 +156,36 @@ fn include(
     read_text(alloc, texts, depth, count + 1, text, out)
 }
 
-/// A fault in an included text, at the outermost include line.
+// A fault in an included text, at the outermost include line.
 fn blamed(outer: Option<Place>, error: KeyError) -> KeyError
     ensures { (read : Result Said KeyFault) → Fails error read → Fails result (blamed outer read) }
 {
     match error {
-        KeyError::Fault(f) => {
-            let at = Place {
-                line: f.line,
-                column: f.column,
-            };
-            fault(f.kind, outer.unwrap_or(at))
-        }
+        KeyError::Fault(fault) => KeyError::Fault(blamed_fault(outer, fault)),
         KeyError::NoMemory => KeyError::NoMemory,
+    }
+}
+
+fn blamed_end(outer: Option<Place>, bad_end: Option<KeyFault>) -> Option<KeyFault>
+    ensures { result ≡ option_map (blamed_fault outer) bad_end }
+{
+    match bad_end {
+        Some(fault) => Some(blamed_fault(outer, fault)),
+        None => None,
+    }
+}
+
+fn blamed_fault(outer: Option<Place>, fault: KeyFault) -> KeyFault
+    ensures { result ≡ blamed_fault outer fault }
+{
+    let here = Place {
+        line: fault.line,
+        column: fault.column,
+    };
+    let at = outer.unwrap_or(here);
+    KeyFault {
+        kind: fault.kind,
+        line: at.line,
+        column: at.column,
     }
 }

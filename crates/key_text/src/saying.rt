@@ -1,3 +1,4 @@
+use crate::fault::KeyFault;
 use crate::line_kind::LineKind;
 use crate::placed::Place;
 
@@ -8,6 +9,7 @@ pub enum Saying {
     Nothing,
     /// A line.
     Tells(LineKind),
-    /// That a text is to be included: its name, and the place of the quoted name.
-    Includes(Vec<u8>, Place),
+    /// That a text is to be included: its name, the place of the quoted name, and the fault of what
+    /// follows the name.
+    Includes(Vec<u8>, Place, Option<KeyFault>),
 }

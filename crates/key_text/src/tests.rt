@@ -68,6 +68,11 @@ fn first_fault_has_its_place(rt: HostRuntime) -> Result<(), Fail> {
         row(b"include \"no\" # text", 7, 1, 9),
         row(b"\n  include \"again\"", 8, 2, 3),
         row(b"include \"again\" x", 9, 1, 17),
+        row(b"include \"no\" x", 7, 1, 9),
+        row(b"include \"bad\" x", 9, 1, 15),
+        row(b"include 'no' x", 6, 1, 9),
+        row(b"include \"no\" x \xFF", 7, 1, 9),
+        row(b"include \"bad\" \xFF", 6, 1, 15),
         row(b"include \\\n  \"bad\"", 2, 1, 1),
         row(b"alt_is_meta x", 9, 1, 13),
         row(b"string F1 = \"\xC3\xA9\" x", 9, 1, 18),
@@ -82,6 +87,8 @@ fn first_fault_has_its_place(rt: HostRuntime) -> Result<(), Fail> {
     check(&rt, alloc, &includes, long.as_slice(), (11, 1, 13));
     let many = text_of(alloc, b"", b"include \"none\"\n", 1001, b"")?;
     check(&rt, alloc, &includes, many.as_slice(), (12, 1001, 9));
+    let left = text_of(alloc, b"", b"include \"none\"\n", 1000, b"include \"none\" x")?;
+    check(&rt, alloc, &includes, left.as_slice(), (12, 1001, 9));
     Ok(())
 }
 
