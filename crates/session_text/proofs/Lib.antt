@@ -12,4 +12,5 @@ pub mod OneSession
 pub mod Saying
 pub mod TopReading
 pub mod Turning
+pub mod Waits
 pub mod Walks

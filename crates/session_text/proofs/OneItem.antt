@@ -6,11 +6,7 @@ use Rattle.vt_events.specs.Plain.{text as bytes_of}
 use Rattle.vt_events.specs.declared.event.Event.{Event}
 use Rattle.vt_events.specs.declared.event.Event.TheVariants as event
 use Rattle.vt_journal.specs.Calls.{name_of}
-use Rattle.vt_journal.specs.Kinds.{blank}
-use Rattle.vt_journal.specs.Words.{Spells, spelled}
-use Rattle.vt_journal.specs.declared.kind.Kind.{Kind}
-use Rattle.vt_journal.specs.declared.kind.Kind.TheVariants as kind
-use Rattle.vt_journal.proofs.Spellings.{cut_kind, spelled_once}
+use Rattle.vt_journal.specs.Words.{CallsAreCut, OneCall, Spells, spelled}
 use Rattle.session_text.specs.ItemTexts.{IsItem, IsSay, item_says}
 use Rattle.session_text.proofs.OneResult.{IsOne}
 
@@ -18,17 +14,17 @@ abbrev is_say : List ℕ → Bool
 is_say name = pointwise eqb name (codes "say")
 
 -- no call is named so
-other_name : (k : Kind) → is_say (name_of (blank k)) ≡ false
-other_name kind.Scan = refl
-other_name k = refl
+other_name : (e : Event) → is_say (name_of e) ≡ false
+other_name (event.Scan b) = refl
+other_name e = refl
 
 -- a say spells no call
-say_spells : (text : List ℕ) (d e : Event) → Spells text d → IsSay text e → ⊥
-say_spells text d e call say =
-    let (k, rest, is) = cut_kind text d call in
+say_spells : CallsAreCut → (text : List ℕ) (d e : Event) → Spells text d → IsSay text e → ⊥
+say_spells cut text d e call say =
+    let is = cut text d call in
     let are = say.say.are in
-    let name : name_of (blank k) ≡ codes "say" = cc in
-    true≢false (sym (ap is_say name) ∙ other_name k)
+    let name : name_of d ≡ codes "say" = cc in
+    true≢false (sym (ap is_say name) ∙ other_name d)
 
 -- a say is one write
 one_say : (text : List ℕ) (d e : Event) → IsSay text d → IsSay text e → d ≡ e
@@ -42,21 +38,21 @@ one_say text d e this other =
     let words : this.say.first ∷ this.say.more ≡ other.say.first ∷ other.say.more = cc in
     this.write ∙ (λ i. event.Write (fds i) (bytes_of (spelled (words i)))) ∙ sym other.write
 
-one_item : (text : List ℕ) (d e : Event) → IsItem text d → IsItem text e → d ≡ e
-one_item text d e this other =
+one_item : OneCall → CallsAreCut → (text : List ℕ) (d e : Event) → IsItem text d → IsItem text e → d ≡ e
+one_item one cut text d e this other =
     elim this [
       | inl call ↦ elim other [
-        | inl again ↦ spelled_once text d e call.0 again.0
-        | inr say ↦ absurd (say_spells text d e call.0 say)
+        | inl again ↦ one text d e call.0 again.0
+        | inr say ↦ absurd (say_spells cut text d e call.0 say)
       ]
       | inr say ↦ elim other [
-        | inl call ↦ absurd (say_spells text e d call.0 say)
+        | inl call ↦ absurd (say_spells cut text e d call.0 say)
         | inr again ↦ one_say text d e say again
       ]
     ]
 
-pub item-one : (p n : ℕ) (text : List ℕ) → IsOne (item_says p n text)
-item-one p n text (Ok d) (Ok e) this other = ap Ok (one_item text d e this other)
-item-one p n text (Ok d) (Err f) this other = absurd (other.0 d this)
-item-one p n text (Err f) (Ok e) this other = absurd (this.0 e other)
-item-one p n text (Err e) (Err f) this other = ap Err (this.1 ∙ sym other.1)
+pub item-one : OneCall → CallsAreCut → (p n : ℕ) (text : List ℕ) → IsOne (item_says p n text)
+item-one one cut p n text (Ok d) (Ok e) this other = ap Ok (one_item one cut text d e this other)
+item-one one cut p n text (Ok d) (Err f) this other = absurd (other.0 d this)
+item-one one cut p n text (Err f) (Ok e) this other = absurd (this.0 e other)
+item-one one cut p n text (Err e) (Err f) this other = ap Err (this.1 ∙ sym other.1)

@@ -9,7 +9,8 @@ use Rattle.vt_events.specs.declared.reply.Reply.{Reply}
 use Rattle.sig_hooks.specs.declared.act.Act.{Act}
 use Rattle.vt_events.specs.Plain.{plain_event}
 use Rattle.session_text.specs.Items.{Listed}
-use Rattle.session_text.specs.Programs.{Call, all_calls, call, calls, calls_from, ends, is_gone, is_wait, next, nothing, scans, script, takes}
+use Rattle.session_text.specs.Programs.{Call, all_calls, call, calls, calls_from, ends, is_gone, next, nothing, scans, script, takes}
+use Rattle.vt_events.specs.Waits.{is_wait}
 use Rattle.session_text.specs.Walks.{Moves, Place, Stands, ahead, left}
 use Rattle.session_text.proofs.Acts.{calls_from-end}
 use Rattle.session_text.specs.declared.program.Program.{Program}

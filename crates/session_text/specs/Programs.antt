@@ -1,6 +1,6 @@
 -- Programs: the next call of a caller, by the calls that it made and their answers. This project's
 -- own.
-use Rattle.std.specs.Prelude.{◌≡◌, ℕ, ◌-◌, Bool, true, false, not, ◌&&◌, ◌||◌, Option, Some, None, List, [], ◌∷◌, filter_map, if◌then◌else◌}
+use Rattle.std.specs.Prelude.{◌≡◌, ℕ, ◌-◌, Bool, true, false, not, ◌&&◌, ◌||◌, Option, Some, None, List, [], ◌∷◌, ◌++◌, filter_map, if◌then◌else◌}
 use Rattle.std.specs.List.{range_with_len}
 use Rattle.sig_hooks.specs.Hooks.{act_of}
 use Rattle.sig_hooks.specs.declared.act.Act.{Act}
@@ -9,6 +9,7 @@ use Rattle.vt_base.specs.Signals.{has_signal}
 use Rattle.vt_base.specs.declared.errno.Errno.{Errno}
 use Rattle.vt_base.specs.declared.errno.Errno.TheVariants as errno
 use Rattle.vt_events.specs.Plain.{plain_event, text}
+use Rattle.vt_events.specs.Waits.{is_wait}
 use Rattle.vt_events.specs.declared.event.Event.{Event}
 use Rattle.vt_events.specs.declared.event.Event.TheVariants as event
 use Rattle.vt_events.specs.declared.reply.Reply.{Reply}
@@ -31,10 +32,6 @@ is_exit e = false
 abbrev pub is_kill : Event → Bool
 is_kill (event.Kill p s) = true
 is_kill e = false
-
-abbrev pub is_wait : Reply → Bool
-is_wait reply.Wait = true
-is_wait r = false
 
 abbrev pub is_srch : Errno → Bool
 is_srch errno.Srch = true
@@ -113,3 +110,9 @@ next (program.Script items table) = script table items.events
 -- a program that was walked so has no next call
 abbrev pub IsOver : Program → List Call → Type 0
 IsOver p made = next p made ≡ None
+
+-- behind a call that was answered wait, a program has waitend, or nothing
+abbrev pub WaitsAreEnded : Type 0
+WaitsAreEnded =
+    (p : Program) (made : List Call) (c : Call) (e : Event) → is_wait c.reply ≡ true
+    → next p (made ++ c ∷ []) ≡ Some e → e ≡ event.WaitEnd

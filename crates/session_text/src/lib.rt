@@ -30,7 +30,7 @@ mod turns;
 mod walk;
 
 pub use items::Items;
-pub use laws::one_session;
+pub use laws::{one_session, waits_are_ended};
 pub use program::Program;
 pub use reading::read;
 pub use session::Session;

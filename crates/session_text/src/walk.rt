@@ -1,7 +1,8 @@
 ghost use Rattle.std.specs.Prelude.{◌≡◌, false, ◌∷◌, ◌++◌, List, [], Some, IfOk, drop};
 ghost use Rattle.sig_hooks.specs.declared.act.Act.{Act};
 ghost use Rattle.vt_events.specs.declared.event.Event.{Event};
-ghost use Rattle.session_text.specs.Programs.{Call, call, calls_from, is_gone, is_wait, next, scans, script, signals_in};
+ghost use Rattle.session_text.specs.Programs.{Call, call, calls_from, is_gone, next, scans, script, signals_in};
+ghost use Rattle.vt_events.specs.Waits.{is_wait};
 ghost use Rattle.session_text.specs.Walks.{HasActs, Moves, Stands, ahead};
 ghost use Rattle.session_text.specs.declared.program.Program.{Program};
 ghost use Rattle.session_text.specs.declared.program.Program.TheVariants as programs;

@@ -20,7 +20,7 @@ use Rattle.vt_journal.proofs.Calls.{IsOfKind, bytes_of, held-if, held_if, holds,
 use Rattle.vt_journal.proofs.Pairs.{hex_injective}
 
 -- the words of the text that spells a call
-cut_parts : (text : List ℕ) (e : Event) → Spells text e
+pub cut_parts : (text : List ℕ) (e : Event) → Spells text e
     → cut text ≡ name_of e ∷ (map decimal (numbers_of e) ++ held_words (held_of e))
 cut_parts text e s =
     let others : List (List ℕ) = map decimal (numbers_of e) ++ held_words (held_of e) in

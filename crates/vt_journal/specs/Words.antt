@@ -8,6 +8,7 @@ use Rattle.vt_events.specs.declared.event.Event.{Event}
 use Rattle.vt_events.specs.declared.reply.Reply.{Reply}
 use Rattle.vt_events.specs.declared.reply.Reply.TheVariants as reply
 use Rattle.vt_journal.specs.Calls.{held_of, name_of, numbers_of}
+use Rattle.vt_journal.specs.Cut.{cut}
 use Rattle.vt_journal.specs.Hex.{hex_text}
 
 -- the word of the bytes that a call holds, where it holds any
@@ -50,3 +51,11 @@ pub record Spells (text : List ℕ) (e : Event) : Type 0 where
   pub fit : IsFit e
   pub plain : plain_event e ≡ e
   pub spelled : spelled (event_words e) ≡ text
+
+-- a text spells one call at most
+abbrev pub OneCall : Type 0
+OneCall = (text : List ℕ) (d e : Event) → Spells text d → Spells text e → d ≡ e
+
+-- cut at its blanks, a text is the words of the call that it spells
+abbrev pub CallsAreCut : Type 0
+CallsAreCut = (text : List ℕ) (e : Event) → Spells text e → cut text ≡ event_words e

@@ -1,5 +1,5 @@
 use Rattle.std.proofs.Common.{sym, ap, ◌∙◌, refl}
-use Rattle.session_text.specs.Programs.{is_wait}
+use Rattle.vt_events.specs.Waits.{is_wait}
 use Rattle.session_text.specs.Walks.{Place}
 use Rattle.session_text.proofs.Walks.{moved_stands, wait_moves}
 use Rattle.session_text.proofs.walk.Walk.took.Goals as goal

@@ -1,7 +1,7 @@
 use Rattle.std.proofs.Common.{◌≡◌, ◌∷◌, ◌+◌, true, drop, get_or, length, sym, ap, ◌∙◌, arith}
 use Rattle.std.proofs.lemmas.List.{drop_more}
 use Rattle.vt_events.specs.declared.event.Event.{Event}
-use Rattle.session_text.specs.Programs.{is_wait}
+use Rattle.vt_events.specs.Waits.{is_wait}
 use Rattle.session_text.specs.Walks.{Place}
 use Rattle.session_text.proofs.Walks.{item_moves}
 use Rattle.session_text.proofs.walk.Walk.took_item.Goals as goal

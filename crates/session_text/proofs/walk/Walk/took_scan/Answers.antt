@@ -1,6 +1,6 @@
 use Rattle.std.proofs.Common.{◌+◌, length, ap, ◌∙◌, arith}
 use Rattle.std.proofs.lemmas.List.{drop_all, drop_more}
-use Rattle.session_text.specs.Programs.{is_wait}
+use Rattle.vt_events.specs.Waits.{is_wait}
 use Rattle.session_text.specs.Walks.{Place}
 use Rattle.session_text.proofs.Walks.{scan_exit_moves, scan_moves}
 use Rattle.session_text.proofs.walk.Walk.took_scan.Goals as goal

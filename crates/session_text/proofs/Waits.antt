@@ -1,0 +1,76 @@
+-- Behind a call that was answered wait, a program has only waitend.
+use Rattle.std.proofs.Common.{◌≡◌, ℕ, Bool, true, false, List, [], ◌∷◌, ◌++◌, Option, Some, None, refl, sym}
+use Rattle.std.proofs.lemmas.Option.{none-some, same_Some}
+use Rattle.std.specs.Prelude.{if◌then◌else◌}
+use Rattle.sig_hooks.specs.declared.act.Act.{Act}
+use Rattle.session_text.specs.Programs.{Call, WaitsAreEnded, all_calls, calls, calls_from, ends, exits, next, nothing, scans, script, signals_in, takes}
+use Rattle.session_text.specs.declared.program.Program.{Program}
+use Rattle.session_text.specs.declared.program.Program.TheVariants as program
+use Rattle.vt_events.specs.Plain.{plain_event}
+use Rattle.vt_events.specs.Waits.{is_wait}
+use Rattle.vt_events.specs.declared.event.Event.{Event}
+use Rattle.vt_events.specs.declared.event.Event.TheVariants as event
+
+-- what these calls have behind one that was answered wait
+abbrev Ended : (List Call → Option Event) → Type 0
+Ended f =
+    (made : List Call) (c : Call) (e : Event) → is_wait c.reply ≡ true
+    → f (made ++ c ∷ []) ≡ Some e → e ≡ event.WaitEnd
+
+-- what follows a call: nothing, its waitend and the rest, or the rest
+abbrev following : Bool → Bool → (List Call → Option Event) → List Call → Option Event
+following over waits behind more =
+    if over then None else (if waits then calls event.WaitEnd behind more else behind more)
+
+calls-ended : (e : Event) (behind : List Call → Option Event) → Ended behind → Ended (calls e behind)
+calls-ended e behind ended [] c next =
+    elim (ends c.event c.reply) as (λ b. is_wait c.reply ≡ true → following b (is_wait c.reply) behind [] ≡ Some next → next ≡ event.WaitEnd) [
+      | true ↦ λ wait is. absurd (none-some next is)
+      | false ↦ elim (is_wait c.reply) as (λ b. b ≡ true → following false b behind [] ≡ Some next → next ≡ event.WaitEnd) [
+        | true ↦ λ wait is. sym (same_Some event.WaitEnd next is)
+        | false ↦ λ wait is. cc
+      ]
+    ]
+calls-ended e behind ended (d ∷ made) c next =
+    elim (ends d.event d.reply) as (λ b. is_wait c.reply ≡ true → following b (is_wait d.reply) behind (made ++ c ∷ []) ≡ Some next → next ≡ event.WaitEnd) [
+      | true ↦ λ wait is. absurd (none-some next is)
+      | false ↦ elim (is_wait d.reply) as (λ b. is_wait c.reply ≡ true → following false b behind (made ++ c ∷ []) ≡ Some next → next ≡ event.WaitEnd) [
+        | true ↦ calls-ended event.WaitEnd behind ended made c next
+        | false ↦ ended made c next
+      ]
+    ]
+
+nothing-ended : Ended nothing
+nothing-ended made c e wait is = absurd (none-some e is)
+
+all-ended : (events : List Event) (behind : List Call → Option Event) → Ended behind
+    → Ended (all_calls events behind)
+all-ended [] behind ended = ended
+all-ended (e ∷ events) behind ended =
+    calls-ended e (all_calls events behind) (all-ended events behind ended)
+
+takes-ended : (table : List Act) (behind : List Call → Option Event) → Ended behind
+    → Ended (takes table behind)
+takes-ended table behind ended [] c =
+    calls-ended event.TakeSignals (all_calls (calls_from table (signals_in c.reply) 1) behind)
+    (all-ended (calls_from table (signals_in c.reply) 1) behind ended) [] c
+takes-ended table behind ended (d ∷ made) c =
+    calls-ended event.TakeSignals (all_calls (calls_from table (signals_in d.reply) 1) behind)
+    (all-ended (calls_from table (signals_in d.reply) 1) behind ended) (d ∷ made) c
+
+exits-ended : Ended exits
+exits-ended = calls-ended event.Exit nothing nothing-ended
+
+script-ended : (table : List Act) (items : List Event) → Ended (script table items)
+script-ended table [] = exits-ended
+script-ended table (item ∷ items) =
+    calls-ended (plain_event item) (takes table (script table items))
+    (takes-ended table (script table items) (script-ended table items))
+
+scans-ended : (bytes : List ℕ) → Ended (scans bytes)
+scans-ended [] = exits-ended
+scans-ended (b ∷ bytes) = calls-ended (event.Scan b) (scans bytes) (scans-ended bytes)
+
+pub waits-are-ended : WaitsAreEnded
+waits-are-ended (program.Keys bytes) = scans-ended bytes.bytes
+waits-are-ended (program.Script items table) = script-ended table items.events

@@ -1,0 +1,5 @@
+use Rattle.session_text.proofs.Waits.{waits-are-ended}
+use Rattle.session_text.proofs.laws.waits_are_ended.Goals as goal
+
+pub returns : goal.returns
+returns c = waits-are-ended
