@@ -23,13 +23,15 @@ pub struct TurnLock<K: Kept> {
 }
 
 impl<K: Kept> TurnLock<K> {
-    ghost use Rattle.std.specs.Prelude.{ℕ, ◌/◌, ◌%◌, ◌≤◌, ◌^◌, false, List, [], ◌∷◌, length, IfOk};
+    ghost use Rattle.std.specs.Prelude.{ℕ, ◌/◌, ◌%◌, ◌≤◌, ◌^◌, true, false, List, [], ◌∷◌, length, IfOk};
     ghost use Rattle.std.specs.List.{All};
     ghost use Rattle.turn_lock.specs.History.{StartsWith, IsWordAfter, IsWordIn, entries_by};
     ghost use Rattle.turn_lock.specs.History.{IsCounted, IsDisplay, IsShown};
     ghost use Rattle.turn_lock.specs.Rule.{Met};
-    ghost use Rattle.turn_lock.specs.Views.{HasNumber, IsFirst, IsLive, among, joined_of, longer, made_of};
-    ghost use Rattle.turn_lock.specs.Views.{both, having, newcomer, numbered, reading, with_number};
+    ghost use Rattle.turn_lock.specs.Views.{HasNumber, IsFirst, IsLive, among, joined_of, longer};
+    ghost use Rattle.turn_lock.specs.Views.{both, having, newcomer, number_of, numbered, reading};
+    ghost use Rattle.turn_lock.specs.Views.{made_of, with_number};
+    ghost use Rattle.turn_lock.specs.Words.{has_joined};
     ghost use Rattle.turn_lock.specs.Words.{HasTurnIn, RestsIn, lock_of, name, pass_of, value_of, view};
     ghost use Rattle.turn_lock.specs.Words.{AllJoined, HasMine, IsPartOf, KnowsOwn, NamesJoined, Stands};
     ghost use Rattle.turn_lock.specs.Told.{Finds};
@@ -91,6 +93,8 @@ impl<K: Kept> TurnLock<K> {
         ensures view { view p.new ≡ both (view p.old) (view q) }
         ensures own_seen { StartsWith (view p.new).seen (view p.old).seen }
         ensures other_seen { StartsWith (view p.new).seen (view q).seen }
+        ensures number { among (number_of (view q).role) (made_of (view p.old).role) ≡ true }
+        ensures once { has_joined (number_of (view q).role) (joined_of (view p.old).role) ≡ false }
     {
         self.take_in(p, q);
         self.compare(p);
@@ -110,6 +114,7 @@ impl<K: Kept> TurnLock<K> {
     }
 
     // Compares what the first pass and the one that it took in last had seen: one begins the other.
+    // Its number was made, and it alone has it.
     fn compare(&self, p: &mut Pass<K>)
         requires own { RestsIn self.now p.old }
         requires first { IsFirst (view p.old).role }
@@ -119,6 +124,10 @@ impl<K: Kept> TurnLock<K> {
             → joined_of (view p.old).role ≡ x ∷ xs
             → StartsWith (longer x.beside x.seen) x.beside
             × StartsWith (longer x.beside x.seen) x.seen }
+        ensures alone { (x : Joined K.What K.Stop) (xs : List (Joined K.What K.Stop))
+            → joined_of (view p.old).role ≡ x ∷ xs
+            → (among x.number (made_of (view p.old).role) ≡ true)
+            × (has_joined x.number xs ≡ false) }
     {
         self.board.shared.load::<Compare>(&mut p.place, NEXT);
     }
