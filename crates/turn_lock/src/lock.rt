@@ -9,16 +9,24 @@ use crate::kept::Kept;
 use crate::pass::Pass;
 use crate::plays::{Compare, Cut, Draw, Glue, Look, Picked, Read};
 use atomic_table::{Closed, Table};
+use crossbeam_utils::sync::{EventCount, Key};
 use std::alloc::Global;
+use std::hint;
 use std::marker::Brand;
 use std::sync::Wait;
-use std::thread;
 use vt_base::NoMemory;
+
+/// Tickets that are this many apart share a bell.
+const BELLS: usize = 128;
+
+/// How often a caller looks before it sleeps at its ticket's bell.
+const LOOKS: u32 = 20;
 
 /// The lock, with the value under it.
 #[derive(Drop)]
 pub struct TurnLock<K: Kept> {
     pub(crate) board: Board<K>,
+    pub(crate) bells: Vec<EventCount>,
     ghost sized: { (board.shared.table_id.words ≡ 3) × (board.shared.table_id.slots ≡ 1) },
 }
 
@@ -47,11 +55,12 @@ impl<K: Kept> TurnLock<K> {
         ensures pass { IfOk result (λ made. RestsIn made.0 made.1) }
         ensures view { IfOk result (λ made. view made.1 ≡ newcomer K.before) }
     {
+        let bells = bells(alloc)?;
         let front = value.front();
         let mut slots = Vec::new(alloc);
         slots.push(Some(value))?;
         match Table::new(alloc, &[0, 0, front], slots, &()) {
-            Ok((board, place)) => Ok((TurnLock { board }, Pass { place })),
+            Ok((board, place)) => Ok((TurnLock { board, bells }, Pass { place })),
             Err(_) => Err(NoMemory),
         }
     }
@@ -168,13 +177,38 @@ impl<K: Kept> TurnLock<K> {
             × (place.new.me.0 ≡ having ticket (K.entries result) (K.seal result) place.old.me.0) }
         ensures finds { Finds K.before (K.entries result) (K.seal result) place.old.me.0 }
     {
+        let mut looks = 0;
         for _ in rt.forever() {
+            // A wait is announced before the look, so the bell can't ring between the two unheard.
+            let key = self.announced(ticket, looks);
             if self.board.shared.load::<Look>(place, SERVING) == ticket {
                 return self.board.shared.exchange(place, SLOT, None).unwrap();
             }
-            thread::yield_now();
+            match key {
+                Some(key) => key.wait(rt),
+                None => {
+                    looks = looks.saturating_add(1);
+                    hint::spin_loop();
+                }
+            }
         }
         unreachable!()
+    }
+
+    // After so many looks, a wait at the bell of this ticket.
+    fn announced(&self, ticket: u64, looks: u32) -> Option<Key<'_>> {
+        if looks < LOOKS {
+            return None;
+        }
+        let bell = self.bells.get((ticket % BELLS as u64) as usize)?;
+        Some(bell.prepare_wait())
+    }
+
+    // Wakes who waits at the bell of this ticket.
+    pub(crate) fn ring(&self, ticket: u64) {
+        if let Some(bell) = self.bells.get((ticket % BELLS as u64) as usize) {
+            bell.notify_all();
+        }
     }
 
     /// The word of the history: it doesn't wait.
@@ -213,6 +247,14 @@ impl<K: Kept> TurnLock<K> {
         closed.free();
         value
     }
+}
+
+fn bells(alloc: Global) -> Result<Vec<EventCount>, NoMemory> {
+    let mut bells = Vec::with_capacity(alloc, BELLS)?;
+    for _ in 0..BELLS {
+        bells.push(EventCount::new())?;
+    }
+    Ok(bells)
 }
 
 // Ends the sharing of the table: what the pass knows stands in its last state.
