@@ -4,5 +4,6 @@ pub mod Hex
 pub mod Journal
 pub mod Kinds
 pub mod Log
+pub mod Room
 pub mod Text
 pub mod Words

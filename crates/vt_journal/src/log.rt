@@ -80,6 +80,7 @@ impl Log {
         ensures sum { result ≡ charge_of_all self.now.entries }
         ensures within { result ≤ self.now.limits.bytes }
         ensures most { result ≤ 1_073_741_824 }
+        ensures limit { self.now.limits.bytes ≤ 1_073_741_824 }
     {
         self.bytes
     }

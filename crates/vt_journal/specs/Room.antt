@@ -1,0 +1,28 @@
+-- What fits into a journal, and how the journal ends. This project's own.
+use Rattle.std.specs.Prelude.{ℕ, ◌+◌, ◌≤◌, ◌&&◌, nat_le, nat_lt, Bool, List, length, Option, Some, None}
+use Rattle.vt_events.specs.declared.entry.Entry.{Entry}
+use Rattle.vt_journal.specs.Log.{charge_of_all}
+use Rattle.vt_journal.specs.declared.full.Full.{Full}
+use Rattle.vt_journal.specs.declared.limits.Limits.{Limits}
+use Rattle.vt_journal.specs.declared.tail.Tail.{Tail}
+use Rattle.vt_journal.specs.declared.tail.Tail.TheVariants as tail
+
+-- one more entry of that charge is within the limits
+abbrev pub has_room : Limits → List Entry → ℕ → Bool
+has_room limits history charge =
+    nat_lt (length history) limits.events && nat_le (charge_of_all history + charge) limits.bytes
+
+-- the entries are within the limits
+pub record IsWithin (limits : Limits) (history : List Entry) : Type 0 where
+  pub events : length history ≤ limits.events
+  pub bytes : charge_of_all history ≤ limits.bytes
+
+-- where a call of that charge finds no room
+abbrev pub full_at : List Entry → ℕ → Full
+full_at history charge =
+    record { events = length history; bytes = charge_of_all history; charge = charge }
+
+-- the end of a journal with this history, which stopped there, or where all calls stand
+abbrev pub tail_at : List Entry → Option Full → Tail
+tail_at history None = tail.End (length history) (charge_of_all history)
+tail_at history (Some full) = tail.Full full
