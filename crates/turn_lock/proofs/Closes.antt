@@ -1,11 +1,8 @@
 -- The lock closes: the value is at home, and tells the history.
-use Rattle.std.proofs.Common.{inl, inr, ◌≡◌, ℕ, suc, Bool, true, false, ◌==◌, List, [], ◌∷◌, get_or}
+use Rattle.std.proofs.Common.{inl, inr, ◌≡◌, ℕ, Bool, true, false, List, [], get_or}
 use Rattle.std.proofs.Common.{sym, refl, ap, ◌∙◌, subst, Option, Some, None}
-use Rattle.std.proofs.lemmas.Bool.{ne_eqb}
 use Rattle.std.proofs.lemmas.List.{get_or_default}
 use Rattle.std.specs.List.{All}
-use mathlib.Core.Logic.{dite}
-use native.Mathlib.Decide.{ℕ_discrete}
 use mathlib.Core.Option.{some, some-injective}
 use lib.ListN.{get_elem?}
 use Rattle.atomic_table.specs.Table.{State, Final, Seen}
@@ -19,23 +16,13 @@ use Rattle.turn_lock.specs.declared.view.Role.TheVariants.{First, Caller, Spent}
 use Rattle.turn_lock.specs.declared.view.Stage.TheVariants.{Idle}
 use Rattle.turn_lock.specs.History.{StartsWith, entries_by, IsWordIn, IsCounted, IsShown}
 use Rattle.turn_lock.specs.Views.{among, IsFirst, made_of, joined_of}
-use Rattle.turn_lock.specs.Words.{has_joined, AllJoined, IsPartOf, NamesJoined}
+use Rattle.turn_lock.specs.Words.{AllJoined, IsPartOf, NamesJoined}
 use Rattle.turn_lock.proofs.Seals.{Named_by}
 use Rattle.turn_lock.specs.Rule.{IsCaller, HasTurn, Named, Met, PartA, Rule}
 use Rattle.turn_lock.proofs.Lists.{same_at}
-use Rattle.turn_lock.proofs.Passes.{or_false, first_named}
+use Rattle.turn_lock.proofs.Passes.{first_named, joined_at}
 use Rattle.turn_lock.proofs.Logs.{owns_first}
 use Rattle.turn_lock.proofs.Known.{first_live}
-
-module _ {W Z : Type 0} where
-  joined_at : (n : ℕ) (js : List (Joined W Z)) → has_joined n js ≡ true
-      → (i : ℕ) × (x : Joined W Z) × (get_elem? js i ≡ some x) × (x.number ≡ n)
-  joined_at n [] h = absurd cc
-  joined_at n (x ∷ xs) h = dite (ℕ_discrete n x.number)
-      (λ e. (0, x, refl, sym e))
-      (λ ne. let r = joined_at n xs
-      (sym (or_false (n == x.number) (has_joined n xs) (ne_eqb n x.number ne)) ∙ h) in
-      (suc r.0, r.1, r.2, r.3))
 
 module _ {W Z : Type 0} where
   -- a pass with a number: its number was made, and is its own

@@ -18,6 +18,7 @@ use Rattle.turn_lock.specs.declared.view.Stage.{Stage}
 use Rattle.turn_lock.specs.declared.view.Stage.TheVariants.{Idle}
 use Rattle.turn_lock.specs.Views.{among, IsFirst, HasNumber, made_of, joined_of, number_of}
 use Rattle.turn_lock.specs.Views.{newcomer, spent, with_number, numbered, joining, both}
+use Rattle.turn_lock.specs.Words.{has_joined}
 use Rattle.turn_lock.specs.Rule.{Queued, HasTicket, HasTurn, Named, IsCaller, Placed, PartA}
 use Rattle.turn_lock.proofs.Lists.{put, put_here, put_else, in_range, same_at, each_front}
 use Rattle.turn_lock.proofs.Lists.{each_split, each_join, each_one, each_none}
@@ -50,6 +51,16 @@ among_apart k n ms in_list not_in_list e = let same : among k ms ≡ among n ms 
     (λ (z : ℕ). among z ms) e in cc
 
 module _ {W Z : Type 0} where
+  -- where the first pass took in one with this number
+  pub joined_at : (n : ℕ) (js : List (Joined W Z)) → has_joined n js ≡ true
+      → (i : ℕ) × (x : Joined W Z) × (get_elem? js i ≡ some x) × (x.number ≡ n)
+  joined_at n [] h = absurd cc
+  joined_at n (x ∷ xs) h = dite (ℕ_discrete n x.number)
+      (λ e. (0, x, refl, sym e))
+      (λ ne. let r = joined_at n xs
+      (sym (or_false (n == x.number) (has_joined n xs) (ne_eqb n x.number ne)) ∙ h) in
+      (suc r.0, r.1, r.2, r.3))
+
   pub first_named : (seat_of : ℕ → Option ℕ) (made : List ℕ) (joined : List (Joined W Z)) (j : ℕ)
       (r : Role W Z) → IsFirst r → Named seat_of made joined j r
       → (j ≡ 0) × (made_of r ≡ made) × (joined_of r ≡ joined)

@@ -1,6 +1,6 @@
 -- Each kind of step keeps the rule: part by part, each from that part and those before it, and with
 -- it what the step tells.
-use Rattle.std.proofs.Common.{◌≡◌, ℕ, ◌+◌, ◌%◌, ◌^◌, ◌<◌, Bool, false, List, [], ◌∷◌, ◌++◌, length}
+use Rattle.std.proofs.Common.{◌≡◌, ℕ, suc, ◌+◌, ◌%◌, ◌^◌, ◌<◌, Bool, true, false, List, [], ◌∷◌, ◌++◌, length}
 use Rattle.std.proofs.Common.{get_or, set, sym, refl, ap, ◌∙◌, subst, arith, Option, Some, None}
 use Rattle.std.proofs.Common.{length-set, get_or-set_same, get_or-set_other}
 use Rattle.std.proofs.lemmas.List.{set-get_or}
@@ -18,12 +18,12 @@ use Rattle.turn_lock.specs.History.{IsDisplay, word_of}
 use Rattle.turn_lock.specs.Views.{among, IsLive, IsFirst, HasNumber, made_of, joined_of, ticket_of}
 use Rattle.turn_lock.specs.Views.{newcomer, spent, with_number, numbered, joining, both, waiting}
 use Rattle.turn_lock.specs.Views.{published, resting, reading}
-use Rattle.turn_lock.specs.Words.{AddsNext, MaySeal}
+use Rattle.turn_lock.specs.Words.{AddsNext, MaySeal, has_joined}
 use Rattle.turn_lock.specs.Rule.{Queued, HasTicket, HasTurn, PartB, Rule}
 use Rattle.turn_lock.specs.Told.{drew, showed, left, compared, read}
 use Rattle.turn_lock.proofs.Seats.{state, some_step, stays}
 use Rattle.turn_lock.proofs.Tickets.{draws_A, leaves_A}
-use Rattle.turn_lock.proofs.Passes.{splits_A, joins_A, unmoved, opens_A}
+use Rattle.turn_lock.proofs.Passes.{splits_A, joins_A, unmoved, opens_A, first_named, joined_at}
 use Rattle.turn_lock.proofs.Histories.{longer_both, display_shown, word_here}
 use Rattle.turn_lock.proofs.Logs.{owns_first, sees_all, quiet, adds, splits_B, joins_B, opens_B}
 use Rattle.turn_lock.proofs.Seals.{calm, goes_on, seals_C, splits_C, joins_C, opens_C}
@@ -42,6 +42,25 @@ module _ {W : Type 0} where
   held_ticket log Idle h t q = absurd h
   held_ticket log (Waits u) h t q = absurd h
   held_ticket log (Has u held) h t q = q
+
+module _ {W Z : Type 0} where
+  -- the pass that was taken in last is the only one that has its number
+  no_other : (joined : List (Joined W Z)) (x : Joined W Z) (xs : List (Joined W Z)) → joined ≡ x ∷ xs
+      → ((i j : ℕ) (y z : Joined W Z) → get_elem? joined i ≡ some y → get_elem? joined j ≡ some z
+      → y.number ≡ z.number → i ≡ j)
+      → has_joined x.number xs ≡ false
+  no_other joined x xs is once = go (has_joined x.number xs) refl
+    where
+      go : (b : Bool) → has_joined x.number xs ≡ b → b ≡ false
+      go false e = refl
+      go true e =
+          let r = joined_at x.number xs e in
+          let here : get_elem? joined 0 ≡ some x = ap
+          (λ (js : List (Joined W Z)). get_elem? js 0) is in
+          let there : get_elem? joined (suc r.0) ≡ some r.1 = ap
+          (λ (js : List (Joined W Z)). get_elem? js (suc r.0)) is ∙ r.2 in
+          let bad : 0 ≡ suc r.0 = once 0 (suc r.0) x r.1 here there (sym r.3) in
+          absurd (omega arith)
 
 abbrev first_value : {S : Type 0} → S → List (ℕ × S) → S
 first_value default [] = default
@@ -168,6 +187,7 @@ module _ {K W Z : Type 0} (before : ℕ) (entries : K → List (Entry W)) (seal 
         → Allows (Rule before entries seal) slots id me 0 (λ n. n) (compared some_step me)
     compares_ok slots id me first s rule deep at small =
         let v = me.0 in let joined = rule.0 in let log = rule.1 in let a = rule.2 in let b = rule.3 in
+        let names = first_named a.seat_of a.made joined id v.role first (a.named id v at) in
         let owns = owns_first log v.mine v.role first (b.owned id v at) in (
           v,
           keeps,
@@ -179,6 +199,13 @@ module _ {K W Z : Type 0} (before : ℕ) (entries : K → List (Entry W)) (seal 
                 let q : get_elem? (joined_of v.role) 0 ≡ some x = ap
                 (λ (js : List (Joined W Z)). get_elem? js 0) e in
                 longer_both log x.beside x.seen (owns.beside 0 x q) (owns.seen 0 x q)),
+            (λ x xs e.
+                let is : joined ≡ x ∷ xs = sym names.2 ∙ e in
+                let here : get_elem? joined 0 ≡ some x = ap
+                (λ (js : List (Joined W Z)). get_elem? js 0) is in (
+                  ap (λ (ms : List ℕ). among x.number ms) names.1 ∙ (a.each_joined 0 x here).0,
+                  no_other joined x xs is a.joined_once,
+                )),
           ),
         )
 

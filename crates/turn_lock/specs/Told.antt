@@ -1,6 +1,6 @@
 -- What each step tells the pass that makes it: of the step, the pass before, the number found (at a
 -- store, the number stored) and the pass after.
-use Rattle.std.specs.Prelude.{◌≡◌, ◌≢◌, ℕ, ◌/◌, ◌%◌, ◌^◌, ◌≤◌}
+use Rattle.std.specs.Prelude.{◌≡◌, ◌≢◌, true, false, ℕ, ◌/◌, ◌%◌, ◌^◌, ◌≤◌}
 use Rattle.std.specs.Prelude.{List, [], ◌∷◌, ◌++◌, length, Option, Some}
 use Rattle.atomic_table.specs.Table.{Me, Step}
 use Rattle.turn_lock.specs.declared.entry.Entry.{Entry}
@@ -9,9 +9,9 @@ use Rattle.turn_lock.specs.declared.view.View.{View}
 use Rattle.turn_lock.specs.declared.view.Joined.{Joined}
 use Rattle.turn_lock.specs.History.{StartsWith, IsWordIn, IsWordAfter, IsDisplay}
 use Rattle.turn_lock.specs.History.{IsCounted, IsShown}
-use Rattle.turn_lock.specs.Views.{joined_of, longer, ticket_of}
+use Rattle.turn_lock.specs.Views.{among, joined_of, longer, made_of, ticket_of}
 use Rattle.turn_lock.specs.Views.{waiting, having, published, resting, reading}
-use Rattle.turn_lock.specs.Words.{HasMine, Stands, KnowsOwn}
+use Rattle.turn_lock.specs.Words.{HasMine, Stands, KnowsOwn, has_joined}
 
 -- what a pass finds as its turn comes: a history with this seal
 pub record Finds {W Z : Type 0} (before : ℕ) (log : List (Entry W)) (seal : Option (Seal Z))
@@ -65,13 +65,16 @@ module _ {K W Z : Type 0} where
   abbrev pub left : (K → Option (Seal Z)) → At K → Sat K W Z → ℕ → Sat K W Z → Type 0
   left seal st m n m' = (k : K) → m.1 ≡ (0, Some k) ∷ [] → m' ≡ (resting (seal k) m.0, [])
 
-  -- the longer of what the first pass and the one that it took in last had seen begins with both
+  -- the longer of what the first pass and the one that it took in last had seen begins with both;
+  -- that one's number was made, and no other that was taken in has it
   abbrev pub compared : At K → Sat K W Z → ℕ → Sat K W Z → Type 0
   compared st m n m' =
       (m' ≡ m)
       × ((x : Joined W Z) (xs : List (Joined W Z)) → joined_of m.0.role ≡ x ∷ xs
       → StartsWith (longer x.beside x.seen) x.beside
       × StartsWith (longer x.beside x.seen) x.seen)
+      × ((x : Joined W Z) (xs : List (Joined W Z)) → joined_of m.0.role ≡ x ∷ xs
+      → (among x.number (made_of m.0.role) ≡ true) × (has_joined x.number xs ≡ false))
 
   -- the pass read the word
   abbrev pub read : ℕ → At K → Sat K W Z → ℕ → Sat K W Z → Type 0

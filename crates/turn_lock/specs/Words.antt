@@ -27,11 +27,18 @@ module _ {K W Z : Type 0} where
   abbrev pub name : TurnLock K W Z → TableId
   name lock = lock.board.shared.table_id
 
-  -- the pass is one of this lock, is not inside it, and was not taken in
+  -- which lock made the pass
+  abbrev pub lock_named : Pass K W Z → TableId
+  lock_named p = p.place.table_id
+
+  -- the pass is not inside its lock, and was not taken in
+  abbrev pub Rests : Pass K W Z → Type 0
+  Rests p =
+      (p.place.me.1 ≡ []) × (p.place.me.0.stage ≡ Idle) × IsLive p.place.me.0.role
+
+  -- the pass is one of this lock, and rests
   abbrev pub RestsIn : TurnLock K W Z → Pass K W Z → Type 0
-  RestsIn lock p =
-      (p.place.table_id ≡ name lock) × (p.place.me.1 ≡ []) × (p.place.me.0.stage ≡ Idle)
-      × IsLive p.place.me.0.role
+  RestsIn lock p = (lock_named p ≡ name lock) × Rests p
 
   -- the pass is one of this lock, and has the value: it has seen all that the value told
   abbrev pub HasTurnIn : TurnLock K W Z → Pass K W Z → Type 0

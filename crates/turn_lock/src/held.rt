@@ -54,7 +54,8 @@ impl<'a, K: Kept> Held<'a, K> {
         let shared = &lock.board.shared;
         let before = shared.exchange(&mut pass.place, SLOT, Some(value));
         let None = before else { unreachable!() };
-        shared.fetch_add::<Leave>(&mut pass.place, SERVING, 1);
+        let served = shared.fetch_add::<Leave>(&mut pass.place, SERVING, 1);
+        lock.ring(served.wrapping_add(1));
     }
 }
 

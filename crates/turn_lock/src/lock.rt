@@ -9,27 +9,37 @@ use crate::kept::Kept;
 use crate::pass::Pass;
 use crate::plays::{Compare, Cut, Draw, Glue, Look, Picked, Read};
 use atomic_table::{Closed, Table};
+use crossbeam_utils::sync::{EventCount, Key};
 use std::alloc::Global;
+use std::hint;
 use std::marker::Brand;
 use std::sync::Wait;
-use std::thread;
 use vt_base::NoMemory;
+
+/// Tickets that are this many apart share a bell.
+const BELLS: usize = 128;
+
+/// How often a caller looks before it sleeps at its ticket's bell.
+const LOOKS: u32 = 20;
 
 /// The lock, with the value under it.
 #[derive(Drop)]
 pub struct TurnLock<K: Kept> {
     pub(crate) board: Board<K>,
+    pub(crate) bells: Vec<EventCount>,
     ghost sized: { (board.shared.table_id.words ≡ 3) × (board.shared.table_id.slots ≡ 1) },
 }
 
 impl<K: Kept> TurnLock<K> {
-    ghost use Rattle.std.specs.Prelude.{ℕ, ◌/◌, ◌%◌, ◌≤◌, ◌^◌, false, List, [], ◌∷◌, length, IfOk};
+    ghost use Rattle.std.specs.Prelude.{ℕ, ◌/◌, ◌%◌, ◌≤◌, ◌^◌, true, false, List, [], ◌∷◌, length, IfOk};
     ghost use Rattle.std.specs.List.{All};
     ghost use Rattle.turn_lock.specs.History.{StartsWith, IsWordAfter, IsWordIn, entries_by};
     ghost use Rattle.turn_lock.specs.History.{IsCounted, IsDisplay, IsShown};
     ghost use Rattle.turn_lock.specs.Rule.{Met};
-    ghost use Rattle.turn_lock.specs.Views.{HasNumber, IsFirst, IsLive, among, joined_of, longer, made_of};
-    ghost use Rattle.turn_lock.specs.Views.{both, having, newcomer, numbered, reading, with_number};
+    ghost use Rattle.turn_lock.specs.Views.{HasNumber, IsFirst, IsLive, among, joined_of, longer};
+    ghost use Rattle.turn_lock.specs.Views.{both, having, newcomer, number_of, numbered, reading};
+    ghost use Rattle.turn_lock.specs.Views.{made_of, with_number};
+    ghost use Rattle.turn_lock.specs.Words.{has_joined};
     ghost use Rattle.turn_lock.specs.Words.{HasTurnIn, RestsIn, lock_of, name, pass_of, value_of, view};
     ghost use Rattle.turn_lock.specs.Words.{AllJoined, HasMine, IsPartOf, KnowsOwn, NamesJoined, Stands};
     ghost use Rattle.turn_lock.specs.Told.{Finds};
@@ -45,11 +55,12 @@ impl<K: Kept> TurnLock<K> {
         ensures pass { IfOk result (λ made. RestsIn made.0 made.1) }
         ensures view { IfOk result (λ made. view made.1 ≡ newcomer K.before) }
     {
+        let bells = bells(alloc)?;
         let front = value.front();
         let mut slots = Vec::new(alloc);
         slots.push(Some(value))?;
         match Table::new(alloc, &[0, 0, front], slots, &()) {
-            Ok((board, place)) => Ok((TurnLock { board }, Pass { place })),
+            Ok((board, place)) => Ok((TurnLock { board, bells }, Pass { place })),
             Err(_) => Err(NoMemory),
         }
     }
@@ -91,6 +102,8 @@ impl<K: Kept> TurnLock<K> {
         ensures view { view p.new ≡ both (view p.old) (view q) }
         ensures own_seen { StartsWith (view p.new).seen (view p.old).seen }
         ensures other_seen { StartsWith (view p.new).seen (view q).seen }
+        ensures number { among (number_of (view q).role) (made_of (view p.old).role) ≡ true }
+        ensures once { has_joined (number_of (view q).role) (joined_of (view p.old).role) ≡ false }
     {
         self.take_in(p, q);
         self.compare(p);
@@ -110,6 +123,7 @@ impl<K: Kept> TurnLock<K> {
     }
 
     // Compares what the first pass and the one that it took in last had seen: one begins the other.
+    // Its number was made, and it alone has it.
     fn compare(&self, p: &mut Pass<K>)
         requires own { RestsIn self.now p.old }
         requires first { IsFirst (view p.old).role }
@@ -119,6 +133,10 @@ impl<K: Kept> TurnLock<K> {
             → joined_of (view p.old).role ≡ x ∷ xs
             → StartsWith (longer x.beside x.seen) x.beside
             × StartsWith (longer x.beside x.seen) x.seen }
+        ensures alone { (x : Joined K.What K.Stop) (xs : List (Joined K.What K.Stop))
+            → joined_of (view p.old).role ≡ x ∷ xs
+            → (among x.number (made_of (view p.old).role) ≡ true)
+            × (has_joined x.number xs ≡ false) }
     {
         self.board.shared.load::<Compare>(&mut p.place, NEXT);
     }
@@ -159,13 +177,38 @@ impl<K: Kept> TurnLock<K> {
             × (place.new.me.0 ≡ having ticket (K.entries result) (K.seal result) place.old.me.0) }
         ensures finds { Finds K.before (K.entries result) (K.seal result) place.old.me.0 }
     {
+        let mut looks = 0;
         for _ in rt.forever() {
+            // A wait is announced before the look, so the bell can't ring between the two unheard.
+            let key = self.announced(ticket, looks);
             if self.board.shared.load::<Look>(place, SERVING) == ticket {
                 return self.board.shared.exchange(place, SLOT, None).unwrap();
             }
-            thread::yield_now();
+            match key {
+                Some(key) => key.wait(rt),
+                None => {
+                    looks = looks.saturating_add(1);
+                    hint::spin_loop();
+                }
+            }
         }
         unreachable!()
+    }
+
+    // After so many looks, a wait at the bell of this ticket.
+    fn announced(&self, ticket: u64, looks: u32) -> Option<Key<'_>> {
+        if looks < LOOKS {
+            return None;
+        }
+        let bell = self.bells.get((ticket % BELLS as u64) as usize)?;
+        Some(bell.prepare_wait())
+    }
+
+    // Wakes who waits at the bell of this ticket.
+    pub(crate) fn ring(&self, ticket: u64) {
+        if let Some(bell) = self.bells.get((ticket % BELLS as u64) as usize) {
+            bell.notify_all();
+        }
     }
 
     /// The word of the history: it doesn't wait.
@@ -204,6 +247,14 @@ impl<K: Kept> TurnLock<K> {
         closed.free();
         value
     }
+}
+
+fn bells(alloc: Global) -> Result<Vec<EventCount>, NoMemory> {
+    let mut bells = Vec::with_capacity(alloc, BELLS)?;
+    for _ in 0..BELLS {
+        bells.push(EventCount::new())?;
+    }
+    Ok(bells)
 }
 
 // Ends the sharing of the table: what the pass knows stands in its last state.

@@ -3,8 +3,8 @@ use Rattle.atomic_table.specs.Table.{rest}
 use Rattle.turn_lock.proofs.Steps.{leaves_ok}
 use Rattle.turn_lock.proofs.held.Held.leave.Goals as goal
 
-pub fetch_add-requires : goal.fetch_add-requires
-fetch_add-requires g c =
+pub fetch_add-served-requires : goal.fetch_add-served-requires
+fetch_add-served-requires g c =
     let own = c.requires.own in
     let v = c.args.self.pass.now.place.me.0 in let k = c.args.self.value in
     let is = c.exchange-before.ensures.3 ∙ ap (λ cs. (v, (0, Some k) ∷ rest cs)) own.2 in (

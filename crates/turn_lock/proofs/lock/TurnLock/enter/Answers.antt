@@ -8,5 +8,5 @@ fetch_add-ticket-requires g
       search rules,
       search rules,
       draws_ok g.K.Kept.before g.K.Kept.entries g.K.Kept.seal _ _ _
-          c.requires.2 c.requires.3,
+          c.requires.1.1 c.requires.1.2,
     )

@@ -7,5 +7,5 @@ load-requires g c = (
   search rules,
   search rules,
   reads_ok g.K.Kept.before g.K.Kept.entries
-      g.K.Kept.seal _ _ _ g.met.K.Kept.display c.requires.3,
+      g.K.Kept.seal _ _ _ g.met.K.Kept.display c.requires.1.2,
 )
