@@ -1,5 +1,6 @@
 pub mod Computed
 pub mod Digits
+pub mod Families
 pub mod Halves
 pub mod Listed
 pub mod Named

@@ -1,6 +1,6 @@
 -- What a key does.
 use Rattle.std.specs.Prelude.{ℕ, Bool, ◌==◌, ◌&&◌, ◌||◌, not, nat_le}
-use Rattle.key_syms.specs.declared.kind.TheConstants.{ASCII, CHARACTER, CONSOLE, CURSOR, DEAD, FUNCTION, HOLE, LETTER, LOCK, META, MODIFIER, PAD, SPECIAL, STICKY}
+use Rattle.key_syms.specs.Kinds.{ASCII, CHARACTER, CONSOLE, CURSOR, DEAD, FUNCTION, HOLE, LETTER, LOCK, META, MODIFIER, PAD, SPECIAL, STICKY}
 
 -- an action: its kind, and its value in that kind
 pub record Act : Type 0 where

@@ -2,7 +2,7 @@
 use Rattle.std.specs.Prelude.{◌≡◌, ℕ, Some, ◌++◌, codes, IsTrue}
 use Rattle.key_syms.specs.Act.{Act, act, is_action, is_character}
 use Rattle.key_syms.specs.Names.{hex4, name_text, symbol}
-use Rattle.key_syms.specs.declared.kind.TheConstants.{CHARACTER}
+use Rattle.key_syms.specs.Kinds.{CHARACTER}
 
 -- the name of an action stands for that action
 abbrev pub NamesAreTheirOwn : Type 0

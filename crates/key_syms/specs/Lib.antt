@@ -1,5 +1,7 @@
 pub mod Act
+pub mod Families
 pub mod Index
+pub mod Kinds
 pub mod Laws
 pub mod Names
 pub mod Numbers

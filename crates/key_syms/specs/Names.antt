@@ -6,7 +6,7 @@ use Rattle.std.specs.Str.{bytes_eq}
 use Rattle.key_syms.specs.Act.{Act, act, is_character}
 use Rattle.key_syms.specs.Numbers.{number_of, passing, spelled}
 use Rattle.key_syms.specs.Symbols.{Symbol, symbols}
-use Rattle.key_syms.specs.declared.kind.TheConstants.{CHARACTER, LETTER}
+use Rattle.key_syms.specs.Kinds.{CHARACTER, LETTER}
 
 -- the action of the first of these symbols that has the name
 abbrev pub listed : List Symbol → List ℕ → Option Act

@@ -41,7 +41,7 @@ impl Action {
     }
 }
 
-/// Whether a kind has the value.
+// Whether a kind has the value.
 fn is_value(kind: u8, value: u16) -> bool
     ensures { result ≡ is_action kind value }
 {

@@ -15,7 +15,7 @@ mod table;
 mod tests;
 
 pub use action::Action;
-pub use laws::names_are_their_own;
+pub use laws::{families_are_named, names_are_their_own};
 pub use name::name_of;
 pub use numeral::number;
 pub use pair::Pair;

@@ -4,7 +4,7 @@
 use crate::kind;
 
 /// Consecutive values of a kind, from the first on.
-#[derive(Clone, Copy, Debug)]
+#[derive(Clone, Copy)]
 pub struct Run {
     pub kind: u8,
     pub first: u16,
