@@ -15,6 +15,7 @@ pub fn add_colours(p: &Palette, out: &mut Bytes)
     requires { 48 ≤ out.old.room }
     ensures bytes { out.new.bytes ≡ out.old.bytes ++ colours_text p.now }
     ensures room { out.new.room + 48 ≡ out.old.room }
+    ensures whole { out.new.room + length out.new.bytes ≡ out.old.room + length out.old.bytes }
 {
     for (red, green, blue) in p.as_slice() {
         out.append(&[*red, *green, *blue]);

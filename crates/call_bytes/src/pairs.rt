@@ -18,6 +18,7 @@ pub fn add_pairs(pairs: &[Pair], out: &mut Bytes)
     requires { 12 * length pairs.now ≤ out.old.room }
     ensures bytes { out.new.bytes ≡ out.old.bytes ++ pairs_text pairs.now }
     ensures room { out.new.room + 12 * length pairs.now ≡ out.old.room }
+    ensures whole { out.new.room + length out.new.bytes ≡ out.old.room + length out.old.bytes }
 {
     for pair in pairs {
         add_pair(*pair, out);

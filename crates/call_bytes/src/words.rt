@@ -1,4 +1,4 @@
-ghost use Rattle.std.specs.Prelude.{◌≡◌, ◌+◌, ◌≤◌, ◌++◌};
+ghost use Rattle.std.specs.Prelude.{◌≡◌, ◌+◌, ◌≤◌, ◌++◌, length};
 ghost use Rattle.call_bytes.specs.Words.{words_in, words_text};
 
 use crate::numbers::number_at;
@@ -12,6 +12,7 @@ pub fn add_words(words: &[u16; 256], out: &mut Bytes)
     requires { 512 ≤ out.old.room }
     ensures bytes { out.new.bytes ≡ out.old.bytes ++ words_text words.now }
     ensures room { out.new.room + 512 ≡ out.old.room }
+    ensures whole { out.new.room + length out.new.bytes ≡ out.old.room + length out.old.bytes }
 {
     for word in words {
         out.append(&word.to_le_bytes());

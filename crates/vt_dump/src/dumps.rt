@@ -1,4 +1,4 @@
-ghost use Rattle.std.specs.Prelude.{◌≡◌, ◌+◌, ◌*◌, ◌≤◌, ◌++◌};
+ghost use Rattle.std.specs.Prelude.{◌≡◌, ◌+◌, ◌*◌, ◌≤◌, ◌++◌, length};
 ghost use Rattle.vt_dump.specs.Dumps.{cell_count, codes_bytes, vcs_bytes, vcsa_bytes};
 
 use crate::cells::add_cells;
@@ -11,6 +11,7 @@ pub fn vcs(g: &Grid, out: &mut Bytes)
     requires { cell_count g.now ≤ out.old.room }
     ensures bytes { out.new.bytes ≡ out.old.bytes ++ vcs_bytes g.now }
     ensures room { out.new.room + cell_count g.now ≡ out.old.room }
+    ensures whole { out.new.room + length out.new.bytes ≡ out.old.room + length out.old.bytes }
 {
     add_cells(Form::Character, g, out)
 }
@@ -21,6 +22,7 @@ pub fn vcsa(g: &Grid, x: u8, y: u8, reversed: bool, out: &mut Bytes)
     requires { 4 + 2 * cell_count g.now ≤ out.old.room }
     ensures bytes { out.new.bytes ≡ out.old.bytes ++ vcsa_bytes g.now x y reversed }
     ensures room { out.new.room + 4 + 2 * cell_count g.now ≡ out.old.room }
+    ensures whole { out.new.room + length out.new.bytes ≡ out.old.room + length out.old.bytes }
 {
     let size = g.size();
     out.append(&[size.rows, size.cols, x, y]);
@@ -32,6 +34,7 @@ pub fn codes(g: &Grid, out: &mut Bytes)
     requires { 4 * cell_count g.now ≤ out.old.room }
     ensures bytes { out.new.bytes ≡ out.old.bytes ++ codes_bytes g.now }
     ensures room { out.new.room + 4 * cell_count g.now ≡ out.old.room }
+    ensures whole { out.new.room + length out.new.bytes ≡ out.old.room + length out.old.bytes }
 {
     add_cells(Form::Code, g, out)
 }

@@ -17,7 +17,7 @@ use Rattle.vt_world.specs.Acts.{all_acts, event_acts, history_acts}
 use Rattle.vt_world.specs.Deeds.{Deed, all_done}
 use Rattle.vt_world.specs.Heard.{cleared}
 use Rattle.vt_world.specs.History.{replay}
-use Rattle.vt_world.specs.Laws.{ActsMakeCores, DisplaysAreLawful, IsStart, OwnersAreLive, TargetsAreExplained, moments}
+use Rattle.vt_world.specs.Laws.{ActsMakeCores, DisplaysAreLawful, DisplaysAreLawfulFrom, IsStart, OwnersAreLive, TargetsAreExplained, moments}
 use Rattle.vt_world.specs.Rows.{row}
 use Rattle.vt_world.specs.Start.{opening}
 use Rattle.vt_world.specs.State.{WorldState, core}
@@ -97,10 +97,13 @@ start_owners w start =
 nothing_waits : (w : WorldState) → IsStart w → w.display.pending ≡ None
 nothing_waits w start = ap (λ (x : WorldState). x.display.pending) start.opened
 
+pub displays-are-lawful-from : DisplayLaw → DisplaysAreLawfulFrom
+displays-are-lawful-from law w entries owners nothing =
+    law (core w) (history_acts w entries) owners nothing (history_ordered w entries)
+
 pub displays-are-lawful : DisplayLaw → DisplaysAreLawful
 displays-are-lawful law w entries start =
-    law (core w) (history_acts w entries) (start_owners w start) (nothing_waits w start)
-    (history_ordered w entries)
+    displays-are-lawful-from law w entries (start_owners w start) (nothing_waits w start)
 
 pub targets-are-explained : TargetLaw → TargetsAreExplained
 targets-are-explained law w entries start =

@@ -1,3 +1,4 @@
+pub mod Ages
 mod Allocation
 mod Alters
 mod Bells
@@ -8,12 +9,14 @@ mod Freed
 mod Histories
 mod Lives
 mod Masks
+mod Opening
 mod Orders
 mod Places
 mod Quiet
 mod Requests
 mod Reruns
 mod Screens
+mod Sizes
 mod Stays
 mod Steps
 mod Taping
@@ -21,4 +24,5 @@ mod Traces
 mod Truths
 mod Typed
 mod Users
+pub mod Waits
 mod Writes

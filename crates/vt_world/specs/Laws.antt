@@ -47,7 +47,14 @@ abbrev pub DisplaysAreLawful : Type 0
 DisplaysAreLawful =
     (w : WorldState) (entries : List Entry) → IsStart w → IsLawful (moments w entries)
 
--- and what waits for the display after it was asked for in it
+-- and so in every history from a console on which whoever handles switches lives, and nothing waits
+-- for the display
+abbrev pub DisplaysAreLawfulFrom : Type 0
+DisplaysAreLawfulFrom =
+    (w : WorldState) (entries : List Entry) → OwnersLive (core w) → w.display.pending ≡ None
+    → IsLawful (moments w entries)
+
+-- what waits for the display after a history from a start was asked for in it
 abbrev pub TargetsAreExplained : Type 0
 TargetsAreExplained =
     (w : WorldState) (entries : List Entry) → IsStart w

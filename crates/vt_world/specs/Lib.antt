@@ -9,6 +9,7 @@ pub mod Spare
 pub mod Start
 pub mod State
 pub mod Step
+pub mod StepLaws
 pub mod Tapes
 pub mod Terminals
 pub mod Tests

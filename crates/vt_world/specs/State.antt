@@ -1,6 +1,7 @@
 -- The console as a whole.
-use Rattle.std.specs.Prelude.{◌≡◌, ℕ, List, Option, is_some, map}
-use Rattle.vt_procs.specs.Callers.{Callers}
+use Rattle.std.specs.Prelude.{◌≡◌, ℕ, Bool, List, Option, is_some, map}
+use Rattle.vt_procs.specs.Callers.{Callers, caller_at}
+use Rattle.vt_procs.specs.Tickets.{is_open}
 use Rattle.vt_switch.specs.Display.{Display}
 use Rattle.vt_switch.specs.Moments.{Core}
 use Rattle.vt_switch.specs.declared.mark.Mark.{Mark}
@@ -29,6 +30,10 @@ pub record WorldState : Type 0 where
 -- the display, and which callers live
 abbrev pub core : WorldState → Core
 core w = record { display = w.display; live = map (λ caller. caller.live) w.callers.list }
+
+-- p has a ticket that is open
+abbrev pub is_waiting : WorldState → ℕ → Bool
+is_waiting w p = is_open (caller_at w.callers p).waiting
 
 -- the consoles that have a terminal are those that are allocated
 abbrev pub HasTerminals : WorldState → Type 0

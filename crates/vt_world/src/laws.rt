@@ -1,6 +1,7 @@
 //! The laws of histories.
 ghost use Rattle.vt_world.specs.History.{LegalGrows, NothingIsLegal, ReplayGrows};
-ghost use Rattle.vt_world.specs.Laws.{ActsAreCalls, ActsMakeCores, DisplaysAreLawful, OwnersAreLive, ScreensAreTapes, TargetsAreExplained, TerminalsAreAllocated, TracesTellActs, TracesTellDeeds, TracesTellHops};
+ghost use Rattle.vt_world.specs.Laws.{ActsAreCalls, ActsMakeCores, DisplaysAreLawful, DisplaysAreLawfulFrom, OwnersAreLive, ScreensAreTapes, TargetsAreExplained, TerminalsAreAllocated, TracesTellActs, TracesTellDeeds, TracesTellHops};
+ghost use Rattle.vt_world.specs.StepLaws.{NobodyWaitsAtStart, SizesStay, TicketsAreCalled};
 
 use vt_screen::tapes_run;
 use vt_switch::{each_hop_was_allowed, each_target_was_asked_for};
@@ -26,6 +27,28 @@ pub fn displays_are_lawful()
     each_hop_was_allowed();
     each_target_was_asked_for();
 }
+
+/// Why the display changed hands in every history from a console that needs not be a start.
+pub fn displays_are_lawful_from()
+    ensures { DisplaysAreLawfulFrom }
+{
+    each_hop_was_allowed();
+}
+
+/// No event changes the size of new screens.
+pub fn sizes_stay()
+    ensures { SizesStay }
+{}
+
+/// Whose ticket an event opens: its caller's, by a wait.
+pub fn tickets_are_called()
+    ensures { TicketsAreCalled }
+{}
+
+/// Nobody waits at a start.
+pub fn nobody_waits_at_start()
+    ensures { NobodyWaitsAtStart }
+{}
 
 /// What each screen shows after every history from a start: its console's tape.
 pub fn screens_are_tapes()

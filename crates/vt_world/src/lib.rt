@@ -24,7 +24,10 @@ mod told;
 mod wanted;
 mod world;
 
-pub use laws::{displays_are_lawful, legal_grows, screens_are_tapes};
+pub use laws::{
+    displays_are_lawful, displays_are_lawful_from, legal_grows, nobody_waits_at_start,
+    screens_are_tapes, sizes_stay, tickets_are_called,
+};
 pub use spare::{Spare, spare_for};
 pub use vt_switch::{Hop, Mark};
 pub use world::World;

@@ -1,5 +1,5 @@
-ghost use Rattle.std.specs.Prelude.{◌≡◌, ◌≤◌, [], true, false, IfNone};
-ghost use Rattle.vt_events.specs.Charge.{greatest_reply};
+ghost use Rattle.std.specs.Prelude.{◌≡◌, ◌≤◌, [], true, false, IfNone, length};
+ghost use Rattle.vt_events.specs.Charge.{greatest_reply, text_of_reply};
 ghost use Rattle.vt_procs.specs.Callers.{caller_at, is_live};
 ghost use Rattle.vt_procs.specs.Tickets.{told};
 ghost use Rattle.vt_procs.specs.declared.waited.Waited.{Waited};
@@ -23,6 +23,7 @@ impl World {
     pub fn step(&mut self, caller: CallerNo, event: &Event, spare: Spare) -> (Reply, Bytes)
         requires fits { Fits self.old.rows self.old.cols event.now spare }
         ensures step { Gives (step self.old caller event.now) self.new result.0 }
+        ensures bytes { length (text_of_reply result.0) ≤ greatest_reply event.now }
         ensures unused { result.1 ≡ spare.unused }
     {
         let Spare {
@@ -39,8 +40,9 @@ impl World {
         requires told { self.old.told.trace ≡ [] }
         requires grid { HasGrid (needed_grid (extent self.old.rows self.old.cols) event.now) grid }
         requires reply { greatest_reply event.now ≤ reply.room }
-        ensures { Gives (after_common self.old p event.now
+        ensures step { Gives (after_common self.old p event.now
             (first_failing (common_tests self.old p event.now))) self.new result }
+        ensures bytes { length (text_of_reply result) ≤ greatest_reply event.now }
     {
         match self.refusal(p, event) {
             Some(errno) => Reply::Err(errno),
@@ -75,7 +77,8 @@ impl World {
             → told (caller_at self.old.callers p).waiting ≡ Waited.None }
         requires grid { HasGrid (needed_grid (extent self.old.rows self.old.cols) event.now) grid }
         requires reply { greatest_reply event.now ≤ reply.room }
-        ensures { Gives (own_step self.old p event.now) self.new result }
+        ensures step { Gives (own_step self.old p event.now) self.new result }
+        ensures bytes { length (text_of_reply result) ≤ greatest_reply event.now }
     {
         match event {
             Event::OpenCon(n) => self.open(p, *n, grid),

@@ -1,10 +1,9 @@
 ghost use Rattle.std.specs.Prelude.{◌≡◌, IfOk, is_some, option_copied};
-ghost use Rattle.vt_procs.specs.Callers.{caller_at};
-ghost use Rattle.vt_procs.specs.Tickets.{is_open};
 ghost use Rattle.vt_switch.specs.Display.{is_allocated};
 ghost use Rattle.vt_base.specs.ConsoleSet.{IsFitSet};
 ghost use Rattle.vt_world.specs.Inputs.{input_at};
 ghost use Rattle.vt_world.specs.Start.{opening};
+ghost use Rattle.vt_world.specs.State.{is_waiting};
 ghost use Rattle.vt_world.specs.Terminals.{bells_of, machine_of, terminal_at};
 
 use crate::board::Board;
@@ -146,7 +145,7 @@ impl World {
 
     /// Whether the caller has an open ticket.
     pub fn waiting(&self, p: CallerNo) -> bool
-        ensures { result ≡ is_open (caller_at self.now.callers p).waiting }
+        ensures { result ≡ is_waiting self.now p }
     {
         self.procs.ticket(p) == Waited::Still
     }

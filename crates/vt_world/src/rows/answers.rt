@@ -1,5 +1,6 @@
 //! Answers that have bytes.
 ghost use Rattle.std.specs.Prelude.{◌≡◌, ◌≤◌, [], length};
+ghost use Rattle.vt_events.specs.Charge.{text_of_reply};
 ghost use Rattle.vt_events.specs.Plain.{plain_reply, text};
 ghost use Rattle.vt_events.specs.declared.reply.Reply.TheVariants as reply;
 
@@ -19,7 +20,8 @@ pub fn emptied(room: Bytes) -> Bytes
 /// The answer of these bytes, in the room that is given.
 pub fn text_reply(b: &[u8], room: Bytes) -> Reply
     requires { length b.now ≤ room.room }
-    ensures { plain_reply result ≡ reply.Text (text b.now) }
+    ensures reply { plain_reply result ≡ reply.Text (text b.now) }
+    ensures bytes { text_of_reply result ≡ b.now }
 {
     let mut room = emptied(room);
     room.append(b);

@@ -1,6 +1,6 @@
 //! Dumps of screens.
-ghost use Rattle.std.specs.Prelude.{◌≡◌, ◌≤◌, ◌++◌, ◌&&◌};
-ghost use Rattle.vt_events.specs.Charge.{greatest_dump};
+ghost use Rattle.std.specs.Prelude.{◌≡◌, ◌+◌, ◌≤◌, ◌++◌, ◌&&◌, length};
+ghost use Rattle.vt_events.specs.Charge.{greatest_dump, text_of_reply};
 ghost use Rattle.vt_events.specs.declared.event.Event.TheVariants as event;
 ghost use Rattle.vt_procs.specs.Callers.{has_open};
 ghost use Rattle.vt_world.specs.Rows.{dump_of, screen_bytes};
@@ -24,7 +24,8 @@ impl World {
     /// The screen of console `n`, or of the one in front where `n` is 0 (vcs(4)).
     pub(crate) fn dump(&mut self, p: CallerNo, kind: u16, n: u16, reply: Bytes) -> Reply
         requires { greatest_dump kind ≤ reply.room }
-        ensures { Gives (own_step self.old p (event.Dump kind n)) self.new result }
+        ensures step { Gives (own_step self.old p (event.Dump kind n)) self.new result }
+        ensures bytes { length (text_of_reply result) ≤ greatest_dump kind }
     {
         if !self.sees(p, n) {
             return NO_PERMISSION;
@@ -64,8 +65,9 @@ impl World {
     fn add_dump(&self, kind: u16, c: ConsoleNo, out: &mut Bytes)
         requires kind { kind ≤ LAST_KIND }
         requires room { greatest_dump kind ≤ out.old.room }
-        ensures { out.new.bytes ≡ out.old.bytes
+        ensures bytes { out.new.bytes ≡ out.old.bytes
             ++ screen_bytes (dump_of kind) (terminal_at self.now.terminals c) }
+        ensures len { length out.new.bytes ≤ length out.old.bytes + greatest_dump kind }
     {
         if let Some(terminal) = self.terminals.at(c) {
             add_screen(kind, terminal.emu(), out);
@@ -77,7 +79,8 @@ impl World {
 fn add_screen(kind: u16, emu: &Emu, out: &mut Bytes)
     requires kind { kind ≤ LAST_KIND }
     requires room { greatest_dump kind ≤ out.old.room }
-    ensures { out.new.bytes ≡ out.old.bytes ++ dump_of kind emu.now.state }
+    ensures bytes { out.new.bytes ≡ out.old.bytes ++ dump_of kind emu.now.state }
+    ensures len { length out.new.bytes ≤ length out.old.bytes + greatest_dump kind }
 {
     let grid = emu.grid();
     let state = emu.state();

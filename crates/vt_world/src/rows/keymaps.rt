@@ -1,6 +1,7 @@
 //! Settings of the key tables and of the scan numbers.
-ghost use Rattle.std.specs.Prelude.{◌≡◌, ◌≤◌, IsTrue};
+ghost use Rattle.std.specs.Prelude.{◌≡◌, ◌≤◌, IsTrue, length};
 ghost use Rattle.key_tables.specs.Tables.{exists_in};
+ghost use Rattle.vt_events.specs.Charge.{text_of_reply};
 ghost use Rattle.vt_events.specs.declared.event.Event.TheVariants as event;
 ghost use Rattle.vt_world.specs.Step.{Gives, own_step};
 ghost use Rattle.vt_world.specs.Tests.{is_keycode};
@@ -92,7 +93,8 @@ impl World {
     /// A function string (ioctl_console(2), KDGKBSENT).
     pub(crate) fn get_func(&mut self, p: CallerNo, fd: u16, i: u16, reply: Bytes) -> Reply
         requires { 255 ≤ reply.room }
-        ensures { Gives (own_step self.old p (event.GetFunc fd i)) self.new result }
+        ensures step { Gives (own_step self.old p (event.GetFunc fd i)) self.new result }
+        ensures bytes { length (text_of_reply result) ≤ 255 }
     {
         if self.procs.console_of(p, fd).is_none() {
             return NOT_OPEN;
@@ -123,7 +125,8 @@ impl World {
     /// The pairs of compose keys (ioctl_console(2), KDGKBDIACRUC).
     pub(crate) fn get_pairs(&mut self, p: CallerNo, fd: u16, reply: Bytes) -> Reply
         requires { 3072 ≤ reply.room }
-        ensures { Gives (own_step self.old p (event.GetDia fd)) self.new result }
+        ensures step { Gives (own_step self.old p (event.GetDia fd)) self.new result }
+        ensures bytes { length (text_of_reply result) ≤ 3072 }
     {
         if self.procs.console_of(p, fd).is_none() {
             return NOT_OPEN;

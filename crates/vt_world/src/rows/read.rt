@@ -1,4 +1,5 @@
-ghost use Rattle.std.specs.Prelude.{◌≡◌, ◌≤◌, min};
+ghost use Rattle.std.specs.Prelude.{◌≡◌, ◌≤◌, length, min};
+ghost use Rattle.vt_events.specs.Charge.{text_of_reply};
 ghost use Rattle.vt_events.specs.declared.event.Event.TheVariants as event;
 ghost use Rattle.vt_world.specs.Step.{Gives, own_step};
 
@@ -14,7 +15,8 @@ impl World {
     /// The first bytes of the input of the descriptor's console (read(2)).
     pub(crate) fn read_in(&mut self, p: CallerNo, fd: u16, most: u16, reply: Bytes) -> Reply
         requires { min most 4096 ≤ reply.room }
-        ensures { Gives (own_step self.old p (event.ReadIn fd most)) self.new result }
+        ensures step { Gives (own_step self.old p (event.ReadIn fd most)) self.new result }
+        ensures bytes { length (text_of_reply result) ≤ min most 4096 }
     {
         let Some(c) = self.procs.console_of(p, fd) else {
             return NOT_OPEN;

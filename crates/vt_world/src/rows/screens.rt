@@ -1,7 +1,8 @@
 //! Settings of a console's screen.
-ghost use Rattle.std.specs.Prelude.{◌≡◌, ◌≤◌, ◌++◌};
+ghost use Rattle.std.specs.Prelude.{◌≡◌, ◌+◌, ◌≤◌, ◌++◌, length};
 ghost use Rattle.call_bytes.specs.Colours.{colours_text};
 ghost use Rattle.call_bytes.specs.Words.{words_text};
+ghost use Rattle.vt_events.specs.Charge.{text_of_reply};
 ghost use Rattle.vt_events.specs.declared.event.Event.TheVariants as event;
 ghost use Rattle.vt_world.specs.Rows.{screen_bytes};
 ghost use Rattle.vt_world.specs.Spare.{HasGrid, extent, is_extent, needed_grid};
@@ -58,7 +59,8 @@ impl World {
     /// The user's table of the descriptor's console (ioctl_console(2), GIO_UNISCRNMAP).
     pub(crate) fn get_map(&mut self, p: CallerNo, fd: u16, reply: Bytes) -> Reply
         requires { 512 ≤ reply.room }
-        ensures { Gives (own_step self.old p (event.GetMap fd)) self.new result }
+        ensures step { Gives (own_step self.old p (event.GetMap fd)) self.new result }
+        ensures bytes { length (text_of_reply result) ≤ 512 }
     {
         let Some(c) = self.procs.console_of(p, fd) else {
             return NOT_OPEN;
@@ -88,7 +90,8 @@ impl World {
     /// The palette of the descriptor's console (ioctl_console(2), GIO_CMAP).
     pub(crate) fn get_palette(&mut self, p: CallerNo, fd: u16, reply: Bytes) -> Reply
         requires { 48 ≤ reply.room }
-        ensures { Gives (own_step self.old p (event.GetPal fd)) self.new result }
+        ensures step { Gives (own_step self.old p (event.GetPal fd)) self.new result }
+        ensures bytes { length (text_of_reply result) ≤ 48 }
     {
         let Some(c) = self.procs.console_of(p, fd) else {
             return NOT_OPEN;
@@ -102,8 +105,9 @@ impl World {
     // Appends the user's table of the console's screen, if it has one.
     fn add_map(&self, c: ConsoleNo, out: &mut Bytes)
         requires { 512 ≤ out.old.room }
-        ensures { out.new.bytes ≡ out.old.bytes
+        ensures bytes { out.new.bytes ≡ out.old.bytes
             ++ screen_bytes (λ s. words_text s.state.map) (terminal_at self.now.terminals c) }
+        ensures len { length out.new.bytes ≤ length out.old.bytes + 512 }
     {
         if let Some(terminal) = self.terminals.at(c) {
             add_words(terminal.emu().state().map.user(), out);
@@ -113,8 +117,9 @@ impl World {
     // Appends the palette of the console's screen, if it has one.
     fn add_palette(&self, c: ConsoleNo, out: &mut Bytes)
         requires { 48 ≤ out.old.room }
-        ensures { out.new.bytes ≡ out.old.bytes
+        ensures bytes { out.new.bytes ≡ out.old.bytes
             ++ screen_bytes (λ s. colours_text s.state.palette) (terminal_at self.now.terminals c) }
+        ensures len { length out.new.bytes ≤ length out.old.bytes + 48 }
     {
         if let Some(terminal) = self.terminals.at(c) {
             add_colours(&terminal.emu().state().palette, out);

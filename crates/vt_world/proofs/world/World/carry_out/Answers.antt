@@ -3,6 +3,6 @@ use Rattle.vt_events.specs.declared.event.Event.{Event}
 use Rattle.vt_world.specs.Step.{own_step}
 use Rattle.vt_world.proofs.world.World.carry_out.Goals as goal
 
-pub returns-in-Dump : goal.returns-in-Dump
-returns-in-Dump c =
-    ap (λ (e : Event). own_step c.args.self.now c.args.p e) c.in-Dump.is ∙ c.dump.ensures
+pub returns-in-Dump-clause-step : goal.returns-in-Dump-clause-step
+returns-in-Dump-clause-step c =
+    ap (λ (e : Event). own_step c.args.self.now c.args.p e) c.in-Dump.is ∙ c.dump.ensures.step

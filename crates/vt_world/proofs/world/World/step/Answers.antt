@@ -18,4 +18,4 @@ returns-clause-step c =
     } in
     sym (ap (λ (v : WorldState). after_common v p e (first_failing (common_tests v p e)))
     (clear ∙ ap cleared c.self.view_is))
-    ∙ c.answer.ensures
+    ∙ c.answer.ensures.step

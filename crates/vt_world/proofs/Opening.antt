@@ -1,0 +1,67 @@
+-- Whose ticket a step opens, and that none is open at a start.
+use Rattle.std.proofs.Common.{◌≡◌, ◌⊎◌, ℕ, zero, suc, ◌-◌, true, false, inl, inr, List, [], ◌∷◌, get_or, map, Option, Some, None, refl, sym, subst}
+use Rattle.std.specs.List.{range_with_len}
+use Rattle.std.specs.Prelude.{◌==◌, slice_get, if◌then◌else◌}
+use Rattle.vt_events.specs.declared.event.Event.{Event}
+use Rattle.vt_events.specs.declared.reply.Reply.TheVariants as reply
+use Rattle.vt_procs.specs.Callers.{Callers, caller_at, caller_of, keyboard, no_caller, starting}
+use Rattle.vt_procs.specs.Tickets.{is_open, settled, waits, with_waiting}
+use Rattle.vt_procs.specs.declared.proc_start.ProcStart.{ProcStart}
+use Rattle.vt_procs.specs.declared.waiting.Waiting.TheVariants.{Open}
+use Rattle.vt_world.proofs.Ages.{AllAge, at-set, settled-age, then_all}
+use Rattle.vt_world.proofs.Steps.{by_step, outcome}
+use Rattle.vt_world.proofs.Waits.{NoWait, OneWait, RowDoes, all-done-age, row-does}
+use Rattle.vt_world.specs.Deeds.{Deed, all_done}
+use Rattle.vt_world.specs.Heard.{cleared}
+use Rattle.vt_world.specs.Laws.{IsStart}
+use Rattle.vt_world.specs.Rows.{Row, row}
+use Rattle.vt_world.specs.State.{WorldState, is_waiting}
+use Rattle.vt_world.specs.Step.{Outcome}
+use Rattle.vt_world.specs.StepLaws.{NobodyWaitsAtStart, TicketsAreCalled}
+
+-- who has an open ticket had it before, or is p, which was answered "wait"
+abbrev IsCalled : WorldState → ℕ → Outcome → Type 0
+IsCalled w p after =
+    (q : ℕ) → is_waiting after.world q ≡ true
+    → (is_waiting w q ≡ true) ⊎ ((p ≡ q) × (after.reply ≡ reply.Wait))
+
+row_opens : (w : WorldState) (p : ℕ) (r : Row) → RowDoes p r → IsCalled w p (outcome (cleared w) r)
+row_opens w p _ (NoWait r quiet) q opened =
+    let done : Callers = (all_done (cleared w) r.deeds).callers in
+    let ages : AllAge w.callers (settled done) =
+    then_all w.callers done (settled done) (all-done-age (cleared w) r.deeds quiet)
+    (settled-age done) in
+    inl ((ages q).still opened)
+row_opens w p _ (OneWait ticket) q opened =
+    let began : Callers = waits p ticket w.callers in
+    at-set
+    (λ x. is_open x.waiting ≡ true → (is_waiting w q ≡ true) ⊎ ((p ≡ q) × (reply.Wait ≡ reply.Wait)))
+    w.callers.list p q (with_waiting (caller_at w.callers p) (Open ticket)) (λ h. inl h)
+    (λ same within h. inr (sym same, refl)) ((settled-age began q).still opened)
+
+pub tickets-are-called : TicketsAreCalled
+tickets-are-called w p e =
+    by_step (λ (deeds : List Deed) (after : Outcome). IsCalled w p after) w p e
+    (λ errno q opened. inl opened)
+    (λ accepted. row_opens w p (row (cleared w) p e) (row-does (cleared w) p e))
+
+-- a caller at the start has no ticket
+shut_of : (start : Option ProcStart) → is_open (caller_of start).waiting ≡ false
+shut_of None = refl
+shut_of (Some start) = refl
+
+starts_shut : (starts : List ProcStart) (n : ℕ) → is_open (starting starts n).waiting ≡ false
+starts_shut starts n =
+    elim (n == 0) as (λ b. is_open (if b then keyboard else caller_of (slice_get starts (n - 1))).waiting ≡ false)
+    [ true ↦ refl | false ↦ shut_of (slice_get starts (n - 1)) ]
+
+all_shut : (starts : List ProcStart) (numbers : List ℕ) (p : ℕ)
+    → is_open (get_or (map (starting starts) numbers) p no_caller).waiting ≡ false
+all_shut starts [] p = refl
+all_shut starts (n ∷ numbers) zero = starts_shut starts n
+all_shut starts (n ∷ numbers) (suc p) = all_shut starts numbers p
+
+pub nobody-waits-at-start : NobodyWaitsAtStart
+nobody-waits-at-start w start p =
+    subst (λ (x : WorldState). is_waiting x p ≡ false) (sym start.opened)
+    (all_shut start.processes (range_with_len 0 65) p)

@@ -1,0 +1,165 @@
+-- What an event does to the callers.
+use Rattle.std.proofs.Common.{◌≡◌, ℕ, Bool, true, false, cond, List, [], ◌∷◌, ◌++◌, filter, Option, Some, None, refl, ◌∙◌}
+use Rattle.std.proofs.lemmas.Bool.{and_parts, and_from, false≢true}
+use Rattle.std.proofs.lemmas.List.Folds.{list_all-append}
+use Rattle.std.specs.List.{flat_map, list_all, range_with_len}
+use Rattle.std.specs.Prelude.{◌==◌, not, if◌then◌else◌}
+use Rattle.key_machine.specs.declared.key_out.KeyOut.{KeyOut}
+use Rattle.key_machine.specs.declared.key_out.KeyOut.TheVariants as heard_keys
+use Rattle.scan_codes.specs.Scan.{event_after}
+use Rattle.scan_codes.specs.declared.key_event.KeyEvent.{KeyEvent}
+use Rattle.vt_world.proofs.Ages.{AllAge, accepting-age, all-stay, collected-age, ended-age, filled-age, opened-age, raised-age, shown-age, shut-age, taken-age, then_all}
+use Rattle.vt_events.specs.declared.event.Event.{Event}
+use Rattle.vt_events.specs.declared.event.Event.TheVariants as event
+use Rattle.vt_events.specs.declared.reply.Reply.TheVariants as reply
+use Rattle.vt_procs.specs.Tickets.{filled}
+use Rattle.vt_procs.specs.declared.ticket.Ticket.{Ticket}
+use Rattle.vt_procs.specs.declared.ticket.Ticket.TheVariants.{Active, AnySignal, Input}
+use Rattle.vt_screen.specs.declared.out.Out.{Out}
+use Rattle.vt_screen.specs.declared.out.Out.TheVariants as outs
+use Rattle.vt_switch.specs.Acts.{End, SetKd, SwitchAct}
+use Rattle.vt_switch.specs.Moments.{core_after, marks, raise}
+use Rattle.vt_switch.specs.declared.mark.Mark.{Mark}
+use Rattle.vt_switch.specs.declared.mark.Mark.TheVariants as mark
+use Rattle.vt_world.specs.Deeds.{Deed, By, Asks, Own, OwnDeed, Puts, Opens, Shuts, Waits, Collects, Receives, Accepts, Raises, acted, all_done, done, own_done, requested}
+use Rattle.vt_world.specs.Heard.{heard, tell}
+use Rattle.vt_world.specs.Inputs.{comes, input_at}
+use Rattle.vt_world.specs.Rows.{Row, disallocating, freeing, out_deeds, row, waits_unless}
+use Rattle.vt_world.specs.State.{WorldState, core}
+use Rattle.vt_world.specs.Terminals.{said_of, terminal_at}
+use Rattle.vt_world.specs.Tests.{is_empty, is_in_use, target}
+use Rattle.vt_world.specs.Typing.{ends_of, key_deeds, key_on, key_out_deeds, read_deeds, scan_deeds, sent, spawn_deeds, users}
+use Rattle.vt_world.specs.Wanted.{wanted_in}
+
+-- all deeds but a wait
+abbrev pub is_quiet : Deed → Bool
+is_quiet (Own (Waits p ticket)) = false
+is_quiet deed = true
+
+abbrev pub all_quiet : List Deed → Bool
+all_quiet deeds = list_all is_quiet deeds
+
+heard-age : (m : Mark) (w : WorldState) → AllAge w.callers (heard w m).callers
+heard-age (mark.Asked n) w = all-stay w.callers
+heard-age (mark.Raised p signal) w = raised-age w.callers p signal
+heard-age (mark.Hopped hop) w = shown-age w.callers hop.to
+heard-age (mark.Ended p) w = ended-age w.callers p
+
+pub tell-age : (told : List Mark) (w : WorldState) → AllAge w.callers (tell w told).callers
+tell-age [] w = all-stay w.callers
+tell-age (m ∷ told) w =
+    then_all w.callers (heard w m).callers (tell (heard w m) told).callers (heard-age m w)
+    (tell-age told (heard w m))
+
+acted-age : (w : WorldState) (act : SwitchAct) → AllAge w.callers (acted w act).callers
+acted-age w act =
+    tell-age (marks (core w) act) (record w { display = (core_after (core w) act).display })
+
+requested-age : (w : WorldState) (n : Option ℕ) → AllAge w.callers (requested w n).callers
+requested-age w None = all-stay w.callers
+requested-age w (Some n) = acted-age w (SwitchAct.Request n)
+
+own-age : (w : WorldState) (deed : OwnDeed) → is_quiet (Own deed) ≡ true
+    → AllAge w.callers (own_done w deed).callers
+own-age w (Puts n piece) quiet =
+    elim (comes (input_at w.inputs n).queue piece) as (λ b. AllAge w.callers (cond b (filled n w.callers) w.callers))
+    [ true ↦ filled-age w.callers n | false ↦ all-stay w.callers ]
+own-age w (Opens p c) quiet = opened-age w.callers p c
+own-age w (Shuts p fd) quiet = shut-age w.callers p fd
+own-age w (Waits p ticket) quiet = absurd (false≢true quiet)
+own-age w (Collects p) quiet = collected-age w.callers p
+own-age w (Receives p) quiet = taken-age w.callers p
+own-age w (Accepts p signal) quiet = accepting-age w.callers p signal
+own-age w (Raises p signal) quiet = tell-age (raise (core w) p signal) w
+own-age w deed quiet = all-stay w.callers
+
+done-age : (w : WorldState) (deed : Deed) → is_quiet deed ≡ true
+    → AllAge w.callers (done w deed).callers
+done-age w (By act) quiet = acted-age w act
+done-age w (Asks wanted) quiet = requested-age w (wanted_in w.display wanted)
+done-age w (Own deed) quiet = own-age w deed quiet
+
+pub all-done-age : (w : WorldState) (deeds : List Deed) → all_quiet deeds ≡ true
+    → AllAge w.callers (all_done w deeds).callers
+all-done-age w [] quiet = all-stay w.callers
+all-done-age w (deed ∷ deeds) quiet =
+    let parts : (is_quiet deed ≡ true) × (all_quiet deeds ≡ true) =
+    and_parts (is_quiet deed) (all_quiet deeds) quiet in
+    then_all w.callers (done w deed).callers (all_done (done w deed) deeds).callers
+    (done-age w deed parts.0) (all-done-age (done w deed) deeds parts.1)
+
+append_quiet : (a b : List Deed) → all_quiet a ≡ true → all_quiet b ≡ true
+    → all_quiet (a ++ b) ≡ true
+append_quiet a b qa qb =
+    list_all-append is_quiet a b ∙ and_from (all_quiet a) (all_quiet b) qa qb
+
+flat_quiet : {A : Type 0} (f : A → List Deed) (xs : List A) → ((x : A) → all_quiet (f x) ≡ true)
+    → all_quiet (flat_map f xs) ≡ true
+flat_quiet f [] quiet = refl
+flat_quiet f (x ∷ xs) quiet = append_quiet (f x) (flat_map f xs) (quiet x) (flat_quiet f xs quiet)
+
+sent_quiet : (p signal : ℕ) → is_quiet (sent p signal) ≡ true
+sent_quiet p signal =
+    elim (signal == 9) as (λ b. is_quiet (if b then By (End p) else Own (Raises p signal)) ≡ true)
+    [ true ↦ refl | false ↦ refl ]
+
+one_sent : (p signal : ℕ) → all_quiet (sent p signal ∷ []) ≡ true
+one_sent p signal = and_from (is_quiet (sent p signal)) true (sent_quiet p signal) refl
+
+spawn_quiet : (accepter : Option (ℕ × ℕ)) → all_quiet (spawn_deeds accepter) ≡ true
+spawn_quiet None = refl
+spawn_quiet (Some accepter) = one_sent accepter.0 accepter.1
+
+ends_quiet : (processes : List ℕ) (deeds : List Deed) → all_quiet deeds ≡ true
+    → all_quiet (ends_of processes deeds) ≡ true
+ends_quiet [] deeds quiet = quiet
+ends_quiet (p ∷ processes) deeds quiet = ends_quiet processes deeds quiet
+
+key_out_quiet : (w : WorldState) (n : ℕ) (out : KeyOut) → all_quiet (key_out_deeds w n out) ≡ true
+key_out_quiet w n heard_keys.Spawn = spawn_quiet w.callers.accepter
+key_out_quiet w n heard_keys.Attention = ends_quiet (users w n) (By (SetKd n false) ∷ []) refl
+key_out_quiet w n out = refl
+
+key_quiet : (w : WorldState) (n : ℕ) (e : Option KeyEvent) → all_quiet (key_deeds w n e) ≡ true
+key_quiet w n None = refl
+key_quiet w n (Some e) = key_out_quiet w n (key_on w n e).out
+
+scan_quiet : (w : WorldState) (n b : ℕ) → all_quiet (scan_deeds w n b) ≡ true
+scan_quiet w n b =
+    let read : all_quiet (read_deeds w n b) ≡ true =
+    key_quiet w n (event_after w.board.scanner.codes w.board.scanner.bytes b) in
+    elim ((input_at w.inputs n).keys.mode == 0) as (λ raw. all_quiet (if raw then Own (Puts n (b ∷ [])) ∷ read_deeds w n b else read_deeds w n b) ≡ true)
+    [ true ↦ read | false ↦ read ]
+
+out_quiet : (c : ℕ) (out : Out) → all_quiet (out_deeds c out) ≡ true
+out_quiet c (outs.Report text) = refl
+out_quiet c out = refl
+
+free_quiet : (w : WorldState) (n : ℕ) → all_quiet (disallocating w n) ≡ true
+free_quiet w n =
+    elim (n == 0) as (λ b. all_quiet (if b then flat_map freeing (filter (λ c. not (is_in_use w c)) (range_with_len 1 63)) else freeing n) ≡ true) [
+      | true ↦ flat_quiet freeing (filter (λ c. not (is_in_use w c)) (range_with_len 1 63)) (λ c. refl)
+      | false ↦ refl
+    ]
+
+-- what an accepted event does: nothing that is a wait, or just a wait of its caller, which is told so
+pub data RowDoes (p : ℕ) : Row → Type 0 where
+  NoWait : (r : Row) → all_quiet r.deeds ≡ true → RowDoes p r
+  OneWait : (ticket : Ticket) → RowDoes p (record { reply = reply.Wait; deeds = Own (Waits p ticket) ∷ [] })
+
+waits_does : (there : Bool) (p : ℕ) (ticket : Ticket) → RowDoes p (waits_unless there p ticket)
+waits_does true p ticket = NoWait (record { reply = reply.Done; deeds = [] }) refl
+waits_does false p ticket = OneWait ticket
+
+pub row-does : (w : WorldState) (p : ℕ) (e : Event) → RowDoes p (row w p e)
+row-does w p (event.Scan b) = NoWait (row w p (event.Scan b)) (scan_quiet w w.display.front b)
+row-does w p (event.Write fd b) =
+    NoWait (row w p (event.Write fd b))
+    (flat_quiet (out_deeds (target w p fd)) (said_of (terminal_at w.terminals (target w p fd)) b.bytes) (out_quiet (target w p fd)))
+row-does w p (event.WaitInput fd) =
+    waits_does (not (is_empty w (target w p fd))) p (Input (target w p fd))
+row-does w p (event.WaitActive fd n) = waits_does (n == w.display.front) p (Active n)
+row-does w p event.WaitSignal = OneWait AnySignal
+row-does w p (event.Disallocate fd n) = NoWait (row w p (event.Disallocate fd n)) (free_quiet w n)
+row-does w p (event.Kill q s) = NoWait (row w p (event.Kill q s)) (one_sent q s)
+row-does w p e = NoWait (row w p e) refl
