@@ -1,12 +1,12 @@
 -- Maps of holes, table by table.
-use Rattle.std.proofs.Common.{◌≡◌, ℕ, suc, ◌<◌, ◌≤◌, Bool, true, false, ◌==◌, cond, Option, Some, None, is_some, IfSome, List, [], ◌∷◌, length, get_or, replicate, All, refl, sym, ap, ◌∙◌, subst, inl, inr, arith}
+use Rattle.std.proofs.Common.{◌≡◌, ℕ, suc, ◌<◌, ◌≤◌, Bool, true, false, ◌==◌, cond, Option, Some, None, is_some, IfSome, List, [], ◌∷◌, length, get_or, replicate, All, IsTrue, refl, sym, ap, ◌∙◌, subst, inl, inr, arith}
 use Rattle.std.proofs.lemmas.Bool.{cases_lt}
 use Rattle.std.proofs.lemmas.Bool.Decides.{eqb_tells}
 use Rattle.std.proofs.lemmas.List.{get_or-replicate, get_or_default, get_or_past, length-replicate}
 use Rattle.std.proofs.lemmas.List.Elements.{All-replicate}
 use Rattle.std.specs.List.{list_any, slice_index_or}
 use Rattle.std.specs.Option.{option_map}
-use Rattle.key_syms.specs.Act.{Act}
+use Rattle.key_syms.specs.Act.{Act, is_action}
 use Rattle.key_syms.specs.declared.pair.Pair.{Pair}
 use Rattle.key_tables.specs.Tables.{AreHoles, IsEmpty, IsMap, IsWhole, hole, tables_of}
 
@@ -26,7 +26,11 @@ holes_at c = elim (cases_lt c 256) [
 ]
 
 pub are_map : IsMap (replicate 256 hole)
-are_map = record { full = length-replicate 256 hole; no_key = holes_at 0 }
+are_map = record {
+  full = length-replicate 256 hole;
+  no_key = holes_at 0;
+  known = All-replicate (λ (a : Act). IsTrue (is_action a.kind a.value)) 256 hole refl;
+}
 
 start-fits : (b : Bool) → IfSome (cond b (Some (replicate 256 hole)) None) IsMap
 start-fits true = are_map
@@ -69,6 +73,9 @@ entries_as declared maps holes t c = elim (cases_lt t 256) [
   | inr ge ↦ subst (λ (m : Option (List Act)). option_map (λ map. slice_index_or map c hole) m ≡ cond (is_some m) (Some hole) None) (sym (get_or_past maps t None (omega (arith, holes.tall)))) refl
 ]
 
+no_bytes : All (λ b. b < 256) []
+no_bytes k d h = absurd (omega arith)
+
 abbrev no_text : List ℕ
 no_text = []
 
@@ -84,6 +91,7 @@ whole_start declared maps funcs pairs holes texts none = record {
   maps = all_fit declared maps holes;
   strings = ap length texts ∙ length-replicate 256 no_text;
   short = subst (λ (fs : List (List ℕ)). All (λ text. length text ≤ 255) fs) (sym texts) (All-replicate (λ (text : List ℕ). length text ≤ 255) 256 no_text (omega arith));
+  bytes = subst (λ (fs : List (List ℕ)). All (λ text. All (λ b. b < 256) text) fs) (sym texts) (All-replicate (λ (text : List ℕ). All (λ b. b < 256) text) 256 no_text no_bytes);
   few = omega (arith, ap length none);
 }
 

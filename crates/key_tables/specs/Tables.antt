@@ -1,10 +1,10 @@
 -- Key tables as contracts see them: finite maps from tables and keycodes to actions, function
 -- strings, and a list of pairs.
-use Rattle.std.specs.Prelude.{◌≡◌, ℕ, ◌<◌, ◌≤◌, Bool, ◌==◌, ◌&&◌, cond, Option, Some, None, is_some, find, List, [], length, replicate, slice_index_or, slice_set, All, IfSome}
+use Rattle.std.specs.Prelude.{◌≡◌, ℕ, ◌<◌, ◌≤◌, Bool, ◌==◌, ◌&&◌, cond, Option, Some, None, is_some, find, List, [], length, replicate, slice_index_or, slice_set, All, IfSome, IsTrue}
 use Rattle.std.specs.List.{list_any}
 use Rattle.std.specs.Option.{option_map}
-use Rattle.key_syms.specs.Act.{Act, act}
-use Rattle.key_syms.specs.declared.kind.TheConstants.{HOLE}
+use Rattle.key_syms.specs.Act.{Act, act, is_action}
+use Rattle.key_syms.specs.Kinds.{HOLE}
 use Rattle.key_syms.specs.declared.pair.Pair.{Pair}
 
 -- for each table its entries by keycode, where it exists; the function strings; the pairs in order
@@ -41,10 +41,11 @@ abbrev pub found_in : List Pair → ℕ → ℕ → Option ℕ
 found_in pairs a b =
     option_map (λ pair. pair.result) (find (λ pair. pair.accent == a && pair.base == b) pairs)
 
--- entries for 256 codes, of which 0 is no keycode and does nothing
+-- entries for 256 codes, each an action; code 0 is no keycode and does nothing
 pub record IsMap (map : List Act) : Type 0 where
   pub full : length map ≡ 256
   pub no_key : slice_index_or map 0 hole ≡ hole
+  pub known : All (λ a. IsTrue (is_action a.kind a.value)) map
 
 -- there are 256 tables at most and 256 strings, each of 255 bytes at most, and 256 pairs at most
 pub record IsWhole (tables : Tables) : Type 0 where
@@ -52,6 +53,7 @@ pub record IsWhole (tables : Tables) : Type 0 where
   pub maps : All (λ map. IfSome map IsMap) tables.maps
   pub strings : length tables.funcs ≡ 256
   pub short : All (λ text. length text ≤ 255) tables.funcs
+  pub bytes : All (λ text. All (λ b. b < 256) text) tables.funcs
   pub few : length tables.pairs ≤ 256
 
 -- the tables that are declared exist, and nothing is set

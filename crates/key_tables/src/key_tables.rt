@@ -10,7 +10,7 @@ use std::alloc::Global;
 use std::marker::Model;
 use vt_base::{Bytes, NoMemory};
 
-/// How many tables there may be, and how many function keys and pairs.
+// How many tables there may be, and how many function keys and pairs.
 const COUNT: usize = 256;
 
 /// Which tables exist and what each keycode does in them, the strings of the function keys, and the

@@ -30,7 +30,7 @@ pub fn add_tables(
     add_pairs(alloc, text, pairs)
 }
 
-/// Adds the line of the tables that exist.
+// Adds the line of the tables that exist.
 fn add_maps(alloc: Global, text: &mut Bytes, maps: &[Table]) -> Result<(), NoMemory>
     requires { length maps.now ≤ 256 }
     ensures { OnOk result (text.new.bytes ≡ text.old.bytes ++ maps_text maps.now) }
@@ -51,7 +51,7 @@ fn add_table(alloc: Global, text: &mut Bytes, t: u16, map: &Table) -> Result<(),
     Ok(())
 }
 
-/// Adds a line for each entry that isn't a hole.
+// Adds a line for each entry that isn't a hole.
 fn add_entries(alloc: Global, text: &mut Bytes, maps: &[Table]) -> Result<(), NoMemory>
     requires { length maps.now ≤ 256 }
     ensures { OnOk result (text.new.bytes ≡ text.old.bytes ++ texts_from map_text 0 maps.now) }
@@ -81,7 +81,7 @@ fn add_entry(alloc: Global, text: &mut Bytes, t: u16, c: u16, a: Action) -> Resu
     add_line(alloc, text, b"map", &[t, c, u16::from(a.kind), a.value])
 }
 
-/// Adds a line for each string that isn't empty.
+// Adds a line for each string that isn't empty.
 fn add_funcs(alloc: Global, text: &mut Bytes, funcs: &[FuncText]) -> Result<(), NoMemory>
     requires { length funcs.now ≤ 256 }
     ensures { OnOk result (text.new.bytes ≡ text.old.bytes ++ texts_from func_text 0 funcs.now) }
@@ -122,7 +122,7 @@ fn hex_digit(d: u8) -> u8
     if d < 10 { b'0' + d } else { b'a' + (d - 10) }
 }
 
-/// Adds a line for each pair.
+// Adds a line for each pair.
 fn add_pairs(alloc: Global, text: &mut Bytes, pairs: &[Pair]) -> Result<(), NoMemory>
     ensures { OnOk result (text.new.bytes ≡ text.old.bytes ++ flat_map pair_text pairs.now) }
 {

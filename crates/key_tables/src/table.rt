@@ -4,11 +4,11 @@ ghost use Rattle.key_syms.specs.Act.{Act};
 ghost use Rattle.key_tables.specs.Tables.{IsMap, hole};
 
 use key_syms::{Action, kind};
-use std::alloc::Global;
+use std::alloc::{AllocError, Global};
 use std::marker::Model;
 use vt_base::NoMemory;
 
-/// How many codes a table has entries for.
+// How many codes a table has entries for.
 const CODES: usize = 256;
 
 /// A table that may exist: the actions by code. One that doesn't exist keeps none.
@@ -44,14 +44,7 @@ impl Table {
     pub fn holes(alloc: Global) -> Result<Table, NoMemory>
         ensures { IfOk result (λ table. table ≡ Some (replicate 256 hole)) }
     {
-        let mut entries = Vec::new(alloc);
-        entries.resize(
-            CODES,
-            Action {
-                kind: kind::HOLE,
-                value: 0,
-            },
-        )?;
+        let entries = hole_entries(alloc)?;
         Ok(Table { entries })
     }
 
@@ -88,8 +81,24 @@ impl Table {
     pub fn put(&mut self, c: u8, a: Action)
         requires exists { IsSome self.old }
         requires key { c ≢ 0 }
-        ensures { self.new ≡ option_map (λ map. slice_set map c a) self.old }
+        ensures map { self.new ≡ option_map (λ map. slice_set map c a) self.old }
+        ensures whole { IfSome self.new IsMap }
     {
+        let _ = &a.kind; // opens the action: it is one
         self.entries[usize::from(c)] = a;
     }
+}
+
+fn hole_entries(alloc: Global) -> Result<Vec<Action>, AllocError>
+    ensures { IfOk result (λ entries. entries.items ≡ replicate 256 hole) }
+{
+    let mut entries = Vec::new(alloc);
+    entries.resize(
+        CODES,
+        Action {
+            kind: kind::HOLE,
+            value: 0,
+        },
+    )?;
+    Ok(entries)
 }

@@ -2,6 +2,7 @@ pub mod Begun
 pub mod Faults
 pub mod Lengths
 pub mod Marks
+pub mod Naming
 pub mod Rows
 pub mod Symbols
 pub mod Turns

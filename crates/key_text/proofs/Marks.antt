@@ -1,14 +1,14 @@
 -- Ranges of tables that are marked one by one.
 use Rattle.std.proofs.Common.{◌≡◌, ◌≢◌, ℕ, zero, suc, ◌+◌, ◌-◌, ◌<◌, ◌≤◌, Bool, true, false, ◌==◌, ◌&&◌, ◌||◌, not, cond, Result, Ok, Err, List, [], ◌∷◌, ◌++◌, length, get_or, take, drop, map, replicate, append_assoc, refl, sym, ap, ◌∙◌, subst, inl, inr, arith}
 use Rattle.std.proofs.lemmas.Bool.Decides.{eqb_tells}
-use Rattle.std.proofs.lemmas.Bool.{le-leb}
+use Rattle.std.proofs.lemmas.Bool.{eq-eqb, le-leb}
 use Rattle.std.proofs.lemmas.List.{get_or-replicate, length-replicate, take_all}
 use Rattle.std.proofs.lemmas.List.Folds.{list_any_at}
 use Rattle.std.proofs.lemmas.List.FromFn.{fill_by_all}
 use Rattle.std.specs.List.{list_any, range_with_len, slice_index_or}
 use Rattle.key_text.specs.Fault.{◌>>=◌}
 use Rattle.key_text.specs.Lines.{before, comma, covers, marked, pieces, range_of, ranges_of, tables_in, with_byte}
-use Rattle.key_text.specs.Tables.{IsTableSet}
+use Rattle.key_text.specs.Tables.{IsTableSet, is_table_set}
 use Rattle.key_text.specs.declared.fault.KeyFault.{KeyFault}
 use Rattle.key_text.specs.declared.keymaps_line.TableRange.{TableRange}
 use Rattle.key_text.specs.declared.placed.Placed.{Placed}
@@ -75,6 +75,9 @@ marked_set tables new range long each order small = record {
 
     covered : covers range.low range ≡ true
     covered = rw (le-leb range.low range.low (omega arith), le-leb range.low range.high order) refl
+
+pub are_set : (tables : List Bool) → IsTableSet tables → is_table_set tables ≡ true
+are_set tables set = rw (eq-eqb (length tables) 256 set.full, set.some) refl
 
 comma_first : (b : ℕ) (bs : List ℕ) → (b == comma) ≡ true → before comma (b ∷ bs) ≡ 0
 comma_first b bs e = rw e refl

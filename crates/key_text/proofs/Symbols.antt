@@ -6,7 +6,7 @@ use Rattle.key_text.specs.Fields.{action_of, symbols_after, symbols_at, with_act
 use Rattle.key_text.specs.Lines.{keycode_by, modifiers_at, modifiers_by, weight_of}
 use Rattle.key_text.specs.Words.{next, whole, word_at}
 use Rattle.key_text.specs.declared.fault.KeyFault.{KeyFault}
-use Rattle.key_text.specs.declared.fault_kind.TheConstants.{UNKNOWN_WORD}
+use Rattle.key_text.specs.FaultKinds.{UNKNOWN_WORD}
 use Rattle.key_text.specs.declared.placed.Place.{Place}
 use Rattle.key_text.specs.declared.placed.Placed.{Placed}
 

@@ -3,12 +3,12 @@ use Rattle.std.specs.Prelude.{ℕ, zero, suc, ◌+◌, Bool, ◌==◌, ◌&&◌,
 use Rattle.key_syms.specs.Act.{Act, is_character}
 use Rattle.key_syms.specs.Names.{symbol}
 use Rattle.key_syms.specs.Numbers.{number_of}
-use Rattle.key_syms.specs.declared.kind.TheConstants.{CHARACTER, FUNCTION}
+use Rattle.key_syms.specs.Kinds.{CHARACTER, FUNCTION}
 use Rattle.key_text.specs.Fault.{fault, ◌>>=◌}
 use Rattle.key_text.specs.Quoted.{character_of, text_of}
 use Rattle.key_text.specs.Words.{bytes, is_quote, is_word, next, spot, whole, word_at}
 use Rattle.key_text.specs.declared.fault.KeyFault.{KeyFault}
-use Rattle.key_text.specs.declared.fault_kind.TheConstants.{BAD_TEXT, LEFT_OVER, LONG_STRING, OUT_OF_RANGE, UNKNOWN_SYMBOL, UNKNOWN_WORD, WRONG_COUNT}
+use Rattle.key_text.specs.FaultKinds.{BAD_TEXT, LEFT_OVER, LONG_STRING, OUT_OF_RANGE, UNKNOWN_SYMBOL, UNKNOWN_WORD, WRONG_COUNT}
 use Rattle.key_text.specs.declared.placed.Place.{Place}
 use Rattle.key_text.specs.declared.placed.Placed.{Placed}
 

@@ -1,9 +1,11 @@
 pub mod Adds
 pub mod Cut
 pub mod Fault
+pub mod FaultKinds
 pub mod Fields
 pub mod Included
 pub mod Lines
+pub mod Places
 pub mod Quoted
 pub mod Reading
 pub mod Rows

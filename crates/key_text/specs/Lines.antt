@@ -10,7 +10,7 @@ use Rattle.key_text.specs.Fields.{character_at, code_at, ended, keyword_at, rang
 use Rattle.key_text.specs.Told.{Telling, keymaps, keys, one, string, compose, alt_is_meta, usual_strings, usual_pairs}
 use Rattle.key_text.specs.Words.{bytes, is_word, next, spot, whole, word_at}
 use Rattle.key_text.specs.declared.fault.KeyFault.{KeyFault}
-use Rattle.key_text.specs.declared.fault_kind.TheConstants.{OUT_OF_RANGE, UNKNOWN_WORD}
+use Rattle.key_text.specs.FaultKinds.{OUT_OF_RANGE, UNKNOWN_WORD}
 use Rattle.key_text.specs.declared.keymaps_line.TableRange.{TableRange}
 use Rattle.key_text.specs.declared.placed.Place.{Place}
 use Rattle.key_text.specs.declared.placed.Placed.{Placed}

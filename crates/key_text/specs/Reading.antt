@@ -9,7 +9,7 @@ use Rattle.key_text.specs.Told.{Told}
 use Rattle.key_text.specs.View.{told}
 use Rattle.key_text.specs.Words.{spot, word_at}
 use Rattle.key_text.specs.declared.fault.KeyFault.{KeyFault}
-use Rattle.key_text.specs.declared.fault_kind.TheConstants.{NOT_GIVEN, TOO_DEEP, TOO_MANY_INCLUDES}
+use Rattle.key_text.specs.FaultKinds.{NOT_GIVEN, TOO_DEEP, TOO_MANY_INCLUDES}
 use Rattle.key_text.specs.declared.placed.Place.{Place}
 use Rattle.key_text.specs.declared.placed.Placed.{Placed}
 

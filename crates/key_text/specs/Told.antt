@@ -1,7 +1,8 @@
 -- What a line of a keymap tells.
-use Rattle.std.specs.Prelude.{ℕ, Bool, ◌==◌, ◌&&◌, not, nat_le, true, false, List, length}
-use Rattle.key_syms.specs.Act.{Act, is_surrogate}
+use Rattle.std.specs.Prelude.{ℕ, Bool, ◌&&◌, nat_le, true, List, length}
+use Rattle.key_syms.specs.Act.{Act, is_character}
 use Rattle.key_syms.specs.declared.pair.Pair.{Pair}
+use Rattle.key_text.specs.Tables.{is_table_set}
 
 -- which tables there are; the actions of a code in the tables in order; the one action of a code in
 -- one table; a string; a pair; and the lines of one meaning
@@ -24,12 +25,11 @@ pub record Told : Type 0 where
 -- a pair of characters
 abbrev pub is_real : Pair → Bool
 is_real pair =
-    not (is_surrogate pair.accent) && not (is_surrogate pair.base)
-    && not (is_surrogate pair.result)
+    is_character pair.accent && is_character pair.base && is_character pair.result
 
--- a code isn't 0, a string has at most 255 bytes, and a pair is of characters
+-- there is a table, a code isn't 0, a string has at most 255 bytes, and a pair is of characters
 abbrev pub is_fit : Telling → Bool
-is_fit (keymaps tables) = true
+is_fit (keymaps tables) = is_table_set tables
 is_fit (keys code actions) = nat_le 1 code
 is_fit (one table code action) = nat_le 1 code
 is_fit (string func bytes) = nat_le (length bytes) 255

@@ -8,7 +8,7 @@ use Rattle.std.specs.Str.Lossy.{utf8_valid_len}
 use Rattle.key_text.specs.Fault.{fault}
 use Rattle.key_text.specs.Rows.{backslash, place_of}
 use Rattle.key_text.specs.declared.fault.KeyFault.{KeyFault}
-use Rattle.key_text.specs.declared.fault_kind.TheConstants.{BAD_TEXT, LEFT_OVER, UNKNOWN_WORD}
+use Rattle.key_text.specs.FaultKinds.{BAD_TEXT, LEFT_OVER, UNKNOWN_WORD}
 use Rattle.key_text.specs.declared.placed.Place.{Place}
 use Rattle.key_text.specs.declared.placed.Placed.{Placed}
 

@@ -15,7 +15,7 @@ use crate::words::{bytes, fault, is_quote, is_word, next, spot, whole, word_at};
 use key_syms::{Action, by_bytes, kind, number};
 use std::alloc::Global;
 
-/// The greatest bytes of a string.
+// The greatest bytes of a string.
 const STRING_BYTES: usize = 255;
 
 /// The row ends: no word is left.
@@ -143,7 +143,7 @@ pub fn string_at(
     Err(fault(LONG_STRING, at))
 }
 
-/// The character that a word is: quoted, or a symbol.
+// The character that a word is: quoted, or a symbol.
 #[tactic(auto, unfolding(crate::specs::Fields::character_in))]
 fn character_in(alloc: Global, word: &[Placed]) -> Result<u16, KeyError>
     ensures value { Gives (λ x. x) result (character_in word.now) }

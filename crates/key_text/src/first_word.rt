@@ -30,7 +30,7 @@ pub fn said_from(
     line_by(alloc, end, word, rest)
 }
 
-/// A line by its first word.
+// A line by its first word.
 #[tactic(auto, unfolding(crate::specs::Lines::line_by))]
 fn line_by(alloc: Global, end: Place, word: &[Placed], rest: &[Placed]) -> Result<Saying, KeyError>
     ensures value { Gives said result (line_by end (word.now, rest.now)) }

@@ -6,7 +6,7 @@ use std::alloc::{AllocError, Global};
 use std::marker::Model;
 
 /// A text and its name.
-#[derive(Debug, Drop)]
+#[derive(Drop)]
 pub struct Included {
     name: Vec<u8>,
     text: Vec<u8>,

@@ -1,25 +1,32 @@
-ghost use Rattle.std.specs.Prelude.{◌≡◌, [], OnOk, OnErr};
+ghost use Rattle.std.specs.Prelude.{◌≡◌, ℕ, ◌<◌, List, [], ◌∷◌, ◌++◌, Some, cond, length, vec_len, vec_capacity, OnOk, OnErr};
 ghost use Rattle.std.specs.Option.{option_copied};
+ghost use Rattle.std.specs.Str.{bytes_eq};
 ghost use Rattle.key_text.specs.Included.{text_named, with_text};
+ghost use Rattle.key_text.specs.Places.{at_name, text_in};
 
 use crate::included::Included;
 use std::alloc::Global;
+use std::collections::BTreeMap;
 use std::marker::Model;
 use vt_base::NoMemory;
 
 /// The texts that a keymap may include, by name.
-#[derive(Debug, Drop)]
+#[derive(Drop)]
 pub struct Includes {
     texts: Vec<Included>,
+    places: BTreeMap<Vec<u8>, usize>,
 }
 
 impl Model for Includes {
     ghost use Rattle.std.specs.Prelude.{List};
     ghost use Rattle.key_text.specs.Included.{Named};
+    ghost use Rattle.key_text.specs.Places.{HasPlaces};
 
     ghost Value = { List Named };
 
     ghost view = { λ i. i.texts.items };
+
+    ghost invariant = { λ i. HasPlaces i.places i.texts.items };
 }
 
 impl Includes {
@@ -29,6 +36,7 @@ impl Includes {
     {
         Includes {
             texts: Vec::new(alloc),
+            places: BTreeMap::new(alloc),
         }
     }
 
@@ -40,7 +48,11 @@ impl Includes {
         if self.text_named(name).is_some() {
             return Ok(());
         }
-        self.texts.push(Included::new(alloc, name, text)?)?;
+        let included = Included::new(alloc, name, text)?;
+        let key = Vec::from_slice(alloc, name)?;
+        self.texts.reserve(1)?;
+        put_place(&mut self.places, key, self.texts.len())?;
+        add_last(&mut self.texts, included);
         Ok(())
     }
 
@@ -48,18 +60,48 @@ impl Includes {
     pub(crate) fn text_named(&self, name: &[u8]) -> Option<&[u8]>
         ensures { option_copied result ≡ text_named name.now self.entry.now }
     {
-        find_text(self.texts.as_slice(), name)
+        match place_named(&self.places, name) {
+            Some(place) => Some(text_at(self.texts.as_slice(), place)),
+            None => None,
+        }
     }
 }
 
-fn find_text<'a>(texts: &'a [Included], name: &[u8]) -> Option<&'a [u8]>
-    ensures { option_copied result ≡ text_named name.now texts.entry.now }
+// The place that a map has at a name.
+fn place_named(places: &BTreeMap<Vec<u8>, usize>, name: &[u8]) -> Option<usize>
+    ensures { result ≡ at_name places.now name.now }
 {
-    for i in 0..texts.len() {
-        let included = &texts[i];
-        if included.has_name(name) {
-            return Some(included.text());
-        }
-    }
-    None
+    places.get(name).copied()
+}
+
+// Sets the place of a name.
+fn put_place(
+    places: &mut BTreeMap<Vec<u8>, usize>,
+    name: Vec<u8>,
+    place: usize,
+) -> Result<(), NoMemory>
+    ensures ok { OnOk result ((other : List ℕ) → at_name places.new other
+        ≡ cond (bytes_eq name.items other) (Some place) (at_name places.old other)) }
+    ensures err { OnErr result ((other : List ℕ) → at_name places.new other
+        ≡ at_name places.old other) }
+{
+    places.insert(name, place)?;
+    Ok(())
+}
+
+// Adds a text for which there is room.
+fn add_last(texts: &mut Vec<Included>, included: Included)
+    requires { vec_len texts.old < vec_capacity texts.old }
+    ensures { texts.new.items ≡ texts.old.items ++ included ∷ [] }
+{
+    let kept = texts.push(included);
+    prove!(kept.is_ok());
+    let _ = kept;
+}
+
+fn text_at<'a>(texts: &'a [Included], place: usize) -> &'a [u8]
+    requires { place < length texts.now }
+    ensures { result.now ≡ text_in texts.entry.now place }
+{
+    texts[place].text()
 }

@@ -2,6 +2,7 @@ ghost use Rattle.std.specs.Prelude.{◌≡◌, ℕ, ◌<◌, ◌≤◌, ◌||◌
 ghost use Rattle.key_text.specs.Fault.{Gives};
 ghost use Rattle.key_text.specs.Lines.{before, covers, in_order, keymaps_line, range_by, range_of, table_of, tables_in};
 ghost use Rattle.key_text.specs.Sayings.{is_fit_said, said};
+ghost use Rattle.key_text.specs.Tables.{is_table_set};
 
 use crate::fault::KeyError;
 use crate::fault_kind::{OUT_OF_RANGE, UNKNOWN_WORD};
@@ -14,11 +15,11 @@ use crate::words::{bytes, fault, next, spot};
 use key_syms::number;
 use std::alloc::{AllocError, Global};
 
-/// How many tables there may be.
+// How many tables there may be.
 const TABLES: usize = 256;
 
 /// Tables from a first to a last one.
-#[derive(Clone, Copy, Debug)]
+#[derive(Clone, Copy)]
 pub struct TableRange {
     pub low: u8,
     pub high: u8,
@@ -37,9 +38,10 @@ pub fn keymaps_line(alloc: Global, end: Place, items: &[Placed]) -> Result<Sayin
     Ok(Saying::Tells(LineKind::Keymaps(tables)))
 }
 
-/// The tables of a word of ranges, whose bytes are the text.
+// The tables of a word of ranges, whose bytes are the text.
 fn tables_in(alloc: Global, word: &[Placed], text: &[u8]) -> Result<TableSet, KeyError>
-    ensures { Gives (λ tables. tables) result (tables_in word.now text.now) }
+    ensures value { Gives (λ tables. tables) result (tables_in word.now text.now) }
+    ensures set { IfOk result (λ tables. IsTrue (is_table_set tables)) }
 {
     let mut tables = no_tables(alloc)?;
     let mut rest = text;
@@ -62,7 +64,7 @@ fn no_tables(alloc: Global) -> Result<Vec<bool>, AllocError>
     Ok(tables)
 }
 
-/// Adds the tables of a range.
+// Adds the tables of a range.
 fn mark(tables: &mut Vec<bool>, range: TableRange)
     requires { length tables.old.items ≡ 256 }
     ensures full { length tables.new.items ≡ 256 }
@@ -76,7 +78,7 @@ fn mark(tables: &mut Vec<bool>, range: TableRange)
     }
 }
 
-/// A range `N` or `N-N`.
+// A range `N` or `N-N`.
 #[tactic(auto, unfolding(crate::specs::Lines::range_of))]
 fn range_of(word: &[Placed], piece: &[u8]) -> Result<TableRange, KeyError>
     ensures value { Gives (λ range. range) result (range_of word.now piece.now) }
@@ -85,7 +87,7 @@ fn range_of(word: &[Placed], piece: &[u8]) -> Result<TableRange, KeyError>
     range_by(word, piece, before(b'-', piece))
 }
 
-/// A range of a piece with n bytes before its first dash.
+// A range of a piece with n bytes before its first dash.
 fn range_by(word: &[Placed], piece: &[u8], n: usize) -> Result<TableRange, KeyError>
     requires { n ≤ length piece.now }
     ensures value { Gives (λ range. range) result (range_by word.now piece.now n) }
@@ -115,7 +117,7 @@ fn table_of(word: &[Placed], piece: &[u8]) -> Result<u8, KeyError>
     ranged(0, 255, word, number(piece))
 }
 
-/// How many bytes stand before the first of this kind.
+// How many bytes stand before the first of this kind.
 fn before(mark: u8, text: &[u8]) -> usize
     ensures value { result ≡ before mark text.now }
     ensures within { result ≤ length text.now }

@@ -3,7 +3,7 @@ use std::marker::Model;
 
 /// A line of a keymap, with the place of its first word. For a line of an included text it is that
 /// of the first word of the outermost include line.
-#[derive(Debug, Drop)]
+#[derive(Drop)]
 pub struct Line {
     pub kind: LineKind,
     pub line: u32,

@@ -4,7 +4,7 @@ use key_syms::{Action, Pair};
 use vt_base::Bytes;
 
 /// What a line of a keymap tells (keymaps(5)).
-#[derive(Debug, Drop)]
+#[derive(Drop)]
 pub enum LineKind {
     /// `keymaps`: the tables that there are.
     Keymaps(TableSet),

@@ -70,7 +70,7 @@ fn usual_pairs_line(alloc: Global, end: Place, items: &[Placed]) -> Result<Sayin
     Ok(Saying::Tells(LineKind::UsualPairs))
 }
 
-/// What follows `for "name"`, where it is there.
+// What follows `for "name"`, where it is there.
 #[tactic(auto, unfolding(crate::specs::Lines::after_charset))]
 fn after_charset(alloc: Global, end: Place, items: &[Placed]) -> Result<&[Placed], KeyError>
     ensures { Gives (λ rest. rest.now) result (after_charset end items.now) }
@@ -83,7 +83,7 @@ fn after_charset(alloc: Global, end: Place, items: &[Placed]) -> Result<&[Placed
     Ok(items)
 }
 
-/// Whether the next word is this one.
+// Whether the next word is this one.
 #[tactic(auto, unfolding(crate::specs::Lines::is_next))]
 fn is_next(alloc: Global, text: &[u8], items: &[Placed]) -> Result<bool, AllocError>
     ensures { IfOk result (λ same. same ≡ is_next text.now items.now) }

@@ -8,7 +8,7 @@ use vt_base::NoMemory;
 
 /// A row of a text: its bytes without the joins, the place behind the last one, and where the next
 /// row starts, if there is one.
-#[derive(Debug, Drop)]
+#[derive(Drop)]
 pub struct Row {
     pub items: Vec<Placed>,
     pub end: Place,
@@ -61,7 +61,7 @@ pub fn next_row(alloc: Global, text: &[u8], at: usize, place: Place) -> Result<R
     })
 }
 
-/// How many bytes a line's end has at `i`: 1 for LF, 2 for CR LF, 0 where there is none.
+// How many bytes a line's end has at `i`: 1 for LF, 2 for CR LF, 0 where there is none.
 fn end_len(text: &[u8], i: usize) -> usize
     requires { i ≤ length text.now }
     ensures value { result ≡ end_len (drop i text.now) }
@@ -79,7 +79,7 @@ fn end_len(text: &[u8], i: usize) -> usize
     0
 }
 
-/// How many bytes go with a join at `i`: a backslash and the line's end behind it.
+// How many bytes go with a join at `i`: a backslash and the line's end behind it.
 fn join_len(text: &[u8], i: usize) -> usize
     requires { i < length text.now }
     ensures value { result ≡ join_len (drop i text.now) }

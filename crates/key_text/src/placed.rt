@@ -3,14 +3,14 @@ ghost use Rattle.key_text.specs.Rows.{after, more, next_line};
 
 /// A place in a text: a line and a column of bytes, both from 1. A number past the greatest u32 is
 /// given as that number.
-#[derive(Clone, Copy, Debug, PartialEq, Eq)]
+#[derive(Clone, Copy)]
 pub struct Place {
     pub line: u32,
     pub column: u32,
 }
 
 /// A byte of a text, with its place.
-#[derive(Clone, Copy, Debug)]
+#[derive(Clone, Copy)]
 pub struct Placed {
     pub byte: u8,
     pub line: u32,

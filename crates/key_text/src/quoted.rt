@@ -7,8 +7,8 @@ use crate::placed::Placed;
 use crate::words::{bytes, close_at};
 use std::alloc::{AllocError, Global};
 
-/// A byte that an escape stands for, and how many bytes behind its backslash the escape takes.
-#[derive(Clone, Copy, Debug)]
+// A byte that an escape stands for, and how many bytes behind its backslash the escape takes.
+#[derive(Clone, Copy)]
 struct Escape {
     value: u8,
     len: usize,
@@ -36,7 +36,7 @@ pub fn character_of(alloc: Global, word: &[Placed]) -> Result<Option<u32>, Alloc
     }
 }
 
-/// What stands between two quotes that are the first and the last byte of a word.
+// What stands between two quotes that are the first and the last byte of a word.
 fn between(alloc: Global, quote: u8, word: &[Placed]) -> Result<Option<Vec<u8>>, AllocError>
     ensures { IfOk result (λ text. option_map (λ v. v.items) text ≡ between quote word.now) }
 {
@@ -53,7 +53,7 @@ fn between(alloc: Global, quote: u8, word: &[Placed]) -> Result<Option<Vec<u8>>,
     }
 }
 
-/// The bytes that a quoted text stands for.
+// The bytes that a quoted text stands for.
 fn unescaped(alloc: Global, text: &[u8]) -> Result<Option<Vec<u8>>, AllocError>
     ensures { IfOk result
         (λ bytes. option_map (λ v. v.items) bytes ≡ unescaped_whole text.now) }
@@ -77,7 +77,7 @@ fn unescaped(alloc: Global, text: &[u8]) -> Result<Option<Vec<u8>>, AllocError>
     Ok(Some(bytes))
 }
 
-/// The byte that a quoted text begins with, and what follows it.
+// The byte that a quoted text begins with, and what follows it.
 fn first_of(b: u8, behind: &[u8]) -> Option<(u8, &[u8])>
     ensures value { option_map (λ first. (first.0, first.1.now)) result ≡ first_of b behind.now }
     ensures within { IfSome result (λ first. length first.1.now ≤ length behind.now) }
@@ -89,7 +89,7 @@ fn first_of(b: u8, behind: &[u8]) -> Option<(u8, &[u8])>
     Some((escape.value, rest_of(behind, escape.len)))
 }
 
-/// The escape behind a backslash.
+// The escape behind a backslash.
 #[tactic(auto, unfolding(crate::specs::Quoted::escape_in))]
 fn escape_in(text: &[u8]) -> Option<Escape>
     ensures value { option_map (λ e. (e.value, e.len)) result ≡ escape_in text.now }
@@ -143,7 +143,7 @@ fn octal_value(digits: &[u8]) -> u32
     }
 }
 
-/// How many octal digits begin the bytes, three at most.
+// How many octal digits begin the bytes, three at most.
 fn octal_len(text: &[u8]) -> usize
     ensures value { result ≡ octal_len text.now }
     ensures few { result ≤ 3 }
@@ -183,7 +183,7 @@ fn is_octal(b: u8) -> bool
     b'0' <= b && b <= b'7'
 }
 
-/// The one character of a quoted text.
+// The one character of a quoted text.
 fn one_character(text: &[u8]) -> Option<u32>
     ensures { result ≡ one_character text.now }
 {
@@ -201,7 +201,7 @@ fn one_character(text: &[u8]) -> Option<u32>
     }
 }
 
-/// The character that one, two or three bytes of UTF-8 are.
+// The character that one, two or three bytes of UTF-8 are.
 fn decoded(text: &[u8]) -> Option<u32>
     ensures { result ≡ decoded text.now }
 {

@@ -2,31 +2,34 @@ ghost use Rattle.std.specs.Prelude.{◌≡◌, Result};
 ghost use Rattle.std.specs.Option.{option_map};
 ghost use Rattle.key_text.specs.Included.{text_named};
 ghost use Rattle.key_text.specs.Adds.{Adds};
-ghost use Rattle.key_text.specs.Fault.{Fails};
-ghost use Rattle.key_text.specs.Reading.{blamed, blamed_fault, included, read_row, read_rows, start, within};
+ghost use Rattle.key_text.specs.Fault.{Fails, Gives};
+ghost use Rattle.key_text.specs.Reading.{blamed, blamed_fault, included, lines_of, read_row, read_rows, start, within};
 ghost use Rattle.key_text.specs.Lines.{Said};
 ghost use Rattle.key_text.specs.Rows.{rows_of};
 ghost use Rattle.key_text.specs.declared.fault.KeyFault.{KeyFault};
 
 use crate::fault::{KeyError, KeyFault};
 use crate::fault_kind::{NOT_GIVEN, TOO_DEEP, TOO_MANY_INCLUDES};
+use crate::first_word::said_from;
 use crate::includes::Includes;
 use crate::line::Line;
+use crate::next_row::next_row;
 use crate::placed::{Place, Placed};
-use crate::reader::next_row;
-use crate::row_line::said_from;
 use crate::saying::Saying;
 use crate::words::{fault, spot, word_at};
 use std::alloc::Global;
 
-/// The most texts that are included.
+// How deep texts may be included.
+const MOST_DEEP: u8 = 8;
+
+// The most texts that are included.
 const MOST_INCLUDES: u16 = 1000;
 
-/// How deep texts may still be included, and where the outermost include line starts.
-#[derive(Clone, Copy, Debug)]
-pub struct Depth {
-    pub left: u8,
-    pub outer: Option<Place>,
+// How deep texts may still be included, and where the outermost include line starts.
+#[derive(Clone, Copy)]
+struct Depth {
+    left: u8,
+    outer: Option<Place>,
 }
 
 // An include line: how deep texts may still be included, where the outermost include line starts,
@@ -39,10 +42,25 @@ struct IncludeAt {
     bad_end: Option<KeyFault>,
 }
 
-/// Reads a text, of which `count` texts were included before, and adds its lines. The answer is how
-/// many were included by its end.
+/// The lines of a keymap, with those of the texts that it includes, or the first fault in the order
+/// of reading.
+#[tactic(auto, unfolding(crate::specs::Reading::lines_of))]
+pub fn parse(alloc: Global, text: &[u8], inc: &Includes) -> Result<Vec<Line>, KeyError>
+    ensures { Gives (λ lines. lines.items) result (lines_of inc.now text.now) }
+{
+    let mut lines = Vec::new(alloc);
+    let depth = Depth {
+        left: MOST_DEEP,
+        outer: None,
+    };
+    read_text(alloc, inc, depth, 0, text, &mut lines)?;
+    Ok(lines)
+}
+
+// Reads a text, of which `count` texts were included before, and adds its lines. The answer is how
+// many were included by its end.
 #[cycle(reading)]
-pub fn read_text(
+fn read_text(
     alloc: Global,
     texts: &Includes,
     depth: Depth,
@@ -76,7 +94,7 @@ pub fn read_text(
     }
 }
 
-/// Reads a row.
+// Reads a row.
 #[tactic(auto, unfolding(crate::specs::Reading::read_row))]
 #[cycle(reading)]
 fn read_row(
@@ -122,7 +140,7 @@ fn read_row(
     }
 }
 
-/// Reads the text of an include line.
+// Reads the text of an include line.
 #[cycle(reading)]
 fn include(
     alloc: Global,

@@ -3,7 +3,7 @@ use crate::line_kind::LineKind;
 use crate::placed::Place;
 
 /// What a row says.
-#[derive(Debug, Drop)]
+#[derive(Drop)]
 pub enum Saying {
     /// Nothing: it has no word, or no effect.
     Nothing,

@@ -4,7 +4,7 @@ use key_syms::Action;
 use std::marker::Model;
 
 /// The symbols of a key line, of which there is at least one.
-#[derive(Debug, Drop)]
+#[derive(Drop)]
 pub struct Syms {
     actions: Vec<Action>,
 }

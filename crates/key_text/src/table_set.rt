@@ -4,7 +4,7 @@ ghost use Rattle.key_text.specs.Tables.{IsTableSet};
 use std::marker::Model;
 
 /// A set of at least one table from 0 to 255.
-#[derive(Debug, Drop)]
+#[derive(Drop)]
 pub struct TableSet {
     tables: Vec<bool>,
 }

@@ -87,7 +87,13 @@ fn first_fault_has_its_place(rt: HostRuntime) -> Result<(), Fail> {
     check(&rt, alloc, &includes, long.as_slice(), (11, 1, 13));
     let many = text_of(alloc, b"", b"include \"none\"\n", 1001, b"")?;
     check(&rt, alloc, &includes, many.as_slice(), (12, 1001, 9));
-    let left = text_of(alloc, b"", b"include \"none\"\n", 1000, b"include \"none\" x")?;
+    let left = text_of(
+        alloc,
+        b"",
+        b"include \"none\"\n",
+        1000,
+        b"include \"none\" x",
+    )?;
     check(&rt, alloc, &includes, left.as_slice(), (12, 1001, 9));
     Ok(())
 }

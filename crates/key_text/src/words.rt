@@ -93,7 +93,7 @@ pub fn whole<'a>(
     Err(fault(BAD_TEXT, nth_place(word, valid)))
 }
 
-/// How many of a word's bytes are UTF-8 up to the first fault.
+// How many of a word's bytes are UTF-8 up to the first fault.
 #[tactic(auto, using(crate::proofs::Lengths::whole_text))]
 fn valid_len(alloc: Global, word: &[Placed]) -> Result<usize, AllocError>
     ensures { IfOk result (λ n. n ≡ utf8_valid_len (bytes word.now)) }

@@ -1,7 +1,7 @@
 use Rattle.std.proofs.Common.{◌+◌, ◌*◌, ◌-◌, length}
 use Rattle.key_text.specs.Reading.{within}
 use Rattle.key_text.proofs.Rows.{IsReading}
-use Rattle.key_text.proofs.read.+reading.Given as goal
+use Rattle.key_text.proofs.reading.+reading.Given as goal
 
 abbrev pub decreases-read_text : goal.decreases-read_text
 decreases-read_text l = 3 * l.depth.left + 2
