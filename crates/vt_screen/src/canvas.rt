@@ -1,11 +1,11 @@
 //! The screen that text draws on, without the reading of the text.
-ghost use Rattle.std.specs.Prelude.{◌≡◌};
+ghost use Rattle.std.specs.Prelude.{◌≡◌, ◌<◌, ◌≤◌, ◌+◌, ◌++◌, length};
 ghost use Rattle.vt_grid.specs.Grid.{filled};
 ghost use Rattle.vt_screen.specs.Effect.{effect};
-ghost use Rattle.vt_units.specs.declared.unit.Unit.TheVariants.{Csi};
 ghost use Rattle.std.specs.Borrow.{Lends, sem};
 ghost use Rattle.vt_cells.specs.contracts.palette.Palette.{the_row as palette_row};
 ghost use Rattle.vt_screen.specs.contracts.canvas.Canvas.{the_row};
+ghost use Rattle.vt_screen.specs.Run.{listed};
 ghost use Rattle.vt_screen.specs.Tape.{marked, palette};
 ghost use Rattle.vt_screen.specs.Screen.{IsWhole, blank_of, mode_of, start_screen, with_state};
 
@@ -20,7 +20,7 @@ mod saves;
 mod sequences;
 mod settings;
 
-use crate::{BLANK, Out, ScreenState};
+use crate::{BLANK, Out, Outs, ScreenState};
 use std::marker::Model;
 use vt_cells::{Cell, Palette};
 use vt_grid::Grid;
@@ -107,36 +107,26 @@ impl Canvas {
         &mut self.state.palette
     }
 
-    /// Does what the unit does. The answer is what it says beside the screen.
-    pub fn obey(&mut self, unit: &Unit) -> Option<Out>
-        ensures { effect unit.now self.old ≡ record { screen = self.new; said = result } }
+    /// Does what the unit does. What it says beside the screen is then last in `outs`.
+    pub fn obey(&mut self, unit: &Unit, outs: &mut Outs)
+        requires room { length outs.old < 64 }
+        ensures screen { self.new ≡ (effect unit.now self.old).screen }
+        ensures said { outs.new ≡ outs.old ++ listed (effect unit.now self.old).said }
+        ensures few { length outs.new ≤ length outs.old + 1 }
     {
         match unit {
             Unit::Char(code) => self.print(*code),
             Unit::Byte(b) => self.print(self.shown(*b)),
-            Unit::Control(code) => return Out::bell(self.control(*code)),
-            Unit::Esc { mid, last } => return self.escape(*mid, *last),
+            Unit::Control(code) => outs.say(Out::bell(self.control(*code))),
+            Unit::Esc { mid, last } => self.escape(*mid, *last, outs),
             Unit::Csi {
                 private,
                 params,
                 last,
-            } => return self.obey_sequence(*private, params.as_slice(), *last),
+            } => self.obey_sequence(*private, params.as_slice(), *last, outs),
             Unit::Colour { n, rgb } => self.set_colour(*n, *rgb),
             Unit::ColourReset => self.reset_palette(),
             Unit::Ignored => {}
-        }
-        None
-    }
-
-    /// Does what a control sequence does. The answer is what it says beside the screen.
-    pub fn obey_sequence(&mut self, private: bool, params: &[u16], last: u8) -> Option<Out>
-        ensures { effect (Csi private params.now last) self.old ≡ record { screen = self.new; said = result } }
-    {
-        if private {
-            self.private_sequence(params, last);
-            None
-        } else {
-            self.control_sequence(params, last)
         }
     }
 

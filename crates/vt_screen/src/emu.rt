@@ -137,12 +137,11 @@ impl Emu {
         if read.bad {
             self.canvas.print(0xFFFD);
         }
-        let said = match read.got {
-            Then::Unit(unit) => self.canvas.obey(&unit),
-            Then::Act(code) => Out::bell(self.canvas.control(code)),
-            Then::More | Then::Dropped => None,
-        };
-        outs.say(said);
+        match read.got {
+            Then::Unit(unit) => self.canvas.obey(&unit, outs),
+            Then::Act(code) => outs.say(Out::bell(self.canvas.control(code))),
+            Then::More | Then::Dropped => {}
+        }
     }
 
     // Does what `take` does, quickly where the byte is a control character by itself.
@@ -161,6 +160,7 @@ impl Emu {
 
     // Does what stands at the front of the text, as much at once as can be, and tells how many bytes
     // that is.
+    #[inline(always)]
     pub(crate) fn take_front(&mut self, b: &[u8], outs: &mut Outs) -> usize
         requires some { 0 < length b.now }
         requires room { length outs.old < 64 }
@@ -179,6 +179,7 @@ impl Emu {
     }
 
     // Does a sequence or characters at the front of the text, and tells how many bytes they are.
+    #[inline(always)]
     fn take_run(&mut self, b: &[u8], outs: &mut Outs) -> usize
         requires some { 0 < length b.now }
         requires room { length outs.old < 64 }
@@ -188,9 +189,48 @@ impl Emu {
         ensures few { length outs.new ≤ length outs.old + result }
     {
         match b[0] {
-            0x1B => self.obey_front(b, outs),
+            0x1B => self.obey_brief(b, outs),
             b'\n' => self.scroll_front(b),
             _ => self.print_front(b),
+        }
+    }
+
+    // Does what `obey_front` does, quickly where the sequence has one or two short parameters.
+    #[inline(always)]
+    fn obey_brief(&mut self, b: &[u8], outs: &mut Outs) -> usize
+        requires room { length outs.old < 64 }
+        ensures within { result ≤ length b.now }
+        ensures run { run drawing (take result b.now) (having_said outs.old self.old)
+            ≡ having_said outs.new self.new }
+        ensures few { length outs.new ≤ length outs.old + result }
+    {
+        sequences_are_units();
+        match self.pending.take_brief(self.canvas.mode(), b) {
+            Some(brief) => {
+                self.canvas
+                    .obey_brief(brief.first, brief.second, brief.both, brief.last, outs);
+                brief.count
+            }
+            None => self.obey_escape(b, outs),
+        }
+    }
+
+    // Does what `obey_front` does, quickly where it is an escape sequence of two bytes.
+    #[inline(always)]
+    fn obey_escape(&mut self, b: &[u8], outs: &mut Outs) -> usize
+        requires room { length outs.old < 64 }
+        ensures within { result ≤ length b.now }
+        ensures run { run drawing (take result b.now) (having_said outs.old self.old)
+            ≡ having_said outs.new self.new }
+        ensures few { length outs.new ≤ length outs.old + result }
+    {
+        sequences_are_units();
+        match self.pending.take_escape(self.canvas.mode(), b) {
+            Some(last) => {
+                self.canvas.escape(0, last, outs);
+                2
+            }
+            None => self.obey_front(b, outs),
         }
     }
 
@@ -212,7 +252,7 @@ impl Emu {
         {
             Ahead::Nothing => 0,
             Ahead::Esc { mid, last, count } => {
-                outs.say(self.canvas.escape(mid, last));
+                self.canvas.escape(mid, last, outs);
                 count
             }
             Ahead::Csi {
@@ -220,8 +260,8 @@ impl Emu {
                 last,
                 count,
             } => {
-                let said = self.canvas.obey_sequence(private, params.as_slice(), last);
-                outs.say(said);
+                self.canvas
+                    .obey_sequence(private, params.as_slice(), last, outs);
                 count
             }
         }
@@ -286,7 +326,7 @@ impl Emu {
 
     // Prints the printable bytes at the front of the text that end before the last column, and
     // tells how many they are.
-    #[inline(never)]
+    #[inline(always)]
     fn print_run(&mut self, b: &[u8]) -> usize
         ensures within { result ≤ length b.now }
         ensures run { (outs : List Out) → run drawing (take result b.now) (having_said outs self.old)

@@ -66,6 +66,8 @@ impl Outs {
 }
 
 impl Default for Outs {
+    ghost is_default = { λ x. x ≡ [] };
+
     fn default() -> Outs {
         Outs::new()
     }

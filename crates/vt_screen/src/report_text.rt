@@ -66,6 +66,8 @@ impl ReportText {
 }
 
 impl Default for ReportText {
+    ghost is_default = { λ x. x ≡ [] };
+
     fn default() -> ReportText {
         ReportText::new()
     }

@@ -2,7 +2,6 @@ ghost use Rattle.std.specs.Prelude.{◌≡◌, ◌<◌};
 ghost use Rattle.vt_screen.specs.Screen.{start_attr, start_pen, start_saved, start_state, start_user};
 
 use crate::{Saved, Stops};
-use std::mem;
 use vt_cells::{Attr, Intensity, Look, Palette};
 use vt_chars::CharMap;
 use vt_sgr::Pen;
@@ -99,11 +98,26 @@ impl ScreenState {
               map = self.old.map;
             } }
     {
-        let mut fresh = ScreenState::start(rows);
-        fresh.pen = self.pen;
-        mem::swap(&mut fresh.palette, &mut self.palette);
-        mem::swap(&mut fresh.map, &mut self.map);
-        *self = fresh;
+        self.x = 0;
+        self.y = 0;
+        self.wrap = false;
+        self.top = 0;
+        self.bottom = rows - 1;
+        self.g0 = 0;
+        self.g1 = 1;
+        self.shift = 0;
+        self.utf8 = true;
+        self.stops = Stops::start();
+        self.insert = false;
+        self.newline = false;
+        self.cursor = false;
+        self.reverse = false;
+        self.origin = false;
+        self.autowrap = true;
+        self.repeat = true;
+        self.visible = true;
+        self.keypad = false;
+        self.saved = start_saved();
     }
 }
 

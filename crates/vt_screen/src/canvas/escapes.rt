@@ -1,30 +1,38 @@
-ghost use Rattle.std.specs.Prelude.{◌≡◌, ◌==◌, if◌then◌else◌};
+ghost use Rattle.std.specs.Prelude.{◌≡◌, ◌<◌, ◌≤◌, ◌+◌, ◌++◌, ◌==◌, length, if◌then◌else◌};
 ghost use Rattle.vt_screen.specs.Effect.{escape, plain_escape};
+ghost use Rattle.vt_screen.specs.Run.{listed};
 ghost use Rattle.vt_screen.specs.Settings.{aligned};
 
 use super::Canvas;
-use crate::Out;
+use crate::Outs;
 
 impl Canvas {
-    /// What an escape sequence does. The answer is what it says beside the screen.
+    /// Does what an escape sequence does. What it says beside the screen is then last in `outs`.
+    #[inline(always)]
     #[tactic(auto, unfolding(crate::specs::Effect::escape))]
-    pub fn escape(&mut self, mid: u8, last: u8) -> Option<Out>
-        ensures { escape mid last self.old ≡ record { screen = self.new; said = result } }
+    pub fn escape(&mut self, mid: u8, last: u8, outs: &mut Outs)
+        requires room { length outs.old < 64 }
+        ensures screen { self.new ≡ (escape mid last self.old).screen }
+        ensures said { outs.new ≡ outs.old ++ listed (escape mid last self.old).said }
+        ensures few { length outs.new ≤ length outs.old + 1 }
     {
         match mid {
-            0 => return self.plain_escape(last),
+            0 => self.plain_escape(last, outs),
             b'%' => self.set_coding(last),
             b'#' => self.test(last),
             b'(' => self.designate_g0(last),
             b')' => self.designate_g1(last),
             _ => {}
         }
-        None
     }
 
+    #[inline(always)]
     #[tactic(auto, unfolding(crate::specs::Effect::plain_escape))]
-    fn plain_escape(&mut self, last: u8) -> Option<Out>
-        ensures { plain_escape last self.old ≡ record { screen = self.new; said = result } }
+    fn plain_escape(&mut self, last: u8, outs: &mut Outs)
+        requires room { length outs.old < 64 }
+        ensures screen { self.new ≡ (plain_escape last self.old).screen }
+        ensures said { outs.new ≡ outs.old ++ listed (plain_escape last self.old).said }
+        ensures few { length outs.new ≤ length outs.old + 1 }
     {
         match last {
             b'c' => self.reset(),
@@ -32,14 +40,13 @@ impl Canvas {
             b'E' => self.next_line(),
             b'H' => self.set_stop(),
             b'M' => self.reverse_linefeed(),
-            b'Z' => return self.device_report(0),
+            b'Z' => self.say_device(0, outs),
             b'7' => self.save(),
             b'8' => self.restore(),
             b'>' => self.set_keypad(false),
             b'=' => self.set_keypad(true),
             _ => {}
         }
-        None
     }
 
     fn test(&mut self, last: u8)

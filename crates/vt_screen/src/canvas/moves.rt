@@ -1,4 +1,4 @@
-ghost use Rattle.std.specs.Prelude.{◌≡◌, ◌==◌, ◌-◌, ◌+◌, ◌<◌, ◌≤◌, min, not, drop, if◌then◌else◌};
+ghost use Rattle.std.specs.Prelude.{◌≡◌, ◌==◌, ◌-◌, ◌+◌, ◌<◌, ◌≤◌, max, min, not, drop, if◌then◌else◌};
 ghost use Rattle.std.specs.List.{prefix_len};
 ghost use Rattle.vt_screen.specs.Cursor.{at_column, first_row, homed, last_row, linefeed, moved, newline, newlines, placed, region_down, region_up, reverse_linefeed, tab};
 
@@ -103,11 +103,9 @@ impl Canvas {
     pub(super) fn move_to(&mut self, row: u32, column: u32)
         ensures { self.new ≡ moved row column self.old }
     {
-        let first = self.first_row();
-        let last = self.last_row();
         let right = self.grid.size().cols - 1;
+        self.state.y = self.reached_row(row);
         self.state.x = column.min(u32::from(right)) as u8;
-        self.state.y = first.max(row.min(u32::from(last)) as u8);
         self.state.wrap = false;
     }
 
@@ -135,17 +133,20 @@ impl Canvas {
         if self.state.origin { self.state.top } else { 0 }
     }
 
-    // The last row that a move reaches.
-    fn last_row(&self) -> u8
-        ensures row { result ≡ last_row self.now }
+    // The row that a move to this one reaches.
+    #[inline(always)]
+    fn reached_row(&self, row: u32) -> u8
+        ensures row { result ≡ max (first_row self.now) (min row (last_row self.now)) }
         ensures within { result < self.now.sheet.rows }
     {
         let last = self.grid.size().rows - 1;
         if self.state.origin {
-            self.state.bottom
-        } else {
-            last
+            return self
+                .state
+                .top
+                .max(row.min(u32::from(self.state.bottom)) as u8);
         }
+        row.min(u32::from(last)) as u8
     }
 
     fn scroll_region_up(&mut self)

@@ -1,17 +1,62 @@
-ghost use Rattle.std.specs.Prelude.{◌≡◌, ◌≤◌, ◌+◌, ◌-◌, ◌∷◌, length, nat_lt, if◌then◌else◌};
+ghost use Rattle.std.specs.Prelude.{◌≡◌, ◌<◌, ◌≤◌, ◌+◌, ◌-◌, ◌∷◌, ◌++◌, length, nat_lt, if◌then◌else◌};
+ghost use Rattle.vt_screen.specs.Run.{listed};
 ghost use Rattle.vt_screen.specs.Screen.{Screen};
 ghost use Rattle.vt_screen.specs.declared.out.Out.TheVariants.{Report};
 ghost use Rattle.vt_screen.specs.Saying.{console_setting, cursor_text, device_report, lights, status_report, with_default_pair, with_dim_colour, with_underline_colour};
 
 use super::Canvas;
-use crate::{Out, ReportText};
+use crate::{Out, Outs, ReportText};
 use vt_cells::Look;
 use vt_sgr::Pen;
 
 impl Canvas {
-    /// DA: what the terminal is, a VT102.
+    /// Says what DA asks for.
+    #[inline(never)]
+    pub(super) fn say_device(&self, which: u16, outs: &mut Outs)
+        requires room { length outs.old < 64 }
+        ensures screen { self.now ≡ (device_report which self.now).screen }
+        ensures said { outs.new ≡ outs.old ++ listed (device_report which self.now).said }
+        ensures few { length outs.new ≤ length outs.old + 1 }
+    {
+        outs.say(self.device_report(which));
+    }
+
+    /// Says what DSR asks for.
+    #[inline(never)]
+    pub(super) fn say_status(&self, which: u16, outs: &mut Outs)
+        requires room { length outs.old < 64 }
+        ensures screen { self.now ≡ (status_report which self.now).screen }
+        ensures said { outs.new ≡ outs.old ++ listed (status_report which self.now).said }
+        ensures few { length outs.new ≤ length outs.old + 1 }
+    {
+        outs.say(self.status_report(which));
+    }
+
+    /// Says which lights DECLL sets.
+    #[inline(never)]
+    pub(super) fn say_lights(&self, which: u16, outs: &mut Outs)
+        requires room { length outs.old < 64 }
+        ensures screen { self.now ≡ (lights which self.now).screen }
+        ensures said { outs.new ≡ outs.old ++ listed (lights which self.now).said }
+        ensures few { length outs.new ≤ length outs.old + 1 }
+    {
+        outs.say(lights(which));
+    }
+
+    /// Does what CSI ] sets, and says what it asks for.
+    #[inline(never)]
+    pub(super) fn say_setting(&mut self, which: u16, value: u16, outs: &mut Outs)
+        requires room { length outs.old < 64 }
+        ensures screen { self.new ≡ (console_setting which value self.old).screen }
+        ensures said { outs.new ≡ outs.old ++ listed (console_setting which value self.old).said }
+        ensures few { length outs.new ≤ length outs.old + 1 }
+    {
+        outs.say(self.console_setting(which, value));
+    }
+
+    // DA: what the terminal is, a VT102.
     #[tactic(auto, unfolding(crate::specs::Saying::device_report))]
-    pub(super) fn device_report(&self, which: u16) -> Option<Out>
+    fn device_report(&self, which: u16) -> Option<Out>
         ensures { device_report which self.now ≡ record { screen = self.now; said = result } }
     {
         match which {
@@ -20,9 +65,9 @@ impl Canvas {
         }
     }
 
-    /// DSR: how the terminal is, or where the cursor is.
+    // DSR: how the terminal is, or where the cursor is.
     #[tactic(auto, unfolding(crate::specs::Saying::status_report))]
-    pub(super) fn status_report(&self, which: u16) -> Option<Out>
+    fn status_report(&self, which: u16) -> Option<Out>
         ensures { status_report which self.now ≡ record { screen = self.now; said = result } }
     {
         match which {
@@ -59,9 +104,9 @@ impl Canvas {
         }
     }
 
-    /// CSI ]: settings of the console, and requests for another one.
+    // CSI ]: settings of the console, and requests for another one.
     #[tactic(auto, unfolding(crate::specs::Saying::console_setting))]
-    pub(super) fn console_setting(&mut self, which: u16, value: u16) -> Option<Out>
+    fn console_setting(&mut self, which: u16, value: u16) -> Option<Out>
         ensures { console_setting which value self.old ≡ record { screen = self.new; said = result } }
     {
         match which {
@@ -113,9 +158,9 @@ impl Canvas {
     }
 }
 
-/// DECLL: sets the keyboard's lights.
+// DECLL: sets the keyboard's lights.
 #[tactic(auto, unfolding(crate::specs::Saying::lights))]
-pub(super) fn lights(which: u16) -> Option<Out>
+fn lights(which: u16) -> Option<Out>
     ensures { (s : Screen) → lights which s ≡ record { screen = s; said = result } }
 {
     match which {

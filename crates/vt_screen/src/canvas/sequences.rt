@@ -1,20 +1,63 @@
-ghost use Rattle.std.specs.Prelude.{◌≡◌, ◌<◌};
+ghost use Rattle.std.specs.Prelude.{◌≡◌, ◌<◌, ◌≤◌, ◌+◌, ◌++◌, false, length, max};
+ghost use Rattle.vt_screen.specs.Effect.{control_sequence, effect, number_at, private_sequence};
+ghost use Rattle.vt_screen.specs.Run.{listed};
 ghost use Rattle.vt_screen.specs.Saying.{quiet};
-ghost use Rattle.vt_screen.specs.Effect.{control_sequence, count_of, number_at, private_sequence};
+ghost use Rattle.vt_units.specs.Briefs.{numbers_in};
+ghost use Rattle.vt_units.specs.declared.unit.Unit.TheVariants.{Csi};
 
 use super::Canvas;
-use super::reports::lights;
-use crate::Out;
+use crate::Outs;
 
 impl Canvas {
-    /// What a control sequence does. The answer is what it says beside the screen.
-    #[tactic(auto, unfolding(crate::specs::Effect::control_sequence))]
-    pub(super) fn control_sequence(&mut self, params: &[u16], last: u8) -> Option<Out>
-        ensures { control_sequence params.now last self.old ≡ record { screen = self.new; said = result } }
+    /// Does what a control sequence does. What it says beside the screen is then last in `outs`.
+    pub fn obey_sequence(&mut self, private: bool, params: &[u16], last: u8, outs: &mut Outs)
+        requires room { length outs.old < 64 }
+        ensures screen { self.new ≡ (effect (Csi private params.now last) self.old).screen }
+        ensures said { outs.new ≡ outs.old ++ listed (effect (Csi private params.now last) self.old).said }
+        ensures few { length outs.new ≤ length outs.old + 1 }
     {
-        let n = count_of(params);
-        let first = number_at(params, 0);
-        let second = number_at(params, 1);
+        if private {
+            self.private_sequence(params, last);
+        } else {
+            let first = number_at(params, 0);
+            let second = number_at(params, 1);
+            self.control_sequence(first, second, params, last, outs);
+        }
+    }
+
+    /// Does the same for a control sequence of one parameter, or of both.
+    #[inline(always)]
+    pub fn obey_brief(&mut self, first: u16, second: u16, both: bool, last: u8, outs: &mut Outs)
+        requires room { length outs.old < 64 }
+        ensures screen { self.new ≡ (control_sequence (numbers_in first second both) last self.old).screen }
+        ensures said { outs.new
+            ≡ outs.old ++ listed (control_sequence (numbers_in first second both) last self.old).said }
+        ensures few { length outs.new ≤ length outs.old + 1 }
+    {
+        let params = [first, if both { second } else { 0 }];
+        let count = if both { 2 } else { 1 };
+        self.control_sequence(first, params[1], &params[..count], last, outs);
+    }
+
+    // The table of control sequences, with the first two parameters beside the list of all.
+    #[inline(always)]
+    #[tactic(auto, unfolding(crate::specs::Effect::control_sequence))]
+    fn control_sequence(
+        &mut self,
+        first: u16,
+        second: u16,
+        params: &[u16],
+        last: u8,
+        outs: &mut Outs,
+    )
+        requires first { first ≡ number_at params.now 0 }
+        requires second { second ≡ number_at params.now 1 }
+        requires room { length outs.old < 64 }
+        ensures screen { self.new ≡ (control_sequence params.now last self.old).screen }
+        ensures said { outs.new ≡ outs.old ++ listed (control_sequence params.now last self.old).said }
+        ensures few { length outs.new ≤ length outs.old + 1 }
+    {
+        let n = count_of(first);
         let (y, x) = (u32::from(self.state.y), u32::from(self.state.x));
         match last {
             b'@' => self.insert_characters(n),
@@ -32,26 +75,25 @@ impl Canvas {
             b'M' => self.delete_lines(n),
             b'P' => self.delete_characters(n),
             b'X' => self.erase_characters(n),
-            b'c' => return self.device_report(first),
+            b'c' => self.say_device(first, outs),
             b'd' => self.place(n - 1, x),
             b'g' => self.clear_stops(first),
             b'h' => self.set_modes(true, params),
             b'l' => self.set_modes(false, params),
             b'm' => self.render(params),
-            b'n' => return self.status_report(first),
-            b'q' => return lights(first),
+            b'n' => self.say_status(first, outs),
+            b'q' => self.say_lights(first, outs),
             b'r' => self.set_region(n, second),
             b's' => self.save(),
             b'u' => self.restore(),
-            b']' => return self.console_setting(first, second),
+            b']' => self.say_setting(first, second, outs),
             _ => {}
         }
-        None
     }
 
-    /// What a control sequence that `?` begins does.
+    // What a control sequence that `?` begins does.
     #[tactic(auto, unfolding(crate::specs::Effect::private_sequence))]
-    pub(super) fn private_sequence(&mut self, params: &[u16], last: u8)
+    fn private_sequence(&mut self, params: &[u16], last: u8)
         ensures { private_sequence params.now last self.old ≡ quiet self.new }
     {
         match last {
@@ -70,9 +112,10 @@ fn number_at(params: &[u16], place: usize) -> u16
 }
 
 // The first parameter, with 0 taken as 1.
-fn count_of(params: &[u16]) -> u16
-    ensures count { result ≡ count_of params.now }
+#[inline(always)]
+fn count_of(first: u16) -> u16
+    ensures count { result ≡ max 1 first }
     ensures some { 0 < result }
 {
-    number_at(params, 0).max(1)
+    first.max(1)
 }

@@ -6,7 +6,7 @@ use vt_cells::{Palette, attr_byte, erase_byte};
 use vt_sgr::{Pen, apply};
 
 impl Canvas {
-    /// Takes another pen, and reckons the bytes that it prints and erases with.
+    /// Takes another pen, and computes the bytes that it prints and erases with.
     #[tactic(auto, unfolding(crate::specs::Screen::printed_byte, crate::specs::Screen::erased_byte))]
     pub(super) fn set_pen(&mut self, pen: Pen)
         ensures { self.new ≡ with_pen self.old pen }
@@ -123,13 +123,13 @@ impl Canvas {
     }
 
     /// SGR.
-    #[tactic(auto, unfolding(crate::specs::Settings::rendered))]
+    #[tactic(auto, unfolding(crate::specs::Settings::rendered, crate::specs::Screen::printed_byte, crate::specs::Screen::erased_byte))]
     pub(super) fn render(&mut self, params: &[u16])
         ensures { self.new ≡ rendered params.now self.old }
     {
-        let mut pen = self.state.pen;
-        apply(&mut pen, params);
-        self.set_pen(pen);
+        apply(&mut self.state.pen, params);
+        self.attr = attr_byte(&self.state.pen.attr, &self.state.pen.look);
+        self.erase = erase_byte(&self.state.pen.attr);
     }
 
     /// Sets a colour of the palette.

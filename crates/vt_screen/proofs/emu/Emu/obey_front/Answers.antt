@@ -1,14 +1,14 @@
-use Rattle.std.proofs.Common.{◌<◌, arith, ◌≡◌, ℕ, List, take, Some, sym, ap, ◌∙◌}
-use Rattle.vt_screen.proofs.Sequences.{sequence-run, some-bytes}
+use Rattle.std.proofs.Common.{◌<◌, arith, ◌≡◌, ◌++◌, ℕ, List, take, Some, sym, ap, ◌∙◌}
+use Rattle.vt_screen.proofs.Sequences.{sequence-done, some-bytes}
 use Rattle.vt_screen.specs.Effect.{effect}
 use Rattle.vt_screen.specs.Saying.{Done}
-use Rattle.vt_screen.specs.Run.{drawing, having_said}
+use Rattle.vt_screen.specs.Run.{drawing, having_said, listed}
 use Rattle.vt_screen.specs.Screen.{Screen}
 use Rattle.vt_screen.specs.declared.out.Out.{Out}
 use Rattle.vt_units.specs.Ahead.{Sequence, rest_ahead, taken_ahead}
 use Rattle.vt_units.specs.Laws.{IsUnitOf}
 use Rattle.vt_units.specs.Rest.{Rest, fresh}
-use Rattle.vt_units.specs.Run.{Reached, reached, run}
+use Rattle.vt_units.specs.Run.{Reached, run}
 use Rattle.vt_units.specs.declared.mode.Mode.{Mode}
 use Rattle.vt_units.specs.declared.unit.Unit.TheVariants.{Csi, Esc}
 use Rattle.vt_screen.proofs.emu.Emu.obey_front.Goals as goal
@@ -37,10 +37,9 @@ returns-in-Esc-clause-run c =
     let one : Sequence = record { unit = Esc c.in-Esc.mid c.in-Esc.last; count = c.in-Esc.count } in
     let found : taken_ahead rest text ≡ Some one = sym c.in-Esc.ensures.sequence in
     let left : c.take_sequence.new.self ≡ fresh m = c.in-Esc.ensures.rest ∙ ap (rest_ahead rest m) found in
-    let done : Done = record { screen = c.escape.new.self; said = c.escape.result } in
     ap (λ (r : Reached Screen). run drawing (take one.count text) (having_said outs r)) (sym c.self.view_is)
-    ∙ sequence-run c.sequences_are_units.ensures text outs s rest m one c.mode.ensures found done c.escape.ensures
-    ∙ (λ i. having_said (sym c.say.ensures.said i) (reached c.escape.new.self (sym left i)))
+    ∙ sequence-done c.sequences_are_units.ensures text outs c.escape.new.outs s c.escape.new.self rest
+    c.take_sequence.new.self m one c.mode.ensures found left c.escape.ensures.screen c.escape.ensures.said
 
 pub returns-in-Csi-clause-run : goal.returns-in-Csi-clause-run
 returns-in-Csi-clause-run c =
@@ -53,12 +52,13 @@ returns-in-Csi-clause-run c =
     let one : Sequence = record { unit = Csi c.in-Csi.private params c.in-Csi.last; count = c.in-Csi.count } in
     let found : taken_ahead rest text ≡ Some one = sym c.in-Csi.ensures.sequence in
     let left : c.take_sequence.new.self ≡ fresh m = c.in-Csi.ensures.rest ∙ ap (rest_ahead rest m) found in
-    let done : Done = record { screen = c.obey_sequence-said.new.self; said = c.obey_sequence-said.result } in
+    let does : List ℕ → Done = λ numbers. effect (Csi c.in-Csi.private numbers c.in-Csi.last) s in
     ap (λ (r : Reached Screen). run drawing (take one.count text) (having_said outs r)) (sym c.self.view_is)
-    ∙ sequence-run c.sequences_are_units.ensures text outs s rest m one c.mode.ensures found done
-    (ap (λ (numbers : List ℕ). effect (Csi c.in-Csi.private numbers c.in-Csi.last) s) (sym c.as_slice.ensures.numbers)
-    ∙ c.obey_sequence-said.ensures)
-    ∙ (λ i. having_said (sym c.say-in-Csi.ensures.said i) (reached c.obey_sequence-said.new.self (sym left i)))
+    ∙ sequence-done c.sequences_are_units.ensures text outs c.obey_sequence.new.outs s c.obey_sequence.new.self rest
+    c.take_sequence.new.self m one c.mode.ensures found left
+    (c.obey_sequence.ensures.screen ∙ ap (λ (numbers : List ℕ). (does numbers).screen) c.as_slice.ensures.numbers)
+    (c.obey_sequence.ensures.said
+    ∙ ap (λ (numbers : List ℕ). outs ++ listed (does numbers).said) c.as_slice.ensures.numbers)
 
 pub returns-in-Esc-clause-few : goal.returns-in-Esc-clause-few
 returns-in-Esc-clause-few c =
@@ -68,7 +68,7 @@ returns-in-Esc-clause-few c =
     let one : Sequence = record { unit = Esc c.in-Esc.mid c.in-Esc.last; count = c.in-Esc.count } in
     let is : IsUnitOf m rest text one = c.sequences_are_units.ensures rest m text one (sym c.in-Esc.ensures.sequence) in
     let some : 0 < c.in-Esc.count = some-bytes m rest text c.in-Esc.count one.unit is.comes in
-    omega (arith, c.say.ensures.few, some)
+    omega (arith, c.escape.ensures.few, some)
 
 pub returns-in-Csi-clause-few : goal.returns-in-Csi-clause-few
 returns-in-Csi-clause-few c =
@@ -78,4 +78,4 @@ returns-in-Csi-clause-few c =
     let one : Sequence = record { unit = Csi c.in-Csi.private c.take_sequence.new.params c.in-Csi.last; count = c.in-Csi.count } in
     let is : IsUnitOf m rest text one = c.sequences_are_units.ensures rest m text one (sym c.in-Csi.ensures.sequence) in
     let some : 0 < c.in-Csi.count = some-bytes m rest text c.in-Csi.count one.unit is.comes in
-    omega (arith, c.say-in-Csi.ensures.few, some)
+    omega (arith, c.obey_sequence.ensures.few, some)
