@@ -14,7 +14,7 @@ empty = record { bytes = []; dropped = 0 }
 abbrev pub with_piece : Queue → List ℕ → Queue
 with_piece q piece = record q { bytes = q.bytes ++ piece }
 
--- one dropped piece more; the count stands still at its greatest value
+-- one dropped piece more; the count saturates at its greatest value
 abbrev pub with_drop : Queue → Queue
 with_drop q = record q { dropped = min (q.dropped + 1) 4294967295 }
 

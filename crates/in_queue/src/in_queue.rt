@@ -1,16 +1,14 @@
 ghost use Rattle.std.specs.Prelude.{◌≡◌, ◌+◌, ◌<◌, ◌≤◌, ◌==◌, ◌↔◌, ◌++◌, length, take, min, slice_get, Some, IsTrue, IfOk};
 ghost use Rattle.std.specs.Bool.{OnFalse, OnTrue};
 ghost use Rattle.in_queue.specs.Queue.{empty, with_drop, with_piece, without_front};
+ghost use Rattle.vt_base.specs.Limits.{piece_bytes};
 
 use circular_buffer::HeapCircularBuffer;
 use std::alloc::Global;
 use std::marker::Model;
-use vt_base::{Bytes, NoMemory};
+use vt_base::{Bytes, NoMemory, PIECE_BYTES};
 
-/// The most bytes of an input queue. This project's own.
-pub const QUEUE_BYTES: usize = 4_096;
-
-/// What a console's readers have still to read: at most [`QUEUE_BYTES`] bytes. A piece that doesn't
+/// What a console's readers have still to read: at most [`PIECE_BYTES`] bytes. A piece that doesn't
 /// fit is dropped whole and counted.
 #[derive(Debug, Drop)]
 pub struct InQueue {
@@ -21,12 +19,13 @@ pub struct InQueue {
 impl Model for InQueue {
     ghost use Rattle.std.specs.Prelude.{◌≡◌};
     ghost use Rattle.in_queue.specs.Queue.{Queue};
+    ghost use Rattle.vt_base.specs.Limits.{piece_bytes};
 
     ghost Value = { Queue };
 
     ghost view = { λ q. record { bytes = q.bytes.items; dropped = q.dropped } };
 
-    ghost invariant = { λ q. q.bytes.capacity ≡ 4096 };
+    ghost invariant = { λ q. q.bytes.capacity ≡ piece_bytes };
 }
 
 impl InQueue {
@@ -34,17 +33,17 @@ impl InQueue {
     pub fn new(alloc: Global) -> Result<InQueue, NoMemory>
         ensures { IfOk result (λ q. q ≡ empty) }
     {
-        let bytes = HeapCircularBuffer::with_capacity(alloc, QUEUE_BYTES)?;
+        let bytes = HeapCircularBuffer::with_capacity(alloc, PIECE_BYTES)?;
         Ok(InQueue { bytes, dropped: 0 })
     }
 
     /// Puts all of `b` at the back, or drops it where it doesn't fit.
     pub fn put(&mut self, b: &[u8]) -> bool
-        ensures fits { IsTrue result ↔ (length self.old.bytes + length b.now ≤ QUEUE_BYTES) }
+        ensures fits { IsTrue result ↔ (length self.old.bytes + length b.now ≤ piece_bytes) }
         ensures put { OnTrue result (self.new ≡ with_piece self.old b.now) }
         ensures dropped { OnFalse result (self.new ≡ with_drop self.old) }
     {
-        if QUEUE_BYTES - self.bytes.len() < b.len() {
+        if PIECE_BYTES - self.bytes.len() < b.len() {
             self.dropped = self.dropped.saturating_add(1);
             return false;
         }
@@ -73,7 +72,7 @@ impl InQueue {
     /// How many bytes there are.
     pub fn len(&self) -> usize
         ensures count { result ≡ length self.now.bytes }
-        ensures within { result ≤ QUEUE_BYTES }
+        ensures within { result ≤ piece_bytes }
     {
         self.bytes.len()
     }
@@ -93,7 +92,7 @@ impl InQueue {
         self.bytes.get(i).copied().unwrap()
     }
 
-    /// How many pieces were dropped; the count stands still at 4,294,967,295.
+    /// How many pieces were dropped; the count saturates at 4,294,967,295.
     pub fn dropped(&self) -> u32
         ensures { result ≡ self.now.dropped }
     {

@@ -5,4 +5,4 @@ mod in_queue;
 #[cfg(test)]
 mod tests;
 
-pub use in_queue::{InQueue, QUEUE_BYTES};
+pub use in_queue::InQueue;

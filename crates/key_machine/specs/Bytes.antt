@@ -19,7 +19,7 @@ character_bytes mode code =
     else if mode == XLATE && nat_lt code 256 then code ∷ []
     else []
 
--- characters, one behind another
+-- characters, one after another
 abbrev pub characters_bytes : ℕ → List ℕ → List ℕ
 characters_bytes mode codes = flat_map (character_bytes mode) codes
 
@@ -35,7 +35,7 @@ code_bytes code down =
 abbrev pub idle_bytes : ℕ → ℕ → Bool → List ℕ
 idle_bytes mode code down = if mode == MEDIUMRAW then code_bytes code down else []
 
--- Meta: behind ESC, or with the high bit
+-- Meta: after ESC, or with the high bit
 unfoldable pub meta_bytes : ℕ → ℕ → List ℕ
 meta_bytes meta v = if meta == ESCPREFIX then 0x1B ∷ v ∷ [] else (v + 0x80) ∷ []
 

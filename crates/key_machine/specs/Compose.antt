@@ -31,7 +31,7 @@ joined pairs None code = typed (code ∷ []) nothing_waits
 joined pairs (Some accent) code =
     typed (joined_by (found_in pairs accent code) accent code) nothing_waits
 
--- a character; the first one behind Compose waits as accent in place of one that waits
+-- a character; the first one after Compose waits as accent in place of one that waits
 unfoldable pub character : List Pair → Waiting → ℕ → Typed
 character pairs w code =
     if w.composing then typed [] (waits code) else joined pairs w.accent code
@@ -48,7 +48,7 @@ abbrev pub accented : List Pair → Option ℕ → ℕ → Typed
 accented pairs None new = typed [] (waits new)
 accented pairs (Some accent) new = accented_by (found_in pairs accent new) accent new
 
--- a dead key; behind Compose its accent waits in place of one that waits
+-- a dead key; after Compose its accent waits in place of one that waits
 unfoldable pub dead : List Pair → Waiting → ℕ → Typed
 dead pairs w new = if w.composing then typed [] (waits new) else accented pairs w.accent new
 

@@ -36,7 +36,7 @@ types typed keys s =
     step (record keys { waiting = typed.waiting }) s
     (out_of (characters_bytes s.mode typed.codes))
 
--- a digit behind the number that is kept, up to the greatest number of 16 bits
+-- a digit after those of the number that is kept, up to the greatest number of 16 bits
 abbrev pub number_with : Option ℕ → ℕ → ℕ
 number_with number digit = min (10 * unwrap_or number 0 + digit) 65535
 

@@ -64,7 +64,7 @@ pub(crate) fn dead(t: &KeyTables, waiting: Waiting, new: u16) -> (Codes, Waiting
     }
 }
 
-// What waits behind two accents that no pair joins.
+// What waits after two accents that no pair joins.
 fn second(accent: u16, new: u16) -> Waiting
     ensures { result ≡ (if accent == new then nothing_waits else waits new) }
 {

@@ -63,9 +63,3 @@ impl KeyBytes {
         self.bytes.as_slice()
     }
 }
-
-impl Default for KeyBytes {
-    fn default() -> KeyBytes {
-        KeyBytes::new()
-    }
-}

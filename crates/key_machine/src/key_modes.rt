@@ -7,6 +7,6 @@ pub struct KeyModes {
     pub keypad: bool,
     /// DECARM: keys that are held repeat.
     pub repeat: bool,
-    /// LNM: Return and Enter send LF behind CR.
+    /// LNM: Return and Enter send LF after CR.
     pub newline: bool,
 }

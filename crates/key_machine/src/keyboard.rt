@@ -182,7 +182,7 @@ impl Keyboard {
         sent(characters_bytes(s.mode, codes))
     }
 
-    // A digit behind the number that is kept.
+    // A digit after those of the number that is kept.
     fn add_digit(&mut self, digit: u16) -> KeyOut
         requires { digit ≤ 9 }
         ensures keys { self.new ≡ record self.old { number = Some (number_with self.old.number digit) } }

@@ -1,4 +1,4 @@
-//! Laws of the definitions: nothing of the keyboard is in them.
+//! Laws of the definitions, and of the numbers in the code.
 ghost use Rattle.std.specs.Prelude.{◌≡◌};
 ghost use Rattle.key_machine.specs.Laws.{KeysFollow, RecordsStay};
 ghost use Rattle.key_machine.specs.Numbers as number;

@@ -5,12 +5,12 @@ mod sent;
 mod sessions;
 
 use crate::{KbState, KeyModes, KeyOut};
-use Told::{Attention, Bytes, Last, Next, Nothing, Prev, Spawn, Switch};
+use Wanted::{Attention, Bytes, Last, Next, Nothing, Prev, Spawn, Switch};
 use scan_codes::KeyEvent;
 
 // What a key event came to.
 #[derive(Clone, Copy, Debug)]
-enum Told {
+enum Wanted {
     Bytes(&'static [u8]),
     Switch(u8),
     Last,
@@ -21,8 +21,8 @@ enum Told {
     Nothing,
 }
 
-fn is_told(out: &KeyOut, told: Told) -> bool {
-    match (out, told) {
+fn is_wanted(out: &KeyOut, wanted: Wanted) -> bool {
+    match (out, wanted) {
         (KeyOut::Bytes(bytes), Bytes(wanted)) => bytes.as_slice() == wanted,
         (KeyOut::Switch(n), Switch(wanted)) => *n == wanted,
         (KeyOut::Last, Last) => true,

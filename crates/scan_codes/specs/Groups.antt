@@ -13,7 +13,7 @@ is_group _ = false
 abbrev pub Begins : List ℕ → Type 0
 Begins bytes = (more : List ℕ) × (more ≢ []) × IsTrue (is_group (bytes ++ more))
 
--- the scan numbers that name a key: from 1 on, and those behind E0 from 129 on
+-- the scan numbers that name a key: from 1 on, and those after E0 from 129 on
 abbrev pub is_scan : ℕ → Bool
 is_scan scan = (nat_le 1 scan && nat_le scan 127) || (nat_le 129 scan && nat_le scan 255)
 
@@ -36,7 +36,7 @@ pause b c =
     else if b == 0x9D && c == 0xC5 then event 119 false
     else None
 
--- what a group names: the low seven bits are its scan number, behind E0 with 128 added
+-- what a group names: the low seven bits are its scan number, after E0 with 128 added
 abbrev pub named_by : List ℕ → List ℕ → Option KeyEvent
 named_by codes (b ∷ []) =
     if b == 0x00 || b == 0xFF then None else key codes (b % 0x80) (is_down b)

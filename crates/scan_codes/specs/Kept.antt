@@ -13,4 +13,4 @@ bytes_of (E1And b) = 0xE1 ∷ b ∷ []
 pub record IsTranslation (codes : List ℕ) : Type 0 where
   pub all : length codes ≡ 256
   pub first : slice_index codes 0 ≡ 0
-  pub behind_e0 : slice_index codes 0x80 ≡ 0
+  pub after_e0 : slice_index codes 0x80 ≡ 0

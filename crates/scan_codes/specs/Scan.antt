@@ -1,4 +1,4 @@
--- What a scan byte comes to behind the bytes before it.
+-- What a scan byte comes to after the bytes before it.
 use Rattle.std.specs.Prelude.{ℕ, Option, None, List, [], ◌∷◌, ◌++◌, map, if◌then◌else◌, slice_set}
 use Rattle.std.specs.List.{range_with_len}
 use Rattle.scan_codes.specs.Groups.{is_group, named_by}

@@ -29,7 +29,7 @@ fn groups_name_keys(rt: HostRuntime) {
         (0xE0, None, "E0"),
         (0x00, None, "E0 00 names nothing"),
         (0xE0, None, "E0"),
-        (0xE1, None, "behind E0 every byte ends the group"),
+        (0xE1, None, "after E0 every byte ends the group"),
         (0xE1, None, "E1 goes with two bytes more"),
         (0x1D, None, "the second of Pause"),
         (0x45, down(119), "Pause goes down"),

@@ -1,7 +1,7 @@
 ghost use Rattle.std.specs.Prelude.{◌≤◌};
 
-use super::Told::{Attention, Bytes, Last, Next, Nothing, Prev, Spawn, Switch};
-use super::{DOWN, HELD, MODES, Told, UP, is_told, start};
+use super::Wanted::{Attention, Bytes, Last, Next, Nothing, Prev, Spawn, Switch};
+use super::{DOWN, HELD, MODES, UP, Wanted, is_wanted, start};
 use crate::{Keyboard, mode};
 use key_syms::Action;
 use key_tables::KeyTables;
@@ -14,13 +14,13 @@ use std::test::Fail;
 struct Row {
     kind: u16,
     value: u16,
-    xlate: (Told, Told),
-    unicode: (Told, Told),
+    xlate: (Wanted, Wanted),
+    unicode: (Wanted, Wanted),
     after: (u8, u8, u8),
 }
 
 // What says the same in both modes.
-fn same(kind: u16, value: u16, press: Told, repeat: Told, after: (u8, u8, u8)) -> Row {
+fn same(kind: u16, value: u16, press: Wanted, repeat: Wanted, after: (u8, u8, u8)) -> Row {
     Row {
         kind,
         value,
@@ -83,7 +83,7 @@ fn rows() -> [Row; 34] {
 
 // What the press and the repeat say in a mode. In the modes in which no key acts but SAK, K_MEDIUMRAW
 // says the keycode.
-fn wanted(row: &Row, mode: u8) -> (Told, Told) {
+fn wanted(row: &Row, mode: u8) -> (Wanted, Wanted) {
     match mode {
         mode::XLATE => row.xlate,
         mode::UNICODE => row.unicode,
@@ -92,7 +92,7 @@ fn wanted(row: &Row, mode: u8) -> (Told, Told) {
     }
 }
 
-fn idle(mode: u8) -> Told {
+fn idle(mode: u8) -> Wanted {
     if mode == mode::MEDIUMRAW {
         Bytes(b"\x1E")
     } else {
@@ -120,7 +120,7 @@ fn check_row(rt: &impl Abort, t: &KeyTables, row: &Row, mode: u8)
     let mut keys = Keyboard::start();
     let out = keys.key(DOWN, t, &mut s, MODES);
     assert!(rt;
-        is_told(&out, press),
+        is_wanted(&out, press),
         "{kind} {value} pressed in {mode}: {out:?}"
     );
     assert_eq!(rt;
@@ -130,12 +130,12 @@ fn check_row(rt: &impl Abort, t: &KeyTables, row: &Row, mode: u8)
     );
     let out = keys.key(DOWN, t, &mut s, HELD);
     assert!(rt;
-        is_told(&out, idle(mode)),
+        is_wanted(&out, idle(mode)),
         "{kind} {value} held in {mode}: {out:?}"
     );
     let out = keys.key(DOWN, t, &mut s, MODES);
     assert!(rt;
-        is_told(&out, repeat),
+        is_wanted(&out, repeat),
         "{kind} {value} repeated in {mode}: {out:?}"
     );
     assert_eq!(rt;
@@ -145,7 +145,7 @@ fn check_row(rt: &impl Abort, t: &KeyTables, row: &Row, mode: u8)
     );
     let out = keys.key(UP, t, &mut s, MODES);
     assert!(rt;
-        is_told(&out, up),
+        is_wanted(&out, up),
         "{kind} {value} released in {mode}: {out:?}"
     );
 }

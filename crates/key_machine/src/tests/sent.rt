@@ -1,5 +1,5 @@
-use super::Told::Bytes;
-use super::{DOWN, is_told, start};
+use super::Wanted::Bytes;
+use super::{DOWN, is_wanted, start};
 use crate::{KbState, KeyBytes, KeyModes, Keyboard, meta, mode};
 use key_syms::Action;
 use key_tables::KeyTables;
@@ -91,7 +91,7 @@ fn modes_change_what_is_sent(rt: HostRuntime) -> Result<(), Fail> {
             newline: case.newline,
         };
         let out = Keyboard::start().key(DOWN, &t, &mut s, m);
-        assert!(rt; is_told(&out, Bytes(case.bytes)), "{what}: {out:?}");
+        assert!(rt; is_wanted(&out, Bytes(case.bytes)), "{what}: {out:?}");
     }
     Ok(())
 }
@@ -102,7 +102,7 @@ fn starts_plain(rt: HostRuntime) {
     assert_eq!(rt; (s.mode, s.meta), (3, 4));
     assert_eq!(rt; (s.flags, s.defaults, s.locks, s.sticky), (0, 0, 0, 0));
     assert_eq!(rt; s.lights, None);
-    let mut bytes = KeyBytes::default();
+    let mut bytes = KeyBytes::new();
     assert!(rt; bytes.as_slice().is_empty());
     bytes.push(0x1B);
     bytes.push(b'[');

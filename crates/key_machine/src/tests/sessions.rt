@@ -1,5 +1,5 @@
-use super::Told::{Bytes, Nothing};
-use super::{MODES, Told, is_told, start};
+use super::Wanted::{Bytes, Nothing};
+use super::{MODES, Wanted, is_wanted, start};
 use crate::Keyboard;
 use key_syms::{Action, Pair};
 use key_tables::KeyTables;
@@ -8,12 +8,12 @@ use std::alloc::Global;
 use std::process::Abort;
 use std::test::Fail;
 
-// Scan bytes, one behind another, and what each of them says.
+// Scan bytes, one after another, and what each of them says.
 #[derive(Clone, Copy, Drop)]
 struct Session {
     what: &'static str,
     mode: u8,
-    keys: &'static [(u8, Told)],
+    keys: &'static [(u8, Wanted)],
 }
 
 const SESSIONS: [Session; 13] = [
@@ -228,10 +228,10 @@ fn scan_bytes_become_what_keys_say(rt: HostRuntime) -> Result<(), Fail> {
         assert!(rt; session.mode <= 4);
         let mut s = start(session.mode);
         let what = session.what;
-        for (b, told) in session.keys {
+        for (b, wanted) in session.keys {
             let e = scanner.push(*b).ok_or("a key")?;
             let out = keys.key(e, &t, &mut s, MODES);
-            assert!(rt; is_told(&out, *told), "{what}: {b:02x} gave {out:?}");
+            assert!(rt; is_wanted(&out, *wanted), "{what}: {b:02x} gave {out:?}");
         }
     }
     Ok(())

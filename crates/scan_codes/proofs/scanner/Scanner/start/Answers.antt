@@ -10,7 +10,7 @@ unfolding start_code
 invariant_of-result c = record {
   all = c.loop-scan.invariant.0;
   first = c.loop-scan.invariant.1 0 (omega arith);
-  behind_e0 = c.loop-scan.invariant.1 0x80 (omega arith);
+  after_e0 = c.loop-scan.invariant.1 0x80 (omega arith);
 }
 
 pub returns : goal.returns
