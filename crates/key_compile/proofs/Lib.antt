@@ -1,4 +1,5 @@
 pub mod Alt
+pub mod Dumpable
 pub mod Marking
 pub mod Same
 pub mod Steps

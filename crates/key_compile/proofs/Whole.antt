@@ -6,7 +6,7 @@ use Rattle.std.proofs.lemmas.List.Folds.{list_any_at}
 use Rattle.std.specs.List.{list_any, slice_index_or}
 use Rattle.std.specs.Option.{option_map, option_or}
 use Rattle.key_syms.specs.Act.{Act, act}
-use Rattle.key_syms.specs.declared.kind.TheConstants.{HOLE, META}
+use Rattle.key_syms.specs.Kinds.{HOLE, META}
 use Rattle.key_syms.specs.declared.pair.Pair.{Pair}
 use Rattle.key_tables.specs.Tables.{IsEmpty, IsWhole, Tables, entry_of, exists_in, func_of, hole, with_pairs}
 use Rattle.key_text.specs.Told.{Telling, Told, keymaps, keys, one, string, compose, alt_is_meta, usual_strings, usual_pairs}

@@ -3,7 +3,7 @@ use Rattle.std.specs.Prelude.{ℕ, Bool, true, false, ◌==◌, ◌&&◌, cond, 
 use Rattle.std.specs.List.{list_any}
 use Rattle.std.specs.Option.{option_or}
 use Rattle.key_syms.specs.Act.{Act, act}
-use Rattle.key_syms.specs.declared.kind.TheConstants.{HOLE, META}
+use Rattle.key_syms.specs.Kinds.{HOLE, META}
 use Rattle.key_tables.specs.Tables.{hole}
 use Rattle.key_text.specs.Told.{Telling, Told, keymaps, keys, one, string, compose, alt_is_meta, usual_strings, usual_pairs}
 use Rattle.key_compile.specs.Fill.{filled, is_character_act}

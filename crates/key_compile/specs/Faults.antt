@@ -3,7 +3,7 @@ use Rattle.std.specs.Prelude.{ℕ, ◌+◌, Bool, true, false, ◌||◌, cond, n
 use Rattle.std.specs.Option.{option_map, option_or}
 use Rattle.key_text.specs.Told.{Telling, Told, keymaps, keys, one, string, compose, alt_is_meta, usual_strings, usual_pairs}
 use Rattle.key_text.specs.declared.fault.KeyFault.{KeyFault}
-use Rattle.key_text.specs.declared.fault_kind.TheConstants.{LATE_KEYMAPS, TOO_MANY_PAIRS, WRONG_COUNT}
+use Rattle.key_text.specs.FaultKinds.{LATE_KEYMAPS, TOO_MANY_PAIRS, WRONG_COUNT}
 use Rattle.key_compile.specs.Union.{union_of}
 
 -- a line with `keycode`

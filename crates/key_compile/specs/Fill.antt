@@ -1,7 +1,7 @@
 -- What a symbol that stands alone on a key line does in a table.
 use Rattle.std.specs.Prelude.{ℕ, ◌+◌, ◌-◌, ◌/◌, ◌%◌, Bool, ◌==◌, ◌&&◌, ◌||◌, cond, nat_le}
 use Rattle.key_syms.specs.Act.{Act, act}
-use Rattle.key_syms.specs.declared.kind.TheConstants.{CHARACTER, LETTER, META}
+use Rattle.key_syms.specs.Kinds.{CHARACTER, LETTER, META}
 use Rattle.key_tables.specs.Tables.{hole}
 
 -- a character, obeying CapsLock or not

@@ -1,4 +1,5 @@
 pub mod Compiled
+pub mod Dumpable
 pub mod Entries
 pub mod Existing
 pub mod Faults

@@ -1,7 +1,7 @@
 -- What `alt_is_meta` sets, over tables whose lines are done.
 use Rattle.std.specs.Prelude.{ℕ, ◌+◌, ◌-◌, Bool, ◌==◌, ◌&&◌, cond, nat_le, nat_lt, Option, Some, None}
 use Rattle.key_syms.specs.Act.{Act, act}
-use Rattle.key_syms.specs.declared.kind.TheConstants.{HOLE, META}
+use Rattle.key_syms.specs.Kinds.{HOLE, META}
 use Rattle.key_tables.specs.Tables.{Tables, entry_of}
 use Rattle.key_compile.specs.Entries.{is_ascii_act}
 

@@ -1,7 +1,8 @@
-ghost use Rattle.std.specs.Prelude.{◌≡◌, None, cond, IfOk};
+ghost use Rattle.std.specs.Prelude.{◌≡◌, None, cond, IfOk, IsTrue};
 ghost use Rattle.std.specs.List.{list_any};
 ghost use Rattle.key_tables.specs.Tables.{IsWhole};
 ghost use Rattle.key_compile.specs.Compiled.{AreStart, AreTablesOf, Compiles};
+ghost use Rattle.key_compile.specs.Dumpable.{AreFit, is_dumpable};
 ghost use Rattle.key_compile.specs.Entries.{is_alt};
 ghost use Rattle.key_compile.specs.Faults.{compile_fault};
 ghost use Rattle.key_compile.specs.Metas.{metas_below};
@@ -11,6 +12,7 @@ ghost use Rattle.key_compile.specs.Union.{IsSetOf, in_union, union_of};
 
 use crate::entries::put_lines;
 use crate::first_fault::first_fault;
+use crate::laws::compiled_are_dumpable;
 use crate::metas::{has_alt_is_meta, put_metas};
 use crate::pairs::pairs_in;
 use crate::strings::put_strings;
@@ -23,7 +25,8 @@ use vt_base::NoMemory;
 
 /// The tables of the lines of a keymap, or the first fault of the lines.
 pub fn compile(alloc: Global, lines: &[Line]) -> Result<KeyTables, KeyError>
-    ensures { Compiles lines.now result }
+    ensures value { Compiles lines.now result }
+    ensures dumpable { IfOk result (λ tables. IsTrue (is_dumpable tables)) }
 {
     let marks = union_marks(alloc, lines)?;
     let union = marked_tables(alloc, marks.as_slice())?;
@@ -34,7 +37,19 @@ pub fn compile(alloc: Global, lines: &[Line]) -> Result<KeyTables, KeyError>
     let pairs = pairs_in(alloc, lines)?;
     let mut tables = start_tables(alloc, lines, marks.as_slice())?;
     fill_tables(&mut tables, union.as_slice(), lines, pairs.as_slice());
+    are_fit(lines);
+    compiled_are_dumpable();
     Ok(tables)
+}
+
+// Each line is fit to be one; this opens them one by one.
+fn are_fit(lines: &[Line])
+    ensures { AreFit lines.now }
+{
+    for i in 0..lines.len() {
+        let line = &lines[i];
+        let _ = &line.kind;
+    }
 }
 
 #[tactic(auto, unfolding(crate::specs::Faults::compile_fault))]
@@ -45,7 +60,7 @@ fn lines_fault(lines: &[Line], union: &[u8]) -> Option<KeyFault>
     first_fault(lines, union.len())
 }
 
-/// The tables that are declared. `marks` says it of the union.
+// The tables that are declared. `marks` says it of the union.
 fn start_tables(alloc: Global, lines: &[Line], marks: &[bool]) -> Result<KeyTables, NoMemory>
     requires { IsSetOf marks.now (in_union lines.now) }
     ensures { IfOk result (AreStart lines.now) }
@@ -55,7 +70,7 @@ fn start_tables(alloc: Global, lines: &[Line], marks: &[bool]) -> Result<KeyTabl
     KeyTables::empty(alloc, numbers.as_slice())
 }
 
-/// Sets what the lines give.
+// Sets what the lines give.
 fn fill_tables(tables: &mut KeyTables, union: &[u8], lines: &[Line], pairs: &[Pair])
     requires start { AreStart lines.now tables.old }
     requires union { union.now ≡ union_of lines.now }
@@ -70,14 +85,14 @@ fn fill_tables(tables: &mut KeyTables, union: &[u8], lines: &[Line], pairs: &[Pa
     are_whole(tables);
 }
 
-/// Tables are whole, whatever was set: each call on them says so.
+// Tables are whole, whatever was set: each call on them says so.
 fn are_whole(tables: &KeyTables)
     ensures { IsWhole tables.now }
 {
     let _ = tables.exists(0);
 }
 
-/// Fills the tables with Alt, where a line is `alt_is_meta`.
+// Fills the tables with Alt, where a line is `alt_is_meta`.
 fn put_alt(tables: &mut KeyTables, lines: &[Line])
     ensures { Puts (λ t c. cond (list_any (λ l. is_alt l.telling) lines.now)
         (metas_below tables.old 8 t c) None) tables.old tables.new }

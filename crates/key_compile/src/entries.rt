@@ -21,7 +21,7 @@ pub fn put_lines(tables: &mut KeyTables, union: &[u8], lines: &[Line])
     }
 }
 
-/// Sets what a line gives.
+// Sets what a line gives.
 fn put_line(tables: &mut KeyTables, union: &[u8], line: &Line)
     requires exist { HasTables union.now tables.old }
     requires own { HasOwnTable line.now.telling tables.old }
@@ -53,7 +53,7 @@ fn put_one(tables: &mut KeyTables, table: u8, code: u8, action: Action)
     tables.set_entry(table, code, action);
 }
 
-/// Sets the symbols of a key line: one in all tables of the union, more in the first of them.
+// Sets the symbols of a key line: one in all tables of the union, more in the first of them.
 fn put_symbols(tables: &mut KeyTables, union: &[u8], code: u8, actions: &[Action])
     requires exist { HasTables union.now tables.old }
     requires key { code ≢ 0 }

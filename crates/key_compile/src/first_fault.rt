@@ -1,12 +1,12 @@
 ghost use Rattle.std.specs.Prelude.{◌≡◌, ◌≤◌, ◌+◌, nat_lt, cond, Some, None, false, IfNone};
 ghost use Rattle.key_compile.specs.Faults.{at_line, fault_of, first_fault, is_key, pairs_fault, pairs_of_line};
-ghost use Rattle.key_text.specs.declared.fault_kind.TheConstants.{LATE_KEYMAPS, WRONG_COUNT};
+ghost use Rattle.key_text.specs.FaultKinds.{LATE_KEYMAPS, WRONG_COUNT};
 
 use crate::usual::USUAL_PAIR_COUNT;
 use key_text::fault_kind::{LATE_KEYMAPS, TOO_MANY_PAIRS, WRONG_COUNT};
 use key_text::{KeyFault, Line, LineKind};
 
-/// The most pairs.
+// The most pairs.
 const PAIRS: usize = 256;
 
 /// The first fault of the lines, where there are n tables in the union.
@@ -39,7 +39,7 @@ fn at_line(line: &Line, kind: u16) -> KeyFault
     }
 }
 
-/// The kind of a line's fault.
+// The kind of a line's fault.
 fn fault_of(n: usize, seen: bool, count: usize, line: &Line) -> Option<u16>
     requires { count ≤ 256 }
     ensures value { result ≡ fault_of n seen count line.now.telling }

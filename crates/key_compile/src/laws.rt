@@ -1,7 +1,13 @@
-//! The law of the tables of a keymap.
+//! The laws of the tables of a keymap.
 ghost use Rattle.key_compile.specs.Compiled.{OneValue};
+ghost use Rattle.key_compile.specs.Dumpable.{CompiledAreDumpable};
 
 /// The lines alone decide the tables.
 pub fn one_value()
     ensures { OneValue }
+{}
+
+/// The tables of lines can be written as a keymap text.
+pub fn compiled_are_dumpable()
+    ensures { CompiledAreDumpable }
 {}

@@ -15,4 +15,4 @@ mod union;
 mod usual;
 
 pub use compiling::compile;
-pub use laws::one_value;
+pub use laws::{compiled_are_dumpable, one_value};

@@ -10,10 +10,10 @@ use key_syms::{Action, kind};
 use key_tables::KeyTables;
 use key_text::{Line, LineKind};
 
-/// How many tables there are without Alt below those with it.
+// How many tables there are without Alt below those with it.
 const TABLES: u8 = 8;
 
-/// One past the greatest keycode.
+// One past the greatest keycode.
 const CODES: u16 = 256;
 
 /// Whether a line is `alt_is_meta`.
@@ -52,7 +52,7 @@ pub fn put_metas(tables: &mut KeyTables)
     }
 }
 
-/// Fills the holes of the table with Alt above a table.
+// Fills the holes of the table with Alt above a table.
 fn put_metas_of(tables: &mut KeyTables, t: u8)
     requires { t < 8 }
     ensures { Puts (λ u c. cond (u == t + 8) (meta_at tables.old t c) None)
@@ -78,7 +78,7 @@ fn put_meta(tables: &mut KeyTables, t: u8, c: u8)
     }
 }
 
-/// The meta of a character over a hole, where both tables exist.
+// The meta of a character over a hole, where both tables exist.
 fn meta_of(below: Option<Action>, above: Option<Action>) -> Option<Action>
     ensures value { result ≡ meta_of below above }
     ensures exists { IsSome result → IsSome above }

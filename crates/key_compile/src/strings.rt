@@ -57,7 +57,7 @@ fn put_usual_string(tables: &mut KeyTables, i: usize)
     put_string(tables, i as u8, text);
 }
 
-/// The usual string of a function key, or no bytes.
+// The usual string of a function key, or no bytes.
 #[tactic(auto, unfolding(crate::specs::Strings::usual_string))]
 fn usual_text(i: usize) -> &'static [u8]
     requires { i < USUAL_STRING_COUNT }
@@ -76,7 +76,7 @@ fn row_at(i: usize) -> &'static [u8]
     &USUAL_STRINGS[i]
 }
 
-/// How many bytes stand before the first 0.
+// How many bytes stand before the first 0.
 fn len_of(row: &[u8]) -> usize
     ensures value { result ≡ prefix_len (λ b. not (b == 0)) row.now }
     ensures within { result ≤ length row.now }

@@ -5,7 +5,7 @@ ghost use Rattle.key_compile.specs.Union.{IsSetOf, in_union, is_declared, is_key
 use key_text::{Line, LineKind};
 use std::alloc::{AllocError, Global};
 
-/// How many tables there may be.
+// How many tables there may be.
 const TABLES: usize = 256;
 
 /// For each table whether it is in the union.
@@ -45,7 +45,7 @@ fn is_keymaps(line: &Line) -> bool
     }
 }
 
-/// For each table whether a line `keymaps` has it.
+// For each table whether a line `keymaps` has it.
 fn named_tables(alloc: Global, lines: &[Line]) -> Result<Vec<bool>, AllocError>
     ensures { IfOk result (λ marks. IsSetOf marks.items
         (λ t. list_any (λ l. names_table t l.telling) lines.now)) }
@@ -65,7 +65,7 @@ fn no_marks(alloc: Global) -> Result<Vec<bool>, AllocError>
     Ok(marks)
 }
 
-/// Marks the tables that a line `keymaps` has.
+// Marks the tables that a line `keymaps` has.
 fn mark_named(marks: &mut Vec<bool>, line: &Line)
     requires { length marks.old.items ≡ 256 }
     ensures full { length marks.new.items ≡ 256 }
@@ -127,7 +127,7 @@ pub fn declared_marks(
     Ok(marks)
 }
 
-/// Marks the table of a line with modifier words.
+// Marks the table of a line with modifier words.
 fn mark_modified(marks: &mut Vec<bool>, line: &Line)
     requires { length marks.old.items ≡ 256 }
     ensures full { length marks.new.items ≡ 256 }

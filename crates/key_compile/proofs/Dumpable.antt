@@ -1,0 +1,97 @@
+-- The tables of lines have a table, and pairs of characters.
+use Rattle.std.proofs.Common.{◌≡◌, ℕ, suc, zero, ◌<◌, Bool, true, false, ◌==◌, ◌&&◌, ◌||◌, cond, None, is_some, IsTrue, All, List, [], ◌∷◌, ◌++◌, length, get_or, refl, sym, ap, ◌∙◌, subst, arith}
+use Rattle.std.proofs.lemmas.Bool.{and_from, and_parts, eqb-true, false≢true, or_left}
+use Rattle.std.proofs.lemmas.List.Elements.{All-head, All-tail}
+use Rattle.std.proofs.lemmas.List.Folds.{list_all-append, list_any_at}
+use Rattle.std.specs.List.{flat_map, list_all, list_any}
+use Rattle.key_syms.specs.declared.pair.Pair.{Pair}
+use Rattle.key_tables.specs.Tables.{Tables, exists_in}
+use Rattle.key_text.specs.Told.{Telling, Told, alt_is_meta, compose, is_fit, is_real, keymaps, keys, one, string, usual_pairs, usual_strings}
+use Rattle.key_compile.specs.Compiled.{AreTablesOf}
+use Rattle.key_compile.specs.Dumpable.{AreFit, CompiledAreDumpable, is_dumpable}
+use Rattle.key_compile.specs.Pairs.{pairs_by, pairs_in, usual}
+use Rattle.key_compile.specs.Union.{in_union, is_declared, is_keymaps, is_usual_table, modifies_table, names_table}
+
+-- a table that a test names
+abbrev pub SomeTable : (ℕ → Bool) → Type 0
+SomeTable test = (t : ℕ) × (t < 256) × (test t ≡ true)
+
+some_at : (tables : List Bool) → list_any (λ has. has) tables ≡ true → (k : ℕ) × (k < length tables) × (get_or tables k false ≡ true)
+some_at [] e = absurd (false≢true e)
+some_at (true ∷ tables) e = (0, omega arith, refl)
+some_at (false ∷ tables) e = let rest = some_at tables e in (suc rest.0, omega (arith, rest.1), rest.2)
+
+named_by : (telling : Telling) → is_keymaps telling ≡ true → IsTrue (is_fit telling) → SomeTable (λ t. names_table t telling)
+named_by (keymaps tables) e fit =
+    let parts = and_parts (length tables == 256) (list_any (λ has. has) tables) fit in
+    let found = some_at tables parts.1 in
+    (found.0, subst (λ (n : ℕ). found.0 < n) (eqb-true (length tables) 256 parts.0) found.1, found.2)
+named_by (keys code actions) e fit = absurd (false≢true e)
+named_by (one table code action) e fit = absurd (false≢true e)
+named_by (string func bytes) e fit = absurd (false≢true e)
+named_by (compose pair) e fit = absurd (false≢true e)
+named_by alt_is_meta e fit = absurd (false≢true e)
+named_by usual_strings e fit = absurd (false≢true e)
+named_by usual_pairs e fit = absurd (false≢true e)
+
+named_in : (lines : List Told) → AreFit lines → list_any (λ l. is_keymaps l.telling) lines ≡ true → SomeTable (λ t. list_any (λ l. names_table t l.telling) lines)
+named_in [] fit e = absurd (false≢true e)
+named_in (l ∷ ls) fit e = by_first (named_in ls (All-tail (λ l. IsTrue (is_fit l.telling)) l ls fit)) (is_keymaps l.telling) refl
+  where
+    or_true : (b : Bool) → (b || true) ≡ true
+    or_true true = refl
+    or_true false = refl
+
+    by_first : (list_any (λ l. is_keymaps l.telling) ls ≡ true → SomeTable (λ t. list_any (λ l. names_table t l.telling) ls)) → (b : Bool) → is_keymaps l.telling ≡ b → SomeTable (λ t. list_any (λ l. names_table t l.telling) (l ∷ ls))
+    by_first rest true first =
+        let found = named_by l.telling first (All-head (λ l. IsTrue (is_fit l.telling)) l ls fit) in
+        (found.0, found.1, or_left (names_table found.0 l.telling) (list_any (λ l. names_table found.0 l.telling) ls) found.2)
+    by_first rest false other =
+        let found = rest (sym (ap (λ b. b || list_any (λ l. is_keymaps l.telling) ls) other) ∙ e) in
+        (found.0, found.1, ap (λ b. names_table found.0 l.telling || b) found.2 ∙ or_true (names_table found.0 l.telling))
+
+union_some : (lines : List Told) → AreFit lines → SomeTable (in_union lines)
+unfolding in_union
+union_some lines fit = by_test (named_in lines fit) (list_any (λ l. is_keymaps l.telling) lines) refl
+  where
+    by_test : (list_any (λ l. is_keymaps l.telling) lines ≡ true → SomeTable (λ t. list_any (λ l. names_table t l.telling) lines)) → (b : Bool) → list_any (λ l. is_keymaps l.telling) lines ≡ b → SomeTable (λ t. cond b (list_any (λ l. names_table t l.telling) lines) (is_usual_table t))
+    by_test named true e = named e
+    by_test named false e = (0, omega arith, refl)
+
+declared_some : (lines : List Told) → AreFit lines → SomeTable (is_declared lines)
+unfolding is_declared
+declared_some lines fit =
+    let found = union_some lines fit in
+    (found.0, found.1, or_left (in_union lines found.0) (list_any (λ l. modifies_table found.0 l.telling) lines) found.2)
+
+has_table : (lines : List Told) (tables : Tables) → AreFit lines → AreTablesOf lines tables → list_any is_some tables.maps ≡ true
+has_table lines tables fit are =
+    let found = declared_some lines fit in
+    list_any_at is_some tables.maps found.0 None (let e = are.whole.tall in omega (arith, found.1, e)) (are.exist found.0 found.1 ∙ found.2)
+
+usual-real : list_all is_real usual ≡ true
+unfolding usual
+usual-real = refl
+
+pairs_real : (telling : Telling) → IsTrue (is_fit telling) → list_all is_real (pairs_by telling) ≡ true
+pairs_real (keymaps tables) fit = refl
+pairs_real (keys code actions) fit = refl
+pairs_real (one table code action) fit = refl
+pairs_real (string func bytes) fit = refl
+pairs_real (compose pair) fit = and_from (is_real pair) true fit refl
+pairs_real alt_is_meta fit = refl
+pairs_real usual_strings fit = refl
+pairs_real usual_pairs fit = usual-real
+
+all_real : (lines : List Told) → AreFit lines → list_all is_real (pairs_in lines) ≡ true
+all_real [] fit = refl
+all_real (l ∷ ls) fit =
+    list_all-append is_real (pairs_by l.telling) (pairs_in ls)
+    ∙ and_from (list_all is_real (pairs_by l.telling)) (list_all is_real (pairs_in ls))
+    (pairs_real l.telling (All-head (λ l. IsTrue (is_fit l.telling)) l ls fit))
+    (all_real ls (All-tail (λ l. IsTrue (is_fit l.telling)) l ls fit))
+
+pub compiled_are_dumpable : CompiledAreDumpable
+compiled_are_dumpable lines tables fit are =
+    and_from (list_any is_some tables.maps) (list_all is_real tables.pairs) (has_table lines tables fit are)
+    (ap (list_all is_real) are.pairs ∙ all_real lines fit)

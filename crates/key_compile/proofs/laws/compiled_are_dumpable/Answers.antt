@@ -1,0 +1,5 @@
+use Rattle.key_compile.proofs.Dumpable.{compiled_are_dumpable}
+use Rattle.key_compile.proofs.laws.compiled_are_dumpable.Goals as goal
+
+pub returns : goal.returns
+returns c = compiled_are_dumpable
