@@ -22,7 +22,7 @@ impl<F: Fn(Signal) -> Act> Handler for F {
     ghost answers = { λ f table. Answers (λ n. F.pre f n) (λ n a. F.post f n a) table };
 
     fn answer(&self, _table: &HookTable, s: Signal) -> Act {
-        let _number = s.get();
+        s.stays_in_range();
         self(s)
     }
 }

@@ -4,10 +4,7 @@ ghost use Rattle.sig_hooks.specs.declared.act.Act.{Act};
 
 use crate::Act;
 use std::marker::Model;
-use vt_base::Signal;
-
-/// The signals are 1 to 64.
-const SIGNALS: usize = 64;
+use vt_base::{SIGNALS, Signal};
 
 /// An act for each signal. Contracts see the list of acts, of which the first is that of signal 1.
 #[derive(Clone, Copy, Debug, PartialEq, Eq)]

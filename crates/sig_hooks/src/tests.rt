@@ -1,5 +1,6 @@
 //! Hooks over closures. Expected acts are those that the tables were given.
 use crate::{Act, Handler, Hook, HookTable};
+use std::cell::Cell;
 use std::test::Fail;
 use vt_base::Signal;
 
@@ -36,9 +37,30 @@ fn a_hook_answers_its_table(rt: HostRuntime) -> Result<(), Fail> {
     table.set(Signal::new(12).ok_or("none")?, Act::Leave);
     for n in [1, 12, 64] {
         let s = Signal::new(n).ok_or("none")?;
-        let (answered, told) = asked(|s: Signal| table.act(s), table, s);
-        assert_eq!(rt; answered, told, "{n}");
+        let (answered, in_table) = asked(|s: Signal| table.act(s), table, s);
+        assert_eq!(rt; answered, in_table, "{n}");
         assert_eq!(rt; answered == Act::Leave, n == 12, "{n}");
+    }
+    Ok(())
+}
+
+// No clause says it: a body that reads the table in place of asking the closure is proved too.
+#[test]
+fn a_hook_asks_its_closure(rt: HostRuntime) -> Result<(), Fail> {
+    let calls = Cell::new(0_u32);
+    let table = HookTable::empty();
+    let s = Signal::new(1).ok_or("none")?;
+    for n in 1..4 {
+        let (answered, in_table) = asked(
+            |s: Signal| {
+                calls.set(calls.get().wrapping_add(1));
+                table.act(s)
+            },
+            table,
+            s,
+        );
+        assert_eq!(rt; answered, in_table, "{n}");
+        assert_eq!(rt; calls.get(), n, "{n}");
     }
     Ok(())
 }
