@@ -2,6 +2,7 @@
 use Rattle.std.specs.Prelude.{ℕ, Bool, false, Option, Some, None, Result, Ok, Err, List, [], ◌∷◌, length, ok_or}
 use Rattle.toml.specs.Data.{Data, Items, no_items, item, as_array, as_bool}
 use Rattle.table_fields.specs.Checked.{collect, fault}
+use Rattle.table_fields.specs.FaultCodes.{WRONG_KIND}
 use Rattle.table_fields.specs.declared.fault.TableFault.{TableFault}
 
 -- the values of an array in order
@@ -21,7 +22,7 @@ array_in as_kind not_one (Some items) = of_kind as_kind not_one (values_of items
 -- kind
 abbrev pub array_of : {A : Type 0} → (Data → Option A) → ℕ → ℕ → Option Data → Result (List A) TableFault
 array_of as_kind part key None = Ok []
-array_of as_kind part key (Some d) = array_in as_kind (fault 22 part key) (as_array d)
+array_of as_kind part key (Some d) = array_in as_kind (fault WRONG_KIND part key) (as_array d)
 
 abbrev pub count_in : Option Items → ℕ
 count_in None = 0
@@ -35,4 +36,4 @@ count_of (Some d) = count_in (as_array d)
 -- whether a key is set, without one it isn't: 22 where it is no truth value
 abbrev pub flag_of : ℕ → ℕ → Option Data → Result Bool TableFault
 flag_of part key None = Ok false
-flag_of part key (Some d) = ok_or (as_bool d) (fault 22 part key)
+flag_of part key (Some d) = ok_or (as_bool d) (fault WRONG_KIND part key)

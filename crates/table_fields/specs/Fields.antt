@@ -10,15 +10,16 @@ use Rattle.key_text.specs.declared.fault.KeyFault.{KeyFault}
 use Rattle.toml.specs.Data.{Data, Members, no_members, member, as_integer, as_str, as_table}
 use Rattle.toml.specs.Parse.{parse_document}
 use Rattle.table_fields.specs.Checked.{check, collect, fault, ◌>>=◌}
+use Rattle.table_fields.specs.FaultCodes.{KEYMAP, NO_DOCUMENT, OUT_OF_RANGE, SCAN_BYTE, TOO_MANY, WRONG_KIND}
 use Rattle.table_fields.specs.declared.fault.TableFault.{TableFault}
 
 abbrev pub document_in : Option Members → Result Members TableFault
-document_in None = Err (fault 20 0 0)
+document_in None = Err (fault NO_DOCUMENT 0 0)
 document_in (Some members) = Ok members
 
 -- the table of a document, which has to be UTF-8: 20 where the text is none
 abbrev pub document_of : List ℕ → Result Members TableFault
-document_of text = if is_utf8 text then document_in (parse_document text) else Err (fault 20 0 0)
+document_of text = if is_utf8 text then document_in (parse_document text) else Err (fault NO_DOCUMENT 0 0)
 
 -- every key of the table is known
 abbrev pub keys_pass : (List ℕ → Bool) → Members → Bool
@@ -38,7 +39,7 @@ number_in low high not_one bad (Some z) = number_within low high bad z
 abbrev pub number_of : ℕ → ℕ → ℕ → ℕ → ℕ → Option Data → Result ℕ TableFault
 number_of part key default low high None = Ok default
 number_of part key default low high (Some d) =
-    number_in low high (fault 22 part key) (fault 23 part key) (as_integer d)
+    number_in low high (fault WRONG_KIND part key) (fault OUT_OF_RANGE part key) (as_integer d)
 
 -- a value that is a text
 abbrev pub text_in : TableFault → Option (List ℕ) → Result (List ℕ) TableFault
@@ -48,7 +49,7 @@ text_in not_one (Some text) = Ok text
 -- the text at a key, without one the empty text: 22 where it is no text
 abbrev pub text_of : ℕ → ℕ → Option Data → Result (List ℕ) TableFault
 text_of part key None = Ok []
-text_of part key (Some d) = text_in (fault 22 part key) (as_str d)
+text_of part key (Some d) = text_in (fault WRONG_KIND part key) (as_str d)
 
 -- the texts of a table, by their names, behind those before them
 abbrev pub texts_behind : TableFault → List Named → Members → Result (List Named) TableFault
@@ -63,11 +64,11 @@ texts_in not_one (Some members) = texts_behind not_one [] members
 -- the table of texts at a key, without one no texts: 22 where it is none
 abbrev pub texts_of : ℕ → ℕ → Option Data → Result (List Named) TableFault
 texts_of part key None = Ok []
-texts_of part key (Some d) = texts_in (fault 22 part key) (as_table d)
+texts_of part key (Some d) = texts_in (fault WRONG_KIND part key) (as_table d)
 
 -- a keymap's fault is told as 24 at its own line and column
 abbrev pub keymap_fault : KeyFault → TableFault
-keymap_fault f = fault 24 f.line f.column
+keymap_fault f = fault KEYMAP f.line f.column
 
 abbrev pub lines_read : Result (List Told) KeyFault → Result (List Told) TableFault
 lines_read (Ok lines) = Ok lines
@@ -116,5 +117,5 @@ most_scan_bytes = 100000
 -- the scan bytes of a text: 29 where there are too many, at its key; 27 at the first item that is none
 abbrev pub scan_bytes_of : ℕ → ℕ → List ℕ → Result (List ℕ) TableFault
 scan_bytes_of part key text = do
-  few ← check (nat_le (length (items_of text)) most_scan_bytes) (fault 29 part key)
-  collect (λ n item. byte_in (fault 27 part n) (byte_of item)) 1 (items_of text)
+  few ← check (nat_le (length (items_of text)) most_scan_bytes) (fault TOO_MANY part key)
+  collect (λ n item. byte_in (fault SCAN_BYTE part n) (byte_of item)) 1 (items_of text)

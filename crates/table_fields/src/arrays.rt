@@ -5,11 +5,9 @@ ghost use Rattle.table_fields.specs.Arrays.{array_of, count_of, of_kind};
 ghost use Rattle.table_fields.specs.Checked.{Gives, fault};
 
 use crate::fault::{TableError, refused};
+use crate::fault_code::WRONG_KIND;
 use std::alloc::Global;
 use toml::{Table, Value};
-
-/// A wrong kind of value.
-const KIND: u16 = 22;
 
 /// How many values an array has; none where the value is no array.
 #[tactic(auto, using(crate::proofs::Values::values_length))]
@@ -39,7 +37,7 @@ pub fn integers(
     };
     match value.as_array() {
         Some(array) => integers_in(alloc, array, part, key),
-        None => Err(refused(KIND, part, key)),
+        None => Err(refused(WRONG_KIND, part, key)),
     }
 }
 
@@ -59,7 +57,7 @@ pub fn strings<'a>(
     };
     match value.as_array() {
         Some(array) => strings_in(alloc, array, part, key),
-        None => Err(refused(KIND, part, key)),
+        None => Err(refused(WRONG_KIND, part, key)),
     }
 }
 
@@ -79,7 +77,7 @@ pub fn tables<'a>(
     };
     match value.as_array() {
         Some(array) => tables_in(alloc, array, part, key),
-        None => Err(refused(KIND, part, key)),
+        None => Err(refused(WRONG_KIND, part, key)),
     }
 }
 
@@ -90,7 +88,7 @@ fn integers_in(alloc: Global, values: &[Value], part: u32, key: u32) -> Result<V
     let mut found = Vec::new(alloc);
     for value in values {
         let Some(n) = value.as_integer() else {
-            return Err(refused(KIND, part, key));
+            return Err(refused(WRONG_KIND, part, key));
         };
         found.push(n)?;
     }
@@ -109,7 +107,7 @@ fn strings_in<'a>(
     let mut found = Vec::new(alloc);
     for i in 0..values.len() {
         let Some(text) = values[i].as_str() else {
-            return Err(refused(KIND, part, key));
+            return Err(refused(WRONG_KIND, part, key));
         };
         found.push(text)?;
     }
@@ -128,7 +126,7 @@ fn tables_in<'a>(
     let mut found = Vec::new(alloc);
     for i in 0..values.len() {
         let Some(table) = values[i].as_table() else {
-            return Err(refused(KIND, part, key));
+            return Err(refused(WRONG_KIND, part, key));
         };
         found.push(table)?;
     }

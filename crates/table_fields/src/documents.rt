@@ -3,11 +3,9 @@ ghost use Rattle.table_fields.specs.Checked.{Gives};
 ghost use Rattle.table_fields.specs.Fields.{document_of};
 
 use crate::fault::{TableError, refused};
+use crate::fault_code::NO_DOCUMENT;
 use std::alloc::Global;
 use toml::Table;
-
-/// A text that is no TOML document.
-const NO_DOCUMENT: u16 = 20;
 
 /// The table of a TOML document: 20 at 0:0 where the text is none.
 pub fn document(alloc: Global, text: &[u8]) -> Result<Table, TableError>

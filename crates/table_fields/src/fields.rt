@@ -6,13 +6,8 @@ ghost use Rattle.table_fields.specs.Checked.{Gives, fault};
 ghost use Rattle.table_fields.specs.Fields.{number_of, number_within, text_of};
 
 use crate::fault::{TableError, refused};
+use crate::fault_code::{OUT_OF_RANGE, WRONG_KIND};
 use toml::{Table, Value};
-
-/// A wrong kind of value.
-const KIND: u16 = 22;
-
-/// A number out of its range.
-const RANGE: u16 = 23;
 
 /// The numbers that a field may have, and the one that stands for it where it isn't given.
 #[derive(Clone, Copy)]
@@ -45,8 +40,8 @@ pub fn number(
         return Ok(numbers.default);
     };
     match value.as_integer() {
-        Some(n) => within(n, numbers.low, numbers.high, RANGE, part, key),
-        None => Err(refused(KIND, part, key)),
+        Some(n) => within(n, numbers.low, numbers.high, OUT_OF_RANGE, part, key),
+        None => Err(refused(WRONG_KIND, part, key)),
     }
 }
 
@@ -83,7 +78,7 @@ pub fn text<'a>(value: Option<&'a Value>, part: u32, key: u32) -> Result<&'a str
     };
     match value.as_str() {
         Some(text) => Ok(text),
-        None => Err(refused(KIND, part, key)),
+        None => Err(refused(WRONG_KIND, part, key)),
     }
 }
 
@@ -96,6 +91,6 @@ pub fn flag(value: Option<&Value>, part: u32, key: u32) -> Result<bool, TableErr
     };
     match value.as_bool() {
         Some(set) => Ok(set),
-        None => Err(refused(KIND, part, key)),
+        None => Err(refused(WRONG_KIND, part, key)),
     }
 }

@@ -4,12 +4,10 @@ ghost use Rattle.table_fields.specs.Checked.{Gives, fault};
 ghost use Rattle.table_fields.specs.Fields.{texts_behind, texts_of};
 
 use crate::fault::{TableError, refused};
+use crate::fault_code::WRONG_KIND;
 use key_text::Includes;
 use std::alloc::Global;
 use toml::{Table, Value};
-
-/// A wrong kind of value.
-const KIND: u16 = 22;
 
 /// The texts that a keymap may include, by their names: 22 where the value is no table of texts.
 pub fn texts(
@@ -26,7 +24,7 @@ pub fn texts(
     };
     match value.as_table() {
         Some(table) => table_texts(alloc, table, part, key),
-        None => Err(refused(KIND, part, key)),
+        None => Err(refused(WRONG_KIND, part, key)),
     }
 }
 
@@ -38,7 +36,7 @@ fn table_texts(alloc: Global, table: &Table, part: u32, key: u32) -> Result<Incl
     let mut texts = Includes::none(alloc);
     for (name, value) in table.iter() {
         let Some(text) = value.as_str() else {
-            return Err(refused(KIND, part, key));
+            return Err(refused(WRONG_KIND, part, key));
         };
         texts.add(alloc, name.as_bytes(), text.as_bytes())?;
     }

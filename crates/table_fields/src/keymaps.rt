@@ -4,13 +4,11 @@ ghost use Rattle.table_fields.specs.Checked.{GivesBy};
 ghost use Rattle.table_fields.specs.Fields.{keymap_fault, keymap_of};
 
 use crate::fault::{TableError, refused};
+use crate::fault_code::KEYMAP;
 use key_compile::compile;
 use key_tables::KeyTables;
 use key_text::{Includes, KeyError, KeyFault, parse};
 use std::alloc::Global;
-
-/// A keymap that is refused.
-const KEYMAP: u16 = 24;
 
 /// The tables of a keymap that may include these texts: 24 at the line and column of its first fault.
 pub fn keymap(alloc: Global, texts: &Includes, text: &str) -> Result<KeyTables, TableError>

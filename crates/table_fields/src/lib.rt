@@ -5,6 +5,7 @@
 mod arrays;
 mod documents;
 mod fault;
+pub mod fault_code;
 mod fields;
 mod included;
 mod keymaps;

@@ -3,17 +3,12 @@ ghost use Rattle.table_fields.specs.Checked.{Gives, collect, fault};
 ghost use Rattle.table_fields.specs.Fields.{byte_in, byte_of, digit_of, items_of, most_scan_bytes, scan_bytes_of};
 
 use crate::fault::{TableError, refused};
+use crate::fault_code::{SCAN_BYTE, TOO_MANY};
 use std::alloc::{AllocError, Global};
 use vt_base::Bytes;
 
-/// The most scan bytes of a table. This project's own.
+// The most scan bytes of a table. This project's own.
 const MOST: usize = 100_000;
-
-/// An item that is no byte.
-const ITEM: u16 = 27;
-
-/// More items than there may be.
-const TOO_MANY: u16 = 29;
 
 /// The scan bytes of a text, each two hexadecimal digits, with one blank between: 29 where there are
 /// more than 100,000, 27 at the first item that is none.
@@ -50,7 +45,7 @@ fn read_bytes(alloc: Global, part: u32, items: &[&str]) -> Result<Bytes, TableEr
     let mut bytes = Bytes::with_room(alloc, items.len())?;
     for (i, item) in items.iter().enumerate() {
         let Some(b) = byte_of(item.as_bytes()) else {
-            return Err(refused(ITEM, part, i as u32 + 1));
+            return Err(refused(SCAN_BYTE, part, i as u32 + 1));
         };
         bytes.append(&[b]);
     }

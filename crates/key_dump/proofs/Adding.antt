@@ -1,0 +1,223 @@
+-- Texts that grow by rows, one after another.
+use Rattle.std.proofs.Common.{◌≡◌, ℕ, zero, suc, ◌+◌, ◌/◌, ◌%◌, ◌<◌, ◌≤◌, Bool, true, false, ◌==◌, cond, Option, Some, None, is_some, unwrap_or, IfSome, List, [], ◌∷◌, ◌++◌, codes, decimal, filter, map, length, get_or, take, append_assoc, append-nil, refl, sym, ap, ◌∙◌, subst, arith}
+use Rattle.std.proofs.lemmas.Bool.{false≢true}
+use Rattle.std.proofs.lemmas.List.{get_or_default, take_all}
+use Rattle.std.specs.List.{flat_map, join_with_byte, list_any, range_with_len, slice_index_or}
+use Rattle.std.specs.Option.{option_map, option_map_or}
+use Rattle.key_syms.specs.Act.{Act}
+use Rattle.key_tables.specs.Tables.{IsMap, IsWhole, Tables, entry_of, exists_in, hole, map_of}
+use Rattle.key_dump.specs.Dump.{Modifier, entry_rows, modifiers, row_text, rows_from, table_numbers, table_rows}
+use Rattle.key_dump.specs.Spaced.{spaced}
+
+pub flat_map-append : {X Y : Type 0} (f : X → List Y) (xs ys : List X) → flat_map f (xs ++ ys) ≡ flat_map f xs ++ flat_map f ys
+flat_map-append f [] ys = refl
+flat_map-append f (x ∷ xs) ys = ap (λ rest. f x ++ rest) (flat_map-append f xs ys) ∙ sym (append_assoc (f x) (flat_map f xs) (flat_map f ys))
+
+rows_from-more : {X Row : Type 0} (rows : ℕ → X → List Row) (from : ℕ) (xs : List X) (i : ℕ) (d : X) → i < length xs → rows_from rows from (take (suc i) xs) ≡ rows_from rows from (take i xs) ++ rows (from + i) (get_or xs i d)
+rows_from-more rows from [] i d h = absurd (omega arith)
+rows_from-more rows from (x ∷ xs) zero d h =
+    append-nil (rows from x) ∙ ap (λ n. rows n x) (let e : from ≡ from + 0 = omega arith in e)
+rows_from-more rows from (x ∷ xs) (suc i) d h =
+    ap (λ rest. rows from x ++ rest) (rows_from-more rows (suc from) xs i d (omega arith))
+    ∙ sym (append_assoc (rows from x) (rows_from rows (suc from) (take i xs)) (rows (suc from + i) (get_or xs i d)))
+    ∙ ap (λ n. (rows from x ++ rows_from rows (suc from) (take i xs)) ++ rows n (get_or xs i d)) (let e : suc from + i ≡ from + suc i = omega arith in e)
+
+-- the rows of one item more
+pub rows_more : {X Row : Type 0} (text : Row → List ℕ) (rows : ℕ → X → List Row) (xs : List X) (i : ℕ) (d : X) (start before after : List ℕ) → i < length xs → after ≡ before ++ flat_map text (rows i (get_or xs i d)) → before ≡ start ++ flat_map text (rows_from rows 0 (take i xs)) → after ≡ start ++ flat_map text (rows_from rows 0 (take (i + 1) xs))
+rows_more text rows xs i d start before after h added so_far =
+    added ∙ ap (λ b. b ++ flat_map text (rows i (get_or xs i d))) so_far
+    ∙ append_assoc start (flat_map text (rows_from rows 0 (take i xs))) (flat_map text (rows i (get_or xs i d)))
+    ∙ ap (λ rest. start ++ rest)
+    (ap (λ n. flat_map text (rows_from rows 0 (take i xs)) ++ flat_map text (rows n (get_or xs i d))) (let k : i ≡ 0 + i = omega arith in k)
+    ∙ sym (flat_map-append text (rows_from rows 0 (take i xs)) (rows (0 + i) (get_or xs i d)))
+    ∙ ap (flat_map text) (sym (rows_from-more rows 0 xs i d h))
+    ∙ ap (λ n. flat_map text (rows_from rows 0 (take n xs))) (let k : suc i ≡ i + 1 = omega arith in k))
+
+-- the rows of all items
+pub rows_all : {X Row : Type 0} (text : Row → List ℕ) (rows : ℕ → X → List Row) (xs : List X) (i : ℕ) (start after : List ℕ) → length xs ≤ i → after ≡ start ++ flat_map text (rows_from rows 0 (take i xs)) → after ≡ start ++ flat_map text (rows_from rows 0 xs)
+rows_all text rows xs i start after h e = e ∙ ap (λ ys. start ++ flat_map text (rows_from rows 0 ys)) (take_all i xs h)
+
+take-more : {X : Type 0} (xs : List X) (i : ℕ) (d : X) → i < length xs → take (suc i) xs ≡ take i xs ++ get_or xs i d ∷ []
+take-more [] i d h = absurd (omega arith)
+take-more (x ∷ xs) zero d h = refl
+take-more (x ∷ xs) (suc i) d h = ap (λ rest. x ∷ rest) (take-more xs i d (omega arith))
+
+-- one item more, of items that are mapped
+pub mapped_more : {X Row : Type 0} (text : Row → List ℕ) (row : X → Row) (xs : List X) (i : ℕ) (d : X) (start before after : List ℕ) → i < length xs → after ≡ before ++ text (row (get_or xs i d)) → before ≡ start ++ flat_map text (map row (take i xs)) → after ≡ start ++ flat_map text (map row (take (i + 1) xs))
+mapped_more {X = X} text row xs i d start before after h added so_far =
+    added ∙ ap (λ b. b ++ text (row (get_or xs i d))) so_far
+    ∙ append_assoc start (flat_map text (map row (take i xs))) (text (row (get_or xs i d)))
+    ∙ ap (λ rest. start ++ rest) (sym (pushed (take i xs) (get_or xs i d)) ∙ ap (λ ys. flat_map text (map row ys)) (sym (take-more xs i d h)) ∙ ap (λ n. flat_map text (map row (take n xs))) (let k : suc i ≡ i + 1 = omega arith in k))
+  where
+    pushed : (ys : List X) (y : X) → flat_map text (map row (ys ++ y ∷ [])) ≡ flat_map text (map row ys) ++ text (row y)
+    pushed [] y = append-nil (text (row y))
+    pushed (z ∷ ys) y = ap (λ rest. text (row z) ++ rest) (pushed ys y) ∙ sym (append_assoc (text (row z)) (flat_map text (map row ys)) (text (row y)))
+
+-- texts, one after another
+pub two_more : (start a b u v : List ℕ) → a ≡ start ++ u → b ≡ a ++ v → b ≡ start ++ (u ++ v)
+two_more start a b u v p q = q ∙ ap (λ t. t ++ v) p ∙ append_assoc start u v
+
+pub three_more : (start a b c u v w : List ℕ) → a ≡ start ++ u → b ≡ a ++ v → c ≡ b ++ w → c ≡ start ++ (u ++ (v ++ w))
+three_more start a b c u v w p q r =
+    two_more start a c u (v ++ w) p (two_more a b c v w q r)
+
+pub four_more : (start a b c d u v w x : List ℕ) → a ≡ start ++ u → b ≡ a ++ v → c ≡ b ++ w → d ≡ c ++ x → d ≡ start ++ (u ++ (v ++ (w ++ x)))
+four_more start a b c d u v w x p q r s =
+    two_more start a d u (v ++ (w ++ x)) p (three_more a b c d v w x q r s)
+
+pub five_more : (start a b c d e u v w x y : List ℕ) → a ≡ start ++ u → b ≡ a ++ v → c ≡ b ++ w → d ≡ c ++ x → e ≡ d ++ y → e ≡ start ++ (u ++ (v ++ (w ++ (x ++ y))))
+five_more start a b c d e u v w x y p q r s t =
+    two_more start a e u (v ++ (w ++ (x ++ y))) p (four_more a b c d e v w x y q r s t)
+
+pub six_more : (start a b c d e f u v w x y z : List ℕ) → a ≡ start ++ u → b ≡ a ++ v → c ≡ b ++ w → d ≡ c ++ x → e ≡ d ++ y → f ≡ e ++ z → f ≡ start ++ (u ++ (v ++ (w ++ (x ++ (y ++ z)))))
+six_more start a b c d e f u v w x y z p q r s t o =
+    two_more start a f u (v ++ (w ++ (x ++ (y ++ z)))) p (five_more a b c d e f v w x y z q r s t o)
+
+pub seven_more : (start a b c d e f g u v w x y z k : List ℕ) → a ≡ start ++ u → b ≡ a ++ v → c ≡ b ++ w → d ≡ c ++ x → e ≡ d ++ y → f ≡ e ++ z → g ≡ f ++ k → g ≡ start ++ (u ++ (v ++ (w ++ (x ++ (y ++ (z ++ k))))))
+seven_more start a b c d e f g u v w x y z k p q r s t o m =
+    two_more start a g u (v ++ (w ++ (x ++ (y ++ (z ++ k))))) p (six_more a b c d e f g v w x y z k q r s t o m)
+
+pub eight_more : (start a b c d e f g h u v w x y z k l : List ℕ) → a ≡ start ++ u → b ≡ a ++ v → c ≡ b ++ w → d ≡ c ++ x → e ≡ d ++ y → f ≡ e ++ z → g ≡ f ++ k → h ≡ g ++ l → h ≡ start ++ (u ++ (v ++ (w ++ (x ++ (y ++ (z ++ (k ++ l)))))))
+eight_more start a b c d e f g h u v w x y z k l p q r s t o m n =
+    two_more start a h u (v ++ (w ++ (x ++ (y ++ (z ++ (k ++ l)))))) p (seven_more a b c d e f g h v w x y z k l q r s t o m n)
+
+-- words with blanks between, of which the first ones have one after each
+pub join-spaced : (ws : List (List ℕ)) (w : List ℕ) (vs : List (List ℕ)) → join_with_byte 0x20 (ws ++ w ∷ vs) ≡ spaced ws ++ join_with_byte 0x20 (w ∷ vs)
+join-spaced [] w vs = refl
+join-spaced (x ∷ []) w vs =
+    sym (ap (λ t. t ++ join_with_byte 0x20 (w ∷ vs)) (append-nil (x ++ 0x20 ∷ [])) ∙ append_assoc x (0x20 ∷ []) (join_with_byte 0x20 (w ∷ vs)))
+join-spaced (x ∷ y ∷ ys) w vs =
+    ap (λ rest. x ++ (0x20 ∷ rest)) (join-spaced (y ∷ ys) w vs)
+    ∙ sym (append_assoc (x ++ 0x20 ∷ []) (spaced (y ∷ ys)) (join_with_byte 0x20 (w ∷ vs))
+    ∙ append_assoc x (0x20 ∷ []) (spaced (y ∷ ys) ++ join_with_byte 0x20 (w ∷ vs)))
+
+-- the words of the modifiers that pass, one after another
+abbrev pub spaced_each : (Modifier → Bool) → List Modifier → List ℕ
+spaced_each test [] = []
+spaced_each test (m ∷ ms) = cond (test m) (m.word ++ codes " ") [] ++ spaced_each test ms
+
+pub spaced-each : (test : Modifier → Bool) (ms : List Modifier) → spaced (map (λ m. m.word) (filter test ms)) ≡ spaced_each test ms
+spaced-each test [] = refl
+spaced-each test (m ∷ ms) = by_test (spaced-each test ms) (test m)
+  where
+    by_test : spaced (map (λ m. m.word) (filter test ms)) ≡ spaced_each test ms → (b : Bool) → spaced (map (λ m. m.word) (cond b (m ∷ filter test ms) (filter test ms))) ≡ cond b (m.word ++ codes " ") [] ++ spaced_each test ms
+    by_test rest true = ap (λ t. (m.word ++ codes " ") ++ t) rest
+    by_test rest false = rest
+
+-- the numbers below n that pass
+unfoldable pub numbers_below : (ℕ → Bool) → ℕ → List ℕ
+numbers_below test n = filter test (range_with_len 0 n)
+
+abbrev pub some_items : {X : Type 0} → List X → Bool
+some_items [] = false
+some_items (x ∷ xs) = true
+
+-- the numbers so far were added
+pub record AreNumbered (test : ℕ → Bool) (start bytes : List ℕ) (some : Bool) (n : ℕ) : Type 0 where
+  pub text : bytes ≡ start ++ join_with_byte 0x2C (map decimal (numbers_below test n))
+  pub any : some ≡ some_items (numbers_below test n)
+
+pub numbers_below-none : (test : ℕ → Bool) → numbers_below test 0 ≡ []
+unfolding numbers_below
+numbers_below-none test = refl
+
+pub numbers_below-more : (test : ℕ → Bool) (n : ℕ) → numbers_below test (n + 1) ≡ numbers_below test n ++ cond (test n) (n ∷ []) []
+unfolding numbers_below
+numbers_below-more test n =
+    ap (λ m. filter test (range_with_len 0 m)) (let e : n + 1 ≡ suc n = omega arith in e)
+    ∙ ap (filter test) (range-more 0 n)
+    ∙ filter-more (range_with_len 0 n) (0 + n)
+    ∙ ap (λ m. filter test (range_with_len 0 n) ++ cond (test m) (m ∷ []) []) (let e : 0 + n ≡ n = omega arith in e)
+  where
+    range-more : (a n : ℕ) → range_with_len a (suc n) ≡ range_with_len a n ++ (a + n) ∷ []
+    range-more a zero = ap (λ m. m ∷ []) (let e : a ≡ a + 0 = omega arith in e)
+    range-more a (suc n) =
+        ap (λ rest. a ∷ rest) (range-more (a + 1) n)
+        ∙ ap (λ m. a ∷ (range_with_len (a + 1) n ++ m ∷ [])) (let e : a + 1 + n ≡ a + suc n = omega arith in e)
+
+    filter-more : (xs : List ℕ) (x : ℕ) → filter test (xs ++ x ∷ []) ≡ filter test xs ++ cond (test x) (x ∷ []) []
+    filter-more [] x = refl
+    filter-more (y ∷ ys) x = by_test (filter-more ys x) (test y)
+      where
+        by_test : filter test (ys ++ x ∷ []) ≡ filter test ys ++ cond (test x) (x ∷ []) [] → (b : Bool) → cond b (y ∷ filter test (ys ++ x ∷ [])) (filter test (ys ++ x ∷ [])) ≡ cond b (y ∷ filter test ys) (filter test ys) ++ cond (test x) (x ∷ []) []
+        by_test rest true = ap (λ t. y ∷ t) rest
+        by_test rest false = rest
+
+pub numbers_all : (k : Tables) (n : ℕ) → n ≡ 256 → numbers_below (exists_in k) n ≡ table_numbers k
+unfolding numbers_below table_numbers
+numbers_all k n e = ap (λ m. filter (exists_in k) (range_with_len 0 m)) e
+
+join-more : (ws : List (List ℕ)) (w : List ℕ) → join_with_byte 0x2C (ws ++ w ∷ []) ≡ join_with_byte 0x2C ws ++ (cond (some_items ws) (codes ",") [] ++ w)
+join-more [] w = refl
+join-more (x ∷ []) w = refl
+join-more (x ∷ y ∷ ys) w =
+    ap (λ rest. x ++ (0x2C ∷ rest)) (join-more (y ∷ ys) w)
+    ∙ sym (append_assoc x (0x2C ∷ join_with_byte 0x2C (y ∷ ys)) (codes "," ++ w))
+
+map-more : (ns : List ℕ) (n : ℕ) → map decimal (ns ++ n ∷ []) ≡ map decimal ns ++ decimal n ∷ []
+map-more [] n = refl
+map-more (m ∷ ns) n = ap (λ rest. decimal m ∷ rest) (map-more ns n)
+
+some_items-map : (ns : List ℕ) → some_items (map decimal ns) ≡ some_items ns
+some_items-map [] = refl
+some_items-map (n ∷ ns) = refl
+
+some_items-more : (ns : List ℕ) (n : ℕ) → some_items (ns ++ n ∷ []) ≡ true
+some_items-more [] n = refl
+some_items-more (m ∷ ns) n = refl
+
+pub numbered_start : (test : ℕ → Bool) (start : List ℕ) → AreNumbered test start start false 0
+numbered_start test start = record {
+  text = sym (ap (λ ns. start ++ join_with_byte 0x2C (map decimal ns)) (numbers_below-none test) ∙ append-nil start);
+  any = sym (ap some_items (numbers_below-none test));
+}
+
+numbered_as : (test : ℕ → Bool) (start bytes : List ℕ) (some : Bool) (n : ℕ) (ns : List ℕ) → numbers_below test n ≡ ns → bytes ≡ start ++ join_with_byte 0x2C (map decimal ns) → some ≡ some_items ns → AreNumbered test start bytes some n
+numbered_as test start bytes some n ns e text any = record {
+  text = text ∙ ap (λ ms. start ++ join_with_byte 0x2C (map decimal ms)) (sym e);
+  any = any ∙ ap some_items (sym e);
+}
+
+pub numbered_no : (test : ℕ → Bool) (start bytes : List ℕ) (some : Bool) (n : ℕ) → AreNumbered test start bytes some n → test n ≡ false → AreNumbered test start bytes some (n + 1)
+numbered_no test start bytes some n so_far no_table =
+    numbered_as test start bytes some (n + 1) (numbers_below test n)
+    (numbers_below-more test n ∙ ap (λ b. numbers_below test n ++ cond b (n ∷ []) []) no_table ∙ append-nil (numbers_below test n))
+    so_far.text so_far.any
+
+pub numbered_yes : (test : ℕ → Bool) (start bytes comma after : List ℕ) (some : Bool) (n : ℕ) → AreNumbered test start bytes some n → test n ≡ true → comma ≡ bytes ++ cond some (codes ",") [] → after ≡ comma ++ decimal n → AreNumbered test start after true (n + 1)
+numbered_yes test start bytes comma after some n so_far table first second =
+    let ns = numbers_below test n in
+    numbered_as test start after true (n + 1) (ns ++ n ∷ [])
+    (numbers_below-more test n ∙ ap (λ b. ns ++ cond b (n ∷ []) []) table)
+    (two_more bytes comma after (cond some (codes ",") []) (decimal n) first second
+    ∙ ap (λ b. b ++ (cond some (codes ",") [] ++ decimal n)) so_far.text
+    ∙ append_assoc start (join_with_byte 0x2C (map decimal ns)) (cond some (codes ",") [] ++ decimal n)
+    ∙ ap (λ b. start ++ (join_with_byte 0x2C (map decimal ns) ++ (cond b (codes ",") [] ++ decimal n))) (so_far.any ∙ sym (some_items-map ns))
+    ∙ ap (λ t. start ++ t) (sym (join-more (map decimal ns) (decimal n)))
+    ∙ ap (λ ws. start ++ join_with_byte 0x2C ws) (sym (map-more ns n)))
+    (sym (some_items-more ns n))
+
+-- the entries of a table
+pub entry_more : (k : Tables) (t c : ℕ) (start before after : List ℕ) → IsWhole k → t < 256 → exists_in k t ≡ true → c < 256 → after ≡ before ++ option_map_or (λ a. flat_map row_text (entry_rows t c a)) (entry_of k t c) [] → before ≡ start ++ flat_map row_text (rows_from (entry_rows t) 0 (take c (unwrap_or (map_of k t) []))) → after ≡ start ++ flat_map row_text (rows_from (entry_rows t) 0 (take (c + 1) (unwrap_or (map_of k t) [])))
+entry_more k t c start before after whole low exists small added so_far =
+    by_map (map_of k t) exists (whole.maps t None (let tall = whole.tall in omega (arith, tall, low))) added so_far
+  where
+    by_map : (m : Option (List Act)) → is_some m ≡ true → IfSome m IsMap → after ≡ before ++ option_map_or (λ a. flat_map row_text (entry_rows t c a)) (option_map (λ map. slice_index_or map c hole) m) [] → before ≡ start ++ flat_map row_text (rows_from (entry_rows t) 0 (take c (unwrap_or m []))) → after ≡ start ++ flat_map row_text (rows_from (entry_rows t) 0 (take (c + 1) (unwrap_or m [])))
+    by_map None e is added so_far = absurd (false≢true e)
+    by_map (Some map) e is added so_far =
+        rows_more row_text (entry_rows t) map c hole start before after (let full = is.full in omega (arith, full, small)) added so_far
+
+pub entries_all : (k : Tables) (t c : ℕ) (start after : List ℕ) → IsWhole k → t < 256 → exists_in k t ≡ true → 256 ≤ c → after ≡ start ++ flat_map row_text (rows_from (entry_rows t) 0 (take c (unwrap_or (map_of k t) []))) → after ≡ start ++ flat_map row_text (table_rows t (map_of k t))
+entries_all k t c start after whole low exists all e =
+    by_map (map_of k t) exists (whole.maps t None (let tall = whole.tall in omega (arith, tall, low))) e
+  where
+    by_map : (m : Option (List Act)) → is_some m ≡ true → IfSome m IsMap → after ≡ start ++ flat_map row_text (rows_from (entry_rows t) 0 (take c (unwrap_or m []))) → after ≡ start ++ flat_map row_text (table_rows t m)
+    by_map None e is text = absurd (false≢true e)
+    by_map (Some map) e is text = rows_all row_text (entry_rows t) map c start after (let full = is.full in omega (arith, full, all)) text
+
+pub no_entries : (k : Tables) (t : ℕ) (start : List ℕ) → exists_in k t ≡ false → start ≡ start ++ flat_map row_text (table_rows t (map_of k t))
+no_entries k t start e = by_map (map_of k t) e
+  where
+    by_map : (m : Option (List Act)) → is_some m ≡ false → start ≡ start ++ flat_map row_text (table_rows t m)
+    by_map None e = sym (append-nil start)
+    by_map (Some map) e = absurd (false≢true (sym e))

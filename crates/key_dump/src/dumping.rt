@@ -1,0 +1,162 @@
+ghost use Rattle.std.specs.Prelude.{◌≡◌, ◌++◌, [], codes, cond, decimal, is_some, map, IfOk, IsTrue, OnOk};
+ghost use Rattle.std.specs.List.{flat_map, join_with_byte, list_all, list_any};
+ghost use Rattle.key_compile.specs.Dumpable.{is_dumpable};
+ghost use Rattle.key_dump.specs.Dump.{dump_of, keymaps_words, pair_words, row_text, rows_from, string_rows, table_numbers, table_rows};
+ghost use Rattle.key_syms.specs.Act.{is_character};
+ghost use Rattle.key_tables.specs.Tables.{IsWhole};
+ghost use Rattle.key_text.specs.Told.{is_real};
+
+use crate::entries::add_table;
+use crate::numerals::{add, add_code_point, add_number};
+use crate::quoting::add_string;
+use key_syms::Pair;
+use key_tables::KeyTables;
+use std::alloc::Global;
+use vt_base::{Bytes, NoMemory};
+
+// How many tables there may be, and how many function keys.
+const COUNT: usize = 256;
+
+/// Whether tables can be written as a keymap text: at least one exists, and the pairs are of
+/// characters.
+pub fn dumpable(tables: &KeyTables) -> bool
+    ensures { result ≡ is_dumpable tables.now }
+{
+    has_table(tables) && are_real(tables.pairs())
+}
+
+/// The tables as a keymap text: a line of the tables, a line for each entry that isn't a hole, for
+/// each string that isn't empty and for each pair.
+pub fn dump(alloc: Global, tables: &KeyTables) -> Result<Bytes, NoMemory>
+    requires { IsTrue (is_dumpable tables.now) }
+    ensures { IfOk result (λ text. text.bytes ≡ dump_of tables.now) }
+{
+    let mut text = Bytes::new(alloc);
+    add_keymaps(alloc, &mut text, tables)?;
+    add_tables(alloc, &mut text, tables)?;
+    add_strings(alloc, &mut text, tables)?;
+    add_pairs(alloc, &mut text, tables.pairs())?;
+    Ok(text)
+}
+
+fn has_table(tables: &KeyTables) -> bool
+    ensures { result ≡ list_any is_some tables.now.maps }
+{
+    are_whole(tables);
+    for t in 0..COUNT {
+        if tables.exists(t as u8) {
+            return true;
+        }
+    }
+    false
+}
+
+// Tables are whole, whatever was set: each call on them says so.
+fn are_whole(tables: &KeyTables)
+    ensures { IsWhole tables.now }
+{
+    let _ = tables.exists(0);
+}
+
+fn are_real(pairs: &[Pair]) -> bool
+    ensures { result ≡ list_all is_real pairs.now }
+{
+    pairs.iter().all(|pair| is_real(*pair))
+}
+
+fn is_real(pair: Pair) -> bool
+    ensures { result ≡ is_real pair }
+{
+    is_character(pair.accent) && is_character(pair.base) && is_character(pair.result)
+}
+
+// Adds the line of the tables that exist.
+fn add_keymaps(alloc: Global, text: &mut Bytes, tables: &KeyTables) -> Result<(), NoMemory>
+    ensures { OnOk result (text.new.bytes
+        ≡ text.old.bytes ++ row_text (keymaps_words tables.now)) }
+{
+    add(alloc, text, b"keymaps ")?;
+    add_numbers(alloc, text, tables)?;
+    add(alloc, text, b"\n")?;
+    Ok(())
+}
+
+// Adds the numbers of the tables that exist, with commas between.
+fn add_numbers(alloc: Global, text: &mut Bytes, tables: &KeyTables) -> Result<(), NoMemory>
+    ensures { OnOk result (text.new.bytes
+        ≡ text.old.bytes ++ join_with_byte 0x2C (map decimal (table_numbers tables.now))) }
+{
+    let mut some = false;
+    for t in 0..COUNT {
+        if tables.exists(t as u8) {
+            add_comma(alloc, text, some)?;
+            add_number(alloc, text, t as u8)?;
+            some = true;
+            continue;
+        }
+    }
+    Ok(())
+}
+
+fn add_comma(alloc: Global, text: &mut Bytes, some: bool) -> Result<(), NoMemory>
+    ensures { OnOk result (text.new.bytes ≡ text.old.bytes ++ cond some (codes ",") []) }
+{
+    if some {
+        return add(alloc, text, b",");
+    }
+    Ok(())
+}
+
+// Adds the rows of the tables, one table after another.
+fn add_tables(alloc: Global, text: &mut Bytes, tables: &KeyTables) -> Result<(), NoMemory>
+    ensures { OnOk result (text.new.bytes
+        ≡ text.old.bytes ++ flat_map row_text (rows_from table_rows 0 tables.now.maps)) }
+{
+    are_whole(tables);
+    for t in 0..COUNT {
+        add_table(alloc, text, tables, t as u8)?;
+    }
+    Ok(())
+}
+
+// Adds the rows of the strings that aren't empty.
+fn add_strings(alloc: Global, text: &mut Bytes, tables: &KeyTables) -> Result<(), NoMemory>
+    ensures { OnOk result (text.new.bytes
+        ≡ text.old.bytes ++ flat_map row_text (rows_from string_rows 0 tables.now.funcs)) }
+{
+    are_whole(tables);
+    for i in 0..COUNT {
+        add_string(alloc, text, i as u8, tables.func(i as u8))?;
+    }
+    Ok(())
+}
+
+// Adds the rows of the pairs.
+fn add_pairs(alloc: Global, text: &mut Bytes, pairs: &[Pair]) -> Result<(), NoMemory>
+    ensures { OnOk result (text.new.bytes
+        ≡ text.old.bytes ++ flat_map row_text (map pair_words pairs.now)) }
+{
+    for i in 0..pairs.len() {
+        add_pair(alloc, text, pairs[i])?;
+    }
+    Ok(())
+}
+
+fn add_pair(alloc: Global, text: &mut Bytes, pair: Pair) -> Result<(), NoMemory>
+    ensures { OnOk result (text.new.bytes ≡ text.old.bytes ++ row_text (pair_words pair)) }
+{
+    add(alloc, text, b"compose ")?;
+    add_code_point(alloc, text, pair.accent)?;
+    add(alloc, text, b" ")?;
+    add_code_point(alloc, text, pair.base)?;
+    add(alloc, text, b" to ")?;
+    add_code_point(alloc, text, pair.result)?;
+    add(alloc, text, b"\n")?;
+    Ok(())
+}
+
+fn is_character(code: u16) -> bool
+    ensures { result ≡ is_character code }
+{
+    !(0xD800 <= code && code <= 0xDFFF)
+}

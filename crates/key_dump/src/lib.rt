@@ -1,0 +1,11 @@
+//! Key tables as keymap text (dumpkeys(1)).
+#![tactic(auto)]
+
+mod dumping;
+mod entries;
+mod numerals;
+mod quoting;
+#[cfg(test)]
+mod tests;
+
+pub use dumping::{dump, dumpable};

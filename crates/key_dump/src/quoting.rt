@@ -1,0 +1,64 @@
+ghost use Rattle.std.specs.Prelude.{◌≡◌, ◌++◌, [], ◌∷◌, OnOk};
+ghost use Rattle.std.specs.List.{flat_map};
+ghost use Rattle.key_dump.specs.Dump.{escaped, is_plain, octal_escape, quoted, row_text, string_rows, string_words};
+
+use crate::numerals::add;
+use key_syms::{Action, kind, name_of};
+use std::alloc::Global;
+use vt_base::{Bytes, NoMemory};
+
+/// Adds the row of the string of a function key, where it isn't empty.
+pub fn add_string(alloc: Global, text: &mut Bytes, i: u8, string: &[u8]) -> Result<(), NoMemory>
+    ensures { OnOk result (text.new.bytes
+        ≡ text.old.bytes ++ flat_map row_text (string_rows i string.now)) }
+{
+    if string.is_empty() {
+        return Ok(());
+    }
+    add_string_row(alloc, text, i, string)
+}
+
+fn add_string_row(alloc: Global, text: &mut Bytes, i: u8, string: &[u8]) -> Result<(), NoMemory>
+    ensures { OnOk result (text.new.bytes
+        ≡ text.old.bytes ++ row_text (string_words i string.now)) }
+{
+    let key = Action {
+        kind: kind::FUNCTION,
+        value: u16::from(i),
+    };
+    add(alloc, text, b"string ")?;
+    add(alloc, text, name_of(key).as_bytes())?;
+    add(alloc, text, b" = \"")?;
+    add_escaped(alloc, text, string)?;
+    add(alloc, text, b"\"\n")?;
+    Ok(())
+}
+
+// Adds a text as it stands between quotes.
+fn add_escaped(alloc: Global, text: &mut Bytes, string: &[u8]) -> Result<(), NoMemory>
+    ensures { OnOk result (text.new.bytes ≡ text.old.bytes ++ flat_map escaped string.now) }
+{
+    for b in string {
+        add_byte(alloc, text, *b)?;
+    }
+    Ok(())
+}
+
+fn add_byte(alloc: Global, text: &mut Bytes, b: u8) -> Result<(), NoMemory>
+    ensures { OnOk result (text.new.bytes ≡ text.old.bytes ++ escaped b) }
+{
+    if is_plain(b) {
+        return add(alloc, text, &[b]);
+    }
+    add(
+        alloc,
+        text,
+        &[b'\\', b'0' + b / 64, b'0' + b / 8 % 8, b'0' + b % 8],
+    )
+}
+
+fn is_plain(b: u8) -> bool
+    ensures { result ≡ is_plain b }
+{
+    0x20 <= b && b <= 0x7E && b != b'"' && b != b'\\'
+}
