@@ -19,7 +19,7 @@ use Rattle.vt_world.specs.Deeds.{all_done}
 use Rattle.vt_world.specs.Heard.{cleared}
 use Rattle.vt_world.specs.Rows.{Row, ended_reply, row, waits_unless}
 use Rattle.vt_world.specs.State.{WorldState}
-use Rattle.vt_world.specs.Step.{Outcome, after_common, answered, step, with_idle_rule}
+use Rattle.vt_world.specs.Step.{Outcome, answered, effect_after, effect_of, step, with_idle_rule}
 use Rattle.vt_world.specs.Tests.{Test, caller, common_tests, ends_wait, first_failing, holds_ticket, is_empty, may_make, own_tests, target}
 
 -- the first of the tests of every event that fails, and of those of this one
@@ -41,12 +41,12 @@ pub data StepDoes (w : WorldState) (p : ℕ) (e : Event) : Outcome → Type 0 wh
   Accepted : common w p e ≡ None → own w p e ≡ None → StepDoes w p e (accepted w (row (cleared w) p e))
 
 own_does : (w : WorldState) (p : ℕ) (e : Event) (o : Option Errno) → common w p e ≡ None
-    → own w p e ≡ o → StepDoes w p e (answered (cleared w) o (row (cleared w) p e))
+    → own w p e ≡ o → StepDoes w p e (answered (effect_of (cleared w) o (row (cleared w) p e)))
 own_does w p e None none is = Accepted none is
 own_does w p e (Some with) none is = RefusedByOwn with none is
 
 all_does : (w : WorldState) (p : ℕ) (e : Event) (o : Option Errno) → common w p e ≡ o
-    → StepDoes w p e (after_common (cleared w) p e o)
+    → StepDoes w p e (answered (effect_after (cleared w) p e o))
 all_does w p e None is = own_does w p e (own w p e) is refl
 all_does w p e (Some with) is = RefusedByAll with is
 

@@ -13,6 +13,7 @@ mod Opening
 mod Orders
 mod Places
 mod Quiet
+mod Refused
 mod Requests
 mod Reruns
 mod Screens

@@ -13,7 +13,6 @@ use Rattle.vt_world.proofs.Steps.{by_step, outcome}
 use Rattle.vt_world.proofs.Waits.{NoWait, OneWait, RowDoes, all-done-age, row-does}
 use Rattle.vt_world.specs.Deeds.{Deed, all_done}
 use Rattle.vt_world.specs.Heard.{cleared}
-use Rattle.vt_world.specs.Laws.{IsStart}
 use Rattle.vt_world.specs.Rows.{Row, row}
 use Rattle.vt_world.specs.State.{WorldState, is_waiting}
 use Rattle.vt_world.specs.Step.{Outcome}

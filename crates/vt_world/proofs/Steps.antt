@@ -8,7 +8,7 @@ use Rattle.vt_world.specs.Deeds.{Deed, all_done}
 use Rattle.vt_world.specs.Heard.{cleared}
 use Rattle.vt_world.specs.Rows.{Row, row}
 use Rattle.vt_world.specs.State.{WorldState}
-use Rattle.vt_world.specs.Step.{Outcome, after_common, answered, step, with_idle_rule}
+use Rattle.vt_world.specs.Step.{Outcome, answered, effect_after, effect_of, step, with_idle_rule}
 use Rattle.vt_world.specs.Tests.{common_tests, first_failing, own_tests}
 
 abbrev refusal : WorldState → Errno → Outcome
@@ -21,14 +21,14 @@ outcome w r = record { world = with_idle_rule (all_done w r.deeds); reply = r.re
 by_answer : (P : List Deed → Outcome → Type 0) (w : WorldState) (r : Row)
     (refused : Option Errno) → ((errno : Errno) → P [] (refusal w errno))
     → (refused ≡ None → P r.deeds (outcome w r))
-    → P (deeds_unless refused r.deeds) (answered w refused r)
+    → P (deeds_unless refused r.deeds) (answered (effect_of w refused r))
 by_answer P w r (Some errno) nothing all = nothing errno
 by_answer P w r None nothing all = all refl
 
 by_common : (P : List Deed → Outcome → Type 0) (w : WorldState) (p : ℕ) (e : Event)
     (refused : Option Errno) → ((errno : Errno) → P [] (refusal w errno))
     → (first_failing (own_tests w p e) ≡ None → P (row w p e).deeds (outcome w (row w p e)))
-    → P (deeds_after w p e refused) (after_common w p e refused)
+    → P (deeds_after w p e refused) (answered (effect_after w p e refused))
 by_common P w p e (Some errno) nothing all = nothing errno
 by_common P w p e None nothing all =
     by_answer P w (row w p e) (first_failing (own_tests w p e)) nothing all

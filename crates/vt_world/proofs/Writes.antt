@@ -1,9 +1,8 @@
 -- A text that is run on a console piece by piece.
-use Rattle.std.proofs.Common.{◌≡◌, ◌≤◌, ℕ, zero, suc, List, [], ◌∷◌, ◌++◌, length, get_or, set, Option, Some, None, true, leb, refl, sym, ap, ◌∙◌, append-nil, arith}
-use Rattle.std.proofs.lemmas.Bool.{le-leb}
+use Rattle.std.proofs.Common.{◌≡◌, ℕ, zero, suc, List, [], ◌∷◌, ◌++◌, length, get_or, set, Option, Some, None, true, leb, refl, sym, ap, ◌∙◌, append-nil}
 use Rattle.std.proofs.lemmas.Grind.{flat_map-append}
 use Rattle.std.specs.List.{flat_map}
-use Rattle.std.specs.Prelude.{option_map}
+use Rattle.std.specs.Prelude.{Ok, option_map}
 use Rattle.vt_screen.specs.Run.{AnyCut, said}
 use Rattle.vt_screen.specs.declared.out.Out.{Out}
 use Rattle.vt_screen.specs.declared.out.Out.TheVariants as outs
@@ -19,7 +18,7 @@ use Rattle.vt_base.specs.Bytes.{Text}
 use Rattle.vt_events.specs.declared.event.Event.TheVariants as event
 use Rattle.vt_events.specs.declared.reply.Reply.TheVariants as reply
 use Rattle.vt_procs.specs.Callers.{console_of}
-use Rattle.vt_world.specs.Step.{own_step, with_idle_rule}
+use Rattle.vt_world.specs.Step.{own_effect}
 use Rattle.vt_world.specs.Terminals.{TerminalState, said_of, terminal_at, written, written_on}
 use Rattle.vt_world.specs.declared.wanted.Wanted.TheVariants.{Last, Number}
 use Rattle.vt_world.proofs.Bells.{written-more}
@@ -161,14 +160,16 @@ ran-append law w c a b =
     (record w { terminals = written-append law c a b w.terminals i }))
 
 -- a write that isn't refused
-pub write-answered : (w : WorldState) (p fd : ℕ) (b : Text) (c : ℕ) (text : List ℕ) (w' : WorldState)
-    → console_of w.callers p fd ≡ Some c → text ≡ b.bytes → length text ≤ 4096
-    → w' ≡ with_idle_rule (ran w c text)
-    → own_step w p (event.Write fd b) ≡ record { world = w'; reply = reply.Num (length text) }
-write-answered w p fd b c text w' found is short ran_is =
-    let within : leb (length b.bytes) 4096 ≡ true = le-leb _ _ (omega (arith, short, ap length is)) in
+pub write-has : (w : WorldState) (p fd : ℕ) (b : Text) (c : ℕ) (text : List ℕ) (w' : WorldState)
+    → console_of w.callers p fd ≡ Some c → text ≡ b.bytes → leb (length text) 4096 ≡ true
+    → w' ≡ ran w c text
+    → own_effect w p (event.Write fd b)
+    ≡ record { world = w'; answer = Ok (reply.Num (length text)) }
+write-has w p fd b c text w' found is short ran_is =
+    let within : leb (length b.bytes) 4096 ≡ true =
+    ap (λ (t : List ℕ). leb (length t) 4096) (sym is) ∙ short in
     rw (found, within)
     (λ i. record {
-      world = (ap (λ (t : List ℕ). with_idle_rule (ran w c t)) (sym is) ∙ sym ran_is) i;
-      reply = reply.Num (length (sym is i));
+      world = (ap (ran w c) (sym is) ∙ sym ran_is) i;
+      answer = Ok (reply.Num (length (sym is i)));
     })

@@ -35,6 +35,11 @@ abbrev pub first_failing : List Test → Option Errno
 first_failing [] = None
 first_failing (t ∷ tests) = if t.fails then Some t.with else first_failing tests
 
+-- the error of a refusal, None where nothing is refused
+abbrev pub error_of : {T : Type 0} → Result T Errno → Option Errno
+error_of (Ok value) = None
+error_of (Err errno) = Some errno
+
 -- the caller of number p
 abbrev pub caller : WorldState → ℕ → Process
 caller w p = caller_at w.callers p

@@ -1,19 +1,12 @@
 //! The console of one thread: it takes the calls of its callers one by one, and answers each.
 #![tactic(auto)]
 
-mod acts;
-mod allocating;
-mod altering;
-mod asking;
-mod attention;
 mod board;
+mod effects;
 mod input;
 mod inputs;
 mod laws;
-mod marks;
-mod queues;
 mod rows;
-mod settling;
 mod spare;
 mod step;
 mod terminal;

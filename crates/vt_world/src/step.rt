@@ -1,11 +1,11 @@
-ghost use Rattle.std.specs.Prelude.{◌≡◌, ◌≤◌, [], true, false, IfNone, length};
+ghost use Rattle.std.specs.Prelude.{◌≡◌, ◌≤◌, [], true, false, IfOk, length};
 ghost use Rattle.vt_events.specs.Charge.{greatest_reply, text_of_reply};
 ghost use Rattle.vt_procs.specs.Callers.{caller_at, is_live};
 ghost use Rattle.vt_procs.specs.Tickets.{told};
 ghost use Rattle.vt_procs.specs.declared.waited.Waited.{Waited};
 ghost use Rattle.vt_world.specs.Spare.{Fits, HasGrid, extent, needed_grid, takes_spare};
-ghost use Rattle.vt_world.specs.Step.{Gives, after_common, own_step, step};
-ghost use Rattle.vt_world.specs.Tests.{common_tests, ends_wait, first_failing, may_make};
+ghost use Rattle.vt_world.specs.Step.{Gives, Has, effect_after, finished, own_effect, plain_answer, step, text_of_answer};
+ghost use Rattle.vt_world.specs.Tests.{common_tests, ends_wait, error_of, first_failing, may_make};
 
 use crate::spare::Spare;
 use crate::world::World;
@@ -32,53 +32,78 @@ impl World {
             unused,
         } = spare;
         self.told.clear();
-        (self.answer(caller, event, grid, reply), unused)
+        let answer = self.take(caller, event, grid, reply);
+        (self.finish(caller, answer), unused)
+    }
+
+    // A refusal is answered by its error. After any other event comes the idle rule.
+    fn finish(&mut self, p: CallerNo, answer: Result<Reply, Errno>) -> Reply
+        ensures step { Gives (finished self.old (plain_answer answer)) self.new result }
+        ensures bytes { text_of_reply result ≡ text_of_answer answer }
+    {
+        match answer {
+            Ok(reply) => {
+                self.apply_idle_rule(p);
+                reply
+            }
+            Err(errno) => Reply::Err(errno),
+        }
     }
 
     // What refuses every event comes before what refuses this one.
-    fn answer(&mut self, p: CallerNo, event: &Event, grid: Option<Grid>, reply: Bytes) -> Reply
+    fn take(
+        &mut self,
+        p: CallerNo,
+        event: &Event,
+        grid: Option<Grid>,
+        reply: Bytes,
+    ) -> Result<Reply, Errno>
         requires told { self.old.told.trace ≡ [] }
         requires grid { HasGrid (needed_grid (extent self.old.rows self.old.cols) event.now) grid }
         requires reply { greatest_reply event.now ≤ reply.room }
-        ensures step { Gives (after_common self.old p event.now
+        ensures effect { Has (effect_after self.old p event.now
             (first_failing (common_tests self.old p event.now))) self.new result }
-        ensures bytes { length (text_of_reply result) ≤ greatest_reply event.now }
+        ensures bytes { length (text_of_answer result) ≤ greatest_reply event.now }
     {
-        match self.refusal(p, event) {
-            Some(errno) => Reply::Err(errno),
-            None => self.carry_out(p, event, grid, reply),
-        }
+        self.may_take(p, event)?;
+        self.carry_out(p, event, grid, reply)
     }
 
     // What refuses any event of the caller.
-    fn refusal(&self, caller: CallerNo, event: &Event) -> Option<Errno>
-        ensures first { result ≡ first_failing (common_tests self.now caller event.now) }
-        ensures live { IfNone result (is_live self.now.callers caller ≡ true) }
-        ensures free { IfNone result (ends_wait event.now ≡ false
+    fn may_take(&self, caller: CallerNo, event: &Event) -> Result<(), Errno>
+        ensures first { error_of result ≡ first_failing (common_tests self.now caller event.now) }
+        ensures live { IfOk result (λ passed. is_live self.now.callers caller ≡ true) }
+        ensures free { IfOk result (λ passed. ends_wait event.now ≡ false
             → told (caller_at self.now.callers caller).waiting ≡ Waited.None) }
     {
         if !self.procs.live(caller) {
-            return Some(Errno::Srch);
+            return Err(Errno::Srch);
         }
         if !may_make(caller, event) {
-            return Some(Errno::Notty);
+            return Err(Errno::Notty);
         }
         if self.procs.ticket(caller) != Waited::None && !ends_wait(event) {
-            return Some(Errno::Inval);
+            return Err(Errno::Inval);
         }
-        None
+        Ok(())
     }
 
     // Carries out an event that the caller may make now.
-    fn carry_out(&mut self, p: CallerNo, event: &Event, grid: Option<Grid>, reply: Bytes) -> Reply
+    fn carry_out(
+        &mut self,
+        p: CallerNo,
+        event: &Event,
+        grid: Option<Grid>,
+        reply: Bytes,
+    ) -> Result<Reply, Errno>
         requires told { self.old.told.trace ≡ [] }
         requires live { is_live self.old.callers p ≡ true }
         requires free { ends_wait event.now ≡ false
             → told (caller_at self.old.callers p).waiting ≡ Waited.None }
         requires grid { HasGrid (needed_grid (extent self.old.rows self.old.cols) event.now) grid }
         requires reply { greatest_reply event.now ≤ reply.room }
-        ensures step { Gives (own_step self.old p event.now) self.new result }
-        ensures bytes { length (text_of_reply result) ≤ greatest_reply event.now }
+        ensures effect { Has (own_effect self.old p event.now) self.new result }
+        ensures bytes { length (text_of_answer result) ≤ greatest_reply event.now }
     {
         match event {
             Event::OpenCon(n) => self.open(p, *n, grid),
@@ -95,16 +120,16 @@ impl World {
     }
 
     // Carries out an event that needs nothing beside the world.
-    fn carry_out_alone(&mut self, p: CallerNo, event: &Event) -> Reply
+    fn carry_out_alone(&mut self, p: CallerNo, event: &Event) -> Result<Reply, Errno>
         requires alone { takes_spare event.now ≡ false }
         requires told { self.old.told.trace ≡ [] }
         requires live { is_live self.old.callers p ≡ true }
         requires free { ends_wait event.now ≡ false
             → told (caller_at self.old.callers p).waiting ≡ Waited.None }
-        ensures { Gives (own_step self.old p event.now) self.new result }
+        ensures { Has (own_effect self.old p event.now) self.new result }
     {
         match event {
-            Event::Scan(b) => self.scan(p, *b),
+            Event::Scan(b) => self.scan(*b),
             Event::Exit => self.exit(p),
             Event::CloseFd(fd) => self.close(p, *fd),
             Event::Write(fd, b) => self.write(p, *fd, b),

@@ -1,134 +1,124 @@
-//! Settings of a console's keyboard.
-ghost use Rattle.std.specs.Prelude.{◌≡◌};
+//! The keyboard: its bytes, the settings of a console's keys, the key tables and the scan numbers.
+ghost use Rattle.std.specs.Prelude.{◌≡◌, ◌≤◌, [], IsTrue, length};
+ghost use Rattle.key_tables.specs.Tables.{exists_in};
 ghost use Rattle.vt_events.specs.declared.event.Event.TheVariants as event;
 ghost use Rattle.vt_world.specs.Deeds.{Keyed, Own, done};
 ghost use Rattle.vt_world.specs.Rows.{lights_of};
-ghost use Rattle.vt_world.specs.Step.{Gives, own_step};
-ghost use Rattle.vt_world.specs.Tests.{is_flags};
+ghost use Rattle.vt_world.specs.Step.{Has, own_effect, text_of_answer};
+ghost use Rattle.vt_world.specs.Tests.{is_flags, is_keycode};
 
 use crate::World;
-use crate::rows::refusals::NOT_OPEN;
+use crate::rows::answers::{emptied, text_reply};
+use call_bytes::{add_pairs, read_pairs};
 use key_machine::{KbState, meta, mode};
-use vt_base::{CallerNo, ConsoleNo};
+use key_syms::Action;
+use vt_base::{Bytes, CallerNo, ConsoleNo, Errno};
 use vt_events::Reply;
 
 /// The greatest number that is lights.
 const MOST_LIGHTS: u16 = 7;
 
+/// What is told of a key in a table that isn't there (ioctl_console(2), KDGKBENT).
+const NO_TABLE: Reply = Reply::Act { kind: 14, value: 0 };
+
+/// The greatest number of a table, of a function key and of a keycode.
+const MOST: u16 = 255;
+
+/// The most bytes of a function string.
+const MOST_BYTES: usize = 255;
+
 impl World {
-    /// Sets the keyboard mode of the descriptor's console (ioctl_console(2), KDSKBMODE).
-    pub(crate) fn set_keyboard_mode(&mut self, p: CallerNo, fd: u16, m: u16) -> Reply
-        ensures { Gives (own_step self.old p (event.SetKb fd m)) self.new result }
+    /// A byte of the keyboard.
+    pub(crate) fn scan(&mut self, b: u8) -> Result<Reply, Errno>
+        requires { self.old.told.trace ≡ [] }
+        ensures { Has (own_effect self.old 0 (event.Scan b)) self.new result }
     {
-        let c = match self.handled(p, fd, m <= u16::from(mode::OFF)) {
-            Ok(c) => c,
-            Err(errno) => return Reply::Err(errno),
-        };
+        let front = self.switch.front();
+        self.scan_on(front, b);
+        Ok(Reply::Done)
+    }
+
+    /// Sets the keyboard mode of the descriptor's console (ioctl_console(2), KDSKBMODE).
+    pub(crate) fn set_keyboard_mode(&mut self, p: CallerNo, fd: u16, m: u16) -> Result<Reply, Errno>
+        ensures { Has (own_effect self.old p (event.SetKb fd m)) self.new result }
+    {
+        let c = self.settable(p, fd, m <= u16::from(mode::OFF))?;
         let mut keys = self.inputs.keys(c);
         keys.mode = m as u8;
         self.set_keys(c, keys);
-        self.settle(p);
-        Reply::Done
+        Ok(Reply::Done)
     }
 
     /// The keyboard mode of the descriptor's console (ioctl_console(2), KDGKBMODE).
-    pub(crate) fn get_keyboard_mode(&mut self, p: CallerNo, fd: u16) -> Reply
-        ensures { Gives (own_step self.old p (event.GetKb fd)) self.new result }
+    pub(crate) fn get_keyboard_mode(&mut self, p: CallerNo, fd: u16) -> Result<Reply, Errno>
+        ensures { Has (own_effect self.old p (event.GetKb fd)) self.new result }
     {
-        let Some(c) = self.procs.console_of(p, fd) else {
-            return NOT_OPEN;
-        };
-        let mode = self.inputs.keys(c).mode;
-        self.settle(p);
-        Reply::Num(u32::from(mode))
+        let c = self.opened(p, fd)?;
+        Ok(Reply::Num(u32::from(self.inputs.keys(c).mode)))
     }
 
     /// Sets what Meta does on the descriptor's console (ioctl_console(2), KDSKBMETA).
-    pub(crate) fn set_meta(&mut self, p: CallerNo, fd: u16, m: u16) -> Reply
-        ensures { Gives (own_step self.old p (event.SetMeta fd m)) self.new result }
+    pub(crate) fn set_meta(&mut self, p: CallerNo, fd: u16, m: u16) -> Result<Reply, Errno>
+        ensures { Has (own_effect self.old p (event.SetMeta fd m)) self.new result }
     {
         let known = m == u16::from(meta::METABIT) || m == u16::from(meta::ESCPREFIX);
-        let c = match self.handled(p, fd, known) {
-            Ok(c) => c,
-            Err(errno) => return Reply::Err(errno),
-        };
+        let c = self.settable(p, fd, known)?;
         let mut keys = self.inputs.keys(c);
         keys.meta = m as u8;
         self.set_keys(c, keys);
-        self.settle(p);
-        Reply::Done
+        Ok(Reply::Done)
     }
 
     /// What Meta does on the descriptor's console (ioctl_console(2), KDGKBMETA).
-    pub(crate) fn get_meta(&mut self, p: CallerNo, fd: u16) -> Reply
-        ensures { Gives (own_step self.old p (event.GetMeta fd)) self.new result }
+    pub(crate) fn get_meta(&mut self, p: CallerNo, fd: u16) -> Result<Reply, Errno>
+        ensures { Has (own_effect self.old p (event.GetMeta fd)) self.new result }
     {
-        let Some(c) = self.procs.console_of(p, fd) else {
-            return NOT_OPEN;
-        };
-        let meta = self.inputs.keys(c).meta;
-        self.settle(p);
-        Reply::Num(u32::from(meta))
+        let c = self.opened(p, fd)?;
+        Ok(Reply::Num(u32::from(self.inputs.keys(c).meta)))
     }
 
     /// Sets the lights of the descriptor's console, or lets them show the flags again
     /// (ioctl_console(2), KDSETLED).
-    pub(crate) fn set_lights(&mut self, p: CallerNo, fd: u16, v: u16) -> Reply
-        ensures { Gives (own_step self.old p (event.SetLed fd v)) self.new result }
+    pub(crate) fn set_lights(&mut self, p: CallerNo, fd: u16, v: u16) -> Result<Reply, Errno>
+        ensures { Has (own_effect self.old p (event.SetLed fd v)) self.new result }
     {
-        let c = match self.handled(p, fd, true) {
-            Ok(c) => c,
-            Err(errno) => return Reply::Err(errno),
-        };
+        let c = self.handled(p, fd)?;
         let mut keys = self.inputs.keys(c);
         keys.lights = lights_of(v);
         self.set_keys(c, keys);
-        self.settle(p);
-        Reply::Done
+        Ok(Reply::Done)
     }
 
     /// The lights of the descriptor's console, which may be its flags (ioctl_console(2), KDGETLED).
-    pub(crate) fn get_lights(&mut self, p: CallerNo, fd: u16) -> Reply
-        ensures { Gives (own_step self.old p (event.GetLed fd)) self.new result }
+    pub(crate) fn get_lights(&mut self, p: CallerNo, fd: u16) -> Result<Reply, Errno>
+        ensures { Has (own_effect self.old p (event.GetLed fd)) self.new result }
     {
-        let Some(c) = self.procs.console_of(p, fd) else {
-            return NOT_OPEN;
-        };
+        let c = self.opened(p, fd)?;
         let keys = self.inputs.keys(c);
-        let lights = keys.lights.unwrap_or(keys.flags);
-        self.settle(p);
-        Reply::Num(u32::from(lights))
+        Ok(Reply::Num(u32::from(keys.lights.unwrap_or(keys.flags))))
     }
 
     /// Sets the keyboard flags of the descriptor's console, and those of a reset (ioctl_console(2),
     /// KDSKBLED).
-    pub(crate) fn set_flags(&mut self, p: CallerNo, fd: u16, v: u16) -> Reply
-        ensures { Gives (own_step self.old p (event.SetFlags fd v)) self.new result }
+    pub(crate) fn set_flags(&mut self, p: CallerNo, fd: u16, v: u16) -> Result<Reply, Errno>
+        ensures { Has (own_effect self.old p (event.SetFlags fd v)) self.new result }
     {
-        let c = match self.handled(p, fd, is_flags(v)) {
-            Ok(c) => c,
-            Err(errno) => return Reply::Err(errno),
-        };
+        let c = self.settable(p, fd, is_flags(v))?;
         let mut keys = self.inputs.keys(c);
         keys.flags = (v % 16) as u8;
         keys.defaults = (v / 16) as u8;
         self.set_keys(c, keys);
-        self.settle(p);
-        Reply::Done
+        Ok(Reply::Done)
     }
 
     /// The keyboard flags of the descriptor's console, and those of a reset (ioctl_console(2),
     /// KDGKBLED).
-    pub(crate) fn get_flags(&mut self, p: CallerNo, fd: u16) -> Reply
-        ensures { Gives (own_step self.old p (event.GetFlags fd)) self.new result }
+    pub(crate) fn get_flags(&mut self, p: CallerNo, fd: u16) -> Result<Reply, Errno>
+        ensures { Has (own_effect self.old p (event.GetFlags fd)) self.new result }
     {
-        let Some(c) = self.procs.console_of(p, fd) else {
-            return NOT_OPEN;
-        };
+        let c = self.opened(p, fd)?;
         let keys = self.inputs.keys(c);
-        let flags = u32::from(keys.flags) + 16 * u32::from(keys.defaults);
-        self.settle(p);
-        Reply::Num(flags)
+        Ok(Reply::Num(u32::from(keys.flags) + 16 * u32::from(keys.defaults)))
     }
 
     // Gives the console this key state.
@@ -136,6 +126,135 @@ impl World {
         ensures { self.new ≡ done self.old (Own (Keyed c keys)) }
     {
         self.inputs.set_keys(c, keys);
+    }
+
+    /// Sets what a keycode does in a key table (ioctl_console(2), KDSKBENT).
+    pub(crate) fn set_entry(
+        &mut self,
+        p: CallerNo,
+        fd: u16,
+        t: u16,
+        code: u16,
+        kind: u16,
+        value: u16,
+    ) -> Result<Reply, Errno>
+        ensures { Has (own_effect self.old p (event.SetEntry fd t code kind value)) self.new result }
+    {
+        self.settable(p, fd, self.has_table(t) && is_keycode(code))?;
+        let action = Action::new(kind, value).ok_or(Errno::Inval)?;
+        self.board.tables.set_entry(t as u8, code as u8, action);
+        Ok(Reply::Done)
+    }
+
+    // Whether there is a key table of the number.
+    fn has_table(&self, t: u16) -> bool
+        ensures table { result ≡ exists_in self.now.board.tables t }
+        ensures bound { IsTrue result → t ≤ 255 }
+    {
+        let exists = self.board.tables.exists((t % 256) as u8);
+        t <= MOST && exists
+    }
+
+    /// What a keycode does in a key table (ioctl_console(2), KDGKBENT).
+    pub(crate) fn get_entry(
+        &mut self,
+        p: CallerNo,
+        fd: u16,
+        t: u16,
+        code: u16,
+    ) -> Result<Reply, Errno>
+        ensures { Has (own_effect self.old p (event.GetEntry fd t code)) self.new result }
+    {
+        self.gettable(p, fd, t <= MOST && is_keycode(code))?;
+        match self.board.tables.entry(t as u8, code as u8) {
+            Some(a) => Ok(Reply::Act {
+                kind: a.kind,
+                value: a.value,
+            }),
+            None => Ok(NO_TABLE),
+        }
+    }
+
+    /// Sets a function string (ioctl_console(2), KDSKBSENT).
+    pub(crate) fn set_func(
+        &mut self,
+        p: CallerNo,
+        fd: u16,
+        i: u16,
+        b: &Bytes,
+    ) -> Result<Reply, Errno>
+        ensures { Has (own_effect self.old p (event.SetFunc fd i b.now)) self.new result }
+    {
+        let text = b.as_slice();
+        self.settable(p, fd, i <= MOST && text.len() <= MOST_BYTES)?;
+        self.board.tables.set_func(i as u8, text);
+        Ok(Reply::Done)
+    }
+
+    /// A function string (ioctl_console(2), KDGKBSENT).
+    pub(crate) fn get_func(
+        &mut self,
+        p: CallerNo,
+        fd: u16,
+        i: u16,
+        reply: Bytes,
+    ) -> Result<Reply, Errno>
+        requires { 255 ≤ reply.room }
+        ensures effect { Has (own_effect self.old p (event.GetFunc fd i)) self.new result }
+        ensures bytes { length (text_of_answer result) ≤ 255 }
+    {
+        self.gettable(p, fd, i <= MOST)?;
+        Ok(text_reply(self.board.tables.func(i as u8), reply))
+    }
+
+    /// Sets the pairs of compose keys (ioctl_console(2), KDSKBDIACRUC).
+    pub(crate) fn set_pairs(&mut self, p: CallerNo, fd: u16, b: &Bytes) -> Result<Reply, Errno>
+        ensures { Has (own_effect self.old p (event.SetDia fd b.now)) self.new result }
+    {
+        self.handled(p, fd)?;
+        let pairs = read_pairs(b.as_slice()).ok_or(Errno::Inval)?;
+        self.board.tables.set_pairs(pairs.as_slice());
+        Ok(Reply::Done)
+    }
+
+    /// The pairs of compose keys (ioctl_console(2), KDGKBDIACRUC).
+    pub(crate) fn get_pairs(&mut self, p: CallerNo, fd: u16, reply: Bytes) -> Result<Reply, Errno>
+        requires { 3072 ≤ reply.room }
+        ensures effect { Has (own_effect self.old p (event.GetDia fd)) self.new result }
+        ensures bytes { length (text_of_answer result) ≤ 3072 }
+    {
+        self.opened(p, fd)?;
+        let mut reply = emptied(reply);
+        add_pairs(self.board.tables.pairs(), &mut reply);
+        Ok(Reply::Text(reply))
+    }
+
+    /// Gives a scan number another keycode (ioctl_console(2), KDSETKEYCODE).
+    pub(crate) fn set_code(
+        &mut self,
+        p: CallerNo,
+        fd: u16,
+        scan: u16,
+        code: u16,
+    ) -> Result<Reply, Errno>
+        ensures { Has (own_effect self.old p (event.SetCode fd scan code)) self.new result }
+    {
+        self.handled(p, fd)?;
+        if self.board.scanner.set(scan, code).is_err() {
+            return Err(Errno::Inval);
+        }
+        Ok(Reply::Done)
+    }
+
+    /// The keycode of a scan number (ioctl_console(2), KDGETKEYCODE).
+    pub(crate) fn get_code(&mut self, p: CallerNo, fd: u16, scan: u16) -> Result<Reply, Errno>
+        ensures { Has (own_effect self.old p (event.GetCode fd scan)) self.new result }
+    {
+        self.opened(p, fd)?;
+        let Ok(code) = self.board.scanner.get(scan) else {
+            return Err(Errno::Inval);
+        };
+        Ok(Reply::Num(u32::from(code)))
     }
 }
 
@@ -151,4 +270,11 @@ fn is_flags(v: u16) -> bool
     ensures { result ≡ is_flags v }
 {
     v < 128 && v % 16 < 8
+}
+
+// Whether a key table has an entry for the code.
+fn is_keycode(code: u16) -> bool
+    ensures { result ≡ is_keycode code }
+{
+    1 <= code && code <= MOST
 }

@@ -1,28 +1,85 @@
-//! The answers to refused events.
+//! What refuses an event, where several rows share it.
+ghost use Rattle.std.specs.Prelude.{◌≡◌, [], ◌∷◌, IfOk, Some, true};
+ghost use Rattle.vt_procs.specs.Callers.{console_of};
+ghost use Rattle.vt_world.specs.Tests.{error_of, first_failing, gets, may_handle, needs_open, needs_privilege, needs_right, sets};
 
-use vt_base::Errno;
-use vt_events::Reply;
+use crate::World;
+use vt_base::{CallerNo, ConsoleNo, Errno};
 
-/// The descriptor isn't open.
-pub const NOT_OPEN: Reply = Reply::Err(Errno::Badf);
+impl World {
+    /// The console that the descriptor is open on.
+    pub(crate) fn opened(&self, p: CallerNo, fd: u16) -> Result<ConsoleNo, Errno>
+        ensures open { IfOk result (λ c. console_of self.now.callers p fd ≡ Some c) }
+        ensures refused { error_of result ≡ first_failing (needs_open self.now p fd ∷ []) }
+    {
+        self.procs.console_of(p, fd).ok_or(Errno::Badf)
+    }
 
-/// The caller may not handle the console.
-pub const NO_PERMISSION: Reply = Reply::Err(Errno::Perm);
+    /// The descriptor's console, where `p` may handle it.
+    pub(crate) fn handled(&self, p: CallerNo, fd: u16) -> Result<ConsoleNo, Errno>
+        ensures open { IfOk result (λ c. console_of self.now.callers p fd ≡ Some c) }
+        ensures refused { error_of result
+            ≡ first_failing (needs_open self.now p fd ∷ needs_right self.now p fd ∷ []) }
+    {
+        let c = self.opened(p, fd)?;
+        if !self.may_handle(p, c) {
+            return Err(Errno::Perm);
+        }
+        Ok(c)
+    }
 
-/// No console, or no process, has the number.
-pub const NO_SUCH_NUMBER: Reply = Reply::Err(Errno::Nxio);
+    /// The descriptor's console, where `p` may set something of it that makes sense.
+    pub(crate) fn settable(
+        &self,
+        p: CallerNo,
+        fd: u16,
+        makes_sense: bool,
+    ) -> Result<ConsoleNo, Errno>
+        ensures open { IfOk result (λ c. console_of self.now.callers p fd ≡ Some c) }
+        ensures sense { IfOk result (λ c. makes_sense ≡ true) }
+        ensures refused { error_of result ≡ first_failing (sets self.now p fd makes_sense) }
+    {
+        let c = self.handled(p, fd)?;
+        if !makes_sense {
+            return Err(Errno::Inval);
+        }
+        Ok(c)
+    }
 
-/// A bad value, or a state in which the event makes no sense.
-pub const INVALID: Reply = Reply::Err(Errno::Inval);
+    /// The descriptor's console, where what `p` asks of it makes sense.
+    pub(crate) fn gettable(
+        &self,
+        p: CallerNo,
+        fd: u16,
+        makes_sense: bool,
+    ) -> Result<ConsoleNo, Errno>
+        ensures open { IfOk result (λ c. console_of self.now.callers p fd ≡ Some c) }
+        ensures sense { IfOk result (λ c. makes_sense ≡ true) }
+        ensures refused { error_of result ≡ first_failing (gets self.now p fd makes_sense) }
+    {
+        let c = self.opened(p, fd)?;
+        if !makes_sense {
+            return Err(Errno::Inval);
+        }
+        Ok(c)
+    }
 
-/// Something is in use.
-pub const IN_USE: Reply = Reply::Err(Errno::Busy);
+    /// Whether `p` may lock switching, and unlock it.
+    pub(crate) fn lockable(&self, p: CallerNo, fd: u16) -> Result<(), Errno>
+        ensures { error_of result
+            ≡ first_failing (needs_open self.now p fd ∷ needs_privilege self.now p ∷ []) }
+    {
+        self.opened(p, fd)?;
+        if !self.procs.privileged(p) {
+            return Err(Errno::Perm);
+        }
+        Ok(())
+    }
 
-/// Nothing is there yet.
-pub const NOTHING_THERE: Reply = Reply::Err(Errno::Again);
-
-/// A signal is pending, or ended the wait.
-pub const INTERRUPTED: Reply = Reply::Err(Errno::Intr);
-
-/// The process doesn't live.
-pub const DEAD: Reply = Reply::Err(Errno::Srch);
+    // Whether `p` is privileged, or the console is its home.
+    fn may_handle(&self, p: CallerNo, c: ConsoleNo) -> bool
+        ensures { result ≡ may_handle self.now p c }
+    {
+        self.procs.privileged(p) || c.get() == u16::from(self.procs.home(p))
+    }
+}

@@ -1,21 +1,27 @@
-//! Settings of a console's screen.
-ghost use Rattle.std.specs.Prelude.{◌≡◌, ◌+◌, ◌≤◌, ◌++◌, length};
+//! Screens: their settings and their dumps.
+ghost use Rattle.std.specs.Prelude.{◌≡◌, ◌+◌, ◌≤◌, ◌++◌, ◌&&◌, length};
 ghost use Rattle.call_bytes.specs.Colours.{colours_text};
 ghost use Rattle.call_bytes.specs.Words.{words_text};
-ghost use Rattle.vt_events.specs.Charge.{text_of_reply};
+ghost use Rattle.vt_events.specs.Charge.{greatest_dump};
 ghost use Rattle.vt_events.specs.declared.event.Event.TheVariants as event;
-ghost use Rattle.vt_world.specs.Rows.{screen_bytes};
-ghost use Rattle.vt_world.specs.Spare.{HasGrid, extent, is_extent, needed_grid};
-ghost use Rattle.vt_world.specs.Step.{Gives, own_step};
+ghost use Rattle.vt_procs.specs.Callers.{has_open};
+ghost use Rattle.vt_world.specs.Rows.{dump_of, screen_bytes};
+ghost use Rattle.vt_world.specs.Spare.{HasGrid, extent, is_console, is_extent, needed_grid};
+ghost use Rattle.vt_world.specs.Step.{Has, own_effect, text_of_answer};
 ghost use Rattle.vt_world.specs.Terminals.{terminal_at};
+ghost use Rattle.vt_world.specs.Tests.{caller, named, sees};
 
 use crate::World;
 use crate::rows::answers::emptied;
-use crate::rows::refusals::{INVALID, NOT_OPEN};
 use call_bytes::{add_colours, add_words, read_colours, read_words};
-use vt_base::{Bytes, CallerNo, ConsoleNo};
+use vt_base::{Bytes, CallerNo, ConsoleNo, Errno};
+use vt_dump::{codes, vcs, vcsa};
 use vt_events::Reply;
 use vt_grid::Grid;
+use vt_screen::Emu;
+
+/// The greatest number of a kind of dump.
+const LAST_KIND: u16 = 2;
 
 impl World {
     /// Resizes the screen of the descriptor's console (ioctl_console(2), VT_RESIZE).
@@ -26,80 +32,82 @@ impl World {
         rows: u16,
         cols: u16,
         grid: Option<Grid>,
-    ) -> Reply
+    ) -> Result<Reply, Errno>
         requires { HasGrid (needed_grid (extent self.old.rows self.old.cols) (event.Resize fd rows cols)) grid }
-        ensures { Gives (own_step self.old p (event.Resize fd rows cols)) self.new result }
+        ensures { Has (own_effect self.old p (event.Resize fd rows cols)) self.new result }
     {
-        let c = match self.handled(p, fd, is_extent(rows, cols)) {
-            Ok(c) => c,
-            Err(errno) => return Reply::Err(errno),
-        };
+        let c = self.settable(p, fd, is_extent(rows, cols))?;
         let Some(grid) = grid else { unreachable!() };
         self.resize_screen(c, grid);
-        self.settle(p);
-        Reply::Done
+        Ok(Reply::Done)
     }
 
     /// Sets the user's table of the descriptor's console (ioctl_console(2), PIO_UNISCRNMAP).
-    pub(crate) fn set_map(&mut self, p: CallerNo, fd: u16, b: &Bytes) -> Reply
-        ensures { Gives (own_step self.old p (event.SetMap fd b.now)) self.new result }
+    pub(crate) fn set_map(&mut self, p: CallerNo, fd: u16, b: &Bytes) -> Result<Reply, Errno>
+        ensures { Has (own_effect self.old p (event.SetMap fd b.now)) self.new result }
     {
-        let c = match self.handled(p, fd, true) {
-            Ok(c) => c,
-            Err(errno) => return Reply::Err(errno),
-        };
-        let Some(words) = read_words(b.as_slice()) else {
-            return INVALID;
-        };
+        let c = self.handled(p, fd)?;
+        let words = read_words(b.as_slice()).ok_or(Errno::Inval)?;
         self.set_user(c, &words);
-        self.settle(p);
-        Reply::Done
+        Ok(Reply::Done)
     }
 
     /// The user's table of the descriptor's console (ioctl_console(2), GIO_UNISCRNMAP).
-    pub(crate) fn get_map(&mut self, p: CallerNo, fd: u16, reply: Bytes) -> Reply
+    pub(crate) fn get_map(&mut self, p: CallerNo, fd: u16, reply: Bytes) -> Result<Reply, Errno>
         requires { 512 ≤ reply.room }
-        ensures step { Gives (own_step self.old p (event.GetMap fd)) self.new result }
-        ensures bytes { length (text_of_reply result) ≤ 512 }
+        ensures effect { Has (own_effect self.old p (event.GetMap fd)) self.new result }
+        ensures bytes { length (text_of_answer result) ≤ 512 }
     {
-        let Some(c) = self.procs.console_of(p, fd) else {
-            return NOT_OPEN;
-        };
+        let c = self.opened(p, fd)?;
         let mut reply = emptied(reply);
         self.add_map(c, &mut reply);
-        self.settle(p);
-        Reply::Text(reply)
+        Ok(Reply::Text(reply))
     }
 
     /// Sets the palette of the descriptor's console (ioctl_console(2), PIO_CMAP).
-    pub(crate) fn set_palette(&mut self, p: CallerNo, fd: u16, b: &Bytes) -> Reply
-        ensures { Gives (own_step self.old p (event.SetPal fd b.now)) self.new result }
+    pub(crate) fn set_palette(&mut self, p: CallerNo, fd: u16, b: &Bytes) -> Result<Reply, Errno>
+        ensures { Has (own_effect self.old p (event.SetPal fd b.now)) self.new result }
     {
-        let c = match self.handled(p, fd, true) {
-            Ok(c) => c,
-            Err(errno) => return Reply::Err(errno),
-        };
-        let Some(colours) = read_colours(b.as_slice()) else {
-            return INVALID;
-        };
+        let c = self.handled(p, fd)?;
+        let colours = read_colours(b.as_slice()).ok_or(Errno::Inval)?;
         self.set_colours(c, colours);
-        self.settle(p);
-        Reply::Done
+        Ok(Reply::Done)
     }
 
     /// The palette of the descriptor's console (ioctl_console(2), GIO_CMAP).
-    pub(crate) fn get_palette(&mut self, p: CallerNo, fd: u16, reply: Bytes) -> Reply
+    pub(crate) fn get_palette(&mut self, p: CallerNo, fd: u16, reply: Bytes) -> Result<Reply, Errno>
         requires { 48 ≤ reply.room }
-        ensures step { Gives (own_step self.old p (event.GetPal fd)) self.new result }
-        ensures bytes { length (text_of_reply result) ≤ 48 }
+        ensures effect { Has (own_effect self.old p (event.GetPal fd)) self.new result }
+        ensures bytes { length (text_of_answer result) ≤ 48 }
     {
-        let Some(c) = self.procs.console_of(p, fd) else {
-            return NOT_OPEN;
-        };
+        let c = self.opened(p, fd)?;
         let mut reply = emptied(reply);
         self.add_palette(c, &mut reply);
-        self.settle(p);
-        Reply::Text(reply)
+        Ok(Reply::Text(reply))
+    }
+
+    /// The screen of console `n`, or of the one in front where `n` is 0 (vcs(4)).
+    pub(crate) fn dump(
+        &mut self,
+        p: CallerNo,
+        kind: u16,
+        n: u16,
+        reply: Bytes,
+    ) -> Result<Reply, Errno>
+        requires { greatest_dump kind ≤ reply.room }
+        ensures effect { Has (own_effect self.old p (event.Dump kind n)) self.new result }
+        ensures bytes { length (text_of_answer result) ≤ greatest_dump kind }
+    {
+        if !self.sees(p, n) {
+            return Err(Errno::Perm);
+        }
+        let c = self.named(n).ok_or(Errno::Nxio)?;
+        if kind > LAST_KIND || !self.switch.allocated(c) {
+            return Err(Errno::Inval);
+        }
+        let mut reply = emptied(reply);
+        self.add_dump(kind, c, &mut reply);
+        Ok(Reply::Text(reply))
     }
 
     // Appends the user's table of the console's screen, if it has one.
@@ -124,6 +132,55 @@ impl World {
         if let Some(terminal) = self.terminals.at(c) {
             add_colours(&terminal.emu().state().palette, out);
         }
+    }
+
+    // Whether `p` is privileged, or has the console open that the number names.
+    fn sees(&self, p: CallerNo, n: u16) -> bool
+        ensures { result ≡ sees self.now p (named self.now n) }
+    {
+        self.procs.privileged(p) || self.has_named(p, n)
+    }
+
+    // Whether `p` has the console open that the number names.
+    fn has_named(&self, p: CallerNo, n: u16) -> bool
+        ensures { result ≡ (is_console (named self.now n)
+            && has_open (caller self.now p).opens (named self.now n)) }
+    {
+        let Some(c) = self.named(n) else {
+            return false;
+        };
+        let _console = c.get();
+        self.procs.has_open(p, c)
+    }
+
+    // Appends a dump of the console's screen, if it has one.
+    fn add_dump(&self, kind: u16, c: ConsoleNo, out: &mut Bytes)
+        requires kind { kind ≤ LAST_KIND }
+        requires room { greatest_dump kind ≤ out.old.room }
+        ensures bytes { out.new.bytes ≡ out.old.bytes
+            ++ screen_bytes (dump_of kind) (terminal_at self.now.terminals c) }
+        ensures len { length out.new.bytes ≤ length out.old.bytes + greatest_dump kind }
+    {
+        if let Some(terminal) = self.terminals.at(c) {
+            add_screen(kind, terminal.emu(), out);
+        }
+    }
+}
+
+// Appends a dump of the screen.
+fn add_screen(kind: u16, emu: &Emu, out: &mut Bytes)
+    requires kind { kind ≤ LAST_KIND }
+    requires room { greatest_dump kind ≤ out.old.room }
+    ensures bytes { out.new.bytes ≡ out.old.bytes ++ dump_of kind emu.now.state }
+    ensures len { length out.new.bytes ≤ length out.old.bytes + greatest_dump kind }
+{
+    let grid = emu.grid();
+    let state = emu.state();
+    let _size = grid.size();
+    match kind {
+        0 => vcs(grid, out),
+        1 => vcsa(grid, state.x, state.y, state.reverse, out),
+        _ => codes(grid, out),
     }
 }
 

@@ -1,68 +1,59 @@
+//! Signals, and the end of a caller.
 ghost use Rattle.std.specs.Prelude.{◌≡◌, [], true};
 ghost use Rattle.vt_base.specs.Range.{in_range};
 ghost use Rattle.vt_events.specs.declared.event.Event.TheVariants as event;
 ghost use Rattle.vt_procs.specs.Callers.{is_live};
-ghost use Rattle.vt_world.specs.Step.{Gives, own_step};
+ghost use Rattle.vt_world.specs.Step.{Has, own_effect};
 
 use crate::World;
-use crate::attention::KILL;
-use crate::rows::refusals::{DEAD, INVALID, NO_PERMISSION, NO_SUCH_NUMBER, NOT_OPEN};
-use vt_base::{CallerNo, Signal};
+use crate::effects::attention::KILL;
+use vt_base::{CallerNo, Errno, Signal};
 use vt_events::Reply;
 
 impl World {
     /// The signal comes to `p` at the key for it (ioctl_console(2), KDSIGACCEPT).
-    pub(crate) fn accept(&mut self, p: CallerNo, fd: u16, s: u16) -> Reply
+    pub(crate) fn accept(&mut self, p: CallerNo, fd: u16, s: u16) -> Result<Reply, Errno>
         requires { is_live self.old.callers p ≡ true }
-        ensures { Gives (own_step self.old p (event.Accept fd s)) self.new result }
+        ensures { Has (own_effect self.old p (event.Accept fd s)) self.new result }
     {
-        let Some(c) = self.procs.console_of(p, fd) else {
-            return NOT_OPEN;
-        };
-        if !self.may_handle(p, c) {
-            return NO_PERMISSION;
-        }
-        if s == KILL {
-            return INVALID;
-        }
-        let Some(signal) = Signal::new(s) else {
-            return INVALID;
-        };
+        self.settable(p, fd, s != KILL)?;
+        let signal = Signal::new(s).ok_or(Errno::Inval)?;
         self.procs.accept(p, signal);
-        self.settle(p);
-        Reply::Done
+        Ok(Reply::Done)
     }
 
     /// The pending signals of `p`, which are pending no more. This project's own.
-    pub(crate) fn take_signals(&mut self, p: CallerNo) -> Reply
+    pub(crate) fn take_signals(&mut self, p: CallerNo) -> Result<Reply, Errno>
         requires { is_live self.old.callers p ≡ true }
-        ensures { Gives (own_step self.old p event.TakeSignals) self.new result }
+        ensures { Has (own_effect self.old p event.TakeSignals) self.new result }
     {
-        let signals = self.procs.take_signals(p);
-        self.settle(p);
-        Reply::Sigs(signals)
+        Ok(Reply::Sigs(self.procs.take_signals(p)))
     }
 
     /// Signal `s` to process `q` (kill(2)).
-    pub(crate) fn kill(&mut self, p: CallerNo, q: u16, s: u16) -> Reply
+    pub(crate) fn kill(&mut self, p: CallerNo, q: u16, s: u16) -> Result<Reply, Errno>
         requires { self.old.told.trace ≡ [] }
-        ensures { Gives (own_step self.old p (event.Kill q s)) self.new result }
+        ensures { Has (own_effect self.old p (event.Kill q s)) self.new result }
     {
         if !self.procs.privileged(p) && q != p.get() {
-            return NO_PERMISSION;
+            return Err(Errno::Perm);
         }
-        let Some(target) = process_of(q) else {
-            return NO_SUCH_NUMBER;
-        };
-        let Some(signal) = Signal::new(s) else {
-            return INVALID;
-        };
+        let target = process_of(q).ok_or(Errno::Nxio)?;
+        let signal = Signal::new(s).ok_or(Errno::Inval)?;
         if !self.procs.live(target) {
-            return DEAD;
+            return Err(Errno::Srch);
         }
         self.send(target, signal);
-        self.settle(p);
-        Reply::Done
+        Ok(Reply::Done)
+    }
+
+    /// The end of the caller (exit(2)).
+    pub(crate) fn exit(&mut self, p: CallerNo) -> Result<Reply, Errno>
+        requires { self.old.told.trace ≡ [] }
+        ensures { Has (own_effect self.old p event.Exit) self.new result }
+    {
+        self.end(p);
+        Ok(Reply::Done)
     }
 }
 

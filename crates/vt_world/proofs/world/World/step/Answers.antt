@@ -2,7 +2,7 @@ use Rattle.std.proofs.Common.{◌≡◌, ℕ, sym, ap, ◌∙◌}
 use Rattle.vt_events.specs.declared.event.Event.{Event}
 use Rattle.vt_world.specs.Heard.{cleared}
 use Rattle.vt_world.specs.State.{WorldState}
-use Rattle.vt_world.specs.Step.{after_common}
+use Rattle.vt_world.specs.Step.{answered, effect_after}
 use Rattle.vt_world.specs.Tests.{common_tests, first_failing}
 use Rattle.vt_world.specs.contracts.world.World.{the_view}
 use Rattle.vt_world.proofs.world.World.step.Goals as goal
@@ -16,6 +16,7 @@ returns-clause-step c =
     λ i. record w {
       told = record { trace = c.clear.ensures.trace i; hops = c.clear.ensures.hops i };
     } in
-    sym (ap (λ (v : WorldState). after_common v p e (first_failing (common_tests v p e)))
+    sym (ap (λ (v : WorldState). answered (effect_after v p e (first_failing (common_tests v p e))))
     (clear ∙ ap cleared c.self.view_is))
-    ∙ c.answer.ensures.step
+    ∙ ap answered c.take-answer.ensures.effect
+    ∙ c.finish.ensures.step

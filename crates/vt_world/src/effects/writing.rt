@@ -1,41 +1,18 @@
+//! What a text does that is written to a console.
 ghost use Rattle.std.specs.Prelude.{◌≡◌, ◌≤◌, ◌+◌, ◌*◌, [], length};
 ghost use Rattle.std.specs.List.{flat_map};
-ghost use Rattle.vt_events.specs.declared.event.Event.TheVariants as event;
 ghost use Rattle.vt_world.specs.Deeds.{all_done};
 ghost use Rattle.vt_world.specs.Rows.{out_deeds, write_deeds};
-ghost use Rattle.vt_world.specs.Step.{Gives, own_step};
 
 use crate::World;
-use crate::rows::refusals::{INVALID, NOT_OPEN};
 use crate::told::TRACE_MARKS;
 use crate::wanted::Wanted;
-use vt_base::{Bytes, CallerNo, ConsoleNo};
-use vt_events::Reply;
+use vt_base::ConsoleNo;
 use vt_screen::{FEED_BYTES, Out, Outs, any_cut};
 
-/// The most bytes of one write. This project's own.
-const WRITE_LIMIT: usize = 4_096;
-
 impl World {
-    /// Writes the bytes on the screen of the descriptor's console.
-    pub(crate) fn write(&mut self, p: CallerNo, fd: u16, b: &Bytes) -> Reply
-        requires { self.old.told.trace ≡ [] }
-        ensures { Gives (own_step self.old p (event.Write fd b.now)) self.new result }
-    {
-        let Some(c) = self.procs.console_of(p, fd) else {
-            return NOT_OPEN;
-        };
-        let text = b.as_slice();
-        if text.len() > WRITE_LIMIT {
-            return INVALID;
-        }
-        self.run(c, text);
-        self.settle(p);
-        Reply::Num(text.len() as u32)
-    }
-
-    // Runs a text on a console, and does what it says.
-    fn run(&mut self, c: ConsoleNo, b: &[u8])
+    /// Runs a text on a console, and does what it says.
+    pub(crate) fn run(&mut self, c: ConsoleNo, b: &[u8])
         requires told { self.old.told.trace ≡ [] }
         requires short { length b.now ≤ 4096 }
         ensures { self.new ≡ all_done self.old (write_deeds self.old c b.now) }

@@ -3,7 +3,7 @@ use Rattle.vt_switch.specs.Acts.{SetKd}
 use Rattle.vt_world.specs.Deeds.{By, all_done}
 use Rattle.vt_world.specs.Typing.{attention_deeds, ends_of, uses}
 use Rattle.vt_world.proofs.Users.{users_from}
-use Rattle.vt_world.proofs.world.World.attend.Given as goal
+use Rattle.vt_world.proofs.world.World.secure_attention.Given as goal
 
 abbrev pub invariant-loop-p : goal.invariant-loop-p
 invariant-loop-p l = record {

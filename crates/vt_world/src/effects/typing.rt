@@ -1,7 +1,6 @@
+//! What a scan byte does.
 ghost use Rattle.std.specs.Prelude.{◌≡◌, []};
-ghost use Rattle.vt_events.specs.declared.event.Event.TheVariants as event;
 ghost use Rattle.vt_world.specs.Deeds.{all_done};
-ghost use Rattle.vt_world.specs.Step.{Gives, own_step};
 ghost use Rattle.vt_world.specs.Terminals.{key_modes_of, terminal_at};
 ghost use Rattle.vt_world.specs.Typing.{key_on, key_out_deeds, read_deeds, scan_deeds, typed_deeds};
 
@@ -9,8 +8,7 @@ use crate::World;
 use crate::wanted::Wanted;
 use key_machine::{KeyModes, KeyOut, mode};
 use scan_codes::KeyEvent;
-use vt_base::{CallerNo, ConsoleNo};
-use vt_events::Reply;
+use vt_base::ConsoleNo;
 
 /// The modes of a start screen.
 const START_MODES: KeyModes = KeyModes {
@@ -21,19 +19,8 @@ const START_MODES: KeyModes = KeyModes {
 };
 
 impl World {
-    /// A byte of the keyboard.
-    pub(crate) fn scan(&mut self, p: CallerNo, b: u8) -> Reply
-        requires { self.old.told.trace ≡ [] }
-        ensures { Gives (own_step self.old p (event.Scan b)) self.new result }
-    {
-        let front = self.switch.front();
-        self.scan_on(front, b);
-        self.settle(p);
-        Reply::Done
-    }
-
-    // A byte of the keyboard, with console `n` in front.
-    fn scan_on(&mut self, n: ConsoleNo, b: u8)
+    /// A byte of the keyboard, with console `n` in front.
+    pub(crate) fn scan_on(&mut self, n: ConsoleNo, b: u8)
         requires { self.old.told.trace ≡ [] }
         ensures { self.new ≡ all_done self.old (scan_deeds self.old n b) }
     {
@@ -96,8 +83,8 @@ impl World {
             KeyOut::Last => self.ask(Wanted::Last),
             KeyOut::Next => self.ask(Wanted::Above),
             KeyOut::Prev => self.ask(Wanted::Below),
-            KeyOut::Spawn => self.spawn(),
-            KeyOut::Attention => self.attend(n),
+            KeyOut::Spawn => self.send_key_signal(),
+            KeyOut::Attention => self.secure_attention(n),
             KeyOut::Nothing => {}
         }
     }

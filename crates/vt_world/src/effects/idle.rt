@@ -11,7 +11,7 @@ use vt_procs::Waited;
 impl World {
     /// The idle rule after an event of `p`. It goes over the callers only where `p` itself can't go
     /// on.
-    pub(crate) fn settle(&mut self, p: CallerNo)
+    pub(crate) fn apply_idle_rule(&mut self, p: CallerNo)
         ensures { self.new ≡ with_idle_rule self.old }
     {
         if !self.can_go(p) {

@@ -4,7 +4,7 @@ use Rattle.vt_world.specs.Deeds.{By, done}
 use Rattle.vt_world.specs.State.{WorldState}
 use Rattle.vt_world.specs.Typing.{uses}
 use Rattle.vt_world.proofs.Users.{ends-next}
-use Rattle.vt_world.proofs.world.World.attend.Goals as goal
+use Rattle.vt_world.proofs.world.World.secure_attention.Goals as goal
 
 pub loop-p-preserved : goal.loop-p-preserved
 loop-p-preserved c =

@@ -1,52 +1,36 @@
-ghost use Rattle.std.specs.Prelude.{◌≡◌, ◌≤◌, [], false, if◌then◌else◌};
-ghost use Rattle.vt_events.specs.declared.event.Event.TheVariants as event;
+//! How a console gets allocated, and freed.
+ghost use Rattle.std.specs.Prelude.{◌≡◌, ◌≤◌, [], false, length, if◌then◌else◌};
 ghost use Rattle.vt_switch.specs.Calls.{is_held, names};
+ghost use Rattle.vt_switch.specs.Display.{is_allocated};
 ghost use Rattle.vt_world.specs.Deeds.{all_done};
-ghost use Rattle.vt_world.specs.Rows.{disallocating, freeing};
-ghost use Rattle.vt_world.specs.Step.{Gives, own_step};
+ghost use Rattle.vt_world.specs.Rows.{allocating, disallocating, freeing};
+ghost use Rattle.vt_world.specs.Spare.{HasSize, extent};
 ghost use Rattle.vt_world.specs.Tests.{is_in_use};
 
 use crate::World;
-use crate::rows::refusals::{IN_USE, NO_PERMISSION, NO_SUCH_NUMBER, NOT_OPEN};
-use vt_base::{CallerNo, ConsoleNo};
-use vt_events::Reply;
+use vt_base::ConsoleNo;
+use vt_grid::Grid;
 
 /// The greatest number of a console.
 const LAST_CONSOLE: u16 = 63;
 
 impl World {
-    /// Frees console `n`, or all that are not in use where `n` is 0 (ioctl_console(2),
-    /// VT_DISALLOCATE).
-    pub(crate) fn disallocate(&mut self, p: CallerNo, fd: u16, n: u16) -> Reply
-        ensures { Gives (own_step self.old p (event.Disallocate fd n)) self.new result }
+    /// Allocates the console, if it isn't yet, with a start screen on this grid.
+    pub(crate) fn allocate(&mut self, c: ConsoleNo, grid: Option<Grid>)
+        requires { is_allocated self.old.display c ≡ false
+            → HasSize (extent self.old.rows self.old.cols) grid }
+        ensures { self.new ≡ all_done self.old (allocating c []) }
     {
-        let Some(c) = self.procs.console_of(p, fd) else {
-            return NOT_OPEN;
-        };
-        if !self.may_handle(p, c) {
-            return NO_PERMISSION;
+        if self.switch.allocated(c) {
+            return;
         }
-        if LAST_CONSOLE < n {
-            return NO_SUCH_NUMBER;
-        }
-        if n == 0 {
-            self.free_unused();
-            self.settle(p);
-            return Reply::Done;
-        }
-        let Some(c) = ConsoleNo::new(n) else {
-            unreachable!()
-        };
-        if self.in_use(c) {
-            return IN_USE;
-        }
-        self.free(c);
-        self.settle(p);
-        Reply::Done
+        let Some(grid) = grid else { unreachable!() };
+        self.terminals.begin(c, grid);
+        self.switch.allocate(c);
     }
 
-    // Frees every console that isn't in use.
-    fn free_unused(&mut self)
+    /// Frees every console that isn't in use.
+    pub(crate) fn free_unused(&mut self)
         ensures { self.new ≡ all_done self.old (disallocating self.old 0) }
     {
         for n in 1..LAST_CONSOLE + 1 {
@@ -68,8 +52,8 @@ impl World {
         }
     }
 
-    // Console `c` is allocated no longer, and nothing is left of what it had.
-    fn free(&mut self, c: ConsoleNo)
+    /// Console `c` is allocated no longer, and nothing is left of what it had.
+    pub(crate) fn free(&mut self, c: ConsoleNo)
         requires { is_held self.old.display c ≡ false }
         ensures { self.new ≡ all_done self.old (freeing c) }
     {
@@ -78,8 +62,8 @@ impl World {
         self.inputs.clear(c);
     }
 
-    // Whether the console isn't to be freed. It looks at every descriptor.
-    fn in_use(&self, c: ConsoleNo) -> bool
+    /// Whether the console isn't to be freed. It looks at every descriptor.
+    pub(crate) fn in_use(&self, c: ConsoleNo) -> bool
         ensures used { result ≡ is_in_use self.now c }
         ensures held { result ≡ false → is_held self.now.display c ≡ false }
     {

@@ -28,7 +28,7 @@ impl World {
     }
 
     /// The key signal goes to who accepts it.
-    pub(crate) fn spawn(&mut self)
+    pub(crate) fn send_key_signal(&mut self)
         requires { length self.old.told.trace + 3 ≤ TRACE_MARKS }
         ensures { self.new ≡ all_done self.old (spawn_deeds self.old.callers.accepter) }
     {
@@ -38,7 +38,7 @@ impl World {
     }
 
     /// The attention key: every process that uses the console ends, and that shows text.
-    pub(crate) fn attend(&mut self, n: ConsoleNo)
+    pub(crate) fn secure_attention(&mut self, n: ConsoleNo)
         requires { self.old.told.trace ≡ [] }
         ensures { self.new ≡ all_done self.old (attention_deeds self.old n) }
     {

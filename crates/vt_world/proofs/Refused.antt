@@ -1,0 +1,19 @@
+-- An event that is refused has no other effect. The row stays as it is: it may speak of all consoles.
+use Rattle.std.proofs.Common.{◌≡◌, ℕ, Option, Some, Err, ap, sym, ◌∙◌}
+use Rattle.std.specs.Prelude.{Result}
+use Rattle.vt_base.specs.declared.errno.Errno.{Errno}
+use Rattle.vt_events.specs.declared.event.Event.{Event}
+use Rattle.vt_events.specs.declared.reply.Reply.{Reply}
+use Rattle.vt_world.specs.Rows.{row}
+use Rattle.vt_world.specs.State.{WorldState}
+use Rattle.vt_world.specs.Step.{Effect, Has, effect_of, own_effect, plain_answer}
+use Rattle.vt_world.specs.Tests.{first_failing, own_tests}
+
+abbrev unchanged : WorldState → Result Reply Errno → Effect
+unchanged w answer = record { world = w; answer = answer }
+
+pub is-refused : (w : WorldState) (p : ℕ) (e : Event) (errno : Errno) (given : Result Reply Errno)
+    → Some errno ≡ first_failing (own_tests w p e) → Err errno ≡ plain_answer given
+    → Has (own_effect w p e) w given
+is-refused w p e errno given is same =
+    ap (λ (refused : Option Errno). effect_of w refused (row w p e)) (sym is) ∙ ap (unchanged w) same

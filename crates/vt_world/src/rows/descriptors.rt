@@ -1,0 +1,71 @@
+//! Descriptors: they are opened and shut, written to and read from.
+ghost use Rattle.std.specs.Prelude.{◌≡◌, ◌≤◌, [], length, min};
+ghost use Rattle.vt_events.specs.declared.event.Event.TheVariants as event;
+ghost use Rattle.vt_world.specs.Spare.{HasGrid, extent, needed_grid};
+ghost use Rattle.vt_world.specs.Step.{Has, own_effect, text_of_answer};
+
+use crate::World;
+use crate::rows::answers::emptied;
+use vt_base::{Bytes, CallerNo, Errno};
+use vt_events::Reply;
+use vt_grid::Grid;
+
+/// The most bytes of one write. This project's own.
+const WRITE_LIMIT: usize = 4_096;
+
+/// The most bytes of one read. This project's own.
+const READ_LIMIT: u16 = 4_096;
+
+impl World {
+    /// Opens console `n`, or the one in front where `n` is 0, at the lowest free descriptor.
+    pub(crate) fn open(&mut self, p: CallerNo, n: u16, grid: Option<Grid>) -> Result<Reply, Errno>
+        requires { HasGrid (needed_grid (extent self.old.rows self.old.cols) (event.OpenCon n)) grid }
+        ensures { Has (own_effect self.old p (event.OpenCon n)) self.new result }
+    {
+        let c = self.named(n).ok_or(Errno::Nxio)?;
+        let fd = self.procs.add_open(p, c).ok_or(Errno::Busy)?;
+        self.allocate(c, grid);
+        Ok(Reply::Num(u32::from(fd.get())))
+    }
+
+    /// The descriptor is given back (close(2)).
+    pub(crate) fn close(&mut self, p: CallerNo, fd: u16) -> Result<Reply, Errno>
+        ensures { Has (own_effect self.old p (event.CloseFd fd)) self.new result }
+    {
+        let number = self.procs.number(p, fd).ok_or(Errno::Badf)?;
+        self.procs.shut(p, number);
+        Ok(Reply::Done)
+    }
+
+    /// Writes the bytes on the screen of the descriptor's console.
+    pub(crate) fn write(&mut self, p: CallerNo, fd: u16, b: &Bytes) -> Result<Reply, Errno>
+        requires { self.old.told.trace ≡ [] }
+        ensures { Has (own_effect self.old p (event.Write fd b.now)) self.new result }
+    {
+        let text = b.as_slice();
+        let c = self.gettable(p, fd, text.len() <= WRITE_LIMIT)?;
+        self.run(c, text);
+        Ok(Reply::Num(text.len() as u32))
+    }
+
+    /// The first bytes of the input of the descriptor's console (read(2)).
+    pub(crate) fn read_in(
+        &mut self,
+        p: CallerNo,
+        fd: u16,
+        most: u16,
+        reply: Bytes,
+    ) -> Result<Reply, Errno>
+        requires { min most 4096 ≤ reply.room }
+        ensures effect { Has (own_effect self.old p (event.ReadIn fd most)) self.new result }
+        ensures bytes { length (text_of_answer result) ≤ min most 4096 }
+    {
+        let c = self.gettable(p, fd, 1 <= most && most <= READ_LIMIT)?;
+        if self.inputs.queue(c).is_empty() {
+            return Err(Errno::Again);
+        }
+        let mut reply = emptied(reply);
+        self.inputs.take(c, &mut reply, usize::from(most));
+        Ok(Reply::Text(reply))
+    }
+}
