@@ -1,0 +1,30 @@
+//! Runs worked cases: prints each line of its input as it stands, and with it what comes of it. The head of the
+//! file `stdin` beside `src/` tells what the lines say.
+#![tactic(auto)]
+
+mod answers;
+mod calls;
+mod case;
+mod line;
+mod runs;
+mod spelling;
+mod streams;
+
+use answers::add_answer;
+use case::Case;
+use std::io;
+use std::io::{BufRead, BufReader, ErrorKind, Write};
+
+fn main(rt: HostRuntime) -> io::Result<()> {
+    let alloc = rt.alloc();
+    let mut case = Case::new(alloc);
+    let mut text = Vec::new(alloc);
+    for line in BufReader::new(alloc, rt.reader())?.lines(alloc) {
+        text.clear();
+        if add_answer(alloc, &mut case, line?.as_str(), &mut text).is_err() {
+            return Err(io::Error::from(ErrorKind::OutOfMemory));
+        }
+        io::writer(&rt).write_all(text.as_slice())?;
+    }
+    Ok(())
+}
