@@ -9,8 +9,6 @@ mod indexed;
 mod intensity;
 mod look;
 mod palette;
-#[cfg(test)]
-mod tests;
 
 pub use attr::Attr;
 pub use attribute::{attr_byte, erase_byte, swapped};

@@ -6,8 +6,6 @@ mod decoded;
 mod got;
 mod graphics;
 mod laws;
-#[cfg(test)]
-mod tests;
 mod utf8;
 
 pub use char_map::CharMap;

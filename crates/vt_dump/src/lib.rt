@@ -5,8 +5,6 @@ mod cells;
 mod dumps;
 mod form;
 mod rows;
-#[cfg(test)]
-mod tests;
 
 pub use dumps::{codes, vcs, vcsa};
 pub use rows::{add_rows, text_rows};

@@ -8,7 +8,5 @@ mod kept;
 pub mod laws;
 mod resize;
 pub mod rows;
-#[cfg(test)]
-mod tests;
 
 pub use grid::Grid;

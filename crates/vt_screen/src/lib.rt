@@ -10,8 +10,6 @@ mod report_text;
 mod saved;
 mod screen_state;
 mod stops;
-#[cfg(test)]
-mod tests;
 mod write;
 
 pub use emu::{BLANK, Emu, FEED_BYTES};

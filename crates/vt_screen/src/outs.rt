@@ -72,24 +72,3 @@ impl Default for Outs {
         Outs::new()
     }
 }
-
-#[cfg(test)]
-mod tests {
-    use super::*;
-    use crate::ReportText;
-
-    #[test]
-    fn keeps_what_is_said(rt: HostRuntime) {
-        let mut text = ReportText::new();
-        text.push(0x1B);
-        text.push(b'c');
-        assert_eq!(rt; text.as_slice(), b"\x1Bc".as_slice());
-        let mut outs = Outs::new();
-        outs.push(Out::Bell);
-        outs.push(Out::Report(text));
-        assert_eq!(rt; outs.as_slice().len(), 2);
-        assert!(rt; matches!(&outs.as_slice()[0], Out::Bell));
-        assert!(rt; ReportText::default().as_slice().is_empty());
-        assert!(rt; Outs::default().as_slice().is_empty());
-    }
-}

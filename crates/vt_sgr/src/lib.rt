@@ -5,8 +5,6 @@ mod apply_sgr;
 mod change;
 mod colour;
 mod pen;
-#[cfg(test)]
-mod tests;
 
 pub use apply_sgr::apply;
 pub use pen::Pen;

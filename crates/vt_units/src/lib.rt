@@ -2,8 +2,6 @@
 #![tactic(auto)]
 
 mod ahead;
-#[cfg(test)]
-mod ahead_tests;
 mod brief;
 mod brief_ahead;
 mod bytes;
@@ -26,8 +24,6 @@ mod sequences;
 mod stage;
 mod step;
 mod strings;
-#[cfg(test)]
-mod tests;
 mod then;
 mod unit;
 

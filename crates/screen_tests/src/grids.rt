@@ -2,12 +2,12 @@ mod plain;
 mod row_edits;
 mod stores;
 
-use crate::Grid;
 use plain::{COLS, Edit, Plain, ROWS};
 use std::alloc::Global;
 use std::test::Fail;
 use vt_base::{NoMemory, Size};
 use vt_cells::Cell;
+use vt_grid::Grid;
 
 const SIZE: Size = Size { rows: 4, cols: 3 };
 

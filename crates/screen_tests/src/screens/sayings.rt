@@ -1,10 +1,10 @@
 //! What each row of the table says beside the screen, and what it sets. The answers are those of
 //! console_codes(4) and of this project's own rules.
 use super::start;
-use crate::{Out, Outs, ScreenState};
 use std::alloc::Global;
 use std::test::Fail;
 use vt_base::{NoMemory, Size};
+use vt_screen::{Out, Outs, ScreenState};
 
 const SIZE: Size = Size { rows: 3, cols: 10 };
 

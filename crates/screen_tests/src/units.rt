@@ -1,8 +1,8 @@
-use crate::{Codes, Mode, Pending, Then, Unit};
 use Told::{
     Act, Bad, Byte, Char, Colour, ColourReset, Control, Csi, Dropped, Esc, Ignored, Private,
 };
 use std::process::Abort;
+use vt_units::{Codes, Mode, Pending, Then, Unit};
 
 // What a byte came to. A control sequence is told by its parameters and its last byte.
 #[derive(Debug, Drop, PartialEq)]

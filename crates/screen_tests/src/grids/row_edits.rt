@@ -1,8 +1,8 @@
-use crate::Grid;
 use std::alloc::Global;
 use std::test::Fail;
 use vt_base::{NoMemory, Size};
 use vt_cells::Cell;
+use vt_grid::Grid;
 
 #[derive(Clone, Copy)]
 enum Call {

@@ -1,7 +1,7 @@
-use crate::{Pen, apply};
 use std::process::Abort;
 use vt_cells::Intensity::{Bold, Dim, Normal};
 use vt_cells::{Attr, Intensity, Look};
+use vt_sgr::{Pen, apply};
 
 const PEN: Pen = Pen {
     attr: Attr {

@@ -1,11 +1,11 @@
 ghost use Rattle.std.specs.Prelude.{◌≡◌, ◌≤◌, IfOk};
 ghost use Rattle.vt_dump.specs.Dumps.{cell_count};
 
-use crate::{add_rows, codes, text_rows, vcs, vcsa};
 use std::alloc::Global;
 use std::test::Fail;
 use vt_base::{Bytes, NoMemory, Size};
 use vt_cells::Cell;
+use vt_dump::{add_rows, codes, text_rows, vcs, vcsa};
 use vt_grid::Grid;
 
 // A row of blanks that begins with one character.

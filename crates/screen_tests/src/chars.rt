@@ -1,8 +1,8 @@
-use crate::Got::{Bad, BadThen, Char, More};
-use crate::{
+use std::process::Abort;
+use vt_chars::Got::{Bad, BadThen, Char, More};
+use vt_chars::{
     CharMap, Decoded, Got, Utf8, decode, decode_four, decode_one, decode_three, decode_two,
 };
-use std::process::Abort;
 
 // What the bytes of a text are answered, one after another. A byte that is answered BadThen is
 // pushed once more, and its second answer stands behind the first.

@@ -1,5 +1,5 @@
-use crate::{Ahead, Mode, Params, Pending, Then};
 use Ahead::{Csi, Esc, Nothing};
+use vt_units::{Ahead, Mode, Params, Pending, Then};
 
 const UTF8: Mode = Mode {
     utf8: true,

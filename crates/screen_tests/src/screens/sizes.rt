@@ -1,9 +1,9 @@
 //! Screens of other sizes, and a screen that gets another size. The cells are reckoned by hand.
 use super::{has_row, start};
-use crate::BLANK;
 use std::test::Fail;
 use vt_base::Size;
 use vt_grid::Grid;
+use vt_screen::BLANK;
 
 #[test]
 fn worked_rows(rt: HostRuntime) -> Result<(), Fail> {

@@ -1,4 +1,4 @@
-use crate::{
+use vt_cells::{
     Attr, Intensity, Look, Palette, attr_byte, erase_byte, fold_bg, fold_fg, rgb_of, swapped,
 };
 

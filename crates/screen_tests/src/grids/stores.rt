@@ -1,12 +1,12 @@
 ghost use Rattle.std.specs.Prelude.{◌≡◌, ◌<◌};
 
-use crate::rows::{RowStore, Steps};
 use std::alloc::Global;
 use std::marker::Brand;
 use std::sync::ledger::{Blank, Ledger};
 use std::test::Fail;
 use vt_base::Size;
 use vt_cells::Cell;
+use vt_grid::rows::{RowStore, Steps};
 
 // A row: how many of its cells are stored, and the codes of its cells.
 type Row = (u8, [u32; 3]);

@@ -5,12 +5,12 @@ mod cursor;
 mod sayings;
 mod sizes;
 
-use crate::{Emu, Out, Outs};
 use std::alloc::Global;
 use std::test::Fail;
 use vt_base::{NoMemory, Size};
 use vt_cells::Cell;
 use vt_grid::Grid;
+use vt_screen::{Emu, Out, Outs, ReportText};
 
 const SIZE: Size = Size { rows: 3, cols: 10 };
 
@@ -168,4 +168,19 @@ fn a_text_leaves_a_state(rt: HostRuntime) -> Result<(), Fail> {
     assert_eq!(rt; (emu.state().g0, emu.state().g1), (3, 1));
     assert!(rt; !emu.state().utf8 && !emu.state().pen.alt && !emu.state().pen.toggle);
     Ok(())
+}
+
+#[test]
+fn keeps_what_is_said(rt: HostRuntime) {
+    let mut text = ReportText::new();
+    text.push(0x1B);
+    text.push(b'c');
+    assert_eq!(rt; text.as_slice(), b"\x1Bc".as_slice());
+    let mut outs = Outs::new();
+    outs.push(Out::Bell);
+    outs.push(Out::Report(text));
+    assert_eq!(rt; outs.as_slice().len(), 2);
+    assert!(rt; matches!(&outs.as_slice()[0], Out::Bell));
+    assert!(rt; ReportText::default().as_slice().is_empty());
+    assert!(rt; Outs::default().as_slice().is_empty());
 }

@@ -1,6 +1,6 @@
-use crate::Grid;
 use std::test::Fail;
 use vt_cells::Cell;
+use vt_grid::Grid;
 
 pub const ROWS: u8 = 5;
 
