@@ -8,8 +8,6 @@ mod player;
 mod rounds;
 mod run;
 mod serial;
-#[cfg(test)]
-mod tests;
 mod turn;
 
 pub use final_texts::{add_final_text, final_text};

@@ -23,8 +23,6 @@ mod reading;
 mod script_items;
 mod session;
 mod starts;
-#[cfg(test)]
-mod tests;
 mod tops;
 mod turns;
 mod walk;

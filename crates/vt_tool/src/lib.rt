@@ -12,8 +12,6 @@ mod refused_answer;
 mod screen;
 mod status;
 mod telling;
-#[cfg(test)]
-mod tests;
 mod tool;
 mod type_answer;
 mod typing;

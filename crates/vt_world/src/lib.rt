@@ -11,8 +11,6 @@ mod spare;
 mod step;
 mod terminal;
 mod terminals;
-#[cfg(test)]
-mod tests;
 mod told;
 mod wanted;
 mod world;
