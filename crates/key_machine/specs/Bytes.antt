@@ -4,8 +4,7 @@ use Rattle.std.specs.Char.{encode_utf8}
 use Rattle.std.specs.List.{flat_map}
 use Rattle.key_machine.specs.declared.key_out.KeyOut.{KeyOut}
 use Rattle.key_machine.specs.declared.key_out.KeyOut.TheVariants.{Bytes, Nothing}
-use Rattle.key_machine.specs.declared.meta.TheConstants.{ESCPREFIX}
-use Rattle.key_machine.specs.declared.mode.TheConstants.{MEDIUMRAW, UNICODE, XLATE}
+use Rattle.key_machine.specs.Numbers.{ESCPREFIX, MEDIUMRAW, UNICODE, XLATE}
 use Rattle.key_syms.specs.Act.{is_surrogate}
 
 -- bytes go out, where there are any

@@ -4,5 +4,6 @@ pub mod Compose
 pub mod Held
 pub mod Keys
 pub mod Laws
+pub mod Numbers
 pub mod Pads
 pub mod Step

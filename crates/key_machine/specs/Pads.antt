@@ -2,10 +2,7 @@
 use Rattle.std.specs.Prelude.{ℕ, Bool, ◌==◌, ◌&&◌, ◌||◌, List, [], ◌∷◌, if◌then◌else◌, slice_index}
 use Rattle.key_machine.specs.Bytes.{return_bytes}
 use Rattle.key_machine.specs.Keys.{is_on}
-use Rattle.key_machine.specs.declared.flag.TheConstants.{NUM}
-use Rattle.key_machine.specs.declared.function.TheConstants.{FIND, INSERT, NEXT, PRIOR, REMOVE, SELECT}
-use Rattle.key_machine.specs.declared.cursor.TheConstants.{DOWN, LEFT, RIGHT, UP}
-use Rattle.key_machine.specs.declared.pad.TheConstants.{ENTER}
+use Rattle.key_machine.specs.Numbers.{DOWN, ENTER, FIND, INSERT, LEFT, NEXT, NUM, PRIOR, REMOVE, RIGHT, SELECT, UP}
 use Rattle.key_machine.specs.declared.key_modes.KeyModes.{KeyModes}
 use Rattle.key_tables.specs.Tables.{Tables, func_of}
 

@@ -5,12 +5,10 @@ use Rattle.key_machine.specs.Bytes.{character_bytes, characters_bytes, idle_byte
 use Rattle.key_machine.specs.Compose.{Typed, accent_of, character, dead}
 use Rattle.key_machine.specs.Keys.{Keys, State, is_on, recorded, table_of, weight_of, with_key, without_key}
 use Rattle.key_machine.specs.Pads.{cursor_bytes, pad_bytes}
-use Rattle.key_machine.specs.declared.flag.TheConstants.{CAPS, NUM, SCROLL}
+use Rattle.key_machine.specs.Numbers.{BARE_NUM_LOCK, CAPS, CAPS_LOCK, CAPS_ON, COMPOSE, DECR_CONSOLE, INCR_CONSOLE, KEYBOARD_SIGNAL, LAST_CONSOLE, NUM, NUM_LOCK, RETURN, SAK, SCROLL, SCROLL_LOCK, UNICODE, XLATE}
 use Rattle.key_machine.specs.declared.key_modes.KeyModes.{KeyModes}
 use Rattle.key_machine.specs.declared.key_out.KeyOut.{KeyOut}
 use Rattle.key_machine.specs.declared.key_out.KeyOut.TheVariants.{Attention, Last, Next, Nothing, Prev, Spawn, Switch}
-use Rattle.key_machine.specs.declared.mode.TheConstants.{UNICODE, XLATE}
-use Rattle.key_machine.specs.declared.special.TheConstants.{BARE_NUM_LOCK, CAPS_LOCK, CAPS_ON, COMPOSE, DECR_CONSOLE, INCR_CONSOLE, KEYBOARD_SIGNAL, LAST_CONSOLE, NUM_LOCK, RETURN, SAK, SCROLL_LOCK}
 use Rattle.key_syms.specs.Act.{Act}
 use Rattle.key_syms.specs.declared.kind.TheConstants.{CHARACTER, CONSOLE, CURSOR, DEAD, FUNCTION, HOLE, LETTER, LOCK, META, MODIFIER, PAD, SPECIAL, STICKY}
 use Rattle.key_tables.specs.Tables.{Tables, entry_of, func_of, hole}

@@ -1,7 +1,7 @@
 ghost use Rattle.std.specs.Prelude.{◌≡◌, ◌≤◌, ◌^◌, [], ◌∷◌, if◌then◌else◌};
 ghost use Rattle.key_machine.specs.Bytes.{idle_bytes, out_of};
 ghost use Rattle.key_machine.specs.Keys.{is_on, table_of};
-ghost use Rattle.key_machine.specs.declared.flag.TheConstants.{NUM};
+ghost use Rattle.key_machine.specs.Numbers.{NUM};
 ghost use Rattle.key_machine.specs.Step.{action_of, acts_in, changes_flag, flips, idle_out, keeps_sticky, repeats, spent};
 
 use crate::bytes::{code_bytes, sent};

@@ -1,5 +1,14 @@
 //! Laws of the definitions: nothing of the keyboard is in them.
+ghost use Rattle.std.specs.Prelude.{◌≡◌};
 ghost use Rattle.key_machine.specs.Laws.{KeysFollow, RecordsStay};
+ghost use Rattle.key_machine.specs.Numbers as number;
+ghost use Rattle.key_machine.specs.declared.mode.TheConstants as mode;
+ghost use Rattle.key_machine.specs.declared.meta.TheConstants as meta;
+ghost use Rattle.key_machine.specs.declared.flag.TheConstants as flag;
+ghost use Rattle.key_machine.specs.declared.special.TheConstants as special;
+ghost use Rattle.key_machine.specs.declared.function.TheConstants as function;
+ghost use Rattle.key_machine.specs.declared.cursor.TheConstants as cursor;
+ghost use Rattle.key_machine.specs.declared.pad.TheConstants as pad;
 
 /// The keys that are down are those whose last event says so.
 pub fn keys_follow()
@@ -9,4 +18,41 @@ pub fn keys_follow()
 /// A key keeps the action of its press until it goes up.
 pub fn records_stay()
     ensures { RecordsStay }
+{}
+
+/// The numbers in the code are those of the definitions.
+pub fn numbers_are_kept()
+    ensures modes { (mode.RAW ≡ number.RAW)
+        × (mode.XLATE ≡ number.XLATE)
+        × (mode.MEDIUMRAW ≡ number.MEDIUMRAW)
+        × (mode.UNICODE ≡ number.UNICODE)
+        × (mode.OFF ≡ number.OFF) }
+    ensures metas { (meta.METABIT ≡ number.METABIT)
+        × (meta.ESCPREFIX ≡ number.ESCPREFIX) }
+    ensures flags { (flag.SCROLL ≡ number.SCROLL)
+        × (flag.NUM ≡ number.NUM)
+        × (flag.CAPS ≡ number.CAPS) }
+    ensures specials { (special.RETURN ≡ number.RETURN)
+        × (special.CAPS_LOCK ≡ number.CAPS_LOCK)
+        × (special.NUM_LOCK ≡ number.NUM_LOCK)
+        × (special.SCROLL_LOCK ≡ number.SCROLL_LOCK)
+        × (special.LAST_CONSOLE ≡ number.LAST_CONSOLE)
+        × (special.INCR_CONSOLE ≡ number.INCR_CONSOLE)
+        × (special.DECR_CONSOLE ≡ number.DECR_CONSOLE)
+        × (special.KEYBOARD_SIGNAL ≡ number.KEYBOARD_SIGNAL)
+        × (special.SAK ≡ number.SAK)
+        × (special.COMPOSE ≡ number.COMPOSE)
+        × (special.BARE_NUM_LOCK ≡ number.BARE_NUM_LOCK)
+        × (special.CAPS_ON ≡ number.CAPS_ON) }
+    ensures functions { (function.FIND ≡ number.FIND)
+        × (function.INSERT ≡ number.INSERT)
+        × (function.REMOVE ≡ number.REMOVE)
+        × (function.SELECT ≡ number.SELECT)
+        × (function.PRIOR ≡ number.PRIOR)
+        × (function.NEXT ≡ number.NEXT) }
+    ensures cursors { (cursor.DOWN ≡ number.DOWN)
+        × (cursor.LEFT ≡ number.LEFT)
+        × (cursor.RIGHT ≡ number.RIGHT)
+        × (cursor.UP ≡ number.UP) }
+    ensures pads { pad.ENTER ≡ number.ENTER }
 {}

@@ -28,4 +28,4 @@ pub use key_bytes::KeyBytes;
 pub use key_modes::KeyModes;
 pub use key_out::KeyOut;
 pub use keyboard::Keyboard;
-pub use laws::{keys_follow, records_stay};
+pub use laws::{keys_follow, numbers_are_kept, records_stay};

@@ -1,4 +1,4 @@
-ghost use Rattle.std.specs.Prelude.{◌≡◌, ◌+◌, ◌<◌, ◌≤◌, [], ◌++◌, length, max, take, IfOk, OnOk, OnErr};
+ghost use Rattle.std.specs.Prelude.{◌≡◌, ◌+◌, ◌<◌, ◌≤◌, [], ◌∷◌, ◌++◌, length, max, take, IfOk, OnOk, OnErr};
 
 use crate::NoMemory;
 use std::alloc::Global;
@@ -76,7 +76,19 @@ impl Bytes {
         self.room -= b.len();
     }
 
-    /// Takes away all bytes behind the first `n`; they leave their room.
+    /// Adds a byte at the end, in the room that is there.
+    pub fn push(&mut self, b: u8)
+        requires { 0 < self.old.room }
+        ensures bytes { self.new.bytes ≡ self.old.bytes ++ b ∷ [] }
+        ensures room { self.new.room + 1 ≡ self.old.room }
+    {
+        let added = self.items.push(b);
+        prove!(added.is_ok());
+        let _ = added;
+        self.room -= 1;
+    }
+
+    /// Takes away all bytes after the first `n`; they leave their room.
     pub fn truncate(&mut self, n: usize)
         ensures bytes { self.new.bytes ≡ take n self.old.bytes }
         ensures room { self.new.room + length self.new.bytes ≡ self.old.room + length self.old.bytes }
@@ -114,8 +126,9 @@ mod tests {
         assert_eq!(rt; text.room(), 0);
         text.grow(rt.alloc(), 3)?;
         text.append(b"c");
-        assert_eq!(rt; text.as_slice(), b"abc".as_slice());
-        assert_eq!(rt; text.room(), 2);
+        text.push(b'd');
+        assert_eq!(rt; text.as_slice(), b"abcd".as_slice());
+        assert_eq!(rt; text.room(), 1);
         assert_eq!(rt; Bytes::with_room(rt.alloc(), 5)?.room(), 5);
         assert_eq!(rt; NoMemory.to_string(rt.alloc())?.as_str(), "no memory");
         Ok(())

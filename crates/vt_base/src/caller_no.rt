@@ -1,6 +1,9 @@
-ghost use Rattle.std.specs.Prelude.{◌≡◌, ◌≤◌};
+ghost use Rattle.std.specs.List.{range_with_len};
+ghost use Rattle.std.specs.Prelude.{◌≡◌, ◌==◌, ◌≤◌};
+ghost use Rattle.vt_base.specs.Limits.{callers, processes};
 ghost use Rattle.vt_base.specs.Range.{in_range};
 
+use crate::{CALLERS, PROCESSES};
 use std::marker::Model;
 
 /// The number of a caller, from 0 to 64: 0 is the keyboard, the others are processes.
@@ -22,15 +25,31 @@ impl Model for CallerNo {
 }
 
 impl CallerNo {
+    /// The keyboard.
+    pub const KEYBOARD: CallerNo = CallerNo { n: 0 };
+
     /// The caller of this number, where there is one.
     pub fn new(n: u16) -> Option<CallerNo>
-        ensures { result ≡ in_range 0 64 n }
+        ensures { result ≡ in_range 0 processes n }
     {
-        if 64 < n {
+        if PROCESSES < usize::from(n) {
             return None;
         }
         Some(CallerNo { n: n as u8 })
     }
+
+    /// The caller of a number that is known to be one's.
+    pub fn numbered(n: u16) -> CallerNo
+        requires { n ≤ 64 }
+        ensures { result ≡ n }
+    {
+        CallerNo { n: n as u8 }
+    }
+
+    /// Nothing is done: the range of the number is known from here on.
+    pub fn stays_in_range(self)
+        ensures { self ≤ 64 }
+    {}
 
     /// The number.
     pub fn get(self) -> u16
@@ -38,5 +57,33 @@ impl CallerNo {
         ensures high { result ≤ 64 }
     {
         u16::from(self.n)
+    }
+
+    pub fn is_keyboard(self) -> bool
+        ensures { result ≡ (self == 0) }
+    {
+        self.n == 0
+    }
+
+    /// All callers, rising: the keyboard, then the processes.
+    pub fn all() -> [CallerNo; CALLERS]
+        ensures { result ≡ range_with_len 0 callers }
+    {
+        let mut all = [CallerNo::KEYBOARD; CALLERS];
+        for i in 0..CALLERS {
+            all[i] = CallerNo { n: i as u8 };
+        }
+        all
+    }
+
+    /// All processes, rising.
+    pub fn processes() -> [CallerNo; PROCESSES]
+        ensures { result ≡ range_with_len 1 processes }
+    {
+        let mut all = [CallerNo { n: 1 }; PROCESSES];
+        for i in 0..PROCESSES {
+            all[i] = CallerNo { n: i as u8 + 1 };
+        }
+        all
     }
 }

@@ -1,6 +1,9 @@
+ghost use Rattle.std.specs.List.{range_with_len};
 ghost use Rattle.std.specs.Prelude.{◌≡◌, ◌≤◌};
+ghost use Rattle.vt_base.specs.Limits.{consoles};
 ghost use Rattle.vt_base.specs.Range.{in_range};
 
+use crate::CONSOLES;
 use std::marker::Model;
 
 /// The number of a console, from 1 to 63.
@@ -24,13 +27,28 @@ impl Model for ConsoleNo {
 impl ConsoleNo {
     /// The console of this number, where there is one.
     pub fn new(n: u16) -> Option<ConsoleNo>
-        ensures { result ≡ in_range 1 63 n }
+        ensures { result ≡ in_range 1 consoles n }
     {
-        if n < 1 || 63 < n {
+        if n < 1 || CONSOLES < usize::from(n) {
             return None;
         }
         Some(ConsoleNo { n: n as u8 })
     }
+
+    /// The console of a number that is known to be one's.
+    pub fn numbered(n: u16) -> ConsoleNo
+        requires low { 1 ≤ n }
+        requires high { n ≤ 63 }
+        ensures { result ≡ n }
+    {
+        ConsoleNo { n: n as u8 }
+    }
+
+    /// Nothing is done: the range of the number is known from here on.
+    pub fn stays_in_range(self)
+        ensures low { 1 ≤ self }
+        ensures high { self ≤ 63 }
+    {}
 
     /// The number.
     pub fn get(self) -> u16
@@ -39,5 +57,16 @@ impl ConsoleNo {
         ensures high { result ≤ 63 }
     {
         u16::from(self.n)
+    }
+
+    /// All consoles, rising.
+    pub fn all() -> [ConsoleNo; CONSOLES]
+        ensures { result ≡ range_with_len 1 consoles }
+    {
+        let mut all = [ConsoleNo { n: 1 }; CONSOLES];
+        for i in 0..CONSOLES {
+            all[i] = ConsoleNo { n: i as u8 + 1 };
+        }
+        all
     }
 }

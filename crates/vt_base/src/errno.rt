@@ -1,5 +1,6 @@
-ghost use Rattle.std.specs.Prelude.{◌≡◌};
+ghost use Rattle.std.specs.Prelude.{◌≡◌, ◌≢◌, IfSome, IfNone};
 ghost use Rattle.vt_base.specs.Errno.{number_of};
+ghost use Rattle.vt_base.specs.declared.errno.Errno.{Errno};
 
 /// Why a call is refused. The numbers are those of Linux (errno(3)).
 #[derive(Clone, Copy, Debug, PartialEq, Eq)]
@@ -25,6 +26,25 @@ pub enum Errno {
 }
 
 impl Errno {
+    /// The error that has this number.
+    pub fn of(n: u16) -> Option<Errno>
+        ensures found { IfSome result (λ e. number_of e ≡ n) }
+        ensures none { IfNone result ((e : Errno) → number_of e ≢ n) }
+    {
+        match n {
+            1 => Some(Errno::Perm),
+            3 => Some(Errno::Srch),
+            4 => Some(Errno::Intr),
+            6 => Some(Errno::Nxio),
+            9 => Some(Errno::Badf),
+            11 => Some(Errno::Again),
+            16 => Some(Errno::Busy),
+            22 => Some(Errno::Inval),
+            25 => Some(Errno::Notty),
+            _ => None,
+        }
+    }
+
     /// The number that Linux gives it.
     pub fn number(self) -> u16
         ensures { result ≡ number_of self }

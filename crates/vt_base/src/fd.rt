@@ -1,6 +1,8 @@
-ghost use Rattle.std.specs.Prelude.{◌≡◌, ◌≤◌};
+ghost use Rattle.std.specs.Prelude.{◌≡◌, ◌-◌, ◌≤◌};
+ghost use Rattle.vt_base.specs.Limits.{descriptors};
 ghost use Rattle.vt_base.specs.Range.{in_range};
 
+use crate::DESCRIPTORS;
 use std::marker::Model;
 
 /// A descriptor of a process, from 0 to 15.
@@ -24,13 +26,26 @@ impl Model for Fd {
 impl Fd {
     /// The descriptor of this number, where there is one.
     pub fn new(n: u16) -> Option<Fd>
-        ensures { result ≡ in_range 0 15 n }
+        ensures { result ≡ in_range 0 (descriptors - 1) n }
     {
-        if 15 < n {
+        if DESCRIPTORS <= usize::from(n) {
             return None;
         }
         Some(Fd { n: n as u8 })
     }
+
+    /// The descriptor of a number that is known to be one's.
+    pub fn numbered(n: u16) -> Fd
+        requires { n ≤ 15 }
+        ensures { result ≡ n }
+    {
+        Fd { n: n as u8 }
+    }
+
+    /// Nothing is done: the range of the number is known from here on.
+    pub fn stays_in_range(self)
+        ensures { self ≤ 15 }
+    {}
 
     /// The number.
     pub fn get(self) -> u16

@@ -1,7 +1,20 @@
 //! Laws of the definitions.
+ghost use Rattle.std.specs.Prelude.{◌≡◌};
+ghost use Rattle.vt_base.specs.Limits.{callers, consoles, descriptors, piece_bytes, processes, signals};
 ghost use Rattle.vt_base.specs.Signals.{WithAddsOne};
+ghost use Rattle.vt_base.specs.declared.limits.TheConstants.{CALLERS, CONSOLES, DESCRIPTORS, PIECE_BYTES, PROCESSES, SIGNALS};
 
 /// A set with a signal has it, and else what it had.
 pub fn with_adds_one()
     ensures { WithAddsOne }
+{}
+
+/// The limits in the code are those of the definitions.
+pub fn limits_are_kept()
+    ensures consoles { CONSOLES ≡ consoles }
+    ensures signals { SIGNALS ≡ signals }
+    ensures processes { PROCESSES ≡ processes }
+    ensures callers { CALLERS ≡ callers }
+    ensures descriptors { DESCRIPTORS ≡ descriptors }
+    ensures piece { PIECE_BYTES ≡ piece_bytes }
 {}

@@ -1,5 +1,5 @@
-//! What every layer of the console shares: numbers, errors, byte texts, sizes, and the answer for
-//! want of memory.
+//! What every layer of the console shares: numbers and their limits, errors, byte texts, sizes, and
+//! the answer where memory ran out.
 #![tactic(auto)]
 
 mod bytes;
@@ -7,10 +7,12 @@ mod caller_no;
 mod console_no;
 mod console_set;
 mod decimal;
+mod digits;
 mod errno;
 mod fd;
 mod inval;
 mod laws;
+mod limits;
 mod no_memory;
 mod sig_set;
 mod signal;
@@ -22,12 +24,17 @@ pub use caller_no::CallerNo;
 pub use console_no::ConsoleNo;
 pub use console_set::is_among;
 pub use decimal::parse_decimal;
+pub use digits::{hex_value, lower_hex_value};
 pub use errno::Errno;
 pub use fd::Fd;
 pub use inval::Inval;
-pub use laws::with_adds_one;
+pub use laws::{limits_are_kept, with_adds_one};
+pub use limits::{CALLERS, CONSOLES, DESCRIPTORS, PIECE_BYTES, PROCESSES, SIGNALS};
 pub use no_memory::NoMemory;
 pub use sig_set::SigSet;
 pub use signal::Signal;
 pub use size::Size;
 pub use vt_mode::VtMode;
+
+#[cfg(test)]
+mod tests;

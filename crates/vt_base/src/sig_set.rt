@@ -1,7 +1,7 @@
-ghost use Rattle.std.specs.Prelude.{◌≡◌, ◌^◌, ◌-◌};
-ghost use Rattle.vt_base.specs.Signals.{has_signal, with_signal};
+ghost use Rattle.std.specs.Prelude.{◌≡◌, ◌^◌, ◌-◌, ◌≤◌, IfSome, IfNone};
+ghost use Rattle.vt_base.specs.Signals.{HasNoneFrom, IsFirstFrom, has_signal, with_signal};
 
-use crate::Signal;
+use crate::{SIGNALS, Signal};
 use bitflags::{Flag, Flags};
 use std::marker::Model;
 
@@ -75,6 +75,29 @@ impl SigSet {
         ensures { result ≡ self }
     {
         self.bits
+    }
+
+    /// The set that is this number.
+    pub fn from_bits(bits: u64) -> SigSet
+        ensures { result ≡ bits }
+    {
+        SigSet { bits }
+    }
+
+    /// The first signal of the set from number `n` on.
+    pub fn first_from(self, n: u16) -> Option<Signal>
+        requires { 1 ≤ n }
+        ensures found { IfSome result (IsFirstFrom self n) }
+        ensures none { IfNone result (HasNoneFrom self n) }
+    {
+        if SIGNALS < usize::from(n) {
+            return None;
+        }
+        let left = self.bits() >> (n - 1);
+        if left == 0 {
+            return None;
+        }
+        Signal::new(n + left.trailing_zeros() as u16)
     }
 }
 

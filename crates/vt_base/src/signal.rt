@@ -1,6 +1,8 @@
 ghost use Rattle.std.specs.Prelude.{◌≡◌, ◌≤◌};
+ghost use Rattle.vt_base.specs.Limits.{signals};
 ghost use Rattle.vt_base.specs.Range.{in_range};
 
+use crate::SIGNALS;
 use std::marker::Model;
 
 /// The number of a signal, from 1 to 64.
@@ -24,13 +26,28 @@ impl Model for Signal {
 impl Signal {
     /// The signal of this number, where there is one.
     pub fn new(n: u16) -> Option<Signal>
-        ensures { result ≡ in_range 1 64 n }
+        ensures { result ≡ in_range 1 signals n }
     {
-        if n < 1 || 64 < n {
+        if n < 1 || SIGNALS < usize::from(n) {
             return None;
         }
         Some(Signal { n: n as u8 })
     }
+
+    /// The signal of a number that is known to be one's.
+    pub fn numbered(n: u16) -> Signal
+        requires low { 1 ≤ n }
+        requires high { n ≤ 64 }
+        ensures { result ≡ n }
+    {
+        Signal { n: n as u8 }
+    }
+
+    /// Nothing is done: the range of the number is known from here on.
+    pub fn stays_in_range(self)
+        ensures low { 1 ≤ self }
+        ensures high { self ≤ 64 }
+    {}
 
     /// The number.
     pub fn get(self) -> u16

@@ -1,0 +1,56 @@
+use super::*;
+use std::test::Fail;
+
+#[test]
+fn numbers_are_listed_rising(rt: HostRuntime) {
+    let consoles = ConsoleNo::all();
+    assert_eq!(rt; consoles[0].get(), 1);
+    assert_eq!(rt; consoles[62].get(), 63);
+    let callers = CallerNo::all();
+    assert_eq!(rt; callers[0], CallerNo::KEYBOARD);
+    assert!(rt; callers[0].is_keyboard());
+    assert!(rt; !callers[64].is_keyboard());
+    assert_eq!(rt; CallerNo::processes()[0], callers[1]);
+}
+
+#[test]
+fn hexadecimal_digits_are_read(rt: HostRuntime) {
+    let cases = [
+        (b'0', Some(0), Some(0)),
+        (b'9', Some(9), Some(9)),
+        (b'a', Some(10), Some(10)),
+        (b'f', Some(15), Some(15)),
+        (b'A', Some(10), None),
+        (b'F', Some(15), None),
+        (b'G', None, None),
+        (b'g', None, None),
+        (b'/', None, None),
+        (b':', None, None),
+    ];
+    for (b, either, lower) in cases {
+        assert_eq!(rt; hex_value(b), either, "{b}");
+        assert_eq!(rt; lower_hex_value(b), lower, "{b}");
+    }
+}
+
+#[test]
+fn signals_of_a_set_are_found(rt: HostRuntime) -> Result<(), Fail> {
+    let first = Signal::new(1).ok_or("none")?;
+    let last = Signal::new(64).ok_or("none")?;
+    let set = SigSet::from_bits(0x8000_0000_0000_0001);
+    assert_eq!(rt; set.first_from(1), Some(first));
+    assert_eq!(rt; set.first_from(2), Some(last));
+    assert_eq!(rt; set.first_from(64), Some(last));
+    assert_eq!(rt; set.first_from(65), None);
+    assert_eq!(rt; SigSet::empty().with(first).first_from(2), None);
+    Ok(())
+}
+
+// errno(3) on Linux: EPERM is 1, ENOTTY 25, and ENOENT, which is 2, isn't among these.
+#[test]
+fn errors_are_found_by_number(rt: HostRuntime) {
+    assert_eq!(rt; Errno::of(1), Some(Errno::Perm));
+    assert_eq!(rt; Errno::of(25), Some(Errno::Notty));
+    assert_eq!(rt; Errno::of(2), None);
+    assert_eq!(rt; Errno::of(0), None);
+}
