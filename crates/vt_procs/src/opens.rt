@@ -2,10 +2,7 @@ ghost use Rattle.std.specs.Prelude.{◌≡◌, ◌<◌, IfSome, is_some, length,
 ghost use Rattle.vt_procs.specs.Callers.{has_open, is_console, lowest_free, with_open};
 
 use std::marker::Model;
-use vt_base::{ConsoleNo, Fd};
-
-/// How many descriptors a caller can have.
-const DESCRIPTORS: usize = 16;
+use vt_base::{ConsoleNo, DESCRIPTORS, Fd};
 
 /// The console of each descriptor of a caller.
 #[derive(Clone, Copy, Debug)]

@@ -5,15 +5,12 @@ ghost use Rattle.vt_procs.specs.Tickets.{accepting};
 use crate::opens::NO_OPENS;
 use crate::{ProcStart, Process, Waiting};
 use std::marker::Model;
-use vt_base::{CallerNo, ConsoleNo, Fd, SigSet, Signal};
-
-/// The places for callers by their numbers.
-pub(crate) const PLACES: usize = 65;
+use vt_base::{CALLERS, CallerNo, ConsoleNo, Fd, SigSet, Signal};
 
 /// All callers: the keyboard, which is number 0, and the processes.
 #[derive(Debug, Drop)]
 pub struct Procs {
-    pub(crate) callers: [Process; PLACES],
+    pub(crate) callers: [Process; CALLERS],
     pub(crate) accepter: Option<(CallerNo, Signal)>,
 }
 
@@ -34,8 +31,8 @@ impl Procs {
     pub fn start(list: &[ProcStart]) -> Procs
         ensures { result ≡ callers_of list.now }
     {
-        let mut callers = [plain_caller(false, 0, false); PLACES];
-        for p in 0..PLACES {
+        let mut callers = [plain_caller(false, 0, false); CALLERS];
+        for p in 0..CALLERS {
             callers[p] = starting(list, p);
         }
         Procs {

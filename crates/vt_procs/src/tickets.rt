@@ -7,9 +7,8 @@ ghost use Rattle.vt_procs.specs.declared.waited.Waited.{Waited};
 ghost use Rattle.vt_procs.specs.declared.waiting.Waiting.{Waiting};
 
 use crate::ending::Ending;
-use crate::procs::PLACES;
 use crate::{Process, Procs, Ticket, Waited, Waiting};
-use vt_base::{CallerNo, ConsoleNo, SigSet, Signal};
+use vt_base::{CALLERS, CallerNo, ConsoleNo, SigSet, Signal};
 
 impl Procs {
     /// A signal is pending for `p`, and its open ticket ends. Signal 9 isn't for this: it ends its
@@ -104,10 +103,10 @@ impl Procs {
 }
 
 // Ends the open tickets of all callers that the reason ends.
-fn end_tickets(callers: &mut [Process; PLACES], ending: &Ending)
+fn end_tickets(callers: &mut [Process; CALLERS], ending: &Ending)
     ensures { callers.new ≡ all_ended_by ending.now callers.old }
 {
-    for p in 0..PLACES {
+    for p in 0..CALLERS {
         callers[p].waiting = ended_by(ending, &callers[p].waiting);
     }
 }

@@ -6,7 +6,7 @@ use Rattle.vt_switch.proofs.Owners.{owners_live}
 use Rattle.vt_switch.proofs.Reasons.{allowed, ask, carry, moment, since_more}
 use Rattle.vt_switch.specs.Acts.{SwitchAct, Allocate, Request, Release, SetMode, SetKd, Lock, Free, End}
 use Rattle.vt_switch.specs.Law.{AllOrdered, DisplayLaw, IsExplained, IsLawful, OwnersLive, OwnersStayLive, TargetLaw, WasAskedFor}
-use Rattle.vt_switch.specs.Moments.{Core, Moment, after_entries, all_after, core_after, history, is_ordered, is_request, settles, told}
+use Rattle.vt_switch.specs.Moments.{Core, Moment, after_entries, all_after, core_after, history, is_ordered, is_request, settles, with_acts}
 
 -- between two acts: what waits is explained, owners live, and every hop so far was allowed
 record Good (i : ℕ) (k : Core) (h : List Moment) : Type 0 where
@@ -85,7 +85,7 @@ step e asked k h act ordered good = record {
 
 entry : (e : ℕ) (asked : Bool) (k : Core) (acts : List SwitchAct) (h : List Moment)
     → is_ordered asked acts ≡ true → Good (bound asked e) k h
-    → Good (e + 1) (all_after k acts) (told e k acts h)
+    → Good (e + 1) (all_after k acts) (with_acts e k acts h)
 entry e asked k [] h ordered good = record {
   explained = explained_more (bound asked e) (e + 1) k h (bound_within asked e) good.explained;
   owners = good.owners;
@@ -106,9 +106,9 @@ entries i k [] h ordered good = record {
 }
 entries i k (acts ∷ list) h ordered good =
     let after : Core = after_entries (all_after k acts) list in
-    let more : List Moment = history (i + 1) (all_after k acts) list (told i k acts h) in
+    let more : List Moment = history (i + 1) (all_after k acts) list (with_acts i k acts h) in
     let all : Good (i + 1 + length list) after more =
-    entries (i + 1) (all_after k acts) list (told i k acts h) ordered.1
+    entries (i + 1) (all_after k acts) list (with_acts i k acts h) ordered.1
     (entry i false k acts h ordered.0 good) in
     record {
       explained = explained_more (i + 1 + length list) (i + length (acts ∷ list)) after more

@@ -73,10 +73,10 @@ marks k act = own_marks k act ++ hop_marks (core_after k act) (hop_of k.display 
 -- the hops of a trace
 abbrev pub hops : List Mark → List Hop
 hops [] = []
-hops (mark.Asked n ∷ told) = hops told
-hops (mark.Raised p signal ∷ told) = hops told
-hops (mark.Hopped hop ∷ told) = hop ∷ hops told
-hops (mark.Ended p ∷ told) = hops told
+hops (mark.Asked n ∷ more) = hops more
+hops (mark.Raised p signal ∷ more) = hops more
+hops (mark.Hopped hop ∷ more) = hop ∷ hops more
+hops (mark.Ended p ∷ more) = hops more
 
 -- an act at its time: the entry of the history that it belongs to, and the core just before it
 pub record Moment : Type 0 where
@@ -96,16 +96,16 @@ all_after k [] = k
 all_after k (act ∷ acts) = all_after (core_after k act) acts
 
 -- the moments of an entry in front of earlier ones: the newest comes first
-abbrev pub told : ℕ → Core → List SwitchAct → List Moment → List Moment
-told i k [] earlier = earlier
-told i k (act ∷ acts) earlier =
-    told i (core_after k act) acts (record { entry = i; before = k; act = act } ∷ earlier)
+abbrev pub with_acts : ℕ → Core → List SwitchAct → List Moment → List Moment
+with_acts i k [] earlier = earlier
+with_acts i k (act ∷ acts) earlier =
+    with_acts i (core_after k act) acts (record { entry = i; before = k; act = act } ∷ earlier)
 
 -- the moments of a list of entries, counted from i
 abbrev pub history : ℕ → Core → List (List SwitchAct) → List Moment → List Moment
 history i k [] earlier = earlier
 history i k (acts ∷ entries) earlier =
-    history (i + 1) (all_after k acts) entries (told i k acts earlier)
+    history (i + 1) (all_after k acts) entries (with_acts i k acts earlier)
 
 -- the core after the acts of all entries
 abbrev pub after_entries : Core → List (List SwitchAct) → Core

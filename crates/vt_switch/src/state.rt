@@ -5,10 +5,10 @@ ghost use Rattle.vt_switch.specs.Calls.{allocate, first_display};
 
 use crate::{Console, Handling, Words};
 use std::marker::Model;
-use vt_base::{ConsoleNo, is_among};
+use vt_base::{CONSOLES, ConsoleNo, is_among};
 
 /// The places for consoles by their numbers, of which 0 stays free.
-pub(crate) const PLACES: usize = 64;
+pub(crate) const PLACES: usize = CONSOLES + 1;
 
 /// What a new console has.
 pub(crate) const FRESH: Console = Console {
@@ -61,7 +61,7 @@ impl Switch {
         requires { IsFitSet allocated front }
         ensures { result ≡ first_display allocated front }
     {
-        let _front = front.get();
+        front.stays_in_range();
         let mut consoles = [None; PLACES];
         fill(&mut consoles, allocated);
         Switch {

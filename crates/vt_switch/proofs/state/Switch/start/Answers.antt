@@ -8,7 +8,7 @@ use Rattle.vt_switch.proofs.state.Switch.start.Goals as goal
 pub invariant_of-result : goal.invariant_of-result
 invariant_of-result c =
     let within : c.args.front < 64 =
-    omega (arith, c.get-front.ensures.same, c.get-front.ensures.high) in
+    omega (arith, c.stays_in_range.ensures.high) in
     record {
       has_front = subst
           (λ (consoles : List (Option Console)).
