@@ -3,20 +3,15 @@
 
 mod answer;
 mod command;
+mod commands;
 mod intake;
-mod keys_answer;
-mod play_answer;
 mod read_end;
 mod reading;
-mod refused_answer;
-mod screen;
 mod status;
 mod telling;
 #[cfg(test)]
 mod tests;
 mod tool;
-mod type_answer;
-mod typing;
 mod words;
 mod writing;
 
