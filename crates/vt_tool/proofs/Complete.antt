@@ -13,7 +13,7 @@ use Rattle.vt_tool.specs.declared.command.Command.{Command}
 use Rattle.vt_tool.specs.declared.intake.Intake.{Intake}
 use Rattle.vt_tool.specs.declared.intake.Intake.TheVariants.{ToEnd}
 use Rattle.vt_tool.specs.declared.status.Status.{Status}
-use Rattle.vt_tool.specs.declared.status.Status.TheVariants.{Usage, ReadFault, WriteFault, NoMemory, TooLong}
+use Rattle.vt_tool.specs.declared.status.Status.TheVariants.{Fine, Usage, ReadFault, WriteFault, NoMemory, Refused, TooLong, JournalFull}
 
 -- two commands of the same words are one
 one_command : (known : List Form) (words : List (List ℕ)) (a b : Command)
@@ -100,7 +100,11 @@ module _ (known : List Form) (words : List (List ℕ)) (src src' out out' : Stre
         (subst (λ (c : Command). PassesLimit (intake_of c) src src') same holds.0))
     completed NoMemory is begins = inl is
     completed WriteFault is (other, spelled', holds) = absurd (no_write holds.0)
-    completed own is (other, spelled', holds) = inr (answered other own is spelled' holds)
+    completed Fine is (other, spelled', holds) = inr (answered other Fine is spelled' holds)
+    completed (Refused code a b) is (other, spelled', holds) =
+        inr (answered other (Refused code a b) is spelled' holds)
+    completed (JournalFull full) is (other, spelled', holds) =
+        inr (answered other (JournalFull full) is spelled' holds)
 
 pub run-completes : (known : List Form) (words : List (List ℕ)) (old new : Streams) (status : Status)
     → ProgramRun known words old new status → Completes known words old new status
