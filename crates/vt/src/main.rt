@@ -24,7 +24,7 @@ fn main(rt: HostRuntime) -> ExitCode {
     ExitCode::from(status.number())
 }
 
-// The words behind the program's name. One that isn't UTF-8, or is longer than any form's, counts
+// The words after the program's name. One that isn't UTF-8, or is longer than any form's, counts
 // as the empty word.
 fn words_of(alloc: Global, env: &impl Env) -> Result<Vec<String>, NoMemory> {
     let mut words = Vec::new(alloc);

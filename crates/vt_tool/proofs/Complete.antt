@@ -1,73 +1,24 @@
 -- A run is complete: where a known command's input is there and no fault comes, the run has its
 -- outcome.
 use Rattle.std.proofs.Common.{◌≡◌, ℕ, ◌⊎◌, inl, inr, List, [], ◌∷◌, ◌++◌, length, Option, Some, None, refl, sym, ap, ◌∙◌, subst, append-nil, arith, length-append, ⊎_elim}
-use Rattle.std.specs.Prelude.{codes, decimal, get_or}
-use Rattle.std.proofs.lemmas.Fmt.{decimal_injective}
 use Rattle.std.specs.Io.KnownBytes.{Appends, Consumes, IsAtEnd}
 use Rattle.vt_io.specs.Faults.{Rose}
 use Rattle.vt_io.specs.Stream.{Stream}
-use Rattle.vt_tool.specs.Input.{intake_of, ReadsAll, StopsAtFault, PassesLimit, Offers}
-use Rattle.vt_tool.specs.Outcome.{Outcome, Gives}
-use Rattle.vt_tool.specs.Run.{Answers, Begins, Tells, ProgramRun, Completes}
-use Rattle.vt_tool.specs.Words.{AreWordsOf, words_of}
+use Rattle.vt_tool.specs.Commands.{Gives, intake_of}
+use Rattle.vt_tool.specs.Input.{ReadsAll, StopsAtFault, PassesLimit, Offers}
+use Rattle.vt_tool.specs.Outcome.{Outcome}
+use Rattle.vt_tool.specs.Run.{Answers, Begins, Completes, ProgramRun, Streams, Tells}
+use Rattle.vt_tool.specs.Words.{Form, command_of}
 use Rattle.vt_tool.specs.declared.command.Command.{Command}
-use Rattle.vt_tool.specs.declared.command.Command.TheVariants.{Screen, Keys, Play, Typing}
 use Rattle.vt_tool.specs.declared.intake.Intake.{Intake}
 use Rattle.vt_tool.specs.declared.intake.Intake.TheVariants.{ToEnd}
 use Rattle.vt_tool.specs.declared.status.Status.{Status}
 use Rattle.vt_tool.specs.declared.status.Status.TheVariants.{Fine, Usage, ReadFault, WriteFault, NoMemory, Refused, TooLong, JournalFull}
 
--- the first letter of a command's name
-abbrev initial : List (List ℕ) → ℕ
-initial words = get_or (get_or words 0 []) 0 0
-
-same_initial : (a b : Command) (words : List (List ℕ)) → AreWordsOf a words → AreWordsOf b words
-    → initial (words_of a) ≡ initial (words_of b)
-same_initial a b words first second = ap initial (sym first.spelled ∙ second.spelled)
-
 -- two commands of the same words are one
-one_command : (a b : Command) (words : List (List ℕ)) → AreWordsOf a words → AreWordsOf b words
-    → a ≡ b
-one_command (Screen rows cols) (Screen rows' cols') words first second =
-    let same : codes "screen" ∷ decimal rows ∷ decimal cols ∷ []
-    ≡ codes "screen" ∷ decimal rows' ∷ decimal cols' ∷ [] =
-    sym first.spelled ∙ second.spelled in
-    let tall : decimal rows ≡ decimal rows' = cc in
-    let wide : decimal cols ≡ decimal cols' = cc in
-    let fit = first.fit in
-    let fit' = second.fit in
-    let same_rows : rows ≡ rows' =
-    decimal_injective rows rows' (omega (arith, fit.0.1)) (omega (arith, fit'.0.1)) tall in
-    let same_cols : cols ≡ cols' =
-    decimal_injective cols cols' (omega (arith, fit.1.1)) (omega (arith, fit'.1.1)) wide in
-    λ i. Screen (same_rows i) (same_cols i)
-one_command (Screen rows cols) Keys words first second =
-    let clash : 115 ≡ 107 = same_initial _ _ words first second in absurd (omega (arith, clash))
-one_command (Screen rows cols) Play words first second =
-    let clash : 115 ≡ 112 = same_initial _ _ words first second in absurd (omega (arith, clash))
-one_command (Screen rows cols) Typing words first second =
-    let clash : 115 ≡ 116 = same_initial _ _ words first second in absurd (omega (arith, clash))
-one_command Keys (Screen rows cols) words first second =
-    let clash : 107 ≡ 115 = same_initial _ _ words first second in absurd (omega (arith, clash))
-one_command Keys Keys words first second = refl
-one_command Keys Play words first second =
-    let clash : 107 ≡ 112 = same_initial _ _ words first second in absurd (omega (arith, clash))
-one_command Keys Typing words first second =
-    let clash : 107 ≡ 116 = same_initial _ _ words first second in absurd (omega (arith, clash))
-one_command Play (Screen rows cols) words first second =
-    let clash : 112 ≡ 115 = same_initial _ _ words first second in absurd (omega (arith, clash))
-one_command Play Keys words first second =
-    let clash : 112 ≡ 107 = same_initial _ _ words first second in absurd (omega (arith, clash))
-one_command Play Play words first second = refl
-one_command Play Typing words first second =
-    let clash : 112 ≡ 116 = same_initial _ _ words first second in absurd (omega (arith, clash))
-one_command Typing (Screen rows cols) words first second =
-    let clash : 116 ≡ 115 = same_initial _ _ words first second in absurd (omega (arith, clash))
-one_command Typing Keys words first second =
-    let clash : 116 ≡ 107 = same_initial _ _ words first second in absurd (omega (arith, clash))
-one_command Typing Play words first second =
-    let clash : 116 ≡ 112 = same_initial _ _ words first second in absurd (omega (arith, clash))
-one_command Typing Typing words first second = refl
+one_command : (known : List Form) (words : List (List ℕ)) (a b : Command)
+    → command_of known words ≡ Some a → command_of known words ≡ Some b → a ≡ b
+one_command known words a b first second = cc
 
 -- a source that stopped at a fault has counted it
 stop-rose : (i : Intake) (src src' : Stream) → StopsAtFault i src src' → Rose src.faults src'.faults
@@ -111,10 +62,10 @@ tells-first : (first : Status) (err err' : Stream) (status : Status)
 tells-first first err err' status none tells =
     ⊎_elim (λ told. told.0) (λ failed. absurd (none failed.2)) tells
 
-module _ (IsKnown : Command → Type 0) (words : List (List ℕ)) (src src' out out' : Stream)
-    (status : Status) (command : Command) (input : List ℕ) (known : IsKnown command)
-    (spelled : AreWordsOf command words) (offered : Offers (intake_of command) src input)
-    (no_read : ¬ Rose src.faults src'.faults) (no_write : ¬ Rose out.faults out'.faults)
+module _ (known : List Form) (words : List (List ℕ)) (src src' out out' : Stream) (status : Status)
+    (command : Command) (input : List ℕ) (spelled : command_of known words ≡ Some command)
+    (offered : Offers (intake_of command) src input) (no_read : ¬ Rose src.faults src'.faults)
+    (no_write : ¬ Rose out.faults out'.faults)
   where
     -- the run has an outcome of the command
     abbrev HasOutcome : Type 0
@@ -122,10 +73,10 @@ module _ (IsKnown : Command → Type 0) (words : List (List ℕ)) (src src' out 
         (outcome : Outcome) × Gives command input outcome × (status ≡ outcome.status)
         × Appends out.told out'.told outcome.text
 
-    answered : (other : Command) (first : Status) → status ≡ first → AreWordsOf other words
-        → Answers other src src' out out' first → HasOutcome
+    answered : (other : Command) (first : Status) → status ≡ first
+        → command_of known words ≡ Some other → Answers other src src' out out' first → HasOutcome
     answered other first is spelled' answers =
-        let same : other ≡ command = one_command other command words spelled' spelled in
+        let same : other ≡ command = one_command known words other command spelled' spelled in
         let read : ReadsAll (intake_of command) src src' answers.input =
         subst (λ (c : Command). ReadsAll (intake_of c) src src' answers.input) same answers.read in
         let all : answers.input ≡ input =
@@ -136,28 +87,27 @@ module _ (IsKnown : Command → Type 0) (words : List (List ℕ)) (src src' out 
         (subst (λ (c : Command). Gives c answers.input outcome) same answers.gives) in
         (outcome, gives, is, answers.written)
 
-    pub completed : (first : Status) → status ≡ first → Begins IsKnown words src src' out out' first
+    pub completed : (first : Status) → status ≡ first → Begins known words src src' out out' first
         → (status ≡ NoMemory) ⊎ HasOutcome
-    completed Usage is begins = absurd (begins.0 command known spelled)
-    completed ReadFault is (other, known', spelled', holds) =
+    completed Usage is begins =
+        let none : command_of known words ≡ None = begins.0 in
+        absurd (let impossible : ⊥ = cc in impossible)
+    completed ReadFault is (other, spelled', holds) =
         absurd (no_read (stop-rose (intake_of other) src src' holds.0))
-    completed TooLong is (other, known', spelled', holds) =
-        let same : other ≡ command = one_command other command words spelled' spelled in
+    completed TooLong is (other, spelled', holds) =
+        let same : other ≡ command = one_command known words other command spelled' spelled in
         absurd (not-past (intake_of command) src src' input offered
         (subst (λ (c : Command). PassesLimit (intake_of c) src src') same holds.0))
     completed NoMemory is begins = inl is
-    completed WriteFault is (other, known', spelled', holds) = absurd (no_write holds.0)
-    completed Fine is (other, known', spelled', holds) = inr (answered other Fine is spelled' holds)
-    completed (Refused code a b) is (other, known', spelled', holds) =
+    completed WriteFault is (other, spelled', holds) = absurd (no_write holds.0)
+    completed Fine is (other, spelled', holds) = inr (answered other Fine is spelled' holds)
+    completed (Refused code a b) is (other, spelled', holds) =
         inr (answered other (Refused code a b) is spelled' holds)
-    completed (JournalFull full) is (other, known', spelled', holds) =
+    completed (JournalFull full) is (other, spelled', holds) =
         inr (answered other (JournalFull full) is spelled' holds)
 
-pub run-completes : (IsKnown : Command → Type 0) (words : List (List ℕ))
-    (src src' out out' err err' : Stream) (status : Status)
-    → ProgramRun IsKnown words src src' out out' err err' status
-    → Completes IsKnown words src src' out out' err err' status
-run-completes IsKnown words src src' out out' err err' status run command input known spelled
-    offered no_read no_write no_tell =
-    completed IsKnown words src src' out out' status command input known spelled offered no_read
-    no_write run.first (tells-first run.first err err' status no_tell run.tells) run.begins
+pub run-completes : (known : List Form) (words : List (List ℕ)) (old new : Streams) (status : Status)
+    → ProgramRun known words old new status → Completes known words old new status
+run-completes known words old new status run command input spelled offered no_read no_write no_tell =
+    completed known words old.src new.src old.out new.out status command input spelled offered no_read
+    no_write run.first (tells-first run.first old.err new.err status no_tell run.tells) run.begins

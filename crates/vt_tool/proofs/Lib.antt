@@ -1,9 +1,7 @@
 mod Complete
+mod Numbers
 mod Oks
-mod Sides
 mod Statuses
 pub mod Streams
-pub mod Tables
-mod Texts
-pub mod TypeTables
-pub mod Typed
+mod TypeTables
+mod Typed

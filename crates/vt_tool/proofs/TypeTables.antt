@@ -4,7 +4,7 @@ use Rattle.key_text.specs.Included.{Named}
 use Rattle.key_text.specs.Told.{Told}
 use Rattle.toml.specs.Data.{Data, Members, get_member}
 use Rattle.table_fields.specs.Fields.{keymap_of, keys_pass, number_of, scan_bytes_of, text_of, texts_of}
-use Rattle.vt_tool.specs.Typing.{is_type_key, type_table_at}
+use Rattle.vt_tool.specs.Commands.Typing.{is_type_key, type_table_at}
 
 pub type_table-read : (members : Members) (m t k s : Option Data) (mode : ℕ) (texts : List Named)
     (keymap : List ℕ) (lines : List Told) (text keys : List ℕ)

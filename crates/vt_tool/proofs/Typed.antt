@@ -1,4 +1,4 @@
--- What scan bytes say, one behind another.
+-- What scan bytes say, one after another.
 use Rattle.std.proofs.Common.{◌≡◌, ◌<◌, ℕ, ◌+◌, List, [], ◌∷◌, ◌++◌, length, take, drop, get_or, Some, None, refl, sym, ap, ◌∙◌, append_assoc, append-nil}
 use Rattle.std.proofs.lemmas.List.{drop_more, take_more}
 use Rattle.std.specs.Prelude.{option_to_list}
@@ -6,10 +6,10 @@ use Rattle.key_tables.specs.Tables.{Tables}
 use Rattle.scan_codes.specs.Laws.{events, rest}
 use Rattle.scan_codes.specs.Scan.{Scan, bytes_after, event_after, scan_of, start_codes}
 use Rattle.scan_codes.specs.declared.key_event.KeyEvent.{KeyEvent}
-use Rattle.vt_tool.specs.Typing.{Typing, after_typing, lines_behind, said_behind, start_typing, typed, typed_line, typed_on, typing}
-use Rattle.vt_tool.specs.Typed.{HasTyped, TypistView}
+use Rattle.vt_tool.specs.Commands.Typing.{Typing, after_typing, lines_after, said_after, start_typing, typed, typed_line, typed_on, typing}
+use Rattle.vt_tool.specs.Commands.Typed.{HasTyped, TypistView}
 
--- one byte more is kept behind what was
+-- one byte more is kept after what was
 pub rest-more : (before bytes : List ℕ) (b : ℕ)
     → rest before (bytes ++ b ∷ []) ≡ bytes_after (rest before bytes) b
 rest-more before [] b = refl
@@ -25,7 +25,7 @@ events-more codes before (c ∷ bytes) b =
     (events-more codes (bytes_after before c) bytes b)
     ∙ sym (append_assoc (option_to_list (event_after codes before c)) _ _)
 
--- an event is typed behind others
+-- an event is typed after others
 pub after_typing-more : (tables : Tables) (t : Typing) (es : List KeyEvent) (e : KeyEvent)
     → after_typing tables t (es ++ e ∷ [])
     ≡ typed_on (typed tables (after_typing tables t es) e)
@@ -85,12 +85,12 @@ typed-some tables mode before b t t' e has event scanned keys state =
 -- the line of the byte in its place comes first
 pub lines-more : (tables : Tables) (mode : ℕ) (keys : List ℕ) (i b : ℕ) → i < length keys
     → get_or keys i b ≡ b
-    → lines_behind tables mode (take i keys) (drop i keys)
-    ≡ typed_line mode b (said_behind tables mode (take i keys) b)
-    ++ lines_behind tables mode (take (i + 1) keys) (drop (i + 1) keys)
+    → lines_after tables mode (take i keys) (drop i keys)
+    ≡ typed_line mode b (said_after tables mode (take i keys) b)
+    ++ lines_after tables mode (take (i + 1) keys) (drop (i + 1) keys)
 lines-more tables mode keys i b within here =
-    ap (lines_behind tables mode (take i keys))
+    ap (lines_after tables mode (take i keys))
     (drop_more keys i b within ∙ ap (λ c. c ∷ drop (i + 1) keys) here)
-    ∙ ap (λ before. typed_line mode b (said_behind tables mode (take i keys) b)
-    ++ lines_behind tables mode before (drop (i + 1) keys))
+    ∙ ap (λ before. typed_line mode b (said_after tables mode (take i keys) b)
+    ++ lines_after tables mode before (drop (i + 1) keys))
     (sym (take_more keys i b within ∙ ap (λ c. take i keys ++ c ∷ []) here))

@@ -1,27 +1,11 @@
--- What a command reads of the source: one case for each way of reading.
+-- What is read of the source: one case for each way of reading. docs/PROGRAM.md, "Order" and "The
+-- source".
 use Rattle.std.specs.Prelude.{◌≡◌, ℕ, ◌<◌, ◌≤◌, List, length, Some}
 use Rattle.std.specs.Io.KnownBytes.{Consumes, IsAtEnd}
 use Rattle.vt_io.specs.Faults.{Rose}
 use Rattle.vt_io.specs.Stream.{Stream}
-use Rattle.vt_tool.specs.declared.command.Command.{Command}
-use Rattle.vt_tool.specs.declared.command.Command.TheVariants.{Screen, Keys, Play, Typing}
 use Rattle.vt_tool.specs.declared.intake.Intake.{Intake}
 use Rattle.vt_tool.specs.declared.intake.Intake.TheVariants.{ToEnd}
-
--- the most bytes of input that `screen` reads; this project's own
-abbrev pub screen_limit : ℕ
-screen_limit = 67108864
-
--- the most bytes of input that the other commands read; this project's own
-abbrev pub text_limit : ℕ
-text_limit = 16777216
-
--- how much of the source a command reads, one case for each command
-abbrev pub intake_of : Command → Intake
-intake_of (Screen rows cols) = ToEnd screen_limit
-intake_of Keys = ToEnd text_limit
-intake_of Play = ToEnd text_limit
-intake_of Typing = ToEnd text_limit
 
 -- the input isn't longer than the command takes
 abbrev pub IsWithin : Intake → List ℕ → Type 0

@@ -1,10 +1,8 @@
+pub mod Commands
 pub mod Input
 pub mod Outcome
-pub mod Play
 pub mod Reading
 pub mod Run
 pub mod Status
-pub mod Typed
-pub mod Typing
 pub mod Words
 pub mod Writing

@@ -1,4 +1,4 @@
--- How the reading of an input ends.
+-- How the reading of an input ends: docs/PROGRAM.md, "Order".
 use Rattle.std.specs.Prelude.{Result, Ok, Err}
 use Rattle.vt_base.specs.Bytes.{Text}
 use Rattle.vt_io.specs.Stream.{Stream}

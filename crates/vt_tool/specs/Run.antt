@@ -1,17 +1,24 @@
 -- A run of the program: what its words, its three streams and its status have to do with one
--- another. A command comes in by words_of, IsFit, intake_of and Gives, a way of reading by the
--- tables of Input, and a status by number_of and line_of.
-use Rattle.std.specs.Prelude.{◌≡◌, ◌≢◌, ◌⊎◌, ℕ, List, []}
+-- another. What each command reads and gives stands in Commands, the ways of reading in Input, and the
+-- lines in Status. docs/PROGRAM.md tells it.
+use Rattle.std.specs.Prelude.{◌≡◌, ◌≢◌, ◌⊎◌, ℕ, List, [], None, Some}
 use Rattle.std.specs.Io.KnownBytes.{Appends}
 use Rattle.vt_io.specs.Faults.{Rose}
 use Rattle.vt_io.specs.Stream.{Stream, GrowsByPrefix}
-use Rattle.vt_tool.specs.Input.{intake_of, ReadsAll, ReadsSome, StopsAtFault, PassesLimit, Offers}
-use Rattle.vt_tool.specs.Outcome.{Outcome, Gives}
+use Rattle.vt_tool.specs.Commands.{Gives, intake_of}
+use Rattle.vt_tool.specs.Input.{ReadsAll, ReadsSome, StopsAtFault, PassesLimit, Offers}
+use Rattle.vt_tool.specs.Outcome.{Outcome}
 use Rattle.vt_tool.specs.Status.{line_of}
-use Rattle.vt_tool.specs.Words.{AreWordsOf, AreNone}
+use Rattle.vt_tool.specs.Words.{Form, command_of}
 use Rattle.vt_tool.specs.declared.command.Command.{Command}
 use Rattle.vt_tool.specs.declared.status.Status.{Status}
 use Rattle.vt_tool.specs.declared.status.Status.TheVariants.{Usage, ReadFault, WriteFault, NoMemory, TooLong}
+
+-- the three streams of a run
+pub record Streams : Type 0 where
+  pub src : Stream
+  pub out : Stream
+  pub err : Stream
 
 -- the input was read whole, the command gives this status for it, and out has grown by the whole
 -- defined text
@@ -42,13 +49,13 @@ Holds command src src' out out' WriteFault =
     Rose out.faults out'.faults × WritesPrefix command src src' out out'
 Holds command src src' out out' status = Answers command src src' out out' status
 
--- a known command's words begin it; Usage comes exactly where the words are no such command's, and
--- leaves source and out as they were
-abbrev pub Begins : (Command → Type 0) → List (List ℕ) → Stream → Stream → Stream → Stream → Status
-    → Type 0
-Begins IsKnown words src src' out out' Usage = AreNone IsKnown words × (src' ≡ src) × (out' ≡ out)
-Begins IsKnown words src src' out out' status =
-    (command : Command) × IsKnown command × AreWordsOf command words
+-- the words of a command that is known begin it; Usage comes exactly where the words are no such
+-- command's, and leaves source and out as they were
+abbrev pub Begins : List Form → List (List ℕ) → Stream → Stream → Stream → Stream → Status → Type 0
+Begins known words src src' out out' Usage =
+    (command_of known words ≡ None) × (src' ≡ src) × (out' ≡ out)
+Begins known words src src' out out' status =
+    (command : Command) × (command_of known words ≡ Some command)
     × Holds command src src' out out' status
 
 -- err has grown by the line of the first status; or its count rose, err has grown by a prefix of
@@ -61,20 +68,20 @@ Tells first err err' status =
 
 -- a run of a call that knows these commands: the status before its line was told, what came of
 -- words, source and out up to there, and the telling
-pub record ProgramRun (IsKnown : Command → Type 0) (words : List (List ℕ))
-    (src src' out out' err err' : Stream) (status : Status) : Type 0 where
+pub record ProgramRun (known : List Form) (words : List (List ℕ)) (old new : Streams)
+    (status : Status) : Type 0 where
   pub first : Status
-  pub begins : Begins IsKnown words src src' out out' first
-  pub tells : Tells first err err' status
+  pub begins : Begins known words old.src new.src old.out new.out first
+  pub tells : Tells first old.err new.err status
 
 -- completeness: a known command, an input that it takes and no fault give the whole text with its
--- status, or want of memory
-abbrev pub Completes : (Command → Type 0) → List (List ℕ) → Stream → Stream → Stream → Stream
-    → Stream → Stream → Status → Type 0
-Completes IsKnown words src src' out out' err err' status =
-    (command : Command) (input : List ℕ) → IsKnown command → AreWordsOf command words
-    → Offers (intake_of command) src input
-    → ¬ Rose src.faults src'.faults → ¬ Rose out.faults out'.faults → ¬ Rose err.faults err'.faults
+-- status, or out of memory
+abbrev pub Completes : List Form → List (List ℕ) → Streams → Streams → Status → Type 0
+Completes known words old new status =
+    (command : Command) (input : List ℕ) → command_of known words ≡ Some command
+    → Offers (intake_of command) old.src input
+    → ¬ Rose old.src.faults new.src.faults → ¬ Rose old.out.faults new.out.faults
+    → ¬ Rose old.err.faults new.err.faults
     → (status ≡ NoMemory)
     ⊎ ((outcome : Outcome) × Gives command input outcome × (status ≡ outcome.status)
-    × Appends out.told out'.told outcome.text)
+    × Appends old.out.told new.out.told outcome.text)

@@ -1,5 +1,6 @@
--- How a run of the program ends, this project's own: one case for each status.
-use Rattle.std.specs.Prelude.{ℕ, List, [], ◌++◌, codes, decimal}
+-- How a run of the program ends, this project's own: one case for each status. docs/PROGRAM.md and
+-- README tell it.
+use Rattle.std.specs.Prelude.{ℕ, Bool, true, false, List, [], ◌++◌, codes, decimal}
 use Rattle.vt_tool.specs.declared.status.Status.{Status}
 use Rattle.vt_tool.specs.declared.status.Status.TheVariants.{Fine, Usage, ReadFault, WriteFault, NoMemory, Refused, TooLong, JournalFull}
 
@@ -29,3 +30,12 @@ line_of (JournalFull full) =
     codes "vt: journal full "
     ++ (decimal full.events ++ (codes " " ++ (decimal full.bytes ++ (codes " "
     ++ (decimal full.charge ++ codes "\n")))))
+
+-- a status that a command gives for its input; the others come of words, streams and memory
+abbrev pub is_own : Status → Bool
+is_own Usage = false
+is_own ReadFault = false
+is_own WriteFault = false
+is_own NoMemory = false
+is_own TooLong = false
+is_own other = true

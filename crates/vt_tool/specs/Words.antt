@@ -1,39 +1,63 @@
--- Which words are which command's: one case for each form.
-use Rattle.std.specs.Prelude.{◌≡◌, ℕ, ◌≤◌, List, [], ◌∷◌, codes, decimal, ⊤}
+-- Words and the commands that they spell: docs/PROGRAM.md, "Words". A call knows a list of forms.
+use Rattle.std.specs.Prelude.{ℕ, nat_le, ◌&&◌, List, [], ◌∷◌, Option, Some, None, bytes_eq, decimal, if◌then◌else◌}
+use Rattle.std.specs.Str.Parse.{digits_value}
 use Rattle.vt_tool.specs.declared.command.Command.{Command}
-use Rattle.vt_tool.specs.declared.command.Command.TheVariants.{Screen, Keys, Play, Typing}
 
--- a number of rows or columns
-abbrev pub IsSide : ℕ → Type 0
-IsSide n = (1 ≤ n) × (n ≤ 255)
+-- the numbers from low to high
+pub record Range : Type 0 where
+  pub low : ℕ
+  pub high : ℕ
 
--- the command's numbers are in their ranges
-abbrev pub IsFit : Command → Type 0
-IsFit (Screen rows cols) = IsSide rows × IsSide cols
-IsFit Keys = ⊤
-IsFit Play = ⊤
-IsFit Typing = ⊤
+-- a number, where the word spells it and the range has it; decimal is a number's digits, without sign
+-- or leading zeros
+abbrev pub if_spelled : Range → List ℕ → ℕ → Option ℕ
+if_spelled range word n =
+    if bytes_eq (decimal n) word && (nat_le range.low n && nat_le n range.high) then Some n
+    else None
 
--- the one spelling of a command, a list of words; decimal is a number's digits, without sign or
--- leading zeros
-abbrev pub words_of : Command → List (List ℕ)
-words_of (Screen rows cols) = codes "screen" ∷ decimal rows ∷ decimal cols ∷ []
-words_of Keys = codes "keys" ∷ []
-words_of Play = codes "play" ∷ []
-words_of Typing = codes "type" ∷ []
+-- the number of the range that the word spells
+abbrev pub number_in : Range → List ℕ → Option ℕ
+number_in range word = if_spelled range word (digits_value 10 word)
 
--- the words are the command's
-pub record AreWordsOf (command : Command) (words : List (List ℕ)) : Type 0 where
-  pub spelled : words ≡ words_of command
-  pub fit : IsFit command
+-- what stands after a command's name: nothing, or two numbers
+pub data Rest : Type 0 where
+  alone : Command → Rest
+  with_two : Range → Range → (ℕ → ℕ → Command) → Rest
 
--- the command needs no threads
-abbrev pub IsSerial : Command → Type 0
-IsSerial (Screen rows cols) = ⊤
-IsSerial Keys = ⊤
-IsSerial Play = ⊤
-IsSerial Typing = ⊤
+-- a form of words: a command's name, and the rest
+pub record Form : Type 0 where
+  pub name : List ℕ
+  pub rest : Rest
 
--- the words are those of no command that is known
-abbrev pub AreNone : (Command → Type 0) → List (List ℕ) → Type 0
-AreNone IsKnown words = (command : Command) → IsKnown command → ¬ AreWordsOf command words
+abbrev pub form : List ℕ → Rest → Form
+form name rest = record { name = name; rest = rest }
+
+-- the command of no words
+abbrev pub if_no_words : Command → List (List ℕ) → Option Command
+if_no_words command [] = Some command
+if_no_words command (word ∷ words) = None
+
+abbrev pub if_both : (ℕ → ℕ → Command) → Option ℕ → Option ℕ → Option Command
+if_both command (Some a) (Some b) = Some (command a b)
+if_both command a b = None
+
+-- the command of two words, each a number of its range
+abbrev pub if_two_numbers : Range → Range → (ℕ → ℕ → Command) → List (List ℕ) → Option Command
+if_two_numbers first second command (a ∷ b ∷ []) =
+    if_both command (number_in first a) (number_in second b)
+if_two_numbers first second command words = None
+
+-- the command that the words after the name make
+abbrev pub command_with : Rest → List (List ℕ) → Option Command
+command_with (alone command) words = if_no_words command words
+command_with (with_two first second command) words = if_two_numbers first second command words
+
+abbrev pub command_named : List Form → List ℕ → List (List ℕ) → Option Command
+command_named [] name words = None
+command_named (f ∷ forms) name words =
+    if bytes_eq name f.name then command_with f.rest words else command_named forms name words
+
+-- the command that the words spell, where they are one of these forms
+abbrev pub command_of : List Form → List (List ℕ) → Option Command
+command_of forms [] = None
+command_of forms (name ∷ words) = command_named forms name words

@@ -1,4 +1,4 @@
--- How the writing of a text ends.
+-- How the writing of a text ends: docs/PROGRAM.md, "What out holds".
 use Rattle.std.specs.Prelude.{ℕ, List, Result, MatchResult}
 use Rattle.std.specs.Io.KnownBytes.{Appends}
 use Rattle.vt_io.specs.Faults.{Rose}

@@ -1,5 +1,5 @@
 /// What the program is asked to do.
-#[derive(Clone, Copy, Debug, PartialEq, Eq)]
+#[derive(Clone, Copy)]
 pub enum Command {
     /// The rows of a screen of this size after the input.
     Screen { rows: u8, cols: u8 },

@@ -1,12 +1,12 @@
 ghost use Rattle.std.specs.Prelude.{◌≡◌};
-ghost use Rattle.vt_tool.specs.Input.{intake_of};
+ghost use Rattle.vt_tool.specs.Commands.{intake_of};
 
 use crate::command::Command;
 
 /// The most bytes of input that `screen` reads. This project's own.
 const SCREEN_LIMIT: usize = 67_108_864;
 
-/// The most bytes of input that the other commands read. This project's own.
+/// The most bytes of input that a command reads, where it has no limit of its own. This project's own.
 const TEXT_LIMIT: usize = 16_777_216;
 
 /// What a command reads of the source.
@@ -22,6 +22,6 @@ pub fn intake_for(command: Command) -> Intake
 {
     match command {
         Command::Screen { .. } => Intake::ToEnd(SCREEN_LIMIT),
-        Command::Keys | Command::Play | Command::Typing => Intake::ToEnd(TEXT_LIMIT),
+        _ => Intake::ToEnd(TEXT_LIMIT),
     }
 }

@@ -3,18 +3,13 @@
 
 mod answer;
 mod command;
+mod commands;
 mod intake;
-mod keys_answer;
-mod play_answer;
 mod read_end;
 mod reading;
-mod refused_answer;
-mod screen;
 mod status;
 mod telling;
 mod tool;
-mod type_answer;
-mod typing;
 mod words;
 mod writing;
 

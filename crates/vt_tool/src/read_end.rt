@@ -5,7 +5,7 @@ use vt_base::NoMemory;
 use vt_io::Failed;
 
 /// Why an input wasn't read whole.
-#[derive(Clone, Copy, Debug, PartialEq, Eq)]
+#[derive(Clone, Copy)]
 pub enum ReadEnd {
     /// The source failed.
     Fault,

@@ -4,7 +4,7 @@ ghost use Rattle.vt_tool.specs.Status.{number_of};
 use vt_journal::Full;
 
 /// How a run of the program ended.
-#[derive(Clone, Copy, Debug, PartialEq, Eq)]
+#[derive(Clone, Copy, PartialEq, Eq)]
 pub enum Status {
     /// The defined text is written whole.
     Fine,
@@ -16,8 +16,7 @@ pub enum Status {
     WriteFault,
     /// Memory ran out.
     NoMemory,
-    /// The input isn't in the command's grammar: the kind of the first fault, and its place. Of
-    /// `screen` that is the number of the byte, counted from 1, and 0.
+    /// The input isn't in the command's grammar: the kind of the first fault, and its place.
     Refused { code: u16, a: u32, b: u32 },
     /// The source gives more bytes than the command reads.
     TooLong,

@@ -1,9 +1,9 @@
 ghost use Rattle.std.specs.Prelude.{map, string_bytes};
+ghost use Rattle.vt_tool.specs.Commands.{IsFit, serial_forms};
 ghost use Rattle.vt_tool.specs.Run.{Begins, Completes, Holds, ProgramRun};
-ghost use Rattle.vt_tool.specs.Words.{IsFit, IsSerial};
 
-use crate::answer::answer_to;
 use crate::command::Command;
+use crate::commands::answer_to;
 use crate::intake::intake_for;
 use crate::read_end::ReadEnd;
 use crate::reading::read_input;
@@ -23,20 +23,28 @@ pub fn vt_command<S: Source, O: Sink, E: Sink>(
     out: &mut O,
     err: &mut E,
 ) -> Status
-    ensures run { ProgramRun IsSerial (map string_bytes words.now)
-        (record { told = S.left src.old; faults = S.faults src.old })
-        (record { told = S.left src.new; faults = S.faults src.new })
-        (record { told = O.held out.old; faults = O.faults out.old })
-        (record { told = O.held out.new; faults = O.faults out.new })
-        (record { told = E.held err.old; faults = E.faults err.old })
-        (record { told = E.held err.new; faults = E.faults err.new }) result }
-    ensures complete { Completes IsSerial (map string_bytes words.now)
-        (record { told = S.left src.old; faults = S.faults src.old })
-        (record { told = S.left src.new; faults = S.faults src.new })
-        (record { told = O.held out.old; faults = O.faults out.old })
-        (record { told = O.held out.new; faults = O.faults out.new })
-        (record { told = E.held err.old; faults = E.faults err.old })
-        (record { told = E.held err.new; faults = E.faults err.new }) result }
+    ensures run { ProgramRun serial_forms (map string_bytes words.now)
+        (record {
+          src = record { told = S.left src.old; faults = S.faults src.old };
+          out = record { told = O.held out.old; faults = O.faults out.old };
+          err = record { told = E.held err.old; faults = E.faults err.old };
+        })
+        (record {
+          src = record { told = S.left src.new; faults = S.faults src.new };
+          out = record { told = O.held out.new; faults = O.faults out.new };
+          err = record { told = E.held err.new; faults = E.faults err.new };
+        }) result }
+    ensures complete { Completes serial_forms (map string_bytes words.now)
+        (record {
+          src = record { told = S.left src.old; faults = S.faults src.old };
+          out = record { told = O.held out.old; faults = O.faults out.old };
+          err = record { told = E.held err.old; faults = E.faults err.old };
+        })
+        (record {
+          src = record { told = S.left src.new; faults = S.faults src.new };
+          out = record { told = O.held out.new; faults = O.faults out.new };
+          err = record { told = E.held err.new; faults = E.faults err.new };
+        }) result }
 {
     let first = begin(alloc, words, src, out);
     tell(err, first)
@@ -44,7 +52,7 @@ pub fn vt_command<S: Source, O: Sink, E: Sink>(
 
 // The status before its line is told.
 fn begin<S: Source, O: Sink>(alloc: Global, words: &[String], src: &mut S, out: &mut O) -> Status
-    ensures { Begins IsSerial (map string_bytes words.now)
+    ensures { Begins serial_forms (map string_bytes words.now)
         (record { told = S.left src.old; faults = S.faults src.old })
         (record { told = S.left src.new; faults = S.faults src.new })
         (record { told = O.held out.old; faults = O.faults out.old })

@@ -1,81 +1,47 @@
-ghost use Rattle.std.specs.Prelude.{◌≡◌, ◌≢◌, ℕ, ◌∷◌, codes, map, decimal, string_bytes, IfSome, IfNone};
-ghost use Rattle.vt_tool.specs.Words.{AreNone, AreWordsOf, IsSerial, IsSide};
+ghost use Rattle.std.specs.Prelude.{◌≡◌, ◌≤◌, map, string_bytes, IfSome};
+ghost use Rattle.vt_tool.specs.Commands.{IsFit, serial_forms};
+ghost use Rattle.vt_tool.specs.Words.{command_of, if_no_words, number_in};
 
 use crate::command::Command;
+use crate::commands::screen;
 use vt_base::parse_decimal;
 
 /// The command that the words spell.
 pub fn parse_words(words: &[String]) -> Option<Command>
-    ensures found { IfSome result (λ command. IsSerial command
-        × AreWordsOf command (map string_bytes words.now)) }
-    ensures none { IfNone result (AreNone IsSerial (map string_bytes words.now)) }
+    ensures command { result ≡ command_of serial_forms (map string_bytes words.now) }
+    ensures fit { IfSome result (λ command. IsFit command) }
 {
     let (name, others) = words.split_first()?;
     match name.as_str() {
-        "screen" => parse_screen(others),
-        "keys" => parse_keys(others),
-        "play" => parse_play(others),
-        "type" => parse_type(others),
+        "screen" => screen::parse(others),
+        "keys" => alone(Command::Keys, others),
+        "type" => alone(Command::Typing, others),
+        "play" => alone(Command::Play, others),
         _ => None,
     }
 }
 
-// The words behind `screen`.
-fn parse_screen(words: &[String]) -> Option<Command>
-    ensures found { IfSome result (λ command. IsSerial command
-        × AreWordsOf command (codes "screen" ∷ map string_bytes words.now)) }
-    ensures none { IfNone result (AreNone IsSerial (codes "screen" ∷ map string_bytes words.now)) }
+fn alone(command: Command, words: &[String]) -> Option<Command>
+    requires { IsFit command }
+    ensures command { result ≡ if_no_words command (map string_bytes words.now) }
+    ensures fit { IfSome result (λ command. IsFit command) }
 {
-    let [rows, cols] = words else { return None };
-    let rows = parse_side(rows.as_str())?;
-    let cols = parse_side(cols.as_str())?;
-    Some(Command::Screen { rows, cols })
+    if words.is_empty() {
+        Some(command)
+    } else {
+        None
+    }
 }
 
-// The words behind `keys`, which has none.
-fn parse_keys(words: &[String]) -> Option<Command>
-    ensures found { IfSome result (λ command. IsSerial command
-        × AreWordsOf command (codes "keys" ∷ map string_bytes words.now)) }
-    ensures none { IfNone result (AreNone IsSerial (codes "keys" ∷ map string_bytes words.now)) }
+/// The number from `low` to `high` that the word spells.
+#[tactic(auto, using(crate::proofs::Numbers::number_some, crate::proofs::Numbers::number_low, crate::proofs::Numbers::number_none))]
+pub fn parse_number(word: &str, low: u64, high: u64) -> Option<u64>
+    ensures number { result ≡ number_in (record { low = low; high = high }) word.now }
+    ensures range { IfSome result (λ n. (low ≤ n) × (n ≤ high)) }
 {
-    if !words.is_empty() {
+    let n = parse_decimal(word.as_bytes(), high)?;
+    if n < low {
         return None;
     }
-    Some(Command::Keys)
-}
-
-// The words behind `play`, which has none.
-fn parse_play(words: &[String]) -> Option<Command>
-    ensures found { IfSome result (λ command. IsSerial command
-        × AreWordsOf command (codes "play" ∷ map string_bytes words.now)) }
-    ensures none { IfNone result (AreNone IsSerial (codes "play" ∷ map string_bytes words.now)) }
-{
-    if !words.is_empty() {
-        return None;
-    }
-    Some(Command::Play)
-}
-
-// The words behind `type`, which has none.
-fn parse_type(words: &[String]) -> Option<Command>
-    ensures found { IfSome result (λ command. IsSerial command
-        × AreWordsOf command (codes "type" ∷ map string_bytes words.now)) }
-    ensures none { IfNone result (AreNone IsSerial (codes "type" ∷ map string_bytes words.now)) }
-{
-    if !words.is_empty() {
-        return None;
-    }
-    Some(Command::Typing)
-}
-
-// A number of rows or columns.
-fn parse_side(word: &str) -> Option<u8>
-    ensures found { IfSome result (λ side. IsSide side × (decimal side ≡ word.now)) }
-    ensures none { IfNone result ((side : ℕ) → IsSide side → decimal side ≢ word.now) }
-{
-    let side = parse_decimal(word.as_bytes(), 255)?;
-    if side == 0 {
-        return None;
-    }
-    Some(side as u8)
+    Some(n)
 }

@@ -2,7 +2,8 @@ use Rattle.std.proofs.Common.{ℕ, List, subst}
 use Rattle.std.specs.Io.KnownBytes.{Appends}
 use Rattle.vt_io.specs.Stream.{Stream}
 use Rattle.vt_tool.specs.Input.{ReadsAll}
-use Rattle.vt_tool.specs.Outcome.{Gives, Outcome}
+use Rattle.vt_tool.specs.Commands.{Gives}
+use Rattle.vt_tool.specs.Outcome.{Outcome}
 use Rattle.vt_tool.specs.declared.intake.Intake.{Intake}
 use Rattle.vt_tool.proofs.Statuses.{answers-hold}
 use Rattle.vt_tool.proofs.tool.do_command.Goals as goal
@@ -25,7 +26,7 @@ returns-in-Ok-write_all g c =
       told = g.O.Sink.held c.write_all.new.sink;
       faults = g.O.Sink.faults c.write_all.new.sink;
     } in
-    answers-hold c.args.command src src' out out' outcome.status (record {
+    answers-hold c.args.command src src' out out' outcome.status c.in-Ok-answer_to.ensures.own (record {
       input = c.in-Ok.input.bytes;
       text = outcome.text;
       read =
@@ -33,7 +34,7 @@ returns-in-Ok-write_all g c =
           c.in-Ok.ensures;
       gives =
           subst (λ (bytes : List ℕ). Gives c.args.command bytes outcome) c.as_slice.ensures
-          c.in-Ok-answer_to.ensures;
+          c.in-Ok-answer_to.ensures.gives;
       written =
           subst (λ (text : List ℕ). Appends out.told out'.told text) c.as_slice-2.ensures c.in-Ok-write_all.ensures;
     })

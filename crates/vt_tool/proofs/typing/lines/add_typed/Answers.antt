@@ -1,5 +1,0 @@
-use Rattle.std.proofs.Common.{refl}
-use Rattle.vt_tool.proofs.typing.lines.add_typed.Goals as goal
-
-pub loop-b-init : goal.loop-b-init
-loop-b-init c = (c.start-typist.ensures c.args.tables.now, refl)

@@ -1,0 +1,49 @@
+-- The commands: their words, what they read, and what they give (docs/PROGRAM.md). A new command has a
+-- row in the list of names and a case of Gives; where it has numbers, or reads in a way of its own, it
+-- also has a case of IsFit or of intake_of.
+use Rattle.std.specs.Prelude.{ℕ, List, [], ◌∷◌, ◌⊎◌, codes, ⊤}
+use Rattle.vt_tool.specs.Outcome.{Outcome}
+use Rattle.vt_tool.specs.Words.{Form, alone, form, with_two}
+use Rattle.vt_tool.specs.declared.command.Command.{Command}
+use Rattle.vt_tool.specs.declared.command.Command.TheVariants as command
+use Rattle.vt_tool.specs.declared.intake.Intake.{Intake}
+use Rattle.vt_tool.specs.declared.intake.Intake.TheVariants.{ToEnd}
+use Rattle.vt_tool.specs.Commands.Screen.{GivesRows, IsScreenSize, screen_limit, side}
+use Rattle.vt_tool.specs.Commands.Keys.{GivesKeyFault, GivesListing}
+use Rattle.vt_tool.specs.Commands.Play.{GivesPlayed, GivesSessionFault}
+use Rattle.vt_tool.specs.Commands.Typing.{GivesTableFault, GivesTyped}
+pub mod Keys
+pub mod Play
+pub mod Screen
+pub mod Typed
+pub mod Typing
+
+-- the names of the commands that need no threads
+abbrev pub serial_forms : List Form
+serial_forms =
+    form (codes "screen") (with_two side side command.Screen)
+    ∷ form (codes "keys") (alone command.Keys)
+    ∷ form (codes "type") (alone command.Typing)
+    ∷ form (codes "play") (alone command.Play)
+    ∷ []
+
+-- the command's numbers are in their ranges
+abbrev pub IsFit : Command → Type 0
+IsFit (command.Screen rows cols) = IsScreenSize rows cols
+IsFit other = ⊤
+
+-- the most bytes of input that a command reads, where it has no limit of its own; this project's own
+abbrev pub text_limit : ℕ
+text_limit = 16777216
+
+-- how much of the source a command reads
+abbrev pub intake_of : Command → Intake
+intake_of (command.Screen rows cols) = ToEnd screen_limit
+intake_of other = ToEnd text_limit
+
+-- the outcome that a command gives for an input
+abbrev pub Gives : Command → List ℕ → Outcome → Type 0
+Gives (command.Screen rows cols) input outcome = GivesRows rows cols input outcome
+Gives command.Keys input outcome = GivesListing input outcome ⊎ GivesKeyFault input outcome
+Gives command.Play input outcome = GivesPlayed input outcome ⊎ GivesSessionFault input outcome
+Gives command.Typing input outcome = GivesTyped input outcome ⊎ GivesTableFault input outcome

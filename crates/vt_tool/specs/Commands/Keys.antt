@@ -1,0 +1,33 @@
+-- What `keys` gives: docs/KEYS.md.
+use Rattle.std.specs.Prelude.{◌≡◌, ◌⊎◌, ℕ, List, [], Some, None, Ok, Err}
+use Rattle.key_compile.specs.Compiled.{AreTablesOf}
+use Rattle.key_compile.specs.Faults.{compile_fault}
+use Rattle.key_tables.specs.Listing.{listing_of}
+use Rattle.key_tables.specs.Tables.{Tables}
+use Rattle.key_text.specs.Reading.{lines_of}
+use Rattle.key_text.specs.Told.{Told}
+use Rattle.key_text.specs.declared.fault.KeyFault.{KeyFault}
+use Rattle.vt_tool.specs.Outcome.{Outcome}
+use Rattle.vt_tool.specs.declared.status.Status.TheVariants.{Fine, Refused}
+
+-- the first fault of a keymap text: of its grammar, or of its lines
+abbrev pub HasKeyFault : List ℕ → KeyFault → Type 0
+HasKeyFault input fault =
+    (lines_of [] input ≡ Err fault)
+    ⊎ ((lines : List Told) × (lines_of [] input ≡ Ok lines) × (compile_fault lines ≡ Some fault))
+
+-- the listing of the tables of a keymap text; no text is included
+pub record GivesListing (input : List ℕ) (outcome : Outcome) : Type 0 where
+  pub lines : List Told
+  pub tables : Tables
+  pub read : lines_of [] input ≡ Ok lines
+  pub fine : compile_fault lines ≡ None
+  pub compiled : AreTablesOf lines tables
+  pub listed : outcome ≡ record { status = Fine; text = listing_of tables }
+
+-- the keymap text is refused at its first fault
+pub record GivesKeyFault (input : List ℕ) (outcome : Outcome) : Type 0 where
+  pub fault : KeyFault
+  pub found : HasKeyFault input fault
+  pub refused :
+      outcome ≡ record { status = Refused fault.kind fault.line fault.column; text = [] }

@@ -1,0 +1,56 @@
+//! `keys`: the listing of the tables of a keymap text.
+ghost use Rattle.std.specs.Prelude.{◌≡◌, ◌⊎◌, [], IfOk, IsTrue};
+ghost use Rattle.key_tables.specs.Listing.{listing_of};
+ghost use Rattle.vt_tool.specs.Commands.Keys.{GivesKeyFault, GivesListing};
+ghost use Rattle.vt_tool.specs.Status.{is_own};
+
+use crate::answer::Answer;
+use crate::status::Status;
+use key_compile::compile;
+use key_tables::KeyTables;
+use key_text::{Includes, KeyError, KeyFault, parse};
+use std::alloc::Global;
+use vt_base::{Bytes, NoMemory};
+
+/// The listing of the tables of the keymap text, or its first fault.
+pub fn answer(alloc: Global, input: &[u8]) -> Result<Answer, NoMemory>
+    ensures gives { IfOk result (λ answer.
+        GivesListing input.now (record { status = answer.status; text = answer.text.bytes })
+        ⊎ GivesKeyFault input.now (record { status = answer.status; text = answer.text.bytes })) }
+    ensures own { IfOk result (λ answer. IsTrue (is_own answer.status)) }
+{
+    let lines = match parse(alloc, input, &Includes::none(alloc)) {
+        Ok(lines) => lines,
+        Err(KeyError::Fault(fault)) => return Ok(answer_refused(alloc, fault)),
+        Err(KeyError::NoMemory) => return Err(NoMemory),
+    };
+    match compile(alloc, lines.as_slice()) {
+        Ok(tables) => answer_listed(alloc, &tables),
+        Err(KeyError::Fault(fault)) => Ok(answer_refused(alloc, fault)),
+        Err(KeyError::NoMemory) => Err(NoMemory),
+    }
+}
+
+fn answer_listed(alloc: Global, tables: &KeyTables) -> Result<Answer, NoMemory>
+    ensures status { IfOk result (λ answer. answer.status ≡ Status.Fine) }
+    ensures text { IfOk result (λ answer. answer.text.bytes ≡ listing_of tables.now) }
+{
+    Ok(Answer {
+        status: Status::Fine,
+        text: tables.listing(alloc)?,
+    })
+}
+
+fn answer_refused(alloc: Global, fault: KeyFault) -> Answer
+    ensures status { result.status ≡ Status.Refused fault.kind fault.line fault.column }
+    ensures text { result.text.bytes ≡ [] }
+{
+    Answer {
+        status: Status::Refused {
+            code: fault.kind,
+            a: fault.line,
+            b: fault.column,
+        },
+        text: Bytes::new(alloc),
+    }
+}
