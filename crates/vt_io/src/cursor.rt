@@ -4,7 +4,7 @@ use std::marker::Model;
 use vt_base::Bytes;
 
 /// Bytes that are taken from the front.
-#[derive(Debug, Drop)]
+#[derive(Drop)]
 pub struct Cursor {
     bytes: Bytes,
     at: usize,

@@ -1,11 +1,14 @@
-//! Where bytes come from and go to: sources and sinks, in memory and over the real streams.
+//! Where bytes come from and go to: sources and sinks, in memory and over the real streams; and the
+//! gate before calls.
 #![tactic(auto)]
 
 mod cursor;
 mod failed;
+mod gate;
 mod mem_sink;
 mod mem_source;
 mod no_fault_source;
+mod open_gate;
 mod retries;
 mod sink;
 mod source;
@@ -15,9 +18,11 @@ mod std_source;
 mod tests;
 
 pub use failed::Failed;
+pub use gate::Gate;
 pub use mem_sink::MemSink;
 pub use mem_source::MemSource;
 pub use no_fault_source::NoFaultSource;
+pub use open_gate::OpenGate;
 pub use sink::Sink;
 pub use source::Source;
 pub use std_sink::StdSink;

@@ -12,7 +12,7 @@ use vt_base::Bytes;
 
 /// A sink in memory: it keeps what fits its room, and has a fault at each call that is named for
 /// one and where a piece finds no room.
-#[derive(Debug, Drop)]
+#[derive(Drop)]
 pub struct MemSink {
     bytes: Bytes,
     fails: Cursor,
@@ -33,7 +33,7 @@ impl Model for MemSink {
 }
 
 impl MemSink {
-    /// A sink that keeps at most the bytes that `room` has room for, behind those that `room` has
+    /// A sink that keeps at most the bytes that `room` has room for, after those that `room` has
     /// already. Of its calls, from 0, call k fails where byte k of `fails` is there and isn't 0.
     pub fn new(room: Bytes, fails: Bytes) -> MemSink
         ensures held { result.held ≡ room.bytes }

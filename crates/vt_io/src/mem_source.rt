@@ -10,7 +10,7 @@ use std::marker::Model;
 use vt_base::Bytes;
 
 /// A source in memory: its bytes in order, and a fault at each call that is named for one.
-#[derive(Debug, Drop)]
+#[derive(Drop)]
 pub struct MemSource {
     left: Cursor,
     fails: Cursor,

@@ -9,7 +9,7 @@ use std::marker::Model;
 use vt_base::Bytes;
 
 /// A source in memory that never fails.
-#[derive(Debug, Drop)]
+#[derive(Drop)]
 pub struct NoFaultSource {
     left: Cursor,
 }

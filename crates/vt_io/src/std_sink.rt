@@ -12,7 +12,7 @@ use std::marker::Model;
 /// A sink over a writer of std, which tells nothing of its bytes. A write that was interrupted is
 /// tried again as a source's read is. A write that takes no byte of a piece that has some is a
 /// fault.
-#[derive(Debug, Drop)]
+#[derive(Drop)]
 pub struct StdSink<W> {
     writer: W,
     faults: u64,

@@ -11,7 +11,7 @@ use std::marker::Model;
 /// A source over a reader of std, which tells nothing of its bytes. A read that was interrupted is
 /// tried again, at most [`RETRIES`] times in a call; one more interruption, and every other error,
 /// is a fault.
-#[derive(Debug, Drop)]
+#[derive(Drop)]
 pub struct StdSource<R> {
     reader: R,
     faults: u64,
