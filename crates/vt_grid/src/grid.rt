@@ -93,7 +93,7 @@ impl Grid {
         scroll_up_alone::<Brand>(self, top, bottom, n, c, Blank::new(1));
     }
 
-    /// Does what [`Grid::scroll_up`] does, and counts its steps. It writes no cell.
+    /// Does what [`Grid::scroll_up`] does, and counts its steps, of which none is told for a cell.
     pub fn scroll_up_counted<L: Ledger>(
         &mut self,
         top: u8,

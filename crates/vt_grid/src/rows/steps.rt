@@ -3,8 +3,10 @@ ghost use Rattle.std.specs.Prelude.{◌≡◌, ◌+◌, ◌<◌};
 use std::marker::Model;
 use std::sync::ledger::{Blank, Book, Ledger, Share};
 
-/// How many steps the calls of a [`RowStore`](super::RowStore) took. It is there for proofs
-/// alone, and has no bytes when a program runs.
+/// How many steps the calls of a [`RowStore`](super::RowStore) took, as each told the ledger: a call
+/// that did more than it told of would be proved too, so that a cut row costs one step is read in
+/// [`RowStore::cut`](super::RowStore::cut) and said by no clause. It is there for proofs alone, and
+/// has no bytes when a program runs.
 #[derive(Drop)]
 pub struct Steps<L: Ledger> {
     book: Book<L>,
