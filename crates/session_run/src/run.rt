@@ -1,5 +1,5 @@
 ghost use Rattle.std.specs.Prelude.{◌≡◌};
-ghost use Rattle.session_order.specs.Ends.{tail_at};
+ghost use Rattle.vt_journal.specs.Room.{tail_at};
 
 use vt_journal::{Full, Log, Tail};
 use vt_world::World;
