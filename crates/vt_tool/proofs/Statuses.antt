@@ -1,7 +1,7 @@
 -- The statuses that a command gives for an input.
 use Rattle.std.proofs.Common.{◌≡◌, ℕ, Bool, true, false, inl, inr, List, refl, sym, ap, ◌∙◌, true≢false}
 use Rattle.vt_io.specs.Stream.{Stream}
-use Rattle.session_order.specs.Ends.{tail_at}
+use Rattle.vt_journal.specs.Room.{tail_at}
 use Rattle.vt_journal.specs.declared.tail.Tail.{Tail}
 use Rattle.vt_journal.specs.declared.tail.Tail.TheVariants as tail
 use Rattle.vt_tool.specs.Outcome.{Gives, Outcome}

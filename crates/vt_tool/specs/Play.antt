@@ -1,11 +1,12 @@
 -- What `play` prints of a session: its serial play, and the console after it. This project's own.
 use Rattle.std.specs.Prelude.{◌≡◌, ◌<◌, ℕ, List, ◌++◌, length, Option, option_map}
-use Rattle.session_order.specs.Ends.{Ends, tail_at}
+use Rattle.session_order.specs.Ends.{Ends}
+use Rattle.vt_journal.specs.Room.{tail_at}
 use Rattle.session_order.specs.Follows.{Follows}
 use Rattle.session_order.specs.Meant.{meant}
 use Rattle.session_order.specs.Serial.{IsSerial}
 use Rattle.session_run.specs.Final.{final_text}
-use Rattle.session_run.specs.Runs.{stage_of, start_of}
+use Rattle.session_order.specs.Sessions.{stage_of, start_of}
 use Rattle.session_text.specs.Sessions.{SessionView}
 use Rattle.vt_events.specs.declared.entry.Entry.{Entry}
 use Rattle.vt_journal.specs.Journal.{journal_text}
