@@ -4,7 +4,8 @@ use Rattle.std.proofs.lemmas.Option.{none-some, same_Some}
 use Rattle.std.specs.Prelude.{⊤}
 use Rattle.session_order.proofs.Programs.{behind_first, taken}
 use Rattle.sig_hooks.specs.declared.act.Act.{Act}
-use Rattle.session_text.specs.Programs.{Call, all_calls, call, calls, calls_from, ends, exits, is_wait, next, nothing, scans, script, signals_in, takes}
+use Rattle.session_text.specs.Programs.{Call, all_calls, call, calls, calls_from, ends, exits, next, nothing, scans, script, signals_in, takes}
+use Rattle.vt_events.specs.Waits.{is_wait}
 use Rattle.session_text.specs.declared.program.Program.{Program}
 use Rattle.session_text.specs.declared.program.Program.TheVariants as program
 use Rattle.vt_events.specs.Plain.{plain_event}

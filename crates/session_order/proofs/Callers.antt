@@ -8,7 +8,8 @@ use Rattle.std.specs.Prelude.{not, ◌==◌, ◌&&◌, if◌then◌else◌}
 use Rattle.session_order.proofs.Ages.{AllAge, all-stay, at-map, at-set, breaks, holds, settled-age, then_all, with_all}
 use Rattle.session_order.proofs.Deeds.{NoWait, OneWait, RowDoes, all-done-age, row-does, tell-age}
 use Rattle.session_order.proofs.Steps.{Accepted, RefusedByAll, RefusedByOwn, StepDoes, accepted, common-none, none-common, step-does}
-use Rattle.session_text.specs.Programs.{is_exit, is_wait}
+use Rattle.session_text.specs.Programs.{is_exit}
+use Rattle.vt_events.specs.Waits.{is_wait}
 use Rattle.vt_base.specs.declared.errno.Errno.{Errno}
 use Rattle.vt_base.specs.declared.errno.Errno.TheVariants as errno
 use Rattle.vt_events.specs.declared.event.Event.{Event}

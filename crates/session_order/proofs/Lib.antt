@@ -5,6 +5,7 @@ pub mod Deeds
 pub mod Lively
 pub mod Meant
 pub mod Programs
+pub mod Races
 pub mod Progress
 pub mod Rounds
 pub mod Steps

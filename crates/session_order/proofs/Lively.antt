@@ -12,7 +12,8 @@ use Rattle.session_order.proofs.Callers.{Awake, Sound, Stepped, exit-kills, step
 use Rattle.session_order.proofs.Programs.{next-fine}
 use Rattle.session_order.proofs.Steps.{exit-never-waits, gone-dead, keyboard-never-waits}
 use Rattle.session_order.specs.Calls.{call_of, calls_by, next_by, next_of}
-use Rattle.session_text.specs.Programs.{Call, call, ends, is_exit, is_gone, is_kill, is_wait, next}
+use Rattle.session_text.specs.Programs.{Call, call, ends, is_exit, is_gone, is_kill, next}
+use Rattle.vt_events.specs.Waits.{is_wait}
 use Rattle.session_text.specs.declared.program.Program.{Program}
 use Rattle.vt_events.specs.declared.entry.Entry.{Entry}
 use Rattle.vt_events.specs.declared.event.Event.{Event}

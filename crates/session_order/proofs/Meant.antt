@@ -7,7 +7,8 @@ use Rattle.std.specs.List.{list_all, range_with_len, sum_by}
 use Rattle.std.specs.Prelude.{◌==◌, ◌&&◌, count_by, nat_le, nat_lt, slice_get}
 use Rattle.session_order.proofs.Programs.{next-fine, plain-twice}
 use Rattle.session_order.specs.Calls.{call_of, calls_by, is_none, next_by, next_of}
-use Rattle.session_order.specs.Ends.{IsWithin, Stage, has_room}
+use Rattle.session_order.specs.Ends.{Stage}
+use Rattle.vt_journal.specs.Room.{IsWithin, has_room}
 use Rattle.session_order.specs.Follows.{IsNextCall, is_waiting}
 use Rattle.session_order.specs.Meant.{EndsIsMeant, FollowsIsMeant, LegalIsMeant, NextIsMeant, NextIsPlain, ReplayIsMeant, meant}
 use Rattle.session_text.specs.Programs.{call}

@@ -6,7 +6,8 @@ use Rattle.std.specs.Prelude.{⊤, ◌-◌, not, ◌&&◌, ◌||◌, filter_map,
 use Rattle.sig_hooks.specs.declared.act.Act.{Act}
 use Rattle.sig_hooks.specs.declared.act.Act.TheVariants as acts
 use Rattle.session_order.specs.Calls.{as_meant}
-use Rattle.session_text.specs.Programs.{Call, act_at, act_call, all_calls, call, calls, calls_from, ends, exits, is_exit, is_gone, is_kill, is_wait, next, nothing, scans, script, signals_in, takes}
+use Rattle.session_text.specs.Programs.{Call, act_at, act_call, all_calls, call, calls, calls_from, ends, exits, is_exit, is_gone, is_kill, next, nothing, scans, script, signals_in, takes}
+use Rattle.vt_events.specs.Waits.{is_wait}
 use Rattle.session_text.specs.declared.program.Program.{Program}
 use Rattle.session_text.specs.declared.program.Program.TheVariants as program
 use Rattle.vt_events.specs.Plain.{plain_event, plain_reply}

@@ -4,7 +4,8 @@ use Rattle.std.proofs.lemmas.Bool.{and_parts, both_ways, false≢true, not-true,
 use Rattle.std.proofs.lemmas.Option.{none-some, same_Some}
 use Rattle.std.specs.List.{list_all}
 use Rattle.std.specs.Prelude.{◌==◌, not, ◌&&◌, if◌then◌else◌}
-use Rattle.session_text.specs.Programs.{is_exit, is_gone, is_kill, is_srch, is_wait}
+use Rattle.session_text.specs.Programs.{is_exit, is_gone, is_kill, is_srch}
+use Rattle.vt_events.specs.Waits.{is_wait}
 use Rattle.vt_base.specs.declared.errno.Errno.{Errno}
 use Rattle.vt_base.specs.declared.errno.Errno.TheVariants as errno
 use Rattle.vt_events.specs.declared.event.Event.{Event}

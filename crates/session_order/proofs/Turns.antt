@@ -11,7 +11,8 @@ use Rattle.std.specs.List.{range_with_len}
 use Rattle.std.specs.Prelude.{◌==◌, not, slice_get, if◌then◌else◌, nat_le, nat_lt}
 use Rattle.session_order.proofs.Programs.{next-fine}
 use Rattle.session_order.specs.Calls.{calls_by, next_by, next_of}
-use Rattle.session_order.specs.Ends.{Ends, IsWithin, Stage, Stops, full_at, has_room}
+use Rattle.session_order.specs.Ends.{Ends, Stage, Stops}
+use Rattle.vt_journal.specs.Room.{IsWithin, full_at, has_room}
 use Rattle.session_order.specs.Follows.{Follows, IsNextCall, is_waiting}
 use Rattle.session_order.specs.Laws.{SerialIsRight}
 use Rattle.session_order.specs.Serial.{Played, call_now, calls, entry_at, is_finished, nothing_played, round, rounds, tail_of, turn, turns}

@@ -16,9 +16,13 @@ as_meant c = call (plain_event c.event) (plain_reply c.reply)
 abbrev pub call_of : Entry → Call
 call_of entry = as_meant (call entry.event entry.reply)
 
+-- the entries of caller p, in order
+abbrev pub made_by : ℕ → List Entry → List Entry
+made_by p history = filter (λ entry. entry.caller == p) history
+
 -- the calls that caller p made, in order
 abbrev pub calls_by : ℕ → List Entry → List Call
-calls_by p history = map call_of (filter (λ entry. entry.caller == p) history)
+calls_by p history = map call_of (made_by p history)
 
 -- the next call behind those that were made; where there is no program there is none
 abbrev pub next_of : Option Program → List Call → Option Event

@@ -1,5 +1,5 @@
 -- How the history of a session ends. This project's own.
-use Rattle.std.specs.Prelude.{◌≡◌, ℕ, ◌+◌, ◌≤◌, ◌&&◌, nat_le, nat_lt, Bool, true, false, List, length, Option, Some, None}
+use Rattle.std.specs.Prelude.{◌≡◌, ℕ, true, false, List, length, Some}
 use Rattle.session_order.specs.Calls.{all_over, next_by}
 use Rattle.session_order.specs.Follows.{is_waiting}
 use Rattle.session_text.specs.declared.program.Program.{Program}
@@ -7,6 +7,7 @@ use Rattle.vt_events.specs.Charge.{charge_of}
 use Rattle.vt_events.specs.declared.entry.Entry.{Entry}
 use Rattle.vt_events.specs.declared.event.Event.{Event}
 use Rattle.vt_journal.specs.Log.{charge_of_all}
+use Rattle.vt_journal.specs.Room.{IsWithin, full_at, has_room}
 use Rattle.vt_journal.specs.declared.full.Full.{Full}
 use Rattle.vt_journal.specs.declared.limits.Limits.{Limits}
 use Rattle.vt_journal.specs.declared.tail.Tail.{Tail}
@@ -20,26 +21,6 @@ pub record Stage : Type 0 where
   pub start : WorldState
   pub programs : List Program
   pub limits : Limits
-
--- one more entry of that charge is within the limits
-abbrev pub has_room : Limits → List Entry → ℕ → Bool
-has_room limits history charge =
-    nat_lt (length history) limits.events && nat_le (charge_of_all history + charge) limits.bytes
-
--- the entries are within the limits
-pub record IsWithin (limits : Limits) (history : List Entry) : Type 0 where
-  pub events : length history ≤ limits.events
-  pub bytes : charge_of_all history ≤ limits.bytes
-
--- where a call of that charge finds no room
-abbrev pub full_at : List Entry → ℕ → Full
-full_at history charge =
-    record { events = length history; bytes = charge_of_all history; charge = charge }
-
--- the end of a journal with this history, which stopped there, or where all calls stand
-abbrev pub tail_at : List Entry → Option Full → Tail
-tail_at history None = tail.End (length history) (charge_of_all history)
-tail_at history (Some full) = tail.Full full
 
 -- some caller doesn't wait, and its next call finds no room: that is where the history stops
 pub record Stops (o : Stage) (history : List Entry) (full : Full) : Type 0 where

@@ -1,7 +1,8 @@
 -- Histories as they are meant: the room that the bytes of calls and answers have changes nothing.
 use Rattle.std.specs.Prelude.{◌≡◌, List, map, Some, Option}
 use Rattle.session_order.specs.Calls.{as_meant}
-use Rattle.session_order.specs.Ends.{Ends, Stage, tail_at}
+use Rattle.session_order.specs.Ends.{Ends, Stage}
+use Rattle.vt_journal.specs.Room.{tail_at}
 use Rattle.session_order.specs.Follows.{Follows}
 use Rattle.session_text.specs.Programs.{Call, next}
 use Rattle.session_text.specs.declared.program.Program.{Program}

@@ -3,7 +3,8 @@
 use Rattle.std.specs.Prelude.{◌≡◌, ℕ, zero, suc, ◌==◌, ◌||◌, Bool, true, List, [], ◌∷◌, ◌++◌, count_by, length, Option, Some, None, is_some, if◌then◌else◌}
 use Rattle.std.specs.List.{range_with_len}
 use Rattle.session_order.specs.Calls.{all_over, next_by}
-use Rattle.session_order.specs.Ends.{Stage, full_at, has_room, tail_at}
+use Rattle.session_order.specs.Ends.{Stage}
+use Rattle.vt_journal.specs.Room.{full_at, has_room, tail_at}
 use Rattle.session_order.specs.Follows.{is_waiting}
 use Rattle.vt_events.specs.Charge.{charge_of}
 use Rattle.vt_events.specs.declared.entry.Entry.{Entry}

@@ -1,6 +1,7 @@
-//! The laws of the serial schedule.
+//! The laws of a session's calls: of the serial schedule, and of a race.
 ghost use Rattle.session_order.specs.Laws.{FinishedStays, RoundsAddUp, RoundsGoOn, SerialEnds, SerialIsOne, SerialIsRight};
 ghost use Rattle.session_order.specs.Meant.{EndsIsMeant, FollowsIsMeant, LegalIsMeant, NextIsMeant, NextIsPlain, ReplayIsMeant};
+ghost use Rattle.session_order.specs.Races.{RaceIsRight, RunsGrow};
 
 /// The schedule plays one history, which is legal, follows the programs and ends. From a start of the
 /// console there is such a play: each round makes an entry or stops, until it is finished.
@@ -21,4 +22,11 @@ pub fn meant_laws()
     ensures legal { LegalIsMeant }
     ensures follows { FollowsIsMeant }
     ensures ends { EndsIsMeant }
+{}
+
+/// How a caller's run of its program grows, and that a race whose callers have all ended follows the
+/// programs and ends.
+pub fn race_laws()
+    ensures grows { RunsGrow }
+    ensures right { RaceIsRight }
 {}

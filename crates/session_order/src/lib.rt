@@ -4,4 +4,4 @@
 
 mod laws;
 
-pub use laws::{meant_laws, serial_laws};
+pub use laws::{meant_laws, race_laws, serial_laws};

@@ -4,7 +4,8 @@ use Rattle.std.proofs.lemmas.Option.{get_or_from_slice_get, slice_get_within}
 use Rattle.std.specs.List.{All}
 use Rattle.std.specs.Prelude.{slice_get}
 use Rattle.session_order.specs.Laws.{IsFromStart}
-use Rattle.session_run.specs.Runs.{HasScripts, IsScript, stage_of, start_of}
+use Rattle.session_run.specs.Runs.{HasScripts, IsScript}
+use Rattle.session_order.specs.Sessions.{stage_of, start_of}
 use Rattle.session_text.specs.Sessions.{ArePrograms, IsScriptProgram, SessionView}
 use Rattle.session_text.specs.declared.program.Program.{Program}
 use Rattle.session_text.specs.declared.program.Program.TheVariants as program

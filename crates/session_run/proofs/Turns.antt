@@ -7,7 +7,8 @@ use Rattle.std.proofs.lemmas.Option.{slice_get_within}
 use Rattle.std.specs.List.{All, sum_by}
 use Rattle.std.specs.Prelude.{is_some, nat_le, nat_lt, slice_get, if◌then◌else◌}
 use Rattle.session_order.specs.Calls.{calls_by, next_by, next_of}
-use Rattle.session_order.specs.Ends.{Stage, full_at, has_room}
+use Rattle.session_order.specs.Ends.{Stage}
+use Rattle.vt_journal.specs.Room.{full_at, has_room}
 use Rattle.session_order.specs.Follows.{is_waiting}
 use Rattle.session_order.specs.Meant.{NextIsMeant, meant}
 use Rattle.session_order.specs.Serial.{Played, call_now, calls, entry_at, nothing_played, turn}

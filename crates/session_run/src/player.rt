@@ -2,7 +2,7 @@ ghost use Rattle.std.specs.Prelude.{◌≡◌, ◌≤◌, ◌<◌, List, ◌∷�
 ghost use Rattle.session_order.specs.Ends.{Stage};
 ghost use Rattle.session_order.specs.Serial.{Played, call_now, entry_at, nothing_played, turn};
 ghost use Rattle.session_run.specs.Playing.{IsAt};
-ghost use Rattle.session_run.specs.Runs.{stage_of};
+ghost use Rattle.session_order.specs.Sessions.{stage_of};
 ghost use Rattle.session_text.specs.Walks.{Stands};
 ghost use Rattle.session_text.specs.declared.program.Program.{Program};
 ghost use Rattle.vt_events.specs.Charge.{charge_of};

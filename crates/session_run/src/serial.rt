@@ -1,8 +1,10 @@
 ghost use Rattle.std.specs.Prelude.{◌≡◌, ℕ, ◌<◌, [], length, IfOk, slice_index_or, vec_len};
-ghost use Rattle.session_order.specs.Ends.{Ends, tail_at};
+ghost use Rattle.session_order.specs.Ends.{Ends};
+ghost use Rattle.vt_journal.specs.Room.{tail_at};
 ghost use Rattle.session_order.specs.Follows.{Follows};
 ghost use Rattle.session_order.specs.Serial.{IsSerial};
-ghost use Rattle.session_run.specs.Runs.{HasHooks, ShowsTapes, played, stage_of, start_of};
+ghost use Rattle.session_run.specs.Runs.{HasHooks, played};
+ghost use Rattle.session_order.specs.Sessions.{ShowsTapes, stage_of, start_of};
 ghost use Rattle.vt_switch.specs.Law.{IsExplained, IsLawful};
 ghost use Rattle.vt_world.specs.History.{IsLegal, replay};
 ghost use Rattle.vt_world.specs.Laws.{moments};
@@ -31,7 +33,7 @@ pub fn play(alloc: Global, s: &Session) -> Result<Run, NoMemory>
     ensures lawful { IfOk result (λ run. IsLawful (moments (start_of s.now) run.log.entries)) }
     ensures explained { IfOk result (λ run. IsExplained (length run.log.entries) (core run.world)
         (moments (start_of s.now) run.log.entries)) }
-    ensures screens { IfOk result (λ run. ShowsTapes s.now run) }
+    ensures screens { IfOk result (λ run. ShowsTapes s.now run.world run.log.entries) }
 {
     serial_laws();
     meant_laws();

@@ -1,12 +1,13 @@
 -- What `play` gives: the serial play of a session, and the console after it. This project's own:
 -- docs/SESSIONS.md.
 use Rattle.std.specs.Prelude.{◌≡◌, ◌<◌, ℕ, List, [], ◌++◌, length, Option, option_map, Ok, Err}
-use Rattle.session_order.specs.Ends.{Ends, tail_at}
+use Rattle.session_order.specs.Ends.{Ends}
+use Rattle.vt_journal.specs.Room.{tail_at}
 use Rattle.session_order.specs.Follows.{Follows}
 use Rattle.session_order.specs.Meant.{meant}
 use Rattle.session_order.specs.Serial.{IsSerial}
 use Rattle.session_run.specs.Final.{final_text}
-use Rattle.session_run.specs.Runs.{stage_of, start_of}
+use Rattle.session_order.specs.Sessions.{stage_of, start_of}
 use Rattle.session_text.specs.Sessions.{IsSessionOf, SessionValue, SessionView, session_says}
 use Rattle.table_fields.specs.declared.fault.TableFault.{TableFault}
 use Rattle.vt_events.specs.declared.entry.Entry.{Entry}

@@ -1,7 +1,8 @@
 use Rattle.std.proofs.Common.{length, sym, ap, ◌∙◌, subst}
 use Rattle.session_order.specs.Laws.{IsRight}
 use Rattle.session_run.proofs.Sessions.{is-start}
-use Rattle.session_run.specs.Runs.{played, stage_of, start_of}
+use Rattle.session_run.specs.Runs.{played}
+use Rattle.session_order.specs.Sessions.{stage_of, start_of}
 use Rattle.vt_base.specs.ConsoleSet.{IsFitSet}
 use Rattle.vt_procs.specs.declared.config.Config.{Config}
 use Rattle.vt_switch.specs.Law.{IsExplained}

@@ -5,7 +5,8 @@ use Rattle.session_order.specs.Serial.{IsSerial, nothing_played, turns}
 use Rattle.session_run.proofs.Ends.{IsEnd, run-serial, run-world}
 use Rattle.session_run.proofs.Sessions.{from-start, program-count}
 use Rattle.session_run.specs.Playing.{IsAt}
-use Rattle.session_run.specs.Runs.{played, stage_of}
+use Rattle.session_run.specs.Runs.{played}
+use Rattle.session_order.specs.Sessions.{stage_of}
 use Rattle.session_text.specs.Sessions.{ArePrograms}
 use Rattle.vt_journal.specs.declared.limits.Limits.{Limits}
 use Rattle.vt_procs.specs.declared.config.Config.{Config}

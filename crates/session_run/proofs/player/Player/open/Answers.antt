@@ -1,7 +1,7 @@
 use Rattle.std.proofs.Common.{◌≡◌, None, length, refl, ap, ◌∙◌}
 use Rattle.session_run.proofs.Turns.{first-at}
 use Rattle.session_run.specs.Playing.{PlayerView}
-use Rattle.session_run.specs.Runs.{stage_of, start_of}
+use Rattle.session_order.specs.Sessions.{stage_of, start_of}
 use Rattle.vt_world.specs.Start.{opening}
 use Rattle.session_run.proofs.player.Player.open.Goals as goal
 

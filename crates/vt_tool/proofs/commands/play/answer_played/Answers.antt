@@ -1,7 +1,7 @@
 use Rattle.std.proofs.Common.{◌≡◌, ℕ, List, ◌++◌, length, ap, subst, sym, ◌∙◌}
-use Rattle.session_order.specs.Ends.{tail_at}
+use Rattle.vt_journal.specs.Room.{tail_at}
 use Rattle.session_run.specs.Final.{final_text}
-use Rattle.session_run.specs.Runs.{start_of}
+use Rattle.session_order.specs.Sessions.{start_of}
 use Rattle.vt_events.specs.declared.entry.Entry.{Entry}
 use Rattle.vt_journal.specs.Journal.{journal_text}
 use Rattle.vt_switch.specs.Law.{IsExplained}

@@ -1,0 +1,147 @@
+-- A race whose callers have all ended follows the programs and ends.
+use Rattle.std.proofs.Common.{◌≡◌, ◌⊎◌, ℕ, ◌+◌, ◌<◌, ◌≤◌, zero, suc, Bool, true, false, ⊎_elim, arith, List, [], ◌∷◌, cond, filter, length, take, map, Option, Some, None, refl, sym, ap, ◌∙◌, subst}
+use Rattle.std.proofs.lemmas.Bool.{and_from, cases_Bool, eq-eqb}
+use Rattle.std.proofs.lemmas.Option.{none-some, same_Some, slice_get_cases, slice_get_within}
+use Rattle.std.specs.List.{list_all, range_with_len}
+use Rattle.std.specs.Prelude.{◌==◌, slice_get}
+use Rattle.session_order.proofs.Turns.{each-more}
+use Rattle.session_order.specs.Calls.{all_over, call_of, calls_by, is_none, made_by, next_by, next_of}
+use Rattle.session_order.specs.Ends.{Ends, EndsBy, Finishes, Stage, Stops}
+use Rattle.session_order.specs.Follows.{Follows, IsNextCall}
+use Rattle.session_order.specs.Races.{HasEnded, HasNext, IsClosed, RaceIsRight, RunsGrow, StopsAt}
+use Rattle.session_text.specs.Programs.{next}
+use Rattle.session_text.specs.declared.program.Program.{Program}
+use Rattle.vt_events.specs.Plain.{plain_event}
+use Rattle.vt_events.specs.declared.entry.Entry.{Entry}
+use Rattle.vt_events.specs.declared.event.Event.{Event}
+use Rattle.vt_journal.specs.Room.{full_at, has_room, tail_at}
+use Rattle.vt_journal.specs.declared.full.Full.{Full}
+
+-- an element that passes a test stands among those that pass, behind the ones before it
+record Passes {A : Type 0} (test : A → Bool) (xs : List A) (k : ℕ) (x : A) : Type 0 where
+  pub place : ℕ
+  pub there : slice_get (filter test xs) place ≡ Some x
+  pub before : filter test (take k xs) ≡ take place (filter test xs)
+
+passes_more : {A : Type 0} (test : A → Bool) (y : A) (xs : List A) (k : ℕ) (x : A)
+    → Passes test xs k x → Passes test (y ∷ xs) (suc k) x
+passes_more test y xs k x found =
+    ⊎_elim
+    (λ is. record {
+      place = suc found.place;
+      there = ap (λ b. slice_get (cond b (y ∷ filter test xs) (filter test xs)) (suc found.place)) is ∙ found.there;
+      before =
+          ap (λ b. cond b (y ∷ filter test (take k xs)) (filter test (take k xs))) is
+          ∙ ap (λ ys. y ∷ ys) found.before
+          ∙ sym (ap (λ b. take (suc found.place) (cond b (y ∷ filter test xs) (filter test xs))) is);
+    })
+    (λ isnt. record {
+      place = found.place;
+      there = ap (λ b. slice_get (cond b (y ∷ filter test xs) (filter test xs)) found.place) isnt ∙ found.there;
+      before =
+          ap (λ b. cond b (y ∷ filter test (take k xs)) (filter test (take k xs))) isnt
+          ∙ found.before
+          ∙ sym (ap (λ b. take found.place (cond b (y ∷ filter test xs) (filter test xs))) isnt);
+    })
+    (cases_Bool (test y))
+
+passes : {A : Type 0} (test : A → Bool) (xs : List A) (k : ℕ) (x : A) → slice_get xs k ≡ Some x
+    → test x ≡ true → Passes test xs k x
+passes test [] k x is yes_x = absurd (none-some x is)
+passes test (y ∷ xs) zero x is yes_x =
+    let same : y ≡ x = same_Some y x is in
+    let yes_y : test y ≡ true = ap test same ∙ yes_x in
+    record {
+      place = 0;
+      there = ap (λ b. slice_get (cond b (y ∷ filter test xs) (filter test xs)) 0) yes_y ∙ ap Some same;
+      before = refl;
+    }
+passes test (y ∷ xs) (suc k) x is yes_x =
+    passes_more test y xs k x (passes test xs k x is yes_x)
+
+pub runs-grow : RunsGrow
+runs-grow program made entry run is =
+    each-more (λ before e. next program (map call_of before) ≡ Some (plain_event e.event)) made entry run is
+
+-- a caller that made an entry has a program
+has_program : (o : Stage) (history : List Entry) (stop : Option Full) (caller p place : ℕ) (entry : Entry)
+    → IsClosed o history stop caller → slice_get (made_by p history) place ≡ Some entry
+    → (program : Program) × (slice_get o.programs p ≡ Some program)
+has_program o history stop caller p place entry closed there =
+    ⊎_elim
+    (λ found. (found.0, found.2))
+    (λ past. absurd (none-some entry (sym (ap (λ made. slice_get made place) (closed.known p past.0)) ∙ there)))
+    (slice_get_cases o.programs p).1
+
+follows : (o : Stage) (history : List Entry) (stop : Option Full) (caller : ℕ)
+    → IsClosed o history stop caller
+    → ((p : ℕ) (program : Program) → slice_get o.programs p ≡ Some program → HasEnded program (made_by p history) stop (p ≡ caller))
+    → Follows o.start o.programs history
+follows o history stop caller closed ended k entry is =
+    let p : ℕ = entry.caller in
+    let found : Passes (λ (x : Entry). x.caller == p) history k entry =
+    passes (λ (x : Entry). x.caller == p) history k entry is (eq-eqb p p refl) in
+    let (program, here) = has_program o history stop caller p found.place entry closed found.there in
+    let called : next program (map call_of (take found.place (made_by p history))) ≡ Some (plain_event entry.event) =
+    (ended p program here).run found.place entry found.there in
+    record {
+      next =
+          ap (λ known. next_of known (calls_by p (take k history))) here
+          ∙ ap (λ made. next program (map call_of made)) found.before
+          ∙ called;
+      ended = λ _. closed.free k entry is;
+    }
+
+-- every program is over where each of these is
+over_from : (test : ℕ → Bool) (a n : ℕ) → ((p : ℕ) → p < a + n → test p ≡ true)
+    → list_all test (range_with_len a n) ≡ true
+over_from test a zero each = refl
+over_from test a (suc n) each =
+    and_from (test a) (list_all test (range_with_len (a + 1) n)) (each a (omega arith))
+    (over_from test (a + 1) n (λ p low. each p (omega (arith, low))))
+
+is_over : (o : Stage) (history : List Entry) (caller p : ℕ)
+    → ((p : ℕ) (program : Program) → slice_get o.programs p ≡ Some program → HasEnded program (made_by p history) None (p ≡ caller))
+    → is_none (next_by o.programs p history) ≡ true
+is_over o history caller p ended =
+    ⊎_elim
+    (λ found.
+    ap (λ known. is_none (next_of known (calls_by p history))) found.2
+    ∙ ap is_none ((ended p found.0 found.2).over refl))
+    (λ past. ap (λ known. is_none (next_of known (calls_by p history))) past.1)
+    (slice_get_cases o.programs p).1
+
+ends_by : (o : Stage) (history : List Entry) (stop : Option Full) (caller : ℕ)
+    → IsClosed o history stop caller
+    → ((p : ℕ) (program : Program) → slice_get o.programs p ≡ Some program → HasEnded program (made_by p history) stop (p ≡ caller))
+    → EndsBy o history (tail_at history stop)
+ends_by o history None caller closed ended = record {
+  over = over_from (λ p. is_none (next_by o.programs p history)) 0 (length o.programs) (λ p _. is_over o history caller p ended);
+  entries = refl;
+  charge = refl;
+}
+ends_by o history (Some full) caller closed ended =
+    let at : StopsAt o history full caller = closed.stops full refl in
+    ⊎_elim
+    (λ found.
+    let call : HasNext found.0 (made_by caller history) full.charge =
+    (ended caller found.0 found.2).left full refl refl in
+    record {
+      caller = caller;
+      call = call.call;
+      next = ap (λ known. next_of known (calls_by caller history)) found.2 ∙ call.next;
+      goes = at.goes;
+      no_room = ap (has_room o.limits history) call.charge_is ∙ at.no_room;
+      numbers = at.numbers ∙ ap (full_at history) (sym call.charge_is);
+    })
+    (λ past. absurd (none-past caller (length o.programs) at.known past.0))
+    (slice_get_cases o.programs caller).1
+  where
+    none-past : (m n : ℕ) → m < n → n ≤ m → ⊥
+    none-past m n low high = omega (arith, low, high)
+
+pub race-right : RaceIsRight
+race-right o history stop caller closed ended = (
+  follows o history stop caller closed ended,
+  record { within = closed.within; rightly = ends_by o history stop caller closed ended },
+)
