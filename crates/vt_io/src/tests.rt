@@ -1,16 +1,18 @@
 //! The adapters over std's streams, which no proof ties to what a real stream does.
-use crate::{Failed, Sink, Source, StdSink, StdSource};
+use crate::{Failed, Gate, OpenGate, Sink, Source, StdSink, StdSource};
 use std::io;
 use std::io::{ErrorKind, Read, Write};
 use std::test::Fail;
+use vt_base::CallerNo;
 
 // A stream that is interrupted so often. Then it gives or takes one byte a call, or none where it
-// is full, or fails where it is broken.
+// is full, or fails where it is broken. It keeps the last byte that it took.
 #[derive(Clone, Copy)]
 struct Stream {
     interruptions: u16,
     broken: bool,
     full: bool,
+    taken: u8,
 }
 
 impl Stream {
@@ -36,7 +38,11 @@ impl Read for Stream {
 
 impl Write for Stream {
     fn write(&mut self, buf: &[u8]) -> io::Result<usize> {
-        Ok(self.next()?.min(buf.len()))
+        let count = self.next()?.min(buf.len());
+        if count == 1 {
+            self.taken = buf[0];
+        }
+        Ok(count)
     }
 
     fn flush(&mut self) -> io::Result<()> {
@@ -63,18 +69,25 @@ fn tries_again_after_an_interruption(rt: HostRuntime) -> Result<(), Fail> {
         (0, false, true, Ok(0), Err(Failed)),
     ];
     for (interruptions, broken, full, read, write) in cases {
-        let stream = Stream {
+        let mut stream = Stream {
             interruptions,
             broken,
             full,
+            taken: 0,
         };
         let mut buf = [b' '; 2];
         let mut src = StdSource::new(stream);
         assert_eq!(rt; src.read(&mut buf), read, "{interruptions}");
         assert_eq!(rt; buf[0] == b'x', read == Ok(1), "{interruptions}");
-        let mut sink = StdSink::new(stream);
-        assert_eq!(rt; sink.write(&buf), write, "{interruptions}");
+        let mut sink = StdSink::new(&mut stream);
+        assert_eq!(rt; sink.write(b"yz"), write, "{interruptions}");
+        assert_eq!(rt; stream.taken == b'y', write == Ok(1), "{interruptions}");
     }
     assert_eq!(rt; Failed.to_string(rt.alloc())?.as_str(), "failed");
     Ok(())
+}
+
+#[test]
+fn an_open_gate_holds_nobody_up(rt: HostRuntime) {
+    OpenGate.before(&rt, CallerNo::KEYBOARD, 0);
 }
