@@ -2,7 +2,7 @@
 use Rattle.std.specs.Prelude.{◌≡◌, ◌<◌, ℕ, ◌+◌, Bool, false, ◌==◌, Option, Some, None, List, [], ◌∷◌, count_by, if◌then◌else◌, length, slice_index}
 use Rattle.key_machine.specs.Keys.{Down, down_as, is_modifier}
 use Rattle.key_syms.specs.Act.{Act}
-use Rattle.key_syms.specs.declared.kind.TheConstants.{MODIFIER}
+use Rattle.key_syms.specs.Kinds.{MODIFIER}
 
 -- the keys down, where the first entry is that of keycode n
 abbrev pub downs_from : ℕ → List (Option Act) → List Down

@@ -4,7 +4,7 @@ use Rattle.std.specs.List.{list_any}
 use Rattle.std.specs.Option.{option_map}
 use Rattle.key_machine.specs.declared.waiting.Waiting.{Waiting}
 use Rattle.key_syms.specs.Act.{Act}
-use Rattle.key_syms.specs.declared.kind.TheConstants.{MODIFIER}
+use Rattle.key_syms.specs.Kinds.{MODIFIER}
 
 -- a key that is down: its keycode, and the action that was recorded at its press
 pub record Down : Type 0 where

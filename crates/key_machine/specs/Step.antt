@@ -10,7 +10,7 @@ use Rattle.key_machine.specs.declared.key_modes.KeyModes.{KeyModes}
 use Rattle.key_machine.specs.declared.key_out.KeyOut.{KeyOut}
 use Rattle.key_machine.specs.declared.key_out.KeyOut.TheVariants.{Attention, Last, Next, Nothing, Prev, Spawn, Switch}
 use Rattle.key_syms.specs.Act.{Act}
-use Rattle.key_syms.specs.declared.kind.TheConstants.{CHARACTER, CONSOLE, CURSOR, DEAD, FUNCTION, HOLE, LETTER, LOCK, META, MODIFIER, PAD, SPECIAL, STICKY}
+use Rattle.key_syms.specs.Kinds.{CHARACTER, CONSOLE, CURSOR, DEAD, FUNCTION, HOLE, LETTER, LOCK, META, MODIFIER, PAD, SPECIAL, STICKY}
 use Rattle.key_tables.specs.Tables.{Tables, entry_of, func_of, hole}
 use Rattle.scan_codes.specs.declared.key_event.KeyEvent.{KeyEvent}
 
