@@ -3,9 +3,12 @@
 
 In README.md and docs/*.md an indented line `$ COMMAND` that calls crates/vt/out/vt, or shows a file of examples/, is run
 from the top of the repository, and the indented lines after it have to be what it prints; a line `..` stands for any
-lines. The journal's lines that docs/TOUR.md quotes have to stand in examples/tour.journal, in the same order.
+lines. So is each line `$ COMMAND` of an example in man/, where `vt` is that program; the examples of a session and of a
+keymap there have to be taken. The journal's lines that docs/TOUR.md quotes have to stand in examples/tour.journal, in
+the same order.
 Prints a line for each difference, and ends with status 1 if there is one.
 """
+import os
 import pathlib
 import re
 import subprocess
@@ -34,14 +37,37 @@ def fits(lines, printed):
     return re.fullmatch(pattern, "".join(line.rstrip() + "\n" for line in printed if line.strip())) is not None
 
 
-def page_faults(page):
-    for command, lines in examples(page.read_text(encoding="utf-8")):
-        if not IS_RUN.search(command):
-            continue
-        ran = subprocess.run(["bash", "-c", command], cwd=TOP, capture_output=True, timeout=60, check=False)
+def differences(page, examples_of_page):
+    path = f"{TOP}/crates/vt/out:{os.environ['PATH']}"
+    for command, lines in examples_of_page:
+        ran = subprocess.run(
+            ["bash", "-c", command], cwd=TOP, env={**os.environ, "PATH": path}, capture_output=True, timeout=60, check=False
+        )
         printed = (ran.stdout + ran.stderr).decode("utf-8", "replace").splitlines()
         if not fits(lines, printed):
             yield f"{page.name}: `{command}` prints something else:\n" + "\n".join(printed[:12])
+
+
+def page_faults(page):
+    found = examples(page.read_text(encoding="utf-8"))
+    return differences(page, [it for it in found if IS_RUN.search(it[0])])
+
+
+# The command that takes what a page of man/ shows without one.
+TAKEN_BY = {"vt-session.5": "play", "vt-keymap.5": "keys"}
+
+
+def manual_faults(page):
+    text = page.read_text(encoding="utf-8").replace("\\e", "\\").replace("\\&", "")
+    for block in re.findall(r"\.Bd -literal.*\n((?:.*\n)*?)\.Ed\n", text):
+        if block.startswith("$ "):
+            command, *lines = block[2:].splitlines()
+            yield from differences(page, [(command, lines)])
+        elif page.name in TAKEN_BY:
+            words = [f"{TOP}/crates/vt/out/vt", TAKEN_BY[page.name]]
+            ran = subprocess.run(words, input=block.encode(), capture_output=True, timeout=60, check=False)
+            if ran.returncode:
+                yield f"{page.name}: its example is refused: {ran.stderr.decode('utf-8', 'replace')}"
 
 
 def tour_faults():
@@ -61,7 +87,9 @@ def tour_faults():
 
 def main():
     pages = [TOP / "README.md", *sorted((TOP / "docs").glob("*.md"))]
-    faults = [fault for page in pages for fault in page_faults(page)] + list(tour_faults())
+    manuals = sorted((TOP / "man").glob("*"))
+    faults = [fault for page in pages for fault in page_faults(page)]
+    faults += [fault for page in manuals for fault in manual_faults(page)] + list(tour_faults())
     for fault in faults:
         print(fault)
     return 1 if faults else 0
