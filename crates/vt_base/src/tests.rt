@@ -4,13 +4,17 @@ use std::test::Fail;
 #[test]
 fn numbers_are_listed_rising(rt: HostRuntime) {
     let consoles = ConsoleNo::all();
-    assert_eq!(rt; consoles[0].get(), 1);
-    assert_eq!(rt; consoles[62].get(), 63);
+    let (low, high) = (consoles[0].get(), consoles[62].get());
+    assert_eq!(rt; (low, high), (1, 63));
     let callers = CallerNo::all();
-    assert_eq!(rt; callers[0], CallerNo::KEYBOARD);
-    assert!(rt; callers[0].is_keyboard());
-    assert!(rt; !callers[64].is_keyboard());
-    assert_eq!(rt; CallerNo::processes()[0], callers[1]);
+    let (keyboard, last) = (callers[0], callers[64]);
+    assert!(rt; keyboard.is_keyboard());
+    assert!(rt; !last.is_keyboard());
+    assert_eq!(rt; (keyboard.get(), last.get()), (0, 64));
+    let processes = CallerNo::processes();
+    let first = processes[0];
+    assert_eq!(rt; first.get(), 1);
+    assert_eq!(rt; CallerNo::KEYBOARD.get(), 0);
 }
 
 #[test]
