@@ -26,6 +26,10 @@ fn tables_of(alloc: Global, text: &[u8]) -> Result<KeyTables, KeyError> {
 fn check_dump(rt: &impl Abort, alloc: Global, text: &[u8], expected: &[u8]) {
     match tables_of(alloc, text) {
         Ok(tables) => {
+            if !dumpable(&tables) {
+                assert!(rt; false);
+                return;
+            }
             match dump(alloc, &tables) {
                 Ok(found) => assert_eq!(rt; found.as_slice(), expected),
                 Err(_) => assert!(rt; false),
@@ -38,6 +42,9 @@ fn check_dump(rt: &impl Abort, alloc: Global, text: &[u8], expected: &[u8]) {
 // The dump of a keymap's tables, compiled again, has their listing.
 fn check_again(rt: &impl Abort, alloc: Global, text: &[u8]) -> Result<(), Fail> {
     let tables = tables_of(alloc, text).map_err(|_error| Fail::from("a fault"))?;
+    if !dumpable(&tables) {
+        return Err(Fail::from("not dumpable"));
+    }
     let text = dump(alloc, &tables)?;
     let again = tables_of(alloc, text.as_slice()).map_err(|_error| Fail::from("a fault"))?;
     let first = tables.listing(alloc)?;
