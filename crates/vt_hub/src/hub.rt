@@ -45,11 +45,7 @@ impl<J: Opening> Model for Hub<J> {
 
 impl<J: Opening> Hub<J> {
     /// A hub over this world, and its steward. The journal's room is reserved whole.
-    pub fn open(
-        alloc: Global,
-        w: World,
-        limits: Limits,
-    ) -> Result<(Hub<J>, Steward<J>), NoMemory>
+    pub fn open(alloc: Global, w: World, limits: Limits) -> Result<(Hub<J>, Steward<J>), NoMemory>
         requires start { w ≡ J.start }
         requires limits { limits ≡ J.limits }
         requires events { limits.events ≤ 1_000_000 }
@@ -58,7 +54,9 @@ impl<J: Opening> Hub<J> {
         ensures { IfOk result (λ made. made.1 ≡ opened J.start made.0) }
     {
         let log = Log::with_room(alloc, limits.events, limits.bytes)?;
-        let (lock, place) = TurnLock::open(alloc, Shared::new(w, log))?;
+        let shared = Shared::new(w, log);
+        shared.sound();
+        let (lock, place) = TurnLock::open(alloc, shared)?;
         let stands = [Stand::Unmade; 65];
         Ok((
             Hub { lock, alloc },

@@ -5,10 +5,7 @@ use vt_journal::Full;
 #[derive(Drop)]
 pub enum Turn {
     /// Its call was entered at this place.
-    Done {
-        at: u32,
-        reply: Reply,
-    },
+    Done { at: u32, reply: Reply },
     /// The hub has stopped.
     Full(Full),
     /// The caller's ticket is open: nothing was entered.
