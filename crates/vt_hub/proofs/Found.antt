@@ -1,6 +1,7 @@
 -- What a pass finds under the lock, and what its look comes to.
-use Rattle.std.proofs.Common.{◌≡◌, ◌⊎◌, inl, inr, ℕ, ◌+◌, ◌*◌, ◌<◌, Bool, true, false, List, [], ◌∷◌, ◌++◌, length, Option, Some, None, refl, sym, ap, ◌∙◌, subst, arith}
+use Rattle.std.proofs.Common.{◌≡◌, ◌⊎◌, inl, inr, ℕ, ◌+◌, ◌*◌, ◌<◌, ◌≤◌, ◌==◌, Bool, true, false, List, [], ◌∷◌, ◌++◌, length, Option, Some, None, refl, sym, ap, ◌∙◌, subst, arith}
 use Rattle.std.proofs.lemmas.List.{length-map}
+use Rattle.std.proofs.lemmas.List.Sums.{count_by-le-length, length-filter}
 use Rattle.turn_lock.specs.History.{IsWordIn, StartsWith, entries_by, word_of}
 use Rattle.turn_lock.specs.Rule.{IsCaller}
 use Rattle.turn_lock.specs.Views.{having}
@@ -75,6 +76,12 @@ pub record Left (hub : TableId) (number : ℕ) (v : View Entry Full) (seen mine 
   pub mine_is : w.mine ≡ mine
   pub stop_is : w.stop ≡ stop
 
+-- a caller made no more calls than there are
+pub few-made : (n : ℕ) (es : List Entry) → length (made_by n es) ≤ length es
+few-made n es =
+    let calls = length-filter (λ (x : Entry). x.caller == n) es in
+    let few = count_by-le-length (λ (x : Entry). x.caller == n) es in omega (arith, calls, few)
+
 -- the word that is computed is that of the history
 pub front-is : (start : WorldState) (most : Limits) (s : SharedView) → IsSound start most s
     → 64 * length s.log.entries + s.world.display.front
@@ -103,7 +110,7 @@ module _ (start : WorldState) (most : Limits) (number seq : ℕ) (v : View Entry
   pub count : seq ≡ length (made_by number s.log.entries)
   count =
       found.counted
-      ∙ (sym (length-map (λ (e : Carried). e.what) v.mine) ∙ ap length made)
+      ∙ (sym (length-map v.mine) ∙ ap length made)
 
   pub later : List Entry
   later = plain found.begins.0

@@ -1,5 +1,5 @@
 -- What lies under the lock of a hub, and what a look at it comes to. This project's own.
-use Rattle.std.specs.Prelude.{◌≡◌, ◌<◌, ℕ, true, false, List, [], ◌∷◌, ◌++◌, length, Option, Some, None}
+use Rattle.std.specs.Prelude.{◌≡◌, ◌<◌, ◌≤◌, ℕ, true, false, List, [], ◌∷◌, ◌++◌, length, Option, Some, None}
 use Rattle.turn_lock.specs.declared.seal.Seal.{Seal}
 use Rattle.vt_events.specs.Charge.{charge_of}
 use Rattle.vt_events.specs.Plain.{plain_reply}
@@ -57,6 +57,7 @@ pub record Enters (p : ℕ) (seq : ℕ) (e : Event) (v w : SharedView) (place : 
   pub free : is_waiting v.world p ≡ false
   pub met : v.stop ≡ None
   pub goes_on : w.stop ≡ None
+  pub few : length v.log.entries ≤ 1_000_000
 
 -- the call e of caller p found a stop, or no room, which is one
 pub record Stops (p : ℕ) (e : Event) (v w : SharedView) (full : Full) : Type 0 where

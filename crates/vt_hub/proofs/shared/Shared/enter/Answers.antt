@@ -17,7 +17,7 @@ invariant_of-self g c =
       stop = c.self.inside.stop;
     } in
     let w : SharedView = record {
-      world = c.step.new.self;
+      world = c.step-reply.new.self;
       log = c.push.new.self;
       stop = c.self.inside.stop;
     } in
@@ -27,15 +27,15 @@ invariant_of-self g c =
       event = c.args.event;
       reply = c.copy_into.result;
     } in
-    let of : IsEntryOf c.args.caller c.args.seq c.args.event c.step.result.0 entry =
+    let of : IsEntryOf c.args.caller c.args.seq c.args.event c.step-reply.result.0 entry =
     record { caller = refl; number = refl; event = refl; reply = c.copy_into.ensures } in
     enters g.J.Opening.start g.J.Opening.limits v w c.args.caller c.args.seq c.args.event
-    c.step.result.0 entry of c.step.ensures.step c.self.invariant c.legal_grows.ensures.more
+    c.step-reply.result.0 entry of c.step-reply.ensures.step c.self.invariant c.legal_grows.ensures.more
     c.legal_grows.ensures.replay c.sizes_stay.ensures c.tickets_are_called.ensures
     (ap (λ (x : SharedView). is_waiting x.world c.args.caller) c.self.view_is ∙ c.requires.free)
     (c.requires.number
     ∙ ap (λ (x : SharedView). length (made_by c.args.caller x.log.entries)) (sym c.self.view_is))
     (ap (λ l. l.entries) c.push.ensures) (ap (λ l. l.limits) c.push.ensures)
     (ap (λ (x : SharedView). x.stop) c.self.view_is ∙ c.requires.open)
-    (omega (arith, c.get-_front.ensures.low, c.get-_front.ensures.same, c.display.ensures))
-    (omega (arith, c.get-_front.ensures.high, c.get-_front.ensures.same, c.display.ensures))
+    (omega (arith, c.get-front.ensures.low, c.get-front.ensures.same, c.display.ensures))
+    (omega (arith, c.get-front.ensures.high, c.get-front.ensures.same, c.display.ensures))
