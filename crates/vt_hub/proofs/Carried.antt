@@ -1,5 +1,5 @@
 -- Histories as the lock carries them, against those of the journal.
-use Rattle.std.proofs.Common.{◌≡◌, ℕ, zero, suc, ◌+◌, ◌*◌, ◌/◌, ◌%◌, ◌<◌, ◌≤◌, min, max, arith, Bool, true, false, cond, ◌==◌, List, [], ◌∷◌, ◌++◌, length, take, map, refl, ap, sym, ◌∙◌, subst, length-append}
+use Rattle.std.proofs.Common.{◌≡◌, ℕ, zero, suc, ◌+◌, ◌*◌, ◌/◌, ◌<◌, arith, Bool, true, false, cond, ◌==◌, List, [], ◌∷◌, ◌++◌, length, take, refl, ap, ◌∙◌, length-append}
 use Rattle.std.proofs.lemmas.List.{length-take-le, map-append, take-append-le}
 use Rattle.turn_lock.specs.History.{IsWordIn, display_after, entries_by, word_of}
 use Rattle.vt_events.specs.declared.entry.Entry.{Entry}

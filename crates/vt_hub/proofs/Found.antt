@@ -1,11 +1,11 @@
 -- What a pass finds under the lock, and what its look comes to.
-use Rattle.std.proofs.Common.{◌≡◌, ◌⊎◌, inl, inr, ℕ, ◌+◌, ◌*◌, ◌<◌, ◌≤◌, ◌==◌, Bool, true, false, List, [], ◌∷◌, ◌++◌, length, Option, Some, None, refl, sym, ap, ◌∙◌, subst, arith}
+use Rattle.std.proofs.Common.{◌≡◌, ℕ, ◌+◌, ◌*◌, ◌<◌, ◌≤◌, ◌==◌, List, [], ◌∷◌, ◌++◌, length, Option, Some, None, refl, sym, ap, ◌∙◌, subst, arith, length-append}
 use Rattle.std.proofs.lemmas.List.{length-map}
 use Rattle.std.proofs.lemmas.List.Sums.{count_by-le-length, length-filter}
-use Rattle.turn_lock.specs.History.{IsWordIn, StartsWith, entries_by, word_of}
+use Rattle.turn_lock.specs.History.{IsWordIn, StartsWith, word_of}
 use Rattle.turn_lock.specs.Rule.{IsCaller}
-use Rattle.turn_lock.specs.Views.{having}
-use Rattle.turn_lock.specs.Words.{AddsNext, HasMine, KnowsOwn, MaySeal, Stands}
+use Rattle.turn_lock.specs.Views.{having, published, resting}
+use Rattle.turn_lock.specs.Words.{AddsNext, HasMine, KnowsOwn, Stands}
 use Rattle.turn_lock.specs.declared.seal.Seal.{Seal}
 use Rattle.turn_lock.specs.declared.view.Role.{Role}
 use Rattle.turn_lock.specs.declared.view.Role.TheVariants.{Caller}
@@ -95,6 +95,21 @@ no_seal : (a b : Option (Seal Full)) → ((z : Seal Full) → a ≡ Some z → b
 no_seal None b sure none = refl
 no_seal (Some z) b sure none = let bad : Some z ≡ None = sym (sure z refl) ∙ none in absurd cc
 
+-- the stop that stands is answered
+pub met-before : (p : ℕ) (e : Event) (v : SharedView) (z : Seal Full) → v.stop ≡ Some z
+    → Stops p e v v z.what
+met-before p e v z is = record {
+  log = refl;
+  world = refl;
+  by = z.by;
+  stop = is;
+  again = λ y also. same_seal y z (sym also ∙ is);
+  first = λ none. let bad : None ≡ Some z = sym none ∙ is in absurd cc;
+}
+  where
+    same_seal : (a b : Seal Full) → Some a ≡ Some b → a ≡ b
+    same_seal a b same = cc
+
 module _ (start : WorldState) (most : Limits) (number seq : ℕ) (v : View Entry Full)
     (s : SharedView) (found : Found start most number seq v s) where
   pub first : display_of start ≡ start.display.front
@@ -110,7 +125,7 @@ module _ (start : WorldState) (most : Limits) (number seq : ℕ) (v : View Entry
   pub count : seq ≡ length (made_by number s.log.entries)
   count =
       found.counted
-      ∙ (sym (length-map v.mine) ∙ ap length made)
+      ∙ (sym (length-map v.mine (λ (e : Carried). e.what)) ∙ ap length made)
 
   pub later : List Entry
   later = plain found.begins.0
@@ -199,21 +214,6 @@ module _ (start : WorldState) (most : Limits) (number seq : ℕ) (v : View Entry
             (told_entry (front_after start es entry) entry ∷ []) v.known found.reads)));
       }
 
-  pub may_seal : (s' : SharedView) (e : Event) (full : Full) → Stops number e s s' full
-      → MaySeal s'.stop (record v { seal = s.stop })
-  may_seal s' e full stops = go s.stop refl
-    where
-      go : (o : Option (Seal Full)) → s.stop ≡ o → MaySeal s'.stop (record v { seal = s.stop })
-      go None is = inr (
-        is,
-        (
-          record { by = stops.by; what = full },
-          stops.stop,
-          found.named ∙ ap (λ (n : ℕ). Caller n) (sym (stops.first is).0),
-        ),
-      )
-      go (Some z) is = inl (stops.stop ∙ (sym (ap Some (stops.again z is)) ∙ sym is))
-
   own_charge : (s' : SharedView) (e : Event) (full : Full) (stops : Stops number e s s' full)
       → v.seal ≡ None → stops.by ≡ number → full.charge ≡ charge_of e
   own_charge s' e full stops unmet by = go s.stop refl
@@ -278,3 +278,90 @@ module _ (start : WorldState) (most : Limits) (number seq : ℕ) (v : View Entry
     goes_on = left.stop_is;
     waits = ap awaits made ∙ found.sound.tickets number waits.waits;
   }
+
+  -- what its turn comes to, with the views that the lock tells of: as it has its turn, as it published
+  -- the entry, and as it left
+  module _ (hub : TableId) (old : PassView) (is : known_by hub number v ≡ old) (here : TableId)
+      (home : here ≡ hub) (ticket : ℕ) (s' : SharedView) (held after : View Entry Full)
+      (has : held ≡ having ticket (told start s.log.entries) s.stop v) where
+    module _ (e : Event) (place : ℕ) (r : Reply) (enters : Enters number seq e s s' place r)
+        (shown : View Entry Full) (shows : shown ≡ published (told start s'.log.entries) held)
+        (adds_one : (x : Carried) → told start s'.log.entries ≡ held.seen ++ x ∷ []
+        → shown.mine ≡ held.mine ++ x ∷ [])
+        (left : after ≡ resting s'.stop shown) where
+      entry_told : Carried
+      entry_told = told_entry (front_after start s.log.entries enters.entry) enters.entry
+
+      after-mine : after.mine ≡ v.mine ++ entry_told ∷ []
+      unfolding entry_told
+      after-mine =
+          let grown : told start s'.log.entries ≡ held.seen ++ entry_told ∷ [] =
+          ap (told start) enters.entries
+          ∙ (told-more start s.log.entries enters.entry
+          ∙ ap (λ (x : View Entry Full). x.seen ++ entry_told ∷ []) (sym has)) in
+          ap (λ (x : View Entry Full). x.mine) left
+          ∙ (adds_one entry_told grown
+          ∙ ap (λ (x : View Entry Full). x.mine ++ entry_told ∷ []) has)
+
+      after-whole : after ≡ resting s'.stop (published (told start s'.log.entries) held)
+      after-whole = left ∙ ap (resting s'.stop) shows
+
+      pub role-after : after.role ≡ Caller number
+      role-after =
+          ap (λ (x : View Entry Full). x.role) after-whole
+          ∙ (ap (λ (x : View Entry Full). x.role) has ∙ found.named)
+
+      pub counted-after : seq + 1 ≡ length after.mine
+      unfolding entry_told
+      counted-after =
+          let long = ap length after-mine in
+          let one = length-append v.mine (entry_told ∷ []) in
+          let counted = found.counted in omega (arith, long, one, counted)
+
+      pub done : IsSound start most s' → Called start most e old (known_by here number after) place r
+      unfolding entry_told
+      done sound = subst
+          (λ (o : PassView). Called start most e o (known_by here number after) place r) is
+          (called hub s' e place r (known_by here number after) enters sound (record {
+            hub_is = home;
+            number_is = refl;
+            known_is = ap (λ (x : View Entry Full). x.known) after-whole
+                ∙ ap (λ (x : View Entry Full). x.known) has;
+            seen_is = ap (λ (x : View Entry Full). plain x.seen) after-whole
+                ∙ plain-told start s'.log.entries;
+            mine_is = ap plain after-mine ∙ plain-more v.mine (entry_told ∷ []);
+            stop_is = ap (λ (x : View Entry Full). x.seal) after-whole ∙ enters.goes_on;
+          }))
+
+    module _ (left : after ≡ resting s'.stop held) where
+      left-whole : after ≡ resting s'.stop (having ticket (told start s.log.entries) s.stop v)
+      left-whole = left ∙ ap (resting s'.stop) has
+
+      same-seen : plain after.seen ≡ s.log.entries
+      same-seen = ap (λ (x : View Entry Full). plain x.seen) left-whole
+          ∙ plain-told start s.log.entries
+
+      pub full : (e : Event) (full : Full) → Stops number e s s' full → IsSound start most s'
+          → Stopped start most e old (known_by here number after) full
+      full e answer stops sound = subst
+          (λ (o : PassView). Stopped start most e o (known_by here number after) answer) is
+          (stopped hub s' e answer (known_by here number after) stops sound (record {
+            hub_is = home;
+            number_is = refl;
+            known_is = ap (λ (x : View Entry Full). x.known) left-whole;
+            seen_is = same-seen;
+            mine_is = ap (λ (x : View Entry Full). plain x.mine) left-whole;
+            stop_is = ap (λ (x : View Entry Full). x.seal) left-whole;
+          }))
+
+      pub waits : Waits number s s' → Waited start old (known_by here number after)
+      waits waiting = subst (λ (o : PassView). Waited start o (known_by here number after)) is
+          (waited hub s' (known_by here number after) waiting (record {
+            hub_is = home;
+            number_is = refl;
+            known_is = ap (λ (x : View Entry Full). x.known) left-whole;
+            seen_is = same-seen;
+            mine_is = ap (λ (x : View Entry Full). plain x.mine) left-whole;
+            stop_is = ap (λ (x : View Entry Full). x.seal) left-whole
+                ∙ (ap (λ (x : SharedView). x.stop) waiting.same ∙ waiting.met);
+          }))

@@ -5,4 +5,3 @@ pub mod Found
 pub mod Between
 pub mod Whole
 pub mod Opens
-pub mod Rooms

@@ -1,11 +1,10 @@
 -- What a hub gives as it closes, from what the lock gives.
-use Rattle.std.proofs.Common.{◌≡◌, ◌⊎◌, ⊎_elim, ℕ, zero, suc, ◌<◌, ◌+◌, Bool, true, false, List, [], ◌∷◌, ◌++◌, length, map, Option, Some, None, refl, sym, ap, ◌∙◌, subst, arith}
+use Rattle.std.proofs.Common.{◌≡◌, ⊎_elim, ℕ, zero, suc, false, List, [], ◌∷◌, map, Option, Some, None, refl, sym, ap, ◌∙◌, subst, arith}
 use Rattle.std.specs.List.{All}
 use Rattle.std.specs.Prelude.{option_map, slice_get, slice_index_or}
-use mathlib.Core.Option.{some, none, some-injective, some-ne-none}
+use mathlib.Core.Option.{some, some-injective, some-ne-none}
 use lib.ListN.{get_elem?}
 use Rattle.turn_lock.specs.History.{IsWordIn, StartsWith, entries_by}
-use Rattle.turn_lock.specs.Rule.{Met}
 use Rattle.turn_lock.specs.Views.{among, joined_of, made_of}
 use Rattle.turn_lock.specs.Words.{IsPartOf, NamesJoined}
 use Rattle.turn_lock.specs.declared.seal.Seal.{Seal}
@@ -14,19 +13,17 @@ use Rattle.turn_lock.specs.declared.view.View.{View}
 use Rattle.atomic_table.specs.Seated.{TableId}
 use Rattle.vt_events.specs.declared.entry.Entry.{Entry}
 use Rattle.vt_hub.specs.Closed.{BeginsWith, IsPart, IsStopped, IsWhole}
-use Rattle.vt_hub.specs.Histories.{made_by}
 use Rattle.vt_hub.specs.Places.{joined_by, kept_by}
 use Rattle.vt_hub.specs.Shared.{IsSound, IsStop, SharedView}
 use Rattle.vt_hub.specs.Told.{Carried, display_of, plain, told}
-use Rattle.vt_hub.specs.Views.{PassView, StewardView, is_made, stand_at}
+use Rattle.vt_hub.specs.Views.{PassView, is_made, stand_at}
 use Rattle.vt_hub.specs.declared.stand.Stand.{Stand}
-use Rattle.vt_hub.specs.declared.stand.Stand.TheVariants.{Unmade}
 use Rattle.vt_hub.proofs.Carried.{first-display, made-told, plain-more, plain-told, read-told}
 use Rattle.vt_journal.specs.Log.{Logged}
 use Rattle.vt_journal.specs.Room.{IsWithin, full_at, has_room}
 use Rattle.vt_journal.specs.declared.full.Full.{Full}
 use Rattle.vt_journal.specs.declared.limits.Limits.{Limits}
-use Rattle.vt_world.specs.Laws.{DisplaysAreLawfulFrom, moments}
+use Rattle.vt_world.specs.Laws.{DisplaysAreLawfulFrom}
 use Rattle.vt_world.specs.State.{WorldState, is_waiting}
 
 module _ {A B : Type 0} where
@@ -46,6 +43,7 @@ module _ {A B : Type 0} where
   at-map f (y ∷ ys) zero x is = ap (λ (z : A). Some (f z)) (some-injective y x is)
   at-map f (y ∷ ys) (suc i) x is = at-map f ys i x is
 
+module _ {B : Type 0} where
   -- what holds of each holds of the one at a place
   all-at : (P : B → Type 0) (xs : List B) (i : ℕ) (x : B) → All P xs → slice_get xs i ≡ Some x → P x
   all-at P [] i x all is = absurd cc
@@ -62,6 +60,10 @@ pub record Told (before : ℕ) (log : List Carried) (seal : Option (Seal Full)) 
   pub joined : All (IsPartOf before log seal) (joined_of v.role)
   pub named : NamesJoined seal (joined_of v.role)
   pub unmade : (n : ℕ) → among n (made_of v.role) ≡ false → entries_by n log ≡ []
+
+seal_is : (z : Seal Full) (n : ℕ) (f : Full) → z.by ≡ n → z.what ≡ f
+    → z ≡ record { by = n; what = f }
+seal_is z n f p q k = record { by = p k; what = q k }
 
 -- where the hub stopped, without whose call it was
 abbrev pub stop_of : Option (Seal Full) → Option Full
@@ -91,7 +93,7 @@ module _ (start : WorldState) (most : Limits) (hub : TableId) (stands : List Sta
     mine = ap plain is.mine ∙ made-told x.number start s.log.entries;
     word = read-told start s.log.entries x.known first is.known;
     met = λ z has. ⊎_elim
-        (λ none. let bad : None ≡ Some z = sym none ∙ has in absurd cc)
+        (λ unmet. let bad : None ≡ Some z = sym unmet ∙ has in absurd cc)
         (λ m. (
           ap stop_of (sym m.0 ∙ has),
           ap plain m.1 ∙ plain-told start s.log.entries,
@@ -124,13 +126,9 @@ module _ (start : WorldState) (most : Limits) (hub : TableId) (stands : List Sta
             no_room = ap (λ (c : Full). has_room most s.log.entries c.charge) (sym what) ∙ right.no_room;
           }
 
-      seal_is : (z : Seal Full) (n : ℕ) (f : Full) → z.by ≡ n → z.what ≡ f
-          → z ≡ record { by = n; what = f }
-      seal_is z n f p q k = record { by = p k; what = q k }
-
   unstopped-all : stop_of s.stop ≡ None
       → All (λ x. x.stop ≡ None) (map (joined_by hub) (joined_of v.role))
-  unstopped-all none k d low =
+  unstopped-all unmet k d low =
       let x : PassView = slice_index_or (map (joined_by hub) (joined_of v.role)) k d in
       go x.stop refl (parts k d low).met
     where
@@ -142,7 +140,7 @@ module _ (start : WorldState) (most : Limits) (hub : TableId) (stands : List Sta
           → (slice_index_or (map (joined_by hub) (joined_of v.role)) k d).stop ≡ None
       go None is met = is
       go (Some z) is met =
-          let bad : None ≡ Some z.what = sym none ∙ (met z is).0 in absurd cc
+          let bad : None ≡ Some z.what = sym unmet ∙ (met z is).0 in absurd cc
 
   all-unstopped : All (λ x. x.stop ≡ None) (map (joined_by hub) (joined_of v.role))
       → stop_of s.stop ≡ None
@@ -152,11 +150,11 @@ module _ (start : WorldState) (most : Limits) (hub : TableId) (stands : List Sta
       go None is = refl
       go (Some full) is =
           let it = stops full is in
-          let none : it.pass.stop ≡ None =
+          let unmet : it.pass.stop ≡ None =
           all-at (λ (x : PassView). x.stop ≡ None) (map (joined_by hub) (joined_of v.role))
           it.place it.pass all it.here in
-          let bad : None ≡ Some (record { by = it.pass.number; what = full }) =
-          sym none ∙ it.met in absurd cc
+          let own : Seal Full = record { by = it.pass.number; what = full } in
+          let bad : None ≡ Some own = sym unmet ∙ it.met in absurd cc
 
   pub whole : (world : WorldState) (l : Logged) (stop : Option Full) → world ≡ s.world
       → l ≡ s.log → stop ≡ stop_of s.stop → IsWithin most s.log.entries

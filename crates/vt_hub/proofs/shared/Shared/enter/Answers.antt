@@ -1,10 +1,8 @@
-use Rattle.std.proofs.Common.{◌≡◌, ◌<◌, arith, refl, sym, ap, ◌∙◌}
-use Rattle.vt_events.specs.Charge.{charge_of}
+use Rattle.std.proofs.Common.{arith, refl, sym, ap, ◌∙◌}
 use Rattle.vt_events.specs.declared.entry.Entry.{Entry}
 use Rattle.vt_hub.specs.Histories.{made_by}
 use Rattle.vt_hub.specs.Shared.{SharedView}
 use Rattle.vt_world.specs.State.{is_waiting}
-use Rattle.vt_hub.proofs.Rooms.{room-true}
 use Rattle.vt_hub.proofs.Sounds.{IsEntryOf, enters}
 use Rattle.std.proofs.Common.{length}
 use Rattle.vt_hub.proofs.shared.Shared.enter.Goals as goal
