@@ -1,0 +1,367 @@
+-- What a pass finds under the lock, and what its look comes to.
+use Rattle.std.proofs.Common.{◌≡◌, ℕ, ◌+◌, ◌*◌, ◌<◌, ◌≤◌, ◌==◌, List, [], ◌∷◌, ◌++◌, length, Option, Some, None, refl, sym, ap, ◌∙◌, subst, arith, length-append}
+use Rattle.std.proofs.lemmas.List.{length-map}
+use Rattle.std.proofs.lemmas.List.Sums.{count_by-le-length, length-filter}
+use Rattle.turn_lock.specs.History.{IsWordIn, StartsWith, word_of}
+use Rattle.turn_lock.specs.Rule.{IsCaller}
+use Rattle.turn_lock.specs.Views.{having, published, resting}
+use Rattle.turn_lock.specs.Words.{AddsNext, HasMine, KnowsOwn, Stands}
+use Rattle.turn_lock.specs.declared.seal.Seal.{Seal}
+use Rattle.turn_lock.specs.declared.view.Role.{Role}
+use Rattle.turn_lock.specs.declared.view.Role.TheVariants.{Caller}
+use Rattle.turn_lock.specs.declared.view.View.{View}
+use Rattle.atomic_table.specs.Seated.{TableId}
+use Rattle.vt_events.specs.Charge.{charge_of}
+use Rattle.vt_events.specs.declared.entry.Entry.{Entry}
+use Rattle.vt_events.specs.declared.event.Event.{Event}
+use Rattle.vt_events.specs.declared.reply.Reply.{Reply}
+use Rattle.vt_hub.specs.Answers.{Called, Stopped, Waited}
+use Rattle.vt_hub.specs.Histories.{IsRead, awaits, made_by}
+use Rattle.vt_hub.specs.Places.{known_by}
+use Rattle.vt_hub.specs.Shared.{Enters, IsSound, SharedView, Stops, Waits}
+use Rattle.vt_hub.specs.Told.{Carried, display_of, plain, told, told_entry}
+use Rattle.vt_hub.specs.Views.{PassView}
+use Rattle.vt_hub.proofs.Carried.{first-display, front_after, made-told, plain-more, plain-told, read-told, told-more, word-grown, word-told}
+use Rattle.vt_hub.proofs.Lists.{made-own}
+use Rattle.vt_journal.specs.Room.{full_at, has_room}
+use Rattle.vt_journal.specs.declared.full.Full.{Full}
+use Rattle.vt_journal.specs.declared.limits.Limits.{Limits}
+use Rattle.vt_world.specs.History.{IsLegal, replay}
+use Rattle.vt_world.specs.State.{WorldState, is_waiting}
+use Rattle.vt_world.specs.Step.{step}
+
+-- what the pass of this number, with the view v of the lock, finds as it has its turn
+pub record Found (start : WorldState) (most : Limits) (number seq : ℕ) (v : View Entry Full)
+    (s : SharedView) : Type 0 where
+  pub sound : IsSound start most s
+  pub named : v.role ≡ Caller number
+  pub counted : seq ≡ length v.mine
+  pub begins : StartsWith (told start s.log.entries) v.seen
+  pub owns : HasMine (told start s.log.entries) v.role v.mine
+  pub reads : IsWordIn (display_of start) (told start s.log.entries) v.known
+  pub stands : Stands s.stop (told start s.log.entries) v
+  pub knows : KnowsOwn s.stop v
+
+-- from what the lock tells of the value that it gives, which s is
+pub found-from : (start : WorldState) (most : Limits) (number seq : ℕ) (v : View Entry Full)
+    (old s : SharedView) → s ≡ old → IsSound start most s → v.role ≡ Caller number
+    → seq ≡ length v.mine → StartsWith (told start old.log.entries) v.seen
+    → HasMine (told start old.log.entries) v.role v.mine
+    → IsWordIn (display_of start) (told start old.log.entries) v.known
+    → Stands old.stop (told start old.log.entries) v → KnowsOwn old.stop v
+    → Found start most number seq v s
+found-from start most number seq v old s same sound named counted begins owns reads stands
+    knows = record {
+      sound = sound;
+      named = named;
+      counted = counted;
+      begins = subst (λ (o : SharedView). StartsWith (told start o.log.entries) v.seen) (sym same)
+          begins;
+      owns = subst (λ (o : SharedView). HasMine (told start o.log.entries) v.role v.mine) (sym same)
+          owns;
+      reads = subst (λ (o : SharedView).
+          IsWordIn (display_of start) (told start o.log.entries) v.known) (sym same) reads;
+      stands = subst (λ (o : SharedView). Stands o.stop (told start o.log.entries) v) (sym same)
+          stands;
+      knows = subst (λ (o : SharedView). KnowsOwn o.stop v) (sym same) knows;
+    }
+
+-- the pass after its turn: it has seen this history
+pub record Left (hub : TableId) (number : ℕ) (v : View Entry Full) (seen mine : List Entry)
+    (stop : Option (Seal Full)) (w : PassView) : Type 0 where
+  pub hub_is : w.hub ≡ hub
+  pub number_is : w.number ≡ number
+  pub known_is : w.known ≡ v.known
+  pub seen_is : w.seen ≡ seen
+  pub mine_is : w.mine ≡ mine
+  pub stop_is : w.stop ≡ stop
+
+-- a caller made no more calls than there are
+pub few-made : (n : ℕ) (es : List Entry) → length (made_by n es) ≤ length es
+few-made n es =
+    let calls = length-filter (λ (x : Entry). x.caller == n) es in
+    let few = count_by-le-length (λ (x : Entry). x.caller == n) es in omega (arith, calls, few)
+
+-- the word that is computed is that of the history
+pub front-is : (start : WorldState) (most : Limits) (s : SharedView) → IsSound start most s
+    → 64 * length s.log.entries + s.world.display.front
+    ≡ word_of (display_of start) (told start s.log.entries)
+front-is start most s sound =
+    ap (λ (w : WorldState). 64 * length s.log.entries + w.display.front) sound.replayed
+    ∙ word-told start s.log.entries (first-display start sound.display_low sound.display_high)
+
+no_seal : (a b : Option (Seal Full)) → ((z : Seal Full) → a ≡ Some z → b ≡ Some z) → b ≡ None
+    → a ≡ None
+no_seal None b sure none = refl
+no_seal (Some z) b sure none = let bad : Some z ≡ None = sym (sure z refl) ∙ none in absurd cc
+
+-- the stop that stands is answered
+pub met-before : (p : ℕ) (e : Event) (v : SharedView) (z : Seal Full) → v.stop ≡ Some z
+    → Stops p e v v z.what
+met-before p e v z is = record {
+  log = refl;
+  world = refl;
+  by = z.by;
+  stop = is;
+  again = λ y also. same_seal y z (sym also ∙ is);
+  first = λ none. let bad : None ≡ Some z = sym none ∙ is in absurd cc;
+}
+  where
+    same_seal : (a b : Seal Full) → Some a ≡ Some b → a ≡ b
+    same_seal a b same = cc
+
+module _ (start : WorldState) (most : Limits) (number seq : ℕ) (v : View Entry Full)
+    (s : SharedView) (found : Found start most number seq v s) where
+  pub first : display_of start ≡ start.display.front
+  first = first-display start found.sound.display_low found.sound.display_high
+
+  pub made : plain v.mine ≡ made_by number s.log.entries
+  made =
+      ap plain (subst (λ (r : Role Entry Full). HasMine (told start s.log.entries) r v.mine)
+      found.named found.owns)
+      ∙ made-told number start s.log.entries
+
+  -- its number of calls is that of its entries
+  pub count : seq ≡ length (made_by number s.log.entries)
+  count =
+      found.counted
+      ∙ (sym (length-map v.mine (λ (e : Carried). e.what)) ∙ ap length made)
+
+  pub later : List Entry
+  later = plain found.begins.0
+
+  pub seen : s.log.entries ≡ plain v.seen ++ later
+  unfolding later
+  seen =
+      sym (plain-told start s.log.entries)
+      ∙ (ap plain found.begins.1 ∙ plain-more v.seen found.begins.0)
+
+  pub read : IsRead start s.log.entries v.known
+  read = read-told start s.log.entries v.known first found.reads
+
+  pub unmet : s.stop ≡ None → v.seal ≡ None
+  unmet none = no_seal v.seal s.stop (λ z is. (found.stands z is).0) none
+
+  -- the entry that a call adds is the next one of the pass
+  pub adds : (ticket : ℕ) (s' : SharedView) (e : Event) (place : ℕ) (r : Reply)
+      → Enters number seq e s s' place r → IsSound start most s'
+      → AddsNext (told start s'.log.entries)
+      (having ticket (told start s.log.entries) s.stop v)
+  adds ticket s' e place r enters sound =
+      let entry : Entry = enters.entry in
+      let grown : told start s'.log.entries ≡ told start s.log.entries
+      ++ told_entry (front_after start s.log.entries entry) entry ∷ [] =
+      ap (told start) enters.entries ∙ told-more start s.log.entries entry in
+      let after : s'.world.display.front ≡ front_after start s.log.entries entry =
+      ap (λ (w : WorldState). w.display.front)
+      (sound.replayed ∙ (ap (replay start) enters.entries ∙ replay-one start s.log.entries entry))
+      in (
+        told_entry (front_after start s.log.entries entry) entry,
+        grown,
+        found.named ∙ ap (λ (n : ℕ). Caller n) (sym enters.caller),
+        enters.number ∙ found.counted,
+        (
+          subst (λ (n : ℕ). 0 < n) after sound.shown_low,
+          subst (λ (n : ℕ). n < 64) after sound.shown_high,
+        ),
+      )
+    where
+      replay-one : (w : WorldState) (es : List Entry) (x : Entry)
+          → replay w (es ++ x ∷ []) ≡ (step (replay w es) x.caller x.event).world
+      replay-one w [] x = refl
+      replay-one w (y ∷ es) x = replay-one (step w y.caller y.event).world es x
+
+  pub called : (hub : TableId) (s' : SharedView) (e : Event) (place : ℕ) (r : Reply) (w : PassView)
+      → (enters : Enters number seq e s s' place r) → IsSound start most s'
+      → Left hub number v s'.log.entries (plain v.mine ++ enters.entry ∷ []) None w
+      → Called start most e (known_by hub number v) w place r
+  unfolding later
+  called hub s' e place r w enters sound left =
+      let entry : Entry = enters.entry in
+      let es : List Entry = s.log.entries in
+      let whole : w.seen ≡ es ++ entry ∷ [] = left.seen_is ∙ enters.entries in
+      let own : made_by number (es ++ entry ∷ []) ≡ made_by number es ++ entry ∷ [] =
+      made-own number es entry enters.caller in record {
+        hub = left.hub_is;
+        number = left.number_is;
+        known = left.known_is;
+        between = later;
+        entry = entry;
+        seen = whole ∙ ap (λ (l : List Entry). l ++ entry ∷ []) seen;
+        at = enters.at ∙ ap length seen;
+        caller = enters.caller;
+        event = enters.event;
+        reply = enters.reply;
+        mine = left.mine_is;
+        before = made ∙ ap (made_by number) seen;
+        own = left.mine_is
+            ∙ (ap (λ (l : List Entry). l ++ entry ∷ []) made
+            ∙ (sym own ∙ (sym (ap (made_by number) whole)
+            ∙ ap (λ (n : ℕ). made_by n w.seen) (sym left.number_is))));
+        legal = subst (IsLegal start) (sym left.seen_is) sound.legal;
+        room = ap (λ (l : List Entry). has_room most l (charge_of e)) (sym seen)
+            ∙ (ap (λ (m : Limits). has_room m es (charge_of e)) (sym found.sound.limits)
+            ∙ enters.room);
+        free = ap (λ (x : WorldState). is_waiting x number)
+            (ap (replay start) (sym seen) ∙ sym found.sound.replayed) ∙ enters.free;
+        met = unmet enters.met;
+        goes_on = left.stop_is;
+        word = subst (λ (l : List Entry). IsRead start l v.known) (sym left.seen_is)
+            (read-told start s'.log.entries v.known first
+            (subst (λ (l : List Carried). IsWordIn (display_of start) l v.known)
+            (sym (ap (told start) enters.entries ∙ told-more start es entry))
+            (word-grown (display_of start) (told start es)
+            (told_entry (front_after start es entry) entry ∷ []) v.known found.reads)));
+      }
+
+  own_charge : (s' : SharedView) (e : Event) (full : Full) (stops : Stops number e s s' full)
+      → v.seal ≡ None → stops.by ≡ number → full.charge ≡ charge_of e
+  own_charge s' e full stops unmet by = go s.stop refl
+    where
+      go : (o : Option (Seal Full)) → s.stop ≡ o → full.charge ≡ charge_of e
+      go None is = (stops.first is).1
+      go (Some z) is =
+          let named : z.by ≡ number = ap (λ (y : Seal Full). y.by) (stops.again z is) ∙ by in
+          let mine : IsCaller z.by v.role =
+          subst (IsCaller z.by) (sym found.named) (sym named) in
+          let bad : None ≡ Some z = sym unmet ∙ found.knows z is mine in absurd cc
+
+  pub stopped : (hub : TableId) (s' : SharedView) (e : Event) (full : Full) (w : PassView)
+      → Stops number e s s' full → IsSound start most s'
+      → Left hub number v s.log.entries (plain v.mine) s'.stop w
+      → Stopped start most e (known_by hub number v) w full
+  unfolding later
+  stopped hub s' e full w stops sound left =
+      let stop : Seal Full = record { by = stops.by; what = full } in
+      let right = sound.stops stop stops.stop in
+      let same : s'.log.entries ≡ w.seen =
+      ap (λ l. l.entries) stops.log ∙ sym left.seen_is in record {
+        hub = left.hub_is;
+        number = left.number_is;
+        known = left.known_is;
+        mine = left.mine_is;
+        later = later;
+        seen = left.seen_is ∙ seen;
+        own = left.mine_is
+            ∙ (made ∙ (ap (made_by number) (sym left.seen_is)
+            ∙ ap (λ (n : ℕ). made_by n w.seen) (sym left.number_is)));
+        legal = subst (IsLegal start) (sym left.seen_is) found.sound.legal;
+        by = stops.by;
+        met = left.stop_is ∙ stops.stop;
+        again = λ z is.
+            let stands = found.stands z is in (
+              stops.again z stands.0,
+              left.seen_is
+                  ∙ (sym (plain-told start s.log.entries) ∙ ap plain stands.1),
+            );
+        numbers = right.numbers ∙ ap (λ (l : List Entry). full_at l full.charge) same;
+        no_room = ap (λ (l : List Entry). has_room most l full.charge) (sym same)
+            ∙ right.no_room;
+        charge = λ unmet by. own_charge s' e full stops unmet by;
+        goes = ap (λ (x : WorldState). is_waiting x stops.by)
+            (ap (replay start) (sym same) ∙ sym sound.replayed) ∙ right.goes;
+        word = subst (λ (l : List Entry). IsRead start l v.known) (sym left.seen_is) read;
+      }
+
+  pub waited : (hub : TableId) (s' : SharedView) (w : PassView) → Waits number s s'
+      → Left hub number v s.log.entries (plain v.mine) None w
+      → Waited start (known_by hub number v) w
+  unfolding later
+  waited hub s' w waits left = record {
+    hub = left.hub_is;
+    number = left.number_is;
+    known = left.known_is;
+    mine = left.mine_is;
+    later = later;
+    seen = left.seen_is ∙ seen;
+    met = unmet waits.met;
+    goes_on = left.stop_is;
+    waits = ap awaits made ∙ found.sound.tickets number waits.waits;
+  }
+
+  -- what its turn comes to, with the views that the lock tells of: as it has its turn, as it published
+  -- the entry, and as it left
+  module _ (hub : TableId) (old : PassView) (is : known_by hub number v ≡ old) (here : TableId)
+      (home : here ≡ hub) (ticket : ℕ) (s' : SharedView) (held after : View Entry Full)
+      (has : held ≡ having ticket (told start s.log.entries) s.stop v) where
+    module _ (e : Event) (place : ℕ) (r : Reply) (enters : Enters number seq e s s' place r)
+        (shown : View Entry Full) (shows : shown ≡ published (told start s'.log.entries) held)
+        (adds_one : (x : Carried) → told start s'.log.entries ≡ held.seen ++ x ∷ []
+        → shown.mine ≡ held.mine ++ x ∷ [])
+        (left : after ≡ resting s'.stop shown) where
+      entry_told : Carried
+      entry_told = told_entry (front_after start s.log.entries enters.entry) enters.entry
+
+      after-mine : after.mine ≡ v.mine ++ entry_told ∷ []
+      unfolding entry_told
+      after-mine =
+          let grown : told start s'.log.entries ≡ held.seen ++ entry_told ∷ [] =
+          ap (told start) enters.entries
+          ∙ (told-more start s.log.entries enters.entry
+          ∙ ap (λ (x : View Entry Full). x.seen ++ entry_told ∷ []) (sym has)) in
+          ap (λ (x : View Entry Full). x.mine) left
+          ∙ (adds_one entry_told grown
+          ∙ ap (λ (x : View Entry Full). x.mine ++ entry_told ∷ []) has)
+
+      after-whole : after ≡ resting s'.stop (published (told start s'.log.entries) held)
+      after-whole = left ∙ ap (resting s'.stop) shows
+
+      pub role-after : after.role ≡ Caller number
+      role-after =
+          ap (λ (x : View Entry Full). x.role) after-whole
+          ∙ (ap (λ (x : View Entry Full). x.role) has ∙ found.named)
+
+      pub counted-after : seq + 1 ≡ length after.mine
+      unfolding entry_told
+      counted-after =
+          let long = ap length after-mine in
+          let one = length-append v.mine (entry_told ∷ []) in
+          let counted = found.counted in omega (arith, long, one, counted)
+
+      pub done : IsSound start most s' → Called start most e old (known_by here number after) place r
+      unfolding entry_told
+      done sound = subst
+          (λ (o : PassView). Called start most e o (known_by here number after) place r) is
+          (called hub s' e place r (known_by here number after) enters sound (record {
+            hub_is = home;
+            number_is = refl;
+            known_is = ap (λ (x : View Entry Full). x.known) after-whole
+                ∙ ap (λ (x : View Entry Full). x.known) has;
+            seen_is = ap (λ (x : View Entry Full). plain x.seen) after-whole
+                ∙ plain-told start s'.log.entries;
+            mine_is = ap plain after-mine ∙ plain-more v.mine (entry_told ∷ []);
+            stop_is = ap (λ (x : View Entry Full). x.seal) after-whole ∙ enters.goes_on;
+          }))
+
+    module _ (left : after ≡ resting s'.stop held) where
+      left-whole : after ≡ resting s'.stop (having ticket (told start s.log.entries) s.stop v)
+      left-whole = left ∙ ap (resting s'.stop) has
+
+      same-seen : plain after.seen ≡ s.log.entries
+      same-seen = ap (λ (x : View Entry Full). plain x.seen) left-whole
+          ∙ plain-told start s.log.entries
+
+      pub full : (e : Event) (full : Full) → Stops number e s s' full → IsSound start most s'
+          → Stopped start most e old (known_by here number after) full
+      full e answer stops sound = subst
+          (λ (o : PassView). Stopped start most e o (known_by here number after) answer) is
+          (stopped hub s' e answer (known_by here number after) stops sound (record {
+            hub_is = home;
+            number_is = refl;
+            known_is = ap (λ (x : View Entry Full). x.known) left-whole;
+            seen_is = same-seen;
+            mine_is = ap (λ (x : View Entry Full). plain x.mine) left-whole;
+            stop_is = ap (λ (x : View Entry Full). x.seal) left-whole;
+          }))
+
+      pub waits : Waits number s s' → Waited start old (known_by here number after)
+      waits waiting = subst (λ (o : PassView). Waited start o (known_by here number after)) is
+          (waited hub s' (known_by here number after) waiting (record {
+            hub_is = home;
+            number_is = refl;
+            known_is = ap (λ (x : View Entry Full). x.known) left-whole;
+            seen_is = same-seen;
+            mine_is = ap (λ (x : View Entry Full). plain x.mine) left-whole;
+            stop_is = ap (λ (x : View Entry Full). x.seal) left-whole
+                ∙ (ap (λ (x : SharedView). x.stop) waiting.same ∙ waiting.met);
+          }))

@@ -1,0 +1,108 @@
+-- What lies under the lock stays sound as a call is entered.
+use Rattle.std.proofs.Common.{◌≡◌, ◌≢◌, ⊎_elim, ℕ, true, false, ◌==◌, List, [], ◌∷◌, ◌++◌, length, Some, None, refl, sym, ap, ◌∙◌, subst, ◌<◌}
+use Rattle.std.proofs.lemmas.List.{append-nil}
+use Rattle.std.proofs.lemmas.List.Sums.{length-filter}
+use Rattle.std.specs.List.{count_by}
+use Rattle.vt_events.specs.Plain.{plain_reply}
+use Rattle.vt_events.specs.Waits.{is_wait}
+use Rattle.vt_events.specs.declared.entry.Entry.{Entry}
+use Rattle.vt_events.specs.declared.event.Event.{Event}
+use Rattle.vt_events.specs.declared.reply.Reply.{Reply}
+use Rattle.vt_events.specs.declared.reply.Reply.TheVariants as reply
+use Rattle.vt_hub.specs.Histories.{IsFree, awaits, made_by}
+use Rattle.vt_hub.specs.Shared.{IsSound, SharedView}
+use Rattle.vt_hub.proofs.Lists.{each-more, made-other, made-own, waits-more}
+use Rattle.vt_journal.specs.declared.limits.Limits.{Limits}
+use Rattle.vt_world.specs.History.{IsLegal, IsNext, LegalGrows, ReplayGrows, replay}
+use Rattle.vt_world.specs.State.{WorldState, is_waiting}
+use Rattle.vt_world.specs.Step.{Gives, Outcome, step}
+use Rattle.vt_world.specs.StepLaws.{SizesStay, TicketsAreCalled}
+
+wait-plain : (r : Reply) → is_wait (plain_reply r) ≡ is_wait r
+wait-plain reply.Done = refl
+wait-plain (reply.Num n) = refl
+wait-plain (reply.State front mask) = refl
+wait-plain (reply.Text b) = refl
+wait-plain (reply.Mode m) = refl
+wait-plain (reply.Act kind value) = refl
+wait-plain reply.Wait = refl
+wait-plain (reply.Sigs signals) = refl
+wait-plain (reply.Err errno) = refl
+
+-- the entry is that of the call e of caller p, and so are its answer and its number
+pub record IsEntryOf (p seq : ℕ) (e : Event) (r : Reply) (entry : Entry) : Type 0 where
+  pub caller : entry.caller ≡ p
+  pub number : entry.seq ≡ seq
+  pub event : entry.event ≡ e
+  pub reply : plain_reply entry.reply ≡ plain_reply r
+
+module _ (start : WorldState) (most : Limits) (v w : SharedView) (p seq : ℕ) (e : Event) (r : Reply)
+    (entry : Entry) (of : IsEntryOf p seq e r entry) (gives : Gives (step v.world p e) w.world r)
+    (sound : IsSound start most v) where
+  stepped : step (replay start v.log.entries) entry.caller entry.event
+      ≡ record { world = w.world; reply = plain_reply r }
+  stepped =
+      ap (λ x. step x entry.caller entry.event) (sym sound.replayed)
+      ∙ (ap (λ c. step v.world c entry.event) of.caller
+      ∙ (ap (λ x. step v.world p x) of.event ∙ gives))
+
+  next : seq ≡ length (made_by p v.log.entries) → IsNext start v.log.entries entry
+  next counted = record {
+    answer = of.reply ∙ sym (ap (λ (o : Outcome). o.reply) stepped);
+    number = of.number ∙ (counted
+        ∙ (length-filter (λ (x : Entry). x.caller == p) v.log.entries
+        ∙ ap (λ (c : ℕ). count_by (λ (x : Entry). x.caller == c) v.log.entries)
+        (sym of.caller)));
+  }
+
+  -- who has an open ticket then was answered "wait" last
+  waits : TicketsAreCalled → is_waiting v.world p ≡ false → (q : ℕ)
+      → is_waiting w.world q ≡ true
+      → awaits (made_by q (v.log.entries ++ entry ∷ [])) ≡ true
+  waits called free q opened =
+      let world : (step v.world p e).world ≡ w.world = ap (λ (o : Outcome). o.world) gives in
+      ⊎_elim
+      (λ before.
+      let other : entry.caller ≢ q = λ same.
+      let also : is_waiting v.world p ≡ true =
+      ap (λ (c : ℕ). is_waiting v.world c) (sym of.caller ∙ same) ∙ before in
+      absurd (let bad : false ≡ true = sym free ∙ also in cc) in
+      ap awaits (made-other q v.log.entries entry other ∙ append-nil (made_by q v.log.entries))
+      ∙ sound.tickets q before)
+      (λ now.
+      let own : entry.caller ≡ q = of.caller ∙ now.0 in
+      let answer : plain_reply entry.reply ≡ reply.Wait =
+      of.reply ∙ (sym (ap (λ (o : Outcome). o.reply) gives) ∙ now.1) in
+      ap awaits (made-own q v.log.entries entry own)
+      ∙ (waits-more false (made_by q v.log.entries) entry
+      ∙ (sym (wait-plain entry.reply) ∙ ap is_wait answer)))
+      (called v.world p e q (ap (λ (x : WorldState). is_waiting x q) world ∙ opened))
+
+  pub enters : LegalGrows → ReplayGrows → SizesStay → TicketsAreCalled
+      → is_waiting v.world p ≡ false → seq ≡ length (made_by p v.log.entries)
+      → w.log.entries ≡ v.log.entries ++ entry ∷ [] → w.log.limits ≡ v.log.limits
+      → w.stop ≡ None → 0 < w.world.display.front → w.world.display.front < 64
+      → IsSound start most w
+  enters grows grown sizes called free counted more limits goes_on low high =
+      let es : List Entry = v.log.entries in record {
+        legal = subst (IsLegal start) (sym more)
+            (grows start es entry sound.legal (next counted));
+        replayed = sym (ap (replay start) more
+            ∙ (grown start es entry ∙ ap (λ (o : Outcome). o.world) stepped));
+        free = subst (λ (l : List Entry). IsFree start l) (sym more)
+            (each-more (λ before x. is_waiting (replay start before) x.caller ≡ false) es entry
+            sound.free (ap (λ (x : WorldState). is_waiting x entry.caller) (sym sound.replayed)
+            ∙ (ap (λ (c : ℕ). is_waiting v.world c) of.caller ∙ free)));
+        limits = limits ∙ sound.limits;
+        rows = sym (ap (λ (o : Outcome). o.world.rows) gives)
+            ∙ ((sizes v.world p e).0 ∙ sound.rows);
+        cols = sym (ap (λ (o : Outcome). o.world.cols) gives)
+            ∙ ((sizes v.world p e).1 ∙ sound.cols);
+        display_low = sound.display_low;
+        display_high = sound.display_high;
+        shown_low = low;
+        shown_high = high;
+        tickets = λ q opened. ap (λ (l : List Entry). awaits (made_by q l)) more
+            ∙ waits called free q opened;
+        stops = λ z is. let bad : None ≡ Some z = sym goes_on ∙ is in absurd cc;
+      }

@@ -1,0 +1,189 @@
+-- What a hub gives as it closes, from what the lock gives.
+use Rattle.std.proofs.Common.{◌≡◌, ⊎_elim, ℕ, zero, suc, false, List, [], ◌∷◌, map, Option, Some, None, refl, sym, ap, ◌∙◌, subst, arith}
+use Rattle.std.specs.List.{All}
+use Rattle.std.specs.Prelude.{option_map, slice_get, slice_index_or}
+use mathlib.Core.Option.{some, some-injective, some-ne-none}
+use lib.ListN.{get_elem?}
+use Rattle.turn_lock.specs.History.{IsWordIn, StartsWith, entries_by}
+use Rattle.turn_lock.specs.Views.{among, joined_of, made_of}
+use Rattle.turn_lock.specs.Words.{IsPartOf, NamesJoined}
+use Rattle.turn_lock.specs.declared.seal.Seal.{Seal}
+use Rattle.turn_lock.specs.declared.view.Joined.{Joined}
+use Rattle.turn_lock.specs.declared.view.View.{View}
+use Rattle.atomic_table.specs.Seated.{TableId}
+use Rattle.vt_events.specs.declared.entry.Entry.{Entry}
+use Rattle.vt_hub.specs.Closed.{BeginsWith, IsPart, IsStopped, IsWhole}
+use Rattle.vt_hub.specs.Places.{joined_by, kept_by}
+use Rattle.vt_hub.specs.Shared.{IsSound, IsStop, SharedView}
+use Rattle.vt_hub.specs.Told.{Carried, display_of, plain, told}
+use Rattle.vt_hub.specs.Views.{PassView, is_made, stand_at}
+use Rattle.vt_hub.specs.declared.stand.Stand.{Stand}
+use Rattle.vt_hub.proofs.Carried.{first-display, made-told, plain-more, plain-told, read-told}
+use Rattle.vt_journal.specs.Log.{Logged}
+use Rattle.vt_journal.specs.Room.{IsWithin, full_at, has_room}
+use Rattle.vt_journal.specs.declared.full.Full.{Full}
+use Rattle.vt_journal.specs.declared.limits.Limits.{Limits}
+use Rattle.vt_world.specs.Laws.{DisplaysAreLawfulFrom}
+use Rattle.vt_world.specs.State.{WorldState, is_waiting}
+
+module _ {A B : Type 0} where
+  -- what holds of each of a list holds of each of its images
+  all-map : (f : A → B) (P : A → Type 0) (Q : B → Type 0) → ((x : A) → P x → Q (f x))
+      → (xs : List A) → All P xs → All Q (map f xs)
+  all-map f P Q step [] all k d low = absurd (let bad : ⊥ = omega (arith, low) in bad)
+  all-map f P Q step (x ∷ xs) all zero d low = step x (all zero x (omega arith))
+  all-map f P Q step (x ∷ xs) all (suc k) d low =
+      all-map f P Q step xs (λ i e more. all (suc i) e (omega (arith, more))) k d
+      (omega (arith, low))
+
+  -- an element's image stands at its place
+  at-map : (f : A → B) (xs : List A) (i : ℕ) (x : A) → get_elem? xs i ≡ some x
+      → slice_get (map f xs) i ≡ Some (f x)
+  at-map f [] i x is = absurd (some-ne-none x (sym is))
+  at-map f (y ∷ ys) zero x is = ap (λ (z : A). Some (f z)) (some-injective y x is)
+  at-map f (y ∷ ys) (suc i) x is = at-map f ys i x is
+
+module _ {B : Type 0} where
+  -- what holds of each holds of the one at a place
+  all-at : (P : B → Type 0) (xs : List B) (i : ℕ) (x : B) → All P xs → slice_get xs i ≡ Some x → P x
+  all-at P [] i x all is = absurd cc
+  all-at P (y ∷ ys) zero x all is =
+      let same : y ≡ x = cc in subst P same (all zero y (omega arith))
+  all-at P (y ∷ ys) (suc i) x all is =
+      all-at P ys i x (λ k d low. all (suc k) d (omega (arith, low))) is
+
+-- what the lock tells as it closes
+pub record Told (before : ℕ) (log : List Carried) (seal : Option (Seal Full)) (v : View Entry Full)
+    : Type 0 where
+  pub seen : StartsWith log v.seen
+  pub known : IsWordIn before log v.known
+  pub joined : All (IsPartOf before log seal) (joined_of v.role)
+  pub named : NamesJoined seal (joined_of v.role)
+  pub unmade : (n : ℕ) → among n (made_of v.role) ≡ false → entries_by n log ≡ []
+
+seal_is : (z : Seal Full) (n : ℕ) (f : Full) → z.by ≡ n → z.what ≡ f
+    → z ≡ record { by = n; what = f }
+seal_is z n f p q k = record { by = p k; what = q k }
+
+-- where the hub stopped, without whose call it was
+abbrev pub stop_of : Option (Seal Full) → Option Full
+stop_of seal = option_map (λ (z : Seal Full). z.what) seal
+
+module _ (start : WorldState) (most : Limits) (hub : TableId) (stands : List Stand)
+    (v : View Entry Full) (s : SharedView) (sound : IsSound start most s)
+    (told_of : Told (display_of start) (told start s.log.entries) s.stop v) where
+  log : List Carried
+  log = told start s.log.entries
+
+  first : display_of start ≡ start.display.front
+  first = first-display start sound.display_low sound.display_high
+
+  begins : (seen : List Carried) → StartsWith log seen → BeginsWith s.log.entries (plain seen)
+  unfolding log
+  begins seen is = (
+    plain is.0,
+    sym (plain-told start s.log.entries) ∙ (ap plain is.1 ∙ plain-more seen is.0),
+  )
+
+  part : (x : Joined Entry Full) → IsPartOf (display_of start) log s.stop x
+      → IsPart start s.log.entries (stop_of s.stop) (joined_by hub x)
+  unfolding log
+  part x is = record {
+    seen = begins x.seen is.seen;
+    mine = ap plain is.mine ∙ made-told x.number start s.log.entries;
+    word = read-told start s.log.entries x.known first is.known;
+    met = λ z has. ⊎_elim
+        (λ unmet. let bad : None ≡ Some z = sym unmet ∙ has in absurd cc)
+        (λ m. (
+          ap stop_of (sym m.0 ∙ has),
+          ap plain m.1 ∙ plain-told start s.log.entries,
+        ))
+        is.met;
+  }
+
+  parts : All (IsPart start s.log.entries (stop_of s.stop)) (map (joined_by hub) (joined_of v.role))
+  unfolding log
+  parts = all-map (joined_by hub) (IsPartOf (display_of start) log s.stop)
+      (IsPart start s.log.entries (stop_of s.stop)) part (joined_of v.role) told_of.joined
+
+  stops : (full : Full) → stop_of s.stop ≡ Some full
+      → IsStopped most s.world s.log.entries (map (joined_by hub) (joined_of v.role)) full
+  stops full is = go s.stop refl is
+    where
+      go : (o : Option (Seal Full)) → s.stop ≡ o → stop_of o ≡ Some full
+          → IsStopped most s.world s.log.entries (map (joined_by hub) (joined_of v.role)) full
+      go None stop e = absurd cc
+      go (Some z) stop e =
+          let what : z.what ≡ full = cc in
+          let it = told_of.named z stop in
+          let right : IsStop most s.world s.log.entries z = sound.stops z stop in record {
+            place = it.0;
+            pass = joined_by hub it.1;
+            here = at-map (joined_by hub) (joined_of v.role) it.0 it.1 it.2;
+            met = it.4 ∙ ap Some (seal_is z it.1.number full (sym it.3) what);
+            goes = ap (is_waiting s.world) it.3 ∙ right.goes;
+            numbers = sym what ∙ (right.numbers ∙ ap (λ (c : Full). full_at s.log.entries c.charge) what);
+            no_room = ap (λ (c : Full). has_room most s.log.entries c.charge) (sym what) ∙ right.no_room;
+          }
+
+  unstopped-all : stop_of s.stop ≡ None
+      → All (λ x. x.stop ≡ None) (map (joined_by hub) (joined_of v.role))
+  unstopped-all unmet k d low =
+      let x : PassView = slice_index_or (map (joined_by hub) (joined_of v.role)) k d in
+      go x.stop refl (parts k d low).met
+    where
+      go : (o : Option (Seal Full)) → (slice_index_or (map (joined_by hub) (joined_of v.role)) k d).stop ≡ o
+          → ((z : Seal Full)
+          → (slice_index_or (map (joined_by hub) (joined_of v.role)) k d).stop ≡ Some z
+          → (stop_of s.stop ≡ Some z.what)
+          × ((slice_index_or (map (joined_by hub) (joined_of v.role)) k d).seen ≡ s.log.entries))
+          → (slice_index_or (map (joined_by hub) (joined_of v.role)) k d).stop ≡ None
+      go None is met = is
+      go (Some z) is met =
+          let bad : None ≡ Some z.what = sym unmet ∙ (met z is).0 in absurd cc
+
+  all-unstopped : All (λ x. x.stop ≡ None) (map (joined_by hub) (joined_of v.role))
+      → stop_of s.stop ≡ None
+  all-unstopped all = go (stop_of s.stop) refl
+    where
+      go : (o : Option Full) → stop_of s.stop ≡ o → o ≡ None
+      go None is = refl
+      go (Some full) is =
+          let it = stops full is in
+          let unmet : it.pass.stop ≡ None =
+          all-at (λ (x : PassView). x.stop ≡ None) (map (joined_by hub) (joined_of v.role))
+          it.place it.pass all it.here in
+          let own : Seal Full = record { by = it.pass.number; what = full } in
+          let bad : None ≡ Some own = sym unmet ∙ it.met in absurd cc
+
+  pub whole : (world : WorldState) (l : Logged) (stop : Option Full) → world ≡ s.world
+      → l ≡ s.log → stop ≡ stop_of s.stop → IsWithin most s.log.entries
+      → ((n : ℕ) → among n (made_of v.role) ≡ is_made (stand_at stands n))
+      → DisplaysAreLawfulFrom
+      → IsWhole start most (kept_by hub stands v) world l stop
+  unfolding log
+  whole world l stop same_world same_log same_stop within made lawful =
+      subst (λ (t : Option Full). IsWhole start most (kept_by hub stands v) world l t)
+      (sym same_stop)
+      (subst (λ (t : Logged). IsWhole start most (kept_by hub stands v) world t (stop_of s.stop))
+      (sym same_log)
+      (subst (λ (t : WorldState).
+      IsWhole start most (kept_by hub stands v) t s.log (stop_of s.stop))
+      (sym same_world) it))
+    where
+      it : IsWhole start most (kept_by hub stands v) s.world s.log (stop_of s.stop)
+      it = record {
+        legal = sound.legal;
+        replayed = sound.replayed;
+        free = sound.free;
+        limits = sound.limits;
+        within = within;
+        seen = begins v.seen told_of.seen;
+        word = read-told start s.log.entries v.known first told_of.known;
+        parts = parts;
+        unmade = λ n at. sym (made-told n start s.log.entries)
+            ∙ ap plain (told_of.unmade n (made n ∙ ap is_made at));
+        stops = stops;
+        unstopped = (unstopped-all, all-unstopped);
+        lawful = lawful start s.log.entries;
+      }

@@ -1,0 +1,45 @@
+use Rattle.std.proofs.Common.{ℕ, ◌≤◌, List, length, subst}
+use Rattle.turn_lock.specs.Words.{lock_named, view}
+use Rattle.turn_lock.specs.declared.view.View.{View}
+use Rattle.atomic_table.specs.Seated.{TableId}
+use Rattle.vt_events.specs.declared.entry.Entry.{Entry}
+use Rattle.vt_hub.specs.Closed.{IsWhole}
+use Rattle.vt_hub.specs.Shared.{SharedView}
+use Rattle.vt_hub.specs.Told.{display_of, told}
+use Rattle.vt_hub.specs.Views.{StewardView}
+use Rattle.vt_hub.proofs.Whole.{Told, whole}
+use Rattle.vt_journal.specs.Log.{Logged}
+use Rattle.vt_journal.specs.Room.{IsWithin}
+use Rattle.vt_journal.specs.declared.full.Full.{Full}
+use Rattle.vt_journal.specs.declared.limits.Limits.{Limits}
+use Rattle.vt_hub.proofs.hub.Hub.close.Goals as goal
+
+pub returns : goal.returns
+returns g c =
+    let start = g.J.Opening.start in
+    let most : Limits = g.J.Opening.limits in
+    let hub : TableId = lock_named c.s.inside.place in
+    let v : View Entry Full = view c.s.inside.place in
+    let s : SharedView = c.close-shared.result in
+    let l : Logged = c.parts-world.result.1 in
+    let told_of : Told (display_of start) (told start s.log.entries) s.stop v = record {
+      seen = c.close-shared.ensures.seen;
+      known = c.close-shared.ensures.known;
+      joined = c.close-shared.ensures.joined;
+      named = c.close-shared.ensures.named;
+      unmade = c.close-shared.ensures.unmade;
+    } in
+    let own : IsWithin l.limits l.entries = record {
+      events = subst (λ (es : List Entry). length es ≤ l.limits.events)
+          c.entries-entries.ensures.same c.entries-entries.ensures.within;
+      bytes = subst (λ (n : ℕ). n ≤ l.limits.bytes) c.bytes-bytes.ensures.sum
+          c.bytes-bytes.ensures.within;
+    } in
+    let within : IsWithin most s.log.entries =
+    subst (λ (m : Limits). IsWithin m s.log.entries) c.sound.ensures.limits
+    (subst (λ (t : Logged). IsWithin t.limits t.entries) c.parts-world.ensures.log own) in
+    subst (λ (k : StewardView). IsWhole start most k c.parts-world.result.0 l c.parts-world.result.2)
+    c.s.view_is
+    (whole start most hub c.s.inside.stands v s c.sound.ensures told_of c.parts-world.result.0 l
+    c.parts-world.result.2 c.parts-world.ensures.world c.parts-world.ensures.log
+    c.parts-world.ensures.stop within c.s.invariant.made c.displays_are_lawful_from.ensures)

@@ -1,0 +1,59 @@
+-- What a closed hub gives. This project's own.
+use Rattle.std.specs.Prelude.{◌≡◌, ◌↔◌, ℕ, List, [], ◌++◌, Option, Some, None, slice_get, false}
+use Rattle.std.specs.List.{All}
+use Rattle.turn_lock.specs.declared.seal.Seal.{Seal}
+use Rattle.vt_events.specs.declared.entry.Entry.{Entry}
+use Rattle.vt_hub.specs.Histories.{IsFree, IsRead, made_by}
+use Rattle.vt_hub.specs.Views.{PassView, StewardView, stand_at}
+use Rattle.vt_hub.specs.declared.stand.Stand.TheVariants.{Unmade}
+use Rattle.vt_journal.specs.Log.{Logged}
+use Rattle.vt_journal.specs.Room.{IsWithin, full_at, has_room}
+use Rattle.vt_journal.specs.declared.full.Full.{Full}
+use Rattle.vt_journal.specs.declared.limits.Limits.{Limits}
+use Rattle.vt_switch.specs.Law.{IsLawful, OwnersLive}
+use Rattle.vt_world.specs.History.{IsLegal, replay}
+use Rattle.vt_world.specs.Laws.{moments}
+use Rattle.vt_world.specs.State.{WorldState, core, is_waiting}
+
+-- the history begins with these entries
+abbrev pub BeginsWith : List Entry → List Entry → Type 0
+BeginsWith history seen = (later : List Entry) × (history ≡ seen ++ later)
+
+-- what a pass that was taken in knew is so: its entries are all of its number, and a stop that it met
+-- is the one that stands, where it had seen everything
+pub record IsPart (start : WorldState) (history : List Entry) (stop : Option Full) (x : PassView) : Type 0 where
+  pub seen : BeginsWith history x.seen
+  pub mine : x.mine ≡ made_by x.number history
+  pub word : IsRead start history x.known
+  pub met : (z : Seal Full) → x.stop ≡ Some z → (stop ≡ Some z.what) × (x.seen ≡ history)
+
+-- the hub stopped here: by the call of a pass that has met it and was taken in, whose caller has no
+-- open ticket, and which found no room
+pub record IsStopped (most : Limits) (world : WorldState) (history : List Entry) (joined : List PassView) (full : Full) : Type 0 where
+  pub place : ℕ
+  pub pass : PassView
+  pub here : slice_get joined place ≡ Some pass
+  pub met : pass.stop ≡ Some (record { by = pass.number; what = full })
+  pub goes : is_waiting world pass.number ≡ false
+  pub numbers : full ≡ full_at history full.charge
+  pub no_room : has_room most history full.charge ≡ false
+
+-- what the steward s gets as the hub closes: the one history, with the world after it, and where it
+-- stopped, if it did
+pub record IsWhole (start : WorldState) (most : Limits) (s : StewardView) (world : WorldState) (log : Logged) (stop : Option Full) : Type 0 where
+  pub legal : IsLegal start log.entries
+  pub replayed : world ≡ replay start log.entries
+  pub free : IsFree start log.entries
+  pub limits : log.limits ≡ most
+  pub within : IsWithin most log.entries
+  pub seen : BeginsWith log.entries s.seen
+  pub word : IsRead start log.entries s.known
+  pub parts : All (IsPart start log.entries stop) s.joined
+  -- a number of which no pass was made has no entry
+  pub unmade : (n : ℕ) → stand_at s.stands n ≡ Unmade → made_by n log.entries ≡ []
+  pub stops : (full : Full) → stop ≡ Some full → IsStopped most world log.entries s.joined full
+  -- it didn't stop exactly where no pass met a stop
+  pub unstopped : (stop ≡ None) ↔ All (λ x. x.stop ≡ None) s.joined
+  -- the display law, where nothing waited for the display of the world that was opened
+  pub lawful : OwnersLive (core start) → start.display.pending ≡ None
+      → IsLawful (moments start log.entries)

@@ -1,0 +1,7 @@
+pub mod Answers
+pub mod Closed
+pub mod Histories
+pub mod Places
+pub mod Shared
+pub mod Told
+pub mod Views

@@ -1,0 +1,28 @@
+//! What the lock knows of the value under it.
+use crate::opening::Opening;
+use crate::shared::Shared;
+use turn_lock::Kept;
+use vt_events::Entry;
+use vt_journal::Full;
+
+impl<J: Opening> Kept for Shared<J> {
+    ghost use Rattle.std.proofs.Common.{arith};
+    ghost use Rattle.vt_hub.specs.Told.{display_of, told};
+
+    type What = Entry;
+
+    type Stop = Full;
+
+    ghost before = { display_of J.start };
+
+    ghost entries = { λ s. told J.start s.log.entries };
+
+    ghost seal = { λ s. s.stop };
+
+    fn front(&self) -> u64 {
+        self.sound();
+        self.word()
+    }
+
+    ghost display = { Prim.omega arith };
+}

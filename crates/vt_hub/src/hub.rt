@@ -1,0 +1,199 @@
+ghost use Rattle.std.specs.Prelude.{◌≡◌, ◌≤◌, ◌/◌, ◌%◌, ◌∷◌, ℕ, None, false, length, IfOk, slice_set, count_by};
+ghost use Rattle.vt_events.specs.declared.event.Event.TheVariants as event;
+ghost use Rattle.vt_hub.specs.Answers.{Answers, Turns};
+ghost use Rattle.vt_hub.specs.Closed.{IsWhole};
+ghost use Rattle.vt_hub.specs.Histories.{awaits};
+ghost use Rattle.vt_hub.specs.Views.{is_made, is_out, new_pass, opened, stand_at, with_pass};
+ghost use Rattle.vt_hub.specs.declared.stand.Stand.TheVariants.{Home};
+ghost use Rattle.vt_world.specs.Spare.{Fits};
+ghost use Rattle.vt_world.specs.State.{is_waiting};
+ghost use Rattle.vt_world.specs.Tests.{ends_wait};
+
+use crate::answer::Answer;
+use crate::opening::Opening;
+use crate::pass::Pass;
+use crate::run::Run;
+use crate::shared::Shared;
+use crate::stand::Stand;
+use crate::steward::Steward;
+use crate::turn::Turn;
+use std::alloc::Global;
+use std::marker::Model;
+use std::sync::Wait;
+use std::thread;
+use turn_lock::TurnLock;
+use vt_base::{CallerNo, ConsoleNo, NoMemory};
+use vt_events::Event;
+use vt_journal::{Limits, Log};
+use vt_world::{Spare, World, displays_are_lawful_from};
+
+/// One console for callers in several threads. Contracts see which hub it is.
+#[derive(Drop)]
+pub struct Hub<J: Opening> {
+    lock: TurnLock<Shared<J>>,
+    alloc: Global,
+}
+
+impl<J: Opening> Model for Hub<J> {
+    ghost use Rattle.atomic_table.specs.Seated.{TableId};
+    ghost use Rattle.turn_lock.specs.Words.{name};
+
+    ghost Value = { TableId };
+
+    ghost view = { λ h. name h.lock };
+}
+
+impl<J: Opening> Hub<J> {
+    /// A hub over this world, and its steward. The journal's room is reserved whole.
+    pub fn open(alloc: Global, w: World, limits: Limits) -> Result<(Hub<J>, Steward<J>), NoMemory>
+        requires start { w ≡ J.start }
+        requires limits { limits ≡ J.limits }
+        requires events { limits.events ≤ 1_000_000 }
+        requires bytes { limits.bytes ≤ 1_073_741_824 }
+        requires free { (p : ℕ) → is_waiting w p ≡ false }
+        ensures { IfOk result (λ made. made.1 ≡ opened J.start made.0) }
+    {
+        let log = Log::with_room(alloc, limits.events, limits.bytes)?;
+        let shared = Shared::new(w, log);
+        shared.sound();
+        let (lock, place) = TurnLock::open(alloc, shared)?;
+        let stands = [Stand::Unmade; 65];
+        Ok((
+            Hub { lock, alloc },
+            Steward {
+                place,
+                stands,
+                out: 0,
+            },
+        ))
+    }
+
+    /// Makes the pass of a caller.
+    pub fn split(&self, s: &mut Steward<J>, c: CallerNo) -> Pass<J>
+        requires own { s.old.hub ≡ self.now }
+        requires fresh { is_made (stand_at s.old.stands c) ≡ false }
+        ensures steward { s.new ≡ with_pass c s.old }
+        ensures pass { result ≡ new_pass c s.old }
+    {
+        let place = self.lock.split(&mut s.place, u32::from(c.get()));
+        s.stands[usize::from(c.get())] = Stand::Out;
+        s.out += 1;
+        Pass {
+            place,
+            number: c,
+            seq: 0,
+        }
+    }
+
+    /// Takes in a pass.
+    pub fn join(&self, s: &mut Steward<J>, p: Pass<J>)
+        requires own { s.old.hub ≡ self.now }
+        requires other { p.hub ≡ self.now }
+        ensures hub { s.new.hub ≡ s.old.hub }
+        ensures stands { s.new.stands ≡ slice_set s.old.stands p.number Home }
+        ensures joined { s.new.joined ≡ p ∷ s.old.joined }
+    {
+        let Pass {
+            place,
+            number,
+            seq: _,
+        } = p;
+        self.lock.join(&mut s.place, place);
+        s.stands[usize::from(number.get())] = Stand::Home;
+        s.out -= 1;
+    }
+
+    /// Enters a call. It waits for its turn. Where there is no room for it, the hub stops: from then
+    /// on every call of every pass is answered so.
+    pub fn call<R: Wait>(&self, rt: &R, p: &mut Pass<J>, event: Event, spare: Spare) -> Answer
+        requires own { p.old.hub ≡ self.now }
+        requires call { ends_wait event ≡ false }
+        requires fits { Fits J.start.rows J.start.cols event spare }
+        // Who was answered "wait" asks first how that ended, by `wait_end`.
+        requires free { p.old.stop ≡ None → awaits p.old.mine ≡ false }
+        ensures { Answers J.start J.limits event p.old p.new result }
+    {
+        match self.turn(rt, p, event, spare) {
+            Turn::Done { at, reply } => Answer::Done { at, reply },
+            Turn::Full(full) => Answer::Full(full),
+            Turn::Waits => unreachable!(),
+        }
+    }
+
+    /// Waits until the caller has no open ticket, or the hub has stopped, and enters the WaitEnd. A
+    /// look that finds the ticket open enters nothing.
+    pub fn wait_end<R: Wait>(&self, rt: &R, p: &mut Pass<J>) -> Answer
+        requires own { p.old.hub ≡ self.now }
+        ensures { Answers J.start J.limits event.WaitEnd p.old p.new result }
+    {
+        for _ in rt.forever() {
+            match self.turn(rt, p, Event::WaitEnd, Spare::none(self.alloc)) {
+                Turn::Done { at, reply } => return Answer::Done { at, reply },
+                Turn::Full(full) => return Answer::Full(full),
+                Turn::Waits => thread::yield_now(),
+            }
+        }
+        unreachable!()
+    }
+
+    // One look of the caller, which enters the call unless its ticket is open.
+    fn turn<R: Wait>(&self, rt: &R, p: &mut Pass<J>, event: Event, spare: Spare) -> Turn
+        requires own { p.old.hub ≡ self.now }
+        requires fits { Fits J.start.rows J.start.cols event spare }
+        ensures { Turns J.start J.limits event p.old p.new result }
+    {
+        let number = p.number;
+        let seq = p.seq;
+        let mut held = self.lock.enter(rt, &mut p.place);
+        let shared = held.value();
+        shared.sound();
+        let answer = shared.call(number, seq, event, spare);
+        shared.sound();
+        match answer {
+            Turn::Done { at, reply } => {
+                held.publish();
+                held.leave();
+                p.seq = seq + 1;
+                Turn::Done { at, reply }
+            }
+            Turn::Full(full) => {
+                held.leave();
+                Turn::Full(full)
+            }
+            Turn::Waits => {
+                held.leave();
+                Turn::Waits
+            }
+        }
+    }
+
+    /// The display, after as much of the history as was entered by now, without waiting: no less than
+    /// this pass has seen, and no less than it has read before.
+    pub fn display_now(&self, p: &mut Pass<J>) -> ConsoleNo
+        requires own { p.old.hub ≡ self.now }
+        ensures display { result ≡ p.new.known % 64 }
+        ensures rest { p.new ≡ record p.old { known = p.new.known } }
+        ensures seen { length p.old.seen ≤ p.new.known / 64 }
+        ensures later { p.old.known / 64 ≤ p.new.known / 64 }
+        ensures greatest { p.old.known ≤ p.new.known }
+    {
+        let word = self.lock.front(&mut p.place);
+        ConsoleNo::new((word % 64) as u16).unwrap()
+    }
+
+    /// Ends the hub, once all passes were taken in.
+    pub fn close(self, s: Steward<J>) -> Run
+        requires own { s.hub ≡ self }
+        requires all { count_by is_out s.stands ≡ 0 }
+        ensures { IsWhole J.start J.limits s result.world result.log result.stop }
+    {
+        displays_are_lawful_from();
+        let Hub { lock, alloc: _ } = self;
+        let shared = lock.close(s.place);
+        shared.sound();
+        let (world, log, stop) = shared.parts();
+        let _entries = log.entries();
+        let _bytes = log.bytes();
+        Run { world, log, stop }
+    }
+}

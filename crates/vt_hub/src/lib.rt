@@ -1,0 +1,21 @@
+//! One console for callers in several threads: their calls make one legal history.
+#![tactic(auto)]
+
+mod answer;
+mod fronts;
+mod hub;
+mod opening;
+mod pass;
+mod run;
+mod shared;
+mod stand;
+mod steward;
+mod turn;
+
+pub use answer::Answer;
+pub use hub::Hub;
+pub use opening::Opening;
+pub use pass::Pass;
+pub use run::Run;
+pub use stand::Stand;
+pub use steward::Steward;

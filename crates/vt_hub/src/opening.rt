@@ -1,0 +1,22 @@
+use std::marker::Brand;
+
+/// The world that a hub takes over, and the limits of its journal, for the proofs alone: a caller of
+/// `Hub::open` picks both.
+pub trait Opening {
+    ghost use Rattle.vt_world.specs.State.{WorldState};
+    ghost use Rattle.vt_journal.specs.declared.limits.Limits.{Limits};
+
+    ghost start: { WorldState };
+
+    ghost limits: { Limits };
+}
+
+impl Opening for Brand {
+    ghost use Rattle.std.specs.Prelude.{[]};
+    ghost use Rattle.key_tables.specs.Tables.{tables_of};
+    ghost use Rattle.vt_world.specs.Start.{opening};
+
+    ghost start = { opening 1 1 2 1 [] (tables_of [] [] []) };
+
+    ghost limits = { record { events = 0; bytes = 0 } };
+}

@@ -1,0 +1,44 @@
+ghost use Rattle.std.specs.Prelude.{◌≡◌, count_by};
+ghost use Rattle.vt_hub.specs.Views.{is_made, is_out, stand_at};
+
+use crate::opening::Opening;
+use crate::shared::Shared;
+use crate::stand::Stand;
+use std::marker::Model;
+use turn_lock::Pass as Place;
+use vt_base::CallerNo;
+
+/// Who makes passes and takes them in: it knows which were made, and which are out.
+#[derive(Drop)]
+pub struct Steward<J: Opening> {
+    pub(crate) place: Place<Shared<J>>,
+    pub(crate) stands: [Stand; 65],
+    pub(crate) out: u32,
+}
+
+impl<J: Opening> Model for Steward<J> {
+    ghost use Rattle.vt_hub.specs.Places.{Keeps, keeping};
+    ghost use Rattle.vt_hub.specs.Views.{StewardView};
+
+    ghost Value = { StewardView };
+
+    ghost view = { λ s. keeping s.stands s.place };
+
+    ghost invariant = { λ s. Keeps s.stands s.out s.place };
+}
+
+impl<J: Opening> Steward<J> {
+    /// A pass of this number was made.
+    pub fn made(&self, c: CallerNo) -> bool
+        ensures { result ≡ is_made (stand_at self.now.stands c) }
+    {
+        !matches!(self.stands[usize::from(c.get())], Stand::Unmade)
+    }
+
+    /// How many passes are out.
+    pub fn out(&self) -> u32
+        ensures { result ≡ count_by is_out self.now.stands }
+    {
+        self.out
+    }
+}

@@ -1,0 +1,13 @@
+use vt_events::Reply;
+use vt_journal::Full;
+
+/// What one look of a caller comes to.
+#[derive(Drop)]
+pub enum Turn {
+    /// Its call was entered at this place.
+    Done { at: u32, reply: Reply },
+    /// The hub has stopped.
+    Full(Full),
+    /// The caller's ticket is open: nothing was entered.
+    Waits,
+}
