@@ -25,23 +25,30 @@ WORDS = [
 ]
 
 
-def main():
-    items = int(sys.argv[1]) if len(sys.argv) > 1 else 470
-    draw = random.Random(int(sys.argv[2]) if len(sys.argv) > 2 else 1)
+def session(processes, items, seed, out, events=1_000_000):
+    """Writes a session of so many processes, with so many script items each, to this file."""
+    draw = random.Random(seed)
     keys = " ".join("1e 9e" for _ in range(min(items, 100_000) // 2))
-    print(f"consoles = [{', '.join(str(n) for n in range(1, CONSOLES + 1))}]")
-    print("events = 1000000\nbytes = 1073741824")
-    print(f"keymap = 'keycode 30 = a'\nkeys = '{keys}'")
-    for p in range(1, PROCESSES + 1):
-        print(f"[[process]]\nhome = {1 + p % CONSOLES}\nprivileged = true\nscript = [")
-        print(f"'open {1 + p % CONSOLES}',")
+    print(f"consoles = [{', '.join(str(n) for n in range(1, CONSOLES + 1))}]", file=out)
+    print(f"events = {events}\nbytes = 1073741824", file=out)
+    print(f"keymap = 'keycode 30 = a'\nkeys = '{keys}'", file=out)
+    for p in range(1, processes + 1):
+        print(f"[[process]]\nhome = {1 + p % CONSOLES}\nprivileged = true\nscript = [", file=out)
+        print(f"'open {1 + p % CONSOLES}',", file=out)
         for _ in range(items - 1):
             text = bytes(draw.randrange(0x20, 0x7F) for _ in range(16)).hex()
             words = draw.choice(WORDS).format(
                 text=text, n=draw.randrange(1, CONSOLES + 1), v=draw.randrange(8),
-                p=draw.randrange(1, PROCESSES + 1), s=draw.choice([10, 12]))
-            print(f"'{words}',")
-        print("]\nhooks = ['10 disp 0 1', '12 disp 0 2']")
+                p=draw.randrange(1, processes + 1), s=draw.choice([10, 12]))
+            print(f"'{words}',", file=out)
+        print("]\nhooks = ['10 disp 0 1', '12 disp 0 2']", file=out)
 
 
-main()
+def main():
+    items = int(sys.argv[1]) if len(sys.argv) > 1 else 470
+    seed = int(sys.argv[2]) if len(sys.argv) > 2 else 1
+    session(PROCESSES, items, seed, sys.stdout)
+
+
+if __name__ == "__main__":
+    main()
