@@ -2,6 +2,9 @@
 #![tactic(auto)]
 
 mod counts;
+mod drill;
+mod drill_draws;
+mod drill_items;
 mod final_texts;
 mod handlers;
 mod player;
@@ -10,6 +13,7 @@ mod run;
 mod serial;
 mod turn;
 
+pub use drill::drill_session;
 pub use final_texts::{add_final_text, final_text};
 pub use run::Run;
 pub use serial::play;
