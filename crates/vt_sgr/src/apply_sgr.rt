@@ -1,5 +1,5 @@
-ghost use Rattle.std.specs.Prelude.{◌≡◌, ◌≤◌, length};
-ghost use Rattle.vt_sgr.specs.Sgr.{sgr, taken_by, with_bg_colour, with_fg_colour, with_form};
+ghost use Rattle.std.specs.Prelude.{◌≡◌, ◌≤◌, [], ◌∷◌, length};
+ghost use Rattle.vt_sgr.specs.Sgr.{sgr, sgr_behind, taken_by, with_bg_colour, with_fg_colour, with_form};
 
 use crate::Pen;
 use crate::change::{
@@ -14,10 +14,28 @@ use vt_cells::{Intensity, fold_bg, fold_fg};
 pub fn apply(p: &mut Pen, params: &[u16])
     ensures { p.new ≡ sgr params.now p.old }
 {
-    if params.is_empty() {
-        set_form(p, 0, params);
-        return;
+    match params {
+        [] => set_form(p, 0, params),
+        [n] => set_form(p, *n, &[]),
+        [first, second] => apply_two(p, *first, *second),
+        _ => apply_all(p, params),
     }
+}
+
+// The usual sequences have one parameter or two: these need no loop.
+fn apply_two(p: &mut Pen, first: u16, second: u16)
+    ensures { p.new ≡ sgr (first ∷ second ∷ []) p.old }
+{
+    let rest = [second];
+    set_form(p, first, &rest);
+    if taken_by(first, &rest) == 0 {
+        set_form(p, second, &[]);
+    }
+}
+
+fn apply_all(p: &mut Pen, params: &[u16])
+    ensures { p.new ≡ sgr_behind 0 params.now p.old }
+{
     let mut at = 0;
     while at < params.len() {
         let n = params[at];

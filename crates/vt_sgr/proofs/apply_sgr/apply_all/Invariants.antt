@@ -1,6 +1,6 @@
 use Rattle.std.proofs.Common.{◌≡◌, ◌≤◌, ◌-◌, length, drop}
 use Rattle.vt_sgr.specs.Sgr.{sgr_behind}
-use Rattle.vt_sgr.proofs.apply_sgr.apply.Given as goal
+use Rattle.vt_sgr.proofs.apply_sgr.apply_all.Given as goal
 
 abbrev pub invariant-loop-at : goal.invariant-loop-at
 invariant-loop-at l =

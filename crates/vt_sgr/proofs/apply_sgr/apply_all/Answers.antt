@@ -1,7 +1,7 @@
 use Rattle.std.proofs.Common.{◌≡◌, ℕ, ◌+◌, ◌-◌, List, length, take, drop, get_or, refl, ap, arith, length-drop}
 use Rattle.std.proofs.lemmas.List.{take_all}
 use Rattle.vt_sgr.proofs.Sequences.{form_more}
-use Rattle.vt_sgr.proofs.apply_sgr.apply.Goals as goal
+use Rattle.vt_sgr.proofs.apply_sgr.apply_all.Goals as goal
 
 pub loop-at-preserved : goal.loop-at-preserved
 loop-at-preserved c =
@@ -14,6 +14,6 @@ loop-at-preserved c =
       within = omega (arith, c.taken_by.ensures.within, ap length all, length-drop (c.loop-at.at + 1) params);
       rest =
           form_more params c.loop-at.at c.taken_by.result (get_or params c.loop-at.at 0) rest c.loop-at.p
-          c.set_form-in-loop-at.new.p _ c.loop-at-test.true refl all c.set_form-in-loop-at.ensures
+          c.set_form.new.p _ c.loop-at-test.true refl all c.set_form.ensures
           c.taken_by.ensures.count c.loop-at.invariant.rest;
     }
