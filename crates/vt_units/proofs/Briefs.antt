@@ -1,11 +1,11 @@
 -- A control sequence that is read number by number.
-use Rattle.std.proofs.Common.{◌≡◌, ◌≢◌, ℕ, ◌==◌, ◌≤◌, ◌<◌, ◌+◌, true, false, List, [], ◌∷◌, length, take, drop, get_or, Option, Some, refl, sym, ap, ◌∙◌, arith}
+use Rattle.std.proofs.Common.{◌≡◌, ℕ, ◌==◌, ◌≤◌, ◌<◌, ◌+◌, true, false, List, [], ◌∷◌, length, take, drop, get_or, Some, refl, sym, ap, ◌∙◌, arith}
 use Rattle.std.proofs.lemmas.Bool.{cond-true, cond-false, eq-eqb, ne_eqb, or_left, or_right}
 use Rattle.std.proofs.lemmas.Bool.Decides.{nat_tests}
 use Rattle.std.proofs.lemmas.List.{drop_more, take_all}
 use Rattle.vt_units.proofs.Fields.{continued-all}
 use Rattle.vt_units.proofs.Numbered.{front-goes, front-stops}
-use Rattle.vt_units.specs.Ahead.{Sequence, ends_control, numbers_ahead, numbers_end, opened_ahead}
+use Rattle.vt_units.specs.Ahead.{ends_control, numbers_ahead, numbers_end, opened_ahead}
 use Rattle.vt_units.specs.Briefs.{Begun, Goes}
 use Rattle.vt_units.specs.Bytes.{is_digit}
 use Rattle.vt_units.specs.Numbers.{continued, params_of, shifted}
@@ -54,20 +54,32 @@ reads-last text n i m j goes within stops =
       rest = goes.rest ∙ end.1;
     }
 
+-- a number that a semicolon at place j ends
+pub record Parts (text : List ℕ) (n i m j : ℕ) : Type 0 where
+  pub numbers : continued n (front is_parameter (drop i text)) ≡ m ∷ continued 0 (front is_parameter (drop (j + 1) text))
+  pub count : length (front is_parameter (drop i text)) + i ≡ length (front is_parameter (drop (j + 1) text)) + (j + 1)
+  pub rest : behind is_parameter (drop i text) ≡ behind is_parameter (drop (j + 1) text)
+
+pub reads-one : (text : List ℕ) (n i m j : ℕ) → Goes text n i m j → j < length text
+    → get_or text j 0 ≡ 0x3B → Parts text n i m j
+reads-one text n i m j goes within parts =
+    let is : (get_or text j 0 == 0x3B) ≡ true = eq-eqb _ _ parts in
+    let one = front-goes is_parameter text j within (or_right _ _ is) in
+    record {
+      numbers = goes.numbers ∙ ap (continued m) one.0 ∙ cond-true _ _ _ is;
+      count = omega (arith, goes.count, ap (λ (bytes : List ℕ). length bytes) one.0);
+      rest = goes.rest ∙ one.1;
+    }
+
 -- a number before a semicolon at place j, and those after it
 reads-more : (text : List ℕ) (n i m j : ℕ) (numbers : List ℕ) (e : ℕ) → Goes text n i m j → j < length text
     → get_or text j 0 ≡ 0x3B → Ends text 0 (j + 1) numbers e → Ends text n i (m ∷ numbers) e
 reads-more text n i m j numbers e goes within parts ends =
-    let is : (get_or text j 0 == 0x3B) ≡ true = eq-eqb _ _ parts in
-    let one = front-goes is_parameter text j within (or_right _ _ is) in
+    let one = reads-one text n i m j goes within parts in
     record {
-      all =
-          goes.numbers
-          ∙ ap (continued m) one.0
-          ∙ cond-true _ _ _ is
-          ∙ ap (λ (ns : List ℕ). m ∷ ns) ends.all;
-      count = omega (arith, goes.count, ends.count, ap (λ (bytes : List ℕ). length bytes) one.0);
-      rest = goes.rest ∙ one.1 ∙ ends.rest;
+      all = one.numbers ∙ ap (λ (ns : List ℕ). m ∷ ns) ends.all;
+      count = omega (arith, one.count, ends.count);
+      rest = one.rest ∙ ends.rest;
     }
 
 -- behind ESC [

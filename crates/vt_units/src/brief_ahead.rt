@@ -100,10 +100,10 @@ fn two_numbers(b: &[u8], first: u16, second: u16, at: usize, end: usize) -> Opti
     })
 }
 
-// The number of at most three digits at this place, and the place after it.
+/// The number of at most three digits at this place, and the place after it.
 #[inline(always)]
 #[tactic(auto, using(crate::proofs::Briefs::goes_none, crate::proofs::Briefs::goes_on))]
-fn number_at(b: &[u8], at: usize) -> (u16, usize)
+pub(crate) fn number_at(b: &[u8], at: usize) -> (u16, usize)
     requires within { at + 4 ≤ length b.now }
     requires short { length b.now ≤ 256 }
     ensures goes { Goes b.now 0 at result.0 result.1 }
