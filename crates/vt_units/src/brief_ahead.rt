@@ -40,9 +40,6 @@ fn opened_brief(b: &[u8]) -> Option<Brief>
     if b[1] != b'[' {
         return None;
     }
-    if b[2] == b'?' {
-        return None;
-    }
     let (first, at) = number_at(b, 2);
     if b[at] != b';' {
         return one_number(b, first, at);
@@ -57,6 +54,7 @@ fn opened_brief(b: &[u8]) -> Option<Brief>
 fn one_number(b: &[u8], first: u16, at: usize) -> Option<Brief>
     requires begins { Begun b.now }
     requires first { Goes b.now 0 2 first at }
+    requires order { 2 ≤ at }
     requires within { at + 1 ≤ length b.now }
     requires short { length b.now ≤ 256 }
     ensures sequence { IfSome result (λ brief. opened_ahead b.now ≡ Some (sequence_in brief)) }
@@ -82,6 +80,7 @@ fn two_numbers(b: &[u8], first: u16, second: u16, at: usize, end: usize) -> Opti
     requires first { Goes b.now 0 2 first at }
     requires second { Goes b.now 0 (at + 1) second end }
     requires parts { slice_index b.now at ≡ 0x3B }
+    requires start { 2 ≤ at }
     requires order { at + 1 ≤ end }
     requires within { end + 1 ≤ length b.now }
     requires short { length b.now ≤ 256 }

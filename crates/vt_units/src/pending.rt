@@ -235,12 +235,12 @@ impl Pending {
     }
 
     // Goes on without a text, where there was none.
+    #[tactic(auto, using(crate::proofs::Empties::stands_empty))]
     fn go_on(&mut self, mode: Mode)
         requires { is_empty self.old.text ≡ true }
         ensures { self.new ≡ fresh mode }
     {
         self.mode = mode;
-        self.stage = Stage::Ground;
     }
 
     fn restart(&mut self, mode: Mode)
