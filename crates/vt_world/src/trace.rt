@@ -12,55 +12,55 @@ pub(crate) const TRACE_MARKS: usize = 12_288;
 
 /// What the last event told, and how often the display switched since the start.
 #[derive(Debug, Drop)]
-pub(crate) struct Told {
-    trace: Vec<Mark>,
+pub(crate) struct Trace {
+    marks: Vec<Mark>,
     hops: u64,
 }
 
-impl Model for Told {
+impl Model for Trace {
     ghost use Rattle.std.specs.Prelude.{◌≤◌, vec_capacity};
-    ghost use Rattle.vt_world.specs.State.{Told};
+    ghost use Rattle.vt_world.specs.State.{Trace};
 
-    ghost Value = { Told };
+    ghost Value = { Trace };
 
-    ghost view = { λ t. record { trace = t.trace.items; hops = t.hops } };
+    ghost view = { λ t. record { marks = t.marks.items; hops = t.hops } };
 
-    ghost invariant = { λ t. 12288 ≤ vec_capacity t.trace };
+    ghost invariant = { λ t. 12288 ≤ vec_capacity t.marks };
 }
 
-impl Told {
+impl Trace {
     /// Nothing is told. All room is taken here.
-    pub(crate) fn start(alloc: Global) -> Result<Told, NoMemory>
-        ensures trace { IfOk result (λ told. told.trace ≡ []) }
-        ensures hops { IfOk result (λ told. told.hops ≡ 0) }
+    pub(crate) fn start(alloc: Global) -> Result<Trace, NoMemory>
+        ensures marks { IfOk result (λ trace. trace.marks ≡ []) }
+        ensures hops { IfOk result (λ trace. trace.hops ≡ 0) }
     {
-        let trace = Vec::with_capacity(alloc, TRACE_MARKS)?;
-        Ok(Told { trace, hops: 0 })
+        let marks = Vec::with_capacity(alloc, TRACE_MARKS)?;
+        Ok(Trace { marks, hops: 0 })
     }
 
     /// Nothing is told of the next event yet.
     pub(crate) fn clear(&mut self)
-        ensures trace { self.new.trace ≡ [] }
+        ensures marks { self.new.marks ≡ [] }
         ensures hops { self.new.hops ≡ self.old.hops }
     {
-        self.trace.clear();
+        self.marks.clear();
     }
 
     /// Tells a mark.
     pub(crate) fn push(&mut self, m: &Mark)
-        requires { length self.old.trace < TRACE_MARKS }
+        requires { length self.old.marks < TRACE_MARKS }
         ensures { self.new ≡ with_mark m.now self.old }
     {
         self.hops = hops_after(m, self.hops);
-        let pushed = self.trace.extend_from_slice(&[*m]);
+        let pushed = self.marks.extend_from_slice(&[*m]);
         prove!(pushed.is_ok());
     }
 
     /// The marks in order.
-    pub(crate) fn trace(&self) -> &[Mark]
-        ensures { result.now ≡ self.now.trace }
+    pub(crate) fn marks(&self) -> &[Mark]
+        ensures { result.now ≡ self.now.marks }
     {
-        self.trace.as_slice()
+        self.marks.as_slice()
     }
 
     /// How often the display switched, up to the greatest number.
