@@ -1,12 +1,15 @@
 -- Calls compared as they are meant.
-use Rattle.std.proofs.Common.{◌≡◌, [], Some, refl, sym, ap, ◌∙◌, option_map}
+use Rattle.std.proofs.Common.{◌≡◌, ◌<◌, ◌^◌, [], Some, refl, sym, ap, subst, ◌∙◌, option_map}
+use Rattle.std.specs.List.{All}
 use Rattle.std.specs.Option.{unwrap_or}
+use Rattle.std.specs.Prelude.{IfSome}
 use Rattle.std.proofs.lemmas.Option.{same_Some}
 use Rattle.vt_events.specs.Plain.{plain_event}
 use Rattle.vt_events.specs.declared.event.Event.{Event}
 use Rattle.vt_events.specs.declared.event.Event.TheVariants as event
 use Rattle.vt_journal.specs.Calls.{held_of, name_of, numbers_of}
 use Rattle.vt_journal.specs.Kinds.{call_of}
+use Rattle.vt_journal.specs.Words.{IsFit}
 use Rattle.vt_journal.proofs.Calls.{call_of-parts, named}
 
 -- the same name, numbers and bytes
@@ -43,4 +46,13 @@ same_parts d e same = record {
   name = sym (name-plain d) ∙ ap name_of same ∙ name-plain e;
   numbers = sym (numbers-plain d) ∙ ap numbers_of same ∙ numbers-plain e;
   held = sym (held-plain d) ∙ ap held_of same ∙ held-plain e;
+}
+
+-- a call is fit as it is meant where its numbers and its bytes are
+pub fit_meant : (e : Event) → All (λ n. n < 2 ^ 16) (numbers_of e)
+    → IfSome (held_of e) (λ bytes. All (λ b. b < 2 ^ 8) bytes) → IsFit (plain_event e)
+fit_meant e numbers held = record {
+  numbers = subst (All (λ n. n < 2 ^ 16)) (sym (numbers-plain e)) numbers;
+  bytes =
+      subst (λ held. IfSome held (λ bytes. All (λ b. b < 2 ^ 8) bytes)) (sym (held-plain e)) held;
 }

@@ -1,7 +1,10 @@
 -- What the words of an answer are.
-use Rattle.std.proofs.Common.{◌≡◌, ℕ, ◌<◌, ◌≤◌, ◌^◌, Bool, true, false, ◌&&◌, cond, eqb, ltb, Option, Some, None, List, [], ◌∷◌, ◌++◌, find, get_or, length, map, decimal, refl, sym, ap, subst, ◌∙◌, append_assoc, arith}
+use Rattle.std.proofs.Common.{◌≡◌, ℕ, ◌<◌, ◌≤◌, ◌^◌, Bool, true, false, ◌&&◌, cond, eqb, ltb, Option, Some, None, Result, Ok, Err, List, [], ◌∷◌, ◌++◌, find, get_or, length, map, decimal, refl, sym, ap, subst, ◌∙◌, append_assoc, arith}
 use Rattle.std.specs.List.{All, list_all}
-use Rattle.std.specs.Prelude.{IfNone, IfSome, unwrap_or}
+use Rattle.std.specs.Prelude.{IfNone, IfSome, OnOk, unwrap_or}
+use Rattle.std.proofs.lemmas.List.{get_or-replicate}
+use Rattle.vt_base.specs.Bytes.{Text}
+use Rattle.vt_base.specs.declared.vt_mode.VtMode.{VtMode}
 use Rattle.std.specs.Str.{bytes_eq}
 use Rattle.std.proofs.lemmas.Bool.{ltb-true}
 use Rattle.std.proofs.lemmas.List.Elements.{All-from_get_or, All-weaker}
@@ -252,3 +255,28 @@ named_reply r rest = (
 pub none_more : {X P Q : Type 0} (o : Option X) → (P → Q) → IfNone o P → IfNone o Q
 none_more None more none = more none
 none_more (Some x) more none = tt
+
+-- what holds however a call ended holds where it is done
+pub always : {T E P : Type 0} (r : Result T E) → P → OnOk r P
+always (Ok x) holds = holds
+always (Err e) holds = tt
+
+-- an answer that holds bytes is fit, and one of a mode
+pub fit_text : (b : Text) → All (λ x. x < 2 ^ 8) b.bytes → IsFitReply (plain_reply (reply.Text b))
+fit_text b fit = record {
+  numbers = record { many = refl; each = λ i within. absurd (omega (arith, within)) };
+  bytes = fit;
+  plain = refl;
+}
+
+pub fit_mode : (m : VtMode)
+    → All (λ n. n < 2 ^ 16) (m.mode ∷ m.waitv ∷ m.relsig ∷ m.acqsig ∷ m.frsig ∷ [])
+    → IsFitReply (plain_reply (reply.Mode m))
+fit_mode m fit = record {
+  numbers = record {
+    many = refl;
+    each = λ i within. omega (arith, fit i 0 within, get_or-replicate {A = ℕ} 5 i 65535 0 within);
+  };
+  bytes = tt;
+  plain = refl;
+}
