@@ -47,6 +47,7 @@ fn apply_all(p: &mut Pen, params: &[u16])
 }
 
 // Changes the pen by one parameter, which the rest follows.
+#[inline(always)]
 fn set_form(p: &mut Pen, n: u16, rest: &[u16])
     ensures { p.new ≡ with_form n rest.now p.old }
 {
