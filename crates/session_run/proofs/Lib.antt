@@ -1,7 +1,10 @@
 pub mod Ends
 pub mod FinalTexts
+pub mod Joins
 pub mod Numbers
 pub mod Plays
+pub mod Races
 pub mod Sessions
 pub mod Texts
 pub mod Turns
+pub mod Working

@@ -7,6 +7,8 @@ pub enum Command {
     Keys,
     /// The journal of the calls of the input, and the console after them.
     Play,
+    /// The journal of the calls of the input, made by threads, and the console after them.
+    Race,
     /// A line for each scan byte of the input's table, by the tables of its keymap.
     Typing,
 }

@@ -1,0 +1,31 @@
+use Rattle.std.proofs.Common.{length, sym, ap, ◌∙◌, subst}
+use Rattle.session_order.specs.Sessions.{start_of}
+use Rattle.session_run.proofs.Sessions.{is-start}
+use Rattle.vt_base.specs.ConsoleSet.{IsFitSet}
+use Rattle.vt_procs.specs.declared.config.Config.{Config}
+use Rattle.vt_switch.specs.Law.{IsExplained}
+use Rattle.vt_world.specs.Laws.{IsStart, moments}
+use Rattle.vt_world.specs.State.{WorldState, core}
+use Rattle.vt_world.specs.Terminals.{machine_of, terminal_at}
+use Rattle.session_run.proofs.racing.race.Goals as goal
+
+pub returns-clause-lawful : goal.returns-clause-lawful
+returns-clause-lawful g c =
+    let start : IsStart (start_of c.args.s.now) =
+    is-start c.args.s.now (subst (λ (config : Config). IsFitSet config.consoles config.front) c.config-config.ensures.same c.config-config.ensures.fit) in
+    c.displays_are_lawful.ensures.lawful (start_of c.args.s.now) c.in_ok-ran.ran.log.entries start
+
+pub returns-clause-explained : goal.returns-clause-explained
+returns-clause-explained g c =
+    let start : IsStart (start_of c.args.s.now) =
+    is-start c.args.s.now (subst (λ (config : Config). IsFitSet config.consoles config.front) c.config-config.ensures.same c.config-config.ensures.fit) in
+    subst (λ (w : WorldState). IsExplained (length c.in_ok-ran.ran.log.entries) (core w) (moments (start_of c.args.s.now) c.in_ok-ran.ran.log.entries))
+    (sym c.in_ok-ran.ensures.world)
+    (c.displays_are_lawful.ensures.waiting (start_of c.args.s.now) c.in_ok-ran.ran.log.entries start)
+
+pub returns-clause-screens : goal.returns-clause-screens
+returns-clause-screens g c = λ n within.
+    let start : IsStart (start_of c.args.s.now) =
+    is-start c.args.s.now (subst (λ (config : Config). IsFitSet config.consoles config.front) c.config-config.ensures.same c.config-config.ensures.fit) in
+    ap (λ (w : WorldState). machine_of (terminal_at w.terminals n)) c.in_ok-ran.ensures.world
+    ∙ c.screens_are_tapes.ensures.screens (start_of c.args.s.now) c.in_ok-ran.ran.log.entries start n within
