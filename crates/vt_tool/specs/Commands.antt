@@ -9,11 +9,13 @@ use Rattle.vt_tool.specs.declared.command.Command.TheVariants as command
 use Rattle.vt_tool.specs.declared.intake.Intake.{Intake}
 use Rattle.vt_tool.specs.declared.intake.Intake.TheVariants.{ToEnd}
 use Rattle.vt_tool.specs.Commands.Screen.{GivesRows, IsScreenSize, screen_limit, side}
+use Rattle.vt_tool.specs.Commands.Dump.{GivesDump}
 use Rattle.vt_tool.specs.Commands.Keys.{GivesKeyFault, GivesListing}
 use Rattle.vt_tool.specs.Commands.Play.{GivesPlayed}
 use Rattle.vt_tool.specs.Commands.Race.{GivesRaced}
 use Rattle.vt_tool.specs.Commands.Session.{GivesSessionFault}
 use Rattle.vt_tool.specs.Commands.Typing.{GivesTableFault, GivesTyped}
+pub mod Dump
 pub mod Keys
 pub mod Play
 pub mod Race
@@ -29,6 +31,7 @@ serial_forms =
     ∷ form (codes "keys") (alone command.Keys)
     ∷ form (codes "type") (alone command.Typing)
     ∷ form (codes "play") (alone command.Play)
+    ∷ form (codes "dumpkeys") (alone command.DumpKeys)
     ∷ []
 
 -- all commands: `race` needs threads
@@ -58,6 +61,7 @@ intake_of other = ToEnd text_limit
 abbrev pub Gives : Command → List ℕ → Outcome → Type 0
 Gives (command.Screen rows cols) input outcome = GivesRows rows cols input outcome
 Gives command.Keys input outcome = GivesListing input outcome ⊎ GivesKeyFault input outcome
+Gives command.DumpKeys input outcome = GivesDump input outcome ⊎ GivesKeyFault input outcome
 Gives command.Play input outcome = GivesPlayed input outcome ⊎ GivesSessionFault input outcome
 Gives command.Race input outcome = GivesRaced input outcome ⊎ GivesSessionFault input outcome
 Gives command.Typing input outcome = GivesTyped input outcome ⊎ GivesTableFault input outcome

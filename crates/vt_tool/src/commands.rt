@@ -4,6 +4,7 @@ ghost use Rattle.vt_tool.specs.Commands.{Gives, IsFit, IsSerial, intake_of};
 ghost use Rattle.vt_tool.specs.Input.{IsWithin};
 ghost use Rattle.vt_tool.specs.Status.{is_own};
 
+mod dumpkeys;
 mod keys;
 mod play;
 pub mod race;
@@ -28,6 +29,7 @@ pub fn answer_to(alloc: Global, command: Command, input: &[u8]) -> Result<Answer
     match command {
         Command::Screen { rows, cols } => screen::answer(alloc, Size { rows, cols }, input),
         Command::Keys => keys::answer(alloc, input),
+        Command::DumpKeys => dumpkeys::answer(alloc, input),
         Command::Play => play::answer(alloc, input),
         Command::Typing => typing::answer(alloc, input),
         Command::Race => unreachable!(),

@@ -16,6 +16,7 @@ pub fn parse_words(words: &[String]) -> Option<Command>
     match name.as_str() {
         "screen" => screen::parse(others),
         "keys" => alone(Command::Keys, others),
+        "dumpkeys" => alone(Command::DumpKeys, others),
         "type" => alone(Command::Typing, others),
         "play" => alone(Command::Play, others),
         _ => None,
