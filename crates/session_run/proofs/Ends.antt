@@ -9,7 +9,7 @@ use Rattle.session_order.specs.Meant.{ReplayIsMeant, meant}
 use Rattle.session_order.specs.Serial.{IsSerial, Played, is_finished, nothing_played, round, rounds, turns}
 use Rattle.session_run.specs.Playing.{IsAt, PlayerView}
 use Rattle.session_run.specs.Runs.{played}
-use Rattle.session_run.specs.declared.run.Run.{Run}
+use Rattle.vt_hub.specs.declared.run.Run.{Run}
 use Rattle.vt_journal.specs.Log.{Logged}
 use Rattle.vt_world.specs.History.{replay}
 use Rattle.session_run.proofs.Turns.{lengths}

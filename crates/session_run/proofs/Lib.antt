@@ -1,8 +1,11 @@
 pub mod Drilling
 pub mod Ends
 pub mod FinalTexts
+pub mod Joins
 pub mod Numbers
 pub mod Plays
+pub mod Races
 pub mod Sessions
 pub mod Texts
 pub mod Turns
+pub mod Working

@@ -102,7 +102,7 @@ pub record Walks (program : Program) (walk : Place) (moved : Place) (r : Reply) 
       → Stands program moved (made ++ call e r ∷ [])
 
 -- the walk stands behind one call more
-stands_more : NextIsMeant → (program : Program) (walk moved : Place) (made : List Call) (e : Event) (r : Reply)
+pub stands_more : NextIsMeant → (program : Program) (walk moved : Place) (made : List Call) (e : Event) (r : Reply)
     → StandsAfter program walk made → Walks program walk moved r → next program made ≡ Some e
     → StandsAfter program moved (made ++ as_meant (call e r) ∷ [])
 stands_more is_meant program walk moved made e r after walks next_is =

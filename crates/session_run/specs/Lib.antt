@@ -1,4 +1,5 @@
 pub mod Drill
 pub mod Final
 pub mod Playing
+pub mod Racing
 pub mod Runs

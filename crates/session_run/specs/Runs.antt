@@ -2,7 +2,7 @@
 use Rattle.std.specs.Prelude.{◌≡◌, ⊤, ℕ, ◌+◌, List, [], length, Some, slice_get, slice_index_or}
 use Rattle.session_order.specs.Meant.{meant}
 use Rattle.session_order.specs.Serial.{Played}
-use Rattle.session_run.specs.declared.run.Run.{Run}
+use Rattle.vt_hub.specs.declared.run.Run.{Run}
 use Rattle.session_text.specs.Walks.{HasActs}
 use Rattle.session_text.specs.declared.program.Program.{Program}
 use Rattle.session_text.specs.declared.program.Program.TheVariants as program

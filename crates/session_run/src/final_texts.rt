@@ -4,11 +4,11 @@ ghost use Rattle.session_run.specs.Final.{console_text, consoles_text, final_tex
 ghost use Rattle.vt_world.specs.Inputs.{input_at};
 ghost use Rattle.vt_world.specs.Terminals.{bells_of, machine_of, terminal_at};
 
-use crate::run::Run;
 use in_queue::InQueue;
 use std::alloc::Global;
 use vt_base::{Bytes, ConsoleNo, NoMemory};
 use vt_dump::add_rows;
+use vt_hub::Run;
 use vt_journal::{add, add_hex, add_next};
 use vt_screen::Emu;
 use vt_world::World;

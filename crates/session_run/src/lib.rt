@@ -1,4 +1,5 @@
-//! The play of a session: its callers' calls on a console, one after another.
+//! The play of a session, whose callers make their calls on a console one after another, and its race,
+//! in which each caller has a thread of its own.
 #![tactic(auto)]
 
 mod counts;
@@ -7,13 +8,16 @@ mod drill_draws;
 mod drill_items;
 mod final_texts;
 mod handlers;
+mod passes;
 mod player;
+mod racing;
 mod rounds;
-mod run;
 mod serial;
 mod turn;
+mod worker;
 
 pub use drill::drill_session;
 pub use final_texts::{add_final_text, final_text};
-pub use run::Run;
+pub use racing::{race, race_tables};
 pub use serial::play;
+pub use vt_hub::Run;

@@ -9,13 +9,13 @@ ghost use Rattle.vt_events.specs.Charge.{charge_of};
 ghost use Rattle.vt_journal.specs.Log.{HasRoom};
 
 use crate::counts::Counts;
-use crate::run::Run;
 use session_order::meant_laws;
 use session_text::{Program, Session, Walk};
 use std::alloc::Global;
 use std::marker::Model;
 use vt_base::{CallerNo, NoMemory};
 use vt_events::{Entry, Event, charge};
+use vt_hub::Run;
 use vt_journal::{Full, Log};
 use vt_world::{World, legal_grows, spare_for};
 

@@ -12,12 +12,12 @@ ghost use Rattle.vt_world.specs.State.{core};
 
 use crate::handlers::{hooks_of, tables_of};
 use crate::player::Player;
-use crate::run::Run;
 use session_order::{meant_laws, serial_laws};
 use session_text::Session;
 use sig_hooks::{Handler, HookTable};
 use std::alloc::Global;
 use vt_base::{NoMemory, Signal};
+use vt_hub::Run;
 use vt_world::{displays_are_lawful, screens_are_tapes};
 
 /// Plays the session on one thread: the turns that it gives, and then rounds of rising callers, until

@@ -19,7 +19,7 @@ use Rattle.vt_events.specs.declared.reply.Reply.{Reply}
 use Rattle.vt_world.specs.History.{replay}
 use Rattle.vt_world.specs.State.{WorldState}
 use Rattle.vt_world.specs.Step.{Outcome, step}
-use Rattle.vt_world.specs.Tests.{ends_wait}
+use Rattle.vt_world.specs.Refusals.{ends_wait}
 use Rattle.vt_check.proofs.Growing.{event_twice}
 
 -- the answer was compared with the console's

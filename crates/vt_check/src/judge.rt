@@ -8,7 +8,7 @@ ghost use Rattle.vt_check.specs.Judging.{IsAfter};
 ghost use Rattle.vt_check.specs.Verdicts.{FailsAt, IsAnswered, IsCounted, Passes};
 ghost use Rattle.vt_events.specs.declared.entry.Entry.{Entry};
 ghost use Rattle.vt_journal.specs.Room.{IsWithin};
-ghost use Rattle.vt_world.specs.Tests.{ends_wait};
+ghost use Rattle.vt_world.specs.Refusals.{ends_wait};
 
 use crate::counts::Counts;
 use session_order::meant_laws;

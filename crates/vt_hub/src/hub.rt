@@ -7,9 +7,10 @@ ghost use Rattle.vt_hub.specs.Views.{is_made, is_out, new_pass, opened, stand_at
 ghost use Rattle.vt_hub.specs.declared.stand.Stand.TheVariants.{Home};
 ghost use Rattle.vt_world.specs.Spare.{Fits};
 ghost use Rattle.vt_world.specs.State.{is_waiting};
-ghost use Rattle.vt_world.specs.Tests.{ends_wait};
+ghost use Rattle.vt_world.specs.Refusals.{ends_wait};
 
 use crate::answer::Answer;
+use crate::bells::Bells;
 use crate::opening::Opening;
 use crate::pass::Pass;
 use crate::run::Run;
@@ -20,7 +21,6 @@ use crate::turn::Turn;
 use std::alloc::Global;
 use std::marker::Model;
 use std::sync::Wait;
-use std::thread;
 use turn_lock::TurnLock;
 use vt_base::{CallerNo, ConsoleNo, NoMemory};
 use vt_events::Event;
@@ -31,6 +31,7 @@ use vt_world::{Spare, World, displays_are_lawful_from};
 #[derive(Drop)]
 pub struct Hub<J: Opening> {
     lock: TurnLock<Shared<J>>,
+    bells: Bells,
     alloc: Global,
 }
 
@@ -56,10 +57,11 @@ impl<J: Opening> Hub<J> {
         let log = Log::with_room(alloc, limits.events, limits.bytes)?;
         let shared = Shared::new(w, log);
         shared.sound();
+        let bells = Bells::new(alloc)?;
         let (lock, place) = TurnLock::open(alloc, shared)?;
         let stands = [Stand::Unmade; 65];
         Ok((
-            Hub { lock, alloc },
+            Hub { lock, bells, alloc },
             Steward {
                 place,
                 stands,
@@ -127,16 +129,23 @@ impl<J: Opening> Hub<J> {
         ensures { Answers J.start J.limits event.WaitEnd p.old p.new result }
     {
         for _ in rt.forever() {
+            // The wait is announced before the look, so the bell can't ring between the two unheard.
+            let key = self.bells.announced(p.number);
             match self.turn(rt, p, Event::WaitEnd, Spare::none(self.alloc)) {
                 Turn::Done { at, reply } => return Answer::Done { at, reply },
                 Turn::Full(full) => return Answer::Full(full),
-                Turn::Waits => thread::yield_now(),
+                Turn::Waits => {
+                    if let Some(key) = key {
+                        key.wait(rt);
+                    }
+                }
             }
         }
         unreachable!()
     }
 
-    // One look of the caller, which enters the call unless its ticket is open.
+    // One look of the caller, which enters the call unless its ticket is open, and wakes those whose
+    // tickets it ended.
     fn turn<R: Wait>(&self, rt: &R, p: &mut Pass<J>, event: Event, spare: Spare) -> Turn
         requires own { p.old.hub ≡ self.now }
         requires fits { Fits J.start.rows J.start.cols event spare }
@@ -149,15 +158,18 @@ impl<J: Opening> Hub<J> {
         shared.sound();
         let answer = shared.call(number, seq, event, spare);
         shared.sound();
+        let ended = shared.ended();
         match answer {
             Turn::Done { at, reply } => {
                 held.publish();
                 held.leave();
+                self.bells.ring(ended);
                 p.seq = seq + 1;
                 Turn::Done { at, reply }
             }
             Turn::Full(full) => {
                 held.leave();
+                self.bells.ring_all();
                 Turn::Full(full)
             }
             Turn::Waits => {
@@ -188,7 +200,11 @@ impl<J: Opening> Hub<J> {
         ensures { IsWhole J.start J.limits s result.world result.log result.stop }
     {
         displays_are_lawful_from();
-        let Hub { lock, alloc: _ } = self;
+        let Hub {
+            lock,
+            bells: _,
+            alloc: _,
+        } = self;
         let shared = lock.close(s.place);
         shared.sound();
         let (world, log, stop) = shared.parts();

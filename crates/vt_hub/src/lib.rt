@@ -2,6 +2,7 @@
 #![tactic(auto)]
 
 mod answer;
+mod bells;
 mod fronts;
 mod hub;
 mod opening;
@@ -11,6 +12,7 @@ mod shared;
 mod stand;
 mod steward;
 mod turn;
+mod waiters;
 
 pub use answer::Answer;
 pub use hub::Hub;

@@ -8,6 +8,7 @@ ghost use Rattle.vt_world.specs.State.{is_waiting};
 
 use crate::opening::Opening;
 use crate::turn::Turn;
+use crate::waiters::Waiters;
 use std::marker::{Model, PhantomData};
 use turn_lock::Seal;
 use vt_base::CallerNo;
@@ -21,6 +22,9 @@ pub struct Shared<J: Opening> {
     world: World,
     log: Log,
     stop: Option<Seal<Full>>,
+    // Whose tickets are open after the last call, and whose it ended.
+    waits: Waiters,
+    ended: Waiters,
     of: PhantomData<J>,
 }
 
@@ -51,6 +55,8 @@ impl<J: Opening> Shared<J> {
             world,
             log,
             stop: None,
+            waits: Waiters::none(),
+            ended: Waiters::none(),
             of: PhantomData,
         }
     }
@@ -115,6 +121,9 @@ impl<J: Opening> Shared<J> {
         let at = self.log.entries().len() as u32;
         let (reply, unused) = self.world.step(caller, &event, spare);
         let _front = self.world.display().get();
+        let waits = self.waits.after(&self.world, caller);
+        self.ended = self.waits.without(waits);
+        self.waits = waits;
         let entry = Entry {
             caller,
             seq,
@@ -123,6 +132,11 @@ impl<J: Opening> Shared<J> {
         };
         self.log.push(entry);
         Turn::Done { at, reply }
+    }
+
+    /// Those whose tickets the last call ended.
+    pub fn ended(&self) -> Waiters {
+        self.ended
     }
 
     /// The world, the log, and where the hub stopped.

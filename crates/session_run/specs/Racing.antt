@@ -1,0 +1,82 @@
+-- A race on its way. No public clause names this.
+use Rattle.std.specs.Prelude.{◌≡◌, ℕ, ◌<◌, ◌≤◌, List, [], length, map, Some, None, slice_get, slice_index_or}
+use Rattle.atomic_table.specs.Seated.{TableId}
+use Rattle.session_order.specs.Calls.{call_of}
+use Rattle.session_order.specs.Ends.{Ends}
+use Rattle.session_order.specs.Follows.{Follows}
+use Rattle.session_order.specs.Races.{HasNext, IsRun}
+use Rattle.session_order.specs.Sessions.{ShowsTapes, stage_of, start_of}
+use Rattle.session_text.specs.Programs.{next}
+use Rattle.session_text.specs.Sessions.{SessionView}
+use Rattle.session_text.specs.declared.program.Program.{Program}
+use Rattle.turn_lock.specs.declared.seal.Seal.{Seal}
+use Rattle.vt_hub.specs.Views.{PassView, StewardView, stand_at}
+use Rattle.vt_hub.specs.declared.run.Run.{Run}
+use Rattle.vt_hub.specs.declared.stand.Stand.TheVariants.{Unmade, Home}
+use Rattle.vt_journal.specs.Room.{tail_at}
+use Rattle.vt_journal.specs.declared.full.Full.{Full}
+use Rattle.vt_switch.specs.Law.{IsExplained, IsLawful}
+use Rattle.vt_world.specs.History.{IsLegal, replay}
+use Rattle.vt_world.specs.Laws.{moments}
+use Rattle.vt_world.specs.State.{core}
+
+-- what a worker leaves: a run of its program, to the end or to where it met the stop, which is by its
+-- next call if it is its own
+pub record Works (program : Program) (q : PassView) : Type 0 where
+  pub run : IsRun program q.mine
+  pub over : q.stop ≡ None → next program (map call_of q.mine) ≡ None
+  pub left :
+      (z : Seal Full) → q.stop ≡ Some z → z.by ≡ q.number → HasNext program q.mine z.what.charge
+
+-- a pass of this hub and number that made no call and met no stop
+pub record IsFresh (here : TableId) (n : ℕ) (x : PassView) : Type 0 where
+  pub own : x.hub ≡ here
+  pub numbered : x.number ≡ n
+  pub empty : x.mine ≡ []
+  pub goes : x.stop ≡ None
+
+-- passes for callers from 0 on
+abbrev pub AreFresh : TableId → List PassView → Type 0
+AreFresh here passes =
+    (i : ℕ) (x : PassView) → i < length passes → x ≡ slice_index_or passes i x → IsFresh here i x
+
+-- passes were made for the callers below n alone, and none was taken in
+pub record IsSplit (here : TableId) (n : ℕ) (s : StewardView) : Type 0 where
+  pub own : s.hub ≡ here
+  pub size : length s.stands ≡ 65
+  pub rest : (k : ℕ) → n ≤ k → stand_at s.stands k ≡ Unmade
+  pub none_home : s.joined ≡ []
+
+-- the pass of caller n, as it comes back from the worker of the program with this number
+pub record HasRun (programs : List Program) (here : TableId) (n : ℕ) (q : PassView) : Type 0 where
+  pub own : q.hub ≡ here
+  pub numbered : q.number ≡ n
+  pub works : (program : Program) → slice_get programs n ≡ Some program → Works program q
+
+-- the passes below n were taken in, each as its worker left it
+pub record AreHome (programs : List Program) (here : TableId) (n : ℕ) (s : StewardView) : Type 0 where
+  pub own : s.hub ≡ here
+  pub size : length s.stands ≡ 65
+  pub home : (k : ℕ) → k < n → stand_at s.stands k ≡ Home
+  pub rest : (k : ℕ) → length programs ≤ k → stand_at s.stands k ≡ Unmade
+  pub ran :
+      (place : ℕ) (x : PassView) → slice_get s.joined place ≡ Some x
+      → (x.number < n) × HasRun programs here x.number x
+  pub each :
+      (k : ℕ) → k < n
+      → (place : ℕ) × (x : PassView) × (slice_get s.joined place ≡ Some x) × (x.number ≡ k)
+
+-- a legal run of a session, to its end
+pub record IsRunOf (s : SessionView) (run : Run) : Type 0 where
+  pub world : run.world ≡ replay (start_of s) run.log.entries
+  pub legal : IsLegal (start_of s) run.log.entries
+  pub follows : Follows (start_of s) s.programs run.log.entries
+  pub ends : Ends (stage_of s) run.log.entries (tail_at run.log.entries run.stop)
+
+-- what comes of the race of a session: such a run, and what the laws of every history say of it
+pub record IsRaced (s : SessionView) (run : Run) : Type 0 where
+  pub is : IsRunOf s run
+  pub lawful : IsLawful (moments (start_of s) run.log.entries)
+  pub explained :
+      IsExplained (length run.log.entries) (core run.world) (moments (start_of s) run.log.entries)
+  pub screens : ShowsTapes s run.world run.log.entries

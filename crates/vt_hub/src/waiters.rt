@@ -1,0 +1,50 @@
+use vt_base::CallerNo;
+use vt_world::World;
+
+/// Processes whose tickets are open, or were: a bit for each number.
+#[derive(Clone, Copy)]
+pub struct Waiters {
+    bits: u128,
+}
+
+impl Waiters {
+    pub fn none() -> Waiters {
+        Waiters { bits: 0 }
+    }
+
+    pub fn is_empty(self) -> bool {
+        self.bits == 0
+    }
+
+    pub fn has(self, caller: CallerNo) -> bool {
+        self.bits & bit(caller) != 0
+    }
+
+    /// Those that wait after a call of this caller, where these waited before it.
+    pub fn after(self, world: &World, caller: CallerNo) -> Waiters {
+        let mut waits = Waiters::none();
+        if world.waiting(caller) {
+            waits.bits |= bit(caller);
+        }
+        if self.is_empty() {
+            return waits;
+        }
+        for process in CallerNo::processes() {
+            if self.has(process) && world.waiting(process) {
+                waits.bits |= bit(process);
+            }
+        }
+        waits
+    }
+
+    /// These without those.
+    pub fn without(self, those: Waiters) -> Waiters {
+        Waiters {
+            bits: self.bits & !those.bits,
+        }
+    }
+}
+
+fn bit(caller: CallerNo) -> u128 {
+    1 << caller.get()
+}
