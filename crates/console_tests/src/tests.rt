@@ -1,4 +1,5 @@
 //! What the tests share. Rows are texts and numbers alone, and helpers have no clauses: so a test is proved in seconds.
+mod deaths;
 mod hooks;
 mod marks;
 mod plays;

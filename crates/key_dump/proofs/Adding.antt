@@ -1,12 +1,12 @@
 -- Texts that grow by rows, one after another.
-use Rattle.std.proofs.Common.{◌≡◌, ℕ, zero, suc, ◌+◌, ◌/◌, ◌%◌, ◌<◌, ◌≤◌, Bool, true, false, ◌==◌, cond, Option, Some, None, is_some, unwrap_or, IfSome, List, [], ◌∷◌, ◌++◌, codes, decimal, filter, map, length, get_or, take, append_assoc, append-nil, refl, sym, ap, ◌∙◌, subst, arith}
+use Rattle.std.proofs.Common.{◌≡◌, ℕ, zero, suc, ◌+◌, ◌<◌, ◌≤◌, Bool, true, false, cond, Option, Some, None, is_some, unwrap_or, IfSome, List, [], ◌∷◌, ◌++◌, codes, decimal, filter, map, length, get_or, take, append_assoc, append-nil, refl, sym, ap, ◌∙◌, arith}
 use Rattle.std.proofs.lemmas.Bool.{false≢true}
-use Rattle.std.proofs.lemmas.List.{get_or_default, take_all}
-use Rattle.std.specs.List.{flat_map, join_with_byte, list_any, range_with_len, slice_index_or}
+use Rattle.std.proofs.lemmas.List.{take_all}
+use Rattle.std.specs.List.{flat_map, join_with_byte, range_with_len, slice_index_or}
 use Rattle.std.specs.Option.{option_map, option_map_or}
 use Rattle.key_syms.specs.Act.{Act}
 use Rattle.key_tables.specs.Tables.{IsMap, IsWhole, Tables, entry_of, exists_in, hole, map_of}
-use Rattle.key_dump.specs.Dump.{Modifier, entry_rows, modifiers, row_text, rows_from, table_numbers, table_rows}
+use Rattle.key_dump.specs.Dump.{Modifier, entry_rows, row_text, rows_from, table_numbers, table_rows}
 use Rattle.key_dump.specs.Spaced.{spaced}
 
 pub flat_map-append : {X Y : Type 0} (f : X → List Y) (xs ys : List X) → flat_map f (xs ++ ys) ≡ flat_map f xs ++ flat_map f ys

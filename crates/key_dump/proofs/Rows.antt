@@ -1,6 +1,6 @@
 -- The rows of a dump as texts of parts.
-use Rattle.std.proofs.Common.{◌≡◌, ℕ, ◌/◌, ◌%◌, Bool, true, false, ◌==◌, cond, List, [], ◌∷◌, ◌++◌, codes, decimal, map, append_assoc, append-nil, refl, sym, ap, ◌∙◌}
-use Rattle.std.specs.List.{flat_map, join_with_byte}
+use Rattle.std.proofs.Common.{◌≡◌, ℕ, ◌/◌, ◌%◌, true, false, ◌==◌, cond, List, [], ◌∷◌, ◌++◌, codes, decimal, map, append_assoc, append-nil, refl, sym, ap, ◌∙◌}
+use Rattle.std.specs.List.{flat_map}
 use Rattle.key_syms.specs.Act.{Act, act}
 use Rattle.key_syms.specs.Names.{name_text}
 use Rattle.key_syms.specs.declared.pair.Pair.{Pair}

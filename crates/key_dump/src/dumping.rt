@@ -2,11 +2,13 @@ ghost use Rattle.std.specs.Prelude.{◌≡◌, ◌++◌, [], codes, cond, decima
 ghost use Rattle.std.specs.List.{flat_map, join_with_byte, list_all, list_any};
 ghost use Rattle.key_compile.specs.Dumpable.{is_dumpable};
 ghost use Rattle.key_dump.specs.Dump.{dump_of, keymaps_words, pair_words, row_text, rows_from, string_rows, table_numbers, table_rows};
+ghost use Rattle.key_dump.specs.ReadsBack.{ReadsAs};
 ghost use Rattle.key_syms.specs.Act.{is_character};
 ghost use Rattle.key_tables.specs.Tables.{IsWhole};
 ghost use Rattle.key_text.specs.Told.{is_real};
 
 use crate::entries::add_table;
+use crate::laws::dump_reads_back;
 use crate::numerals::{add, add_code_point, add_number};
 use crate::quoting::add_string;
 use key_syms::Pair;
@@ -29,8 +31,11 @@ pub fn dumpable(tables: &KeyTables) -> bool
 /// each string that isn't empty and for each pair.
 pub fn dump(alloc: Global, tables: &KeyTables) -> Result<Bytes, NoMemory>
     requires { IsTrue (is_dumpable tables.now) }
-    ensures { IfOk result (λ text. text.bytes ≡ dump_of tables.now) }
+    ensures text { IfOk result (λ text. text.bytes ≡ dump_of tables.now) }
+    ensures back { IfOk result (λ text. ReadsAs text.bytes tables.now) }
 {
+    are_whole(tables);
+    dump_reads_back();
     let mut text = Bytes::new(alloc);
     add_keymaps(alloc, &mut text, tables)?;
     add_tables(alloc, &mut text, tables)?;

@@ -3,9 +3,11 @@
 
 mod dumping;
 mod entries;
+mod laws;
 mod numerals;
 mod quoting;
 #[cfg(test)]
 mod tests;
 
 pub use dumping::{dump, dumpable};
+pub use laws::dump_reads_back;

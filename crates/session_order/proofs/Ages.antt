@@ -5,16 +5,16 @@ use Rattle.std.proofs.lemmas.Bool.{cases_eq, cases_lt, false≢true}
 use Rattle.std.proofs.lemmas.List.{get_or-set_other, get_or-set_same, set_past}
 use Rattle.std.specs.List.{list_any}
 use Rattle.vt_procs.specs.Callers.{Callers, adds_open, caller_at, ended, gone, loses_open, no_caller, opened, shut, with_caller}
-use Rattle.vt_procs.specs.Tickets.{accepting, broken, can_go, collected, filled, is_for_display, is_for_input, left, raised, settled, shown, signalled, succeeded, taken, told, with_waiting, without_pending}
+use Rattle.vt_procs.specs.Tickets.{accepting, broken, can_go, collected, filled, is_for_display, is_for_input, left, raised, settled, shown, signalled, succeeded, taken, waited_of, with_waiting, without_pending}
 use Rattle.vt_procs.specs.declared.process.Process.{Process}
 use Rattle.vt_procs.specs.declared.ticket.Ticket.{Ticket}
 use Rattle.vt_procs.specs.declared.waiting.Waiting.{Waiting}
 use Rattle.vt_procs.specs.declared.waiting.Waiting.TheVariants.{Nothing, Open, Done, Broken}
-use Rattle.vt_world.specs.Tests.{has_ticket}
+use Rattle.vt_world.specs.Refusals.{has_ticket}
 
 -- it is a ticket, open or not
 abbrev pub holds : Waiting → Bool
-holds waiting = has_ticket (told waiting)
+holds waiting = has_ticket (waited_of waiting)
 
 pub record Ages (a b : Process) : Type 0 where
   pub live : b.live ≡ true → a.live ≡ true

@@ -29,7 +29,7 @@ use Rattle.vt_world.specs.Heard.{cleared, heard, tell}
 use Rattle.vt_world.specs.Rows.{Row, row}
 use Rattle.vt_world.specs.State.{WorldState, core}
 use Rattle.vt_world.specs.Step.{Outcome, step}
-use Rattle.vt_world.specs.Tests.{ends_wait, may_make}
+use Rattle.vt_world.specs.Refusals.{ends_wait, may_make}
 
 -- who holds a ticket lives
 abbrev pub Sound : Callers → Type 0

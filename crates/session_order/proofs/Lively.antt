@@ -24,7 +24,7 @@ use Rattle.vt_procs.specs.Callers.{Callers, caller_at, is_live}
 use Rattle.vt_procs.specs.Tickets.{is_open}
 use Rattle.vt_world.specs.State.{WorldState}
 use Rattle.vt_world.specs.Step.{step}
-use Rattle.vt_world.specs.Tests.{ends_wait}
+use Rattle.vt_world.specs.Refusals.{ends_wait}
 
 -- p has waitend next, and isn't the keyboard
 pub record HasWaitEnd (p : ℕ) (next : Option Event) : Type 0 where

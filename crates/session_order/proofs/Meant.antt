@@ -24,7 +24,7 @@ use Rattle.vt_journal.specs.Log.{charge_of_all}
 use Rattle.vt_world.specs.History.{IsNext, replay}
 use Rattle.vt_world.specs.State.{WorldState}
 use Rattle.vt_world.specs.Step.{Outcome, step}
-use Rattle.vt_world.specs.Tests.{ends_wait}
+use Rattle.vt_world.specs.Refusals.{ends_wait}
 
 pub next-meant : NextIsMeant
 next-meant p made = (next-fine p).same made

@@ -21,14 +21,14 @@ use Rattle.vt_world.specs.Heard.{cleared}
 use Rattle.vt_world.specs.Rows.{Row, ended_reply, row, waits_unless}
 use Rattle.vt_world.specs.State.{WorldState}
 use Rattle.vt_world.specs.Step.{Outcome, answered, effect_after, effect_of, step, with_idle_rule}
-use Rattle.vt_world.specs.Tests.{Test, caller, common_tests, ends_wait, first_failing, holds_ticket, is_empty, may_make, own_tests, target}
+use Rattle.vt_world.specs.Refusals.{Refusal, caller, common_refusals, ends_wait, first_refusal, holds_ticket, is_empty, may_make, own_refusals, target}
 
 -- the first of the tests of every event that fails, and of those of this one
 abbrev pub common : WorldState → ℕ → Event → Option Errno
-common w p e = first_failing (common_tests (cleared w) p e)
+common w p e = first_refusal (common_refusals (cleared w) p e)
 
 abbrev pub own : WorldState → ℕ → Event → Option Errno
-own w p e = first_failing (own_tests (cleared w) p e)
+own w p e = first_refusal (own_refusals (cleared w) p e)
 
 abbrev pub refused : WorldState → Errno → Outcome
 refused w with = record { world = cleared w; reply = reply.Err with }
@@ -91,22 +91,22 @@ tested_srch true false held with same is = other errno.Notty with refl same is
 tested_srch false may held with same is = refl
 
 -- no test of the list refuses with ESRCH
-abbrev is_no_srch : Test → Bool
+abbrev is_no_srch : Refusal → Bool
 is_no_srch t = not (is_srch t.with)
 
-failing_no_srch : (tests : List Test) (with : Errno) → list_all is_no_srch tests ≡ true
-    → first_failing tests ≡ Some with → is_srch with ≡ false
+failing_no_srch : (tests : List Refusal) (with : Errno) → list_all is_no_srch tests ≡ true
+    → first_refusal tests ≡ Some with → is_srch with ≡ false
 failing_no_srch [] with none = λ same. absurd (none-some with same)
 failing_no_srch (t ∷ tests) with none =
     let parts : (is_no_srch t ≡ true) × (list_all is_no_srch tests ≡ true) =
     and_parts (is_no_srch t) (list_all is_no_srch tests) none in
-    elim t.fails as (λ b. (if b then Some t.with else first_failing tests) ≡ Some with → is_srch with ≡ false) [
+    elim t.applies as (λ b. (if b then Some t.with else first_refusal tests) ≡ Some with → is_srch with ≡ false) [
       | true ↦ λ same. subst (λ e. is_srch e ≡ false) (same_Some t.with with same) (not-true (is_srch t.with) parts.0)
       | false ↦ failing_no_srch tests with parts.1
     ]
 
 own_no_srch : (w : WorldState) (p : ℕ) (e : Event) → is_kill e ≡ false
-    → list_all is_no_srch (own_tests w p e) ≡ true
+    → list_all is_no_srch (own_refusals w p e) ≡ true
 own_no_srch w p (event.Kill q s) isnt = absurd (true≢false isnt)
 own_no_srch w p e isnt = refl
 
@@ -133,7 +133,7 @@ gone_does : (w : WorldState) (p : ℕ) (e : Event) (o : Outcome) → StepDoes w 
 gone_does w p e o (RefusedByAll with is) kill gone =
     tested_srch (is_live w.callers p) (may_make p e) (holds_ticket w p && not (ends_wait e)) with is gone
 gone_does w p e o (RefusedByOwn with none is) kill gone =
-    absurd (both_ways (is_srch with) (failing_no_srch (own_tests (cleared w) p e) with (own_no_srch (cleared w) p e kill) is) gone)
+    absurd (both_ways (is_srch with) (failing_no_srch (own_refusals (cleared w) p e) with (own_no_srch (cleared w) p e kill) is) gone)
 gone_does w p e o (Accepted none is) kill gone =
     absurd (both_ways (is_gone (row (cleared w) p e).reply) (row_replies (cleared w) p e) gone)
 

@@ -34,7 +34,7 @@ use Rattle.vt_world.specs.History.{IsLegal, IsNext, replay}
 use Rattle.vt_world.specs.Rows.{ended_reply, row, waits_unless}
 use Rattle.vt_world.specs.State.{WorldState}
 use Rattle.vt_world.specs.Step.{Outcome, step}
-use Rattle.vt_world.specs.Tests.{caller, is_empty, target}
+use Rattle.vt_world.specs.Refusals.{caller, is_empty, target}
 
 -- the console's answers are as they are meant
 waits_plain : (there : Bool) (p : ℕ) (ticket : Ticket)

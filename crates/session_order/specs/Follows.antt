@@ -9,7 +9,7 @@ use Rattle.vt_procs.specs.Callers.{caller_at}
 use Rattle.vt_procs.specs.Tickets.{is_open}
 use Rattle.vt_world.specs.History.{replay}
 use Rattle.vt_world.specs.State.{WorldState}
-use Rattle.vt_world.specs.Tests.{ends_wait}
+use Rattle.vt_world.specs.Refusals.{ends_wait}
 
 -- p has a ticket that is open
 abbrev pub is_waiting : WorldState → ℕ → Bool

@@ -1,3 +1,4 @@
+pub mod Drilling
 pub mod Ends
 pub mod FinalTexts
 pub mod Joins

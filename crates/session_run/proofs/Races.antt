@@ -9,7 +9,7 @@ use Rattle.session_order.specs.Ends.{Ends, Stage}
 use Rattle.session_order.specs.Follows.{Follows, is_waiting}
 use Rattle.session_order.specs.Races.{HasEnded, HasNext, IsClosed, IsRun, RaceIsRight}
 use Rattle.session_order.specs.Sessions.{stage_of, start_of}
-use Rattle.session_run.specs.Racing.{AreHome, IsRaced, Works}
+use Rattle.session_run.specs.Racing.{AreHome, IsRunOf, Works}
 use Rattle.session_text.specs.Programs.{next}
 use Rattle.session_text.specs.Sessions.{SessionView}
 use Rattle.session_text.specs.declared.program.Program.{Program}
@@ -131,7 +131,7 @@ module _ (o : Stage) (here : TableId) (s : StewardView) (world : WorldState) (lo
 pub race-raced : RaceIsRight → (s : SessionView) (start : WorldState) (most : Limits) (programs : List Program) (here : TableId) (steward : StewardView) (run : Run)
     → start ≡ start_of s → most ≡ s.limits → programs ≡ s.programs
     → IsWhole start most steward run.world run.log run.stop
-    → AreHome programs here (length programs) steward → IsRaced s run
+    → AreHome programs here (length programs) steward → IsRunOf s run
 race-raced right s start most programs here steward run is_start is_most same given taken =
     let whole : IsWhole (start_of s) s.limits steward run.world run.log run.stop =
     subst (λ st. IsWhole st s.limits steward run.world run.log run.stop) is_start

@@ -25,7 +25,7 @@ use Rattle.vt_hub.specs.declared.answer.Answer.{Answer}
 use Rattle.vt_hub.specs.declared.answer.Answer.TheVariants as answer
 use Rattle.vt_journal.specs.declared.limits.Limits.{Limits}
 use Rattle.vt_world.specs.State.{WorldState}
-use Rattle.vt_world.specs.Tests.{ends_wait}
+use Rattle.vt_world.specs.Refusals.{ends_wait}
 
 -- a worker on its way: its pass made a run of the program, after which the walk stands
 pub record AtWork (program : Program) (walk : Place) (here : TableId) (number : ℕ) (q : PassView) : Type 0 where

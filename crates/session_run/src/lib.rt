@@ -3,6 +3,9 @@
 #![tactic(auto)]
 
 mod counts;
+mod drill;
+mod drill_draws;
+mod drill_items;
 mod final_texts;
 mod handlers;
 mod passes;
@@ -13,6 +16,7 @@ mod serial;
 mod turn;
 mod worker;
 
+pub use drill::drill_session;
 pub use final_texts::{add_final_text, final_text};
 pub use racing::{race, race_tables};
 pub use serial::play;

@@ -3,7 +3,7 @@ ghost use Rattle.std.specs.Prelude.{◌≡◌, ℕ, ◌<◌, [], length, IfOk, s
 ghost use Rattle.session_order.specs.Ends.{Ends};
 ghost use Rattle.session_order.specs.Follows.{Follows};
 ghost use Rattle.session_order.specs.Sessions.{ShowsTapes, stage_of, start_of};
-ghost use Rattle.session_run.specs.Racing.{IsRaced};
+ghost use Rattle.session_run.specs.Racing.{IsRaced, IsRunOf};
 ghost use Rattle.session_run.specs.Runs.{HasHooks};
 ghost use Rattle.vt_journal.specs.Room.{tail_at};
 ghost use Rattle.vt_switch.specs.Law.{IsExplained, IsLawful};
@@ -47,9 +47,6 @@ pub fn race<H: Handler + Send + Sync, G: Gate + Sync, R: Threads + Wait + Sync>(
         (moments (start_of s.now) run.log.entries)) }
     ensures screens { IfOk result (λ run. ShowsTapes s.now run.world run.log.entries) }
 {
-    displays_are_lawful();
-    screens_are_tapes();
-    let _config = s.config();
     let ran = race_by_hooks(rt, alloc, s, &hooks, gate)?;
     Ok(ran)
 }
@@ -72,9 +69,6 @@ pub fn race_tables<G: Gate + Sync, R: Threads + Wait + Sync>(
         (moments (start_of s.now) run.log.entries)) }
     ensures screens { IfOk result (λ run. ShowsTapes s.now run.world run.log.entries) }
 {
-    displays_are_lawful();
-    screens_are_tapes();
-    let _config = s.config();
     let acts = tables_of(alloc, s)?;
     let ran = race_with(rt, alloc, s, &acts, gate)?;
     Ok(ran)
@@ -129,10 +123,13 @@ fn race_by_hooks<H: Handler + Send + Sync, G: Gate + Sync, R: Threads + Wait + S
     requires { HasHooks s.now.programs hooks.now }
     ensures { IfOk result (λ run. IsRaced s.now run) }
 {
+    displays_are_lawful();
+    screens_are_tapes();
     let config = s.config();
     let tables = s.key_tables();
     let world = World::start(alloc, config, tables)?;
-    race_on::<Brand, H, G, R>(rt, alloc, s, world, hooks, gate)
+    let ran = race_on::<Brand, H, G, R>(rt, alloc, s, world, hooks, gate)?;
+    Ok(ran)
 }
 
 // Races it on this console, which a hub takes over.
@@ -153,7 +150,7 @@ fn race_on<
     requires start { J.start ≡ start_of s.now }
     requires limits { J.limits ≡ s.now.limits }
     requires hooks { HasHooks s.now.programs hooks.now }
-    ensures { IfOk result (λ run. IsRaced s.now run) }
+    ensures { IfOk result (λ run. IsRunOf s.now run) }
 {
     race_laws();
     nobody_waits_at_start();

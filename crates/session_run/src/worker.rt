@@ -5,7 +5,7 @@ ghost use Rattle.session_text.specs.Programs.{Call, next};
 ghost use Rattle.session_text.specs.Walks.{HasActs, Stands};
 ghost use Rattle.vt_hub.specs.Answers.{Answers};
 ghost use Rattle.vt_hub.specs.Histories.{awaits};
-ghost use Rattle.vt_world.specs.Tests.{ends_wait};
+ghost use Rattle.vt_world.specs.Refusals.{ends_wait};
 
 use session_order::{meant_laws, race_laws};
 use session_text::{Program, Walk, waits_are_ended};

@@ -1,5 +1,6 @@
 -- How many values an array has.
 use Rattle.std.proofs.Common.{◌≡◌, ℕ, ◌+◌, suc, List, [], ◌∷◌, Option, Some, None, Result, Ok, Err, length, ok_or, refl, ap, ◌∙◌}
+use Rattle.table_fields.specs.FaultCodes.{WRONG_KIND}
 use Rattle.table_fields.specs.Arrays.{array_in, array_of, count_in, count_of, values_of}
 use Rattle.table_fields.specs.Checked.{collect, fault, ◌>>=◌}
 use Rattle.table_fields.specs.declared.fault.TableFault.{TableFault}
@@ -25,8 +26,8 @@ pub array-count : {A : Type 0} (as_kind : Data → Option A) (part key : ℕ) (d
 array-count as_kind part key None xs is = let same : xs ≡ [] = cc in ap length same
 array-count as_kind part key (Some d) xs is = in_array (as_array d) is
   where
-    in_array : (items : Option Items) → array_in as_kind (fault 22 part key) items ≡ Ok xs
+    in_array : (items : Option Items) → array_in as_kind (fault WRONG_KIND part key) items ≡ Ok xs
         → length xs ≡ count_in items
     in_array None is = cc
     in_array (Some items) is =
-        length-collect (λ n d. ok_or (as_kind d) (fault 22 part key)) 1 (values_of items) xs is
+        length-collect (λ n d. ok_or (as_kind d) (fault WRONG_KIND part key)) 1 (values_of items) xs is

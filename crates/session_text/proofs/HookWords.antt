@@ -3,6 +3,7 @@ use Rattle.std.proofs.Common.{◌≡◌, ℕ, ◌+◌, ◌<◌, Bool, true, fals
 use Rattle.std.proofs.lemmas.List.{at_drop_more}
 use Rattle.std.proofs.lemmas.Fmt.{decimal_injective}
 use Rattle.sig_hooks.specs.declared.act.Act.{Act}
+use Rattle.table_fields.specs.FaultCodes.{HOOK}
 use Rattle.table_fields.specs.Checked.{fault}
 use Rattle.table_fields.specs.declared.fault.TableFault.{TableFault}
 use Rattle.vt_base.specs.Range.{in_range}
@@ -48,7 +49,7 @@ hooks_fault p i item hooked texts d within is f first =
 -- a hook for a signal that has one already
 pub hook_fault : (p item : ℕ) (hooked : Hooked) (text : List ℕ) (words : List (List ℕ)) (s t : ℕ)
     (act : Act) → words ≡ words_of text → IsHook words s act → s ≡ t
-    → has_signal hooked.signals t ≡ true → hook_says p item hooked text (Err (fault 26 p item))
+    → has_signal hooked.signals t ≡ true → hook_says p item hooked text (Err (fault HOOK p item))
 hook_fault p item hooked text words s t act are hook same taken = (
   λ signal other h.
       let one : t ≡ signal =

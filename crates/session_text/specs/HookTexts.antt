@@ -4,27 +4,22 @@ use Rattle.std.specs.List.{slice_split}
 use Rattle.sig_hooks.specs.Hooks.{with_act}
 use Rattle.sig_hooks.specs.declared.act.Act.{Act}
 use Rattle.sig_hooks.specs.declared.act.Act.TheVariants as acts
+use Rattle.table_fields.specs.FaultCodes.{HOOK}
 use Rattle.table_fields.specs.Checked.{fault}
 use Rattle.table_fields.specs.Fields.{pair_of}
 use Rattle.table_fields.specs.declared.fault.TableFault.{TableFault}
 use Rattle.session_text.specs.declared.hooked.Hooked.{Hooked}
 use Rattle.session_text.specs.Says.{◌>>=◌}
+use Rattle.vt_base.specs.Digits.{lower_hex_value}
 use Rattle.vt_base.specs.Signals.{has_signal, with_signal}
 
 -- the words of a text, one blank between each and the next
 abbrev pub words_of : List ℕ → List (List ℕ)
 words_of text = slice_split (λ b. b == 0x20) text
 
--- the value of a hexadecimal digit in lower case
-abbrev pub lower_digit_of : ℕ → Option ℕ
-lower_digit_of c =
-    if nat_le 0x30 c && nat_le c 0x39 then Some (c - 0x30)
-    else if nat_le 0x61 c && nat_le c 0x66 then Some (c - 0x57)
-    else None
-
--- two such digits are a byte
+-- two hexadecimal digits in lower case are a byte
 abbrev pub lower_byte_of : List ℕ → Option ℕ
-lower_byte_of (high ∷ low ∷ []) = pair_of (lower_digit_of high) (lower_digit_of low)
+lower_byte_of (high ∷ low ∷ []) = pair_of (lower_hex_value high) (lower_hex_value low)
 lower_byte_of word = None
 
 -- a word is a number of 16 bits
@@ -75,7 +70,7 @@ hook_says p item hooked text (Ok after) =
 hook_says p item hooked text (Err e) =
     ((signal : ℕ) (act : Act) → IsHook (words_of text) signal act
     → has_signal hooked.signals signal ≡ true)
-    × (e ≡ fault 26 p item)
+    × (e ≡ fault HOOK p item)
 
 -- the texts of process p are hooks behind those that there are, counted from n
 abbrev pub hooks_say : ℕ → ℕ → Hooked → List (List ℕ) → Result Hooked TableFault → Type 0

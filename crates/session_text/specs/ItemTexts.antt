@@ -1,5 +1,6 @@
 -- The texts of script items. This project's own.
 use Rattle.std.specs.Prelude.{◌≡◌, ℕ, ◌+◌, ◌<◌, ◌^◌, Bool, true, false, Result, Ok, Err, List, ◌∷◌, ◌⊎◌, codes, decimal, length}
+use Rattle.table_fields.specs.FaultCodes.{SCRIPT_ITEM}
 use Rattle.table_fields.specs.Checked.{fault}
 use Rattle.table_fields.specs.declared.fault.TableFault.{TableFault}
 use Rattle.vt_events.specs.Plain.{text as bytes_of}
@@ -37,7 +38,7 @@ IsItem text e = (Spells text e × (is_item e ≡ true)) ⊎ IsSay text e
 -- the n-th text of process p is an item; else 25 at its place
 abbrev pub item_says : ℕ → ℕ → List ℕ → Result Event TableFault → Type 0
 item_says p n text (Ok e) = IsItem text e
-item_says p n text (Err f) = ((e : Event) → ¬ IsItem text e) × (f ≡ fault 25 p n)
+item_says p n text (Err f) = ((e : Event) → ¬ IsItem text e) × (f ≡ fault SCRIPT_ITEM p n)
 
 -- the words of a say, and where its text starts
 pub record IsSaid (words : List (List ℕ)) (said : Said) : Type 0 where

@@ -2,6 +2,7 @@
 use Rattle.std.specs.Int.RustNames.{bit_or}
 use Rattle.std.specs.List.{range_with_len}
 use Rattle.std.specs.Prelude.{ℕ, ℤ, ◌-◌, ◌^◌, ◌≤◌, not, Option, Some, None, Result, Ok, Err, List, [], ◌∷◌, codes, find, ok_or}
+use Rattle.table_fields.specs.FaultCodes.{OUT_OF_RANGE, WRONG_KIND}
 use Rattle.table_fields.specs.Arrays.{array_of}
 use Rattle.table_fields.specs.Checked.{check, fault, ◌>>=◌}
 use Rattle.table_fields.specs.Fields.{number_in, number_of, number_within}
@@ -14,13 +15,13 @@ use Rattle.session_text.specs.declared.opening.Opening.{Opening}
 abbrev pub consoles_in : ℕ → List ℤ → Result ℕ TableFault
 consoles_in set [] = Ok set
 consoles_in set (z ∷ zs) = do
-  n ← number_within 1 63 (fault 23 0 3) z
-  new ← check (not (is_among set n)) (fault 23 0 3)
+  n ← number_within 1 63 (fault OUT_OF_RANGE 0 3) z
+  new ← check (not (is_among set n)) (fault OUT_OF_RANGE 0 3)
   consoles_in (bit_or set (2 ^ n)) zs
 
 -- there is at least one
 abbrev pub some_consoles : List ℤ → Result ℕ TableFault
-some_consoles [] = Err (fault 23 0 3)
+some_consoles [] = Err (fault OUT_OF_RANGE 0 3)
 some_consoles (z ∷ zs) = consoles_in 0 (z ∷ zs)
 
 -- the consoles at a key, without one console 1
@@ -34,10 +35,10 @@ lowest_from set n = find (is_among set) (range_with_len n (64 - n))
 
 -- the console in front, without one the lowest of the set: one of them
 abbrev pub front_of : ℕ → Option Data → Result ℕ TableFault
-front_of set None = ok_or (lowest_from set 1) (fault 23 0 4)
+front_of set None = ok_or (lowest_from set 1) (fault OUT_OF_RANGE 0 4)
 front_of set (Some d) = do
-  n ← number_in 1 63 (fault 22 0 4) (fault 23 0 4) (as_integer d)
-  among ← check (is_among set n) (fault 23 0 4)
+  n ← number_in 1 63 (fault WRONG_KIND 0 4) (fault OUT_OF_RANGE 0 4) (as_integer d)
+  among ← check (is_among set n) (fault OUT_OF_RANGE 0 4)
   Ok n
 
 -- the first six keys, in the order of the checks

@@ -2,6 +2,7 @@
 use Rattle.std.specs.Prelude.{ℕ, Bool, ◌||◌, nat_le, Result, Ok, List, length, codes}
 use lib.Pointwise.{pointwise}
 use lib.Dec.{eqb}
+use Rattle.table_fields.specs.FaultCodes.{TOO_MANY, UNKNOWN_KEY}
 use Rattle.table_fields.specs.Arrays.{array_of, flag_of}
 use Rattle.table_fields.specs.Checked.{check, fault, ◌>>=◌}
 use Rattle.table_fields.specs.Fields.{keys_pass, number_of}
@@ -27,9 +28,9 @@ pub record Head : Type 0 where
 -- the first three keys of process p, in the order of the checks
 abbrev pub head_of : ℕ → Members → Result Head TableFault
 head_of p members = do
-  known ← check (keys_pass is_process_key members) (fault 21 p 0)
+  known ← check (keys_pass is_process_key members) (fault UNKNOWN_KEY p 0)
   home ← number_of p 1 0 0 63 (get_member (codes "home") members)
   privileged ← flag_of p 2 (get_member (codes "privileged") members)
   texts ← array_of as_str p 3 (get_member (codes "script") members)
-  few ← check (nat_le (length texts) most_items) (fault 29 p 3)
+  few ← check (nat_le (length texts) most_items) (fault TOO_MANY p 3)
   Ok (record { start = record { home = home; privileged = privileged }; script = texts })

@@ -2,6 +2,7 @@
 use Rattle.std.specs.Prelude.{ℕ, Bool, ◌||◌, nat_le, Result, Ok, List, length, codes}
 use lib.Pointwise.{pointwise}
 use lib.Dec.{eqb}
+use Rattle.table_fields.specs.FaultCodes.{OUT_OF_RANGE, UNKNOWN_KEY}
 use Rattle.table_fields.specs.Arrays.{array_of, count_of}
 use Rattle.table_fields.specs.Checked.{check, fault, ◌>>=◌}
 use Rattle.table_fields.specs.Fields.{keys_pass}
@@ -35,10 +36,10 @@ pub record Top : Type 0 where
 -- its keys, in the order of the checks: there are at most 64 processes
 abbrev pub top_of : Members → Result Top TableFault
 top_of members = do
-  known ← check (keys_pass is_top_key members) (fault 21 0 0)
+  known ← check (keys_pass is_top_key members) (fault UNKNOWN_KEY 0 0)
   opening ← opening_of members
   typed ← typed_of members
   turns ← turns_of (count_of (get_member (codes "process") members)) (get_member (codes "turns") members)
   tables ← array_of as_table 0 11 (get_member (codes "process") members)
-  few ← check (nat_le (length tables) 64) (fault 23 0 11)
+  few ← check (nat_le (length tables) 64) (fault OUT_OF_RANGE 0 11)
   Ok (record { opening = opening; typed = typed; turns = turns; tables = tables })

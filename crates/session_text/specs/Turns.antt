@@ -1,5 +1,6 @@
 -- The turns of a session. This project's own.
 use Rattle.std.specs.Prelude.{◌≡◌, ℕ, ◌≤◌, nat_le, Option, Result, List, length}
+use Rattle.table_fields.specs.FaultCodes.{TOO_MANY, TURN}
 use Rattle.table_fields.specs.Arrays.{array_of}
 use Rattle.table_fields.specs.Checked.{check, collect, fault, ◌>>=◌}
 use Rattle.table_fields.specs.Fields.{number_within}
@@ -15,8 +16,8 @@ most_turns = 1000000
 abbrev pub turns_of : ℕ → Option Data → Result (List ℕ) TableFault
 turns_of processes d = do
   turns ← array_of as_integer 0 10 d
-  few ← check (nat_le (length turns) most_turns) (fault 29 0 10)
-  collect (λ n z. number_within 0 processes (fault 28 0 n) z) 1 turns
+  few ← check (nat_le (length turns) most_turns) (fault TOO_MANY 0 10)
+  collect (λ n z. number_within 0 processes (fault TURN 0 n) z) 1 turns
 
 -- the bytes are these turns, if there are few processes
 abbrev pub AreTurns : ℕ → Text → List ℕ → Type 0

@@ -1,11 +1,11 @@
 //! Hooks read from their texts.
 ghost use Rattle.std.specs.Prelude.{◌≡◌, ℕ, ◌≢◌, ◌<◌, ◌^◌, ◌∷◌, [], codes, decimal, map, IfSome, IfNone};
 ghost use Rattle.sig_hooks.specs.declared.act.Act.{Act};
-ghost use Rattle.session_text.specs.HookTexts.{IsAct, IsHook, IsHooked, lower_byte_of, lower_digit_of};
+ghost use Rattle.session_text.specs.HookTexts.{IsAct, IsHook, IsHooked, lower_byte_of};
 
 use crate::acting::Found;
 use sig_hooks::Act;
-use vt_base::parse_decimal;
+use vt_base::{lower_hex_value, parse_decimal};
 
 /// The hook that the words spell.
 pub fn hook_of(words: &[&str]) -> Option<Found>
@@ -103,18 +103,7 @@ fn lower_byte_of(word: &[u8]) -> Option<u8>
     ensures { result ≡ lower_byte_of word.now }
 {
     let [high, low] = word else { return None };
-    let high = lower_digit_of(*high)?;
-    let low = lower_digit_of(*low)?;
+    let high = lower_hex_value(*high)?;
+    let low = lower_hex_value(*low)?;
     Some(16 * high + low)
-}
-
-fn lower_digit_of(c: u8) -> Option<u8>
-    ensures value { result ≡ lower_digit_of c }
-    ensures small { IfSome result (λ n. n < 16) }
-{
-    match c {
-        b'0'..=b'9' => Some(c - b'0'),
-        b'a'..=b'f' => Some(c - b'a' + 10),
-        _ => None,
-    }
 }

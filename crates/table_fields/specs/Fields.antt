@@ -9,6 +9,7 @@ use Rattle.key_text.specs.Told.{Told}
 use Rattle.key_text.specs.declared.fault.KeyFault.{KeyFault}
 use Rattle.toml.specs.Data.{Data, Members, no_members, member, as_integer, as_str, as_table}
 use Rattle.toml.specs.Parse.{parse_document}
+use Rattle.vt_base.specs.Digits.{hex_value}
 use Rattle.table_fields.specs.Checked.{check, collect, fault, ◌>>=◌}
 use Rattle.table_fields.specs.FaultCodes.{KEYMAP, NO_DOCUMENT, OUT_OF_RANGE, SCAN_BYTE, TOO_MANY, WRONG_KIND}
 use Rattle.table_fields.specs.declared.fault.TableFault.{TableFault}
@@ -83,22 +84,14 @@ abbrev pub keymap_of : List Named → List ℕ → Result (List Told) TableFault
 keymap_of texts keymap =
     lines_read (lines_of texts keymap) >>= λ lines. lines_compiled lines (compile_fault lines)
 
--- the value of a hexadecimal digit, in either case
-abbrev pub digit_of : ℕ → Option ℕ
-digit_of c =
-    if nat_le 0x30 c && nat_le c 0x39 then Some (c - 0x30)
-    else if nat_le 0x41 c && nat_le c 0x46 then Some (c - 0x37)
-    else if nat_le 0x61 c && nat_le c 0x66 then Some (c - 0x57)
-    else None
-
--- two digits are a byte
+-- two hexadecimal digits are a byte
 abbrev pub pair_of : Option ℕ → Option ℕ → Option ℕ
 pair_of (Some high) (Some low) = Some (16 * high + low)
 pair_of (Some high) None = None
 pair_of None low = None
 
 abbrev pub byte_of : List ℕ → Option ℕ
-byte_of (high ∷ low ∷ []) = pair_of (digit_of high) (digit_of low)
+byte_of (high ∷ low ∷ []) = pair_of (hex_value high) (hex_value low)
 byte_of item = None
 
 abbrev pub byte_in : TableFault → Option ℕ → Result ℕ TableFault

@@ -1,11 +1,11 @@
-ghost use Rattle.std.specs.Prelude.{◌≡◌, ◌<◌, ◌≤◌, length, map, IfOk, IfSome};
+ghost use Rattle.std.specs.Prelude.{◌≡◌, ◌≤◌, length, map, IfOk};
 ghost use Rattle.table_fields.specs.Checked.{Gives, collect, fault};
-ghost use Rattle.table_fields.specs.Fields.{byte_in, byte_of, digit_of, items_of, most_scan_bytes, scan_bytes_of};
+ghost use Rattle.table_fields.specs.Fields.{byte_in, byte_of, items_of, most_scan_bytes, scan_bytes_of};
 
 use crate::fault::{TableError, refused};
 use crate::fault_code::{SCAN_BYTE, TOO_MANY};
 use std::alloc::{AllocError, Global};
-use vt_base::Bytes;
+use vt_base::{Bytes, hex_value};
 
 // The most scan bytes of a table. This project's own.
 const MOST: usize = 100_000;
@@ -57,20 +57,7 @@ fn byte_of(item: &[u8]) -> Option<u8>
     ensures { result ≡ byte_of item.now }
 {
     let [high, low] = item else { return None };
-    let high = digit_of(*high)?;
-    let low = digit_of(*low)?;
+    let high = hex_value(*high)?;
+    let low = hex_value(*low)?;
     Some(16 * high + low)
-}
-
-// The value of a hexadecimal digit, in either case.
-fn digit_of(c: u8) -> Option<u8>
-    ensures value { result ≡ digit_of c }
-    ensures small { IfSome result (λ n. n < 16) }
-{
-    match c {
-        b'0'..=b'9' => Some(c - b'0'),
-        b'A'..=b'F' => Some(c - b'A' + 10),
-        b'a'..=b'f' => Some(c - b'a' + 10),
-        _ => None,
-    }
 }

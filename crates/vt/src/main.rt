@@ -5,8 +5,8 @@ use std::alloc::Global;
 use std::env::{Env, FillError};
 use std::process::ExitCode;
 use vt_base::NoMemory;
-use vt_io::{StdSink, StdSource};
-use vt_tool::{Status, vt_command};
+use vt_io::{OpenGate, StdSink, StdSource};
+use vt_tool::{Status, vt_run};
 
 /// The bytes of a word that are looked at: no form has a longer word.
 const WORD_BYTES: usize = 64;
@@ -17,7 +17,15 @@ fn main(rt: HostRuntime) -> ExitCode {
             let mut src = StdSource::new(rt.stdin());
             let mut out = StdSink::new(rt.stdout());
             let mut err = StdSink::new(rt.stderr());
-            vt_command(rt.alloc(), words.as_slice(), &mut src, &mut out, &mut err)
+            vt_run(
+                &rt,
+                rt.alloc(),
+                words.as_slice(),
+                &mut src,
+                &mut out,
+                &mut err,
+                &OpenGate,
+            )
         }
         Err(NoMemory) => Status::NoMemory,
     };

@@ -6,3 +6,4 @@ mod Runs
 mod Scrolls
 mod Shown
 mod Turns
+mod Clears

@@ -1,7 +1,8 @@
 -- How a store names its rows by numbers. No public clause names this.
-use Rattle.std.specs.Prelude.{◌≡◌, ℕ, ◌<◌, ◌≤◌, ◌==◌, List, length, map, slice_index, slice_index_or, count_by}
-use Rattle.vt_grid.specs.Line.{Line}
+use Rattle.std.specs.Prelude.{◌≡◌, ℕ, ◌<◌, ◌≤◌, ◌==◌, List, [], ◌∷◌, length, map, slice_index, slice_index_or, slice_set, count_by}
+use Rattle.vt_grid.specs.Line.{Line, blank_line}
 use Rattle.vt_grid.specs.Store.{no_line}
+use Rattle.vt_cells.specs.declared.cell.Cell.{Cell}
 
 -- a row as it is kept: room for so many cells, and what stands in it
 pub record Shelf : Type 0 where
@@ -19,6 +20,12 @@ shelf_at shelves p = slice_index_or shelves p no_shelf
 -- the rows that these numbers name
 abbrev pub named : List Shelf → List ℕ → List Line
 named shelves order = map (λ p. (shelf_at shelves p).line) order
+
+-- the rows of these numbers store no cell: each of their cells is c
+abbrev pub cut_all : List ℕ → Cell → List Shelf → List Shelf
+cut_all [] c shelves = shelves
+cut_all (p ∷ order) c shelves =
+    cut_all order c (slice_set shelves p (record (shelf_at shelves p) { line = blank_line c }))
 
 -- the numbers 0, 1, 2 and so on, so many
 pub record IsRising (n : ℕ) (order : List ℕ) : Type 0 where

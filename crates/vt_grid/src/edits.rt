@@ -1,8 +1,7 @@
 //! What the calls of a grid make of its rows. Each opens a counter of its own.
 ghost use Rattle.std.specs.Prelude.{◌≡◌, ◌<◌, ◌≤◌, ◌+◌, ◌-◌, ◌==◌, if◌then◌else◌, length, map};
 ghost use Rattle.vt_grid.specs.Grid.{deleted, erased, inserted, scrolled_down, with_run};
-ghost use Rattle.vt_grid.specs.Line.{blank_line};
-ghost use Rattle.vt_grid.specs.Store.{cleared, part_turned, sheet_shown};
+ghost use Rattle.vt_grid.specs.Store.{part_turned, sheet_shown};
 
 use crate::code::Code;
 use crate::rows::{RowStore, Steps};
@@ -54,25 +53,6 @@ pub fn move_up<L: Ledger>(store: &mut RowStore, top: u8, bottom: u8, n: u8, step
     }
 }
 
-/// Makes `count` rows from `from` on blank: each cell is `c`.
-pub fn clear_rows<L: Ledger>(
-    store: &mut RowStore,
-    from: u8,
-    count: u8,
-    c: Cell,
-    steps: &mut Steps<L>,
-)
-    requires { from + count ≤ store.old.rows }
-    ensures rows { store.new
-        ≡ record store.old { lines = cleared from count (blank_line c) store.old.lines } }
-    ensures steps { steps.new ≡ steps.old + count }
-{
-    let _ = store.size();
-    for i in 0..count {
-        store.cut(from + i, 0, c, steps);
-    }
-}
-
 /// Moves the rows `top` to `bottom` down by `n`.
 pub fn scroll_down<L: Ledger>(
     store: &mut RowStore,
@@ -94,7 +74,7 @@ pub fn scroll_down<L: Ledger>(
     let height = bottom - top + 1;
     let count = n.min(u16::from(height)) as u8;
     move_up(store, top, bottom, height - count, &mut steps);
-    clear_rows(store, top, count, c, &mut steps);
+    store.clear(top, count, c, &mut steps);
 }
 
 /// Makes the cells from column `x0` to `x1` `c`.

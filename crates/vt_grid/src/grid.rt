@@ -2,7 +2,7 @@ ghost use Rattle.std.specs.Prelude.{◌≡◌, ◌<◌, ◌≤◌, ◌+◌, leng
 ghost use Rattle.vt_grid.specs.Grid.{HasCellAt, IsFull, cells_of_codes, deleted, erased, filled, inserted, resized, scrolled_down, scrolled_up, with_cell, with_run};
 ghost use Rattle.vt_grid.specs.Store.{scroll_steps};
 
-use crate::edits::{clear_rows, delete, erase, insert, move_up, put_run, scroll_down};
+use crate::edits::{delete, erase, insert, move_up, put_run, scroll_down};
 use crate::resize::copy_cells;
 use crate::rows::{RowStore, Steps};
 use std::alloc::Global;
@@ -111,7 +111,7 @@ impl Grid {
         let height = bottom - top + 1;
         let count = n.min(u16::from(height)) as u8;
         move_up(&mut self.store, top, bottom, count, steps);
-        clear_rows(&mut self.store, bottom + 1 - count, count, c, steps);
+        self.store.clear(bottom + 1 - count, count, c, steps);
     }
 
     /// Does what [`Grid::scroll_up`] does, but down.

@@ -7,7 +7,7 @@ ghost use Rattle.vt_hub.specs.Views.{is_made, is_out, new_pass, opened, stand_at
 ghost use Rattle.vt_hub.specs.declared.stand.Stand.TheVariants.{Home};
 ghost use Rattle.vt_world.specs.Spare.{Fits};
 ghost use Rattle.vt_world.specs.State.{is_waiting};
-ghost use Rattle.vt_world.specs.Tests.{ends_wait};
+ghost use Rattle.vt_world.specs.Refusals.{ends_wait};
 
 use crate::answer::Answer;
 use crate::bells::Bells;

@@ -1,7 +1,9 @@
 -- Words that are numbers.
-use Rattle.std.proofs.Common.{◌≡◌, ◌≢◌, ℕ, suc, ◌<◌, ◌^◌, List, [], ◌∷◌, ◌++◌, length, map, decimal, arith}
-use Rattle.std.proofs.lemmas.List.{length-map}
+use Rattle.std.proofs.Common.{◌≡◌, ◌≢◌, ℕ, suc, ◌+◌, ◌<◌, ◌≤◌, ◌^◌, ⊎_elim, List, [], ◌∷◌, ◌++◌, get_or, length, map, decimal, sym, ap, subst, ◌∙◌, arith}
+use Rattle.std.proofs.lemmas.Bool.{cases_lt}
+use Rattle.std.proofs.lemmas.List.{get_or_append_left, get_or_push, length-map}
 use Rattle.std.specs.List.{All}
+use Rattle.vt_journal.specs.Replies.{Within}
 
 -- behind the first words stands the number in their place
 number_at : (front words rest : List (List ℕ)) (ns : List ℕ) → length front < length ns
@@ -24,3 +26,39 @@ no_number found words rest ns short fit same none =
     number_at (map decimal found) words rest ns (omega (arith, length-map found decimal)) fit
     same in
     none here.0 here.1 here.2 here.3
+
+-- numbers one by one, each up to a most of its own
+number_within : (front words rest : List (List ℕ)) (ns : List ℕ) → length front < length ns
+    → front ++ words ≡ map decimal ns ++ rest
+    → (more : List (List ℕ)) × (words ≡ decimal (get_or ns (length front) 0) ∷ more)
+number_within front words rest [] short same = absurd (omega arith)
+number_within [] words rest (n ∷ ns) short same = (map decimal ns ++ rest, same)
+number_within (word ∷ front) words rest (n ∷ ns) short same =
+    let others : front ++ words ≡ map decimal ns ++ rest = cc in
+    number_within front words rest ns (omega arith) others
+
+-- so words with no such number in that place are no such numbers
+pub none_within : (most found : List ℕ) (words rest : List (List ℕ)) (ns : List ℕ) (i : ℕ)
+    → length found ≡ i → i < length most → Within most ns
+    → map decimal found ++ words ≡ map decimal ns ++ rest
+    → ((n : ℕ) (more : List (List ℕ)) → n ≤ get_or most i 0 → words ≢ decimal n ∷ more) → ⊥
+none_within most found words rest ns i count short within same none =
+    let len : length (map decimal found) ≡ i = length-map found decimal ∙ count in
+    let inside : i < length ns = omega (arith, short, within.many) in
+    let here = number_within (map decimal found) words rest ns (omega (arith, inside, len)) same in
+    none (get_or ns i 0) here.0 (within.each i inside)
+    (here.1 ∙ ap (λ k. decimal (get_or ns k 0) ∷ here.0) len)
+
+-- one number more is within its most
+pub within_more : (most ns : List ℕ) (i n : ℕ) → length ns ≡ i
+    → ((k : ℕ) → k < i → get_or ns k 0 ≤ get_or most k 0) → n ≤ get_or most i 0
+    → (k : ℕ) → k < i + 1 → get_or (ns ++ n ∷ []) k 0 ≤ get_or most k 0
+within_more most ns i n count before fits k below =
+    ⊎_elim
+    (λ earlier.
+    rw (get_or_append_left ns (n ∷ []) 0 k (omega (arith, earlier, count))) (before k earlier))
+    (λ past.
+    let here : k ≡ i = omega (arith, past, below) in
+    subst (λ j. get_or (ns ++ n ∷ []) j 0 ≤ get_or most j 0) (sym here)
+    (rw (get_or_push ns n 0 i count) fits))
+    (cases_lt k i)

@@ -6,6 +6,7 @@ use Rattle.std.specs.Str.{bytes_eq}
 use Rattle.std.proofs.Math.Seq.{ext_get_or}
 use Rattle.std.proofs.lemmas.Bool.{eqb-true, ltb-true}
 use Rattle.std.proofs.lemmas.List.FromFn.{get_or-map-range_with_len, length-map-range_with_len}
+use Rattle.std.proofs.lemmas.Option.{same_Some}
 use Rattle.vt_events.specs.Plain.{plain_event}
 use Rattle.vt_events.specs.declared.event.Event.{Event}
 use Rattle.vt_events.specs.declared.event.Event.TheVariants as event
@@ -51,15 +52,19 @@ each_kind k =
     (position_or_len (is_named (name_of (blank k))) kinds, ltb-true _ 46 refl, refl)
 
 -- the kind of a name
-abbrev named : List ℕ → Option Kind
+abbrev pub named : List ℕ → Option Kind
 named name = find (is_named name) kinds
 
 named-blank : (k : Kind) → named (name_of (blank k)) ≡ Some k
 named-blank kind.Scan = refl
 named-blank k = refl
 
+-- a kind is that of its name
+pub kind_once : (j k : Kind) → name_of (blank j) ≡ name_of (blank k) → j ≡ k
+kind_once j k same = same_Some j k (sym (named-blank j) ∙ ap named same ∙ named-blank k)
+
 -- a call is that of its name, its numbers and its bytes
-call_of-parts : (e : Event)
+pub call_of-parts : (e : Event)
     → option_map (λ k. call_of k (numbers_of e) (bytes_of e)) (named (name_of e))
     ≡ Some (plain_event e)
 call_of-parts (event.Scan b) = refl

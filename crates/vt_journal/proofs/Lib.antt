@@ -1,8 +1,12 @@
 pub mod Arguments
-pub mod Blanks
 pub mod Calls
+pub mod Clear
+pub mod Comparing
 pub mod Cuts
 pub mod Lines
+pub mod Once
 pub mod Pairs
+pub mod ReplyWords
+pub mod Saying
 pub mod Spellings
 pub mod Texts

@@ -3,9 +3,12 @@ use Rattle.std.proofs.Common.{◌≡◌, ℕ, ◌+◌, ◌<◌, List, [], ◌∷
 use Rattle.std.proofs.lemmas.List.Concat.{flat_map-append}
 use Rattle.std.proofs.Math.Seq.{take-suc}
 use Rattle.std.proofs.lemmas.List.{append-nil, map-append}
-use Rattle.std.specs.List.{flat_map}
+use Rattle.std.proofs.lemmas.List.Elements.{All-push}
+use Rattle.std.specs.List.{All, flat_map}
+use Rattle.vt_events.specs.Plain.{plain_entry}
 use Rattle.vt_events.specs.declared.entry.Entry.{Entry}
 use Rattle.vt_journal.specs.Journal.{entry_words, line_text}
+use Rattle.vt_journal.specs.Says.{IsFitEntry}
 use Rattle.vt_journal.specs.Text.{spaced}
 use Rattle.vt_journal.specs.Words.{spelled}
 
@@ -41,3 +44,15 @@ lines_more head entries i entry old text more within is so_far added =
     rw (next, map-append entry_words (take i entries) (entry ∷ []))
     (rw (flat_map-append line_text (map entry_words (take i entries)) (entry_words entry ∷ []))
     (simp (added, so_far, append_assoc, append-nil)))
+
+-- one more entry that is fit, after the first ones
+pub fit_more : (entries : List Entry) (i : ℕ) (entry : Entry) → i < length entries
+    → entry ≡ get_or entries i entry → All IsFitEntry (map plain_entry (take i entries))
+    → IsFitEntry (plain_entry entry) → All IsFitEntry (map plain_entry (take (i + 1) entries))
+fit_more entries i entry within is so_far fit =
+    let next : take (i + 1) entries ≡ take i entries ++ entry ∷ [] =
+    ap (λ n. take n entries) (add-one i)
+    ∙ take-suc entries i entry within
+    ∙ ap (λ e. take i entries ++ e ∷ []) (sym is) in
+    rw (next, map-append plain_entry (take i entries) (entry ∷ []))
+    (All-push IsFitEntry (map plain_entry (take i entries)) (plain_entry entry) so_far fit)

@@ -1,54 +1,64 @@
--- What the words of a spelled call are.
-use Rattle.std.proofs.Common.{◌≡◌, ℕ, ◌<◌, ◌^◌, Bool, true, false, ◌&&◌, suc, Option, Some, None, is_some, List, [], ◌∷◌, ◌++◌, length, map, decimal, refl, sym, ap, subst, ◌∙◌, arith}
+-- What the words of a call are.
+use Rattle.std.proofs.Common.{◌≡◌, ℕ, ◌<◌, ◌^◌, Bool, true, false, suc, Option, Some, None, is_some, List, [], ◌∷◌, ◌++◌, length, map, decimal, refl, sym, ap, subst, ◌∙◌, append_assoc, arith}
 use Rattle.std.specs.Borrow.{Bor}
 use Rattle.std.specs.List.{All}
 use Rattle.std.specs.Option.{MatchOption}
 use Rattle.std.specs.Prelude.{IfSome, unwrap_or}
 use Rattle.std.proofs.lemmas.Fmt.{decimal_injective}
-use Rattle.std.proofs.lemmas.List.{append-nil}
-use Rattle.std.proofs.lemmas.List.Folds.{list_all-append}
-use Rattle.std.proofs.lemmas.List.Splits.{join_with_byte-slice_split}
+use Rattle.std.proofs.lemmas.List.Elements.{All-weaker}
+use Rattle.vt_events.specs.Plain.{plain_event}
 use Rattle.vt_events.specs.declared.event.Event.{Event}
 use Rattle.vt_journal.specs.Calls.{held_of, name_of, numbers_of}
 use Rattle.vt_journal.specs.Cut.{cut}
 use Rattle.vt_journal.specs.Hex.{hex_text}
 use Rattle.vt_journal.specs.Kinds.{blank, call_of, takes}
-use Rattle.vt_journal.specs.Words.{Spells, event_words, held_words, spelled}
+use Rattle.vt_journal.specs.Words.{IsFit, Spells, event_words, held_words}
 use Rattle.vt_journal.specs.declared.kind.Kind.{Kind}
-use Rattle.vt_journal.proofs.Blanks.{are_words, are_words-decimals, are_words-held, cut-spelled, is_word-name}
 use Rattle.vt_journal.proofs.Calls.{IsOfKind, bytes_of, held-if, held_if, holds, kind_named, made, of_kind, same_call, same_name, takes-held}
+use Rattle.vt_journal.proofs.Clear.{are_clear, are_clear-append, are_clear-decimals, are_clear-held, is_clear-name, cut-spelled}
 use Rattle.vt_journal.proofs.Pairs.{hex_injective}
 
+below_wide : (n : ℕ) → n < 2 ^ 16 → n < 2 ^ 64
+below_wide n below = omega (arith, below)
+
+-- numbers of 16 bits have 64
+pub wide : (ns : List ℕ) → All (λ n. n < 2 ^ 16) ns → All (λ n. n < 2 ^ 64) ns
+wide ns fit = All-weaker (λ n. n < 2 ^ 16) (λ n. n < 2 ^ 64) below_wide ns fit
+
 -- the words of the text that spells a call
-pub cut_parts : (text : List ℕ) (e : Event) → Spells text e
-    → cut text ≡ name_of e ∷ (map decimal (numbers_of e) ++ held_words (held_of e))
+pub cut_parts : (text : List ℕ) (e : Event) → Spells text e → cut text ≡ event_words e
 cut_parts text e s =
     let others : List (List ℕ) = map decimal (numbers_of e) ++ held_words (held_of e) in
-    let are : are_words others ≡ true =
-    list_all-append _ (map decimal (numbers_of e)) (held_words (held_of e))
-    ∙ (λ j. are_words-decimals (numbers_of e) s.fit.numbers j && are_words-held (held_of e) j) in
-    ap cut (sym s.spelled) ∙ cut-spelled (name_of e) others (is_word-name e) are
+    let are : are_clear others ≡ true =
+    are_clear-append (map decimal (numbers_of e)) (held_words (held_of e))
+    (are_clear-decimals (numbers_of e) (wide (numbers_of e) s.fit.numbers))
+    (are_clear-held (held_of e)) in
+    ap cut (sym s.spelled) ∙ cut-spelled (name_of e) others (is_clear-name e) are
 
 -- the first of them is the name of a kind
-pub cut_kind : (text : List ℕ) (e : Event) → Spells text e
-    → (k : Kind) × (rest : List (List ℕ)) × (cut text ≡ name_of (blank k) ∷ rest)
-cut_kind text e s =
+pub named_kind : (e : Event) (rest : List (List ℕ))
+    → (k : Kind) × (more : List (List ℕ)) × (event_words e ++ rest ≡ name_of (blank k) ∷ more)
+named_kind e rest =
     let named = kind_named e in
-    let rest : List (List ℕ) = map decimal (numbers_of e) ++ held_words (held_of e) in
-    (named.0, rest, cut_parts text e s ∙ ap (λ name. name ∷ rest) (sym named.1))
+    let others : List (List ℕ) = (map decimal (numbers_of e) ++ held_words (held_of e)) ++ rest in
+    (named.0, others, ap (λ name. name ∷ others) (sym named.1))
 
 -- what stands behind the name of a kind
-pub record KindIs (k : Kind) (rest : List (List ℕ)) (e : Event) : Type 0 where
-  pub words : rest ≡ map decimal (numbers_of e) ++ held_words (held_of e)
+pub record KindIs (k : Kind) (u : List (List ℕ)) (e : Event) (rest : List (List ℕ)) : Type 0 where
+  pub words : u ≡ map decimal (numbers_of e) ++ (held_words (held_of e) ++ rest)
   pub kind : IsOfKind k e
 
-pub kind_is : (text : List ℕ) (e : Event) (k : Kind) (rest : List (List ℕ)) → Spells text e
-    → cut text ≡ name_of (blank k) ∷ rest → KindIs k rest e
-kind_is text e k rest s is =
-    let parts = cut_parts text e s in
+pub kind_is : (words u : List (List ℕ)) (k : Kind) (e : Event) (rest : List (List ℕ))
+    → words ≡ event_words e ++ rest → words ≡ name_of (blank k) ∷ u → KindIs k u e rest
+kind_is words u k e rest is named =
+    let both : name_of (blank k) ∷ u
+    ≡ name_of e ∷ ((map decimal (numbers_of e) ++ held_words (held_of e)) ++ rest) = sym named ∙ is in
     let name : name_of e ≡ name_of (blank k) = cc in
-    let others : rest ≡ map decimal (numbers_of e) ++ held_words (held_of e) = cc in
-    record { words = others; kind = of_kind e k name }
+    let others : u ≡ (map decimal (numbers_of e) ++ held_words (held_of e)) ++ rest = cc in
+    record {
+      words = others ∙ append_assoc (map decimal (numbers_of e)) (held_words (held_of e)) rest;
+      kind = of_kind e k name;
+    }
 
 -- as many numbers, and then what follows them
 pub split_numbers : (ms ns : List ℕ) (u v : List (List ℕ)) → length ms ≡ length ns
@@ -63,28 +73,24 @@ split_numbers (m ∷ ms) (n ∷ ns) u v many same =
     (λ j. first j ∷ both.0 j, both.1)
 
 -- behind its name and as many numbers stand a call's bytes
-pub bytes_are : (text : List ℕ) (e : Event) (k : Kind) (ns : List ℕ) (held : Bool)
-    (u v : List (List ℕ)) → Spells text e → cut text ≡ name_of (blank k) ∷ u
+pub bytes_are : (words u v : List (List ℕ)) (k : Kind) (ns : List ℕ) (held : Bool) (e : Event)
+    (rest : List (List ℕ)) → words ≡ event_words e ++ rest → words ≡ name_of (blank k) ∷ u
     → u ≡ map decimal ns ++ v → length ns ≡ length (numbers_of (blank k)) → held ≡ holds (blank k)
-    → v ≡ held_words (held_if held (bytes_of e))
-bytes_are text e k ns held u v s name numbers many same =
-    let is = kind_is text e k u s name in
-    (split_numbers ns (numbers_of e) v _ (many ∙ sym is.kind.many) (sym numbers ∙ is.words)).1
-    ∙ ap held_words (held-if e)
-    ∙ ap (λ h. held_words (held_if h (bytes_of e))) (is.kind.holds ∙ sym same)
+    → v ≡ held_words (held_if held (bytes_of e)) ++ rest
+bytes_are words u v k ns held e rest is named numbers many same =
+    let kind = kind_is words u k e rest is named in
+    (split_numbers ns (numbers_of e) v _ (many ∙ sym kind.kind.many) (sym numbers ∙ kind.words)).1
+    ∙ ap (λ held. held_words held ++ rest) (held-if e)
+    ∙ ap (λ h. held_words (held_if h (bytes_of e)) ++ rest) (kind.kind.holds ∙ sym same)
 
 -- and they are bytes
-pub fit_bytes : (e : Event) → IfSome (held_of e) (λ bytes. All (λ b. b < 2 ^ 8) bytes)
-    → All (λ b. b < 2 ^ 8) (bytes_of e)
-fit_bytes e fit = by_held (held_of e) fit
-  where
-    by_held : (held : Option (List ℕ)) → IfSome held (λ bytes. All (λ b. b < 2 ^ 8) bytes)
-        → All (λ b. b < 2 ^ 8) (unwrap_or held [])
-    by_held (Some bytes) fit = fit
-    by_held None fit = λ k d within. absurd (omega arith)
+pub fit_bytes : (held : Option (List ℕ)) → IfSome held (λ bytes. All (λ b. b < 2 ^ 8) bytes)
+    → All (λ b. b < 2 ^ 8) (unwrap_or held [])
+fit_bytes (Some bytes) fit = fit
+fit_bytes None fit = λ k d within. absurd (omega arith)
 
 -- numbers are read back from their words
-decimals_injective : (ms ns : List ℕ) → All (λ n. n < 2 ^ 16) ms → All (λ n. n < 2 ^ 16) ns
+pub decimals_injective : (ms ns : List ℕ) → All (λ n. n < 2 ^ 64) ms → All (λ n. n < 2 ^ 64) ns
     → map decimal ms ≡ map decimal ns → ms ≡ ns
 decimals_injective [] [] fit_m fit_n same = refl
 decimals_injective [] (n ∷ ns) fit_m fit_n same = cc
@@ -93,40 +99,32 @@ decimals_injective (m ∷ ms) (n ∷ ns) fit_m fit_n same =
     let first : decimal m ≡ decimal n = cc in
     let others : map decimal ms ≡ map decimal ns = cc in
     let head : m ≡ n =
-    decimal_injective m n (omega (arith, fit_m 0 0 (omega arith)))
-    (omega (arith, fit_n 0 0 (omega arith))) first in
+    decimal_injective m n (fit_m 0 0 (omega arith)) (fit_n 0 0 (omega arith)) first in
     let tail : ms ≡ ns =
     decimals_injective ms ns (λ k d within. fit_m (suc k) d (omega arith))
     (λ k d within. fit_n (suc k) d (omega arith)) others in
     λ j. head j ∷ tail j
 
--- nothing follows the bytes, where nothing follows bytes in their place
-pub held_end : (held : Bool) (a b : List ℕ) (rest : List (List ℕ))
-    → held_words (held_if held a) ++ rest ≡ held_words (held_if held b) → rest ≡ []
-held_end true a b rest same = cc
-held_end false a b rest same = same
-
--- bytes are read back from their word
-held_injective : (held : Bool) (a b : List ℕ) → All (λ x. x < 2 ^ 8) a → All (λ x. x < 2 ^ 8) b
-    → held_words (held_if held a) ≡ held_words (held_if held b) → held_if held a ≡ held_if held b
-held_injective true a b fit_a fit_b same =
+-- bytes are read back from their word, and so is what follows them
+pub held_injective : (held : Bool) (a b : List ℕ) (u v : List (List ℕ)) → All (λ x. x < 2 ^ 8) a
+    → All (λ x. x < 2 ^ 8) b → held_words (held_if held a) ++ u ≡ held_words (held_if held b) ++ v
+    → (held_if held a ≡ held_if held b) × (u ≡ v)
+held_injective true a b u v fit_a fit_b same =
     let word : hex_text a ≡ hex_text b = cc in
-    ap Some (hex_injective a b fit_a fit_b word)
-held_injective false a b fit_a fit_b same = refl
+    let others : u ≡ v = cc in
+    (ap Some (hex_injective a b fit_a fit_b word), others)
+held_injective false a b u v fit_a fit_b same = (refl, same)
 
 -- a call has as many bytes as its kind takes, however they are read
-pub takes_all : (text : List ℕ) (e : Event) (k : Kind) (ns b : List ℕ) (held : Bool)
-    (u v w : List (List ℕ)) → Spells text e → cut text ≡ name_of (blank k) ∷ u
-    → u ≡ map decimal ns ++ v → v ≡ held_words (held_if held b) ++ w → w ≡ []
+pub takes_all : (words u v w : List (List ℕ)) (k : Kind) (ns b : List ℕ) (held : Bool) (e : Event)
+    (rest : List (List ℕ)) → words ≡ event_words e ++ rest → words ≡ name_of (blank k) ∷ u
+    → u ≡ map decimal ns ++ v → v ≡ held_words (held_if held b) ++ w
     → length ns ≡ length (numbers_of (blank k)) → held ≡ holds (blank k)
-    → All (λ x. x < 2 ^ 8) b → takes k (length b) ≡ true
-takes_all text e k ns b held u v w s name numbers bytes none many same fit =
-    let words : held_words (held_if held b) ≡ held_words (held_if held (bytes_of e)) =
-    sym (append-nil (held_words (held_if held b)))
-    ∙ ap (λ rest. held_words (held_if held b) ++ rest) (sym none)
-    ∙ sym bytes
-    ∙ bytes_are text e k ns held u v s name numbers many same in
-    let all = held_injective held b (bytes_of e) fit (fit_bytes e s.fit.bytes) words in
+    → All (λ x. x < 2 ^ 8) b → IsFit e → takes k (length b) ≡ true
+takes_all words u v w k ns b held e rest is named numbers bytes many same fit_b fit =
+    let all =
+    (held_injective held b (bytes_of e) w rest fit_b (fit_bytes (held_of e) fit.bytes)
+    (sym bytes ∙ bytes_are words u v k ns held e rest is named numbers many same)).0 in
     let counted : Bool → List ℕ → Bool =
     λ h bs. takes k (length (unwrap_or (held_if h bs) [])) in
     sym (takes-held k b)
@@ -134,49 +132,61 @@ takes_all text e k ns b held u v w s name numbers bytes none many same fit =
     ∙ ap (λ h. takes k (length (unwrap_or h []))) all
     ∙ ap (λ h. counted h (bytes_of e)) same
     ∙ takes-held k (bytes_of e)
-    ∙ (kind_is text e k u s name).kind.takes
+    ∙ (kind_is words u k e rest is named).kind.takes
+
+-- words are one call and what follows it
+pub event_once : (d e : Event) (u v : List (List ℕ)) → IsFit d → IsFit e → plain_event d ≡ d
+    → plain_event e ≡ e → event_words d ++ u ≡ event_words e ++ v → (d ≡ e) × (u ≡ v)
+event_once d e u v fit_d fit_e plain_d plain_e same =
+    let name : name_of d ≡ name_of e = cc in
+    let like = same_name d e name in
+    let others : (map decimal (numbers_of d) ++ held_words (held_of d)) ++ u
+    ≡ (map decimal (numbers_of e) ++ held_words (held_of e)) ++ v = cc in
+    let both =
+    split_numbers (numbers_of d) (numbers_of e) _ _ like.0
+    (sym (append_assoc (map decimal (numbers_of d)) (held_words (held_of d)) u)
+    ∙ others
+    ∙ append_assoc (map decimal (numbers_of e)) (held_words (held_of e)) v) in
+    let numbers =
+    decimals_injective (numbers_of d) (numbers_of e) (wide (numbers_of d) fit_d.numbers)
+    (wide (numbers_of e) fit_e.numbers) both.0 in
+    let here : held_of d ≡ held_if (holds e) (bytes_of d) =
+    held-if d ∙ ap (λ h. held_if h (bytes_of d)) like.1 in
+    let held =
+    held_injective (holds e) (bytes_of d) (bytes_of e) u v (fit_bytes (held_of d) fit_d.bytes)
+    (fit_bytes (held_of e) fit_e.bytes)
+    (ap (λ held. held_words held ++ u) (sym here)
+    ∙ both.1
+    ∙ ap (λ held. held_words held ++ v) (held-if e)) in
+    (same_call d e plain_d plain_e name numbers (here ∙ held.0 ∙ sym (held-if e)), held.1)
 
 -- one text spells one call
 pub spelled_once : (text : List ℕ) (d e : Event) → Spells text d → Spells text e → d ≡ e
 spelled_once text d e sd se =
-    let one = cut_parts text d sd in
-    let other = cut_parts text e se in
-    let name : name_of d ≡ name_of e = cc in
-    let like = same_name d e name in
-    let rest : map decimal (numbers_of d) ++ held_words (held_of d)
-    ≡ map decimal (numbers_of e) ++ held_words (held_of e) = cc in
-    let both = split_numbers (numbers_of d) (numbers_of e) _ _ like.0 rest in
-    let numbers =
-    decimals_injective (numbers_of d) (numbers_of e) sd.fit.numbers se.fit.numbers both.0 in
-    let here : held_of d ≡ held_if (holds e) (bytes_of d) =
-    held-if d ∙ ap (λ h. held_if h (bytes_of d)) like.1 in
-    let held =
-    held_injective (holds e) (bytes_of d) (bytes_of e) (fit_bytes d sd.fit.bytes)
-    (fit_bytes e se.fit.bytes)
-    (ap held_words (sym here) ∙ both.1 ∙ ap held_words (held-if e)) in
-    same_call d e sd.plain se.plain name numbers (here ∙ held ∙ sym (held-if e))
+    (event_once d e [] [] sd.fit se.fit sd.plain se.plain
+    (ap (λ words. words ++ []) (sym (cut_parts text d sd) ∙ cut_parts text e se))).0
 
--- the call made of what was read is spelled by the text
-pub spells_call : (text : List ℕ) (k : Kind) (ns b : List ℕ) (held : Bool) (u v w : List (List ℕ))
-    → cut text ≡ name_of (blank k) ∷ u → u ≡ map decimal ns ++ v
-    → v ≡ held_words (held_if held b) ++ w → w ≡ []
-    → length ns ≡ length (numbers_of (blank k)) → held ≡ holds (blank k)
-    → takes k (length b) ≡ true → All (λ n. n < 2 ^ 16) ns → All (λ x. x < 2 ^ 8) b
-    → Spells text (call_of k ns b)
-spells_call text k ns b held u v w name numbers bytes none many same few fit_n fit_b =
+-- the call made of what was read has these words
+pub record IsRead (words : List (List ℕ)) (e : Event) (rest : List (List ℕ)) : Type 0 where
+  pub parts : words ≡ event_words e ++ rest
+  pub fit : IsFit e
+  pub plain : plain_event e ≡ e
+
+pub call_is : (words u v w : List (List ℕ)) (k : Kind) (ns b : List ℕ) (held : Bool)
+    → words ≡ name_of (blank k) ∷ u → u ≡ map decimal ns ++ v
+    → v ≡ held_words (held_if held b) ++ w → length ns ≡ length (numbers_of (blank k))
+    → held ≡ holds (blank k) → takes k (length b) ≡ true → All (λ n. n < 2 ^ 16) ns
+    → All (λ x. x < 2 ^ 8) b → IsRead words (call_of k ns b) w
+call_is words u v w k ns b held name numbers bytes many same few fit_n fit_b =
     let e = call_of k ns b in
     let is = made k ns b many few in
     let here : held_of e ≡ held_if held b = is.held ∙ ap (λ h. held_if h b) (sym same) in
-    let rest : held_words (held_if held b) ≡ v =
-    sym (append-nil (held_words (held_if held b)))
-    ∙ ap (λ rest. held_words (held_if held b) ++ rest) (sym none)
-    ∙ sym bytes in
-    let words : event_words e ≡ cut text =
-    (λ j. is.name j ∷ (map decimal (is.numbers j) ++ held_words (here j)))
-    ∙ ap (λ held. name_of (blank k) ∷ (map decimal ns ++ held)) rest
-    ∙ ap (λ rest. name_of (blank k) ∷ rest) (sym numbers)
-    ∙ sym name in
     record {
+      parts =
+          name
+          ∙ ap (λ rest. name_of (blank k) ∷ rest) (numbers ∙ ap (λ rest. map decimal ns ++ rest) bytes)
+          ∙ sym (ap (λ rest. name_of (blank k) ∷ rest) (append_assoc (map decimal ns) (held_words (held_if held b)) w))
+          ∙ sym (λ j. is.name j ∷ ((map decimal (is.numbers j) ++ held_words (here j)) ++ w));
       fit = record {
         numbers = subst (All (λ n. n < 2 ^ 16)) (sym is.numbers) fit_n;
         bytes =
@@ -184,7 +194,6 @@ spells_call text k ns b held u v w name numbers bytes none many same few fit_n f
             (fit_if held b fit_b);
       };
       plain = is.plain;
-      spelled = ap spelled words ∙ join_with_byte-slice_split 0x20 text;
     }
   where
     fit_if : (held : Bool) (b : List ℕ) → All (λ x. x < 2 ^ 8) b

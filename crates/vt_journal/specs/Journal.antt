@@ -18,10 +18,14 @@ tail_words (tail.End events bytes) = codes "%end" ∷ decimal events ∷ decimal
 tail_words (tail.Full full) =
     codes "%full" ∷ decimal full.events ∷ decimal full.bytes ∷ decimal full.charge ∷ []
 
+-- the words of the first line
+abbrev pub first_words : List (List ℕ)
+first_words = codes "%journal" ∷ codes "1" ∷ []
+
 -- the lines of a journal, each as its words
 abbrev pub journal_lines : List Entry → Tail → List (List (List ℕ))
 journal_lines entries end =
-    (codes "%journal" ∷ codes "1" ∷ []) ∷ map entry_words entries ++ tail_words end ∷ []
+    first_words ∷ map entry_words entries ++ tail_words end ∷ []
 
 -- words as a line of text
 abbrev pub line_text : List (List ℕ) → List ℕ

@@ -3,7 +3,10 @@ pub mod Cut
 pub mod Hex
 pub mod Journal
 pub mod Kinds
+pub mod Lines
 pub mod Log
+pub mod Replies
 pub mod Room
+pub mod Says
 pub mod Text
 pub mod Words

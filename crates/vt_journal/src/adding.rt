@@ -1,5 +1,6 @@
 //! Adds words to a text, with room for them.
-ghost use Rattle.std.specs.Prelude.{◌≡◌, ◌∷◌, ◌++◌, decimal, map, OnOk, OnErr};
+ghost use Rattle.std.specs.Prelude.{◌≡◌, ◌<◌, ◌^◌, ◌∷◌, ◌++◌, decimal, map, OnOk, OnErr};
+ghost use Rattle.std.specs.List.{All};
 ghost use Rattle.vt_journal.specs.Hex.{hex_text};
 ghost use Rattle.vt_journal.specs.Text.{Begins, spaced};
 
@@ -57,6 +58,7 @@ pub fn add_named(
     ensures ok { OnOk result
         (text.new.bytes ≡ text.old.bytes ++ spaced (name.now ∷ map decimal numbers.now)) }
     ensures kept { Begins text.old.bytes text.new.bytes }
+    ensures fit { All (λ n. n < 2 ^ 16) numbers.now }
 {
     add_word(alloc, text, name)?;
     for n in numbers {
@@ -69,6 +71,7 @@ pub fn add_named(
 pub fn add_bytes(alloc: Global, text: &mut Bytes, b: &[u8]) -> Result<(), NoMemory>
     ensures ok { OnOk result (text.new.bytes ≡ text.old.bytes ++ 0x20 ∷ hex_text b.now) }
     ensures kept { Begins text.old.bytes text.new.bytes }
+    ensures fit { All (λ x. x < 2 ^ 8) b.now }
 {
     add(alloc, text, b" ")?;
     add_hex(alloc, text, b)?;

@@ -1,29 +1,49 @@
-//! The journal of a console's calls: a log of entries within limits, and its text.
+//! The journal of a console's calls: a log of entries within limits, its text, and what a text says.
 #![tactic(auto)]
 
 mod adding;
+mod cut;
+mod entries;
+mod entry_lines;
+mod fault_code;
 mod full;
 mod hex;
+mod j_error;
+mod j_fault;
+mod journal;
 mod kind;
 mod laws;
 mod limits;
 mod log;
+mod next;
 mod numbers;
+mod parsing;
 mod parts;
 mod printing;
 mod reading;
+mod replies;
+mod reply_kind;
 mod rows;
+mod same;
 mod tail;
+mod tail_lines;
 #[cfg(test)]
 mod tests;
 mod words;
 
 pub use adding::{add, add_next};
+pub use cut::{Cut, cut_line};
+pub use entries::Entries;
 pub use full::Full;
 pub use hex::add_hex;
-pub use laws::one_call;
+pub use j_error::JError;
+pub use j_fault::JFault;
+pub use journal::Journal;
+pub use laws::{one_call, one_journal};
 pub use limits::Limits;
 pub use log::Log;
+pub use parsing::parse;
 pub use printing::print;
 pub use reading::read_event;
+pub use same::{same_event, same_reply};
 pub use tail::Tail;

@@ -1,11 +1,15 @@
 //! Numbers that are words.
 ghost use Rattle.std.specs.Prelude.{◌≡◌, ◌≢◌, ℕ, ◌<◌, ◌≤◌, ◌^◌, List, ◌∷◌, ◌++◌, length, map, decimal, IfSome, IfNone};
 ghost use Rattle.std.specs.List.{All};
+ghost use Rattle.vt_journal.specs.Replies.{Within};
 
 use crate::kind::NUMBERS;
 use crate::words::Words;
 use arrayvec::ArrayVec;
-use vt_base::parse_decimal;
+use vt_base::{CallerNo, parse_decimal};
+
+/// The most numbers of an answer.
+pub const ANSWER_NUMBERS: usize = 5;
 
 /// The next words as so many numbers of 16 bits.
 pub fn read_numbers(words: &mut Words, count: usize) -> Option<ArrayVec<u16, NUMBERS>>
@@ -29,7 +33,43 @@ fn read_number(words: &mut Words) -> Option<u16>
     ensures none { IfNone result
         ((n : ℕ) (rest : List (List ℕ)) → n < 2 ^ 16 → words.old ≢ decimal n ∷ rest) }
 {
-    let word = words.next()?;
-    let n = parse_decimal(word, u64::from(u16::MAX))?;
+    let n = take_number(words, u64::from(u16::MAX))?;
     Some(n as u16)
+}
+
+/// The next words as numbers, as many as these and none above the one in its place.
+pub fn take_numbers(words: &mut Words, mosts: &[u64]) -> Option<ArrayVec<u64, ANSWER_NUMBERS>>
+    requires { length mosts.now ≤ ANSWER_NUMBERS }
+    ensures found { IfSome result (λ ns. words.old ≡ map decimal ns.items ++ words.new) }
+    ensures fit { IfSome result (λ ns. Within mosts.now ns.items) }
+    ensures none { IfNone result ((ns : List ℕ) (rest : List (List ℕ)) → Within mosts.now ns
+        → words.old ≢ map decimal ns ++ rest) }
+{
+    let mut numbers = ArrayVec::new();
+    for i in 0..mosts.len() {
+        numbers.push(take_number(words, mosts[i])?);
+    }
+    Some(numbers)
+}
+
+/// The next word as a number up to the most.
+pub fn take_number(words: &mut Words, most: u64) -> Option<u64>
+    ensures found { IfSome result (λ n. words.old ≡ decimal n ∷ words.new) }
+    ensures fit { IfSome result (λ n. n ≤ most) }
+    ensures none { IfNone result
+        ((n : ℕ) (rest : List (List ℕ)) → n ≤ most → words.old ≢ decimal n ∷ rest) }
+{
+    let word = words.next()?;
+    parse_decimal(word, most)
+}
+
+/// The next word as the number of a caller.
+pub fn take_caller(words: &mut Words) -> Option<CallerNo>
+    ensures found { IfSome result (λ p. words.old ≡ decimal p ∷ words.new) }
+    ensures fit { IfSome result (λ p. p ≤ 64) }
+    ensures none { IfNone result
+        ((p : ℕ) (rest : List (List ℕ)) → p ≤ 64 → words.old ≢ decimal p ∷ rest) }
+{
+    let n = take_number(words, 64)?;
+    Some(CallerNo::numbered(n as u16))
 }

@@ -1,8 +1,12 @@
 //! The text of a journal.
-ghost use Rattle.std.specs.Prelude.{◌≡◌, ◌∷◌, ◌++◌, option_copied, OnOk, OnErr};
+ghost use Rattle.std.specs.Prelude.{◌≡◌, ◌<◌, ◌^◌, ◌∷◌, ◌++◌, map, option_copied, IfSome, OnOk, OnErr};
+ghost use Rattle.std.specs.List.{All};
+ghost use Rattle.vt_events.specs.Plain.{plain_entry, plain_event, plain_reply};
 ghost use Rattle.vt_journal.specs.Journal.{entry_words, journal_text, line_text, tail_words};
+ghost use Rattle.vt_journal.specs.Replies.{IsFitReply};
+ghost use Rattle.vt_journal.specs.Says.{IsFitEntry, IsFitTail};
 ghost use Rattle.vt_journal.specs.Text.{Begins, spaced};
-ghost use Rattle.vt_journal.specs.Words.{event_words, held_words, reply_words};
+ghost use Rattle.vt_journal.specs.Words.{IsFit, event_words, held_words, reply_words};
 
 use crate::adding::{add, add_bytes, add_named, add_next, add_number, add_word};
 use crate::parts::Parts;
@@ -11,10 +15,12 @@ use std::alloc::Global;
 use vt_base::{Bytes, NoMemory};
 use vt_events::{Entry, Event, Reply};
 
-/// Adds the journal text of the entries and of how they end.
+/// Adds the journal text of the entries and of how they end. What is printed is fit to be read again.
 pub fn print(alloc: Global, entries: &[Entry], end: &Tail, rest: &mut Bytes) -> Result<(), NoMemory>
     ensures ok { OnOk result (rest.new.bytes ≡ rest.old.bytes ++ journal_text entries.now end.now) }
     ensures err { OnErr result (rest.new.bytes ≡ rest.old.bytes) }
+    ensures fit { OnOk result (All IsFitEntry (map plain_entry entries.now)) }
+    ensures end { OnOk result (IsFitTail end.now) }
 {
     let before = rest.as_slice().len();
     let added = add_lines(alloc, entries, end, rest);
@@ -27,6 +33,8 @@ pub fn print(alloc: Global, entries: &[Entry], end: &Tail, rest: &mut Bytes) -> 
 fn add_lines(alloc: Global, entries: &[Entry], end: &Tail, rest: &mut Bytes) -> Result<(), NoMemory>
     ensures ok { OnOk result (rest.new.bytes ≡ rest.old.bytes ++ journal_text entries.now end.now) }
     ensures kept { Begins rest.old.bytes rest.new.bytes }
+    ensures fit { OnOk result (All IsFitEntry (map plain_entry entries.now)) }
+    ensures end { OnOk result (IsFitTail end.now) }
 {
     add(alloc, rest, b"%journal 1\n")?;
     for entry in entries {
@@ -40,6 +48,7 @@ fn add_entry(alloc: Global, text: &mut Bytes, entry: &Entry) -> Result<(), NoMem
     ensures ok { OnOk result
         (text.new.bytes ≡ text.old.bytes ++ line_text (entry_words entry.now)) }
     ensures kept { Begins text.old.bytes text.new.bytes }
+    ensures fit { OnOk result (IsFitEntry (plain_entry entry.now)) }
 {
     add_number(alloc, text, u64::from(entry.caller.get()))?;
     add_next(alloc, text, u64::from(entry.seq))?;
@@ -53,6 +62,7 @@ fn add_entry(alloc: Global, text: &mut Bytes, entry: &Entry) -> Result<(), NoMem
 fn add_tail(alloc: Global, text: &mut Bytes, end: &Tail) -> Result<(), NoMemory>
     ensures ok { OnOk result (text.new.bytes ≡ text.old.bytes ++ line_text (tail_words end.now)) }
     ensures kept { Begins text.old.bytes text.new.bytes }
+    ensures fit { OnOk result (IsFitTail end.now) }
 {
     match end {
         Tail::End { events, bytes } => {
@@ -81,6 +91,7 @@ fn add_tail(alloc: Global, text: &mut Bytes, end: &Tail) -> Result<(), NoMemory>
 fn add_event(alloc: Global, text: &mut Bytes, e: &Event) -> Result<(), NoMemory>
     ensures ok { OnOk result (text.new.bytes ≡ text.old.bytes ++ spaced (event_words e.now)) }
     ensures kept { Begins text.old.bytes text.new.bytes }
+    ensures fit { OnOk result (IsFit (plain_event e.now)) }
 {
     let parts = Parts::of(e);
     add_named(alloc, text, parts.kind.name(), parts.numbers.as_slice())?;
@@ -93,6 +104,7 @@ fn add_held(alloc: Global, text: &mut Bytes, held: Option<&[u8]>) -> Result<(), 
     ensures ok { OnOk result
         (text.new.bytes ≡ text.old.bytes ++ spaced (held_words (option_copied held.entry))) }
     ensures kept { Begins text.old.bytes text.new.bytes }
+    ensures fit { IfSome (option_copied held.entry) (λ bytes. All (λ b. b < 2 ^ 8) bytes) }
 {
     match held {
         None => Ok(()),
@@ -104,6 +116,7 @@ fn add_held(alloc: Global, text: &mut Bytes, held: Option<&[u8]>) -> Result<(), 
 fn add_reply(alloc: Global, text: &mut Bytes, r: &Reply) -> Result<(), NoMemory>
     ensures ok { OnOk result (text.new.bytes ≡ text.old.bytes ++ spaced (reply_words r.now)) }
     ensures kept { Begins text.old.bytes text.new.bytes }
+    ensures fit { OnOk result (IsFitReply (plain_reply r.now)) }
 {
     match r {
         Reply::Done => add_named(alloc, text, b"ok", &[]),

@@ -1,11 +1,12 @@
 //! Calls read from their words.
 ghost use Rattle.std.specs.Prelude.{◌≡◌, ◌≢◌, ℕ, ◌<◌, ◌^◌, List, ◌∷◌, ◌++◌, Some, None, if◌then◌else◌, IfOk, IfSome, IfNone};
 ghost use Rattle.std.specs.List.{All};
+ghost use Rattle.vt_events.specs.Plain.{plain_event};
 ghost use Rattle.vt_events.specs.declared.event.Event.{Event};
 ghost use Rattle.vt_journal.specs.Calls.{name_of};
 ghost use Rattle.vt_journal.specs.Kinds.{blank};
 ghost use Rattle.vt_journal.specs.declared.kind.Kind.{Kind};
-ghost use Rattle.vt_journal.specs.Words.{Spells, held_words};
+ghost use Rattle.vt_journal.specs.Words.{IsFit, Spells, event_words, held_words};
 
 use crate::hex::parse_hex;
 use crate::kind::Kind;
@@ -23,18 +24,33 @@ pub fn read_event(alloc: Global, words: &[u8]) -> Result<Option<Event>, NoMemory
         (λ found. IfSome found (λ e. (other : Event) → Spells words.now other → other ≡ e)) }
 {
     let mut words = Words::of(words);
-    let Some(kind) = read_kind(&mut words) else {
-        return Ok(None);
-    };
-    let Some(numbers) = read_numbers(&mut words, kind.count()) else {
-        return Ok(None);
-    };
-    let Some(bytes) = read_bytes(alloc, &mut words, kind.holds_bytes())? else {
+    let Some(event) = take_event(alloc, &mut words)? else {
         return Ok(None);
     };
     if words.next().is_some() {
         return Ok(None);
     }
+    Ok(Some(event))
+}
+
+/// The call that the next words are.
+pub fn take_event(alloc: Global, words: &mut Words) -> Result<Option<Event>, NoMemory>
+    ensures found { IfOk result
+        (λ found. IfSome found (λ e. words.old ≡ event_words e ++ words.new)) }
+    ensures fit { IfOk result (λ found. IfSome found IsFit) }
+    ensures plain { IfOk result (λ found. IfSome found (λ e. plain_event e ≡ e)) }
+    ensures none { IfOk result (λ found. IfNone found
+        ((e : Event) (rest : List (List ℕ)) → IsFit e → words.old ≢ event_words e ++ rest)) }
+{
+    let Some(kind) = read_kind(words) else {
+        return Ok(None);
+    };
+    let Some(numbers) = read_numbers(words, kind.count()) else {
+        return Ok(None);
+    };
+    let Some(bytes) = read_bytes(alloc, words, kind.holds_bytes())? else {
+        return Ok(None);
+    };
     if !kind.takes(bytes.as_slice().len()) {
         return Ok(None);
     }
@@ -51,8 +67,9 @@ fn read_kind(words: &mut Words) -> Option<Kind>
     Kind::named(name)
 }
 
-// The next word as bytes in hexadecimal, where the call holds any; else none, and no word.
-fn read_bytes(alloc: Global, words: &mut Words, holds: bool) -> Result<Option<Bytes>, NoMemory>
+/// The next word as bytes in hexadecimal, where the call or the answer holds any; else none, and no
+/// word.
+pub fn read_bytes(alloc: Global, words: &mut Words, holds: bool) -> Result<Option<Bytes>, NoMemory>
     ensures found { IfOk result
         (λ found. IfSome found (λ b. words.old ≡ held_words (if holds then Some b.bytes else None) ++ words.new)) }
     ensures fit { IfOk result (λ found. IfSome found (λ b. All (λ x. x < 2 ^ 8) b.bytes)) }

@@ -1,6 +1,7 @@
 //! Logs, their text, and the words of calls. Expected texts were written by hand from the rules of
 //! the journal text.
 mod all_words;
+mod parsing;
 
 use crate::{Full, Log, Tail, add_hex, print, read_event};
 use std::alloc::Global;

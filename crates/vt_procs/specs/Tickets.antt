@@ -21,11 +21,11 @@ is_open Done = false
 is_open Broken = false
 
 -- what the process is told of its ticket
-abbrev pub told : Waiting → Waited
-told Nothing = waited.None
-told (Open ticket) = waited.Still
-told Done = waited.Done
-told Broken = waited.Broken
+abbrev pub waited_of : Waiting → Waited
+waited_of Nothing = waited.None
+waited_of (Open ticket) = waited.Still
+waited_of Done = waited.Done
+waited_of Broken = waited.Broken
 
 -- what is left when it has been told: an open ticket stays
 abbrev pub left : Waiting → Waiting

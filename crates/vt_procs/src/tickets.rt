@@ -2,7 +2,7 @@
 ghost use Rattle.std.specs.List.{list_any};
 ghost use Rattle.std.specs.Prelude.{◌≡◌, ◌==◌, true, not, if◌then◌else◌};
 ghost use Rattle.vt_procs.specs.Callers.{caller_at, is_live};
-ghost use Rattle.vt_procs.specs.Tickets.{all_ended_by, broken, can_go, collected, ended_by, filled, is_for_display, is_for_input, is_open, left, raised, settled, shown, taken, told, waits, waits_for};
+ghost use Rattle.vt_procs.specs.Tickets.{all_ended_by, broken, can_go, collected, ended_by, filled, is_for_display, is_for_input, is_open, left, raised, settled, shown, taken, waited_of, waits, waits_for};
 ghost use Rattle.vt_procs.specs.declared.waited.Waited.{Waited};
 ghost use Rattle.vt_procs.specs.declared.waiting.Waiting.{Waiting};
 
@@ -44,7 +44,7 @@ impl Procs {
     /// `p` begins a wait.
     pub fn wait(&mut self, p: CallerNo, t: Ticket)
         requires live { is_live self.old p ≡ true }
-        requires none { told (caller_at self.old p).waiting ≡ Waited.None }
+        requires none { waited_of (caller_at self.old p).waiting ≡ Waited.None }
         ensures { self.new ≡ waits p t self.old }
     {
         self.callers[usize::from(p.get())].waiting = Waiting::Open(t);
@@ -52,19 +52,19 @@ impl Procs {
 
     /// What [`Procs::collect`] would answer.
     pub fn ticket(&self, p: CallerNo) -> Waited
-        ensures { result ≡ told (caller_at self.now p).waiting }
+        ensures { result ≡ waited_of (caller_at self.now p).waiting }
     {
-        told(&self.callers[usize::from(p.get())].waiting)
+        waited_of(&self.callers[usize::from(p.get())].waiting)
     }
 
     /// Tells `p` of its ticket, which is gone then unless it is open.
     pub fn collect(&mut self, p: CallerNo) -> Waited
         requires { is_live self.old p ≡ true }
-        ensures answer { result ≡ told (caller_at self.old p).waiting }
+        ensures answer { result ≡ waited_of (caller_at self.old p).waiting }
         ensures state { self.new ≡ collected p self.old }
     {
         let process = &mut self.callers[usize::from(p.get())];
-        let waited = told(&process.waiting);
+        let waited = waited_of(&process.waiting);
         process.waiting = left(&process.waiting);
         waited
     }
@@ -180,8 +180,8 @@ fn can_go(caller: &Process) -> bool
     caller.live && !is_open(&caller.waiting)
 }
 
-fn told(waiting: &Waiting) -> Waited
-    ensures { result ≡ told waiting.now }
+fn waited_of(waiting: &Waiting) -> Waited
+    ensures { result ≡ waited_of waiting.now }
 {
     match waiting {
         Waiting::Nothing => Waited::None,

@@ -161,7 +161,42 @@ impl Emu {
     // Does what stands at the front of the text, as much at once as can be, and tells how many bytes
     // that is.
     #[inline(always)]
-    pub(crate) fn take_front(&mut self, b: &[u8], outs: &mut Outs) -> usize
+    fn take_front(&mut self, b: &[u8], outs: &mut Outs) -> usize
+        requires some { 0 < length b.now }
+        requires room { length outs.old < 64 }
+        ensures some { 0 < result }
+        ensures within { result ≤ length b.now }
+        ensures run { run drawing (take result b.now) (having_said outs.old self.old)
+            ≡ having_said outs.new self.new }
+        ensures few { length outs.new ≤ length outs.old + result }
+    {
+        let count = self.print_front(b);
+        if count > 0 {
+            return count;
+        }
+        self.take_other(b, outs)
+    }
+
+    // Does what `take_front` does. What the front of the text says is then alone in `outs`, where it
+    // isn't printed.
+    #[inline(always)]
+    pub(crate) fn take_next(&mut self, b: &[u8], outs: &mut Outs) -> usize
+        requires some { 0 < length b.now }
+        ensures some { 0 < result }
+        ensures within { result ≤ length b.now }
+        ensures run { self.new ≡ after self.old (take result b.now) }
+    {
+        let count = self.print_front(b);
+        if count > 0 {
+            return count;
+        }
+        outs.clear();
+        self.take_other(b, outs)
+    }
+
+    // Does what stands at the front of the text, where it isn't printed at once.
+    #[inline(always)]
+    fn take_other(&mut self, b: &[u8], outs: &mut Outs) -> usize
         requires some { 0 < length b.now }
         requires room { length outs.old < 64 }
         ensures some { 0 < result }
@@ -178,7 +213,7 @@ impl Emu {
         1
     }
 
-    // Does a sequence or characters at the front of the text, and tells how many bytes they are.
+    // Does a sequence or line feeds at the front of the text, and tells how many bytes they are.
     #[inline(always)]
     fn take_run(&mut self, b: &[u8], outs: &mut Outs) -> usize
         requires some { 0 < length b.now }
@@ -191,7 +226,7 @@ impl Emu {
         match b[0] {
             0x1B => self.obey_brief(b, outs),
             b'\n' => self.scroll_front(b),
-            _ => self.print_front(b),
+            _ => 0,
         }
     }
 
@@ -289,6 +324,7 @@ impl Emu {
 
     // Prints characters at the front of the text that end before the last column, and tells how many
     // bytes they are.
+    #[inline(always)]
     fn print_front(&mut self, b: &[u8]) -> usize
         requires { 0 < length b.now }
         ensures within { result ≤ length b.now }

@@ -13,8 +13,7 @@ impl Emu {
         let mut outs = Outs::new();
         let mut at = 0;
         while at < b.len() {
-            outs.clear();
-            at += self.take_front(&b[at..], &mut outs);
+            at += self.take_next(&b[at..], &mut outs);
         }
     }
 }

@@ -3,7 +3,7 @@ use Rattle.std.proofs.Common.{◌≡◌, ℕ, zero, suc, ◌+◌, ◌<◌, List,
 use Rattle.std.proofs.Math.Seq.{drop-cons}
 use Rattle.std.proofs.lemmas.List.{drop-drop}
 use Rattle.vt_sgr.specs.PenState.{PenState}
-use Rattle.vt_sgr.specs.Sgr.{sgr_behind, taken_by, with_form}
+use Rattle.vt_sgr.specs.Sgr.{sgr, sgr_behind, taken_by, with_form}
 
 -- what belongs to the form before is passed over
 sgr_behind-drop : (taken : ℕ) (params : List ℕ) (p : PenState)
@@ -31,3 +31,26 @@ form_more params at taken n rest p q end within n-is rest-is q-is taken-is so_fa
     ∙ ap (λ ns. sgr_behind 0 ns (with_form n rest p)) behind
     ∙ ap (sgr_behind 0 (drop (at + (1 + taken)) params)) (sym q-is) in
     sym here ∙ sym formed ∙ sym (ap (λ ns. sgr_behind 0 ns p) front) ∙ so_far
+
+-- no parameter is left
+behind-none : (taken : ℕ) (p : PenState) → sgr_behind taken [] p ≡ p
+behind-none zero p = refl
+behind-none (suc taken) p = refl
+
+-- the last parameter belongs to the one before it
+behind-taken : (taken n : ℕ) (p : PenState) → 0 < taken → sgr_behind taken (n ∷ []) p ≡ p
+behind-taken zero n p some = absurd (omega (arith, some))
+behind-taken (suc taken) n p some = behind-none taken p
+
+-- two parameters
+pub two-apart : (first second : ℕ) (p : PenState) → taken_by first (second ∷ []) ≡ 0
+    → sgr (first ∷ second ∷ []) p ≡ with_form second [] (with_form first (second ∷ []) p)
+two-apart first second p none =
+    let q : PenState = with_form first (second ∷ []) p in
+    ap (λ (taken : ℕ). sgr_behind taken (second ∷ []) q) none
+    ∙ behind-none (taken_by second []) (with_form second [] q)
+
+pub two-joined : (first second : ℕ) (p : PenState) → 0 < taken_by first (second ∷ [])
+    → sgr (first ∷ second ∷ []) p ≡ with_form first (second ∷ []) p
+two-joined first second p some =
+    behind-taken (taken_by first (second ∷ [])) second (with_form first (second ∷ []) p) some

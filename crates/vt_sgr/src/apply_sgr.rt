@@ -1,5 +1,5 @@
-ghost use Rattle.std.specs.Prelude.{◌≡◌, ◌≤◌, length};
-ghost use Rattle.vt_sgr.specs.Sgr.{sgr, taken_by, with_bg_colour, with_fg_colour, with_form};
+ghost use Rattle.std.specs.Prelude.{◌≡◌, ◌≤◌, [], ◌∷◌, length};
+ghost use Rattle.vt_sgr.specs.Sgr.{colour_of, sgr, sgr_behind, taken_by, with_bg_colour, with_fg_colour, with_form};
 
 use crate::Pen;
 use crate::change::{
@@ -14,10 +14,29 @@ use vt_cells::{Intensity, fold_bg, fold_fg};
 pub fn apply(p: &mut Pen, params: &[u16])
     ensures { p.new ≡ sgr params.now p.old }
 {
-    if params.is_empty() {
-        set_form(p, 0, params);
-        return;
+    match params {
+        [] => set_form(p, 0, params),
+        [n] => set_form(p, *n, &[]),
+        [first, second] => apply_two(p, *first, *second),
+        _ => apply_all(p, params),
     }
+}
+
+// The usual sequences have one parameter or two: these need no loop.
+fn apply_two(p: &mut Pen, first: u16, second: u16)
+    ensures { p.new ≡ sgr (first ∷ second ∷ []) p.old }
+{
+    let rest = [second];
+    set_form(p, first, &rest);
+    if taken_by(first, &rest) == 0 {
+        set_form(p, second, &[]);
+    }
+}
+
+#[inline(never)]
+fn apply_all(p: &mut Pen, params: &[u16])
+    ensures { p.new ≡ sgr_behind 0 params.now p.old }
+{
     let mut at = 0;
     while at < params.len() {
         let n = params[at];
@@ -28,6 +47,7 @@ pub fn apply(p: &mut Pen, params: &[u16])
 }
 
 // Changes the pen by one parameter, which the rest follows.
+#[inline(always)]
 fn set_form(p: &mut Pen, n: u16, rest: &[u16])
     ensures { p.new ≡ with_form n rest.now p.old }
 {
@@ -48,10 +68,10 @@ fn set_form(p: &mut Pen, n: u16, rest: &[u16])
         25 => set_blink(p, false),
         27 => set_reverse(p, false),
         30..=37 => set_fg(p, (n - 30) as u8),
-        38 => set_fg_colour(p, colour_of(rest)),
+        38 => set_fg_by(p, rest),
         39 => set_default_fg(p),
         40..=47 => set_bg(p, (n - 40) as u8),
-        48 => set_bg_colour(p, colour_of(rest)),
+        48 => set_bg_by(p, rest),
         49 => set_default_bg(p),
         90..=97 => set_bright(p, (n - 90) as u8, Intensity::Bold),
         100..=107 => set_bg(p, (n - 100) as u8),
@@ -68,6 +88,22 @@ fn taken_by(n: u16, rest: &[u16]) -> usize
         38 | 48 => colour_len(rest),
         _ => 0,
     }
+}
+
+// The parameters after a 38 give the colour of characters.
+#[inline(never)]
+fn set_fg_by(p: &mut Pen, rest: &[u16])
+    ensures { p.new ≡ with_fg_colour p.old (colour_of rest.now) }
+{
+    set_fg_colour(p, colour_of(rest));
+}
+
+// The parameters after a 48 give the colour of the ground.
+#[inline(never)]
+fn set_bg_by(p: &mut Pen, rest: &[u16])
+    ensures { p.new ≡ with_bg_colour p.old (colour_of rest.now) }
+{
+    set_bg_colour(p, colour_of(rest));
 }
 
 // A character takes the hue and intensity of the colour, if there is one.

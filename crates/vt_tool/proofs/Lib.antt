@@ -1,6 +1,8 @@
 mod Complete
+mod Knows
 mod Numbers
 mod Oks
+mod Sessions
 mod Statuses
 pub mod Streams
 mod TypeTables

@@ -1,12 +1,12 @@
 -- The number that a word spells.
-use Rattle.std.proofs.Common.{◌≡◌, ◌≢◌, ℕ, ◌<◌, ◌≤◌, ◌^◌, ◌&&◌, cond, nat_le, Bool, true, false, Option, Some, None, List, refl, sym, ap, ◌∙◌, arith}
-use Rattle.std.specs.Prelude.{decimal, bytes_eq}
+use Rattle.std.proofs.Common.{◌≡◌, ◌≢◌, ℕ, ◌<◌, ◌≤◌, ◌^◌, Some, None, List, sym, ap, ◌∙◌, arith}
+use Rattle.std.specs.Prelude.{decimal}
 use Rattle.std.specs.Str.Parse.{digits_value}
 use Rattle.std.proofs.lemmas.Bool.Decides.{nat_tests}
 use Rattle.std.proofs.lemmas.Fmt.{decimal_is_IsNumeral}
 use Rattle.std.proofs.lemmas.Slice.Eq.{bytes_eq-Decides}
 use Rattle.vt_base.specs.Decimal.{IsNoNumberTo}
-use Rattle.vt_tool.specs.Words.{Range, if_spelled, number_in}
+use Rattle.vt_tool.specs.Words.{if_spelled, number_in}
 
 value_of_spelled : (n : ℕ) (word : List ℕ) → n < 2 ^ 64 → decimal n ≡ word
     → n ≡ digits_value 10 word

@@ -9,12 +9,18 @@ use Rattle.vt_tool.specs.declared.command.Command.TheVariants as command
 use Rattle.vt_tool.specs.declared.intake.Intake.{Intake}
 use Rattle.vt_tool.specs.declared.intake.Intake.TheVariants.{ToEnd}
 use Rattle.vt_tool.specs.Commands.Screen.{GivesRows, IsScreenSize, screen_limit, side}
+use Rattle.vt_tool.specs.Commands.Dump.{GivesDump}
 use Rattle.vt_tool.specs.Commands.Keys.{GivesKeyFault, GivesListing}
-use Rattle.vt_tool.specs.Commands.Play.{GivesPlayed, GivesSessionFault}
+use Rattle.vt_tool.specs.Commands.Play.{GivesPlayed}
+use Rattle.vt_tool.specs.Commands.Race.{GivesRaced}
+use Rattle.vt_tool.specs.Commands.Session.{GivesSessionFault}
 use Rattle.vt_tool.specs.Commands.Typing.{GivesTableFault, GivesTyped}
+pub mod Dump
 pub mod Keys
 pub mod Play
+pub mod Race
 pub mod Screen
+pub mod Session
 pub mod Typed
 pub mod Typing
 
@@ -25,7 +31,17 @@ serial_forms =
     ∷ form (codes "keys") (alone command.Keys)
     ∷ form (codes "type") (alone command.Typing)
     ∷ form (codes "play") (alone command.Play)
+    ∷ form (codes "dumpkeys") (alone command.DumpKeys)
     ∷ []
+
+-- all commands: `race` needs threads
+abbrev pub all_forms : List Form
+all_forms = form (codes "race") (alone command.Race) ∷ serial_forms
+
+-- the command needs no threads
+abbrev pub IsSerial : Command → Type 0
+IsSerial command.Race = ⊥
+IsSerial other = ⊤
 
 -- the command's numbers are in their ranges
 abbrev pub IsFit : Command → Type 0
@@ -45,5 +61,7 @@ intake_of other = ToEnd text_limit
 abbrev pub Gives : Command → List ℕ → Outcome → Type 0
 Gives (command.Screen rows cols) input outcome = GivesRows rows cols input outcome
 Gives command.Keys input outcome = GivesListing input outcome ⊎ GivesKeyFault input outcome
+Gives command.DumpKeys input outcome = GivesDump input outcome ⊎ GivesKeyFault input outcome
 Gives command.Play input outcome = GivesPlayed input outcome ⊎ GivesSessionFault input outcome
+Gives command.Race input outcome = GivesRaced input outcome ⊎ GivesSessionFault input outcome
 Gives command.Typing input outcome = GivesTyped input outcome ⊎ GivesTableFault input outcome

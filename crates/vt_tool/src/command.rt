@@ -5,8 +5,12 @@ pub enum Command {
     Screen { rows: u8, cols: u8 },
     /// The listing of the tables of a keymap text.
     Keys,
+    /// The tables of a keymap text as a keymap text.
+    DumpKeys,
     /// The journal of the calls of the input, and the console after them.
     Play,
+    /// The journal of the calls of the input, made by threads, and the console after them.
+    Race,
     /// A line for each scan byte of the input's table, by the tables of its keymap.
     Typing,
 }

@@ -7,11 +7,13 @@ mod commands;
 mod intake;
 mod read_end;
 mod reading;
+mod run;
 mod status;
 mod telling;
 mod tool;
 mod words;
 mod writing;
 
+pub use run::vt_run;
 pub use status::Status;
 pub use tool::vt_command;

@@ -1,13 +1,29 @@
-ghost use Rattle.vt_tool.specs.Reading.{EndsReading};
+ghost use Rattle.vt_tool.specs.Reading.{EndsReading, GivesInput};
 
-use crate::intake::Intake;
+use crate::command::Command;
+use crate::intake::{Intake, intake_for};
 use crate::read_end::ReadEnd;
+use crate::status::Status;
 use std::alloc::Global;
 use vt_base::Bytes;
 use vt_io::Source;
 
 /// The bytes that one read asks for at most.
 const READ_BYTES: usize = 65_536;
+
+/// The input of the command, or the status that comes in its place.
+pub fn input_of<S: Source>(alloc: Global, command: Command, src: &mut S) -> Result<Bytes, Status>
+    ensures { GivesInput command
+        (record { told = S.left src.old; faults = S.faults src.old })
+        (record { told = S.left src.new; faults = S.faults src.new }) result }
+{
+    match read_input(alloc, src, intake_for(command)) {
+        Ok(input) => Ok(input),
+        Err(ReadEnd::Fault) => Err(Status::ReadFault),
+        Err(ReadEnd::TooLong) => Err(Status::TooLong),
+        Err(ReadEnd::NoMemory) => Err(Status::NoMemory),
+    }
+}
 
 /// Reads what a command takes of the source.
 pub fn read_input<S: Source>(alloc: Global, src: &mut S, intake: Intake) -> Result<Bytes, ReadEnd>

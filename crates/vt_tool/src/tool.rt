@@ -1,21 +1,20 @@
 ghost use Rattle.std.specs.Prelude.{map, string_bytes};
-ghost use Rattle.vt_tool.specs.Commands.{IsFit, serial_forms};
+ghost use Rattle.vt_tool.specs.Commands.{IsFit, IsSerial, serial_forms};
 ghost use Rattle.vt_tool.specs.Run.{Begins, Completes, Holds, ProgramRun};
 
 use crate::command::Command;
 use crate::commands::answer_to;
-use crate::intake::intake_for;
-use crate::read_end::ReadEnd;
-use crate::reading::read_input;
+use crate::reading::input_of;
 use crate::status::Status;
 use crate::telling::tell;
 use crate::words::parse_words;
-use crate::writing::write_all;
+use crate::writing::give;
 use std::alloc::Global;
 use vt_io::{Sink, Source};
 
 /// Runs the command that the words spell, over the source and the sinks: its text goes to `out`,
-/// and the line of a status other than Fine to `err`.
+/// and the line of a status other than Fine to `err`. It knows each command but `race`, which needs
+/// threads.
 pub fn vt_command<S: Source, O: Sink, E: Sink>(
     alloc: Global,
     words: &[String],
@@ -64,30 +63,23 @@ fn begin<S: Source, O: Sink>(alloc: Global, words: &[String], src: &mut S, out: 
     }
 }
 
+// Does the command, which needs no threads.
 fn do_command<S: Source, O: Sink>(
     alloc: Global,
     command: Command,
     src: &mut S,
     out: &mut O,
 ) -> Status
-    requires { IsFit command }
+    requires serial { IsSerial command }
+    requires fit { IsFit command }
     ensures { Holds command
         (record { told = S.left src.old; faults = S.faults src.old })
         (record { told = S.left src.new; faults = S.faults src.new })
         (record { told = O.held out.old; faults = O.faults out.old })
         (record { told = O.held out.new; faults = O.faults out.new }) result }
 {
-    let input = match read_input(alloc, src, intake_for(command)) {
-        Ok(input) => input,
-        Err(ReadEnd::Fault) => return Status::ReadFault,
-        Err(ReadEnd::TooLong) => return Status::TooLong,
-        Err(ReadEnd::NoMemory) => return Status::NoMemory,
-    };
-    let Ok(answer) = answer_to(alloc, command, input.as_slice()) else {
-        return Status::NoMemory;
-    };
-    match write_all(out, answer.text.as_slice()) {
-        Ok(()) => answer.status,
-        Err(_) => Status::WriteFault,
+    match input_of(alloc, command, src) {
+        Ok(input) => give(out, answer_to(alloc, command, input.as_slice())),
+        Err(status) => status,
     }
 }

@@ -1,29 +1,44 @@
-ghost use Rattle.std.specs.Prelude.{◌≡◌, ◌≤◌, map, string_bytes, IfSome};
-ghost use Rattle.vt_tool.specs.Commands.{IsFit, serial_forms};
+ghost use Rattle.std.specs.Prelude.{◌≡◌, ◌≤◌, true, false, map, string_bytes, IfSome};
+ghost use Rattle.vt_tool.specs.Commands.{IsFit, IsSerial, all_forms, serial_forms};
 ghost use Rattle.vt_tool.specs.Words.{command_of, if_no_words, number_in};
 
 use crate::command::Command;
 use crate::commands::screen;
 use vt_base::parse_decimal;
 
-/// The command that the words spell.
+/// The command that the words spell, if it needs no threads.
 pub fn parse_words(words: &[String]) -> Option<Command>
     ensures command { result ≡ command_of serial_forms (map string_bytes words.now) }
+    ensures serial { IfSome result (λ command. IsSerial command) }
     ensures fit { IfSome result (λ command. IsFit command) }
 {
     let (name, others) = words.split_first()?;
     match name.as_str() {
         "screen" => screen::parse(others),
         "keys" => alone(Command::Keys, others),
+        "dumpkeys" => alone(Command::DumpKeys, others),
         "type" => alone(Command::Typing, others),
         "play" => alone(Command::Play, others),
         _ => None,
     }
 }
 
+/// The words spell `race`.
+pub fn is_race(words: &[String]) -> bool
+    ensures race { result ≡ true
+        → command_of all_forms (map string_bytes words.now) ≡ Some Command.Race }
+    ensures other { result ≡ false → command_of serial_forms (map string_bytes words.now)
+        ≡ command_of all_forms (map string_bytes words.now) }
+{
+    let [name] = words else { return false };
+    name.as_str() == "race"
+}
+
 fn alone(command: Command, words: &[String]) -> Option<Command>
-    requires { IsFit command }
+    requires serial { IsSerial command }
+    requires fit { IsFit command }
     ensures command { result ≡ if_no_words command (map string_bytes words.now) }
+    ensures serial { IfSome result (λ command. IsSerial command) }
     ensures fit { IfSome result (λ command. IsFit command) }
 {
     if words.is_empty() {

@@ -1,6 +1,24 @@
-ghost use Rattle.vt_tool.specs.Writing.{EndsWriting};
+ghost use Rattle.vt_tool.specs.Writing.{EndsGiving, EndsWriting};
 
+use crate::answer::Answer;
+use crate::status::Status;
+use vt_base::NoMemory;
 use vt_io::{Failed, Sink};
+
+/// Writes what a command gives, and says how the run ends.
+pub fn give<O: Sink>(out: &mut O, answer: Result<Answer, NoMemory>) -> Status
+    ensures { EndsGiving
+        (record { told = O.held out.old; faults = O.faults out.old })
+        (record { told = O.held out.new; faults = O.faults out.new }) answer result }
+{
+    let Ok(answer) = answer else {
+        return Status::NoMemory;
+    };
+    match write_all(out, answer.text.as_slice()) {
+        Ok(()) => answer.status,
+        Err(_) => Status::WriteFault,
+    }
+}
 
 /// Writes the whole text, in as many pieces as the sink takes it.
 #[tactic(auto, using(crate::proofs::Streams::written_more))]

@@ -1,17 +1,49 @@
 -- A control sequence that is read number by number.
-use Rattle.std.proofs.Common.{◌≡◌, ◌≢◌, ℕ, ◌==◌, ◌≤◌, ◌<◌, ◌+◌, true, false, List, [], ◌∷◌, length, take, drop, get_or, Option, Some, refl, sym, ap, ◌∙◌, arith}
-use Rattle.std.proofs.lemmas.Bool.{cond-true, cond-false, eq-eqb, ne_eqb, or_left, or_right}
+use Rattle.std.proofs.Common.{◌≡◌, ℕ, ◌==◌, ◌≤◌, ◌<◌, ◌+◌, Bool, true, false, List, [], ◌∷◌, length, take, drop, get_or, Some, refl, sym, ap, ◌∙◌, arith}
+use Rattle.std.proofs.lemmas.Bool.{cond-true, cond-false, eq-eqb, eqb-true, or_left, or_right}
 use Rattle.std.proofs.lemmas.Bool.Decides.{nat_tests}
 use Rattle.std.proofs.lemmas.List.{drop_more, take_all}
 use Rattle.vt_units.proofs.Fields.{continued-all}
 use Rattle.vt_units.proofs.Numbered.{front-goes, front-stops}
-use Rattle.vt_units.specs.Ahead.{Sequence, ends_control, numbers_ahead, numbers_end, opened_ahead}
+use Rattle.vt_units.specs.Ahead.{ends_control, numbers_ahead, numbers_end, opened_ahead}
 use Rattle.vt_units.specs.Briefs.{Begun, Goes}
 use Rattle.vt_units.specs.Bytes.{is_digit}
 use Rattle.vt_units.specs.Numbers.{continued, params_of, shifted}
 use Rattle.vt_units.specs.Reading.{behind, front}
 use Rattle.vt_units.specs.Sequences.{is_parameter}
 use Rattle.vt_units.specs.declared.unit.Unit.TheVariants.{Csi}
+
+-- a number that begins with ? is none
+pub stands-still : (text : List ℕ) (m j : ℕ) → Goes text 0 2 m j → 2 < length text → 2 ≤ j
+    → get_or text 2 0 ≡ 0x3F → j ≡ 2
+stands-still text m j goes within order mark =
+    let stops : is_parameter (get_or text 2 0) ≡ false = ap is_parameter mark in
+    let end = front-stops is_parameter text 2 within stops in
+    omega (arith, goes.count, ap (λ (bytes : List ℕ). length bytes) end.0)
+
+-- a byte that is one of these isn't ?
+not-mark : (b : ℕ) → ends_control b ≡ true → (b == 0x3F) ≡ false
+not-mark b ends = grind (arith, nat_tests, ends)
+
+plain-one : (text : List ℕ) (m j : ℕ) → Goes text 0 2 m j → 2 < length text → 2 ≤ j
+    → ends_control (get_or text j 0) ≡ true → (get_or text 2 0 == 0x3F) ≡ false
+plain-one text m j goes within order ends = by (get_or text 2 0 == 0x3F) refl
+  where
+    by : (test : Bool) → (get_or text 2 0 == 0x3F) ≡ test → (get_or text 2 0 == 0x3F) ≡ false
+    by false is = is
+    by true is =
+        let still = stands-still text m j goes within order (eqb-true _ _ is) in
+        not-mark (get_or text 2 0) (ap (λ (k : ℕ). ends_control (get_or text k 0)) (sym still) ∙ ends)
+
+plain-two : (text : List ℕ) (m j : ℕ) → Goes text 0 2 m j → 2 < length text → 2 ≤ j
+    → get_or text j 0 ≡ 0x3B → (get_or text 2 0 == 0x3F) ≡ false
+plain-two text m j goes within order parts = by (get_or text 2 0 == 0x3F) refl
+  where
+    by : (test : Bool) → (get_or text 2 0 == 0x3F) ≡ test → (get_or text 2 0 == 0x3F) ≡ false
+    by false is = is
+    by true is =
+        let still = stands-still text m j goes within order (eqb-true _ _ is) in
+        ap (λ (k : ℕ). get_or text k 0 == 0x3F) (sym still) ∙ ap (λ (b : ℕ). b == 0x3F) parts
 
 pub goes_none : (text : List ℕ) (n i : ℕ) → Goes text n i n i
 goes_none text n i = record { numbers = refl; count = refl; rest = refl }
@@ -54,20 +86,32 @@ reads-last text n i m j goes within stops =
       rest = goes.rest ∙ end.1;
     }
 
+-- a number that a semicolon at place j ends
+pub record Parts (text : List ℕ) (n i m j : ℕ) : Type 0 where
+  pub numbers : continued n (front is_parameter (drop i text)) ≡ m ∷ continued 0 (front is_parameter (drop (j + 1) text))
+  pub count : length (front is_parameter (drop i text)) + i ≡ length (front is_parameter (drop (j + 1) text)) + (j + 1)
+  pub rest : behind is_parameter (drop i text) ≡ behind is_parameter (drop (j + 1) text)
+
+pub reads-one : (text : List ℕ) (n i m j : ℕ) → Goes text n i m j → j < length text
+    → get_or text j 0 ≡ 0x3B → Parts text n i m j
+reads-one text n i m j goes within parts =
+    let is : (get_or text j 0 == 0x3B) ≡ true = eq-eqb _ _ parts in
+    let one = front-goes is_parameter text j within (or_right _ _ is) in
+    record {
+      numbers = goes.numbers ∙ ap (continued m) one.0 ∙ cond-true _ _ _ is;
+      count = omega (arith, goes.count, ap (λ (bytes : List ℕ). length bytes) one.0);
+      rest = goes.rest ∙ one.1;
+    }
+
 -- a number before a semicolon at place j, and those after it
 reads-more : (text : List ℕ) (n i m j : ℕ) (numbers : List ℕ) (e : ℕ) → Goes text n i m j → j < length text
     → get_or text j 0 ≡ 0x3B → Ends text 0 (j + 1) numbers e → Ends text n i (m ∷ numbers) e
 reads-more text n i m j numbers e goes within parts ends =
-    let is : (get_or text j 0 == 0x3B) ≡ true = eq-eqb _ _ parts in
-    let one = front-goes is_parameter text j within (or_right _ _ is) in
+    let one = reads-one text n i m j goes within parts in
     record {
-      all =
-          goes.numbers
-          ∙ ap (continued m) one.0
-          ∙ cond-true _ _ _ is
-          ∙ ap (λ (ns : List ℕ). m ∷ ns) ends.all;
-      count = omega (arith, goes.count, ends.count, ap (λ (bytes : List ℕ). length bytes) one.0);
-      rest = goes.rest ∙ one.1 ∙ ends.rest;
+      all = one.numbers ∙ ap (λ (ns : List ℕ). m ∷ ns) ends.all;
+      count = omega (arith, one.count, ends.count);
+      rest = one.rest ∙ ends.rest;
     }
 
 -- behind ESC [
@@ -85,33 +129,36 @@ numbers-is rest text numbers j within ends few all count left =
     ∙ cond-true _ _ _ ends
     ∙ (λ i. Some (record { unit = Csi false (params i) last; count = bytes i }))
 
-brief-is : (text numbers : List ℕ) (j : ℕ) → Begun text → j < length text → ends_control (get_or text j 0) ≡ true
+brief-is : (text numbers : List ℕ) (j : ℕ) → Begun text → (get_or text 2 0 == 0x3F) ≡ false → j < length text
+    → ends_control (get_or text j 0) ≡ true
     → length numbers ≤ 16 → Ends text 0 2 numbers j
     → opened_ahead text ≡ Some (record { unit = Csi false numbers (get_or text j 0); count = j + 1 })
-brief-is [] numbers j begun within ends few read = absurd (omega (arith, begun.long))
-brief-is (a ∷ []) numbers j begun within ends few read = absurd (omega (arith, begun.long))
-brief-is (a ∷ b ∷ []) numbers j begun within ends few read = absurd (omega (arith, begun.long))
-brief-is (a ∷ b ∷ c ∷ more) numbers j begun within ends few read =
+brief-is [] numbers j begun plain within ends few read = absurd (omega (arith, begun.long))
+brief-is (a ∷ []) numbers j begun plain within ends few read = absurd (omega (arith, begun.long))
+brief-is (a ∷ b ∷ []) numbers j begun plain within ends few read = absurd (omega (arith, begun.long))
+brief-is (a ∷ b ∷ c ∷ more) numbers j begun plain within ends few read =
     cond-true _ _ _ (eq-eqb _ _ begun.escape)
     ∙ cond-true _ _ _ (eq-eqb _ _ begun.bracket)
-    ∙ cond-false _ _ _ (ne_eqb _ _ begun.plain)
+    ∙ cond-false _ _ _ plain
     ∙ numbers-is (c ∷ more) (a ∷ b ∷ c ∷ more) numbers j within ends few read.all read.count read.rest
 
 -- one number and its end
-pub one_is : (text : List ℕ) (first j : ℕ) → Begun text → Goes text 0 2 first j → j < length text
+pub one_is : (text : List ℕ) (first j : ℕ) → Begun text → Goes text 0 2 first j → 2 ≤ j → j < length text
     → ends_control (get_or text j 0) ≡ true
     → opened_ahead text ≡ Some (record { unit = Csi false (first ∷ []) (get_or text j 0); count = j + 1 })
-one_is text first j begun goes within ends =
-    brief-is text (first ∷ []) j begun within ends (omega arith)
+one_is text first j begun goes order within ends =
+    brief-is text (first ∷ []) j begun (plain-one text first j goes (omega (arith, begun.long)) order ends)
+    within ends (omega arith)
     (reads-last text 0 2 first j goes within (last-stops (get_or text j 0) ends))
 
 -- two numbers and their end
-pub two_is : (text : List ℕ) (first second j e : ℕ) → Begun text → Goes text 0 2 first j
+pub two_is : (text : List ℕ) (first second j e : ℕ) → Begun text → Goes text 0 2 first j → 2 ≤ j
     → Goes text 0 (j + 1) second e → j < length text → get_or text j 0 ≡ 0x3B → e < length text
     → ends_control (get_or text e 0) ≡ true
     → opened_ahead text
     ≡ Some (record { unit = Csi false (first ∷ second ∷ []) (get_or text e 0); count = e + 1 })
-two_is text first second j e begun goes more within parts end ends =
-    brief-is text (first ∷ second ∷ []) e begun end ends (omega arith)
+two_is text first second j e begun goes order more within parts end ends =
+    brief-is text (first ∷ second ∷ []) e begun (plain-two text first j goes (omega (arith, begun.long)) order parts)
+    end ends (omega arith)
     (reads-more text 0 2 first j (second ∷ []) e goes within parts
     (reads-last text 0 (j + 1) second e more end (last-stops (get_or text e 0) ends)))

@@ -79,3 +79,13 @@ pub front-number : (kept body all : List ℕ) (n i : ℕ) → i < length body
     → take 16 (kept ++ continued n (get_or body i 0 ∷ drop (i + 1) body)) ≡ all
 front-number kept body all n i within before =
     ap (λ xs. take 16 (kept ++ continued n xs)) (sym (drop_more body i 0 within)) ∙ before
+
+-- a parameter that is read as a whole, and those after it
+pub field-more : (kept : List ℕ) (m : ℕ) (here after all : List ℕ) → here ≡ m ∷ after
+    → take 16 (kept ++ here) ≡ all
+    → take 16 (take 16 (kept ++ m ∷ []) ++ after) ≡ all
+field-more kept m here after all is before =
+    cut-before 16 (kept ++ m ∷ []) after
+    ∙ ap (take 16) (append_assoc kept (m ∷ []) after)
+    ∙ ap (λ ns. take 16 (kept ++ ns)) (sym is)
+    ∙ before

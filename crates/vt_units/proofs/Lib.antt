@@ -23,4 +23,5 @@ mod Rests
 mod Sizes
 mod Commons
 mod Bodies
+mod Empties
 pub mod Wholes

@@ -1,5 +1,5 @@
 -- Control sequences of one or two short parameters, and how their numbers are read.
-use Rattle.std.specs.Prelude.{◌≡◌, ◌≢◌, ℕ, Bool, false, ◌+◌, ◌≤◌, List, [], ◌∷◌, length, drop, slice_index, if◌then◌else◌}
+use Rattle.std.specs.Prelude.{◌≡◌, ℕ, Bool, false, ◌+◌, ◌≤◌, List, [], ◌∷◌, length, drop, slice_index, if◌then◌else◌}
 use Rattle.vt_units.specs.Ahead.{Sequence}
 use Rattle.vt_units.specs.Numbers.{continued}
 use Rattle.vt_units.specs.Reading.{behind, front}
@@ -18,12 +18,11 @@ sequence_in b = record {
   count = b.count;
 }
 
--- the text begins with ESC [, and no ? follows. No public clause names this
+-- the text begins with ESC [, and goes on. No public clause names this
 pub record Begun (text : List ℕ) : Type 0 where
   pub long : 3 ≤ length text
   pub escape : slice_index text 0 ≡ 0x1B
   pub bracket : slice_index text 1 ≡ 0x5B
-  pub plain : slice_index text 2 ≢ 0x3F
 
 -- what the text has from place j on, after the number m, is read as what it has from place i on,
 -- after the number n. No public clause names this

@@ -1,15 +1,14 @@
 //! A short sequence at the front of a text, read without a list of its parameters.
 ghost use Rattle.std.specs.Prelude.{◌≡◌, ◌≤◌, ◌+◌, ◌*◌, length, slice_index, true, Some, IfSome};
-ghost use Rattle.vt_units.specs.Ahead.{opened_ahead, sequence_ahead};
+ghost use Rattle.vt_units.specs.Ahead.{ends_control, opened_ahead, sequence_ahead};
 ghost use Rattle.vt_units.specs.Briefs.{Begun, Goes, sequence_in};
 ghost use Rattle.vt_units.specs.Bytes.{is_digit};
 ghost use Rattle.vt_units.specs.Numbers.{shifted};
 ghost use Rattle.vt_units.specs.declared.unit.Unit.TheVariants.{Esc};
 
 use crate::Brief;
-use crate::bytes::{is_digit, is_mid};
+use crate::bytes::{is_digit, is_within};
 use crate::kept::SEQUENCE_BYTES;
-use crate::sequence_ahead::{ends_control, ends_escape};
 
 /// The most bytes of such a sequence: ESC, `[`, two numbers of three digits, `;` and the last byte.
 const BRIEF_BYTES: usize = 10;
@@ -40,9 +39,6 @@ fn opened_brief(b: &[u8]) -> Option<Brief>
     if b[1] != b'[' {
         return None;
     }
-    if b[2] == b'?' {
-        return None;
-    }
     let (first, at) = number_at(b, 2);
     if b[at] != b';' {
         return one_number(b, first, at);
@@ -57,12 +53,13 @@ fn opened_brief(b: &[u8]) -> Option<Brief>
 fn one_number(b: &[u8], first: u16, at: usize) -> Option<Brief>
     requires begins { Begun b.now }
     requires first { Goes b.now 0 2 first at }
+    requires order { 2 ≤ at }
     requires within { at + 1 ≤ length b.now }
     requires short { length b.now ≤ 256 }
     ensures sequence { IfSome result (λ brief. opened_ahead b.now ≡ Some (sequence_in brief)) }
     ensures within { IfSome result (λ brief. brief.count ≤ length b.now) }
 {
-    if !ends_control(b[at]) {
+    if !ends_brief(b[at]) {
         return None;
     }
     Some(Brief {
@@ -82,13 +79,14 @@ fn two_numbers(b: &[u8], first: u16, second: u16, at: usize, end: usize) -> Opti
     requires first { Goes b.now 0 2 first at }
     requires second { Goes b.now 0 (at + 1) second end }
     requires parts { slice_index b.now at ≡ 0x3B }
+    requires start { 2 ≤ at }
     requires order { at + 1 ≤ end }
     requires within { end + 1 ≤ length b.now }
     requires short { length b.now ≤ 256 }
     ensures sequence { IfSome result (λ brief. opened_ahead b.now ≡ Some (sequence_in brief)) }
     ensures within { IfSome result (λ brief. brief.count ≤ length b.now) }
 {
-    if !ends_control(b[end]) {
+    if !ends_brief(b[end]) {
         return None;
     }
     Some(Brief {
@@ -100,10 +98,10 @@ fn two_numbers(b: &[u8], first: u16, second: u16, at: usize, end: usize) -> Opti
     })
 }
 
-// The number of at most three digits at this place, and the place after it.
+/// The number of at most three digits at this place, and the place after it.
 #[inline(always)]
 #[tactic(auto, using(crate::proofs::Briefs::goes_none, crate::proofs::Briefs::goes_on))]
-fn number_at(b: &[u8], at: usize) -> (u16, usize)
+pub(crate) fn number_at(b: &[u8], at: usize) -> (u16, usize)
     requires within { at + 4 ≤ length b.now }
     requires short { length b.now ≤ 256 }
     ensures goes { Goes b.now 0 at result.0 result.1 }
@@ -124,6 +122,15 @@ fn number_at(b: &[u8], at: usize) -> (u16, usize)
     (with_digit(two, b[at + 2]), at + 3)
 }
 
+// Whether the byte ends a control sequence, and is one that is looked for here: a letter, `@` or a
+// grave accent. The few others are left to the longer way.
+#[inline(always)]
+fn ends_brief(b: u8) -> bool
+    ensures { result ≡ true → ends_control b ≡ true }
+{
+    is_within(0x40, 0x5A, b) || is_within(0x60, 0x7A, b)
+}
+
 // The number with one digit more.
 #[inline(always)]
 fn with_digit(number: u16, digit: u8) -> u16
@@ -135,7 +142,8 @@ fn with_digit(number: u16, digit: u8) -> u16
     number * 10 + u16::from(digit - b'0')
 }
 
-/// The last byte of the escape sequence of two bytes that the text begins with.
+/// The last byte of the escape sequence of two bytes that the text begins with, where it is one from
+/// `0` to `O`.
 #[inline(always)]
 pub(crate) fn escape_ahead_of(b: &[u8]) -> Option<u8>
     ensures sequence { IfSome result (λ last. sequence_ahead b.now
@@ -143,18 +151,7 @@ pub(crate) fn escape_ahead_of(b: &[u8]) -> Option<u8>
     ensures within { IfSome result (λ _. 2 ≤ length b.now) }
 {
     match b {
-        [0x1B, last, ..] => {
-            if *last == b'[' {
-                return None;
-            }
-            if is_mid(*last) {
-                return None;
-            }
-            if !ends_escape(*last) {
-                return None;
-            }
-            Some(*last)
-        }
+        [0x1B, last, ..] if is_within(0x30, 0x4F, *last) => Some(*last),
         _ => None,
     }
 }

@@ -1,10 +1,11 @@
 //! The parameters of a control sequence.
-ghost use Rattle.std.specs.Prelude.{◌≡◌, ◌≤◌, ◌++◌, ◌∷◌, [], take, drop, length};
-ghost use Rattle.vt_units.specs.Numbers.{params_of, shifted};
+ghost use Rattle.std.specs.Prelude.{◌≡◌, ◌≤◌, ◌+◌, ◌++◌, ◌∷◌, [], take, drop, length};
+ghost use Rattle.vt_units.specs.Numbers.{continued, params_of, shifted};
 ghost use Rattle.vt_units.specs.Reading.{behind, front};
 ghost use Rattle.vt_units.specs.Sequences.{is_parameter};
 
 use crate::Params;
+use crate::brief_ahead::number_at;
 use crate::bytes::is_digit;
 
 /// The numbers between the semicolons, of which the first 16 count.
@@ -27,8 +28,45 @@ pub(crate) fn params_of(body: &[u8]) -> Params
 
 /// Reads the digits and semicolons at the front of the text, and tells how many bytes they are.
 pub(crate) fn read_numbers(text: &[u8], params: &mut Params) -> usize
-    requires { params.old ≡ [] }
+    requires none { params.old ≡ [] }
+    requires short { length text.now ≤ 256 }
     ensures params { params.new ≡ params_of (front is_parameter text.now) }
+    ensures count { result ≡ length (front is_parameter text.now) }
+    ensures rest { drop result text.now ≡ behind is_parameter text.now }
+    ensures bound { result ≤ length text.now }
+{
+    let at = read_short_numbers(text, params);
+    at + read_more_numbers(&text[at..], params)
+}
+
+// Reads parameters of at most three digits that a semicolon ends, as long as a longest one and its end
+// are there, and tells how many bytes they are.
+fn read_short_numbers(text: &[u8], params: &mut Params) -> usize
+    requires none { params.old ≡ [] }
+    requires short { length text.now ≤ 256 }
+    ensures params { take 16 (params.new ++ continued 0 (front is_parameter (drop result text.now)))
+        ≡ params_of (front is_parameter text.now) }
+    ensures count { length (front is_parameter text.now)
+        ≡ result + length (front is_parameter (drop result text.now)) }
+    ensures rest { behind is_parameter text.now ≡ behind is_parameter (drop result text.now) }
+    ensures bound { result ≤ length text.now }
+{
+    let mut at = 0;
+    while at + 4 <= text.len() {
+        let (number, end) = number_at(text, at);
+        if text[end] != b';' {
+            break;
+        }
+        add(params, u32::from(number));
+        at = end + 1;
+    }
+    at
+}
+
+// Reads the parameters at the front of the text, behind others.
+fn read_more_numbers(text: &[u8], params: &mut Params) -> usize
+    ensures params { params.new
+        ≡ take 16 (params.old ++ continued 0 (front is_parameter text.now)) }
     ensures count { result ≡ length (front is_parameter text.now) }
     ensures rest { drop result text.now ≡ behind is_parameter text.now }
     ensures bound { result ≤ length text.now }

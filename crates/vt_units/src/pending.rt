@@ -105,7 +105,7 @@ impl Pending {
         }
         let count = printable_prefix(b);
         if count > 0 {
-            self.restart(mode);
+            self.go_on(mode);
         }
         count
     }
@@ -130,7 +130,7 @@ impl Pending {
         }
         let count = read_characters(b, most, codes);
         if count > 0 {
-            self.restart(mode);
+            self.go_on(mode);
         }
         count
     }
@@ -150,7 +150,7 @@ impl Pending {
         }
         let ahead = sequence_ahead(b, params);
         if !matches!(ahead, Ahead::Nothing) {
-            self.restart(mode);
+            self.go_on(mode);
         }
         ahead
     }
@@ -169,7 +169,7 @@ impl Pending {
             return None;
         }
         let brief = brief_ahead(b)?;
-        self.restart(mode);
+        self.go_on(mode);
         Some(brief)
     }
 
@@ -187,7 +187,7 @@ impl Pending {
             return None;
         }
         let last = escape_ahead_of(b)?;
-        self.restart(mode);
+        self.go_on(mode);
         Some(last)
     }
 
@@ -199,7 +199,7 @@ impl Pending {
     {
         let takes = self.is_empty() && is_control(mode, b) && b != 0x1B;
         if takes {
-            self.restart(mode);
+            self.go_on(mode);
         }
         takes
     }
@@ -232,6 +232,15 @@ impl Pending {
             Left::Escape => self.escape(),
         }
         false
+    }
+
+    // Goes on without a text, where there was none.
+    #[tactic(auto, using(crate::proofs::Empties::stands_empty))]
+    fn go_on(&mut self, mode: Mode)
+        requires { is_empty self.old.text ≡ true }
+        ensures { self.new ≡ fresh mode }
+    {
+        self.mode = mode;
     }
 
     fn restart(&mut self, mode: Mode)

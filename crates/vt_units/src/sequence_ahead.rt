@@ -83,6 +83,7 @@ fn control_ahead(text: &[u8], params: &mut Params) -> Ahead
 }
 
 // Parameters and a last byte, behind so many bytes.
+#[inline(always)]
 fn numbers_ahead(private: bool, before: usize, text: &[u8], params: &mut Params) -> Ahead
     requires none { params.old ≡ [] }
     requires few { before ≤ 3 }

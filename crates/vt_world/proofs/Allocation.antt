@@ -41,7 +41,7 @@ use Rattle.vt_world.specs.Start.{opening}
 use Rattle.vt_world.specs.State.{WorldState, HasTerminals, core}
 use Rattle.vt_world.specs.Step.{Outcome, step}
 use Rattle.vt_world.specs.Terminals.{altered_by, new_terminal, or_new, said_of, terminal_at, written_on}
-use Rattle.vt_world.specs.Tests.{Test, first_failing, is_empty, is_in_use, mode_of, named, needs_console_or_0, needs_open, needs_right, own_tests, target, test}
+use Rattle.vt_world.specs.Refusals.{Refusal, first_refusal, is_empty, is_in_use, mode_of, named, needs_console_or_0, needs_open, needs_right, own_refusals, refusal, target}
 use Rattle.vt_world.specs.Wanted.{wanted_in}
 use Rattle.key_tables.specs.Tables.{Tables}
 
@@ -270,23 +270,23 @@ frees_if false w n free has = frees_keeps w n (not_used w n free) has
 abbrev is_refused : Option Errno → Bool
 is_refused refused = is_some refused
 
--- where nothing refuses, each test passed
+-- where nothing refuses, none applies
 pass_if : (b : Bool) (errno : Errno) (rest : Option Errno) → cond b (Some errno) rest ≡ None
     → (b ≡ false) × (rest ≡ None)
 pass_if true errno rest none = differ (sym (ap is_refused none))
 pass_if false errno rest none = (refl, none)
 
-passed : (t : Test) (tests : List Test) → first_failing (t ∷ tests) ≡ None
-    → (t.fails ≡ false) × (first_failing tests ≡ None)
-passed t tests none = pass_if t.fails t.with (first_failing tests) none
+passed : (r : Refusal) (refusals : List Refusal) → first_refusal (r ∷ refusals) ≡ None
+    → (r.applies ≡ false) × (first_refusal refusals ≡ None)
+passed r refusals none = pass_if r.applies r.with (first_refusal refusals) none
 
 disallocate_keeps : (w : WorldState) (p fd n : ℕ)
-    → first_failing (own_tests w p (event.Disallocate fd n)) ≡ None → HasTerminals w
+    → first_refusal (own_refusals w p (event.Disallocate fd n)) ≡ None → HasTerminals w
     → HasTerminals (all_done w (row w p (event.Disallocate fd n)).deeds)
 disallocate_keeps w p fd n accepted has =
-    let fourth : Test = test (not (n == 0) && is_in_use w n) Busy in
-    let third : Test = needs_console_or_0 n in
-    let second : Test = needs_right w p fd in
+    let fourth : Refusal = refusal (not (n == 0) && is_in_use w n) Busy in
+    let third : Refusal = needs_console_or_0 n in
+    let second : Refusal = needs_right w p fd in
     let after_first =
     (passed (needs_open w p fd) (second ∷ third ∷ fourth ∷ []) accepted).1 in
     let after_second = (passed second (third ∷ fourth ∷ []) after_first).1 in
@@ -294,7 +294,7 @@ disallocate_keeps w p fd n accepted has =
     frees_if (n == 0) w n (passed fourth [] after_third).0 has
 
 -- the deeds of an event that nothing refuses
-row_keeps : (w : WorldState) (p : ℕ) (e : Event) → first_failing (own_tests w p e) ≡ None
+row_keeps : (w : WorldState) (p : ℕ) (e : Event) → first_refusal (own_refusals w p e) ≡ None
     → HasTerminals w → HasTerminals (all_done w (row w p e).deeds)
 row_keeps w p (event.Scan b) accepted has =
     quiet_keeps w (row w p (event.Scan b)).deeds (scan_quiet w w.display.front b) has

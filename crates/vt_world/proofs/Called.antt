@@ -18,7 +18,7 @@ use Rattle.vt_world.specs.Rows.{freeing, out_deeds, row}
 use Rattle.vt_world.specs.State.{WorldState}
 use Rattle.vt_world.specs.Step.{Outcome}
 use Rattle.vt_world.specs.Terminals.{said_of, terminal_at}
-use Rattle.vt_world.specs.Tests.{is_empty, is_in_use, target}
+use Rattle.vt_world.specs.Refusals.{is_empty, is_in_use, target}
 use Rattle.vt_world.specs.Wanted.{wanted_in}
 
 -- the deeds of a list stand for calls where these are releases or set modes; w, p and e say of which

@@ -11,7 +11,7 @@ use Rattle.vt_world.specs.Deeds.{all_done}
 use Rattle.vt_world.specs.Rows.{freeing}
 use Rattle.vt_world.specs.State.{WorldState}
 use Rattle.vt_world.specs.Terminals.{TerminalState}
-use Rattle.vt_world.specs.Tests.{is_in_use}
+use Rattle.vt_world.specs.Refusals.{is_in_use}
 use Rattle.vt_world.proofs.Requests.{range-first}
 
 -- a console that is freed has no terminal

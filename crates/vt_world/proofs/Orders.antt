@@ -21,7 +21,7 @@ use Rattle.vt_world.specs.Inputs.{input_at}
 use Rattle.vt_world.specs.Rows.{freeing, out_deeds, row, waits_unless}
 use Rattle.vt_world.specs.State.{WorldState}
 use Rattle.vt_world.specs.Terminals.{said_of, terminal_at}
-use Rattle.vt_world.specs.Tests.{is_empty, is_in_use, target}
+use Rattle.vt_world.specs.Refusals.{is_empty, is_in_use, target}
 use Rattle.vt_world.specs.Typing.{ends_of, key_deeds, key_on, key_out_deeds, read_deeds, spawn_deeds, users}
 use Rattle.vt_world.specs.Wanted.{wanted_in}
 

@@ -9,7 +9,7 @@ use Rattle.vt_world.specs.Heard.{cleared}
 use Rattle.vt_world.specs.Rows.{Row, row}
 use Rattle.vt_world.specs.State.{WorldState}
 use Rattle.vt_world.specs.Step.{Outcome, answered, effect_after, effect_of, step, with_idle_rule}
-use Rattle.vt_world.specs.Tests.{common_tests, first_failing, own_tests}
+use Rattle.vt_world.specs.Refusals.{common_refusals, first_refusal, own_refusals}
 
 abbrev refusal : WorldState → Errno → Outcome
 refusal w errno = record { world = w; reply = reply.Err errno }
@@ -27,17 +27,17 @@ by_answer P w r None nothing all = all refl
 
 by_common : (P : List Deed → Outcome → Type 0) (w : WorldState) (p : ℕ) (e : Event)
     (refused : Option Errno) → ((errno : Errno) → P [] (refusal w errno))
-    → (first_failing (own_tests w p e) ≡ None → P (row w p e).deeds (outcome w (row w p e)))
+    → (first_refusal (own_refusals w p e) ≡ None → P (row w p e).deeds (outcome w (row w p e)))
     → P (deeds_after w p e refused) (answered (effect_after w p e refused))
 by_common P w p e (Some errno) nothing all = nothing errno
 by_common P w p e None nothing all =
-    by_answer P w (row w p e) (first_failing (own_tests w p e)) nothing all
+    by_answer P w (row w p e) (first_refusal (own_refusals w p e)) nothing all
 
 -- what holds where an event is refused, and where the deeds of its row are done, holds of a step
 pub by_step : (P : List Deed → Outcome → Type 0) (w : WorldState) (p : ℕ) (e : Event)
     → ((errno : Errno) → P [] (refusal (cleared w) errno))
-    → (first_failing (own_tests (cleared w) p e) ≡ None
+    → (first_refusal (own_refusals (cleared w) p e) ≡ None
     → P (row (cleared w) p e).deeds (outcome (cleared w) (row (cleared w) p e)))
     → P (event_deeds (cleared w) p e) (step w p e)
 by_step P w p e nothing all =
-    by_common P (cleared w) p e (first_failing (common_tests (cleared w) p e)) nothing all
+    by_common P (cleared w) p e (first_refusal (common_refusals (cleared w) p e)) nothing all

@@ -18,7 +18,7 @@ use Rattle.vt_world.specs.Rows.{freeing, out_deeds, row}
 use Rattle.vt_world.specs.State.{WorldState}
 use Rattle.vt_world.specs.Tapes.{items_of, tape_after, unless_refused}
 use Rattle.vt_world.specs.Terminals.{said_of, terminal_at}
-use Rattle.vt_world.specs.Tests.{is_empty, is_in_use, named, target}
+use Rattle.vt_world.specs.Refusals.{is_empty, is_in_use, named, target}
 
 abbrev pub Tape : Type 0
 Tape = Option (List Taped)

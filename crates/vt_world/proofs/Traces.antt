@@ -12,7 +12,7 @@ use Rattle.vt_world.proofs.Truths.{differ}
 use Rattle.vt_world.specs.Acts.{all_acts, event_acts, request_of}
 use Rattle.vt_world.specs.Deeds.{Deed, By, Asks, Own, OwnDeed, Raises, acted, all_done, done, own_done, requested}
 use Rattle.vt_world.specs.Heard.{cleared, heard, tell}
-use Rattle.vt_world.specs.Laws.{TellsActs, TracesTellActs, TracesTellDeeds, TracesTellHops, all_told, hops_of, is_raise, told_by, told_by_request}
+use Rattle.vt_world.specs.Laws.{TellsActs, TracesTellActs, TracesTellDeeds, TracesTellHops, all_marks, hops_of, is_raise, marks_by, marks_of_request}
 use Rattle.vt_world.specs.Rows.{row}
 use Rattle.vt_world.specs.State.{WorldState, core}
 use Rattle.vt_world.specs.Step.{Outcome, step}
@@ -68,23 +68,23 @@ adds_signals old new signals k acts raised adds = record {
   tells = tells_later k acts signals adds.more raised adds.tells;
 }
 
-tell_trace : (w : WorldState) (told : List Mark) → (tell w told).told.trace ≡ w.told.trace ++ told
-tell_trace w [] = sym (append-nil w.told.trace)
-tell_trace w (m ∷ told) = tell_trace (heard w m) told ∙ append_assoc w.told.trace (m ∷ []) told
+tell_trace : (w : WorldState) (told : List Mark) → (tell w told).trace.marks ≡ w.trace.marks ++ told
+tell_trace w [] = sym (append-nil w.trace.marks)
+tell_trace w (m ∷ told) = tell_trace (heard w m) told ∙ append_assoc w.trace.marks (m ∷ []) told
 
 by_act : (w : WorldState) (act : SwitchAct) (acts : List SwitchAct) (new : List Mark)
-    → Adds (acted w act).told.trace new (core (acted w act)) acts
-    → Adds w.told.trace new (core w) (act ∷ acts)
+    → Adds (acted w act).trace.marks new (core (acted w act)) acts
+    → Adds w.trace.marks new (core w) (act ∷ acts)
 by_act w act acts new adds =
     let k : Core = core_after (core w) act in
     let told : List Mark = marks (core w) act in
-    adds_act w.told.trace new (core w) act acts
+    adds_act w.trace.marks new (core w) act acts
     (subst₂ (λ (trace : List Mark) (core : Core). Adds trace new core acts)
     (tell_trace (record w { display = k.display }) told) (acted_core w act) adds)
 
 by_request : (w : WorldState) (wanted : Option ℕ) (acts : List SwitchAct) (new : List Mark)
-    → Adds (requested w wanted).told.trace new (core (requested w wanted)) acts
-    → Adds w.told.trace new (core w) (request_of wanted ++ acts)
+    → Adds (requested w wanted).trace.marks new (core (requested w wanted)) acts
+    → Adds w.trace.marks new (core w) (request_of wanted ++ acts)
 by_request w None acts new adds = adds
 by_request w (Some n) acts new adds = by_act w (Request n) acts new adds
 
@@ -94,36 +94,36 @@ raised_pass true p signal = refl
 raised_pass false p signal = refl
 
 by_own : (w : WorldState) (deed : OwnDeed) (acts : List SwitchAct) (new : List Mark)
-    → Adds (own_done w deed).told.trace new (core w) acts → Adds w.told.trace new (core w) acts
+    → Adds (own_done w deed).trace.marks new (core w) acts → Adds w.trace.marks new (core w) acts
 by_own w (Raises p signal) acts new adds =
     let signals : List Mark = raise (core w) p signal in
-    adds_signals w.told.trace new signals (core w) acts
+    adds_signals w.trace.marks new signals (core w) acts
     (raised_pass (is_live (core w) p) p signal)
     (subst (λ (trace : List Mark). Adds trace new (core w) acts) (tell_trace w signals) adds)
 by_own w deed acts new adds = adds
 
 deeds_tell : (w : WorldState) (deeds : List Deed)
-    → Adds w.told.trace (all_done w deeds).told.trace (core w) (all_acts w deeds)
-deeds_tell w [] = record { more = []; is = sym (append-nil w.told.trace); tells = refl }
+    → Adds w.trace.marks (all_done w deeds).trace.marks (core w) (all_acts w deeds)
+deeds_tell w [] = record { more = []; is = sym (append-nil w.trace.marks); tells = refl }
 deeds_tell w (By act ∷ deeds) =
-    by_act w act (all_acts (acted w act) deeds) (all_done (acted w act) deeds).told.trace
+    by_act w act (all_acts (acted w act) deeds) (all_done (acted w act) deeds).trace.marks
     (deeds_tell (acted w act) deeds)
 deeds_tell w (Asks wanted ∷ deeds) =
     let next : WorldState = done w (Asks wanted) in
     by_request w (wanted_in w.display wanted) (all_acts next deeds)
-    (all_done next deeds).told.trace (deeds_tell next deeds)
+    (all_done next deeds).trace.marks (deeds_tell next deeds)
 deeds_tell w (Own deed ∷ deeds) =
     let next : WorldState = own_done w deed in
     let acts : List SwitchAct = all_acts next deeds in
-    let new : List Mark = (all_done next deeds).told.trace in
+    let new : List Mark = (all_done next deeds).trace.marks in
     by_own w deed acts new
-    (subst (λ (k : Core). Adds next.told.trace new k acts) (own_core w deed) (deeds_tell next deeds))
+    (subst (λ (k : Core). Adds next.trace.marks new k acts) (own_core w deed) (deeds_tell next deeds))
 
 pub traces-tell-acts : TracesTellActs
 traces-tell-acts w p e =
     by_step
     (λ (deeds : List Deed) (after : Outcome).
-    TellsActs (core w) (all_acts (cleared w) deeds) after.world.told.trace)
+    TellsActs (core w) (all_acts (cleared w) deeds) after.world.trace.marks)
     w p e (λ errno. refl)
     (λ accepted.
     let deeds : List Deed = (row (cleared w) p e).deeds in
@@ -132,19 +132,19 @@ traces-tell-acts w p e =
 
 -- the trace of deeds is what they tell
 requested_trace : (w : WorldState) (wanted : Option ℕ)
-    → (requested w wanted).told.trace ≡ w.told.trace ++ told_by_request w wanted
-requested_trace w None = sym (append-nil w.told.trace)
+    → (requested w wanted).trace.marks ≡ w.trace.marks ++ marks_of_request w wanted
+requested_trace w None = sym (append-nil w.trace.marks)
 requested_trace w (Some n) =
     let k : Core = core_after (core w) (Request n) in
     tell_trace (record w { display = k.display }) (marks (core w) (Request n))
 
 own_trace : (w : WorldState) (deed : OwnDeed)
-    → (own_done w deed).told.trace ≡ w.told.trace ++ told_by w (Own deed)
+    → (own_done w deed).trace.marks ≡ w.trace.marks ++ marks_by w (Own deed)
 own_trace w (Raises p signal) = tell_trace w (raise (core w) p signal)
-own_trace w deed = sym (append-nil w.told.trace)
+own_trace w deed = sym (append-nil w.trace.marks)
 
 deed_trace : (w : WorldState) (deed : Deed)
-    → (done w deed).told.trace ≡ w.told.trace ++ told_by w deed
+    → (done w deed).trace.marks ≡ w.trace.marks ++ marks_by w deed
 deed_trace w (By act) =
     let k : Core = core_after (core w) act in
     tell_trace (record w { display = k.display }) (marks (core w) act)
@@ -152,18 +152,18 @@ deed_trace w (Asks wanted) = requested_trace w (wanted_in w.display wanted)
 deed_trace w (Own deed) = own_trace w deed
 
 deeds_trace : (w : WorldState) (deeds : List Deed)
-    → (all_done w deeds).told.trace ≡ w.told.trace ++ all_told w deeds
-deeds_trace w [] = sym (append-nil w.told.trace)
+    → (all_done w deeds).trace.marks ≡ w.trace.marks ++ all_marks w deeds
+deeds_trace w [] = sym (append-nil w.trace.marks)
 deeds_trace w (deed ∷ deeds) =
-    let rest : List Mark = all_told (done w deed) deeds in
+    let rest : List Mark = all_marks (done w deed) deeds in
     deeds_trace (done w deed) deeds
     ∙ ap (λ (trace : List Mark). trace ++ rest) (deed_trace w deed)
-    ∙ append_assoc w.told.trace (told_by w deed) rest
+    ∙ append_assoc w.trace.marks (marks_by w deed) rest
 
 pub traces-tell-deeds : TracesTellDeeds
 traces-tell-deeds w p e =
     by_step
-    (λ (deeds : List Deed) (after : Outcome). after.world.told.trace ≡ all_told (cleared w) deeds)
+    (λ (deeds : List Deed) (after : Outcome). after.world.trace.marks ≡ all_marks (cleared w) deeds)
     w p e (λ errno. refl)
     (λ accepted. deeds_trace (cleared w) (row (cleared w) p e).deeds)
 
@@ -195,4 +195,4 @@ told_hops k (act ∷ acts) trace tells =
 
 pub traces-tell-hops : TracesTellHops
 traces-tell-hops w p e =
-    told_hops (core w) (event_acts w p e) (step w p e).world.told.trace (traces-tell-acts w p e)
+    told_hops (core w) (event_acts w p e) (step w p e).world.trace.marks (traces-tell-acts w p e)

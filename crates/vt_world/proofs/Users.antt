@@ -5,20 +5,11 @@ use Rattle.std.proofs.lemmas.Grind.{get_or-set_at}
 use Rattle.std.proofs.lemmas.List.{get_or-set_other}
 use Rattle.std.specs.List.{range_with_len}
 use Rattle.std.specs.Prelude.{◌||◌, filter, nat_lt}
-use Rattle.vt_base.specs.Range.{in_range}
 use Rattle.vt_switch.specs.Acts.{End}
 use Rattle.vt_world.specs.Deeds.{By, Deed, all_done, done}
 use Rattle.vt_world.specs.State.{WorldState}
 use Rattle.vt_world.specs.Typing.{ends_of}
 use Rattle.vt_world.proofs.Requests.{range-first}
-
--- a number that is in a range is itself
-pub number-is : (low high n p : ℕ) → Some p ≡ in_range low high n → p ≡ n
-number-is low high n p is = by_test (nat_lt n low || nat_lt high n) is
-  where
-    by_test : (b : Bool) → Some p ≡ cond b None (Some n) → p ≡ n
-    by_test true is' = grind arith
-    by_test false is' = grind arith
 
 -- one flag more
 pub flags-more : (f : ℕ → Bool) (flags : List Bool) (n : ℕ) (b : Bool) → n < length flags → b ≡ f n

@@ -9,7 +9,7 @@ use Rattle.vt_world.specs.Heard.{cleared}
 use Rattle.vt_world.specs.Rows.{row}
 use Rattle.vt_world.specs.State.{WorldState}
 use Rattle.vt_world.specs.Step.{step}
-use Rattle.vt_world.specs.Tests.{common_tests, first_failing, own_tests}
+use Rattle.vt_world.specs.Refusals.{common_refusals, first_refusal, own_refusals}
 use Rattle.vt_world.specs.Wanted.{wanted_in}
 
 abbrev pub request_of : Option ℕ → List SwitchAct
@@ -33,12 +33,12 @@ deeds_unless None deeds = deeds
 deeds_unless (Some errno) deeds = []
 
 abbrev pub deeds_after : WorldState → ℕ → Event → Option Errno → List Deed
-deeds_after w p e None = deeds_unless (first_failing (own_tests w p e)) (row w p e).deeds
+deeds_after w p e None = deeds_unless (first_refusal (own_refusals w p e)) (row w p e).deeds
 deeds_after w p e (Some errno) = []
 
 -- what an event of a caller does, from the console on which nothing is told yet
 abbrev pub event_deeds : WorldState → ℕ → Event → List Deed
-event_deeds w p e = deeds_after w p e (first_failing (common_tests w p e))
+event_deeds w p e = deeds_after w p e (first_refusal (common_refusals w p e))
 
 abbrev pub event_acts : WorldState → ℕ → Event → List SwitchAct
 event_acts w p e = all_acts (cleared w) (event_deeds (cleared w) p e)

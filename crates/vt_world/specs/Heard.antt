@@ -4,7 +4,7 @@ use Rattle.vt_procs.specs.Callers.{Callers, ended}
 use Rattle.vt_procs.specs.Tickets.{raised, shown}
 use Rattle.vt_switch.specs.declared.mark.Mark.{Mark}
 use Rattle.vt_switch.specs.declared.mark.Mark.TheVariants as mark
-use Rattle.vt_world.specs.State.{WorldState, Told}
+use Rattle.vt_world.specs.State.{Trace, WorldState}
 
 -- a raised signal is pending, and ends its process's open ticket; open tickets for a console that
 -- gets the display end; and who ended is dead
@@ -19,15 +19,15 @@ abbrev pub hops_after : Mark → ℕ → ℕ
 hops_after (mark.Hopped hop) hops = min 18446744073709551615 (hops + 1)
 hops_after m hops = hops
 
-abbrev pub with_mark : Mark → Told → Told
-with_mark m told = record {
-  trace = told.trace ++ m ∷ [];
-  hops = hops_after m told.hops;
+abbrev pub with_mark : Mark → Trace → Trace
+with_mark m trace = record {
+  marks = trace.marks ++ m ∷ [];
+  hops = hops_after m trace.hops;
 }
 
 -- a mark is told
 abbrev pub heard : WorldState → Mark → WorldState
-heard w m = record w { callers = heard_by m w.callers; told = with_mark m w.told }
+heard w m = record w { callers = heard_by m w.callers; trace = with_mark m w.trace }
 
 -- one mark after another
 abbrev pub tell : WorldState → List Mark → WorldState
@@ -36,4 +36,4 @@ tell w (m ∷ marks) = tell (heard w m) marks
 
 -- nothing is told of the event yet
 abbrev pub cleared : WorldState → WorldState
-cleared w = record w { told = record w.told { trace = [] } }
+cleared w = record w { trace = record w.trace { marks = [] } }

@@ -24,7 +24,7 @@ use Rattle.vt_world.specs.State.{WorldState, HasTerminals, core}
 use Rattle.vt_world.specs.Step.{step}
 use Rattle.vt_world.specs.Tapes.{screen_of, tape_of}
 use Rattle.vt_world.specs.Terminals.{machine_of, terminal_at}
-use Rattle.vt_world.specs.Tests.{target}
+use Rattle.vt_world.specs.Refusals.{target}
 use Rattle.vt_world.specs.Wanted.{wanted_in}
 
 -- the console at a start
@@ -94,28 +94,28 @@ TellsActs k (act ∷ acts) trace =
 abbrev pub TracesTellActs : Type 0
 TracesTellActs =
     (w : WorldState) (p : ℕ) (e : Event)
-    → TellsActs (core w) (event_acts w p e) (step w p e).world.told.trace
+    → TellsActs (core w) (event_acts w p e) (step w p e).world.trace.marks
 
 -- what a deed tells: what its acts tell, or the signal that it raises beside them
-abbrev pub told_by_request : WorldState → Option ℕ → List Mark
-told_by_request w None = []
-told_by_request w (Some n) = marks (core w) (Request n)
+abbrev pub marks_of_request : WorldState → Option ℕ → List Mark
+marks_of_request w None = []
+marks_of_request w (Some n) = marks (core w) (Request n)
 
-abbrev pub told_by : WorldState → Deed → List Mark
-told_by w (By act) = marks (core w) act
-told_by w (Asks wanted) = told_by_request w (wanted_in w.display wanted)
-told_by w (Own (Raises p signal)) = raise (core w) p signal
-told_by w (Own deed) = []
+abbrev pub marks_by : WorldState → Deed → List Mark
+marks_by w (By act) = marks (core w) act
+marks_by w (Asks wanted) = marks_of_request w (wanted_in w.display wanted)
+marks_by w (Own (Raises p signal)) = raise (core w) p signal
+marks_by w (Own deed) = []
 
-abbrev pub all_told : WorldState → List Deed → List Mark
-all_told w [] = []
-all_told w (deed ∷ deeds) = told_by w deed ++ all_told (done w deed) deeds
+abbrev pub all_marks : WorldState → List Deed → List Mark
+all_marks w [] = []
+all_marks w (deed ∷ deeds) = marks_by w deed ++ all_marks (done w deed) deeds
 
 -- the trace of an event is what its deeds tell
 abbrev pub TracesTellDeeds : Type 0
 TracesTellDeeds =
     (w : WorldState) (p : ℕ) (e : Event)
-    → (step w p e).world.told.trace ≡ all_told (cleared w) (event_deeds (cleared w) p e)
+    → (step w p e).world.trace.marks ≡ all_marks (cleared w) (event_deeds (cleared w) p e)
 
 -- the hops of acts, one after another
 abbrev pub hops_of : Core → List SwitchAct → List Hop
@@ -126,7 +126,7 @@ hops_of k (act ∷ acts) = hops (marks k act) ++ hops_of (core_after k act) acts
 abbrev pub TracesTellHops : Type 0
 TracesTellHops =
     (w : WorldState) (p : ℕ) (e : Event)
-    → hops (step w p e).world.told.trace ≡ hops_of (core w) (event_acts w p e)
+    → hops (step w p e).world.trace.marks ≡ hops_of (core w) (event_acts w p e)
 
 -- p called to release console c, with this argument
 pub record CallsRelease (w : WorldState) (p : ℕ) (e : Event) (c arg : ℕ) : Type 0 where

@@ -4,6 +4,7 @@ pub mod Heard
 pub mod History
 pub mod Inputs
 pub mod Laws
+pub mod Refusals
 pub mod Rows
 pub mod Spare
 pub mod Start
@@ -12,6 +13,5 @@ pub mod Step
 pub mod StepLaws
 pub mod Tapes
 pub mod Terminals
-pub mod Tests
 pub mod Typing
 pub mod Wanted

@@ -32,7 +32,7 @@ use Rattle.vt_world.specs.Deeds.{Deed, Accepts, Alters, Asks, By, Clears, Collec
 use Rattle.vt_world.specs.Inputs.{input_at}
 use Rattle.vt_world.specs.State.{WorldState}
 use Rattle.vt_world.specs.Terminals.{TerminalState, said_of, terminal_at}
-use Rattle.vt_world.specs.Tests.{caller, is_empty, is_in_use, mode_of, named, target}
+use Rattle.vt_world.specs.Refusals.{caller, is_empty, is_in_use, mode_of, named, target}
 use Rattle.vt_world.specs.Typing.{scan_deeds, sent}
 use Rattle.vt_world.specs.declared.wanted.Wanted.TheVariants.{Last, Number}
 

@@ -21,5 +21,5 @@ opening rows cols consoles front starts tables = record {
   terminals = at_each consoles (new_terminal rows cols);
   inputs = replicate 64 new_input;
   board = record { scanner = start_scan; keyboard = start_keys; tables = tables };
-  told = record { trace = []; hops = 0 };
+  trace = record { marks = []; hops = 0 };
 }

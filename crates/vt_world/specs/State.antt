@@ -11,12 +11,12 @@ use Rattle.vt_world.specs.declared.input.Input.{Input}
 
 -- what the last event told of what it did to the display and to the callers, in order, and how often
 -- the display switched since the start
-pub record Told : Type 0 where
-  pub trace : List Mark
+pub record Trace : Type 0 where
+  pub marks : List Mark
   pub hops : ℕ
 
 -- the rows and columns of every new screen, the display with its consoles, the callers, the terminal
--- of each console, what the keyboard put into each, the keyboard with its tables, and what was told
+-- of each console, what the keyboard put into each, the keyboard with its tables, and the trace
 pub record WorldState : Type 0 where
   pub rows : ℕ
   pub cols : ℕ
@@ -25,7 +25,7 @@ pub record WorldState : Type 0 where
   pub terminals : List (Option TerminalState)
   pub inputs : List Input
   pub board : Board
-  pub told : Told
+  pub trace : Trace
 
 -- the display, and which callers live
 abbrev pub core : WorldState → Core

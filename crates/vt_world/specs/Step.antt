@@ -11,7 +11,7 @@ use Rattle.vt_world.specs.Deeds.{all_done}
 use Rattle.vt_world.specs.Heard.{cleared}
 use Rattle.vt_world.specs.Rows.{Row, row}
 use Rattle.vt_world.specs.State.{WorldState}
-use Rattle.vt_world.specs.Tests.{common_tests, first_failing, own_tests}
+use Rattle.vt_world.specs.Refusals.{common_refusals, first_refusal, own_refusals}
 
 -- what a row leaves, and whether it refuses or answers
 pub record Effect : Type 0 where
@@ -25,7 +25,7 @@ effect_of w None r = record { world = all_done w r.deeds; answer = Ok r.reply }
 
 -- the effect of a live caller's event that it may make now
 abbrev pub own_effect : WorldState → ℕ → Event → Effect
-own_effect w p e = effect_of w (first_failing (own_tests w p e)) (row w p e)
+own_effect w p e = effect_of w (first_refusal (own_refusals w p e)) (row w p e)
 
 -- what refuses every event comes before what refuses this one
 abbrev pub effect_after : WorldState → ℕ → Event → Option Errno → Effect
@@ -52,7 +52,7 @@ answered effect = finished effect.world effect.answer
 -- nothing is told of the event yet; then it has its effect, and is answered
 abbrev pub step : WorldState → ℕ → Event → Outcome
 step w p e =
-    answered (effect_after (cleared w) p e (first_failing (common_tests (cleared w) p e)))
+    answered (effect_after (cleared w) p e (first_refusal (common_refusals (cleared w) p e)))
 
 -- the world and the answer are those of the outcome
 abbrev pub Gives : Outcome → WorldState → Reply → Type 0

@@ -15,7 +15,7 @@ use Rattle.vt_switch.specs.Display.{is_allocated}
 use Rattle.vt_units.specs.Run.{Reached, reached}
 use Rattle.vt_world.specs.State.{WorldState}
 use Rattle.vt_world.specs.Step.{step}
-use Rattle.vt_world.specs.Tests.{target}
+use Rattle.vt_world.specs.Refusals.{target}
 
 -- these items, if console n is console c
 abbrev pub if_same : ℕ → ℕ → List Taped → List Taped

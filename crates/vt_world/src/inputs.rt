@@ -6,10 +6,10 @@ use in_queue::InQueue;
 use key_machine::KbState;
 use std::alloc::Global;
 use std::marker::Model;
-use vt_base::{Bytes, ConsoleNo, NoMemory};
+use vt_base::{Bytes, CONSOLES, ConsoleNo, NoMemory};
 
 /// The places for consoles by their numbers, of which 0 stays free.
-const PLACES: usize = 64;
+const PLACES: usize = CONSOLES + 1;
 
 /// What the keyboard puts into each console, by its number.
 #[derive(Debug, Drop)]

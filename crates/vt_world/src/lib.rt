@@ -11,7 +11,7 @@ mod spare;
 mod step;
 mod terminal;
 mod terminals;
-mod told;
+mod trace;
 mod wanted;
 mod world;
 

@@ -1,11 +1,11 @@
 ghost use Rattle.std.specs.Prelude.{◌≡◌, ◌≤◌, [], true, false, IfOk, length};
 ghost use Rattle.vt_events.specs.Charge.{greatest_reply, text_of_reply};
 ghost use Rattle.vt_procs.specs.Callers.{caller_at, is_live};
-ghost use Rattle.vt_procs.specs.Tickets.{told};
+ghost use Rattle.vt_procs.specs.Tickets.{waited_of};
 ghost use Rattle.vt_procs.specs.declared.waited.Waited.{Waited};
 ghost use Rattle.vt_world.specs.Spare.{Fits, HasGrid, extent, needed_grid, takes_spare};
 ghost use Rattle.vt_world.specs.Step.{Gives, Has, effect_after, finished, own_effect, plain_answer, step, text_of_answer};
-ghost use Rattle.vt_world.specs.Tests.{common_tests, ends_wait, error_of, first_failing, may_make};
+ghost use Rattle.vt_world.specs.Refusals.{common_refusals, ends_wait, error_of, first_refusal, may_make};
 
 use crate::spare::Spare;
 use crate::world::World;
@@ -13,9 +13,6 @@ use vt_base::{Bytes, CallerNo, Errno, VtMode};
 use vt_events::{Event, Reply};
 use vt_grid::Grid;
 use vt_procs::Waited;
-
-/// The keyboard's number.
-const KEYBOARD: u16 = 0;
 
 impl World {
     /// Takes the event of the caller, and answers it. It always answers, and takes no memory; the
@@ -31,7 +28,7 @@ impl World {
             reply,
             unused,
         } = spare;
-        self.told.clear();
+        self.trace.clear();
         let answer = self.take(caller, event, grid, reply);
         (self.finish(caller, answer), unused)
     }
@@ -58,11 +55,11 @@ impl World {
         grid: Option<Grid>,
         reply: Bytes,
     ) -> Result<Reply, Errno>
-        requires told { self.old.told.trace ≡ [] }
+        requires clear { self.old.trace.marks ≡ [] }
         requires grid { HasGrid (needed_grid (extent self.old.rows self.old.cols) event.now) grid }
         requires reply { greatest_reply event.now ≤ reply.room }
         ensures effect { Has (effect_after self.old p event.now
-            (first_failing (common_tests self.old p event.now))) self.new result }
+            (first_refusal (common_refusals self.old p event.now))) self.new result }
         ensures bytes { length (text_of_answer result) ≤ greatest_reply event.now }
     {
         self.may_take(p, event)?;
@@ -71,10 +68,10 @@ impl World {
 
     // What refuses any event of the caller.
     fn may_take(&self, caller: CallerNo, event: &Event) -> Result<(), Errno>
-        ensures first { error_of result ≡ first_failing (common_tests self.now caller event.now) }
+        ensures first { error_of result ≡ first_refusal (common_refusals self.now caller event.now) }
         ensures live { IfOk result (λ passed. is_live self.now.callers caller ≡ true) }
         ensures free { IfOk result (λ passed. ends_wait event.now ≡ false
-            → told (caller_at self.now.callers caller).waiting ≡ Waited.None) }
+            → waited_of (caller_at self.now.callers caller).waiting ≡ Waited.None) }
     {
         if !self.procs.live(caller) {
             return Err(Errno::Srch);
@@ -96,10 +93,10 @@ impl World {
         grid: Option<Grid>,
         reply: Bytes,
     ) -> Result<Reply, Errno>
-        requires told { self.old.told.trace ≡ [] }
+        requires clear { self.old.trace.marks ≡ [] }
         requires live { is_live self.old.callers p ≡ true }
         requires free { ends_wait event.now ≡ false
-            → told (caller_at self.old.callers p).waiting ≡ Waited.None }
+            → waited_of (caller_at self.old.callers p).waiting ≡ Waited.None }
         requires grid { HasGrid (needed_grid (extent self.old.rows self.old.cols) event.now) grid }
         requires reply { greatest_reply event.now ≤ reply.room }
         ensures effect { Has (own_effect self.old p event.now) self.new result }
@@ -122,10 +119,10 @@ impl World {
     // Carries out an event that needs nothing beside the world.
     fn carry_out_alone(&mut self, p: CallerNo, event: &Event) -> Result<Reply, Errno>
         requires alone { takes_spare event.now ≡ false }
-        requires told { self.old.told.trace ≡ [] }
+        requires clear { self.old.trace.marks ≡ [] }
         requires live { is_live self.old.callers p ≡ true }
         requires free { ends_wait event.now ≡ false
-            → told (caller_at self.old.callers p).waiting ≡ Waited.None }
+            → waited_of (caller_at self.old.callers p).waiting ≡ Waited.None }
         ensures { Has (own_effect self.old p event.now) self.new result }
     {
         match event {
@@ -196,9 +193,9 @@ fn may_make(caller: CallerNo, event: &Event) -> bool
     ensures { result ≡ may_make caller event.now }
 {
     match event {
-        Event::Scan(_) => caller.get() == KEYBOARD,
+        Event::Scan(_) => caller.is_keyboard(),
         Event::Exit => true,
-        _ => caller.get() != KEYBOARD,
+        _ => !caller.is_keyboard(),
     }
 }
 

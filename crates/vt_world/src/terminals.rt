@@ -6,13 +6,13 @@ ghost use Rattle.vt_world.specs.Terminals.{altered, new_terminal, said_of, termi
 use crate::terminal::Terminal;
 use std::alloc::Global;
 use std::marker::Model;
-use vt_base::{ConsoleNo, NoMemory, Size, is_among};
+use vt_base::{CONSOLES, ConsoleNo, NoMemory, Size, is_among};
 use vt_cells::Palette;
 use vt_grid::Grid;
 use vt_screen::{BLANK, Outs};
 
 /// The places for consoles by their numbers, of which 0 stays free.
-const PLACES: usize = 64;
+const PLACES: usize = CONSOLES + 1;
 
 /// What the consoles show, by their numbers, of which 0 stays free.
 #[derive(Debug, Drop)]

@@ -9,7 +9,7 @@ ghost use Rattle.vt_world.specs.Terminals.{bells_of, machine_of, terminal_at};
 use crate::board::Board;
 use crate::inputs::Inputs;
 use crate::terminals::Terminals;
-use crate::told::Told;
+use crate::trace::Trace;
 use in_queue::InQueue;
 use key_tables::KeyTables;
 use std::alloc::Global;
@@ -29,7 +29,7 @@ pub struct World {
     pub(crate) terminals: Terminals,
     pub(crate) inputs: Inputs,
     pub(crate) board: Board,
-    pub(crate) told: Told,
+    pub(crate) trace: Trace,
 }
 
 impl Model for World {
@@ -45,7 +45,7 @@ impl Model for World {
       terminals = w.terminals;
       inputs = w.inputs;
       board = w.board;
-      told = w.told;
+      trace = w.trace;
     } };
 
     ghost use Rattle.vt_world.specs.State.{HasTerminals};
@@ -58,7 +58,7 @@ impl Model for World {
       terminals = w.terminals;
       inputs = w.inputs;
       board = w.board;
-      told = w.told;
+      trace = w.trace;
     }) };
 }
 
@@ -73,7 +73,7 @@ impl World {
         let terminals = Terminals::start(alloc, c.size, c.consoles)?;
         let inputs = Inputs::start(alloc)?;
         let tables = t.copy(alloc)?;
-        let told = Told::start(alloc)?;
+        let trace = Trace::start(alloc)?;
         Ok(World {
             size: c.size,
             switch: Switch::start(c.front, c.consoles),
@@ -81,7 +81,7 @@ impl World {
             terminals,
             inputs,
             board: Board::start(tables),
-            told,
+            trace,
         })
     }
 
@@ -131,16 +131,16 @@ impl World {
     /// What the last event told of what it did to the display and to the callers, in order: nothing
     /// before the first one, or where it was refused.
     pub fn trace(&self) -> &[Mark]
-        ensures { result.now ≡ self.now.told.trace }
+        ensures { result.now ≡ self.now.trace.marks }
     {
-        self.told.trace()
+        self.trace.marks()
     }
 
     /// How often the display switched since the start, up to the greatest number.
     pub fn hops(&self) -> u64
-        ensures { result ≡ self.now.told.hops }
+        ensures { result ≡ self.now.trace.hops }
     {
-        self.told.hops()
+        self.trace.hops()
     }
 
     /// Whether the caller has an open ticket.

@@ -47,6 +47,21 @@ impl Ring {
         self.numbers[place]
     }
 
+    /// So many numbers from the one at `from` on, in two pieces.
+    pub fn pieces(&self, from: u8, count: u8) -> (&[u8], &[u8])
+        requires { from + count ≤ length self.now }
+        ensures { result.0.now ++ result.1.now ≡ take count (drop from self.now) }
+    {
+        let start = place_of(self.head, from, self.numbers.len());
+        let count = usize::from(count);
+        let room = self.numbers.len() - start;
+        if count <= room {
+            (&self.numbers[start..start + count], &self.numbers[..0])
+        } else {
+            (&self.numbers[start..], &self.numbers[..count - room])
+        }
+    }
+
     /// Moves all numbers up by `n` round the end.
     pub fn turn(&mut self, n: u8)
         requires { n ≤ length self.old }

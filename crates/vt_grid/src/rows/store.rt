@@ -1,6 +1,7 @@
-ghost use Rattle.std.specs.Prelude.{◌≡◌, ◌+◌, ◌-◌, ◌<◌, ◌≤◌, [], ◌∷◌, length, map, replicate, IfOk};
-ghost use Rattle.vt_grid.specs.Line.{cell_at, cut_at, inserted_at, reached, removed_at, written};
-ghost use Rattle.vt_grid.specs.Store.{IsFit, blank_store, line_at, part_turned, turned, with_line};
+ghost use Rattle.std.specs.Prelude.{◌≡◌, ◌+◌, ◌-◌, ◌<◌, ◌≤◌, [], ◌∷◌, ℕ, drop, length, map, replicate, slice_index, take, IfOk};
+ghost use Rattle.vt_grid.specs.Line.{blank_line, cell_at, cut_at, inserted_at, reached, removed_at, written};
+ghost use Rattle.vt_grid.specs.Ring.{cut_all};
+ghost use Rattle.vt_grid.specs.Store.{IsFit, blank_store, cleared, line_at, part_turned, turned, with_line};
 
 use super::Steps;
 use super::ring::Ring;
@@ -104,6 +105,23 @@ impl RowStore {
         let row = &mut self.rows[usize::from(number)];
         row.cut(len, tail);
         steps.add(1);
+    }
+
+    /// Stores no cell of so many rows from row `from` on: each of their cells is `c`. As many steps as
+    /// these rows.
+    pub(crate) fn clear<L: Ledger>(&mut self, from: u8, count: u8, c: Cell, steps: &mut Steps<L>)
+        requires { from + count ≤ self.old.rows }
+        ensures rows { self.new
+            ≡ record self.old { lines = cleared from count (blank_line c) self.old.lines } }
+        ensures steps { steps.new ≡ steps.old + count }
+    {
+        let _ = self.size();
+        if count == 1 {
+            self.cut(from, 0, c, steps);
+            return;
+        }
+        clear_rows(&mut self.rows, &self.ring, from, count, c);
+        steps.add(u64::from(count));
     }
 
     /// Moves all rows up by `n` round the end. One step.
@@ -245,5 +263,25 @@ impl RowStore {
         row.reach(cols);
         row.remove(x, count, c);
         steps.add(u64::from(cols - stored) + u64::from(cols - x));
+    }
+}
+
+// Makes the rows of so many numbers from the one at `from` on blank: each cell is `c`.
+fn clear_rows(rows: &mut [Row], ring: &Ring, from: u8, count: u8, c: Cell)
+    requires part { from + count ≤ length ring.now }
+    requires within { (y : ℕ) → y < length ring.now → slice_index ring.now y < length rows.old }
+    ensures { rows.new ≡ cut_all (take count (drop from ring.now)) c rows.old }
+{
+    let (front, back) = ring.pieces(from, count);
+    cut_rows(rows, front, c);
+    cut_rows(rows, back, c);
+}
+
+fn cut_rows(rows: &mut [Row], numbers: &[u8], c: Cell)
+    requires within { (i : ℕ) → i < length numbers.now → slice_index numbers.now i < length rows.old }
+    ensures { rows.new ≡ cut_all numbers.now c rows.old }
+{
+    for number in numbers {
+        rows[usize::from(*number)].cut(0, c);
     }
 }

@@ -103,9 +103,9 @@ impl Canvas {
     pub(super) fn move_to(&mut self, row: u32, column: u32)
         ensures { self.new ≡ moved row column self.old }
     {
-        let right = self.grid.size().cols - 1;
+        let right = u32::from(self.grid.size().cols) - 1;
         self.state.y = self.reached_row(row);
-        self.state.x = column.min(u32::from(right)) as u8;
+        self.state.x = column.min(right) as u8;
         self.state.wrap = false;
     }
 
@@ -116,6 +116,24 @@ impl Canvas {
     {
         let first = self.first_row();
         self.move_to(u32::from(first) + u32::from(row), column);
+    }
+
+    /// The cursor's row.
+    #[inline(always)]
+    pub(super) fn row(&self) -> u32
+        ensures row { result ≡ self.now.state.y }
+        ensures byte { result < 256 }
+    {
+        u32::from(self.state.y)
+    }
+
+    /// The cursor's column.
+    #[inline(always)]
+    pub(super) fn column(&self) -> u32
+        ensures column { result ≡ self.now.state.x }
+        ensures byte { result < 256 }
+    {
+        u32::from(self.state.x)
     }
 
     pub(super) fn home(&mut self)
@@ -139,14 +157,14 @@ impl Canvas {
         ensures row { result ≡ max (first_row self.now) (min row (last_row self.now)) }
         ensures within { result < self.now.sheet.rows }
     {
-        let last = self.grid.size().rows - 1;
+        let last = u32::from(self.grid.size().rows) - 1;
         if self.state.origin {
             return self
                 .state
                 .top
                 .max(row.min(u32::from(self.state.bottom)) as u8);
         }
-        row.min(u32::from(last)) as u8
+        row.min(last) as u8
     }
 
     fn scroll_region_up(&mut self)

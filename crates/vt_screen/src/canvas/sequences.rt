@@ -58,16 +58,15 @@ impl Canvas {
         ensures few { length outs.new ≤ length outs.old + 1 }
     {
         let n = count_of(first);
-        let (y, x) = (u32::from(self.state.y), u32::from(self.state.x));
         match last {
             b'@' => self.insert_characters(n),
-            b'A' => self.move_to(y.saturating_sub(u32::from(n)), x),
-            b'B' | b'e' => self.move_to(y + u32::from(n), x),
-            b'C' | b'a' => self.move_to(y, x + u32::from(n)),
-            b'D' => self.move_to(y, x.saturating_sub(u32::from(n))),
-            b'E' => self.move_to(y + u32::from(n), 0),
-            b'F' => self.move_to(y.saturating_sub(u32::from(n)), 0),
-            b'G' | b'`' => self.move_to(y, u32::from(n - 1)),
+            b'A' => self.move_to(self.row().saturating_sub(u32::from(n)), self.column()),
+            b'B' | b'e' => self.move_to(self.row() + u32::from(n), self.column()),
+            b'C' | b'a' => self.move_to(self.row(), self.column() + u32::from(n)),
+            b'D' => self.move_to(self.row(), self.column().saturating_sub(u32::from(n))),
+            b'E' => self.move_to(self.row() + u32::from(n), 0),
+            b'F' => self.move_to(self.row().saturating_sub(u32::from(n)), 0),
+            b'G' | b'`' => self.move_to(self.row(), u32::from(n - 1)),
             b'H' | b'f' => self.place(n - 1, u32::from(second.saturating_sub(1))),
             b'J' => self.erase_display(first),
             b'K' => self.erase_line(first),
@@ -76,7 +75,7 @@ impl Canvas {
             b'P' => self.delete_characters(n),
             b'X' => self.erase_characters(n),
             b'c' => self.say_device(first, outs),
-            b'd' => self.place(n - 1, x),
+            b'd' => self.place(n - 1, self.column()),
             b'g' => self.clear_stops(first),
             b'h' => self.set_modes(true, params),
             b'l' => self.set_modes(false, params),

@@ -1,60 +1,24 @@
 -- What `play` gives: the serial play of a session, and the console after it. This project's own:
 -- docs/SESSIONS.md.
-use Rattle.std.specs.Prelude.{◌≡◌, ◌<◌, ℕ, List, [], ◌++◌, length, Option, option_map, Ok, Err}
-use Rattle.session_order.specs.Ends.{Ends}
-use Rattle.vt_journal.specs.Room.{tail_at}
-use Rattle.session_order.specs.Follows.{Follows}
+use Rattle.std.specs.Prelude.{ℕ, List, Ok, Option}
 use Rattle.session_order.specs.Meant.{meant}
 use Rattle.session_order.specs.Serial.{IsSerial}
-use Rattle.session_run.specs.Final.{final_text}
-use Rattle.session_order.specs.Sessions.{stage_of, start_of}
+use Rattle.session_order.specs.Sessions.{stage_of}
 use Rattle.session_text.specs.Sessions.{IsSessionOf, SessionValue, SessionView, session_says}
-use Rattle.table_fields.specs.declared.fault.TableFault.{TableFault}
 use Rattle.vt_events.specs.declared.entry.Entry.{Entry}
-use Rattle.vt_journal.specs.Journal.{journal_text}
+use Rattle.vt_journal.specs.Room.{tail_at}
 use Rattle.vt_journal.specs.declared.full.Full.{Full}
-use Rattle.vt_journal.specs.declared.tail.Tail.{Tail}
-use Rattle.vt_journal.specs.declared.tail.Tail.TheVariants as tail
-use Rattle.vt_switch.specs.Law.{IsExplained, IsLawful}
+use Rattle.vt_tool.specs.Commands.Session.{IsPrinted, IsRightRun}
 use Rattle.vt_tool.specs.Outcome.{Outcome}
 use Rattle.vt_tool.specs.declared.status.Status.{Status}
-use Rattle.vt_tool.specs.declared.status.Status.TheVariants as status
-use Rattle.vt_world.specs.History.{IsLegal, replay}
-use Rattle.vt_world.specs.Laws.{moments}
-use Rattle.vt_world.specs.State.{core}
-use Rattle.vt_world.specs.Tapes.{screen_of, tape_of}
-use Rattle.vt_world.specs.Terminals.{machine_of, terminal_at}
 
--- Fine where all programs are over, and JournalFull where a call found no room
-abbrev pub status_of : Tail → Status
-status_of (tail.End events bytes) = status.Fine
-status_of (tail.Full full) = status.JournalFull full
-
--- a history of a session, and its end: it is legal, follows the programs and ends rightly; each hop of
--- the display was allowed, and what waits for it was asked for; and each screen is its console's tape,
--- run from the start screen
-pub record IsRightPlay (s : SessionView) (history : List Entry) (end : Tail) : Type 0 where
-  pub legal : IsLegal (start_of s) history
-  pub follows : Follows (start_of s) s.programs history
-  pub ends : Ends (stage_of s) history end
-  pub lawful : IsLawful (moments (start_of s) history)
-  pub explained :
-      IsExplained (length history) (core (replay (start_of s) history)) (moments (start_of s) history)
-  pub screens :
-      (c : ℕ) → c < 64
-      → machine_of (terminal_at (replay (start_of s) history).terminals c)
-      ≡ option_map (screen_of s.config.size.rows s.config.size.cols) (tape_of c (start_of s) history)
-
--- the serial play of a session, and what is printed of it: its journal, and the console after it
+-- the serial play of a session, printed
 pub record IsPlayed (s : SessionView) (status : Status) (written : List ℕ) : Type 0 where
   pub history : List Entry
   pub stop : Option Full
   pub serial : IsSerial (stage_of s) s.turns (record { history = meant history; stop = stop })
-  pub right : IsRightPlay s history (tail_at history stop)
-  pub status_is : status ≡ status_of (tail_at history stop)
-  pub text :
-      written
-      ≡ journal_text history (tail_at history stop) ++ final_text (replay (start_of s) history)
+  pub right : IsRightRun s history (tail_at history stop)
+  pub printed : IsPrinted s history (tail_at history stop) status written
 
 -- what is printed of the serial play of the session that the input says
 pub record GivesPlayed (input : List ℕ) (outcome : Outcome) : Type 0 where
@@ -63,10 +27,3 @@ pub record GivesPlayed (input : List ℕ) (outcome : Outcome) : Type 0 where
   pub said : session_says input (Ok value)
   pub is : IsSessionOf session value
   pub played : IsPlayed session outcome.status outcome.text
-
--- the session is refused at its first fault
-pub record GivesSessionFault (input : List ℕ) (outcome : Outcome) : Type 0 where
-  pub fault : TableFault
-  pub found : session_says input (Err fault)
-  pub refused :
-      outcome ≡ record { status = status.Refused fault.kind fault.part fault.item; text = [] }

@@ -17,6 +17,7 @@ use Rattle.scan_codes.specs.declared.key_event.KeyEvent.{KeyEvent}
 use Rattle.toml.specs.Data.{Members, get_member}
 use Rattle.vt_journal.specs.Hex.{hex_byte, hex_text}
 use Rattle.vt_journal.specs.Journal.{line_text}
+use Rattle.table_fields.specs.FaultCodes.{UNKNOWN_KEY}
 use Rattle.table_fields.specs.Checked.{check, fault, ◌>>=◌}
 use Rattle.table_fields.specs.Fields.{document_of, keymap_of, keys_pass, number_of, scan_bytes_of, text_of, texts_of}
 use Rattle.table_fields.specs.declared.fault.TableFault.{TableFault}
@@ -38,7 +39,7 @@ is_type_key key =
 -- the table of a document, in the order of the checks
 abbrev pub type_table_at : Members → Result TypeTable TableFault
 type_table_at members = do
-  known ← check (keys_pass is_type_key members) (fault 21 0 0)
+  known ← check (keys_pass is_type_key members) (fault UNKNOWN_KEY 0 0)
   mode ← number_of 0 1 3 0 4 (get_member (codes "mode") members)
   texts ← texts_of 0 2 (get_member (codes "include") members)
   keymap ← text_of 0 3 (get_member (codes "keymap") members)

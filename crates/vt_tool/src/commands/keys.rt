@@ -41,7 +41,8 @@ fn answer_listed(alloc: Global, tables: &KeyTables) -> Result<Answer, NoMemory>
     })
 }
 
-fn answer_refused(alloc: Global, fault: KeyFault) -> Answer
+/// The answer to a keymap text that is refused at this fault.
+pub fn answer_refused(alloc: Global, fault: KeyFault) -> Answer
     ensures status { result.status ≡ Status.Refused fault.kind fault.line fault.column }
     ensures text { result.text.bytes ≡ [] }
 {

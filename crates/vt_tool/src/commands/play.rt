@@ -1,16 +1,16 @@
 //! `play`: the journal of a session's serial play, and the console after it.
-ghost use Rattle.std.specs.Prelude.{◌≡◌, ◌⊎◌, IfOk, IsTrue};
-ghost use Rattle.vt_tool.specs.Commands.Play.{GivesPlayed, GivesSessionFault, IsPlayed, status_of};
+ghost use Rattle.std.specs.Prelude.{◌⊎◌, IfOk, IsTrue};
+ghost use Rattle.vt_tool.specs.Commands.Play.{GivesPlayed, IsPlayed};
+ghost use Rattle.vt_tool.specs.Commands.Session.{GivesSessionFault};
 ghost use Rattle.vt_tool.specs.Status.{is_own};
 
 use crate::answer::{Answer, refused};
-use crate::status::Status;
-use session_run::{add_final_text, play};
+use crate::commands::session::answer_run;
+use session_run::play;
 use session_text::{Session, read};
 use std::alloc::Global;
 use table_fields::TableError;
-use vt_base::{Bytes, NoMemory};
-use vt_journal::{Tail, print};
+use vt_base::NoMemory;
 
 /// The journal of the session's serial play, and the console after it; or the session's first fault.
 pub fn answer(alloc: Global, input: &[u8]) -> Result<Answer, NoMemory>
@@ -32,22 +32,6 @@ fn answer_played(alloc: Global, session: &Session) -> Result<Answer, NoMemory>
     ensures own { IfOk result (λ answer. IsTrue (is_own answer.status)) }
 {
     let run = play(alloc, session)?;
-    let end = run.tail();
-    let mut text = Bytes::new(alloc);
-    print(alloc, run.log.entries(), &end, &mut text)?;
-    add_final_text(alloc, &mut text, &run.world)?;
-    Ok(Answer {
-        status: status_of(&end),
-        text,
-    })
-}
-
-fn status_of(end: &Tail) -> Status
-    ensures status { result ≡ status_of end.now }
-    ensures own { IsTrue (is_own result) }
-{
-    match end {
-        Tail::End { .. } => Status::Fine,
-        Tail::Full(full) => Status::JournalFull(*full),
-    }
+    let answer = answer_run(alloc, &run)?;
+    Ok(answer)
 }

@@ -1,7 +1,7 @@
 //! `screen R C`: the rows of a screen after the input.
 ghost use Rattle.std.specs.Prelude.{◌≡◌, ◌≤◌, length, map, string_bytes, IfOk, IfSome, IsTrue};
 ghost use Rattle.vt_screen.specs.Run.{after, start};
-ghost use Rattle.vt_tool.specs.Commands.{IsFit};
+ghost use Rattle.vt_tool.specs.Commands.{IsFit, IsSerial};
 ghost use Rattle.vt_tool.specs.Commands.Screen.{GivesRows, screen_limit, side};
 ghost use Rattle.vt_tool.specs.Status.{is_own};
 ghost use Rattle.vt_tool.specs.Words.{if_two_numbers};
@@ -21,6 +21,7 @@ use vt_screen::{BLANK, Emu};
 pub fn parse(words: &[String]) -> Option<Command>
     ensures command { result
         ≡ if_two_numbers side side command.Screen (map string_bytes words.now) }
+    ensures serial { IfSome result (λ command. IsSerial command) }
     ensures fit { IfSome result (λ command. IsFit command) }
 {
     let [rows, cols] = words else { return None };

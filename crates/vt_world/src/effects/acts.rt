@@ -7,19 +7,19 @@ ghost use Rattle.vt_switch.specs.Moments.{hop_marks};
 ghost use Rattle.vt_world.specs.Deeds.{By, done};
 ghost use Rattle.vt_world.specs.Heard.{tell};
 ghost use Rattle.vt_world.specs.State.{core};
-ghost use Rattle.vt_world.specs.Tests.{is_taken};
+ghost use Rattle.vt_world.specs.Refusals.{is_taken};
 
 use crate::World;
-use crate::told::TRACE_MARKS;
+use crate::trace::TRACE_MARKS;
 use vt_base::{CallerNo, ConsoleNo, VtMode};
 use vt_switch::{Asked, Hop};
 
 impl World {
     /// Requests the display for the console, if that is allocated.
     pub(crate) fn request(&mut self, n: ConsoleNo)
-        requires { length self.old.told.trace + 3 ≤ TRACE_MARKS }
+        requires { length self.old.trace.marks + 3 ≤ TRACE_MARKS }
         ensures state { self.new ≡ done self.old (By (Request n)) }
-        ensures room { length self.new.told.trace ≤ length self.old.told.trace + 3 }
+        ensures room { length self.new.trace.marks ≤ length self.old.trace.marks + 3 }
     {
         let allocated = self.switch.allocated(n);
         let asked = self.switch.request(n);
@@ -36,7 +36,7 @@ impl World {
 
     /// The answer of `p` for the console, and whether it makes sense.
     pub(crate) fn release_console(&mut self, c: ConsoleNo, p: CallerNo, arg: u16) -> bool
-        requires { length self.old.told.trace + 2 ≤ TRACE_MARKS }
+        requires { length self.old.trace.marks + 2 ≤ TRACE_MARKS }
         ensures accepted { result ≡ is_taken (released self.old.display c p arg) }
         ensures state { self.new ≡ done self.old (By (Release c p arg)) }
     {
@@ -75,9 +75,9 @@ impl World {
 
     /// The end of a caller.
     pub(crate) fn end(&mut self, p: CallerNo)
-        requires { length self.old.told.trace + 3 ≤ TRACE_MARKS }
+        requires { length self.old.trace.marks + 3 ≤ TRACE_MARKS }
         ensures state { self.new ≡ done self.old (By (End p)) }
-        ensures room { length self.new.told.trace ≤ length self.old.told.trace + 3 }
+        ensures room { length self.new.trace.marks ≤ length self.old.trace.marks + 3 }
     {
         let hop = self.switch.leave(p);
         self.hear_end(p);
@@ -86,9 +86,9 @@ impl World {
 
     // The display changed hands, if it did.
     fn hopped_if(&mut self, hop: &Option<Hop>)
-        requires { length self.old.told.trace + 2 ≤ TRACE_MARKS }
+        requires { length self.old.trace.marks + 2 ≤ TRACE_MARKS }
         ensures state { self.new ≡ tell self.old (hop_marks (core self.old) hop.now) }
-        ensures room { length self.new.told.trace ≤ length self.old.told.trace + 2 }
+        ensures room { length self.new.trace.marks ≤ length self.old.trace.marks + 2 }
     {
         if let Some(hop) = hop {
             self.hopped(hop);

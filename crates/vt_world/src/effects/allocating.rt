@@ -5,14 +5,11 @@ ghost use Rattle.vt_switch.specs.Display.{is_allocated};
 ghost use Rattle.vt_world.specs.Deeds.{all_done};
 ghost use Rattle.vt_world.specs.Rows.{allocating, disallocating, freeing};
 ghost use Rattle.vt_world.specs.Spare.{HasSize, extent};
-ghost use Rattle.vt_world.specs.Tests.{is_in_use};
+ghost use Rattle.vt_world.specs.Refusals.{is_in_use};
 
 use crate::World;
-use vt_base::ConsoleNo;
+use vt_base::{CONSOLES, ConsoleNo};
 use vt_grid::Grid;
-
-/// The greatest number of a console.
-const LAST_CONSOLE: u16 = 63;
 
 impl World {
     /// Allocates the console, if it isn't yet, with a start screen on this grid.
@@ -33,7 +30,7 @@ impl World {
     pub(crate) fn free_unused(&mut self)
         ensures { self.new ≡ all_done self.old (disallocating self.old 0) }
     {
-        for n in 1..LAST_CONSOLE + 1 {
+        for n in 1..CONSOLES as u16 + 1 {
             self.free_if_unused(n);
         }
     }
@@ -44,9 +41,7 @@ impl World {
         ensures { self.new ≡ (if is_in_use self.old n then self.old
             else all_done self.old (freeing n)) }
     {
-        let Some(c) = ConsoleNo::new(n) else {
-            unreachable!()
-        };
+        let c = ConsoleNo::numbered(n);
         if !self.in_use(c) {
             self.free(c);
         }

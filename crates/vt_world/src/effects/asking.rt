@@ -6,16 +6,16 @@ ghost use Rattle.vt_world.specs.Deeds.{Asks, done};
 ghost use Rattle.vt_world.specs.Wanted.{downwards, falling, upwards, wanted_in};
 
 use crate::World;
-use crate::told::TRACE_MARKS;
+use crate::trace::TRACE_MARKS;
 use crate::wanted::Wanted;
 use vt_base::ConsoleNo;
 
 impl World {
     /// Requests the console that is wanted, if it is one.
     pub(crate) fn ask(&mut self, wanted: Wanted)
-        requires { length self.old.told.trace + 3 ≤ TRACE_MARKS }
+        requires { length self.old.trace.marks + 3 ≤ TRACE_MARKS }
         ensures state { self.new ≡ done self.old (Asks wanted) }
-        ensures room { length self.new.told.trace ≤ length self.old.told.trace + 3 }
+        ensures room { length self.new.trace.marks ≤ length self.old.trace.marks + 3 }
     {
         if let Some(c) = self.wanted(wanted) {
             self.request(c);
@@ -92,9 +92,7 @@ impl World {
         requires high { n ≤ 63 }
         ensures { result ≡ (if is_allocated self.now.display n then Some n else None) }
     {
-        let Some(c) = ConsoleNo::new(n) else {
-            unreachable!()
-        };
+        let c = ConsoleNo::numbered(n);
         if self.switch.allocated(c) {
             Some(c)
         } else {

@@ -5,19 +5,16 @@ ghost use Rattle.vt_switch.specs.Acts.{End};
 ghost use Rattle.vt_world.specs.Typing.{attention_deeds, sent, spawn_deeds, uses};
 
 use crate::World;
-use crate::told::TRACE_MARKS;
-use vt_base::{CallerNo, ConsoleNo, Signal};
+use crate::trace::TRACE_MARKS;
+use vt_base::{CALLERS, CallerNo, ConsoleNo, Signal};
 
 /// SIGKILL, which ends its process (signal(7)).
 pub(crate) const KILL: u16 = 9;
 
-/// The callers by their numbers, of which 0 is the keyboard.
-const CALLERS: usize = 65;
-
 impl World {
     /// A signal is sent.
     pub(crate) fn send(&mut self, p: CallerNo, signal: Signal)
-        requires { length self.old.told.trace + 3 ≤ TRACE_MARKS }
+        requires { length self.old.trace.marks + 3 ≤ TRACE_MARKS }
         ensures state { self.new ≡ done self.old (sent p signal) }
     {
         if signal.get() == KILL {
@@ -29,7 +26,7 @@ impl World {
 
     /// The key signal goes to who accepts it.
     pub(crate) fn send_key_signal(&mut self)
-        requires { length self.old.told.trace + 3 ≤ TRACE_MARKS }
+        requires { length self.old.trace.marks + 3 ≤ TRACE_MARKS }
         ensures { self.new ≡ all_done self.old (spawn_deeds self.old.callers.accepter) }
     {
         if let Some((p, signal)) = self.procs.accepter() {
@@ -39,7 +36,7 @@ impl World {
 
     /// The attention key: every process that uses the console ends, and that shows text.
     pub(crate) fn secure_attention(&mut self, n: ConsoleNo)
-        requires { self.old.told.trace ≡ [] }
+        requires { self.old.trace.marks ≡ [] }
         ensures { self.new ≡ all_done self.old (attention_deeds self.old n) }
     {
         let users = self.users(n);
@@ -52,13 +49,11 @@ impl World {
     // The end of the caller of a number, if it uses the console.
     fn end_user(&mut self, p: usize, uses: bool)
         requires number { p ≤ 64 }
-        requires room { length self.old.told.trace + 3 ≤ TRACE_MARKS }
+        requires room { length self.old.trace.marks + 3 ≤ TRACE_MARKS }
         ensures state { self.new ≡ (if uses then done self.old (By (End p)) else self.old) }
-        ensures room { length self.new.told.trace ≤ length self.old.told.trace + 3 }
+        ensures room { length self.new.trace.marks ≤ length self.old.trace.marks + 3 }
     {
-        let Some(p) = CallerNo::new(p as u16) else {
-            unreachable!()
-        };
+        let p = CallerNo::numbered(p as u16);
         if uses {
             self.end(p);
         }
@@ -80,9 +75,7 @@ impl World {
         requires { p ≤ 64 }
         ensures { result ≡ uses self.now n p }
     {
-        let Some(p) = CallerNo::new(p as u16) else {
-            unreachable!()
-        };
+        let p = CallerNo::numbered(p as u16);
         self.procs.live(p) && (self.switch.owns(p, n) || self.procs.has_open(p, n))
     }
 }

@@ -7,54 +7,54 @@ ghost use Rattle.vt_world.specs.Heard.{heard, tell};
 ghost use Rattle.vt_world.specs.State.{core};
 
 use crate::World;
-use crate::told::TRACE_MARKS;
+use crate::trace::TRACE_MARKS;
 use vt_base::{CallerNo, ConsoleNo, Signal};
 use vt_switch::{Handling, Hop, Mark};
 
 impl World {
     /// The display was requested for the console.
     pub(crate) fn hear_asked(&mut self, n: ConsoleNo)
-        requires { length self.old.told.trace < TRACE_MARKS }
+        requires { length self.old.trace.marks < TRACE_MARKS }
         ensures { self.new ≡ heard self.old (Mark.Asked n) }
     {
-        self.told.push(&Mark::Asked(n));
+        self.trace.push(&Mark::Asked(n));
     }
 
     /// The caller died.
     pub(crate) fn hear_end(&mut self, p: CallerNo)
-        requires { length self.old.told.trace < TRACE_MARKS }
+        requires { length self.old.trace.marks < TRACE_MARKS }
         ensures { self.new ≡ heard self.old (Mark.Ended p) }
     {
         self.procs.end(p);
-        self.told.push(&Mark::Ended(p));
+        self.trace.push(&Mark::Ended(p));
     }
 
     /// The display changed hands.
     fn hear_hop(&mut self, hop: &Hop)
-        requires { length self.old.told.trace < TRACE_MARKS }
+        requires { length self.old.trace.marks < TRACE_MARKS }
         ensures { self.new ≡ heard self.old (Mark.Hopped hop.now) }
     {
         self.procs.shown(hop.to);
-        self.told.push(&Mark::Hopped(*hop));
+        self.trace.push(&Mark::Hopped(*hop));
     }
 
     /// A signal is raised to a caller, if it lives.
     pub(crate) fn raise(&mut self, p: CallerNo, signal: Signal)
-        requires { length self.old.told.trace < TRACE_MARKS }
+        requires { length self.old.trace.marks < TRACE_MARKS }
         ensures state { self.new ≡ tell self.old (raise (core self.old) p signal) }
-        ensures room { length self.new.told.trace ≤ length self.old.told.trace + 1 }
+        ensures room { length self.new.trace.marks ≤ length self.old.trace.marks + 1 }
     {
         if self.procs.live(p) {
             self.procs.raise(p, signal);
-            self.told.push(&Mark::Raised { to: p, signal });
+            self.trace.push(&Mark::Raised { to: p, signal });
         }
     }
 
     /// The display changed hands, and the process that handles the new front is told by its signal.
     pub(crate) fn hopped(&mut self, hop: &Hop)
-        requires { length self.old.told.trace + 2 ≤ TRACE_MARKS }
+        requires { length self.old.trace.marks + 2 ≤ TRACE_MARKS }
         ensures state { self.new ≡ tell self.old (hop_marks (core self.old) (Some hop.now)) }
-        ensures room { length self.new.told.trace ≤ length self.old.told.trace + 2 }
+        ensures room { length self.new.trace.marks ≤ length self.old.trace.marks + 2 }
     {
         self.hear_hop(hop);
         match &self.switch.handling(hop.to) {

@@ -21,7 +21,7 @@ const START_MODES: KeyModes = KeyModes {
 impl World {
     /// A byte of the keyboard, with console `n` in front.
     pub(crate) fn scan_on(&mut self, n: ConsoleNo, b: u8)
-        requires { self.old.told.trace ≡ [] }
+        requires { self.old.trace.marks ≡ [] }
         ensures { self.new ≡ all_done self.old (scan_deeds self.old n b) }
     {
         if self.inputs.keys(n).mode == mode::RAW {
@@ -33,7 +33,7 @@ impl World {
 
     // The byte is read, and the key that it ends is typed.
     fn read(&mut self, n: ConsoleNo, b: u8)
-        requires { self.old.told.trace ≡ [] }
+        requires { self.old.trace.marks ≡ [] }
         ensures { self.new ≡ all_done self.old (read_deeds self.old n b) }
     {
         if let Some(e) = self.board.scanner.push(b) {
@@ -43,7 +43,7 @@ impl World {
 
     // A key goes down or up, with console `n` in front.
     fn type_key(&mut self, n: ConsoleNo, e: KeyEvent)
-        requires { self.old.told.trace ≡ [] }
+        requires { self.old.trace.marks ≡ [] }
         ensures { self.new ≡ all_done self.old (typed_deeds self.old n (key_on self.old n e)) }
     {
         let mut keys = self.inputs.keys(n);
@@ -74,7 +74,7 @@ impl World {
 
     // What a key says; `n` is the console that was in front.
     fn take_key(&mut self, n: ConsoleNo, out: &KeyOut)
-        requires { self.old.told.trace ≡ [] }
+        requires { self.old.trace.marks ≡ [] }
         ensures { self.new ≡ all_done self.old (key_out_deeds self.old n out.now) }
     {
         match out {

@@ -5,7 +5,7 @@ ghost use Rattle.vt_world.specs.Deeds.{all_done};
 ghost use Rattle.vt_world.specs.Rows.{out_deeds, write_deeds};
 
 use crate::World;
-use crate::told::TRACE_MARKS;
+use crate::trace::TRACE_MARKS;
 use crate::wanted::Wanted;
 use vt_base::ConsoleNo;
 use vt_screen::{FEED_BYTES, Out, Outs, any_cut};
@@ -13,7 +13,7 @@ use vt_screen::{FEED_BYTES, Out, Outs, any_cut};
 impl World {
     /// Runs a text on a console, and does what it says.
     pub(crate) fn run(&mut self, c: ConsoleNo, b: &[u8])
-        requires told { self.old.told.trace ≡ [] }
+        requires clear { self.old.trace.marks ≡ [] }
         requires short { length b.now ≤ 4096 }
         ensures { self.new ≡ all_done self.old (write_deeds self.old c b.now) }
     {
@@ -31,9 +31,9 @@ impl World {
     // Runs at most 64 bytes on a console, and does what they say. What stands in `outs` is forgotten.
     fn run_piece(&mut self, c: ConsoleNo, b: &[u8], outs: &mut Outs)
         requires short { length b.now ≤ 64 }
-        requires room { length self.old.told.trace + 3 * length b.now ≤ TRACE_MARKS }
+        requires room { length self.old.trace.marks + 3 * length b.now ≤ TRACE_MARKS }
         ensures state { self.new ≡ all_done self.old (write_deeds self.old c b.now) }
-        ensures room { length self.new.told.trace ≤ length self.old.told.trace + 3 * length b.now }
+        ensures room { length self.new.trace.marks ≤ length self.old.trace.marks + 3 * length b.now }
     {
         outs.clear();
         self.terminals.write(c, b, outs);
@@ -42,9 +42,9 @@ impl World {
 
     // What a text says on a console, in order.
     fn take_outs(&mut self, c: ConsoleNo, outs: &[Out])
-        requires { length self.old.told.trace + 3 * length outs.now ≤ TRACE_MARKS }
+        requires { length self.old.trace.marks + 3 * length outs.now ≤ TRACE_MARKS }
         ensures state { self.new ≡ all_done self.old (flat_map (out_deeds c) outs.now) }
-        ensures room { length self.new.told.trace ≤ length self.old.told.trace + 3 * length outs.now }
+        ensures room { length self.new.trace.marks ≤ length self.old.trace.marks + 3 * length outs.now }
     {
         for out in outs {
             self.take_out(c, out);
@@ -52,9 +52,9 @@ impl World {
     }
 
     fn take_out(&mut self, c: ConsoleNo, out: &Out)
-        requires { length self.old.told.trace + 3 ≤ TRACE_MARKS }
+        requires { length self.old.trace.marks + 3 ≤ TRACE_MARKS }
         ensures state { self.new ≡ all_done self.old (out_deeds c out.now) }
-        ensures room { length self.new.told.trace ≤ length self.old.told.trace + 3 }
+        ensures room { length self.new.trace.marks ≤ length self.old.trace.marks + 3 }
     {
         match out {
             Out::Report(text) => self.put(c, text.as_slice()),

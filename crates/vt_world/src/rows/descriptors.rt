@@ -6,15 +6,9 @@ ghost use Rattle.vt_world.specs.Step.{Has, own_effect, text_of_answer};
 
 use crate::World;
 use crate::rows::answers::emptied;
-use vt_base::{Bytes, CallerNo, Errno};
+use vt_base::{Bytes, CallerNo, Errno, PIECE_BYTES};
 use vt_events::Reply;
 use vt_grid::Grid;
-
-/// The most bytes of one write. This project's own.
-const WRITE_LIMIT: usize = 4_096;
-
-/// The most bytes of one read. This project's own.
-const READ_LIMIT: u16 = 4_096;
 
 impl World {
     /// Opens console `n`, or the one in front where `n` is 0, at the lowest free descriptor.
@@ -39,11 +33,11 @@ impl World {
 
     /// Writes the bytes on the screen of the descriptor's console.
     pub(crate) fn write(&mut self, p: CallerNo, fd: u16, b: &Bytes) -> Result<Reply, Errno>
-        requires { self.old.told.trace ≡ [] }
+        requires { self.old.trace.marks ≡ [] }
         ensures { Has (own_effect self.old p (event.Write fd b.now)) self.new result }
     {
         let text = b.as_slice();
-        let c = self.gettable(p, fd, text.len() <= WRITE_LIMIT)?;
+        let c = self.gettable(p, fd, text.len() <= PIECE_BYTES)?;
         self.run(c, text);
         Ok(Reply::Num(text.len() as u32))
     }
@@ -60,7 +54,7 @@ impl World {
         ensures effect { Has (own_effect self.old p (event.ReadIn fd most)) self.new result }
         ensures bytes { length (text_of_answer result) ≤ min most 4096 }
     {
-        let c = self.gettable(p, fd, 1 <= most && most <= READ_LIMIT)?;
+        let c = self.gettable(p, fd, 1 <= most && usize::from(most) <= PIECE_BYTES)?;
         if self.inputs.queue(c).is_empty() {
             return Err(Errno::Again);
         }

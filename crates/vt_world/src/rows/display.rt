@@ -7,15 +7,12 @@ ghost use Rattle.vt_switch.specs.Display.{is_allocated};
 ghost use Rattle.vt_world.specs.Rows.{allocated_mask, lowest_unopened};
 ghost use Rattle.vt_world.specs.Spare.{HasGrid, extent, is_console, needed_grid};
 ghost use Rattle.vt_world.specs.Step.{Has, own_effect};
-ghost use Rattle.vt_world.specs.Tests.{named};
+ghost use Rattle.vt_world.specs.Refusals.{named};
 
 use crate::World;
-use vt_base::{CallerNo, ConsoleNo, Errno, VtMode};
+use vt_base::{CONSOLES, CallerNo, ConsoleNo, Errno, VtMode};
 use vt_events::Reply;
 use vt_grid::Grid;
-
-/// The greatest number of a console.
-const LAST: u16 = 63;
 
 impl World {
     /// Requests the display for console `n` (ioctl_console(2), VT_ACTIVATE).
@@ -26,7 +23,7 @@ impl World {
         n: u16,
         grid: Option<Grid>,
     ) -> Result<Reply, Errno>
-        requires told { self.old.told.trace ≡ [] }
+        requires clear { self.old.trace.marks ≡ [] }
         requires grid { HasGrid (needed_grid (extent self.old.rows self.old.cols) (event.Activate fd n)) grid }
         ensures { Has (own_effect self.old p (event.Activate fd n)) self.new result }
     {
@@ -136,7 +133,7 @@ impl World {
     /// The answer of the process that handles the descriptor's console (ioctl_console(2),
     /// VT_RELDISP).
     pub(crate) fn release(&mut self, p: CallerNo, fd: u16, arg: u16) -> Result<Reply, Errno>
-        requires { self.old.told.trace ≡ [] }
+        requires { self.old.trace.marks ≡ [] }
         ensures { Has (own_effect self.old p (event.RelDisp fd arg)) self.new result }
     {
         let c = self.handled(p, fd)?;
@@ -161,7 +158,7 @@ impl World {
     fn lowest_unopened(&self) -> u16
         ensures { result ≡ lowest_unopened self.now }
     {
-        self.first_unopened(1, LAST).unwrap_or(0)
+        self.first_unopened(1, CONSOLES as u16).unwrap_or(0)
     }
 
     // The lowest of so many consoles that nobody has open.
@@ -180,12 +177,10 @@ impl World {
 
     fn is_opened(&self, n: u16) -> bool
         requires low { 1 ≤ n }
-        requires high { n ≤ LAST }
+        requires high { n ≤ 63 }
         ensures { result ≡ is_opened self.now.callers n }
     {
-        let Some(c) = ConsoleNo::new(n) else {
-            unreachable!()
-        };
+        let c = ConsoleNo::numbered(n);
         self.procs.opened(c)
     }
 
@@ -193,7 +188,7 @@ impl World {
         ensures { result ≡ allocated_mask self.now.display }
     {
         let mut mask = 0;
-        for k in 0..LAST {
+        for k in 0..CONSOLES as u16 {
             mask += self.allocated_bit(k + 1);
         }
         mask
@@ -202,13 +197,11 @@ impl World {
     // The bit of a console, where it is allocated.
     fn allocated_bit(&self, n: u16) -> u64
         requires low { 1 ≤ n }
-        requires high { n ≤ LAST }
+        requires high { n ≤ 63 }
         ensures bit { result ≡ (if is_allocated self.now.display n then 2 ^ n else 0) }
         ensures bound { result ≤ 2 ^ n }
     {
-        let Some(c) = ConsoleNo::new(n) else {
-            unreachable!()
-        };
+        let c = ConsoleNo::numbered(n);
         if self.switch.allocated(c) { 1 << n } else { 0 }
     }
 }

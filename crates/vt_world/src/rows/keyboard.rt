@@ -5,7 +5,7 @@ ghost use Rattle.vt_events.specs.declared.event.Event.TheVariants as event;
 ghost use Rattle.vt_world.specs.Deeds.{Keyed, Own, done};
 ghost use Rattle.vt_world.specs.Rows.{lights_of};
 ghost use Rattle.vt_world.specs.Step.{Has, own_effect, text_of_answer};
-ghost use Rattle.vt_world.specs.Tests.{is_flags, is_keycode};
+ghost use Rattle.vt_world.specs.Refusals.{is_flags, is_keycode};
 
 use crate::World;
 use crate::rows::answers::{emptied, text_reply};
@@ -30,7 +30,7 @@ const MOST_BYTES: usize = 255;
 impl World {
     /// A byte of the keyboard.
     pub(crate) fn scan(&mut self, b: u8) -> Result<Reply, Errno>
-        requires { self.old.told.trace ≡ [] }
+        requires { self.old.trace.marks ≡ [] }
         ensures { Has (own_effect self.old 0 (event.Scan b)) self.new result }
     {
         let front = self.switch.front();

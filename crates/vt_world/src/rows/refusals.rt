@@ -1,7 +1,7 @@
 //! What refuses an event, where several rows share it.
 ghost use Rattle.std.specs.Prelude.{◌≡◌, [], ◌∷◌, IfOk, Some, true};
 ghost use Rattle.vt_procs.specs.Callers.{console_of};
-ghost use Rattle.vt_world.specs.Tests.{error_of, first_failing, gets, may_handle, needs_open, needs_privilege, needs_right, sets};
+ghost use Rattle.vt_world.specs.Refusals.{error_of, first_refusal, gets, may_handle, needs_open, needs_privilege, needs_right, sets};
 
 use crate::World;
 use vt_base::{CallerNo, ConsoleNo, Errno};
@@ -10,7 +10,7 @@ impl World {
     /// The console that the descriptor is open on.
     pub(crate) fn opened(&self, p: CallerNo, fd: u16) -> Result<ConsoleNo, Errno>
         ensures open { IfOk result (λ c. console_of self.now.callers p fd ≡ Some c) }
-        ensures refused { error_of result ≡ first_failing (needs_open self.now p fd ∷ []) }
+        ensures refused { error_of result ≡ first_refusal (needs_open self.now p fd ∷ []) }
     {
         self.procs.console_of(p, fd).ok_or(Errno::Badf)
     }
@@ -19,7 +19,7 @@ impl World {
     pub(crate) fn handled(&self, p: CallerNo, fd: u16) -> Result<ConsoleNo, Errno>
         ensures open { IfOk result (λ c. console_of self.now.callers p fd ≡ Some c) }
         ensures refused { error_of result
-            ≡ first_failing (needs_open self.now p fd ∷ needs_right self.now p fd ∷ []) }
+            ≡ first_refusal (needs_open self.now p fd ∷ needs_right self.now p fd ∷ []) }
     {
         let c = self.opened(p, fd)?;
         if !self.may_handle(p, c) {
@@ -37,7 +37,7 @@ impl World {
     ) -> Result<ConsoleNo, Errno>
         ensures open { IfOk result (λ c. console_of self.now.callers p fd ≡ Some c) }
         ensures sense { IfOk result (λ c. makes_sense ≡ true) }
-        ensures refused { error_of result ≡ first_failing (sets self.now p fd makes_sense) }
+        ensures refused { error_of result ≡ first_refusal (sets self.now p fd makes_sense) }
     {
         let c = self.handled(p, fd)?;
         if !makes_sense {
@@ -55,7 +55,7 @@ impl World {
     ) -> Result<ConsoleNo, Errno>
         ensures open { IfOk result (λ c. console_of self.now.callers p fd ≡ Some c) }
         ensures sense { IfOk result (λ c. makes_sense ≡ true) }
-        ensures refused { error_of result ≡ first_failing (gets self.now p fd makes_sense) }
+        ensures refused { error_of result ≡ first_refusal (gets self.now p fd makes_sense) }
     {
         let c = self.opened(p, fd)?;
         if !makes_sense {
@@ -67,7 +67,7 @@ impl World {
     /// Whether `p` may lock switching, and unlock it.
     pub(crate) fn lockable(&self, p: CallerNo, fd: u16) -> Result<(), Errno>
         ensures { error_of result
-            ≡ first_failing (needs_open self.now p fd ∷ needs_privilege self.now p ∷ []) }
+            ≡ first_refusal (needs_open self.now p fd ∷ needs_privilege self.now p ∷ []) }
     {
         self.opened(p, fd)?;
         if !self.procs.privileged(p) {

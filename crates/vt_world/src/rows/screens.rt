@@ -9,7 +9,7 @@ ghost use Rattle.vt_world.specs.Rows.{dump_of, screen_bytes};
 ghost use Rattle.vt_world.specs.Spare.{HasGrid, extent, is_console, is_extent, needed_grid};
 ghost use Rattle.vt_world.specs.Step.{Has, own_effect, text_of_answer};
 ghost use Rattle.vt_world.specs.Terminals.{terminal_at};
-ghost use Rattle.vt_world.specs.Tests.{caller, named, sees};
+ghost use Rattle.vt_world.specs.Refusals.{caller, named, sees};
 
 use crate::World;
 use crate::rows::answers::emptied;
@@ -149,7 +149,7 @@ impl World {
         let Some(c) = self.named(n) else {
             return false;
         };
-        let _console = c.get();
+        c.stays_in_range();
         self.procs.has_open(p, c)
     }
 

@@ -32,7 +32,7 @@ impl World {
 
     /// Signal `s` to process `q` (kill(2)).
     pub(crate) fn kill(&mut self, p: CallerNo, q: u16, s: u16) -> Result<Reply, Errno>
-        requires { self.old.told.trace ≡ [] }
+        requires { self.old.trace.marks ≡ [] }
         ensures { Has (own_effect self.old p (event.Kill q s)) self.new result }
     {
         if !self.procs.privileged(p) && q != p.get() {
@@ -49,7 +49,7 @@ impl World {
 
     /// The end of the caller (exit(2)).
     pub(crate) fn exit(&mut self, p: CallerNo) -> Result<Reply, Errno>
-        requires { self.old.told.trace ≡ [] }
+        requires { self.old.trace.marks ≡ [] }
         ensures { Has (own_effect self.old p event.Exit) self.new result }
     {
         self.end(p);

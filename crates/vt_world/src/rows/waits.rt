@@ -4,12 +4,12 @@ ghost use Rattle.vt_base.specs.declared.errno.Errno.TheVariants.{Intr};
 ghost use Rattle.vt_events.specs.declared.event.Event.TheVariants as event;
 ghost use Rattle.vt_events.specs.declared.reply.Reply.TheVariants as reply;
 ghost use Rattle.vt_procs.specs.Callers.{is_live};
-ghost use Rattle.vt_procs.specs.Tickets.{told};
+ghost use Rattle.vt_procs.specs.Tickets.{waited_of};
 ghost use Rattle.vt_procs.specs.declared.waited.Waited.{Waited};
 ghost use Rattle.vt_world.specs.Deeds.{Own, Waits};
 ghost use Rattle.vt_world.specs.Rows.{row_of};
 ghost use Rattle.vt_world.specs.Step.{Has, effect_of, own_effect};
-ghost use Rattle.vt_world.specs.Tests.{caller};
+ghost use Rattle.vt_world.specs.Refusals.{caller};
 
 use crate::World;
 use vt_base::{CallerNo, ConsoleNo, Errno};
@@ -20,7 +20,7 @@ impl World {
     /// Waits until the descriptor's console has input. This project's own.
     pub(crate) fn wait_input(&mut self, p: CallerNo, fd: u16) -> Result<Reply, Errno>
         requires live { is_live self.old.callers p ≡ true }
-        requires free { told (caller self.old p).waiting ≡ Waited.None }
+        requires free { waited_of (caller self.old p).waiting ≡ Waited.None }
         ensures { Has (own_effect self.old p (event.WaitInput fd)) self.new result }
     {
         let c = self.opened(p, fd)?;
@@ -33,7 +33,7 @@ impl World {
     /// Waits until console `n` is in front (ioctl_console(2), VT_WAITACTIVE).
     pub(crate) fn wait_active(&mut self, p: CallerNo, fd: u16, n: u16) -> Result<Reply, Errno>
         requires live { is_live self.old.callers p ≡ true }
-        requires free { told (caller self.old p).waiting ≡ Waited.None }
+        requires free { waited_of (caller self.old p).waiting ≡ Waited.None }
         ensures { Has (own_effect self.old p (event.WaitActive fd n)) self.new result }
     {
         self.handled(p, fd)?;
@@ -47,7 +47,7 @@ impl World {
     /// Waits for a signal (pause(2)).
     pub(crate) fn wait_signal(&mut self, p: CallerNo) -> Result<Reply, Errno>
         requires live { is_live self.old.callers p ≡ true }
-        requires free { told (caller self.old p).waiting ≡ Waited.None }
+        requires free { waited_of (caller self.old p).waiting ≡ Waited.None }
         ensures { Has (own_effect self.old p event.WaitSignal) self.new result }
     {
         self.wait(p, Ticket::AnySignal)
@@ -71,7 +71,7 @@ impl World {
     // A wait begins, unless a signal is pending.
     fn wait(&mut self, p: CallerNo, t: Ticket) -> Result<Reply, Errno>
         requires live { is_live self.old.callers p ≡ true }
-        requires free { told (caller self.old p).waiting ≡ Waited.None }
+        requires free { waited_of (caller self.old p).waiting ≡ Waited.None }
         ensures { Has (effect_of self.old
             (if not ((caller self.old p).pending == 0) then Some Intr else None)
             (row_of reply.Wait (Own (Waits p t) ∷ []))) self.new result }

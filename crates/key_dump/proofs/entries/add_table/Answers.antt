@@ -3,7 +3,7 @@ use Rattle.std.specs.List.{flat_map}
 use Rattle.std.specs.Option.{option_map_or}
 use Rattle.key_syms.specs.Act.{Act}
 use Rattle.key_dump.specs.Dump.{entry_rows, row_text}
-use Rattle.key_dump.proofs.Adding.{entries_all, entry_more, no_entries}
+use Rattle.key_dump.proofs.Adding.{entries_all, entry_more}
 use Rattle.key_dump.proofs.entries.add_table.Goals as goal
 
 pub loop-c-preserved : goal.loop-c-preserved

@@ -12,7 +12,7 @@ returns g c =
     let count_is : count ≡ min c.args.n height = omega arith in
     let up : c.args.bottom - c.args.top + 1 - count ≡ height - count = omega arith in
     ap sheet_shown
-    (c.clear_rows.ensures.rows
+    (c.clear.ensures.rows
     ∙ ap (λ (s : Store). record s { lines = cleared c.args.top count (blank_line c.args.c) s.lines })
     (c.move_up.ensures.rows
     ∙ ap (λ n. record store { lines = part_turned c.args.top c.args.bottom n store.lines }) up))

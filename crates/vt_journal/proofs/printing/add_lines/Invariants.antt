@@ -1,13 +1,17 @@
 use Rattle.std.proofs.Common.{◌≡◌, ◌∷◌, [], ◌++◌, codes, take, map}
-use Rattle.std.specs.List.{flat_map}
+use Rattle.std.specs.List.{All, flat_map}
+use Rattle.vt_events.specs.Plain.{plain_entry}
 use Rattle.vt_journal.specs.Journal.{entry_words, line_text}
+use Rattle.vt_journal.specs.Says.{IsFitEntry}
 use Rattle.vt_journal.specs.Text.{Begins}
 use Rattle.vt_journal.proofs.printing.add_lines.Given as goal
 
 abbrev pub invariant-loop-entry : goal.invariant-loop-entry
-invariant-loop-entry l =
-    (l.rest.bytes
-    ≡ l.fn.rest.bytes
-    ++ flat_map line_text
-    ((codes "%journal" ∷ codes "1" ∷ []) ∷ map entry_words (take l.entry-index l.entries)))
-    × Begins l.fn.rest.bytes l.rest.bytes
+invariant-loop-entry l = record {
+  lines : l.rest.bytes
+      ≡ l.fn.rest.bytes
+      ++ flat_map line_text
+      ((codes "%journal" ∷ codes "1" ∷ []) ∷ map entry_words (take l.entry-index l.entries));
+  begins : Begins l.fn.rest.bytes l.rest.bytes;
+  fit : All IsFitEntry (map plain_entry (take l.entry-index l.entries));
+}

@@ -1,58 +1,46 @@
-use Rattle.std.proofs.Common.{◌≡◌, refl, ℕ, ◌==◌, ◌+◌, ◌++◌, ◌∷◌, true, false, List, length, take, drop, get_or, ap, sym, ◌∙◌, arith}
-use Rattle.std.proofs.lemmas.Bool.Decides.{nat_tests}
-use Rattle.std.proofs.lemmas.Bool.{eq-eqb, or_left, or_right}
-use Rattle.vt_units.proofs.Fields.{continued-all, field-ends, field-goes}
-use Rattle.vt_units.proofs.Numbered.{front-goes}
-use Rattle.vt_units.specs.Numbers.{continued, params_of}
-use Rattle.vt_units.specs.Reading.{front}
+use Rattle.std.proofs.Common.{◌≡◌, ℕ, ◌-◌, ◌++◌, List, length, take, drop, ap, ◌∙◌, sym, arith, length-drop}
+use Rattle.std.proofs.lemmas.List.{drop-drop, take_all}
+use Rattle.vt_units.specs.Numbers.{continued}
+use Rattle.vt_units.specs.Reading.{behind, front}
 use Rattle.vt_units.specs.Sequences.{is_parameter}
 use Rattle.vt_units.proofs.numbers.read_numbers.Goals as goal
-use Rattle.vt_units.proofs.numbers.read_numbers.Goals.{then-is_digit, else-is_digit+then-b-eq59}
 
-pub loop-i-init : goal.loop-i-init
-loop-i-init c = record {
-  params =
-      ap (λ (kept : List ℕ). take 16 (kept ++ continued 0 (front is_parameter c.args.text.now))) c.requires
-      ∙ continued-all (front is_parameter c.args.text.now);
-  count = omega arith;
-  small = omega arith;
-  rest = refl;
-}
+whole : (text : List ℕ) (at : ℕ) → take (length text - at) (drop at text) ≡ drop at text
+whole text at = take_all (length text - at) (drop at text) (omega (arith, length-drop at text))
 
-pub loop-i-preserved : goal.loop-i-preserved
-loop-i-preserved c =
-    let i : ℕ = c.loop-i.i in
+pub returns-clause-params : goal.returns-clause-params
+returns-clause-params c =
     let text : List ℕ = c.args.text.now in
-    let b : ℕ = get_or text i 0 in
-    let left : List ℕ = front is_parameter (drop (i + 1) text) in
-    let all : List ℕ = params_of (front is_parameter text) in
-    elim c.if-is_digit.branch [
-      | then-is_digit w ↦
-          let digit = sym c.is_digit.ensures ∙ w.if-is_digit.true in
-          let passes : is_parameter b ≡ true = or_left _ _ digit in
-          let one = front-goes is_parameter text i c.loop-i-test.true passes in
-          let before : take 16 (c.loop-i.params ++ continued c.loop-i.number (b ∷ left)) ≡ all =
-          ap (λ (bytes : List ℕ). take 16 (c.loop-i.params ++ continued c.loop-i.number bytes)) (sym one.0)
-          ∙ c.loop-i.invariant.params in
-          let other : (b == 0x3B) ≡ false = grind (arith, nat_tests, digit) in
-          record {
-            params = rw (w.params-is, w.number-is, w.shifted-number.ensures)
-                (field-goes c.loop-i.params c.loop-i.number b left all other before);
-            count = omega (arith, c.loop-i.invariant.count, ap (λ (bytes : List ℕ). length bytes) one.0);
-            small = omega (arith, w.number-is, w.shifted-number.ensures);
-            rest = c.loop-i.invariant.rest ∙ one.1;
-          }
-      | else-is_digit+then-b-eq59 w ↦
-          let passes : is_parameter b ≡ true = or_right _ _ (eq-eqb _ _ w.if-b-eq59.true) in
-          let one = front-goes is_parameter text i c.loop-i-test.true passes in
-          let before : take 16 (c.loop-i.params ++ continued c.loop-i.number (b ∷ left)) ≡ all =
-          ap (λ (bytes : List ℕ). take 16 (c.loop-i.params ++ continued c.loop-i.number bytes)) (sym one.0)
-          ∙ c.loop-i.invariant.params in
-          record {
-            params = rw (w.params-is, w.number-is, w.add.ensures)
-                (field-ends c.loop-i.params c.loop-i.number b left all w.if-b-eq59.true before);
-            count = omega (arith, c.loop-i.invariant.count, ap (λ (bytes : List ℕ). length bytes) one.0);
-            small = omega (arith, w.number-is);
-            rest = c.loop-i.invariant.rest ∙ one.1;
-          }
-    ]
+    let at : ℕ = c.read_short_numbers-at.result in
+    c.read_more_numbers.ensures.params
+    ∙ ap (λ (bytes : List ℕ). take 16 (c.read_short_numbers-at.new.params ++ continued 0 (front is_parameter bytes)))
+    (whole text at)
+    ∙ c.read_short_numbers-at.ensures.params
+
+pub returns-clause-count : goal.returns-clause-count
+returns-clause-count c =
+    let text : List ℕ = c.args.text.now in
+    let at : ℕ = c.read_short_numbers-at.result in
+    let more : c.read_more_numbers.result ≡ length (front is_parameter (drop at text)) =
+    c.read_more_numbers.ensures.count
+    ∙ ap (λ (bytes : List ℕ). length (front is_parameter bytes)) (whole text at) in
+    omega (arith, c.read_short_numbers-at.ensures.count)
+
+pub returns-clause-rest : goal.returns-clause-rest
+returns-clause-rest c =
+    let text : List ℕ = c.args.text.now in
+    let at : ℕ = c.read_short_numbers-at.result in
+    let n : ℕ = c.read_more_numbers.result in
+    sym (drop-drop n at text)
+    ∙ ap (λ (bytes : List ℕ). drop n bytes) (sym (whole text at))
+    ∙ c.read_more_numbers.ensures.rest
+    ∙ ap (λ (bytes : List ℕ). behind is_parameter bytes) (whole text at)
+    ∙ sym c.read_short_numbers-at.ensures.rest
+
+pub returns-clause-bound : goal.returns-clause-bound
+returns-clause-bound c =
+    let text : List ℕ = c.args.text.now in
+    let at : ℕ = c.read_short_numbers-at.result in
+    let len : length (take (length text - at) (drop at text)) ≡ length text - at =
+    ap length (whole text at) ∙ length-drop at text in
+    omega (arith, c.read_more_numbers.ensures.bound)

@@ -10,7 +10,7 @@ returns-clause-grid g c =
     let count = c.min-count.result in
     let count_is : count ≡ min c.args.n (c.args.bottom + 1 - c.args.top) = omega arith in
     ap sheet_shown
-    (c.clear_rows.ensures.rows
+    (c.clear.ensures.rows
     ∙ ap (λ (s : Store). record s {
       lines = cleared (c.args.bottom + 1 - count) count (blank_line c.args.c) s.lines;
     }) c.move_up.ensures.rows)

@@ -1,4 +1,4 @@
-use Rattle.std.proofs.Common.{◌<◌, ℕ, List, take, Some, sym, ap, ◌∙◌, arith}
+use Rattle.std.proofs.Common.{◌<◌, ℕ, List, take, sym, ap, ◌∙◌, arith}
 use Rattle.vt_screen.proofs.Sequences.{sequence-done, some-bytes}
 use Rattle.vt_screen.specs.Run.{drawing, having_said}
 use Rattle.vt_screen.specs.Screen.{Screen}

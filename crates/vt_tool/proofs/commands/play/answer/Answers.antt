@@ -1,6 +1,5 @@
 use Rattle.std.proofs.Common.{inl}
 use Rattle.vt_tool.proofs.Oks.{ok_more}
-use Rattle.vt_tool.specs.Commands.Play.{GivesPlayed, GivesSessionFault, IsPlayed}
 use Rattle.vt_tool.proofs.commands.play.answer.Goals as goal
 
 pub returns-in-Ok-clause-gives : goal.returns-in-Ok-clause-gives

@@ -1,44 +1,27 @@
-use Rattle.std.proofs.Common.{◌≡◌, ℕ, List, ◌++◌, length, ap, subst, sym, ◌∙◌}
-use Rattle.vt_journal.specs.Room.{tail_at}
-use Rattle.session_run.specs.Final.{final_text}
-use Rattle.session_order.specs.Sessions.{start_of}
+use Rattle.std.proofs.Common.{List, Option}
+use Rattle.session_text.specs.Sessions.{SessionView}
 use Rattle.vt_events.specs.declared.entry.Entry.{Entry}
-use Rattle.vt_journal.specs.Journal.{journal_text}
-use Rattle.vt_switch.specs.Law.{IsExplained}
-use Rattle.vt_tool.specs.Commands.Play.{status_of}
-use Rattle.vt_world.specs.History.{replay}
-use Rattle.vt_world.specs.Laws.{moments}
-use Rattle.vt_world.specs.State.{WorldState, core}
-use Rattle.vt_world.specs.Terminals.{machine_of, terminal_at}
+use Rattle.vt_journal.specs.declared.full.Full.{Full}
+use Rattle.vt_tool.proofs.Sessions.{right-run, run-printed}
+use Rattle.vt_world.specs.State.{WorldState}
 use Rattle.vt_tool.proofs.commands.play.answer_played.Goals as goal
 
 pub returns-clause-played : goal.returns-clause-played
 returns-clause-played c =
-    let facts = c.in_ok-run.ensures in
+    let s : SessionView = c.args.session.now in
+    let world : WorldState = c.in_ok-run.run'.world in
     let entries : List Entry = c.in_ok-run.run'.log.entries in
-    let start : WorldState = start_of c.args.session.now in
-    let world : c.in_ok-run.run'.world ≡ replay start entries = facts.world in
-    let journal : c.print.new.rest.bytes
-    ≡ journal_text entries (tail_at entries c.in_ok-run.run'.stop) =
-    c.in_ok-print.ensures.ok
-    ∙ ap (λ front. front ++ journal_text c.entries.result.now c.tail-end.result) c.new-text.ensures.bytes
-    ∙ (λ i. journal_text (c.entries.ensures.same i) (c.tail-end.ensures i)) in
+    let stop : Option Full = c.in_ok-run.run'.stop in
+    let facts = c.in_ok-run.ensures in
+    let printed = c.in_ok-answer.ensures in
     record {
       history = entries;
-      stop = c.in_ok-run.run'.stop;
+      stop = stop;
       serial = facts.serial;
-      right = record {
-        legal = facts.legal;
-        follows = facts.follows;
-        ends = facts.ends;
-        lawful = facts.lawful;
-        explained =
-            subst (λ (w : WorldState). IsExplained (length entries) (core w) (moments start entries)) world
-            facts.explained;
-        screens = λ n below.
-            sym (ap (λ (w : WorldState). machine_of (terminal_at w.terminals n)) world)
-            ∙ facts.screens n below;
-      };
-      status_is = c.status_of.ensures.status ∙ ap status_of c.tail-end.ensures;
-      text = c.in_ok-add_final_text.ensures ∙ (λ i. journal i ++ final_text (world i));
+      right =
+          right-run s world entries stop facts.world facts.legal facts.follows facts.ends facts.lawful
+          facts.explained facts.screens;
+      printed =
+          run-printed s world entries stop facts.world c.in_ok-answer.answer.status
+          c.in_ok-answer.answer.text.bytes printed.status printed.text;
     }

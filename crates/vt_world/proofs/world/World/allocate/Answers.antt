@@ -18,7 +18,7 @@ returns-then-allocated c =
       terminals = inside.terminals;
       inputs = inside.inputs;
       board = inside.board;
-      told = inside.told;
+      trace = inside.trace;
     } in
     subst (λ (v : WorldState). v ≡ all_done v (allocating c.args.c [])) c.self.view_is
     (allocating_same w c.args.c c.self.invariant (sym c.allocated.ensures ∙ c.if-allocated.true))

@@ -2,7 +2,7 @@ use Rattle.std.proofs.Common.{◌≡◌, ◌≤◌, ℕ}
 use Rattle.std.specs.List.{flat_map}
 use Rattle.vt_world.specs.Deeds.{all_done}
 use Rattle.vt_world.specs.Rows.{disallocating, freeing}
-use Rattle.vt_world.specs.Tests.{is_in_use}
+use Rattle.vt_world.specs.Refusals.{is_in_use}
 use Rattle.vt_world.proofs.Freed.{unused_from}
 use Rattle.vt_world.proofs.world.World.free_unused.Given as goal
 

@@ -6,7 +6,7 @@ abbrev pub invariant-loop-at : goal.invariant-loop-at
 invariant-loop-at l = record {
   within : l.at ≤ length l.b;
   done : l.self ≡ ran l.fn.self l.c (take l.at l.b);
-  room : length l.self.told.trace ≤ 3 * l.at;
+  room : length l.self.trace.marks ≤ 3 * l.at;
 }
 
 abbrev pub decreases-loop-at : goal.decreases-loop-at

@@ -9,5 +9,5 @@ abbrev pub invariant-loop-p : goal.invariant-loop-p
 invariant-loop-p l = record {
   done : all_done l.self (ends_of (users_from (uses l.fn.self l.n) l.p) (By (SetKd l.n false) ∷ []))
       ≡ all_done l.fn.self (attention_deeds l.fn.self l.n);
-  room : length l.self.told.trace ≤ 3 * l.p;
+  room : length l.self.trace.marks ≤ 3 * l.p;
 }

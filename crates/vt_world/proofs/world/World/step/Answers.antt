@@ -3,7 +3,7 @@ use Rattle.vt_events.specs.declared.event.Event.{Event}
 use Rattle.vt_world.specs.Heard.{cleared}
 use Rattle.vt_world.specs.State.{WorldState}
 use Rattle.vt_world.specs.Step.{answered, effect_after}
-use Rattle.vt_world.specs.Tests.{common_tests, first_failing}
+use Rattle.vt_world.specs.Refusals.{common_refusals, first_refusal}
 use Rattle.vt_world.specs.contracts.world.World.{the_view}
 use Rattle.vt_world.proofs.world.World.step.Goals as goal
 
@@ -12,11 +12,11 @@ returns-clause-step c =
     let w : WorldState = the_view c.self.inside in
     let p : ℕ = c.args.caller in
     let e : Event = c.args.event.now in
-    let clear : record w { told = c.clear.new.self } ≡ cleared w =
+    let clear : record w { trace = c.clear.new.self } ≡ cleared w =
     λ i. record w {
-      told = record { trace = c.clear.ensures.trace i; hops = c.clear.ensures.hops i };
+      trace = record { marks = c.clear.ensures.marks i; hops = c.clear.ensures.hops i };
     } in
-    sym (ap (λ (v : WorldState). answered (effect_after v p e (first_failing (common_tests v p e))))
+    sym (ap (λ (v : WorldState). answered (effect_after v p e (first_refusal (common_refusals v p e))))
     (clear ∙ ap cleared c.self.view_is))
     ∙ ap answered c.take-answer.ensures.effect
     ∙ c.finish.ensures.step

@@ -5,5 +5,5 @@ use Rattle.vt_world.proofs.world.World.take_outs.Given as goal
 abbrev pub invariant-loop-out : goal.invariant-loop-out
 invariant-loop-out l = record {
   done : l.self ≡ heard l.c (take l.out-index l.outs) l.fn.self;
-  room : length l.self.told.trace ≤ length l.fn.self.told.trace + 3 * l.out-index;
+  room : length l.self.trace.marks ≤ length l.fn.self.trace.marks + 3 * l.out-index;
 }

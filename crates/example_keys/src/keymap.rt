@@ -1,0 +1,30 @@
+//! A keymap text made into tables.
+
+use key_compile::compile;
+use key_tables::KeyTables;
+use key_text::{Includes, KeyError, KeyFault, parse};
+use std::alloc::Global;
+use vt_base::NoMemory;
+
+/// What comes of a keymap text.
+#[derive(Drop)]
+pub enum Keymap {
+    Tables(KeyTables),
+    /// The first fault, with its kind, line and column.
+    Refused(KeyFault),
+}
+
+/// The tables of the text, or its first fault. No text is given to include.
+pub fn compiled(alloc: Global, text: &[u8]) -> Result<Keymap, NoMemory> {
+    match tables_of(alloc, text) {
+        Ok(tables) => Ok(Keymap::Tables(tables)),
+        Err(KeyError::Fault(fault)) => Ok(Keymap::Refused(fault)),
+        Err(KeyError::NoMemory) => Err(NoMemory),
+    }
+}
+
+fn tables_of(alloc: Global, text: &[u8]) -> Result<KeyTables, KeyError> {
+    let includes = Includes::none(alloc);
+    let lines = parse(alloc, text, &includes)?;
+    compile(alloc, lines.as_slice())
+}

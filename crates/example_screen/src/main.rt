@@ -1,0 +1,20 @@
+//! An example of the library: the escape machine alone. A text of any length goes in; what it says beside the screen
+//! comes out line by line, and then the rows.
+#![tactic(auto)]
+
+mod drawing;
+mod telling;
+
+use drawing::drawn;
+use std::io;
+use std::io::{ErrorKind, Read, Write};
+
+fn main(rt: HostRuntime) -> io::Result<()> {
+    let alloc = rt.alloc();
+    let mut text = Vec::new(alloc);
+    rt.reader().read_to_end(&mut text)?;
+    match drawn(alloc, text.as_slice()) {
+        Ok(lines) => io::writer(&rt).write_all(lines.as_slice()),
+        Err(_) => Err(io::Error::from(ErrorKind::OutOfMemory)),
+    }
+}

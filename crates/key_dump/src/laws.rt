@@ -1,0 +1,11 @@
+//! The law of dumps.
+ghost use Rattle.key_dump.specs.ReadsBack.{DumpReadsBack};
+
+use key_syms::names_are_their_own;
+
+/// The dump of tables is read as these tables.
+pub fn dump_reads_back()
+    ensures { DumpReadsBack }
+{
+    names_are_their_own();
+}

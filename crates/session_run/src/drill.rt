@@ -1,0 +1,162 @@
+//! A large session made from a number.
+ghost use Rattle.std.specs.Prelude.{◌≡◌, ◌<◌, ◌≤◌, ℕ, ◌∷◌, ◌++◌, true, length, map, IfOk, OnOk};
+ghost use Rattle.std.specs.List.{All, range_with_len};
+ghost use Rattle.session_run.specs.Drill.{HasDrillKeymap, IsDrill, drill_hooks, each, item, keys, opening_calls, script};
+ghost use Rattle.session_text.specs.ItemTexts.{is_item};
+ghost use Rattle.session_text.specs.Scripts.{listed};
+ghost use Rattle.session_text.specs.Sessions.{ArePrograms, IsScriptProgram};
+ghost use Rattle.session_text.specs.declared.program.Program.TheVariants as programs;
+ghost use Rattle.vt_events.specs.Plain.{text};
+
+use crate::drill_draws::Draws;
+use crate::drill_items::item;
+use key_tables::KeyTables;
+use key_text::Includes;
+use session_text::{Items, Program, Session};
+use sig_hooks::{Act, HookTable};
+use std::alloc::Global;
+use table_fields::keymap;
+use vt_base::{Bytes, ConsoleNo, NoMemory, Signal, Size};
+use vt_events::Event;
+use vt_journal::Limits;
+use vt_procs::{Config, ProcList, ProcStart};
+
+/// How many processes a drill has, each with a console of its own.
+const PROCESSES: u8 = 8;
+
+/// The consoles 1 to 8, bit n for console n.
+const CONSOLES: u64 = 0x1FE;
+
+/// The session of eight processes with `n` items each, made from the seed.
+pub fn drill_session(alloc: Global, n: u32, seed: u64) -> Result<Session, NoMemory>
+    requires low { 1 ≤ n }
+    requires high { n ≤ 10_000 }
+    ensures { IfOk result (IsDrill n seed) }
+{
+    let tables = tables(alloc)?;
+    let programs = programs(alloc, n as usize, seed)?;
+    let config = Config {
+        size: Size { rows: 25, cols: 80 },
+        consoles: CONSOLES,
+        front: ConsoleNo::numbered(1),
+        procs: starts(),
+    };
+    let limits = Limits {
+        events: 1_000_000,
+        bytes: 1_073_741_824,
+    };
+    Ok(Session::make(config, tables, limits, Bytes::new(alloc), programs))
+}
+
+// The tables of its keymap. It has no fault, so only want of memory is an error.
+fn tables(alloc: Global) -> Result<KeyTables, NoMemory>
+    ensures { IfOk result HasDrillKeymap }
+{
+    match keymap(alloc, &Includes::none(alloc), "keycode 30 = a") {
+        Ok(tables) => Ok(tables),
+        Err(_error) => Err(NoMemory),
+    }
+}
+
+// What its processes begin with.
+fn starts() -> ProcList
+    ensures { result ≡ map (λ p. record { home = p; privileged = true }) (range_with_len 1 8) }
+{
+    let mut starts = ProcList::new();
+    for i in 0..PROCESSES {
+        starts.push(ProcStart {
+            home: 1 + i,
+            privileged: true,
+        });
+    }
+    starts
+}
+
+// The programs of its callers.
+fn programs(alloc: Global, n: usize, seed: u64) -> Result<Vec<Program>, NoMemory>
+    requires { n ≤ 10_000 }
+    ensures programs { IfOk result (λ list. list.items
+        ≡ programs.Keys (text (keys n)) ∷ (each (script n) 8 1 seed).0) }
+    ensures are { IfOk result (λ list. ArePrograms 8 list.items) }
+{
+    let mut draws = Draws::new(seed);
+    let mut list = Vec::new(alloc);
+    list.push(Program::Keys(keys(alloc, n)?))?;
+    for i in 0..PROCESSES {
+        list.push(script(alloc, &mut draws, n, 1 + u16::from(i))?)?;
+    }
+    Ok(list)
+}
+
+// A key that goes down and up, so often.
+fn keys(alloc: Global, n: usize) -> Result<Bytes, NoMemory>
+    requires { n ≤ 10_000 }
+    ensures keys { IfOk result (λ bytes. bytes ≡ text (keys n)) }
+    ensures few { IfOk result (λ bytes. length bytes.bytes ≤ 20_000) }
+{
+    let mut bytes = Bytes::with_room(alloc, 2 * n)?;
+    for _i in 0..n {
+        bytes.append(b"\x1e\x9e");
+    }
+    Ok(bytes)
+}
+
+// The script of a process.
+fn script(alloc: Global, draws: &mut Draws, n: usize, p: u16) -> Result<Program, NoMemory>
+    requires { n ≤ 10_000 }
+    ensures value { IfOk result (λ made. made ≡ (script n p draws.old).0) }
+    ensures next { OnOk result (draws.new ≡ (script n p draws.old).1) }
+    ensures fit { IfOk result IsScriptProgram }
+{
+    let items = items(alloc, draws, n, p)?;
+    Ok(Program::Script {
+        items,
+        hooks: hooks(),
+    })
+}
+
+// The calls of a process: those that it begins with, and its items.
+fn items(alloc: Global, draws: &mut Draws, n: usize, p: u16) -> Result<Items, NoMemory>
+    requires { n ≤ 10_000 }
+    ensures value { IfOk result (λ items. items
+        ≡ listed (opening_calls p ++ (each item n 0 draws.old).0)) }
+    ensures next { OnOk result (draws.new ≡ (each item n 0 draws.old).1) }
+    ensures few { IfOk result (λ items. length items.events ≤ 10_002) }
+    ensures fit { IfOk result (λ items. All (λ e. is_item e ≡ true) items.events) }
+{
+    let mut items = first_calls(alloc, n, p)?;
+    for _i in 0..n {
+        items.push(item(alloc, draws)?);
+    }
+    Ok(items)
+}
+
+// The calls that a process begins with, and room for `n` more.
+fn first_calls(alloc: Global, n: usize, p: u16) -> Result<Items, NoMemory>
+    requires { n ≤ 10_000 }
+    ensures calls { IfOk result (λ items. items.events ≡ opening_calls p) }
+    ensures room { IfOk result (λ items. items.room ≡ n) }
+    ensures few { IfOk result (λ items. length items.events ≤ 2) }
+    ensures fit { IfOk result (λ items. All (λ e. is_item e ≡ true) items.events) }
+{
+    if p % 2 == 1 {
+        let mut items = Items::with_room(alloc, n + 2)?;
+        items.push(Event::OpenCon(p));
+        items.push(Event::SetMode(0, 1, 0, 10, 12, 0));
+        Ok(items)
+    } else {
+        let mut items = Items::with_room(alloc, n + 1)?;
+        items.push(Event::OpenCon(p));
+        Ok(items)
+    }
+}
+
+// What each process does at signals.
+fn hooks() -> HookTable
+    ensures { result ≡ drill_hooks }
+{
+    let mut hooks = HookTable::empty();
+    hooks.set(Signal::numbered(10), Act::Disp { fd: 0, arg: 1 });
+    hooks.set(Signal::numbered(12), Act::Disp { fd: 0, arg: 2 });
+    hooks
+}

@@ -1,0 +1,102 @@
+-- What a judge's tests say.
+use Rattle.std.proofs.Common.{◌≡◌, ◌↔◌, ℕ, ◌<◌, Bool, true, false, ◌&&◌, List, get_or, length, Option, Some, None, refl, sym, ap, subst, ◌∙◌}
+use Rattle.std.specs.Prelude.{IsTrue, slice_get}
+use Rattle.std.proofs.lemmas.Bool.{and_from, both_ways, false_from_ne_true, false≢true}
+use Rattle.std.proofs.lemmas.Option.{none-some, same_Some, slice_get_read}
+use Rattle.session_order.specs.Calls.{next_by}
+use Rattle.session_order.specs.Ends.{Stage}
+use Rattle.session_order.specs.Follows.{IsNextCall, is_waiting}
+use Rattle.session_order.specs.Meant.{NextIsMeant, NextIsPlain}
+use Rattle.session_order.specs.Calls.{calls_by, next_of}
+use Rattle.session_text.specs.Programs.{next}
+use Rattle.session_text.specs.declared.program.Program.{Program}
+use Rattle.vt_check.specs.Judging.{IsAfter, JudgeView}
+use Rattle.vt_check.specs.Verdicts.{IsAnswered}
+use Rattle.vt_events.specs.Plain.{plain_event, plain_reply}
+use Rattle.vt_events.specs.declared.entry.Entry.{Entry}
+use Rattle.vt_events.specs.declared.event.Event.{Event}
+use Rattle.vt_events.specs.declared.reply.Reply.{Reply}
+use Rattle.vt_world.specs.History.{replay}
+use Rattle.vt_world.specs.State.{WorldState}
+use Rattle.vt_world.specs.Step.{Outcome, step}
+use Rattle.vt_world.specs.Refusals.{ends_wait}
+use Rattle.vt_check.proofs.Growing.{event_twice}
+
+-- the answer was compared with the console's
+pub answered_is : (o : Stage) (h : List Entry) (view : JudgeView) (entry : Entry) (after : WorldState) (reply : Reply) (same : Bool)
+    → IsAfter o h view
+    → step view.world entry.caller entry.event ≡ record { world = after; reply = plain_reply reply }
+    → (IsTrue same ↔ (plain_reply reply ≡ plain_reply entry.reply))
+    → IsTrue same ↔ IsAnswered o h entry
+answered_is o h view entry after reply same at stepped compared =
+    let answer : plain_reply reply ≡ (step (replay o.start h) entry.caller entry.event).reply =
+    sym (ap (λ (x : Outcome). x.reply) stepped)
+    ∙ ap (λ w. (step w entry.caller entry.event).reply) at.replayed in
+    (λ is. sym (compared.0 is) ∙ answer, λ is. compared.1 (answer ∙ sym is))
+
+-- a wait that goes on is ended by no call
+pub waits_on : (o : Stage) (h : List Entry) (view : JudgeView) (entry : Entry) (goes : Bool)
+    → IsAfter o h view → goes ≡ true
+    → goes ≡ (ends_wait entry.event && is_waiting view.world entry.caller)
+    → IsTrue false ↔ IsNextCall o.start o.programs h entry
+waits_on o h view entry goes at is test = (
+  λ no_way. absurd (false≢true no_way),
+  λ next.
+      let both : (ends_wait entry.event ≡ true) × (is_waiting view.world entry.caller ≡ true) =
+      parts (ends_wait entry.event) (is_waiting view.world entry.caller) (sym test ∙ is) in
+      absurd (both_ways (is_waiting view.world entry.caller)
+      (ap (λ w. is_waiting w entry.caller) at.replayed ∙ next.ended both.0) both.1),
+)
+  where
+    parts : (a b : Bool) → (a && b) ≡ true → (a ≡ true) × (b ≡ true)
+    parts true b is = (refl, is)
+    parts false b is = absurd (false≢true is)
+
+-- the next call of the walk was compared with the entry's
+pub next_is : NextIsPlain → (o : Stage) (h : List Entry) (view : JudgeView) (entry : Entry) (goes same : Bool)
+    (call : Event) (program : Program) → IsAfter o h view → goes ≡ false
+    → goes ≡ (ends_wait entry.event && is_waiting view.world entry.caller)
+    → slice_get o.programs entry.caller ≡ Some program
+    → Some call ≡ next_by o.programs entry.caller h
+    → (IsTrue same ↔ (plain_event call ≡ plain_event entry.event))
+    → IsTrue same ↔ IsNextCall o.start o.programs h entry
+next_is is_plain o h view entry goes same call program at going test is found compared =
+    let own : next program (calls_by entry.caller h) ≡ Some call =
+    ap (λ found. next_of found (calls_by entry.caller h)) (sym is) ∙ sym found in
+    let plain : plain_event call ≡ call = is_plain program (calls_by entry.caller h) call own in (
+      λ is. record {
+        next = sym found ∙ ap Some (sym plain ∙ compared.0 is);
+        ended = λ ends.
+            false_from_ne_true (is_waiting (replay o.start h) entry.caller)
+            (λ waits.
+            both_ways (ends_wait entry.event && is_waiting view.world entry.caller) (sym test ∙ going)
+            (and_from (ends_wait entry.event) (is_waiting view.world entry.caller) ends
+            (ap (λ w. is_waiting w entry.caller) at.replayed ∙ waits)));
+      },
+      λ next.
+          let call_is : call ≡ plain_event entry.event =
+          same_Some call (plain_event entry.event) (found ∙ next.next) in
+          compared.1 (ap plain_event call_is ∙ event_twice entry.event),
+    )
+
+-- a program that is over has no next call
+pub none_next : (o : Stage) (h : List Entry) (entry : Entry)
+    → None ≡ next_by o.programs entry.caller h
+    → IsTrue false ↔ IsNextCall o.start o.programs h entry
+none_next o h entry none = (
+  λ no_way. absurd (false≢true no_way),
+  λ next. absurd (none-some (plain_event entry.event) (none ∙ next.next)),
+)
+
+-- the program of a caller
+pub program_at : (o : Stage) (programs : List Program) (i p : ℕ) (program : Program)
+    → o.programs ≡ programs → i ≡ p → p < length programs → program ≡ get_or programs i program
+    → slice_get o.programs p ≡ Some program
+program_at o programs i p program same is within read =
+    ap (λ list. slice_get list p) same
+    ∙ slice_get_read programs (length programs) p program refl within
+    (subst (λ k. program ≡ get_or programs k program) is read)
+
+-- what a test that failed says
+pub fails : {P : Type 0} (b : Bool) → (IsTrue b ↔ P) → b ≡ false → ¬ P
+fails b test is holds = both_ways b is (test.1 holds)

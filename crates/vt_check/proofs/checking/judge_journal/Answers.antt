@@ -1,0 +1,77 @@
+use Rattle.std.proofs.Common.{◌≡◌, ◌∷◌, [], ◌+◌, ◌++◌, ◌≤◌, List, Some, length, take, refl, sym, subst, arith}
+use Rattle.std.specs.Prelude.{slice_get}
+use Rattle.std.proofs.lemmas.List.{take_all}
+use Rattle.std.proofs.lemmas.Option.{slice_get_read}
+use Rattle.session_order.specs.Ends.{Stage}
+use Rattle.session_order.specs.Sessions.{stage_of}
+use Rattle.vt_check.proofs.VerdictLaws.{next_take, pass_more}
+use Rattle.vt_check.specs.Judging.{IsAfter}
+use Rattle.vt_check.specs.Verdicts.{AllPass, Judges}
+use Rattle.vt_check.specs.Verdicts.Judges.{AtEnd, EntryFails, Right}
+use Rattle.vt_check.specs.declared.verdict.Verdict.TheVariants as verdict
+use Rattle.vt_events.specs.declared.entry.Entry.{Entry}
+use Rattle.vt_check.proofs.checking.judge_journal.Goals as goal
+
+pub returns-in-Some : goal.returns-in-Some
+returns-in-Some c =
+    let o : Stage = stage_of c.args.s.now in
+    let entries : List Entry = c.as_slice-entries.result.now in
+    let here : slice_get entries c.loop-i.i ≡ Some c.index-entries-i.result =
+    slice_get_read entries (length entries) c.loop-i.i c.index-entries-i.result refl c.loop-i-test.true
+    c.index-entries-i.is in
+    let fails = rw c.in-Some.is at c.in_ok-why.ensures.fails in
+    subst (λ list. Judges o list c.args.j.now.tail (verdict.Illegal c.loop-i.i c.in-Some.why))
+    c.as_slice-entries.ensures.same
+    (EntryFails c.loop-i.i c.in-Some.why c.index-entries-i.result c.loop-i.invariant.pass here
+    (fails o (take c.loop-i.i entries) (sym c.programs-programs.ensures.same)
+    (sym c.limits-limits.ensures.same) c.loop-i.invariant.after))
+
+pub loop-i-preserved : goal.loop-i-preserved
+loop-i-preserved c =
+    let o : Stage = stage_of c.args.s.now in
+    let entries : List Entry = c.as_slice-entries.result.now in
+    let front : List Entry = take c.loop-i.i entries in
+    let here : slice_get entries c.loop-i.i ≡ Some c.index-entries-i.result =
+    slice_get_read entries (length entries) c.loop-i.i c.index-entries-i.result refl c.loop-i-test.true
+    c.index-entries-i.is in
+    let passes = rw c.in_default.is at c.in_ok-why.ensures.passes in
+    let after = rw c.in_default.is at c.in_ok-why.ensures.after in
+    let events = rw c.in_default.is at c.in_ok-why.ensures.events in
+    let bytes = rw c.in_default.is at c.in_ok-why.ensures.bytes in
+    record {
+      pass =
+          pass_more o entries c.loop-i.i c.index-entries-i.result here c.loop-i.invariant.pass
+          (passes o front (sym c.programs-programs.ensures.same) (sym c.limits-limits.ensures.same)
+          c.loop-i.invariant.after);
+      after =
+          subst (λ h. IsAfter o h c.judge.new.self) (sym (next_take entries c.loop-i.i c.index-entries-i.result here))
+          (after o front (sym c.programs-programs.ensures.same) c.loop-i.invariant.after);
+      walks = c.in_ok-why.ensures.walks;
+      events = omega (arith, events, c.limits-limits.ensures.events);
+      bytes = omega (arith, bytes, c.limits-limits.ensures.bytes);
+    }
+
+pub returns-in-Some-2 : goal.returns-in-Some-2
+returns-in-Some-2 c =
+    let o : Stage = stage_of c.args.s.now in
+    let entries : List Entry = c.as_slice-entries.result.now in
+    let whole : take c.loop-i.i entries ≡ entries =
+    take_all c.loop-i.i entries c.loop-i-test.false in
+    let fails = rw c.in-Some-2.is at c.in_ok-why-2.ensures.fails in
+    subst (λ list. Judges o list c.args.j.now.tail (verdict.Illegal (length entries) c.in-Some-2.why))
+    c.as_slice-entries.ensures.same
+    (AtEnd c.in-Some-2.why (subst (AllPass o) whole c.loop-i.invariant.pass)
+    (fails o entries (sym c.programs-programs.ensures.same) (sym c.limits-limits.ensures.same)
+    (subst (λ h. IsAfter o h c.loop-i.judge) whole c.loop-i.invariant.after)))
+
+pub returns : goal.returns
+returns c =
+    let o : Stage = stage_of c.args.s.now in
+    let entries : List Entry = c.as_slice-entries.result.now in
+    let whole : take c.loop-i.i entries ≡ entries =
+    take_all c.loop-i.i entries c.loop-i-test.false in
+    let passes = rw c.in-None.is at c.in_ok-why-2.ensures.passes in
+    subst (λ list. Judges o list c.args.j.now.tail verdict.Legal) c.as_slice-entries.ensures.same
+    (Right (subst (AllPass o) whole c.loop-i.invariant.pass)
+    (passes o entries (sym c.programs-programs.ensures.same) (sym c.limits-limits.ensures.same)
+    (subst (λ h. IsAfter o h c.loop-i.judge) whole c.loop-i.invariant.after)))

@@ -1,0 +1,48 @@
+-- A judge on its way through a journal. No public clause names this.
+use Rattle.std.specs.Prelude.{◌≡◌, ℕ, ◌≤◌, ◌==◌, false, List, length, count_by, map, Some, slice_get, slice_index, slice_index_or}
+use Rattle.session_order.specs.Calls.{as_meant, calls_by, next_by}
+use Rattle.session_order.specs.Ends.{Stage}
+use Rattle.session_order.specs.Follows.{is_waiting}
+use Rattle.session_text.specs.Programs.{Call}
+use Rattle.session_text.specs.Walks.{Place, Stands}
+use Rattle.session_text.specs.declared.program.Program.{Program}
+use Rattle.vt_events.specs.Charge.{charge_of}
+use Rattle.vt_events.specs.declared.entry.Entry.{Entry}
+use Rattle.vt_events.specs.declared.event.Event.{Event}
+use Rattle.vt_journal.specs.Log.{charge_of_all}
+use Rattle.vt_world.specs.History.{replay}
+use Rattle.vt_world.specs.State.{WorldState}
+
+-- what contracts see of `Judge`: the console, where each caller's walk stands, how many calls each made,
+-- and how many entries there were and what they count for
+pub record JudgeView : Type 0 where
+  pub world : WorldState
+  pub walks : List Place
+  pub counts : List ℕ
+  pub events : ℕ
+  pub bytes : ℕ
+
+-- the walk stands where these calls, as they are meant, were made
+pub record StandsAfter (program : Program) (walk : Place) (made : List Call) : Type 0 where
+  pub calls : List Call
+  pub stands : Stands program walk calls
+  pub meant : map as_meant calls ≡ made
+
+-- the judge is behind this history
+pub record IsAfter (o : Stage) (h : List Entry) (j : JudgeView) : Type 0 where
+  pub replayed : j.world ≡ replay o.start h
+  pub walks : length j.walks ≡ length o.programs
+  pub stand :
+      (q : ℕ) (program : Program) (walk : Place) → slice_get o.programs q ≡ Some program
+      → walk ≡ slice_index_or j.walks q walk → StandsAfter program walk (calls_by q h)
+  pub places : length j.counts ≡ 65
+  pub counted : (q : ℕ) → q ≤ 64 → slice_index j.counts q ≡ count_by (λ entry. entry.caller == q) h
+  pub events : j.events ≡ length h
+  pub bytes : j.bytes ≡ charge_of_all h
+
+-- a caller that doesn't wait has a next call of this charge
+pub record HasCall (o : Stage) (h : List Entry) (caller charge : ℕ) : Type 0 where
+  pub call : Event
+  pub next : next_by o.programs caller h ≡ Some call
+  pub goes : is_waiting (replay o.start h) caller ≡ false
+  pub charge_is : charge_of call ≡ charge

@@ -1,0 +1,67 @@
+//! The check of a journal.
+ghost use Rattle.std.specs.Prelude.{◌≡◌, ◌↔◌, ◌≤◌, List, length, IfOk};
+ghost use Rattle.session_order.specs.Ends.{Stage};
+ghost use Rattle.session_order.specs.Sessions.{ShowsTapes, stage_of, start_of};
+ghost use Rattle.vt_check.specs.Verdicts.{IsRightJournal, Judges};
+ghost use Rattle.vt_check.specs.declared.verdict.Verdict.{Verdict};
+ghost use Rattle.vt_check.specs.declared.verdict.Verdict.TheVariants as verdict;
+ghost use Rattle.vt_events.specs.declared.entry.Entry.{Entry};
+ghost use Rattle.vt_switch.specs.Law.{IsLawful};
+ghost use Rattle.vt_world.specs.History.{replay};
+ghost use Rattle.vt_world.specs.Laws.{moments};
+
+use crate::Verdict;
+use crate::judge::Judge;
+use crate::laws::one_verdict;
+use session_text::{Program, Session};
+use std::alloc::Global;
+use vt_base::NoMemory;
+use vt_events::Entry;
+use vt_journal::{Journal, Limits};
+use vt_world::{displays_are_lawful, screens_are_tapes};
+
+/// Whether the journal is one that the session can have: the verdict on it.
+pub fn check(alloc: Global, s: &Session, j: &Journal) -> Result<Verdict, NoMemory>
+    ensures judges { IfOk result (Judges (stage_of s.now) j.now.entries j.now.tail) }
+    ensures one { IfOk result (λ v. (other : Verdict)
+        → Judges (stage_of s.now) j.now.entries j.now.tail other → other ≡ v) }
+    ensures legal { IfOk result (λ v. (v ≡ verdict.Legal)
+        ↔ IsRightJournal (stage_of s.now) j.now.entries j.now.tail) }
+    ensures lawful { IfOk result (λ v. v ≡ verdict.Legal
+        → IsLawful (moments (start_of s.now) j.now.entries)) }
+    ensures screens { IfOk result (λ v. v ≡ verdict.Legal
+        → ShowsTapes s.now (replay (start_of s.now) j.now.entries) j.now.entries) }
+{
+    one_verdict();
+    displays_are_lawful();
+    screens_are_tapes();
+    let _config = s.config();
+    let verdict = judge_journal(alloc, s, j)?;
+    Ok(verdict)
+}
+
+// Judges the entries, and then the end.
+fn judge_journal(alloc: Global, s: &Session, j: &Journal) -> Result<Verdict, NoMemory>
+    ensures { IfOk result (Judges (stage_of s.now) j.now.entries j.now.tail) }
+{
+    let _starts = s.config().procs.as_slice();
+    let limits = s.limits();
+    let programs = s.programs();
+    let entries = j.entries.as_slice();
+    let mut judge = Judge::open(alloc, s)?;
+    for i in 0..entries.len() {
+        if let Some(why) = judge.judge(alloc, limits, programs, &entries[i])? {
+            return Ok(Verdict::Illegal {
+                index: i as u32,
+                why,
+            });
+        }
+    }
+    match judge.judge_end(alloc, limits, programs, &j.tail)? {
+        Some(why) => Ok(Verdict::Illegal {
+            index: entries.len() as u32,
+            why,
+        }),
+        None => Ok(Verdict::Legal),
+    }
+}

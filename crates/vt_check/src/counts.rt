@@ -1,0 +1,48 @@
+ghost use Rattle.std.specs.Prelude.{◌≡◌, ◌+◌, ◌-◌, ◌^◌, min, slice_index, slice_set, replicate};
+
+use std::marker::Model;
+use vt_base::CallerNo;
+
+/// The places for callers by their numbers.
+const PLACES: usize = 65;
+
+/// How many calls each caller made.
+#[derive(Debug, Drop)]
+pub struct Counts {
+    places: [u32; PLACES],
+}
+
+impl Model for Counts {
+    ghost use Rattle.std.specs.Prelude.{ℕ, List};
+
+    ghost Value = { List ℕ };
+
+    ghost view = { λ c. c.places };
+}
+
+impl Counts {
+    /// No calls yet.
+    pub fn new() -> Counts
+        ensures { result ≡ replicate 65 0 }
+    {
+        Counts {
+            places: [0; PLACES],
+        }
+    }
+
+    /// How many calls the caller made.
+    pub fn of(&self, caller: CallerNo) -> u32
+        ensures { result ≡ slice_index self.now caller }
+    {
+        self.places[usize::from(caller.get())]
+    }
+
+    /// The caller made one call more. The greatest count stands still.
+    pub fn add(&mut self, caller: CallerNo)
+        ensures { self.new ≡ slice_set self.old caller
+            (min (slice_index self.old caller + 1) (2 ^ 32 - 1)) }
+    {
+        let place = &mut self.places[usize::from(caller.get())];
+        *place = place.saturating_add(1);
+    }
+}

@@ -1,0 +1,174 @@
+//! How a journal ends, judged.
+ghost use Rattle.std.specs.Prelude.{◌≡◌, ◌≤◌, ◌<◌, ◌↔◌, ℕ, List, length, IfOk, IfSome, IfNone, IsTrue};
+ghost use Rattle.std.specs.Bool.{OnFalse, OnTrue};
+ghost use Rattle.session_order.specs.Calls.{all_over, next_by};
+ghost use Rattle.session_order.specs.Ends.{EndsBy, Stage, Stops};
+ghost use Rattle.vt_check.specs.Judging.{HasCall, IsAfter};
+ghost use Rattle.vt_check.specs.Verdicts.{EndFails};
+ghost use Rattle.vt_events.specs.declared.entry.Entry.{Entry};
+ghost use Rattle.vt_journal.specs.Room.{has_room};
+
+use crate::judge::Judge;
+use session_order::meant_laws;
+use session_text::Program;
+use std::alloc::Global;
+use vt_base::{CallerNo, NoMemory};
+use vt_events::{Event, charge};
+use vt_journal::{Full, Limits, Tail};
+
+/// The number of the reason that a program isn't over.
+const NOT_OVER: u8 = 4;
+
+/// That the last line isn't as the history ends.
+const ENDS_OTHERWISE: u8 = 5;
+
+impl Judge {
+    /// The number of the first reason why the history doesn't end so.
+    pub(crate) fn judge_end(
+        &self,
+        alloc: Global,
+        limits: Limits,
+        programs: &[Program],
+        end: &Tail,
+    ) -> Result<Option<u8>, NoMemory>
+        requires walks { length self.now.walks ≡ length programs.now }
+        requires callers { length programs.now ≤ 65 }
+        requires bytes { self.now.bytes ≤ 1_073_741_824 }
+        ensures fails { IfOk result (λ why. IfSome why (λ n. (o : Stage) (h : List Entry)
+            → o.programs ≡ programs.now → o.limits ≡ limits → IsAfter o h self.now
+            → EndFails o h end.now n)) }
+        ensures passes { IfOk result (λ why. IfNone why ((o : Stage) (h : List Entry)
+            → o.programs ≡ programs.now → o.limits ≡ limits → IsAfter o h self.now
+            → EndsBy o h end.now)) }
+    {
+        match end {
+            Tail::End { events, bytes } => {
+                if !self.are_over(alloc, programs)? {
+                    return Ok(Some(NOT_OVER));
+                }
+                if !self.has_numbers(*events, *bytes) {
+                    return Ok(Some(ENDS_OTHERWISE));
+                }
+                Ok(None)
+            }
+            Tail::Full(full) => {
+                if !self.stops(alloc, limits, programs, full)? {
+                    return Ok(Some(ENDS_OTHERWISE));
+                }
+                Ok(None)
+            }
+        }
+    }
+
+    // Whether these are the numbers of entries and of their bytes.
+    fn has_numbers(&self, events: u32, bytes: u64) -> bool
+        ensures { IsTrue result
+            ↔ ((events ≡ self.now.events) × (bytes ≡ self.now.bytes)) }
+    {
+        events == self.events && bytes == self.bytes
+    }
+
+    // Whether every program is over.
+    fn are_over(&self, alloc: Global, programs: &[Program]) -> Result<bool, NoMemory>
+        requires walks { length self.now.walks ≡ length programs.now }
+        ensures { IfOk result (λ are. (o : Stage) (h : List Entry) → o.programs ≡ programs.now
+            → IsAfter o h self.now → all_over o.programs h ≡ are) }
+    {
+        for i in 0..programs.len() {
+            if self.next(alloc, programs, i)?.is_some() {
+                return Ok(false);
+            }
+        }
+        Ok(true)
+    }
+
+    // Whether a caller that doesn't wait has a next call that finds no room, and these are the numbers.
+    fn stops(
+        &self,
+        alloc: Global,
+        limits: Limits,
+        programs: &[Program],
+        full: &Full,
+    ) -> Result<bool, NoMemory>
+        requires walks { length self.now.walks ≡ length programs.now }
+        requires callers { length programs.now ≤ 65 }
+        requires bytes { self.now.bytes ≤ 1_073_741_824 }
+        ensures { IfOk result (λ is. (o : Stage) (h : List Entry) → o.programs ≡ programs.now
+            → o.limits ≡ limits → IsAfter o h self.now → IsTrue is ↔ Stops o h full.now) }
+    {
+        if !self.has_numbers(full.events, full.bytes) {
+            return Ok(false);
+        }
+        if self.has_room(limits, full.charge) {
+            return Ok(false);
+        }
+        self.someone_calls(alloc, programs, full.charge)
+    }
+
+    // Whether a call of this charge finds room.
+    fn has_room(&self, limits: Limits, charge: u32) -> bool
+        requires { self.now.bytes ≤ 1_073_741_824 }
+        ensures { (o : Stage) (h : List Entry) → o.limits ≡ limits → IsAfter o h self.now
+            → has_room o.limits h charge ≡ result }
+    {
+        self.events < limits.events && self.bytes + u64::from(charge) <= limits.bytes
+    }
+
+    // Whether a caller that doesn't wait has a next call of this charge.
+    fn someone_calls(
+        &self,
+        alloc: Global,
+        programs: &[Program],
+        charge: u32,
+    ) -> Result<bool, NoMemory>
+        requires walks { length self.now.walks ≡ length programs.now }
+        requires callers { length programs.now ≤ 65 }
+        ensures found { IfOk result (λ is. OnTrue is ((o : Stage) (h : List Entry)
+            → o.programs ≡ programs.now → IsAfter o h self.now
+            → (caller : ℕ) × HasCall o h caller charge)) }
+        ensures none { IfOk result (λ is. OnFalse is ((o : Stage) (h : List Entry)
+            → o.programs ≡ programs.now → IsAfter o h self.now
+            → (caller : ℕ) → caller < length programs.now → ¬ HasCall o h caller charge)) }
+    {
+        for i in 0..programs.len() {
+            if self.calls(alloc, programs, i, charge)? {
+                return Ok(true);
+            }
+        }
+        Ok(false)
+    }
+
+    // Whether the caller doesn't wait, and its next call has this charge.
+    fn calls(
+        &self,
+        alloc: Global,
+        programs: &[Program],
+        i: usize,
+        wanted: u32,
+    ) -> Result<bool, NoMemory>
+        requires walks { length self.now.walks ≡ length programs.now }
+        requires known { i < length programs.now }
+        requires callers { length programs.now ≤ 65 }
+        ensures { IfOk result (λ is. (o : Stage) (h : List Entry) → o.programs ≡ programs.now
+            → IsAfter o h self.now → IsTrue is ↔ HasCall o h i wanted) }
+    {
+        if self.world.waiting(CallerNo::numbered(i as u16)) {
+            return Ok(false);
+        }
+        match self.next(alloc, programs, i)? {
+            Some(call) => Ok(charge(&call) == wanted),
+            None => Ok(false),
+        }
+    }
+
+    // The next call of the caller, where its program isn't over.
+    fn next(&self, alloc: Global, programs: &[Program], i: usize) -> Result<Option<Event>, NoMemory>
+        requires walks { length self.now.walks ≡ length programs.now }
+        requires known { i < length programs.now }
+        ensures { IfOk result (λ e. (o : Stage) (h : List Entry) → o.programs ≡ programs.now
+            → IsAfter o h self.now → e ≡ next_by o.programs i h) }
+    {
+        meant_laws();
+        self.walks[i].next(alloc, &programs[i])
+    }
+}

@@ -1,0 +1,208 @@
+ghost use Rattle.std.specs.Prelude.{◌≡◌, ◌≤◌, ◌<◌, ◌↔◌, ◌&&◌, List, [], ◌∷◌, ◌++◌, Some, length, All, IfOk, IfSome, IfNone, IsTrue, slice_get};
+ghost use Rattle.session_order.specs.Ends.{Stage};
+ghost use Rattle.session_order.specs.Follows.{IsNextCall, is_waiting};
+ghost use Rattle.session_order.specs.Sessions.{stage_of};
+ghost use Rattle.session_text.specs.Walks.{Stands};
+ghost use Rattle.session_text.specs.declared.program.Program.{Program};
+ghost use Rattle.vt_check.specs.Judging.{IsAfter};
+ghost use Rattle.vt_check.specs.Verdicts.{FailsAt, IsAnswered, IsCounted, Passes};
+ghost use Rattle.vt_events.specs.declared.entry.Entry.{Entry};
+ghost use Rattle.vt_journal.specs.Room.{IsWithin};
+ghost use Rattle.vt_world.specs.Refusals.{ends_wait};
+
+use crate::counts::Counts;
+use session_order::meant_laws;
+use session_text::{Program, Session, Walk};
+use std::alloc::Global;
+use std::marker::Model;
+use vt_base::NoMemory;
+use vt_events::{Entry, Event, charge};
+use vt_journal::{Limits, same_event, same_reply};
+use vt_world::{World, legal_grows, spare_for};
+
+/// The number of the reason that the caller isn't one of the session, or the number isn't its next.
+const NOT_COUNTED: u8 = 1;
+
+/// That the call isn't the next of its program, or ends a wait that goes on.
+const NOT_NEXT: u8 = 2;
+
+/// That the answer isn't the console's.
+const NOT_ANSWERED: u8 = 3;
+
+/// That the journal's limits are passed.
+const PAST_LIMITS: u8 = 5;
+
+/// A console, where each caller's walk through its program stands, how many calls each made, how many
+/// entries there were and what they count for.
+#[derive(Debug, Drop)]
+pub(crate) struct Judge {
+    pub(crate) world: World,
+    pub(crate) walks: Vec<Walk>,
+    counts: Counts,
+    pub(crate) events: u32,
+    pub(crate) bytes: u64,
+}
+
+impl Model for Judge {
+    ghost use Rattle.vt_check.specs.Judging.{JudgeView};
+
+    ghost Value = { JudgeView };
+
+    ghost view = { λ j. record {
+      world = j.world;
+      walks = j.walks.items;
+      counts = j.counts;
+      events = j.events;
+      bytes = j.bytes;
+    } };
+}
+
+impl Judge {
+    /// Nothing is judged yet.
+    pub(crate) fn open(alloc: Global, s: &Session) -> Result<Judge, NoMemory>
+        ensures at { IfOk result (λ judge. IsAfter (stage_of s.now) [] judge) }
+        ensures events { IfOk result (λ judge. judge.events ≡ 0) }
+        ensures bytes { IfOk result (λ judge. judge.bytes ≡ 0) }
+    {
+        let world = World::start(alloc, s.config(), s.key_tables())?;
+        let walks = first_walks(alloc, s.programs().len())?;
+        Ok(Judge {
+            world,
+            walks,
+            counts: Counts::new(),
+            events: 0,
+            bytes: 0,
+        })
+    }
+
+    /// The number of the first reason why the entry fails. Where it passes, the judge is behind it.
+    pub(crate) fn judge(
+        &mut self,
+        alloc: Global,
+        limits: Limits,
+        programs: &[Program],
+        entry: &Entry,
+    ) -> Result<Option<u8>, NoMemory>
+        requires walks { length self.old.walks ≡ length programs.now }
+        requires events { self.old.events ≤ 1_000_000 }
+        requires bytes { self.old.bytes ≤ 1_073_741_824 }
+        ensures fails { IfOk result (λ why. IfSome why (λ n. (o : Stage) (h : List Entry)
+            → o.programs ≡ programs.now → o.limits ≡ limits → IsAfter o h self.old
+            → FailsAt o h entry.now n)) }
+        ensures passes { IfOk result (λ why. IfNone why ((o : Stage) (h : List Entry)
+            → o.programs ≡ programs.now → o.limits ≡ limits → IsAfter o h self.old
+            → Passes o h entry.now)) }
+        ensures after { IfOk result (λ why. IfNone why ((o : Stage) (h : List Entry)
+            → o.programs ≡ programs.now → IsAfter o h self.old
+            → IsAfter o (h ++ entry.now ∷ []) self.new)) }
+        ensures walks { IfOk result (λ why. length self.new.walks ≡ length programs.now) }
+        ensures events { IfOk result (λ why. IfNone why (self.new.events ≤ limits.events)) }
+        ensures bytes { IfOk result (λ why. IfNone why (self.new.bytes ≤ limits.bytes)) }
+    {
+        if !self.is_counted(programs.len(), entry) {
+            return Ok(Some(NOT_COUNTED));
+        }
+        let program = &programs[usize::from(entry.caller.get())];
+        if !self.is_next(alloc, program, entry)? {
+            return Ok(Some(NOT_NEXT));
+        }
+        if !self.is_answered(alloc, program, entry)? {
+            return Ok(Some(NOT_ANSWERED));
+        }
+        if !self.is_within(limits) {
+            return Ok(Some(PAST_LIMITS));
+        }
+        Ok(None)
+    }
+
+    // Whether the caller is one of so many, and the number counts its calls.
+    fn is_counted(&self, callers: usize, entry: &Entry) -> bool
+        ensures counted { (o : Stage) (h : List Entry) → length o.programs ≡ callers
+            → IsAfter o h self.now → IsTrue result ↔ IsCounted o h entry.now }
+        ensures known { IsTrue result → entry.now.caller < callers }
+    {
+        usize::from(entry.caller.get()) < callers && entry.seq == self.counts.of(entry.caller)
+    }
+
+    // Whether the call is the next of its caller's program, and ends no wait that goes on.
+    fn is_next(&self, alloc: Global, program: &Program, entry: &Entry) -> Result<bool, NoMemory>
+        requires { entry.now.caller < length self.now.walks }
+        ensures { IfOk result (λ is. (o : Stage) (h : List Entry)
+            → slice_get o.programs entry.now.caller ≡ Some program.now → IsAfter o h self.now
+            → IsTrue is ↔ IsNextCall o.start o.programs h entry.now) }
+    {
+        meant_laws();
+        if self.goes_on_waiting(entry) {
+            return Ok(false);
+        }
+        let walk = &self.walks[usize::from(entry.caller.get())];
+        match walk.next(alloc, program)? {
+            Some(call) => Ok(same_event(&call, &entry.event)),
+            None => Ok(false),
+        }
+    }
+
+    // Whether the call would end a wait that goes on.
+    fn goes_on_waiting(&self, entry: &Entry) -> bool
+        ensures { result
+            ≡ (ends_wait entry.now.event && is_waiting self.now.world entry.now.caller) }
+    {
+        matches!(entry.event, Event::WaitEnd) && self.world.waiting(entry.caller)
+    }
+
+    // Whether the answer is the console's. Where it is, and the call was the next, the judge is behind it.
+    fn is_answered(
+        &mut self,
+        alloc: Global,
+        program: &Program,
+        entry: &Entry,
+    ) -> Result<bool, NoMemory>
+        requires walk { entry.now.caller < length self.old.walks }
+        requires events { self.old.events ≤ 1_000_000 }
+        requires bytes { self.old.bytes ≤ 1_073_741_824 }
+        ensures answered { IfOk result (λ is. (o : Stage) (h : List Entry) → IsAfter o h self.old
+            → IsTrue is ↔ IsAnswered o h entry.now) }
+        ensures after { IfOk result (λ is. (o : Stage) (h : List Entry) → IsTrue is
+            → slice_get o.programs entry.now.caller ≡ Some program.now → IsAfter o h self.old
+            → IsNextCall o.start o.programs h entry.now
+            → IsAfter o (h ++ entry.now ∷ []) self.new) }
+        ensures walks { IfOk result (λ is. length self.new.walks ≡ length self.old.walks) }
+    {
+        legal_grows();
+        meant_laws();
+        let spare = spare_for(alloc, &entry.event, self.world.size())?;
+        let (reply, _unused) = self.world.step(entry.caller, &entry.event, spare);
+        if !same_reply(&reply, &entry.reply) {
+            return Ok(false);
+        }
+        let walk = &mut self.walks[usize::from(entry.caller.get())];
+        walk.took(program, &entry.reply);
+        self.counts.add(entry.caller);
+        self.events += 1;
+        self.bytes += u64::from(charge(&entry.event));
+        Ok(true)
+    }
+
+    // Whether the entries so far are within the limits.
+    fn is_within(&self, limits: Limits) -> bool
+        ensures within { (o : Stage) (h : List Entry) → o.limits ≡ limits → IsAfter o h self.now
+            → IsTrue result ↔ IsWithin o.limits h }
+        ensures events { IsTrue result → self.now.events ≤ limits.events }
+        ensures bytes { IsTrue result → self.now.bytes ≤ limits.bytes }
+    {
+        self.events <= limits.events && self.bytes <= limits.bytes
+    }
+}
+
+// A walk for each caller, of which nothing was called.
+fn first_walks(alloc: Global, callers: usize) -> Result<Vec<Walk>, NoMemory>
+    ensures callers { IfOk result (λ walks. length walks.items ≡ callers) }
+    ensures stand { IfOk result (λ walks.
+        All (λ walk. (p : Program) → Stands p walk []) walks.items) }
+{
+    let mut walks = Vec::with_capacity(alloc, callers)?;
+    for _caller in 0..callers {
+        walks.push(Walk::start())?;
+    }
+    Ok(walks)
+}

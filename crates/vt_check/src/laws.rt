@@ -1,0 +1,8 @@
+//! The laws of verdicts.
+ghost use Rattle.vt_check.specs.Verdicts.{LegalIsRight, OneVerdict};
+
+/// There is one verdict on a journal; it is legal exactly where the journal is right.
+pub fn one_verdict()
+    ensures one { OneVerdict }
+    ensures legal { LegalIsRight }
+{}

@@ -1,0 +1,13 @@
+//! The verdict on a journal: it is a legal history of a session, or where it fails first and why.
+#![tactic(auto)]
+
+mod checking;
+mod counts;
+mod endings;
+mod judge;
+mod laws;
+mod verdict;
+
+pub use checking::check;
+pub use laws::one_verdict;
+pub use verdict::Verdict;

@@ -1,0 +1,112 @@
+-- Rows that are made blank by their numbers.
+use Rattle.std.proofs.Common.{◌≡◌, ℕ, zero, suc, ◌+◌, ◌-◌, ◌<◌, ◌≤◌, List, [], ◌∷◌, ◌++◌, length, take, drop, set, get_or, refl, sym, ap, ◌∙◌, subst, arith, rules}
+use Rattle.std.proofs.lemmas.List.{places, same_lists, length-append, length-map, length-set, length-take-le, length-drop, get_or-drop, take_more}
+use Rattle.vt_grid.proofs.Naming.{IsNaming-set, named-set}
+use Rattle.vt_grid.proofs.Scrolls.{cleared_more, cleared_none}
+use Rattle.vt_grid.proofs.Turns.{IsPlace}
+use Rattle.vt_grid.specs.Line.{Line, blank_line}
+use Rattle.vt_grid.specs.Ring.{Shelf, IsNaming, cut_all, named, shelf_at}
+use Rattle.vt_grid.specs.Store.{cleared, turned}
+use Rattle.vt_cells.specs.declared.cell.Cell.{Cell}
+
+abbrev blank_shelf : Cell → Shelf → Shelf
+blank_shelf c shelf = record shelf { line = blank_line c }
+
+-- one row is cleared as it is set
+pub cleared_one : (from : ℕ) (line : Line) (lines : List Line) → from < length lines
+    → set lines from line ≡ cleared from 1 line lines
+cleared_one from line lines within =
+    let none : cleared from 0 line lines ≡ lines = cleared_none from line lines (omega arith) in
+    let at : from ≡ from + 0 = omega arith in
+    (λ i. set (sym none i) (at i) line) ∙ cleared_more from 0 line lines (omega arith)
+
+pub length-cut_all : (order : List ℕ) (c : Cell) (shelves : List Shelf)
+    → length (cut_all order c shelves) ≡ length shelves
+length-cut_all [] c shelves = refl
+length-cut_all (p ∷ order) c shelves =
+    length-cut_all order c (set shelves p (blank_shelf c (shelf_at shelves p)))
+    ∙ length-set shelves p (blank_shelf c (shelf_at shelves p))
+
+pub cut_all-append : (front back : List ℕ) (c : Cell) (shelves : List Shelf)
+    → cut_all back c (cut_all front c shelves) ≡ cut_all (front ++ back) c shelves
+cut_all-append [] back c shelves = refl
+cut_all-append (p ∷ front) back c shelves =
+    cut_all-append front back c (set shelves p (blank_shelf c (shelf_at shelves p)))
+
+length-named : (order : List ℕ) (shelves : List Shelf) → length (named shelves order) ≡ length order
+length-named order shelves = length-map {B = Line} order (λ p. (shelf_at shelves p).line)
+
+-- the numbers of two pieces name rows
+pub pieces-within : (order front back : List ℕ) (from count n : ℕ)
+    → front ++ back ≡ take count (drop from order) → from + count ≤ length order
+    → ((y : ℕ) → y < length order → get_or order y 0 < n)
+    → ((i : ℕ) → i < length front → get_or front i 0 < n)
+    × ((i : ℕ) → i < length back → get_or back i 0 < n)
+pieces-within order front back from count n is within names =
+    let len : length front + length back ≡ count =
+    sym (length-append front back) ∙ ap (λ (xs : List ℕ). length xs) is
+    ∙ length-take-le count (drop from order) (omega (arith, length-drop from order)) in
+    let at : (k : ℕ) → get_or (front ++ back) k 0 ≡ get_or (take count (drop from order)) k 0 =
+    λ k. ap (λ (xs : List ℕ). get_or xs k 0) is in (
+      (λ i i_in.
+          let same : get_or front i 0 ≡ get_or order (from + i) 0 =
+          let here = at i in grind (arith, places) in
+          subst (λ (p : ℕ). p < n) (sym same) (names (from + i) (omega arith))),
+      (λ i i_in.
+          let same : get_or back i 0 ≡ get_or order (from + (length front + i)) 0 =
+          let here = at (length front + i) in grind (arith, places) in
+          subst (λ (p : ℕ). p < n) (sym same) (names (from + (length front + i)) (omega arith))),
+    )
+
+-- the pieces of a ring
+pub one-piece : (head from start count : ℕ) (numbers : List ℕ) → head < length numbers
+    → from ≤ length numbers → start < length numbers → IsPlace (length numbers) head from start
+    → from + count ≤ length numbers → start + count ≤ length numbers
+    → take count (drop start numbers) ++ [] ≡ take count (drop from (turned head numbers))
+one-piece head from start count numbers head_in from_in start_in is within fits =
+    same_lists _ _ (search (rules, places)) (λ k d k_in. grind (arith, places))
+
+pub two-pieces : (head from start count : ℕ) (numbers : List ℕ) → head < length numbers
+    → from ≤ length numbers → start < length numbers → IsPlace (length numbers) head from start
+    → from + count ≤ length numbers → length numbers ≤ start + count
+    → take (length numbers - start) (drop start numbers) ++ take (count - (length numbers - start)) numbers
+    ≡ take count (drop from (turned head numbers))
+two-pieces head from start count numbers head_in from_in start_in is within past =
+    same_lists _ _ (search (rules, places)) (λ k d k_in. grind (arith, places))
+
+module _ (rows cols : ℕ) (order : List ℕ) (shelves : List Shelf)
+    (naming : IsNaming rows cols order shelves) (c : Cell) (from : ℕ)
+  where
+    -- after the rows of the first i numbers are made blank
+    abbrev now : ℕ → List Shelf
+    now i = cut_all (take i (drop from order)) c shelves
+
+    pub clears : (i : ℕ) → from + i ≤ rows
+        → IsNaming rows cols order (now i)
+        × (named (now i) order ≡ cleared from i (blank_line c) (named shelves order))
+    clears zero within =
+        let tall : from ≤ length (named shelves order) =
+        omega (arith, naming.numbers, length-named order shelves) in
+        (naming, sym (cleared_none from (blank_line c) (named shelves order) tall))
+    clears (suc i) within =
+        let before = clears i (omega arith) in
+        let next : suc i ≡ i + 1 = omega arith in
+        let p : ℕ = get_or order (from + i) 0 in
+        let shelf : Shelf = blank_shelf c (shelf_at (now i) p) in
+        let p_in : p < rows = naming.within (from + i) (omega arith) in
+        let more : now (suc i) ≡ set (now i) p shelf =
+        ap now next
+        ∙ ap (λ (ps : List ℕ). cut_all ps c shelves)
+        (take_more (drop from order) i 0 (omega (arith, length-drop from order, naming.numbers))
+        ∙ ap (λ (q : ℕ). take i (drop from order) ++ q ∷ []) (get_or-drop from order i 0))
+        ∙ sym (cut_all-append (take i (drop from order)) (p ∷ []) c shelves) in
+        let tall : from + i < length (named shelves order) =
+        omega (arith, naming.numbers, length-named order shelves) in (
+          subst (λ (kept : List Shelf). IsNaming rows cols order kept) (sym more)
+              (IsNaming-set rows cols order (now i) before.0 p shelf p_in (before.0.room p p_in) (omega arith)),
+          ap (λ (kept : List Shelf). named kept order) more
+              ∙ named-set rows cols order (now i) before.0 (from + i) p shelf (omega arith) refl
+              ∙ ap (λ (lines : List Line). set lines (from + i) (blank_line c)) before.1
+              ∙ cleared_more from i (blank_line c) (named shelves order) tall
+              ∙ ap (λ (n : ℕ). cleared from n (blank_line c) (named shelves order)) (sym next),
+        )

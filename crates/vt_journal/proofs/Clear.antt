@@ -1,0 +1,140 @@
+-- Words are clear of blanks and of line ends, so they are found again in their text.
+use Rattle.std.proofs.Common.{◌≡◌, ◌≢◌, ℕ, ◌+◌, ◌/◌, ◌%◌, ◌<◌, ◌^◌, Bool, true, false, ◌&&◌, eqb, ltb, cond, Option, Some, None, List, [], ◌∷◌, ◌++◌, map, suc, decimal, refl, ap, ◌∙◌, arith}
+use Rattle.std.specs.List.{All, list_all, flat_map}
+use Rattle.std.proofs.lemmas.Bool.{and_parts, lt-ltb, ltb-true, ne_eqb}
+use Rattle.std.proofs.lemmas.Fmt.{decimal_by_steps}
+use Rattle.std.proofs.lemmas.List.Elements.{All-append, All-cons, All-nil, All-weaker}
+use Rattle.std.proofs.lemmas.List.Folds.{list_all-append}
+use Rattle.std.proofs.lemmas.List.Splits.{slice_split_at, slice_split_none}
+use Rattle.std.proofs.lemmas.List.Sums.{AllPass-from_list_all}
+use Rattle.vt_events.specs.declared.event.Event.{Event}
+use Rattle.vt_events.specs.declared.event.Event.TheVariants as event
+use Rattle.vt_journal.specs.Calls.{held_of, name_of, numbers_of}
+use Rattle.vt_journal.specs.Cut.{cut}
+use Rattle.vt_journal.specs.Hex.{hex_byte, hex_digit}
+use Rattle.vt_journal.specs.Lines.{IsLine}
+use Rattle.vt_journal.specs.Replies.{reply_name}
+use Rattle.vt_journal.specs.Text.{spaced}
+use Rattle.vt_journal.specs.Words.{IsFit, event_words, held_words, spelled}
+use Rattle.vt_journal.specs.declared.reply_kind.ReplyKind.{ReplyKind}
+use Rattle.vt_journal.specs.declared.reply_kind.ReplyKind.TheVariants as kind
+use Rattle.vt_journal.proofs.Lines.{spelled-cons}
+
+-- each byte is above that of a blank
+abbrev pub is_clear : List ℕ → Bool
+is_clear word = list_all (λ b. ltb 0x20 b) word
+
+-- each of these words is so
+abbrev pub are_clear : List (List ℕ) → Bool
+are_clear words = list_all is_clear words
+
+all_above : (word : List ℕ) → is_clear word ≡ true → All (λ b. 0x20 < b) word
+all_above word is =
+    All-weaker (λ b. ltb 0x20 b ≡ true) (λ b. 0x20 < b) (λ b above. ltb-true 0x20 b above) word
+    (AllPass-from_list_all (λ b. ltb 0x20 b) word is)
+
+other : (b n : ℕ) → n < b → b ≡ n → ⊥
+other b n above same = omega (arith, above, same)
+
+-- no blank at any place
+no_blank : (word : List ℕ) → is_clear word ≡ true → All (λ b. eqb b 0x20 ≡ false) word
+no_blank word is =
+    All-weaker (λ b. 0x20 < b) (λ b. eqb b 0x20 ≡ false)
+    (λ b above. ne_eqb b 0x20 (other b 0x20 above)) word (all_above word is)
+
+-- and no line end
+line_of_word : (word : List ℕ) → is_clear word ≡ true → IsLine word
+line_of_word word is =
+    All-weaker (λ b. 0x20 < b) (λ b. b ≢ 0x0A)
+    (λ b above. other b 0x0A (omega (arith, above))) word (all_above word is)
+
+line_of_words : (words : List (List ℕ)) → are_clear words ≡ true → IsLine (spaced words)
+line_of_words [] is = All-nil (λ b. b ≢ 0x0A)
+line_of_words (word ∷ words) is =
+    let both = and_parts (is_clear word) (are_clear words) is in
+    All-cons (λ b. b ≢ 0x0A) 0x20 (word ++ spaced words) (λ same. omega (arith, same))
+    (All-append (λ b. b ≢ 0x0A) word (spaced words) (line_of_word word both.0)
+    (line_of_words words both.1))
+
+-- spelled words are a line
+pub line-spelled : (word : List ℕ) (words : List (List ℕ)) → is_clear word ≡ true
+    → are_clear words ≡ true → IsLine (spelled (word ∷ words))
+line-spelled word words first others =
+    rw (spelled-cons word words)
+    (All-append (λ b. b ≢ 0x0A) word (spaced words) (line_of_word word first)
+    (line_of_words words others))
+
+-- words are found again in their text
+pub cut-spelled : (word : List ℕ) (words : List (List ℕ)) → is_clear word ≡ true
+    → are_clear words ≡ true → cut (spelled (word ∷ words)) ≡ word ∷ words
+cut-spelled word [] first others =
+    slice_split_none (λ b. eqb b 0x20) word (no_blank word first)
+cut-spelled word (next ∷ words) first others =
+    let both = and_parts (is_clear next) (are_clear words) others in
+    slice_split_at (λ b. eqb b 0x20) word 0x20 (spelled (next ∷ words)) (no_blank word first) refl
+    ∙ ap (λ rest. word ∷ rest) (cut-spelled next words both.0 both.1)
+
+-- words one behind the other
+pub are_clear-append : (u v : List (List ℕ)) → are_clear u ≡ true → are_clear v ≡ true
+    → are_clear (u ++ v) ≡ true
+are_clear-append u v first others = list_all-append is_clear u v ∙ (λ j. first j && others j)
+
+-- names are clear
+pub is_clear-name : (e : Event) → is_clear (name_of e) ≡ true
+is_clear-name (event.Scan b) = refl
+is_clear-name e = refl
+
+is_clear-reply_name : (k : ReplyKind) → is_clear (reply_name k) ≡ true
+is_clear-reply_name kind.Done = refl
+is_clear-reply_name k = refl
+
+-- numbers are clear
+pub is_clear-decimal : (n : ℕ) → n < 2 ^ 64 → is_clear (decimal n) ≡ true
+is_clear-decimal =
+    decimal_by_steps (λ _ digits. is_clear digits ≡ true) (λ n below. digit_word n)
+    (λ n digits above others.
+    list_all-append (λ b. ltb 0x20 b) digits ((48 + n % 10) ∷ [])
+    ∙ (λ j. others j && digit_word (n % 10) j))
+  where
+    digit_word : (n : ℕ) → is_clear ((48 + n) ∷ []) ≡ true
+    digit_word n = ap (λ b. b && true) (lt-ltb 0x20 (48 + n) (omega arith))
+
+-- so are lists of numbers
+pub are_clear-decimals : (ns : List ℕ) → All (λ n. n < 2 ^ 64) ns
+    → are_clear (map decimal ns) ≡ true
+are_clear-decimals [] fit = refl
+are_clear-decimals (n ∷ ns) fit =
+    λ j.
+    is_clear-decimal n (fit 0 0 (omega arith)) j
+    && are_clear-decimals ns (λ k d within. fit (suc k) d (omega arith)) j
+
+-- a hexadecimal digit is no blank
+hex_digit-clear : (n : ℕ) → ltb 0x20 (hex_digit n) ≡ true
+hex_digit-clear n = by_test (ltb n 10)
+  where
+    by_test : (r : Bool) → ltb 0x20 (cond r (0x30 + n) (0x57 + n)) ≡ true
+    by_test true = lt-ltb 0x20 (0x30 + n) (omega arith)
+    by_test false = lt-ltb 0x20 (0x57 + n) (omega arith)
+
+is_clear-pairs : (bytes : List ℕ) → is_clear (flat_map hex_byte bytes) ≡ true
+is_clear-pairs [] = refl
+is_clear-pairs (b ∷ bytes) =
+    λ j. hex_digit-clear (b / 16) j && (hex_digit-clear (b % 16) j && is_clear-pairs bytes j)
+
+-- bytes are clear
+pub are_clear-held : (held : Option (List ℕ)) → are_clear (held_words held) ≡ true
+are_clear-held None = refl
+are_clear-held (Some []) = refl
+are_clear-held (Some (b ∷ bytes)) = ap (λ r. r && true) (is_clear-pairs (b ∷ bytes))
+
+-- so are all words of a call
+below_wide : (n : ℕ) → n < 2 ^ 16 → n < 2 ^ 64
+below_wide n below = omega (arith, below)
+
+pub are_clear-event : (e : Event) → IsFit e → are_clear (event_words e) ≡ true
+are_clear-event e fit =
+    let numbers = All-weaker (λ n. n < 2 ^ 16) (λ n. n < 2 ^ 64) below_wide (numbers_of e) fit.numbers in
+    let others =
+    are_clear-append (map decimal (numbers_of e)) (held_words (held_of e))
+    (are_clear-decimals (numbers_of e) numbers) (are_clear-held (held_of e)) in
+    λ j. is_clear-name e j && others j

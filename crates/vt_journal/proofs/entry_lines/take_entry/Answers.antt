@@ -1,0 +1,30 @@
+use Rattle.std.proofs.Common.{◌≡◌, ◌++◌}
+use Rattle.std.proofs.lemmas.Bool.{OnFalse_at, OnTrue_at}
+use Rattle.vt_journal.specs.Words.{reply_words}
+use Rattle.vt_journal.proofs.Once.{behind_caller}
+use Rattle.vt_journal.proofs.entry_lines.take_entry.Goals as goal
+
+pub returns-then-not-take_word-clause-none : goal.returns-then-not-take_word-clause-none
+returns-then-not-take_word-clause-none c =
+    λ e rest fit is.
+    let found = rw c.in-Some-2.is at c.in_ok-event.ensures.found in
+    let fit_d = rw c.in-Some-2.is at c.in_ok-event.ensures.fit in
+    let plain = rw c.in-Some-2.is at c.in_ok-event.ensures.plain in
+    let none = OnFalse_at c.if-not-take_word.true c.take_word.ensures.none in
+    none _
+    (behind_caller _ c.take_caller.new.words c.take_number.new.words c.take_event.new.words _ _ _ e rest
+    fit_d plain fit c.in-Some.ensures.found c.in-Some-take_number.ensures.found found is)
+
+pub returns-in_default-3-clause-none : goal.returns-in_default-3-clause-none
+returns-in_default-3-clause-none c =
+    λ e rest fit is.
+    let found = rw c.in-Some-2.is at c.in_ok-event.ensures.found in
+    let fit_d = rw c.in-Some-2.is at c.in_ok-event.ensures.fit in
+    let plain = rw c.in-Some-2.is at c.in_ok-event.ensures.plain in
+    let none = rw c.in_default-3.is at c.in_ok-reply.ensures.none in
+    let sign = OnTrue_at c.if-not-take_word.false c.take_word.ensures.found in
+    let ahead =
+    behind_caller _ c.take_caller.new.words c.take_number.new.words c.take_event.new.words _ _ _ e rest
+    fit_d plain fit c.in-Some.ensures.found c.in-Some-take_number.ensures.found found is in
+    let answer : c.take_word.new.words ≡ reply_words e.reply ++ rest = cc in
+    none e.reply rest fit.answer answer

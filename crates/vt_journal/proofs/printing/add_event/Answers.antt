@@ -1,0 +1,13 @@
+use Rattle.std.proofs.Common.{◌<◌, ◌^◌, subst, ◌∙◌}
+use Rattle.std.specs.List.{All}
+use Rattle.std.specs.Prelude.{IfSome}
+use Rattle.vt_journal.proofs.Comparing.{fit_meant}
+use Rattle.vt_journal.proofs.printing.add_event.Goals as goal
+
+pub returns-clause-fit : goal.returns-clause-fit
+returns-clause-fit c =
+    fit_meant c.args.e.now
+    (subst (All (λ n. n < 2 ^ 16)) (c.as_slice.ensures.value ∙ c.of-parts.ensures.numbers)
+    c.add_named.ensures.fit)
+    (subst (λ held. IfSome held (λ bytes. All (λ b. b < 2 ^ 8) bytes)) c.of-parts.ensures.held
+    c.add_held.ensures.fit)

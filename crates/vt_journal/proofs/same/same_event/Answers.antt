@@ -1,0 +1,60 @@
+use Rattle.std.proofs.Common.{◌≡◌, sym, ap, ◌∙◌}
+use Rattle.std.proofs.lemmas.Bool.{both_ways, false≢true, not-false, not-true}
+use Rattle.std.proofs.lemmas.Slice.Eq.{bytes_eq-Decides}
+use Rattle.std.specs.Str.{bytes_eq}
+use Rattle.vt_journal.specs.Calls.{name_of}
+use Rattle.vt_journal.specs.Kinds.{blank}
+use Rattle.vt_journal.proofs.Calls.{kind_once}
+use Rattle.vt_journal.proofs.Comparing.{same_meant, same_parts}
+use Rattle.vt_journal.proofs.same.same_event.Goals as goal
+
+pub returns-then-not-same_kind : goal.returns-then-not-same_kind
+returns-then-not-same_kind c = (
+  λ is. absurd (false≢true is),
+  λ same.
+      let are = same_parts c.args.d.now c.args.e.now same in
+      absurd (both_ways c.same_kind.result c.if-not-same_kind.true
+      (c.same_kind.ensures.1
+      (kind_once c.of-one.result.kind c.of-other.result.kind
+      (c.of-one.ensures.name ∙ are.name ∙ sym c.of-other.ensures.name)))),
+)
+
+pub returns-then-ne : goal.returns-then-ne
+returns-then-ne c = (
+  λ is. absurd (false≢true is),
+  λ same.
+      let are = same_parts c.args.d.now c.args.e.now same in
+      let numbers : c.as_slice.result.now ≡ c.as_slice-2.result.now =
+      c.as_slice.ensures.value
+      ∙ c.of-one.ensures.numbers
+      ∙ are.numbers
+      ∙ sym c.of-other.ensures.numbers
+      ∙ sym c.as_slice-2.ensures.value in
+      absurd (both_ways (bytes_eq c.as_slice.result.now c.as_slice-2.result.now)
+      (not-true (bytes_eq c.as_slice.result.now c.as_slice-2.result.now) (sym c.ne.ensures ∙ c.if-ne.true))
+      ((bytes_eq-Decides c.as_slice.result.now c.as_slice-2.result.now).1 numbers)),
+)
+
+pub returns : goal.returns
+returns c = (
+  λ is.
+      let numbers : c.as_slice.result.now ≡ c.as_slice-2.result.now =
+      (bytes_eq-Decides c.as_slice.result.now c.as_slice-2.result.now).0
+      (not-false (bytes_eq c.as_slice.result.now c.as_slice-2.result.now) (sym c.ne.ensures ∙ c.if-ne.false)) in
+      same_meant c.args.d.now c.args.e.now (record {
+        name =
+            sym c.of-one.ensures.name
+            ∙ ap (λ k. name_of (blank k)) (c.same_kind.ensures.0 c.if-not-same_kind.false)
+            ∙ c.of-other.ensures.name;
+        numbers =
+            sym c.of-one.ensures.numbers
+            ∙ sym c.as_slice.ensures.value
+            ∙ numbers
+            ∙ c.as_slice-2.ensures.value
+            ∙ c.of-other.ensures.numbers;
+        held = sym c.of-one.ensures.held ∙ c.same_held.ensures.0 is ∙ c.of-other.ensures.held;
+      }),
+  λ same.
+      let are = same_parts c.args.d.now c.args.e.now same in
+      c.same_held.ensures.1 (c.of-one.ensures.held ∙ are.held ∙ sym c.of-other.ensures.held),
+)

@@ -1,0 +1,24 @@
+-- Texts cut at their lines.
+use Rattle.std.specs.Prelude.{◌≡◌, ◌≢◌, ℕ, List, ◌∷◌, ◌++◌}
+use Rattle.std.specs.List.{All}
+use Rattle.vt_journal.specs.Journal.{entry_words, line_text, tail_words}
+use Rattle.vt_journal.specs.Says.{IsFitEntry, IsFitTail, IsNoEntry, IsNoTail}
+use Rattle.vt_journal.specs.declared.next.Next.{Next}
+use Rattle.vt_journal.specs.declared.next.Next.TheVariants as next
+
+-- none of them is LF
+abbrev pub IsLine : List ℕ → Type 0
+IsLine line = All (λ b. b ≢ 0x0A) line
+
+-- the text is this line, LF, and what is behind it
+pub record IsCutAt (text line behind : List ℕ) : Type 0 where
+  pub no_end : IsLine line
+  pub parts : text ≡ line ++ 0x0A ∷ behind
+
+-- what the first line of a text is
+abbrev pub NextIs : List ℕ → Next → Type 0
+NextIs text (next.Entry entry behind) =
+    IsFitEntry entry × (text ≡ line_text (entry_words entry) ++ behind.now)
+NextIs text (next.Tail end behind) =
+    IsFitTail end × (text ≡ line_text (tail_words end) ++ behind.now)
+NextIs text next.Other = IsNoEntry text × IsNoTail text

@@ -1,0 +1,75 @@
+//! Entries read from their lines.
+ghost use Rattle.std.specs.Prelude.{◌≡◌, ◌≢◌, ℕ, List, ◌∷◌, ◌++◌, IfOk, IfSome, IfNone};
+ghost use Rattle.std.specs.Bool.{OnFalse, OnTrue};
+ghost use Rattle.vt_events.specs.declared.entry.Entry.{Entry};
+ghost use Rattle.vt_journal.specs.Journal.{entry_words};
+ghost use Rattle.vt_journal.specs.Says.{IsFitEntry};
+ghost use Rattle.vt_journal.specs.Words.{spelled};
+
+use crate::numbers::{take_caller, take_number};
+use crate::reading::take_event;
+use crate::replies::take_reply;
+use crate::words::Words;
+use std::alloc::Global;
+use vt_base::NoMemory;
+use vt_events::Entry;
+
+/// The entry that the line spells.
+pub fn read_entry(alloc: Global, line: &[u8]) -> Result<Option<Entry>, NoMemory>
+    ensures found { IfOk result
+        (λ found. IfSome found (λ e. spelled (entry_words e) ≡ line.now)) }
+    ensures fit { IfOk result (λ found. IfSome found IsFitEntry) }
+    ensures none { IfOk result (λ found. IfNone found
+        ((e : Entry) → IsFitEntry e → spelled (entry_words e) ≢ line.now)) }
+{
+    let mut words = Words::of(line);
+    let Some(entry) = take_entry(alloc, &mut words)? else {
+        return Ok(None);
+    };
+    if words.next().is_some() {
+        return Ok(None);
+    }
+    Ok(Some(entry))
+}
+
+// The entry that the next words are.
+fn take_entry(alloc: Global, words: &mut Words) -> Result<Option<Entry>, NoMemory>
+    ensures found { IfOk result
+        (λ found. IfSome found (λ e. words.old ≡ entry_words e ++ words.new)) }
+    ensures fit { IfOk result (λ found. IfSome found IsFitEntry) }
+    ensures none { IfOk result (λ found. IfNone found
+        ((e : Entry) (rest : List (List ℕ)) → IsFitEntry e → words.old ≢ entry_words e ++ rest)) }
+{
+    let Some(caller) = take_caller(words) else {
+        return Ok(None);
+    };
+    let Some(seq) = take_number(words, u64::from(u32::MAX)) else {
+        return Ok(None);
+    };
+    let Some(event) = take_event(alloc, words)? else {
+        return Ok(None);
+    };
+    if !take_word(words, b"=") {
+        return Ok(None);
+    }
+    let Some(reply) = take_reply(alloc, words)? else {
+        return Ok(None);
+    };
+    Ok(Some(Entry {
+        caller,
+        seq: seq as u32,
+        event,
+        reply,
+    }))
+}
+
+// Whether the next word is this one.
+fn take_word(words: &mut Words, word: &[u8]) -> bool
+    ensures found { OnTrue result (words.old ≡ word.now ∷ words.new) }
+    ensures none { OnFalse result ((rest : List (List ℕ)) → words.old ≢ word.now ∷ rest) }
+{
+    match words.next() {
+        Some(next) => next == word,
+        None => false,
+    }
+}

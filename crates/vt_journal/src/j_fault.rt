@@ -1,0 +1,7 @@
+/// The first fault of a journal text: its kind, and the last line that was read, from 1; 0 where there
+/// is no first line.
+#[derive(Clone, Copy, Debug, PartialEq, Eq)]
+pub struct JFault {
+    pub kind: u16,
+    pub line: u32,
+}

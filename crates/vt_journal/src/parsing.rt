@@ -1,0 +1,110 @@
+//! Journals read from their texts.
+ghost use Rattle.std.specs.Prelude.{◌≡◌, ◌≢◌, ℕ, ◌+◌, ◌≤◌, List, [], ◌++◌, Result, Ok, Err, IfOk, IfSome, IfNone, length, vec_len};
+ghost use Rattle.vt_journal.specs.Journal.{first_words, line_text};
+ghost use Rattle.vt_journal.specs.Lines.{NextIs};
+ghost use Rattle.vt_journal.specs.Says.{IsNoFirst, JournalSays, Reads};
+ghost use Rattle.vt_journal.specs.declared.j_error.JError.TheVariants as errors;
+ghost use Rattle.vt_journal.specs.declared.j_fault.JFault.{JFault};
+ghost use Rattle.vt_journal.specs.declared.journal.Journal.{Journal};
+
+use crate::cut::cut_line;
+use crate::entry_lines::read_entry;
+use crate::fault_code::{BAD_LINE, MORE, NO_FIRST, NO_LAST, TOO_MANY};
+use crate::j_error::refused;
+use crate::laws::one_journal;
+use crate::next::Next;
+use crate::tail_lines::read_tail;
+use crate::{Entries, JError, Journal, Tail};
+use std::alloc::Global;
+use vt_base::NoMemory;
+use vt_events::Entry;
+
+/// The most entries of a journal.
+const MOST: u32 = 1_000_000;
+
+/// The first line.
+const FIRST: &[u8] = b"%journal 1\n";
+
+/// What the text says as a journal, which is the one spelling of its entries and of how they end; or
+/// its first fault.
+pub fn parse(alloc: Global, text: &[u8]) -> Result<Journal, JError>
+    ensures says { Reads result (JournalSays text.now) }
+    ensures one { (said : Result Journal JFault) → JournalSays text.now said
+        → Reads result (λ s. s ≡ said) }
+{
+    one_journal();
+    read_journal(alloc, text)
+}
+
+fn read_journal(alloc: Global, text: &[u8]) -> Result<Journal, JError>
+    ensures { Reads result (JournalSays text.now) }
+{
+    match behind_first(text) {
+        Some(rest) => read_lines(alloc, rest),
+        None => Err(refused(NO_FIRST, 0)),
+    }
+}
+
+// What is behind the first line.
+fn behind_first(text: &[u8]) -> Option<&[u8]>
+    ensures found { IfSome result (λ rest. text.now ≡ line_text first_words ++ rest.now) }
+    ensures none { IfNone result (IsNoFirst text.now) }
+{
+    text.strip_prefix(FIRST)
+}
+
+// The lines of entries behind the first line, and the last line.
+fn read_lines(alloc: Global, text: &[u8]) -> Result<Journal, JError>
+    ensures { (whole : List ℕ) → whole ≡ line_text first_words ++ text.now
+        → Reads result (JournalSays whole) }
+{
+    let mut entries = Vec::new(alloc);
+    let mut rest = text;
+    for read in 0..MOST + 1 {
+        if rest.is_empty() {
+            return Err(refused(NO_LAST, read + 1));
+        }
+        match read_line(alloc, rest)? {
+            Next::Entry(entry, behind) => {
+                entries.push(entry)?;
+                rest = behind;
+            }
+            Next::Tail(end, behind) => return journal(entries, end, behind),
+            Next::Other => return Err(refused(BAD_LINE, read + 2)),
+        }
+    }
+    Err(refused(TOO_MANY, MOST + 2))
+}
+
+// The journal of these, where nothing is behind its last line.
+fn journal(entries: Vec<Entry>, end: Tail, behind: &[u8]) -> Result<Journal, JError>
+    requires { vec_len entries ≤ MOST }
+    ensures whole { behind.now ≡ []
+        → result ≡ Ok (record { entries = entries.items; tail = end }) }
+    ensures more { behind.now ≢ []
+        → result ≡ Err (errors.Fault (record { kind = MORE; line = length entries.items + 2 })) }
+{
+    if !behind.is_empty() {
+        return Err(refused(MORE, entries.len() as u32 + 2));
+    }
+    Ok(Journal {
+        entries: Entries::new(entries),
+        tail: end,
+    })
+}
+
+// What the first line is.
+fn read_line(alloc: Global, text: &[u8]) -> Result<Next<'_>, NoMemory>
+    ensures { IfOk result (NextIs text.now) }
+{
+    let Some(cut) = cut_line(text) else {
+        return Ok(Next::Other);
+    };
+    if let Some(entry) = read_entry(alloc, cut.line)? {
+        return Ok(Next::Entry(entry, cut.behind));
+    }
+    match read_tail(cut.line) {
+        Some(end) => Ok(Next::Tail(end, cut.behind)),
+        None => Ok(Next::Other),
+    }
+}

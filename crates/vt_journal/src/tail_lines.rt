@@ -1,0 +1,76 @@
+//! Last lines.
+ghost use Rattle.std.specs.Prelude.{◌≡◌, ◌≢◌, ℕ, List, ◌∷◌, ◌++◌, codes, IfSome, IfNone};
+ghost use Rattle.vt_journal.specs.Journal.{tail_words};
+ghost use Rattle.vt_journal.specs.Says.{IsFitTail};
+ghost use Rattle.vt_journal.specs.Words.{spelled};
+ghost use Rattle.vt_journal.specs.declared.tail.Tail.{Tail};
+
+use crate::numbers::take_number;
+use crate::words::Words;
+use crate::{Full, Tail};
+
+const LONG: u64 = 4_294_967_295;
+
+/// How a journal ends whose last line this is.
+pub fn read_tail(line: &[u8]) -> Option<Tail>
+    ensures found { IfSome result (λ end. spelled (tail_words end) ≡ line.now) }
+    ensures fit { IfSome result IsFitTail }
+    ensures none { IfNone result
+        ((end : Tail) → IsFitTail end → spelled (tail_words end) ≢ line.now) }
+{
+    let mut words = Words::of(line);
+    let end = take_tail(&mut words)?;
+    if words.next().is_some() {
+        return None;
+    }
+    Some(end)
+}
+
+// The end that the next words are.
+fn take_tail(words: &mut Words) -> Option<Tail>
+    ensures found { IfSome result (λ end. words.old ≡ tail_words end ++ words.new) }
+    ensures fit { IfSome result IsFitTail }
+    ensures none { IfNone result ((end : Tail) (rest : List (List ℕ)) → IsFitTail end
+        → words.old ≢ tail_words end ++ rest) }
+{
+    let name = words.next()?;
+    if name == b"%end".as_slice() {
+        return take_end(words);
+    }
+    if name == b"%full".as_slice() {
+        return take_full(words);
+    }
+    None
+}
+
+// The numbers behind `%end`.
+fn take_end(words: &mut Words) -> Option<Tail>
+    ensures found { IfSome result (λ end. codes "%end" ∷ words.old ≡ tail_words end ++ words.new) }
+    ensures fit { IfSome result IsFitTail }
+    ensures none { IfNone result ((end : Tail) (rest : List (List ℕ)) → IsFitTail end
+        → codes "%end" ∷ words.old ≢ tail_words end ++ rest) }
+{
+    let events = take_number(words, LONG)?;
+    let bytes = take_number(words, u64::MAX)?;
+    Some(Tail::End {
+        events: events as u32,
+        bytes,
+    })
+}
+
+// The numbers behind `%full`.
+fn take_full(words: &mut Words) -> Option<Tail>
+    ensures found { IfSome result (λ end. codes "%full" ∷ words.old ≡ tail_words end ++ words.new) }
+    ensures fit { IfSome result IsFitTail }
+    ensures none { IfNone result ((end : Tail) (rest : List (List ℕ)) → IsFitTail end
+        → codes "%full" ∷ words.old ≢ tail_words end ++ rest) }
+{
+    let events = take_number(words, LONG)?;
+    let bytes = take_number(words, u64::MAX)?;
+    let charge = take_number(words, LONG)?;
+    Some(Tail::Full(Full {
+        events: events as u32,
+        bytes,
+        charge: charge as u32,
+    }))
+}

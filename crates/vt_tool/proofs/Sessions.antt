@@ -1,0 +1,47 @@
+-- What is printed of a run of a session.
+use Rattle.std.proofs.Common.{◌≡◌, ℕ, List, ◌++◌, length, Option, ap, ◌∙◌, subst}
+use Rattle.session_order.specs.Ends.{Ends}
+use Rattle.session_order.specs.Follows.{Follows}
+use Rattle.session_order.specs.Sessions.{ShowsTapes, stage_of, start_of}
+use Rattle.session_run.specs.Final.{final_text}
+use Rattle.session_text.specs.Sessions.{SessionView}
+use Rattle.vt_events.specs.declared.entry.Entry.{Entry}
+use Rattle.vt_journal.specs.Journal.{journal_text}
+use Rattle.vt_journal.specs.Room.{tail_at}
+use Rattle.vt_journal.specs.declared.full.Full.{Full}
+use Rattle.vt_switch.specs.Law.{IsExplained, IsLawful}
+use Rattle.vt_tool.specs.Commands.Session.{IsPrinted, IsRightRun, status_of}
+use Rattle.vt_tool.specs.declared.status.Status.{Status}
+use Rattle.vt_world.specs.History.{IsLegal, replay}
+use Rattle.vt_world.specs.Laws.{moments}
+use Rattle.vt_world.specs.State.{WorldState, core}
+
+module _ (s : SessionView) (world : WorldState) (history : List Entry) (stop : Option Full)
+    (replayed : world ≡ replay (start_of s) history)
+  where
+    -- what is known of a run makes it a right one
+    pub right-run : IsLegal (start_of s) history
+        → Follows (start_of s) s.programs history
+        → Ends (stage_of s) history (tail_at history stop)
+        → IsLawful (moments (start_of s) history)
+        → IsExplained (length history) (core world) (moments (start_of s) history)
+        → ShowsTapes s world history → IsRightRun s history (tail_at history stop)
+    right-run legal follows ends lawful explained screens = record {
+      legal = legal;
+      follows = follows;
+      ends = ends;
+      lawful = lawful;
+      explained =
+          subst (λ (w : WorldState). IsExplained (length history) (core w) (moments (start_of s) history))
+          replayed explained;
+      screens = subst (λ (w : WorldState). ShowsTapes s w history) replayed screens;
+    }
+
+    pub run-printed : (status : Status) (written : List ℕ) → status ≡ status_of (tail_at history stop)
+        → written ≡ journal_text history (tail_at history stop) ++ final_text world
+        → IsPrinted s history (tail_at history stop) status written
+    run-printed status written is text = record {
+      status_is = is;
+      text = text
+          ∙ ap (λ (w : WorldState). journal_text history (tail_at history stop) ++ final_text w) replayed;
+    }

@@ -1,0 +1,26 @@
+use Rattle.std.proofs.Common.{List, Option}
+use Rattle.session_text.specs.Sessions.{SessionView}
+use Rattle.vt_events.specs.declared.entry.Entry.{Entry}
+use Rattle.vt_journal.specs.declared.full.Full.{Full}
+use Rattle.vt_tool.proofs.Sessions.{right-run, run-printed}
+use Rattle.vt_world.specs.State.{WorldState}
+use Rattle.vt_tool.proofs.commands.race.answer_raced.Goals as goal
+
+pub returns-clause-raced : goal.returns-clause-raced
+returns-clause-raced g c =
+    let s : SessionView = c.args.session.now in
+    let world : WorldState = c.in_ok-run.run'.world in
+    let entries : List Entry = c.in_ok-run.run'.log.entries in
+    let stop : Option Full = c.in_ok-run.run'.stop in
+    let facts = c.in_ok-run.ensures in
+    let printed = c.in_ok-answer.ensures in
+    record {
+      history = entries;
+      stop = stop;
+      right =
+          right-run s world entries stop facts.world facts.legal facts.follows facts.ends facts.lawful
+          facts.explained facts.screens;
+      printed =
+          run-printed s world entries stop facts.world c.in_ok-answer.answer.status
+          c.in_ok-answer.answer.text.bytes printed.status printed.text;
+    }

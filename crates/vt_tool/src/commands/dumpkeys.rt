@@ -1,0 +1,49 @@
+//! `dumpkeys`: the tables of a keymap text as a keymap text.
+ghost use Rattle.std.specs.Prelude.{◌≡◌, ◌⊎◌, IfOk, IsTrue};
+ghost use Rattle.key_compile.specs.Dumpable.{is_dumpable};
+ghost use Rattle.key_dump.specs.Dump.{dump_of};
+ghost use Rattle.key_dump.specs.ReadsBack.{ReadsAs};
+ghost use Rattle.vt_tool.specs.Commands.Dump.{GivesDump};
+ghost use Rattle.vt_tool.specs.Commands.Keys.{GivesKeyFault};
+ghost use Rattle.vt_tool.specs.Status.{is_own};
+
+use crate::answer::Answer;
+use crate::commands::keys::answer_refused;
+use crate::status::Status;
+use key_compile::compile;
+use key_dump::dump;
+use key_tables::KeyTables;
+use key_text::{Includes, KeyError, parse};
+use std::alloc::Global;
+use vt_base::NoMemory;
+
+/// The dump of the tables of the keymap text, or its first fault.
+pub fn answer(alloc: Global, input: &[u8]) -> Result<Answer, NoMemory>
+    ensures gives { IfOk result (λ answer.
+        GivesDump input.now (record { status = answer.status; text = answer.text.bytes })
+        ⊎ GivesKeyFault input.now (record { status = answer.status; text = answer.text.bytes })) }
+    ensures own { IfOk result (λ answer. IsTrue (is_own answer.status)) }
+{
+    let lines = match parse(alloc, input, &Includes::none(alloc)) {
+        Ok(lines) => lines,
+        Err(KeyError::Fault(fault)) => return Ok(answer_refused(alloc, fault)),
+        Err(KeyError::NoMemory) => return Err(NoMemory),
+    };
+    match compile(alloc, lines.as_slice()) {
+        Ok(tables) => answer_dumped(alloc, &tables),
+        Err(KeyError::Fault(fault)) => Ok(answer_refused(alloc, fault)),
+        Err(KeyError::NoMemory) => Err(NoMemory),
+    }
+}
+
+fn answer_dumped(alloc: Global, tables: &KeyTables) -> Result<Answer, NoMemory>
+    requires { IsTrue (is_dumpable tables.now) }
+    ensures status { IfOk result (λ answer. answer.status ≡ Status.Fine) }
+    ensures text { IfOk result (λ answer. answer.text.bytes ≡ dump_of tables.now) }
+    ensures back { IfOk result (λ answer. ReadsAs answer.text.bytes tables.now) }
+{
+    Ok(Answer {
+        status: Status::Fine,
+        text: dump(alloc, tables)?,
+    })
+}

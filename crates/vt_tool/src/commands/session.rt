@@ -1,0 +1,43 @@
+//! What the commands over sessions print alike.
+ghost use Rattle.std.specs.Prelude.{◌≡◌, ◌++◌, IfOk, IsTrue};
+ghost use Rattle.session_run.specs.Final.{final_text};
+ghost use Rattle.vt_journal.specs.Journal.{journal_text};
+ghost use Rattle.vt_journal.specs.Room.{tail_at};
+ghost use Rattle.vt_tool.specs.Commands.Session.{status_of};
+ghost use Rattle.vt_tool.specs.Status.{is_own};
+
+use crate::answer::Answer;
+use crate::status::Status;
+use session_run::{Run, add_final_text};
+use std::alloc::Global;
+use vt_base::{Bytes, NoMemory};
+use vt_journal::{Tail, print};
+
+/// The journal of the run, and the console after it.
+pub fn answer_run(alloc: Global, run: &Run) -> Result<Answer, NoMemory>
+    ensures status { IfOk result (λ answer. answer.status
+        ≡ status_of (tail_at run.now.log.entries run.now.stop)) }
+    ensures text { IfOk result (λ answer. answer.text.bytes
+        ≡ journal_text run.now.log.entries (tail_at run.now.log.entries run.now.stop)
+        ++ final_text run.now.world) }
+    ensures own { IfOk result (λ answer. IsTrue (is_own answer.status)) }
+{
+    let end = run.tail();
+    let mut text = Bytes::new(alloc);
+    print(alloc, run.log.entries(), &end, &mut text)?;
+    add_final_text(alloc, &mut text, &run.world)?;
+    Ok(Answer {
+        status: status_of(&end),
+        text,
+    })
+}
+
+fn status_of(end: &Tail) -> Status
+    ensures status { result ≡ status_of end.now }
+    ensures own { IsTrue (is_own result) }
+{
+    match end {
+        Tail::End { .. } => Status::Fine,
+        Tail::Full(full) => Status::JournalFull(*full),
+    }
+}

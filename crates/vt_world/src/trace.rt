@@ -1,0 +1,82 @@
+ghost use Rattle.std.specs.Prelude.{◌≡◌, ◌<◌, [], IfOk, length};
+ghost use Rattle.vt_world.specs.Heard.{hops_after, with_mark};
+
+use std::alloc::Global;
+use std::marker::Model;
+use vt_base::NoMemory;
+use vt_switch::Mark;
+
+/// The room for the marks of one event: each byte of a write asks for at most one console, and a
+/// request makes at most three marks.
+pub(crate) const TRACE_MARKS: usize = 12_288;
+
+/// What the last event told, and how often the display switched since the start.
+#[derive(Debug, Drop)]
+pub(crate) struct Trace {
+    marks: Vec<Mark>,
+    hops: u64,
+}
+
+impl Model for Trace {
+    ghost use Rattle.std.specs.Prelude.{◌≤◌, vec_capacity};
+    ghost use Rattle.vt_world.specs.State.{Trace};
+
+    ghost Value = { Trace };
+
+    ghost view = { λ t. record { marks = t.marks.items; hops = t.hops } };
+
+    ghost invariant = { λ t. 12288 ≤ vec_capacity t.marks };
+}
+
+impl Trace {
+    /// Nothing is told. All room is taken here.
+    pub(crate) fn start(alloc: Global) -> Result<Trace, NoMemory>
+        ensures marks { IfOk result (λ trace. trace.marks ≡ []) }
+        ensures hops { IfOk result (λ trace. trace.hops ≡ 0) }
+    {
+        let marks = Vec::with_capacity(alloc, TRACE_MARKS)?;
+        Ok(Trace { marks, hops: 0 })
+    }
+
+    /// Nothing is told of the next event yet.
+    pub(crate) fn clear(&mut self)
+        ensures marks { self.new.marks ≡ [] }
+        ensures hops { self.new.hops ≡ self.old.hops }
+    {
+        self.marks.clear();
+    }
+
+    /// Tells a mark.
+    pub(crate) fn push(&mut self, m: &Mark)
+        requires { length self.old.marks < TRACE_MARKS }
+        ensures { self.new ≡ with_mark m.now self.old }
+    {
+        self.hops = hops_after(m, self.hops);
+        let pushed = self.marks.extend_from_slice(&[*m]);
+        prove!(pushed.is_ok());
+    }
+
+    /// The marks in order.
+    pub(crate) fn marks(&self) -> &[Mark]
+        ensures { result.now ≡ self.now.marks }
+    {
+        self.marks.as_slice()
+    }
+
+    /// How often the display switched, up to the greatest number.
+    pub(crate) fn hops(&self) -> u64
+        ensures { result ≡ self.now.hops }
+    {
+        self.hops
+    }
+}
+
+// How often the display switched, with the mark.
+fn hops_after(m: &Mark, hops: u64) -> u64
+    ensures { result ≡ hops_after m.now hops }
+{
+    match m {
+        Mark::Hopped(_) => hops.saturating_add(1),
+        _ => hops,
+    }
+}

@@ -1,0 +1,121 @@
+#!/usr/bin/env python3
+"""Checks that what docs/PROVED.md and README.md cite of the proofs exists.
+
+A section `### CRATE`, or `### TITLE: CRATE`, has tables of three columns: what holds, what carries it, and where its words
+are defined. What carries it is groups with `; ` between: calls, a colon, and clauses, of which every call of the group has
+every one as an `ensures` or a `requires` in the crate's src/ ("its clause" is an `ensures` without a name); or `type` and
+names of types. A definition is a file of the crate's specs/, or CRATE/specs/FILE of another one, with names in parentheses that
+stand in it. Checked too: each page docs/NAME.md that a page names is there.
+Prints a line for each that is missing, and ends with status 1 if there is one.
+"""
+import pathlib
+import re
+import sys
+
+TOP = pathlib.Path(__file__).resolve().parent.parent
+NAMES = re.compile(r"`([^`]+)`")
+UNNAMED = "its clause"
+
+
+def owners(line):
+    """Gives the names under which the functions of an `impl` or a `trait` are cited."""
+    found = re.match(r"(?:pub )?(?:impl|trait)\b(.*)", line)
+    if not found:
+        return None
+    rest = re.sub(r"^<[^>]*>", "", found[1].strip())
+    if " for " in rest:
+        rest = rest.split(" for ", 1)[1]
+    return re.findall(r"\w+", rest)[:1]
+
+
+def calls_of(crate):
+    """Gives each function of a crate's src/, as `name` or `Type::name`, with the names of its clauses."""
+    found = {}
+    for file in sorted((TOP / "crates" / crate / "src").rglob("*.rt")):
+        owner, clauses = [], None
+        for line in file.read_text(encoding="utf-8").splitlines():
+            if line.startswith("}"):
+                owner = []
+            owner = owners(line) or owner
+            call = re.match(r"\s*(?:pub )?(?:const )?fn (\w+)", line)
+            if call:
+                name = f"{owner[0]}::{call[1]}" if owner else call[1]
+                clauses = found.setdefault(name, set())
+            clause = re.match(r"\s*(ensures|requires)\*? *(\w*) *\{", line)
+            if clause and clauses is not None and (clause[2] or clause[1] == "ensures"):
+                clauses.add(clause[2] or UNNAMED)
+    return found
+
+
+def types_of(crate):
+    """Gives the names of the types and traits of a crate's src/."""
+    texts = [it.read_text(encoding="utf-8") for it in (TOP / "crates" / crate / "src").rglob("*.rt")]
+    return set(re.findall(r"^\s*(?:pub )?(?:struct|enum|trait) (\w+)", "\n".join(texts), re.M))
+
+
+def carrier_faults(crate, cell):
+    calls = calls_of(crate)
+    for group in filter(None, cell.split("; ")):
+        if group.startswith("type "):
+            yield from (f"no type {name}" for name in NAMES.findall(group) if name not in types_of(crate))
+            continue
+        cited, _, clauses = group.partition(": ")
+        wanted = NAMES.findall(clauses) + [UNNAMED] * (UNNAMED in clauses)
+        if not NAMES.findall(cited) or not wanted:
+            yield f"no calls with clauses: {group}"
+        for name in NAMES.findall(cited):
+            if name not in calls:
+                yield f"no call {name}"
+            else:
+                yield from (f"{name} has no clause {it}" for it in wanted if it not in calls[name])
+
+
+def definition_faults(crate, cell):
+    for file, names in re.findall(r"`([^`]+\.antt)`(?: \(([^)]*)\))?", cell):
+        path = TOP / "crates" / file if "/specs/" in file else TOP / "crates" / crate / "specs" / file
+        if not path.exists():
+            yield f"no file {file}"
+            continue
+        text = path.read_text(encoding="utf-8")
+        for name in NAMES.findall(names):
+            if not re.search(rf"^\s*(?:(?:abbrev|record|data|pub|inductive|opaque) +)+{re.escape(name)}\b", text, re.M):
+                yield f"{file} defines no {name}"
+
+
+def page_faults(page):
+    """Goes through a page's tables whose rows have three columns, under the section that names their crate."""
+    crate = None
+    for number, line in enumerate(page.read_text(encoding="utf-8").splitlines(), 1):
+        heading = re.match(r"#+ (?:.*: )?(.*)", line)
+        if heading:
+            crate = heading[1] if re.fullmatch(r"### (?:.*: )?\w+", line) else None
+            if crate and not (TOP / "crates" / crate).is_dir():
+                yield f"{page.name}:{number}: no crate {crate}"
+                crate = None
+        cells = [it.strip() for it in line.strip().strip("|").split(" | ")]
+        if not crate or not line.startswith("| ") or cells[0] == "what holds":
+            continue
+        if len(cells) < 2:
+            yield f"{page.name}:{number}: a row without its carriers"
+            continue
+        faults = [*carrier_faults(crate, cells[1]), *definition_faults(crate, cells[2] if len(cells) > 2 else "")]
+        yield from (f"{page.name}:{number}: {crate}: {fault}" for fault in faults)
+
+
+def missing_pages(page):
+    for name in sorted(set(re.findall(r"\bdocs/\w+\.md", page.read_text(encoding="utf-8")))):
+        if not (TOP / name).exists():
+            yield f"{page.name}: no page {name}"
+
+
+def main():
+    pages = [TOP / "README.md", TOP / "CONTRIBUTING.md", *sorted((TOP / "docs").glob("*.md"))]
+    faults = [fault for page in pages for fault in missing_pages(page)]
+    faults += [fault for name in ("docs/PROVED.md", "README.md") for fault in page_faults(TOP / name)]
+    for fault in faults:
+        print(fault)
+    return 1 if faults else 0
+
+
+if __name__ == "__main__":
+    sys.exit(main())
