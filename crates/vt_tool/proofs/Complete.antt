@@ -11,7 +11,7 @@ use Rattle.vt_tool.specs.Run.{Answers, Begins, Completes, ProgramRun, Streams, T
 use Rattle.vt_tool.specs.Words.{Form, command_of}
 use Rattle.vt_tool.specs.declared.command.Command.{Command}
 use Rattle.vt_tool.specs.declared.intake.Intake.{Intake}
-use Rattle.vt_tool.specs.declared.intake.Intake.TheVariants.{ToEnd}
+use Rattle.vt_tool.specs.declared.intake.Intake.TheVariants.{NoInput, ToEnd}
 use Rattle.vt_tool.specs.declared.status.Status.{Status}
 use Rattle.vt_tool.specs.declared.status.Status.TheVariants.{Fine, Usage, ReadFault, WriteFault, NoMemory, Refused, TooLong, JournalFull}
 
@@ -23,6 +23,7 @@ one_command known words a b first second = cc
 -- a source that stopped at a fault has counted it
 stop-rose : (i : Intake) (src src' : Stream) → StopsAtFault i src src' → Rose src.faults src'.faults
 stop-rose (ToEnd limit) src src' stops = stops.0
+stop-rose NoInput src src' stops = absurd stops
 
 -- the bytes taken of known ones are a prefix of these
 taken-prefix : (known : List ℕ) (told told' : Option (List ℕ)) (taken : List ℕ)
@@ -40,6 +41,7 @@ not-past : (i : Intake) (src src' : Stream) (input : List ℕ) → Offers i src 
 not-past (ToEnd limit) src src' input offered (taken, gave, past) =
     let (rest, whole) = taken-prefix input src.told src'.told taken offered.0 gave in
     omega (arith, length-append taken rest, ap length whole, past, offered.1)
+not-past NoInput src src' input offered past = past
 
 -- what was read to the end is what was offered
 whole-input : (known input : List ℕ) (told told' : Option (List ℕ)) → told ≡ Some known
@@ -55,6 +57,7 @@ read-offered : (i : Intake) (src src' : Stream) (known input : List ℕ) → Off
     → ReadsAll i src src' input → input ≡ known
 read-offered (ToEnd limit) src src' known input offered read =
     whole-input known input src.told src'.told offered.0 read.0 read.1
+read-offered NoInput src src' known input offered read = read.1 ∙ sym offered
 
 -- where err had no fault, the status is the first one
 tells-first : (first : Status) (err err' : Stream) (status : Status)

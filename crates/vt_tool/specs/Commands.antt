@@ -7,14 +7,16 @@ use Rattle.vt_tool.specs.Words.{Form, alone, form, with_two}
 use Rattle.vt_tool.specs.declared.command.Command.{Command}
 use Rattle.vt_tool.specs.declared.command.Command.TheVariants as command
 use Rattle.vt_tool.specs.declared.intake.Intake.{Intake}
-use Rattle.vt_tool.specs.declared.intake.Intake.TheVariants.{ToEnd}
+use Rattle.vt_tool.specs.declared.intake.Intake.TheVariants.{NoInput, ToEnd}
 use Rattle.vt_tool.specs.Commands.Screen.{GivesRows, IsScreenSize, screen_limit, side}
+use Rattle.vt_tool.specs.Commands.Drill.{GivesDrill, IsDrillSize, items_each, seeds}
 use Rattle.vt_tool.specs.Commands.Dump.{GivesDump}
 use Rattle.vt_tool.specs.Commands.Keys.{GivesKeyFault, GivesListing}
 use Rattle.vt_tool.specs.Commands.Play.{GivesPlayed}
 use Rattle.vt_tool.specs.Commands.Race.{GivesRaced}
 use Rattle.vt_tool.specs.Commands.Session.{GivesSessionFault}
 use Rattle.vt_tool.specs.Commands.Typing.{GivesTableFault, GivesTyped}
+pub mod Drill
 pub mod Dump
 pub mod Keys
 pub mod Play
@@ -31,6 +33,7 @@ serial_forms =
     ∷ form (codes "keys") (alone command.Keys)
     ∷ form (codes "type") (alone command.Typing)
     ∷ form (codes "play") (alone command.Play)
+    ∷ form (codes "drill") (with_two items_each seeds command.Drill)
     ∷ form (codes "dumpkeys") (alone command.DumpKeys)
     ∷ []
 
@@ -46,6 +49,7 @@ IsSerial other = ⊤
 -- the command's numbers are in their ranges
 abbrev pub IsFit : Command → Type 0
 IsFit (command.Screen rows cols) = IsScreenSize rows cols
+IsFit (command.Drill n seed) = IsDrillSize n
 IsFit other = ⊤
 
 -- the most bytes of input that a command reads, where it has no limit of its own; this project's own
@@ -55,6 +59,7 @@ text_limit = 16777216
 -- how much of the source a command reads
 abbrev pub intake_of : Command → Intake
 intake_of (command.Screen rows cols) = ToEnd screen_limit
+intake_of (command.Drill n seed) = NoInput
 intake_of other = ToEnd text_limit
 
 -- the outcome that a command gives for an input
@@ -64,4 +69,5 @@ Gives command.Keys input outcome = GivesListing input outcome ⊎ GivesKeyFault 
 Gives command.DumpKeys input outcome = GivesDump input outcome ⊎ GivesKeyFault input outcome
 Gives command.Play input outcome = GivesPlayed input outcome ⊎ GivesSessionFault input outcome
 Gives command.Race input outcome = GivesRaced input outcome ⊎ GivesSessionFault input outcome
+Gives (command.Drill n seed) input outcome = GivesDrill n seed outcome
 Gives command.Typing input outcome = GivesTyped input outcome ⊎ GivesTableFault input outcome

@@ -11,6 +11,8 @@ pub enum Command {
     Play,
     /// The journal of the calls of the input, made by threads, and the console after them.
     Race,
+    /// Five numbers of a session of eight processes that is made from a seed, with `n` items each.
+    Drill { n: u32, seed: u64 },
     /// A line for each scan byte of the input's table, by the tables of its keymap.
     Typing,
 }

@@ -14,6 +14,8 @@ const TEXT_LIMIT: usize = 16_777_216;
 pub enum Intake {
     /// All of it to its end, of at most so many bytes.
     ToEnd(usize),
+    /// Nothing.
+    NoInput,
 }
 
 /// How much of the source the command reads.
@@ -22,6 +24,7 @@ pub fn intake_for(command: Command) -> Intake
 {
     match command {
         Command::Screen { .. } => Intake::ToEnd(SCREEN_LIMIT),
+        Command::Drill { .. } => Intake::NoInput,
         _ => Intake::ToEnd(TEXT_LIMIT),
     }
 }

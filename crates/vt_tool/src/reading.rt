@@ -33,6 +33,7 @@ pub fn read_input<S: Source>(alloc: Global, src: &mut S, intake: Intake) -> Resu
 {
     match intake {
         Intake::ToEnd(limit) => read_to_end(alloc, src, limit),
+        Intake::NoInput => Ok(Bytes::new(alloc)),
     }
 }
 

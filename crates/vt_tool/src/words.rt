@@ -3,7 +3,7 @@ ghost use Rattle.vt_tool.specs.Commands.{IsFit, IsSerial, all_forms, serial_form
 ghost use Rattle.vt_tool.specs.Words.{command_of, if_no_words, number_in};
 
 use crate::command::Command;
-use crate::commands::screen;
+use crate::commands::{drill, screen};
 use vt_base::parse_decimal;
 
 /// The command that the words spell, if it needs no threads.
@@ -19,6 +19,7 @@ pub fn parse_words(words: &[String]) -> Option<Command>
         "dumpkeys" => alone(Command::DumpKeys, others),
         "type" => alone(Command::Typing, others),
         "play" => alone(Command::Play, others),
+        "drill" => drill::parse(others),
         _ => None,
     }
 }

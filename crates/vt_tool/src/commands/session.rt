@@ -32,7 +32,8 @@ pub fn answer_run(alloc: Global, run: &Run) -> Result<Answer, NoMemory>
     })
 }
 
-fn status_of(end: &Tail) -> Status
+/// Fine where all programs are over, and JournalFull where a call found no room.
+pub fn status_of(end: &Tail) -> Status
     ensures status { result ≡ status_of end.now }
     ensures own { IsTrue (is_own result) }
 {

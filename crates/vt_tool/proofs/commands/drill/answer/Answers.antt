@@ -1,0 +1,29 @@
+use Rattle.std.proofs.Common.{◌≡◌, ◌∙◌, List, Option, ap}
+use Rattle.session_text.specs.Sessions.{SessionView}
+use Rattle.vt_events.specs.declared.entry.Entry.{Entry}
+use Rattle.vt_journal.specs.declared.full.Full.{Full}
+use Rattle.vt_tool.proofs.Sessions.{right-run}
+use Rattle.vt_tool.specs.Commands.Drill.{drill_text}
+use Rattle.vt_tool.specs.Commands.Session.{status_of}
+use Rattle.vt_world.specs.State.{WorldState}
+use Rattle.vt_tool.proofs.commands.drill.answer.Goals as goal
+
+pub returns-clause-gives : goal.returns-clause-gives
+returns-clause-gives c =
+    let s : SessionView = c.in_ok-session.session in
+    let world : WorldState = c.in_ok-run.run'.world in
+    let entries : List Entry = c.in_ok-run.run'.log.entries in
+    let stop : Option Full = c.in_ok-run.run'.stop in
+    let facts = c.in_ok-run.ensures in
+    record {
+      session = s;
+      is = c.in_ok-session.ensures;
+      history = entries;
+      stop = stop;
+      serial = facts.serial;
+      right =
+          right-run s world entries stop facts.world facts.legal facts.follows facts.ends facts.lawful
+          facts.explained facts.screens;
+      status_is = c.status_of-status.ensures.status ∙ ap status_of c.tail.ensures;
+      text = c.in_ok-text.ensures ∙ ap (drill_text entries) facts.world;
+    }
