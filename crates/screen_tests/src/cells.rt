@@ -1,180 +1,132 @@
+use std::process::Abort;
+use vt_cells::Intensity::{Bold, Dim, Normal};
 use vt_cells::{
     Attr, Intensity, Look, Palette, attr_byte, erase_byte, fold_bg, fold_fg, rgb_of, swapped,
 };
 
-const LOOK: Look = Look { ul: 15, dim: 8 };
+// A foreground and a ground, the intensity, whether italic, underline, blink and reverse are on, and
+// the byte that shows them (console_codes(4)).
+type Shown = (u8, u8, Intensity, [bool; 4], u8);
 
-const PLAIN: Attr = Attr {
-    fg: 7,
-    bg: 0,
-    intensity: Intensity::Normal,
-    italic: false,
-    underline: false,
-    blink: false,
-    reverse: false,
-};
+const SHOWN: &[Shown] = &[
+    // white on black
+    (7, 0, Normal, [false, false, false, false], 0x07),
+    // bold red on black
+    (1, 0, Bold, [false, false, false, false], 0x0C),
+    // cyan on yellow
+    (6, 3, Normal, [false, false, false, false], 0x63),
+    // italic
+    (1, 0, Normal, [true, false, false, false], 0x02),
+    // underline
+    (7, 0, Normal, [false, true, false, false], 0x0F),
+    // half-bright
+    (7, 0, Dim, [false, false, false, false], 0x08),
+    // underline before half-bright
+    (7, 0, Dim, [false, true, false, false], 0x0F),
+    // italic before underline
+    (7, 0, Normal, [true, true, false, false], 0x02),
+    // bold turns bright off
+    (7, 0, Bold, [false, true, false, false], 0x07),
+    // reverse
+    (7, 0, Normal, [false, false, false, true], 0x70),
+    // reversed underline stays bright
+    (7, 0, Normal, [false, true, false, true], 0x78),
+    // all of them
+    (7, 0, Bold, [false, false, true, true], 0xF8),
+];
+
+fn attr_of(fg: u8, bg: u8, intensity: Intensity, on: [bool; 4]) -> Attr {
+    Attr {
+        fg: fg.min(15),
+        bg: bg.min(7),
+        intensity,
+        italic: on[0],
+        underline: on[1],
+        blink: on[2],
+        reverse: on[3],
+    }
+}
+
+// The first row of the table that is shown otherwise.
+fn first_misshown(cases: &[Shown]) -> Option<usize> {
+    let look = Look { ul: 15, dim: 8 };
+    for (number, (fg, bg, intensity, on, byte)) in cases.iter().enumerate() {
+        if attr_byte(&attr_of(*fg, *bg, *intensity, *on), &look) != *byte {
+            return Some(number);
+        }
+    }
+    None
+}
 
 #[test]
 fn shows_attributes(rt: HostRuntime) {
-    let bold = Intensity::Bold;
-    let dim = Intensity::Dim;
-    let cases = [
-        (PLAIN, 0x07, "white on black"),
-        (
-            Attr {
-                fg: 1,
-                intensity: bold,
-                ..PLAIN
-            },
-            0x0C,
-            "bold red on black",
-        ),
-        (
-            Attr {
-                fg: 6,
-                bg: 3,
-                ..PLAIN
-            },
-            0x63,
-            "cyan on yellow",
-        ),
-        (
-            Attr {
-                fg: 1,
-                italic: true,
-                ..PLAIN
-            },
-            0x02,
-            "italic",
-        ),
-        (
-            Attr {
-                underline: true,
-                ..PLAIN
-            },
-            0x0F,
-            "underline",
-        ),
-        (
-            Attr {
-                intensity: dim,
-                ..PLAIN
-            },
-            0x08,
-            "half-bright",
-        ),
-        (
-            Attr {
-                underline: true,
-                intensity: dim,
-                ..PLAIN
-            },
-            0x0F,
-            "underline before half-bright",
-        ),
-        (
-            Attr {
-                italic: true,
-                underline: true,
-                ..PLAIN
-            },
-            0x02,
-            "italic before underline",
-        ),
-        (
-            Attr {
-                underline: true,
-                intensity: bold,
-                ..PLAIN
-            },
-            0x07,
-            "bold turns bright off",
-        ),
-        (
-            Attr {
-                reverse: true,
-                ..PLAIN
-            },
-            0x70,
-            "reverse",
-        ),
-        (
-            Attr {
-                underline: true,
-                reverse: true,
-                ..PLAIN
-            },
-            0x78,
-            "reversed underline stays bright",
-        ),
-        (
-            Attr {
-                blink: true,
-                reverse: true,
-                intensity: bold,
-                ..PLAIN
-            },
-            0xF8,
-            "all of them",
-        ),
-    ];
-    for (attr, byte, what) in cases {
-        assert_eq!(rt; attr_byte(&attr, &LOOK), byte, "{what}");
-    }
-    let shown = Attr {
-        fg: 1,
-        bg: 4,
-        italic: true,
-        blink: true,
-        reverse: true,
-        ..PLAIN
-    };
+    assert_eq!(rt; first_misshown(SHOWN), None);
+    let shown = attr_of(1, 4, Normal, [true, false, true, true]);
     assert_eq!(rt; erase_byte(&shown), 0x14, "the colours alone");
     assert_eq!(rt; swapped(0xAC), 0xCA, "blink and bright stay");
 }
 
+// An index of the 256 colours, and its red, green and blue.
+type Indexed = (u8, (u8, u8, u8));
+
+const INDEXED: &[Indexed] = &[
+    (0, (0, 0, 0)),
+    (1, (0xAA, 0, 0)),
+    (6, (0, 0xAA, 0xAA)),
+    (8, (0x55, 0x55, 0x55)),
+    (12, (0x55, 0x55, 0xFF)),
+    (16, (0, 0, 0)),
+    (17, (0, 0, 42)),
+    (196, (212, 0, 0)),
+    (231, (212, 212, 212)),
+    (232, (8, 8, 8)),
+    (244, (128, 128, 128)),
+    (255, (238, 238, 238)),
+];
+
+// Red, green and blue, and the foreground that stands for them, and whether it is bright.
+type Folded = ((u8, u8, u8), (u8, bool));
+
+const FOLDED: &[Folded] = &[
+    // red
+    ((255, 0, 0), (1, true)),
+    // the indices 8, 244 and 196
+    ((0x55, 0x55, 0x55), (0, true)),
+    ((128, 128, 128), (7, false)),
+    ((212, 0, 0), (1, true)),
+    // black
+    ((0, 0, 0), (0, false)),
+    // the lightest dark grey, and a light grey
+    ((0x55, 0x55, 0x55), (0, true)),
+    ((0x56, 0x56, 0x56), (7, false)),
+    // half of the largest isn't above it; just above
+    ((0xAA, 0x55, 0), (1, false)),
+    ((0xAB, 0x56, 0), (3, true)),
+];
+
+fn check_indexed(rt: &impl Abort, palette: &Palette, case: &Indexed) {
+    let (index, rgb) = *case;
+    assert_eq!(rt; rgb_of(index), rgb, "{index}");
+    if index < 16 {
+        assert_eq!(rt; palette.get(index), rgb, "palette {index}");
+    }
+}
+
+fn check_folded(rt: &impl Abort, case: &Folded) {
+    let ((r, g, b), hue) = *case;
+    assert_eq!(rt; fold_fg(r, g, b), hue, "{r} {g} {b}");
+}
+
 #[test]
 fn folds_colours(rt: HostRuntime) {
-    let indexed = [
-        (0, (0, 0, 0)),
-        (1, (0xAA, 0, 0)),
-        (6, (0, 0xAA, 0xAA)),
-        (8, (0x55, 0x55, 0x55)),
-        (12, (0x55, 0x55, 0xFF)),
-        (16, (0, 0, 0)),
-        (17, (0, 0, 42)),
-        (196, (212, 0, 0)),
-        (231, (212, 212, 212)),
-        (232, (8, 8, 8)),
-        (244, (128, 128, 128)),
-        (255, (238, 238, 238)),
-    ];
     let mut palette = Palette::start();
-    for (index, rgb) in indexed {
-        assert_eq!(rt; rgb_of(index), rgb, "{index}");
-        if index < 16 {
-            assert_eq!(rt; palette.get(index), rgb, "palette {index}");
-        }
+    for case in INDEXED {
+        check_indexed(&rt, &palette, case);
     }
     palette.set(12, (1, 2, 3));
     assert_eq!(rt; palette.get(12), (1, 2, 3));
-    let folded = [
-        ((255, 0, 0), (1, true), "red"),
-        (rgb_of(8), (0, true), "index 8"),
-        (rgb_of(244), (7, false), "index 244"),
-        (rgb_of(196), (1, true), "index 196"),
-        ((0, 0, 0), (0, false), "black"),
-        ((0x55, 0x55, 0x55), (0, true), "the lightest dark grey"),
-        ((0x56, 0x56, 0x56), (7, false), "a light grey"),
-        (
-            (0xAA, 0x55, 0),
-            (1, false),
-            "half of the largest isn't above it",
-        ),
-        ((0xAB, 0x56, 0), (3, true), "just above"),
-    ];
-    for ((r, g, b), hue, what) in folded {
-        assert_eq!(rt; fold_fg(r, g, b), hue, "{what}");
+    for case in FOLDED {
+        check_folded(&rt, case);
     }
     assert_eq!(rt; fold_bg(128, 0, 127), 1);
     assert_eq!(rt; fold_bg(127, 128, 255), 6);

@@ -6,7 +6,7 @@ use vt_chars::{
 
 // What the bytes of a text are answered, one after another. A byte that is answered BadThen is
 // pushed once more, and its second answer stands behind the first.
-#[derive(Drop)]
+#[derive(Clone, Copy)]
 struct Case {
     text: &'static [u8],
     got: &'static [Got],
@@ -33,153 +33,154 @@ fn check(rt: &impl Abort, case: &Case) {
 
 // The Unicode Standard, "Conversion Processes": the examples of maximal subparts, and a cut of
 // one; then the first and last sequence of each row of Table 3-7, and the bytes beside them.
+const CASES: &[Case] = &[
+    Case {
+        text: &[0xF0, 0x80, 0x80, 0x41],
+        got: &[More, BadThen, Bad, Bad, Char(0x41)],
+    },
+    Case {
+        text: &[0xE1, 0x80, 0xE2, 0xF0, 0x91, 0x92, 0xF1, 0xBF, 0x41],
+        got: &[
+            More,
+            More,
+            BadThen,
+            More,
+            BadThen,
+            More,
+            More,
+            More,
+            BadThen,
+            More,
+            More,
+            BadThen,
+            Char(0x41),
+        ],
+    },
+    Case {
+        text: &[0xC0, 0xAF],
+        got: &[Bad, Bad],
+    },
+    Case {
+        text: &[0xED, 0xA0, 0x80],
+        got: &[More, BadThen, Bad, Bad],
+    },
+    Case {
+        text: &[0xF4, 0x91, 0x92, 0x93, 0xFF],
+        got: &[More, BadThen, Bad, Bad, Bad, Bad],
+    },
+    Case {
+        text: &[0xC3, 0x28],
+        got: &[More, BadThen, Char(0x28)],
+    },
+    Case {
+        text: &[0x00, 0x7F, 0x80, 0xBF],
+        got: &[Char(0), Char(0x7F), Bad, Bad],
+    },
+    Case {
+        text: &[0xC1, 0xC2, 0x80],
+        got: &[Bad, More, Char(0x80)],
+    },
+    Case {
+        text: &[0xDF, 0xBF, 0xDF, 0xC0],
+        got: &[More, Char(0x7FF), More, BadThen, Bad],
+    },
+    Case {
+        text: &[0xC2, 0x7F],
+        got: &[More, BadThen, Char(0x7F)],
+    },
+    Case {
+        text: &[0xE0, 0xA0, 0x80],
+        got: &[More, More, Char(0x800)],
+    },
+    Case {
+        text: &[0xE0, 0xBF, 0xBF],
+        got: &[More, More, Char(0xFFF)],
+    },
+    Case {
+        text: &[0xE0, 0x9F, 0x80],
+        got: &[More, BadThen, Bad, Bad],
+    },
+    Case {
+        text: &[0xE0, 0xC0],
+        got: &[More, BadThen, Bad],
+    },
+    Case {
+        text: &[0xE1, 0x80, 0x80],
+        got: &[More, More, Char(0x1000)],
+    },
+    Case {
+        text: &[0xEC, 0xBF, 0xBF],
+        got: &[More, More, Char(0xCFFF)],
+    },
+    Case {
+        text: &[0xE1, 0x80, 0x7F],
+        got: &[More, More, BadThen, Char(0x7F)],
+    },
+    Case {
+        text: &[0xE1, 0x80, 0xC0],
+        got: &[More, More, BadThen, Bad],
+    },
+    Case {
+        text: &[0xED, 0x80, 0x80],
+        got: &[More, More, Char(0xD000)],
+    },
+    Case {
+        text: &[0xED, 0x9F, 0xBF],
+        got: &[More, More, Char(0xD7FF)],
+    },
+    Case {
+        text: &[0xEE, 0x80, 0x80],
+        got: &[More, More, Char(0xE000)],
+    },
+    Case {
+        text: &[0xEF, 0xBF, 0xBF],
+        got: &[More, More, Char(0xFFFF)],
+    },
+    Case {
+        text: &[0xF0, 0x90, 0x80, 0x80],
+        got: &[More, More, More, Char(0x10000)],
+    },
+    Case {
+        text: &[0xF0, 0xBF, 0xBF, 0xBF],
+        got: &[More, More, More, Char(0x3FFFF)],
+    },
+    Case {
+        text: &[0xF0, 0x8F],
+        got: &[More, BadThen, Bad],
+    },
+    Case {
+        text: &[0xF1, 0x80, 0x80, 0x80],
+        got: &[More, More, More, Char(0x40000)],
+    },
+    Case {
+        text: &[0xF3, 0xBF, 0xBF, 0xBF],
+        got: &[More, More, More, Char(0xFFFFF)],
+    },
+    Case {
+        text: &[0xF1, 0x80, 0x80, 0xC0],
+        got: &[More, More, More, BadThen, Bad],
+    },
+    Case {
+        text: &[0xF4, 0x80, 0x80, 0x80],
+        got: &[More, More, More, Char(0x100000)],
+    },
+    Case {
+        text: &[0xF4, 0x8F, 0xBF, 0xBF],
+        got: &[More, More, More, Char(0x10FFFF)],
+    },
+    Case {
+        text: &[0xF4, 0x90],
+        got: &[More, BadThen, Bad],
+    },
+    Case {
+        text: &[0xF5, 0xFF],
+        got: &[Bad, Bad],
+    },
+];
+
 #[test]
 fn reads_maximal_subparts(rt: HostRuntime) {
-    let cases = [
-        Case {
-            text: &[0xF0, 0x80, 0x80, 0x41],
-            got: &[More, BadThen, Bad, Bad, Char(0x41)],
-        },
-        Case {
-            text: &[0xE1, 0x80, 0xE2, 0xF0, 0x91, 0x92, 0xF1, 0xBF, 0x41],
-            got: &[
-                More,
-                More,
-                BadThen,
-                More,
-                BadThen,
-                More,
-                More,
-                More,
-                BadThen,
-                More,
-                More,
-                BadThen,
-                Char(0x41),
-            ],
-        },
-        Case {
-            text: &[0xC0, 0xAF],
-            got: &[Bad, Bad],
-        },
-        Case {
-            text: &[0xED, 0xA0, 0x80],
-            got: &[More, BadThen, Bad, Bad],
-        },
-        Case {
-            text: &[0xF4, 0x91, 0x92, 0x93, 0xFF],
-            got: &[More, BadThen, Bad, Bad, Bad, Bad],
-        },
-        Case {
-            text: &[0xC3, 0x28],
-            got: &[More, BadThen, Char(0x28)],
-        },
-        Case {
-            text: &[0x00, 0x7F, 0x80, 0xBF],
-            got: &[Char(0), Char(0x7F), Bad, Bad],
-        },
-        Case {
-            text: &[0xC1, 0xC2, 0x80],
-            got: &[Bad, More, Char(0x80)],
-        },
-        Case {
-            text: &[0xDF, 0xBF, 0xDF, 0xC0],
-            got: &[More, Char(0x7FF), More, BadThen, Bad],
-        },
-        Case {
-            text: &[0xC2, 0x7F],
-            got: &[More, BadThen, Char(0x7F)],
-        },
-        Case {
-            text: &[0xE0, 0xA0, 0x80],
-            got: &[More, More, Char(0x800)],
-        },
-        Case {
-            text: &[0xE0, 0xBF, 0xBF],
-            got: &[More, More, Char(0xFFF)],
-        },
-        Case {
-            text: &[0xE0, 0x9F, 0x80],
-            got: &[More, BadThen, Bad, Bad],
-        },
-        Case {
-            text: &[0xE0, 0xC0],
-            got: &[More, BadThen, Bad],
-        },
-        Case {
-            text: &[0xE1, 0x80, 0x80],
-            got: &[More, More, Char(0x1000)],
-        },
-        Case {
-            text: &[0xEC, 0xBF, 0xBF],
-            got: &[More, More, Char(0xCFFF)],
-        },
-        Case {
-            text: &[0xE1, 0x80, 0x7F],
-            got: &[More, More, BadThen, Char(0x7F)],
-        },
-        Case {
-            text: &[0xE1, 0x80, 0xC0],
-            got: &[More, More, BadThen, Bad],
-        },
-        Case {
-            text: &[0xED, 0x80, 0x80],
-            got: &[More, More, Char(0xD000)],
-        },
-        Case {
-            text: &[0xED, 0x9F, 0xBF],
-            got: &[More, More, Char(0xD7FF)],
-        },
-        Case {
-            text: &[0xEE, 0x80, 0x80],
-            got: &[More, More, Char(0xE000)],
-        },
-        Case {
-            text: &[0xEF, 0xBF, 0xBF],
-            got: &[More, More, Char(0xFFFF)],
-        },
-        Case {
-            text: &[0xF0, 0x90, 0x80, 0x80],
-            got: &[More, More, More, Char(0x10000)],
-        },
-        Case {
-            text: &[0xF0, 0xBF, 0xBF, 0xBF],
-            got: &[More, More, More, Char(0x3FFFF)],
-        },
-        Case {
-            text: &[0xF0, 0x8F],
-            got: &[More, BadThen, Bad],
-        },
-        Case {
-            text: &[0xF1, 0x80, 0x80, 0x80],
-            got: &[More, More, More, Char(0x40000)],
-        },
-        Case {
-            text: &[0xF3, 0xBF, 0xBF, 0xBF],
-            got: &[More, More, More, Char(0xFFFFF)],
-        },
-        Case {
-            text: &[0xF1, 0x80, 0x80, 0xC0],
-            got: &[More, More, More, BadThen, Bad],
-        },
-        Case {
-            text: &[0xF4, 0x80, 0x80, 0x80],
-            got: &[More, More, More, Char(0x100000)],
-        },
-        Case {
-            text: &[0xF4, 0x8F, 0xBF, 0xBF],
-            got: &[More, More, More, Char(0x10FFFF)],
-        },
-        Case {
-            text: &[0xF4, 0x90],
-            got: &[More, BadThen, Bad],
-        },
-        Case {
-            text: &[0xF5, 0xFF],
-            got: &[Bad, Bad],
-        },
-    ];
-    for case in &cases {
+    for case in CASES {
         check(&rt, case);
     }
 }

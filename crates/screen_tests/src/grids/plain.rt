@@ -1,4 +1,3 @@
-use std::test::Fail;
 use vt_cells::Cell;
 use vt_grid::Grid;
 
@@ -7,13 +6,13 @@ pub const ROWS: u8 = 5;
 pub const COLS: u8 = 7;
 
 /// A grid that keeps each cell's code at its place.
-#[derive(Drop)]
+#[derive(Clone, Copy)]
 pub struct Plain {
     codes: [[u32; 7]; 5],
 }
 
 /// An edit of a grid.
-#[derive(Drop)]
+#[derive(Clone, Copy)]
 pub enum Edit {
     Put(u8, u8, u32),
     Bytes(u8, u8, &'static [u8; 5]),
@@ -93,8 +92,8 @@ impl Plain {
 }
 
 impl Edit {
-    /// Makes the edit on both. An edit that leaves the grid fails.
-    pub fn make(&self, grid: &mut Grid, plain: &mut Plain, fill: Cell) -> Result<(), Fail> {
+    /// Makes the edit on both, and tells whether it stays in the grid: one that doesn't isn't made.
+    pub fn make(&self, grid: &mut Grid, plain: &mut Plain, fill: Cell) -> bool {
         let size = grid.size();
         match self {
             Edit::Put(y, x, code) if *y < size.rows && *x < size.cols => {
@@ -140,9 +139,9 @@ impl Edit {
                 grid.delete(*y, *x, *n, fill);
                 plain.delete(usize::from(*y), usize::from(*x), *n, fill.code);
             }
-            _ => return Err(Fail::from("an edit leaves the grid")),
+            _ => return false,
         }
-        Ok(())
+        true
     }
 }
 

@@ -161,28 +161,33 @@ fn texts_set(rt: HostRuntime) -> Result<(), Fail> {
     Ok(())
 }
 
+// Whether tab stops stand in these columns, and in none of the others.
+fn has_stops(state: &ScreenState, columns: &[u8], others: &[u8]) -> bool {
+    columns.iter().all(|x| state.stops.has(*x)) && !others.iter().any(|x| state.stops.has(*x))
+}
+
+// The tables that are G0 and G1, and which of them is in use.
+fn tables(state: &ScreenState) -> (u8, u8, u8) {
+    (state.g0, state.g1, state.shift)
+}
+
 #[test]
 fn stops_tables_and_colours_are_kept(rt: HostRuntime) -> Result<(), Fail> {
     let mut emu = start(rt.alloc(), SIZE)?;
     emu.write(b"\x1B[1;5H\x1BH\x1B(0\x1B)U\x0E\x1B7\x1B(B\x1B)B\x0F\x1B]P1A0b0C0");
-    let state = emu.state();
-    assert!(rt; state.stops.has(4) && state.stops.has(8) && state.stops.has(248));
-    assert!(rt; !state.stops.has(0) && !state.stops.has(5) && !state.stops.has(255));
-    assert_eq!(rt; (state.g0, state.g1, state.shift), (0, 0, 0));
-    assert_eq!(rt; state.palette.get(1), (0xA0, 0xB0, 0xC0));
+    assert!(rt; has_stops(emu.state(), &[4, 8, 248], &[0, 5, 255]));
+    assert!(rt; tables(emu.state()) == (0, 0, 0));
+    assert!(rt; emu.state().palette.get(1) == (0xA0, 0xB0, 0xC0));
     emu.write(b"\x1B8");
-    let state = emu.state();
-    assert_eq!(rt; (state.g0, state.g1, state.shift), (1, 2, 1));
+    assert!(rt; tables(emu.state()) == (1, 2, 1));
     emu.write(b"\x1Bc");
-    let state = emu.state();
-    assert_eq!(rt; (state.g0, state.g1, state.shift), (0, 1, 0));
-    assert!(rt; !state.stops.has(4) && state.stops.has(8));
-    assert_eq!(rt; state.palette.get(1), (0xA0, 0xB0, 0xC0));
+    assert!(rt; tables(emu.state()) == (0, 1, 0));
+    assert!(rt; has_stops(emu.state(), &[8], &[4]));
+    assert!(rt; emu.state().palette.get(1) == (0xA0, 0xB0, 0xC0));
     emu.write(b"\x1B]R\x1B[3g");
-    let state = emu.state();
-    assert!(rt; !state.stops.has(8));
-    assert_eq!(rt; state.palette.get(1), (0xAA, 0, 0));
+    assert!(rt; has_stops(emu.state(), &[], &[8]));
+    assert!(rt; emu.state().palette.get(1) == (0xAA, 0, 0));
     emu.palette_mut().set(2, (1, 2, 3));
-    assert_eq!(rt; emu.state().palette.get(2), (1, 2, 3));
+    assert!(rt; emu.state().palette.get(2) == (1, 2, 3));
     Ok(())
 }
