@@ -14,7 +14,7 @@ Prints a line for each fault, and ends with status 1 if there is one.
 import re
 import sys
 
-from check_proved import NAMES, TOP, UNNAMED, calls_of, owners
+from check_proved import NAMES, TOP, UNNAMED, owners
 
 PAGE = TOP / "docs" / "PROMISES.md"
 HOLES = "## What no clause says"
@@ -59,19 +59,20 @@ def signature_at(lines):
     return " ".join(taken)
 
 
-def promises(lines):
-    """Tells whether the contract that follows a signature has an `ensures`."""
+def promised_at(lines):
+    """Gives the names of the `ensures` of the contract that stands in the lines after a signature."""
+    names = set()
     for line in lines:
         if re.match(r"\s*(\{\}?)?$", line):
-            return False
-        if re.match(r"\s*ensures", line):
-            return True
-    return False
+            break
+        clause = re.match(r"\s*ensures\*? *(\w*) *\{", line)
+        if clause:
+            names.add(clause[1] or UNNAMED)
+    return names
 
 
 def public_calls(crate, known):
-    """Gives the signature of each public call of a crate, and whether it promises anything, under the name by which it is
-    cited."""
+    """Gives the signature and the promises of each public call of a crate, under the name by which it is cited."""
     source = TOP / "crates" / crate / "src"
     exports, found = exports_of(source / "lib.rt"), {}
     for file in sorted(source.rglob("*.rt")):
@@ -87,7 +88,7 @@ def public_calls(crate, known):
             call = re.match(r"\s*(pub )?(?:const )?fn (\w+)", line)
             if call and (call[1] or is_open) and (owner[0] if owner else call[2]) in exports:
                 name = f"{owner[0]}::{call[2]}" if owner else call[2]
-                found[name] = (signature_at(lines[number:]), promises(lines[number:]))
+                found[name] = (signature_at(lines[number:]), promised_at(lines[number:]))
     return found
 
 
@@ -129,7 +130,7 @@ def law_faults(name, signature):
 
 def section_faults(crate, text, calls, holes):
     """Goes through the section of a crate."""
-    clauses, listed = calls_of(crate), []
+    listed = []
     for line in re.sub(r"(?<!\n)\n(?=`)", " ", text).splitlines():
         cells = [it.strip() for it in line.strip().strip("|").split(" | ")]
         is_row = line.startswith("| `")
@@ -145,14 +146,15 @@ def section_faults(crate, text, calls, holes):
             if name not in calls:
                 yield f"{crate}: no call {name}"
                 continue
-            faults = row_faults(name, calls[name][0], cells[1:], clauses[name]) if is_row else law_faults(name, calls[name][0])
+            signature, clauses = calls[name]
+            faults = row_faults(name, signature, cells[1:], clauses) if is_row else law_faults(name, signature)
             yield from (f"{crate}: {fault}" for fault in faults)
             if is_row and MISSING in line and f"{crate}::{name}" not in holes:
                 yield f"{crate}: {name} isn't told of under \"{HOLES[3:]}\""
     yield from (f"{crate}: no row of {name}" for name in calls if name not in listed)
     yield from (f"{crate}: two rows of {name}" for name in sorted(set(listed)) if listed.count(name) > 1)
-    for name, (_, has_promise) in calls.items():
-        if not has_promise and f"{crate}::{name}" not in holes:
+    for name, (_, clauses) in calls.items():
+        if not clauses and f"{crate}::{name}" not in holes:
             yield f"{crate}: {name} has no clause, and isn't told of under \"{HOLES[3:]}\""
 
 
