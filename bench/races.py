@@ -13,7 +13,8 @@ JournalFull, or prints no journal that ends as its status says.
 `measure` tells the entries a second of `vt play` and `vt race` on sessions of 1, 4, 16 and 64 processes,
 the slowest and the quickest of RUNS runs (5). In the first kind of session every process writes; in the
 second all but four of 16 and of 64 wait for input, which the keyboard sends. The time that the program
-takes to read the session's text, which is that of a play with room for no entry, is taken off.
+takes to read the session's text, which is the least of the plays with room for no entry, is taken off, up
+to nine tenths.
 """
 import random
 import subprocess
@@ -115,7 +116,7 @@ def measure(program, runs, counts):
                         if status != FINE:
                             sys.exit(f"{word}: status {status}")
                         entries = int(journal_end(printed)[1])
-                        speeds.append(entries / max(taken - read, 1e-6))
+                        speeds.append(entries / max(taken - read, taken / 10))
                     told.append(f"{min(speeds):,.0f} to {max(speeds):,.0f}")
                 print(f"{kind.__name__}, {processes}: {'; '.join(told)} ({entries:,})", flush=True)
 

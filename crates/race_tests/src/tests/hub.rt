@@ -1,0 +1,286 @@
+//! A hub over the console of two processes: another thread makes their calls in the order of the serial
+//! play, while this one reads the display.
+ghost use Rattle.std.specs.Prelude.{◌≡◌, false, None, IfOk};
+ghost use Rattle.race_tests.specs.Ready.{IsReady, is_told_to_wait};
+ghost use Rattle.session_order.specs.Sessions.{start_of};
+ghost use Rattle.vt_hub.specs.Answers.{Answers};
+ghost use Rattle.vt_hub.specs.Histories.{awaits};
+ghost use Rattle.vt_world.specs.Refusals.{ends_wait};
+
+use super::{SESSION, journal_of, same_text};
+use session_text::{Session, read};
+use std::alloc::Global;
+use std::marker::Brand;
+use std::process::Abort;
+use std::sync::Wait;
+use std::test::Fail;
+use std::thread;
+use std::thread::Threads;
+use vt_base::{CallerNo, NoMemory, Size};
+use vt_events::{Event, Reply};
+use vt_hub::{Answer, Hub, Opening, Pass, Run, Steward};
+use vt_journal::read_event;
+use vt_world::{Spare, World, nobody_waits_at_start, spare_for};
+
+// Whose calls they are, in the order of the serial play, behind the keyboard's.
+const CALLS: &[(u16, &str)] = &[
+    (1, "open 1"),
+    (2, "open 2"),
+    (1, "signals"),
+    (2, "signals"),
+    (1, "setmode 0 1 0 10 12 0"),
+    (2, "activate 0 2"),
+    (1, "signals"),
+    (2, "signals"),
+    (1, "reldisp 0 1"),
+    (2, "exit"),
+    (1, "waitsignal"),
+    (1, "waitend"),
+    (1, "signals"),
+    (1, "exit"),
+];
+
+const JOURNAL: &str = "%journal 1
+0 0 exit = ok
+1 0 open 1 = num 0
+2 0 open 2 = num 0
+1 1 signals = sigs 0
+2 1 signals = sigs 0
+1 2 setmode 0 1 0 10 12 0 = ok
+2 2 activate 0 2 = ok
+1 3 signals = sigs 512
+2 3 signals = sigs 0
+1 4 reldisp 0 1 = ok
+2 4 exit = ok
+1 5 waitsignal = wait
+1 6 waitend = err 4
+1 7 signals = sigs 0
+1 8 exit = ok
+%end 15 960
+";
+
+fn ends(event: &Event) -> bool
+    ensures { result ≡ ends_wait event.now }
+{
+    matches!(event, Event::WaitEnd)
+}
+
+// Makes this call.
+fn ask<J: Opening, R: Wait>(
+    rt: &R,
+    alloc: Global,
+    hub: &Hub<J>,
+    pass: &mut Pass<J>,
+    size: Size,
+    event: Event,
+) -> Result<Answer, NoMemory>
+    requires own { pass.old.hub ≡ hub.now }
+    requires free { ends_wait event ≡ false → pass.old.stop ≡ None → awaits pass.old.mine ≡ false }
+    requires size { (size.rows ≡ J.start.rows) × (size.cols ≡ J.start.cols) }
+    ensures { IfOk result (λ answer. Answers J.start J.limits event pass.old pass.new answer) }
+{
+    if matches!(event, Event::WaitEnd) {
+        return Ok(hub.wait_end(rt, pass));
+    }
+    let spare = spare_for(alloc, &event, size)?;
+    Ok(hub.call(rt, pass, event, spare))
+}
+
+fn was_wait(answer: &Answer) -> bool
+    ensures { result ≡ is_told_to_wait answer.now }
+{
+    match answer {
+        Answer::Done {
+            reply: Reply::Wait,
+            ..
+        } => true,
+        _ => false,
+    }
+}
+
+// Makes the call that the words spell, and says whether it was entered.
+#[tactic(auto, using(crate::proofs::Ready::ready_after))]
+fn make<J: Opening, R: Wait>(
+    rt: &R,
+    alloc: Global,
+    hub: &Hub<J>,
+    pass: &mut Pass<J>,
+    waits: &mut bool,
+    size: Size,
+    words: &str,
+) -> Result<bool, NoMemory>
+    requires ready { IsReady hub.now waits.old pass.old }
+    requires size { (size.rows ≡ J.start.rows) × (size.cols ≡ J.start.cols) }
+    ensures { IfOk result (λ _. IsReady hub.now waits.new pass.new) }
+{
+    let Some(event) = read_event(alloc, words.as_bytes())? else {
+        return Ok(false);
+    };
+    if *waits && !ends(&event) {
+        return Ok(false);
+    }
+    let answer = ask(rt, alloc, hub, pass, size, event)?;
+    *waits = was_wait(&answer);
+    Ok(matches!(answer, Answer::Done { .. }))
+}
+
+// The passes of callers 1 and 2, and whether each of their calls was entered.
+#[derive(Drop)]
+struct Callers<J: Opening> {
+    one: Pass<J>,
+    two: Pass<J>,
+    made: bool,
+}
+
+fn make_all<J: Opening, R: Wait>(
+    rt: &R,
+    alloc: Global,
+    hub: &Hub<J>,
+    callers: Callers<J>,
+    size: Size,
+) -> Result<Callers<J>, NoMemory>
+    requires one { IsReady hub.now false callers.one }
+    requires two { IsReady hub.now false callers.two }
+    requires size { (size.rows ≡ J.start.rows) × (size.cols ≡ J.start.cols) }
+    ensures one { IfOk result (λ callers. callers.one.hub ≡ hub.now) }
+    ensures two { IfOk result (λ callers. callers.two.hub ≡ hub.now) }
+{
+    let Callers {
+        mut one,
+        mut two,
+        ..
+    } = callers;
+    let mut one_waits = false;
+    let mut two_waits = false;
+    let mut made = true;
+    for &(p, words) in CALLS {
+        let entered = if p == 1 {
+            make(rt, alloc, hub, &mut one, &mut one_waits, size, words)?
+        } else {
+            make(rt, alloc, hub, &mut two, &mut two_waits, size, words)?
+        };
+        made = made && entered;
+    }
+    Ok(Callers { one, two, made })
+}
+
+// A pass, and whether the display that it read was 1 until it was 2.
+#[derive(Drop)]
+struct Reader<J: Opening> {
+    pass: Pass<J>,
+    turned: bool,
+}
+
+fn watch<J: Opening>(hub: &Hub<J>, reader: Reader<J>) -> Reader<J>
+    requires { reader.pass.hub ≡ hub.now }
+    ensures { result.pass.hub ≡ hub.now }
+{
+    let Reader { mut pass, .. } = reader;
+    for _ in 0..1_000_000 {
+        match hub.display_now(&mut pass).get() {
+            1 => thread::yield_now(),
+            n => {
+                return Reader {
+                    pass,
+                    turned: n == 2,
+                };
+            }
+        }
+    }
+    Reader {
+        pass,
+        turned: false,
+    }
+}
+
+// A new pass of this caller.
+fn split<J: Opening>(hub: &Hub<J>, steward: &mut Steward<J>, c: u16) -> Result<Pass<J>, Fail>
+    requires { steward.old.hub ≡ hub.now }
+    ensures steward { steward.new.hub ≡ hub.now }
+    ensures pass { IfOk result (λ pass. IsReady hub.now false pass) }
+{
+    let c = CallerNo::new(c).ok_or("no caller")?;
+    if steward.made(c) {
+        return Err("made twice".into());
+    }
+    Ok(hub.split(steward, c))
+}
+
+// Whether all calls were made, and the display turned; and the run.
+#[derive(Drop)]
+struct Outcome {
+    made: bool,
+    turned: bool,
+    run: Run,
+}
+
+// The calls of callers 1 and 2 in another thread, behind the keyboard's, and the display in this one.
+fn read_beside<J: Opening + Send + Sync, R: Threads + Wait + Sync>(
+    rt: &R,
+    alloc: Global,
+    s: &Session,
+    world: World,
+) -> Result<Outcome, Fail>
+    requires world { world ≡ start_of s.now }
+    requires start { J.start ≡ start_of s.now }
+    requires limits { J.limits ≡ s.now.limits }
+{
+    nobody_waits_at_start();
+    let size = s.config().size;
+    let (hub, mut steward) = Hub::<J>::open(alloc, world, s.limits())?;
+    let mut keyboard = split(&hub, &mut steward, 0)?;
+    let one = split(&hub, &mut steward, 1)?;
+    let two = split(&hub, &mut steward, 2)?;
+    hub.call(rt, &mut keyboard, Event::Exit, Spare::none(alloc));
+    let callers = Callers {
+        one,
+        two,
+        made: false,
+    };
+    let reader = Reader {
+        pass: keyboard,
+        turned: false,
+    };
+    let (callers, reader) = thread::join(
+        rt,
+        || -> Result<Callers<J>, NoMemory>
+            requires { IsReady hub false callers.one × IsReady hub false callers.two
+                × (size.rows ≡ J.start.rows) × (size.cols ≡ J.start.cols) }
+            ensures { IfOk result (λ callers. (callers.one.hub ≡ hub) × (callers.two.hub ≡ hub)) }
+        { make_all(rt, alloc, &hub, callers, size) },
+        || -> Reader<J>
+            requires { reader.pass.hub ≡ hub }
+            ensures { result.pass.hub ≡ hub }
+        { watch(&hub, reader) },
+    );
+    let Callers { one, two, made } = callers?;
+    let Reader { pass, turned } = reader;
+    hub.join(&mut steward, one);
+    hub.join(&mut steward, two);
+    hub.join(&mut steward, pass);
+    if steward.out() != 0 {
+        return Err("a pass is out".into());
+    }
+    let run = hub.close(steward);
+    Ok(Outcome { made, turned, run })
+}
+
+fn read_session<R: Threads + Wait + Sync>(
+    rt: &R,
+    alloc: Global,
+    s: &Session,
+) -> Result<Outcome, Fail> {
+    let world = World::start(alloc, s.config(), s.key_tables())?;
+    read_beside::<Brand, R>(rt, alloc, s, world)
+}
+
+#[test]
+fn the_display_is_read_while_others_call(rt: HostRuntime) -> Result<(), Fail> {
+    let session = read(rt.alloc(), SESSION.as_bytes())?;
+    let outcome = read_session(&rt, rt.alloc(), &session)?;
+    assert!(rt; outcome.made, "each call was entered");
+    assert!(rt; outcome.turned, "the display was 1, and then 2");
+    let text = journal_of(rt.alloc(), &outcome.run)?;
+    same_text(&rt, text.as_slice(), JOURNAL);
+    Ok(())
+}
