@@ -14,7 +14,9 @@ Prints a line for each fault, and ends with status 1 if there is one.
 import re
 import sys
 
-from check_proved import NAMES, TOP, UNNAMED, owners
+sys.dont_write_bytecode = True
+
+from check_proved import NAMES, TOP, UNNAMED, owners  # noqa: E402: after the line that keeps tools/ clean
 
 PAGE = TOP / "docs" / "PROMISES.md"
 HOLES = "## What no clause says"
