@@ -1,5 +1,7 @@
 //! What the tests share. Rows are texts and numbers alone.
 mod hub;
+mod meeting;
+mod race;
 
 use std::alloc::Global;
 use std::process::Abort;

@@ -13,7 +13,8 @@ use vt_journal::{add, add_hex, add_next};
 use vt_screen::Emu;
 use vt_world::World;
 
-/// The final text of a run.
+/// The final text of a run: the display, and each allocated console in rising order with its screen and
+/// its queue.
 pub fn final_text(alloc: Global, r: &Run) -> Result<Bytes, NoMemory>
     ensures { IfOk result (λ text. text.bytes ≡ final_text r.now.world) }
 {
@@ -22,9 +23,7 @@ pub fn final_text(alloc: Global, r: &Run) -> Result<Bytes, NoMemory>
     Ok(text)
 }
 
-/// Adds the final text: the display, and each allocated console in rising order with its screen and
-/// its queue.
-pub fn add_final_text(alloc: Global, text: &mut Bytes, world: &World) -> Result<(), NoMemory>
+fn add_final_text(alloc: Global, text: &mut Bytes, world: &World) -> Result<(), NoMemory>
     ensures { OnOk result (text.new.bytes ≡ text.old.bytes ++ final_text world.now) }
 {
     add(alloc, text, b"%display")?;

@@ -17,7 +17,7 @@ mod turn;
 mod worker;
 
 pub use drill::drill_session;
-pub use final_texts::{add_final_text, final_text};
+pub use final_texts::final_text;
 pub use racing::{race, race_tables};
 pub use serial::play;
 pub use vt_hub::Run;

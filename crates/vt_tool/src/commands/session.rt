@@ -8,10 +8,10 @@ ghost use Rattle.vt_tool.specs.Status.{is_own};
 
 use crate::answer::Answer;
 use crate::status::Status;
-use session_run::{Run, add_final_text};
+use session_run::{Run, final_text};
 use std::alloc::Global;
 use vt_base::{Bytes, NoMemory};
-use vt_journal::{Tail, print};
+use vt_journal::{Tail, add, print};
 
 /// The journal of the run, and the console after it.
 pub fn answer_run(alloc: Global, run: &Run) -> Result<Answer, NoMemory>
@@ -25,7 +25,8 @@ pub fn answer_run(alloc: Global, run: &Run) -> Result<Answer, NoMemory>
     let end = run.tail();
     let mut text = Bytes::new(alloc);
     print(alloc, run.log.entries(), &end, &mut text)?;
-    add_final_text(alloc, &mut text, &run.world)?;
+    let last = final_text(alloc, run)?;
+    add(alloc, &mut text, last.as_slice())?;
     Ok(Answer {
         status: status_of(&end),
         text,

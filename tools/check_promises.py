@@ -1,0 +1,180 @@
+#!/usr/bin/env python3
+"""Checks docs/PROMISES.md against the public calls of the libraries that crates.txt lists.
+
+A public call is a `pub fn` that a user of the crate can name, one of a public trait of this repository, or such a trait's at a
+public type. A section `### CRATE` has a line `Laws: ..`, a table, or both, and each call stands once in them. A law gives
+nothing and changes nothing. A row has five cells: calls; whether they may wait (`no` exactly where the signature has no
+`Wait`); whether they take memory (`no` exactly where it has no allocator); the other answers, by clauses that every call of
+the row has ("its clause" has no name), or `none`, which no call that gives an Option, a Result or a bool has; and what is
+lent, which is `nothing lent` exactly where nothing is lent to be changed. NoMemory has no clause; any other answer without
+one is "no clause". Every call of a cell with "no clause", and every call without an `ensures`, stands as `CRATE::CALL` under
+"What no clause says".
+Prints a line for each fault, and ends with status 1 if there is one.
+"""
+import re
+import sys
+
+sys.dont_write_bytecode = True
+
+from check_proved import NAMES, TOP, UNNAMED, owners  # noqa: E402: after the line that keeps tools/ clean
+
+PAGE = TOP / "docs" / "PROMISES.md"
+HOLES = "## What no clause says"
+MISSING = "no clause"
+LENT_NOTHING = "nothing lent"
+
+
+def libraries():
+    """Gives the libraries of crates.txt that have public calls of their own."""
+    names = re.findall(r"^(\w+)[^:#\n]*:", (TOP / "crates.txt").read_text(encoding="utf-8"), re.M)
+    return [name for name in names if (TOP / "crates" / name / "src" / "lib.rt").exists()]
+
+
+def exports_of(file):
+    """Gives the names that a root file, and the public modules under it, make public."""
+    text = file.read_text(encoding="utf-8")
+    names = set(re.findall(r"^pub (?:const )?(?:fn|struct|enum|trait) (\w+)", text, re.M))
+    for path in re.findall(r"^pub use ([^;]+);", text, re.M):
+        last = path[path.index("{"):] if "{" in path else path.rsplit("::", 1)[-1]
+        names.update(it.split(" as ")[-1].strip() for it in last.strip("{}").split(","))
+    for name in re.findall(r"^pub mod (\w+);", text, re.M):
+        folder = file.parent if file.stem == "lib" else file.with_suffix("")
+        names |= exports_of(folder / f"{name}.rt")
+    return names
+
+
+def traits():
+    """Gives the names of the public traits of this repository."""
+    files = [file for crate in libraries() for file in (TOP / "crates" / crate / "src").rglob("*.rt")]
+    return {name for file in files for name in re.findall(r"^pub trait (\w+)", file.read_text(encoding="utf-8"), re.M)}
+
+
+def signature_at(lines):
+    """Gives the lines of a signature, up to its contract or its body, as one."""
+    taken = []
+    for line in lines:
+        if re.match(r"\s*(requires|ensures|where|\{)", line):
+            break
+        taken.append(line.strip())
+        if re.search(r"[{;}]$", line):
+            break
+    return " ".join(taken)
+
+
+def promised_at(lines):
+    """Gives the names of the `ensures` of the contract that stands in the lines after a signature."""
+    names = set()
+    for line in lines:
+        if re.match(r"\s*(\{\}?)?$", line):
+            break
+        clause = re.match(r"\s*ensures\*? *(\w*) *\{", line)
+        if clause:
+            names.add(clause[1] or UNNAMED)
+    return names
+
+
+def public_calls(crate, known):
+    """Gives the signature and the promises of each public call of a crate, under the name by which it is cited."""
+    source = TOP / "crates" / crate / "src"
+    exports, found = exports_of(source / "lib.rt"), {}
+    for file in sorted(source.rglob("*.rt")):
+        lines = file.read_text(encoding="utf-8").split("\nmod tests {")[0].splitlines()
+        owner, is_open = [], False
+        for number, line in enumerate(lines):
+            if line.startswith("}"):
+                owner, is_open = [], False
+            if owners(line):
+                owner = owners(line)
+                of_trait = re.search(r"(\w+)(?:<.*>)? for ", line)
+                is_open = line.startswith("pub trait") or bool(of_trait and of_trait[1] in known)
+            call = re.match(r"\s*(pub )?(?:const )?fn (\w+)", line)
+            if call and (call[1] or is_open) and (owner[0] if owner else call[2]) in exports:
+                name = f"{owner[0]}::{call[2]}" if owner else call[2]
+                found[name] = (signature_at(lines[number:]), promised_at(lines[number:]))
+    return found
+
+
+def clause_faults(name, cell, clauses):
+    wanted = NAMES.findall(cell) + [UNNAMED] * (UNNAMED in cell)
+    yield from (f"{name} has no clause {it}" for it in wanted if it not in clauses)
+
+
+def row_faults(name, signature, cells, clauses):
+    waits, memory, answers, lent = cells
+    arguments, _, result = signature.rpartition("->") if "->" in signature else (signature, "", "")
+    if (waits == "no") == bool(re.search(r"\bWait\b", signature)):
+        yield f"{name}: whether it may wait"
+    if (memory == "no") == ("alloc: " in arguments):
+        yield f"{name}: whether it takes memory"
+    if answers == "none":
+        if re.match(r" (Option|Result|bool)\b", result):
+            yield f"{name} has another answer"
+        if lent:
+            yield f"{name}: it has no other answer to leave anything"
+        return
+    for group in answers.split("; "):
+        if group != "NoMemory" and MISSING not in group and not NAMES.findall(group) and UNNAMED not in group:
+            yield f"{name}: no clause for {group}"
+    if re.search(r"NoMemory|Error", result) and memory != "no" and "NoMemory" not in answers:
+        yield f"{name} may answer NoMemory"
+    if (lent == LENT_NOTHING) == ("&mut" in arguments):
+        yield f"{name}: what is lent"
+    if lent != LENT_NOTHING and MISSING not in lent and not NAMES.findall(lent) and UNNAMED not in lent:
+        yield f"{name}: no clause for what is lent"
+    yield from clause_faults(name, answers, clauses)
+    yield from clause_faults(name, lent, clauses)
+
+
+def law_faults(name, signature):
+    if "->" in signature or "&mut" in signature:
+        yield f"{name} is no law"
+
+
+def section_faults(crate, text, calls, holes):
+    """Goes through the section of a crate."""
+    listed = []
+    for line in re.sub(r"(?<!\n)\n(?=`)", " ", text).splitlines():
+        cells = [it.strip() for it in line.strip().strip("|").split(" | ")]
+        is_row = line.startswith("| `")
+        if not is_row and not line.startswith("Laws: "):
+            continue
+        if is_row and len(cells) == 4:
+            cells.append("")
+        if is_row and len(cells) != 5:
+            yield f"{crate}: no row of five cells: {line}"
+            continue
+        for name in NAMES.findall(cells[0]):
+            listed.append(name)
+            if name not in calls:
+                yield f"{crate}: no call {name}"
+                continue
+            signature, clauses = calls[name]
+            faults = row_faults(name, signature, cells[1:], clauses) if is_row else law_faults(name, signature)
+            yield from (f"{crate}: {fault}" for fault in faults)
+            if is_row and MISSING in line and f"{crate}::{name}" not in holes:
+                yield f"{crate}: {name} isn't told of under \"{HOLES[3:]}\""
+    yield from (f"{crate}: no row of {name}" for name in calls if name not in listed)
+    yield from (f"{crate}: two rows of {name}" for name in sorted(set(listed)) if listed.count(name) > 1)
+    for name, (_, clauses) in calls.items():
+        if not clauses and f"{crate}::{name}" not in holes:
+            yield f"{crate}: {name} has no clause, and isn't told of under \"{HOLES[3:]}\""
+
+
+def main():
+    body, _, holes = PAGE.read_text(encoding="utf-8").partition(f"\n{HOLES}\n")
+    sections = dict(re.findall(r"^### (\w+)\n([\s\S]*?)(?=^##|\Z)", body, re.M))
+    told, known, faults = set(re.findall(r"`(\w+::[\w:]+)`", holes)), traits(), []
+    calls = {crate: public_calls(crate, known) for crate in libraries()}
+    for crate, names in calls.items():
+        if names:
+            faults += section_faults(crate, sections.pop(crate, ""), names, told)
+    faults += [f"no library {crate}" for crate in sections]
+    every = {f"{crate}::{name}" for crate, names in calls.items() for name in names}
+    faults += [f"no call {name}" for name in sorted(told - every)]
+    for fault in faults:
+        print(f"{PAGE.name}: {fault}")
+    return 1 if faults else 0
+
+
+if __name__ == "__main__":
+    sys.exit(main())
