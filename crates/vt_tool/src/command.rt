@@ -9,6 +9,8 @@ pub enum Command {
     DumpKeys,
     /// The journal of the calls of the input, and the console after them.
     Play,
+    /// The verdict on the journal behind the session of the input.
+    Check,
     /// The journal of the calls of the input, made by threads, and the console after them.
     Race,
     /// A line for each scan byte of the input's table, by the tables of its keymap.
