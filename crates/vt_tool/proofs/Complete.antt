@@ -13,7 +13,7 @@ use Rattle.vt_tool.specs.declared.command.Command.{Command}
 use Rattle.vt_tool.specs.declared.intake.Intake.{Intake}
 use Rattle.vt_tool.specs.declared.intake.Intake.TheVariants.{NoInput, ToEnd}
 use Rattle.vt_tool.specs.declared.status.Status.{Status}
-use Rattle.vt_tool.specs.declared.status.Status.TheVariants.{Fine, Usage, ReadFault, WriteFault, NoMemory, Refused, TooLong, JournalFull}
+use Rattle.vt_tool.specs.declared.status.Status.TheVariants.{Fine, Usage, ReadFault, WriteFault, NoMemory, Refused, TooLong, JournalFull, Illegal}
 
 -- two commands of the same words are one
 one_command : (known : List Form) (words : List (List ℕ)) (a b : Command)
@@ -108,6 +108,8 @@ module _ (known : List Form) (words : List (List ℕ)) (src src' out out' : Stre
         inr (answered other (Refused code a b) is spelled' holds)
     completed (JournalFull full) is (other, spelled', holds) =
         inr (answered other (JournalFull full) is spelled' holds)
+    completed (Illegal index why) is (other, spelled', holds) =
+        inr (answered other (Illegal index why) is spelled' holds)
 
 pub run-completes : (known : List Form) (words : List (List ℕ)) (old new : Streams) (status : Status)
     → ProgramRun known words old new status → Completes known words old new status

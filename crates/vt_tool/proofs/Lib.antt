@@ -1,4 +1,6 @@
+mod Checks
 mod Complete
+mod Cuts
 mod Knows
 mod Numbers
 mod Oks

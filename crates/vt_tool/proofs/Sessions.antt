@@ -1,10 +1,11 @@
 -- What is printed of a run of a session.
-use Rattle.std.proofs.Common.{◌≡◌, ℕ, List, ◌++◌, length, Option, ap, ◌∙◌, subst}
+use Rattle.std.proofs.Common.{refl, ◌≡◌, ℕ, List, ◌++◌, length, Option, ap, ◌∙◌, subst}
 use Rattle.session_order.specs.Ends.{Ends}
 use Rattle.session_order.specs.Follows.{Follows}
 use Rattle.session_order.specs.Sessions.{ShowsTapes, stage_of, start_of}
 use Rattle.session_run.specs.Final.{final_text}
 use Rattle.session_text.specs.Sessions.{SessionView}
+use Rattle.vt_base.specs.ConsoleSet.{IsFitSet}
 use Rattle.vt_events.specs.declared.entry.Entry.{Entry}
 use Rattle.vt_journal.specs.Journal.{journal_text}
 use Rattle.vt_journal.specs.Room.{tail_at}
@@ -13,8 +14,21 @@ use Rattle.vt_switch.specs.Law.{IsExplained, IsLawful}
 use Rattle.vt_tool.specs.Commands.Session.{IsPrinted, IsRightRun, status_of}
 use Rattle.vt_tool.specs.declared.status.Status.{Status}
 use Rattle.vt_world.specs.History.{IsLegal, replay}
-use Rattle.vt_world.specs.Laws.{moments}
+use Rattle.vt_world.specs.Laws.{IsStart, moments}
 use Rattle.vt_world.specs.State.{WorldState, core}
+
+-- a session begins at a start of the console
+pub is-start : (s : SessionView) → IsFitSet s.config.consoles s.config.front → IsStart (start_of s)
+is-start s fit = record {
+  rows = s.config.size.rows;
+  cols = s.config.size.cols;
+  consoles = s.config.consoles;
+  front = s.config.front;
+  processes = s.config.procs;
+  tables = s.tables;
+  fit = fit;
+  opened = refl;
+}
 
 module _ (s : SessionView) (world : WorldState) (history : List Entry) (stop : Option Full)
     (replayed : world ≡ replay (start_of s) history)

@@ -9,6 +9,7 @@ use Rattle.vt_tool.specs.declared.command.Command.TheVariants as command
 use Rattle.vt_tool.specs.declared.intake.Intake.{Intake}
 use Rattle.vt_tool.specs.declared.intake.Intake.TheVariants.{NoInput, ToEnd}
 use Rattle.vt_tool.specs.Commands.Screen.{GivesRows, IsScreenSize, screen_limit, side}
+use Rattle.vt_tool.specs.Commands.Check.{GivesChecked}
 use Rattle.vt_tool.specs.Commands.Drill.{GivesDrill, IsDrillSize, items_each, seeds}
 use Rattle.vt_tool.specs.Commands.Dump.{GivesDump}
 use Rattle.vt_tool.specs.Commands.Keys.{GivesKeyFault, GivesListing}
@@ -16,6 +17,7 @@ use Rattle.vt_tool.specs.Commands.Play.{GivesPlayed}
 use Rattle.vt_tool.specs.Commands.Race.{GivesRaced}
 use Rattle.vt_tool.specs.Commands.Session.{GivesSessionFault}
 use Rattle.vt_tool.specs.Commands.Typing.{GivesTableFault, GivesTyped}
+pub mod Check
 pub mod Drill
 pub mod Dump
 pub mod Keys
@@ -33,6 +35,7 @@ serial_forms =
     ∷ form (codes "keys") (alone command.Keys)
     ∷ form (codes "type") (alone command.Typing)
     ∷ form (codes "play") (alone command.Play)
+    ∷ form (codes "check") (alone command.Check)
     ∷ form (codes "drill") (with_two items_each seeds command.Drill)
     ∷ form (codes "dumpkeys") (alone command.DumpKeys)
     ∷ []
@@ -68,6 +71,7 @@ Gives (command.Screen rows cols) input outcome = GivesRows rows cols input outco
 Gives command.Keys input outcome = GivesListing input outcome ⊎ GivesKeyFault input outcome
 Gives command.DumpKeys input outcome = GivesDump input outcome ⊎ GivesKeyFault input outcome
 Gives command.Play input outcome = GivesPlayed input outcome ⊎ GivesSessionFault input outcome
+Gives command.Check input outcome = GivesChecked input outcome
 Gives command.Race input outcome = GivesRaced input outcome ⊎ GivesSessionFault input outcome
 Gives (command.Drill n seed) input outcome = GivesDrill n seed outcome
 Gives command.Typing input outcome = GivesTyped input outcome ⊎ GivesTableFault input outcome

@@ -2,7 +2,7 @@
 -- README tell it.
 use Rattle.std.specs.Prelude.{ℕ, Bool, true, false, List, [], ◌++◌, codes, decimal}
 use Rattle.vt_tool.specs.declared.status.Status.{Status}
-use Rattle.vt_tool.specs.declared.status.Status.TheVariants.{Fine, Usage, ReadFault, WriteFault, NoMemory, Refused, TooLong, JournalFull}
+use Rattle.vt_tool.specs.declared.status.Status.TheVariants.{Fine, Usage, ReadFault, WriteFault, NoMemory, Refused, TooLong, JournalFull, Illegal}
 
 -- the exit status
 abbrev pub number_of : Status → ℕ
@@ -14,6 +14,7 @@ number_of NoMemory = 4
 number_of (Refused code a b) = 5
 number_of TooLong = 6
 number_of (JournalFull full) = 7
+number_of (Illegal index why) = 8
 
 -- the line on err, nothing where all went well
 abbrev pub line_of : Status → List ℕ
@@ -30,6 +31,8 @@ line_of (JournalFull full) =
     codes "vt: journal full "
     ++ (decimal full.events ++ (codes " " ++ (decimal full.bytes ++ (codes " "
     ++ (decimal full.charge ++ codes "\n")))))
+line_of (Illegal index why) =
+    codes "vt: illegal " ++ (decimal index ++ (codes " " ++ (decimal why ++ codes "\n")))
 
 -- a status that a command gives for its input; the others come of words, streams and memory
 abbrev pub is_own : Status → Bool

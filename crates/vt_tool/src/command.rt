@@ -9,6 +9,8 @@ pub enum Command {
     DumpKeys,
     /// The journal of the calls of the input, and the console after them.
     Play,
+    /// The verdict on the journal behind the session of the input.
+    Check,
     /// The journal of the calls of the input, made by threads, and the console after them.
     Race,
     /// Five numbers of a session of eight processes that is made from a seed, with `n` items each.

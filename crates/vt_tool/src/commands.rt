@@ -4,6 +4,7 @@ ghost use Rattle.vt_tool.specs.Commands.{Gives, IsFit, IsSerial, intake_of};
 ghost use Rattle.vt_tool.specs.Input.{IsWithin};
 ghost use Rattle.vt_tool.specs.Status.{is_own};
 
+mod check;
 pub mod drill;
 mod dumpkeys;
 mod keys;
@@ -32,6 +33,7 @@ pub fn answer_to(alloc: Global, command: Command, input: &[u8]) -> Result<Answer
         Command::Keys => keys::answer(alloc, input),
         Command::DumpKeys => dumpkeys::answer(alloc, input),
         Command::Play => play::answer(alloc, input),
+        Command::Check => check::answer(alloc, input),
         Command::Drill { n, seed } => drill::answer(alloc, n, seed),
         Command::Typing => typing::answer(alloc, input),
         Command::Race => unreachable!(),

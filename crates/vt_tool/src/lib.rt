@@ -5,6 +5,7 @@ mod answer;
 mod command;
 mod commands;
 mod intake;
+mod laws;
 mod read_end;
 mod reading;
 mod run;
@@ -14,6 +15,7 @@ mod tool;
 mod words;
 mod writing;
 
+pub use laws::one_check;
 pub use run::vt_run;
 pub use status::Status;
 pub use tool::vt_command;

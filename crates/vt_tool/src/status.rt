@@ -22,6 +22,8 @@ pub enum Status {
     TooLong,
     /// A call found no room in the journal.
     JournalFull(Full),
+    /// The journal is none of the session: its first entry that fails, and the reason's number.
+    Illegal { index: u32, why: u8 },
 }
 
 impl Status {
@@ -38,6 +40,7 @@ impl Status {
             Status::Refused { .. } => 5,
             Status::TooLong => 6,
             Status::JournalFull(_) => 7,
+            Status::Illegal { .. } => 8,
         }
     }
 }

@@ -37,6 +37,10 @@ pub fn tell<E: Sink>(err: &mut E, first: Status) -> Status
             let line = full_line(&full);
             say(err, first, line.as_str().as_bytes())
         }
+        Status::Illegal { index, why } => {
+            let line = illegal_line(index, why);
+            say(err, first, line.as_str().as_bytes())
+        }
     }
 }
 
@@ -81,6 +85,20 @@ fn full_line(full: &Full) -> ArrayString<LINE_BYTES>
     line.push_str(number.format(full.bytes));
     line.push_str(" ");
     line.push_str(number.format(full.charge));
+    line.push_str("\n");
+    line
+}
+
+// The line of an illegal journal, made with no memory.
+fn illegal_line(index: u32, why: u8) -> ArrayString<LINE_BYTES>
+    ensures { result.bytes ≡ line_of (Status.Illegal index why) }
+{
+    let mut number = Buffer::new();
+    let mut line = ArrayString::new();
+    line.push_str("vt: illegal ");
+    line.push_str(number.format(index));
+    line.push_str(" ");
+    line.push_str(number.format(why));
     line.push_str("\n");
     line
 }

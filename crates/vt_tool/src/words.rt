@@ -19,6 +19,7 @@ pub fn parse_words(words: &[String]) -> Option<Command>
         "dumpkeys" => alone(Command::DumpKeys, others),
         "type" => alone(Command::Typing, others),
         "play" => alone(Command::Play, others),
+        "check" => alone(Command::Check, others),
         "drill" => drill::parse(others),
         _ => None,
     }

@@ -29,3 +29,16 @@ returns-in-JournalFull g c =
     } in
     subst (λ (first : Status). Tells first err err' c.say-in-JournalFull.result)
     (sym c.in-JournalFull.is) c.say-in-JournalFull.ensures
+
+pub returns-in-Illegal : goal.returns-in-Illegal
+returns-in-Illegal g c =
+    let err : Stream = record {
+      told = g.E.Sink.held c.args.err.now;
+      faults = g.E.Sink.faults c.args.err.now;
+    } in
+    let err' : Stream = record {
+      told = g.E.Sink.held c.say-in-Illegal.new.err;
+      faults = g.E.Sink.faults c.say-in-Illegal.new.err;
+    } in
+    subst (λ (first : Status). Tells first err err' c.say-in-Illegal.result)
+    (sym c.in-Illegal.is) c.say-in-Illegal.ensures

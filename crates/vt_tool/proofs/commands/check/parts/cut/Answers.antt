@@ -1,0 +1,11 @@
+use Rattle.std.proofs.Common.{arith}
+use Rattle.vt_tool.proofs.Cuts.{cut-here, cut-nowhere}
+use Rattle.vt_tool.proofs.commands.check.parts.cut.Goals as goal
+
+pub returns-then-has_journal_at : goal.returns-then-has_journal_at
+returns-then-has_journal_at c =
+    cut-here c.args.input.now c.loop-at.at (omega (arith)) c.loop-at.invariant
+    (c.has_journal_at.ensures.yes c.if-has_journal_at.true)
+
+pub returns : goal.returns
+returns c = cut-nowhere c.args.input.now c.loop-at.at (omega (arith)) c.loop-at.invariant
