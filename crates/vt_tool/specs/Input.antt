@@ -1,6 +1,6 @@
 -- What is read of the source: one case for each way of reading. docs/PROGRAM.md, "Order" and "The
 -- source".
-use Rattle.std.specs.Prelude.{◌≡◌, ℕ, ◌<◌, ◌≤◌, ⊥, List, [], length, Some}
+use Rattle.std.specs.Prelude.{◌≡◌, ℕ, ◌<◌, ◌≤◌, List, [], length, Some}
 use Rattle.std.specs.Io.KnownBytes.{Consumes, IsAtEnd}
 use Rattle.vt_io.specs.Faults.{Rose}
 use Rattle.vt_io.specs.Stream.{Stream}
