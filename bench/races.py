@@ -7,8 +7,8 @@ usage: races.py soak PROGRAM [RACES] [SEED]
 PROGRAM is the program `vt`, as crates/vt/out/vt.
 
 `soak` races the session that sessions.py writes, and then as many sessions as are wanted (200 where no
-number is given) of 2 to 64 processes, small ones of all calls. It fails where a race takes more than two minutes, ends with a status that isn't Fine or
-JournalFull, or prints no journal that ends as its status says.
+number is given) of 2 to 64 processes, small ones of all calls. It fails where a race takes more than two minutes, ends with a
+status that isn't Fine or JournalFull, prints no journal that ends as its status says, or one that `vt check` doesn't find legal.
 
 `measure` tells the entries a second of `vt play` and `vt race` on sessions of 1, 4, 16 and 64 processes,
 the slowest and the quickest of RUNS runs (5). In the first kind of session every process writes; in the
@@ -45,6 +45,13 @@ def journal_end(printed):
     return None
 
 
+def judge(program, session, printed):
+    """What `check` says of the journal that was printed."""
+    journal = printed[: printed.find(b"\n%display ") + 1]
+    done = subprocess.run([program, "check"], input=session + journal, capture_output=True, timeout=120)
+    return done.stdout or done.stderr
+
+
 def race(program, what, *session):
     """Races such a session: its entries, and whether the journal was full."""
     with tempfile.NamedTemporaryFile("w", suffix=".toml") as text:
@@ -54,10 +61,14 @@ def race(program, what, *session):
             status, printed, _ = run(program, "race", text.name)
         except subprocess.TimeoutExpired:
             sys.exit(f"{what}: not over after two minutes")
+        with open(text.name, "rb") as source:
+            judged = judge(program, source.read(), printed)
     end = journal_end(printed)
     if status not in (FINE, JOURNAL_FULL) or end is None \
             or end[0] != (b"%end" if status == FINE else b"%full"):
         sys.exit(f"{what}: status {status}, {end}")
+    if judged != b"legal %s\n" % end[1]:
+        sys.exit(f"{what}: its journal is judged {judged}")
     return int(end[1]), status == JOURNAL_FULL
 
 
