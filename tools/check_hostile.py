@@ -162,6 +162,20 @@ def cuts(count):
         yield (f"cut {i}: {why}" if why else None)
 
 
+def cut_journals(session, played):
+    """A journal cut after each byte from its first line on, but the last: 41 inside a line, 42 after a whole one."""
+    journal = played[: played.index(b"\n", played.index(b"\n%end ") + 1) + 1]
+    for end in range(journal.index(b"\n") + 1, len(journal)):
+        cut = journal[:end]
+        lines = cut.count(b"\n")
+        wanted = b"42 at %d:1" % lines if cut.endswith(b"\n") else b"41 at %d:1" % (lines + 1)
+        ran = run(["check"], session + cut)
+        why = fault_of(ran)
+        if not why and ran.stderr != b"vt: refused " + wanted + b"\n":
+            why = f"{ran.stderr!r}, where {wanted!r} is right"
+        yield (f"cut after byte {end}: {why}" if why else None)
+
+
 def main():
     count = int(sys.argv[1]) if len(sys.argv) > 1 else 100
     if not PROGRAM.exists():
@@ -181,6 +195,7 @@ def main():
         "played twice": plays(sessions, count),
         "streams": screens(4 * count),
         "cut writes": cuts(4 * count),
+        "cut journals": cut_journals(sessions[0], read("session.journal")[0]),
     }
     passed = failed = 0
     for kind, results in kinds.items():
