@@ -1,6 +1,5 @@
 //! What the tests share. Rows are texts and numbers alone.
 mod hub;
-mod meeting;
 mod race;
 
 use std::alloc::Global;

@@ -1,9 +1,9 @@
-//! Races of sessions. What is expected comes from docs/SESSIONS.md and from the worked runs of the sessions.
+//! A race whose hooks count their calls. What it prints and how it ends is in `run_tests`.
 ghost use Rattle.std.specs.Prelude.{◌≡◌, ℕ, ◌<◌, [], length, slice_index_or, vec_len};
 ghost use Rattle.session_run.specs.Runs.{HasHooks};
 
-use super::{SESSION, journal_of, same_text};
-use session_run::{Run, race, race_tables};
+use super::SESSION;
+use session_run::{Run, race};
 use session_text::{Program, Session, read};
 use sig_hooks::{Handler, Hook, HookTable};
 use std::alloc::Global;
@@ -16,28 +16,6 @@ use std::thread::Threads;
 use vt_base::{NoMemory, Signal};
 use vt_events::{Entry, Reply};
 use vt_io::OpenGate;
-
-const ORDINARY: &str = "keys = '1e 9e 38 41 c1 b8 30 b0'
-keymap = '''
-keymaps 0-2,4-5,8,12
-alt_is_meta
-keycode 30 = a
-keycode 48 = b
-keycode 56 = Alt
-keycode 65 = F7
-alt keycode 65 = Console_7
-strings as usual
-compose as usual
-'''
-[[process]]
-home = 1
-script = ['open 1', 'say 0 $ ', 'waitinput 0', 'read 0 64']
-[[process]]
-home = 7
-privileged = true
-script = ['open 7', 'setmode 0 1 0 10 12 0', 'setkd 0 1', 'waitsignal']
-hooks = ['10 disp 0 1', '12 disp 0 2']
-";
 
 type Count = Arc<AtomicU64, Global>;
 
@@ -118,27 +96,5 @@ fn a_hook_is_asked_once_for_each_signal(rt: HostRuntime) -> Result<(), Fail> {
     let run = race_counted(&rt, rt.alloc(), &session, &asked)?;
     assert!(rt; run.stop.is_none(), "the journal had room");
     assert_eq!(rt; asked.load(SeqCst), signals_in(run.log.entries()));
-    Ok(())
-}
-
-#[test]
-fn an_ordinary_session_is_raced(rt: HostRuntime) -> Result<(), Fail> {
-    let session = read(rt.alloc(), ORDINARY.as_bytes())?;
-    let run = race_tables(&rt, rt.alloc(), &session, &OpenGate)?;
-    assert!(rt; run.stop.is_none(), "the journal had room");
-    Ok(())
-}
-
-#[test]
-fn a_full_journal_ends_the_race(rt: HostRuntime) -> Result<(), Fail> {
-    let text = format!(in rt.alloc(); "events = 3\n{SESSION}")?;
-    let session = read(rt.alloc(), text.as_bytes())?;
-    let run = race_tables(&rt, rt.alloc(), &session, &OpenGate)?;
-    let journal = journal_of(rt.alloc(), &run)?;
-    assert_eq!(rt; run.log.entries().len(), 3);
-    assert!(rt;
-        journal.as_slice().ends_with(b"\n%full 3 192 64\n"),
-        "{text}"
-    );
     Ok(())
 }
