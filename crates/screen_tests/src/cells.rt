@@ -1,7 +1,8 @@
 use std::process::Abort;
 use vt_cells::Intensity::{Bold, Dim, Normal};
 use vt_cells::{
-    Attr, Intensity, Look, Palette, attr_byte, erase_byte, fold_bg, fold_fg, rgb_of, swapped,
+    Attr, Intensity, Look, Palette, attr_byte, columns, erase_byte, fold_bg, fold_fg, is_plain,
+    rgb_of, swapped,
 };
 
 // A foreground and a ground, the intensity, whether italic, underline, blink and reverse are on, and
@@ -130,4 +131,61 @@ fn folds_colours(rt: HostRuntime) {
     }
     assert_eq!(rt; fold_bg(128, 0, 127), 1);
     assert_eq!(rt; fold_bg(127, 128, 255), 6);
+}
+
+// A code, and how many columns it takes: the widths of Unicode 18.0 (Unicode Standard Annex 11), with
+// marks and format characters at none.
+const TAKEN: &[(u32, u8)] = &[
+    (0x00, 1),
+    (0x1F, 1),
+    (0x41, 1),
+    (0x7F, 1),
+    (0x9B, 1),
+    (0xAC, 1),
+    (0xAD, 0),
+    (0xAE, 1),
+    (0x2FF, 1),
+    (0x300, 0),
+    (0x36F, 0),
+    (0x370, 1),
+    (0x1100, 2),
+    (0x1161, 0),
+    (0x17D8, 2),
+    (0x200B, 0),
+    (0x20AC, 1),
+    (0x2500, 1),
+    (0x3042, 2),
+    (0x33FF, 2),
+    (0x3400, 2),
+    (0x4E00, 2),
+    (0x9FFF, 2),
+    (0xAC00, 2),
+    (0xD7A3, 2),
+    (0xD800, 1),
+    (0xDFFF, 1),
+    (0xFE0F, 0),
+    (0xFF21, 2),
+    (0xFF71, 1),
+    (0xFFFD, 1),
+    (0x1F600, 2),
+    (0x20000, 2),
+    (0x10FFFF, 1),
+    (0x110000, 1),
+    (0xFFFF_FFFF, 1),
+];
+
+// The first code that takes other columns, or is called plain and doesn't take one.
+fn first_mistaken(cases: &[(u32, u8)]) -> Option<u32> {
+    for (code, width) in cases {
+        if columns(*code) != *width || is_plain(*code) && *width != 1 {
+            return Some(*code);
+        }
+    }
+    None
+}
+
+#[test]
+fn characters_have_columns(rt: HostRuntime) {
+    assert_eq!(rt; first_mistaken(TAKEN), None);
+    assert!(rt; is_plain(0x20) && is_plain(0x2500) && !is_plain(0x4E00));
 }

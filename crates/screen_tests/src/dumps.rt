@@ -88,7 +88,8 @@ const SHOWN: &[Shown] = &[
     (0xE000, 0x3F, b"|\xEE\x80\x80|\n"),
     (0x10000, 0x3F, b"|\xF0\x90\x80\x80|\n"),
     (0x10FFFF, 0x3F, b"|\xF4\x8F\xBF\xBF|\n"),
-    (0x110000, 0x3F, b"|?|\n"),
+    (0x110000, 0x3F, b"||\n"),
+    (0x110001, 0x3F, b"|?|\n"),
     (0xFFFF_FFFF, 0x3F, b"|?|\n"),
 ];
 

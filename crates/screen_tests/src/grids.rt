@@ -1,3 +1,4 @@
+mod halves;
 mod plain;
 mod row_edits;
 mod stores;

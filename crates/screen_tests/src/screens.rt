@@ -1,6 +1,7 @@
 //! Rows of the effect table. The expected rows are those of console_codes(4) and of this project's
 //! own rules, reckoned by hand.
 mod cells;
+mod columns;
 mod cursor;
 mod cuts;
 mod sayings;
@@ -73,8 +74,8 @@ const CASES: &[Case] = &[
     (b"\x1B]0;t\x07ok", ["ok", "", ""], 0),
     (b"\xE1\x80\x1BDa", ["\u{FFFD}", " a", ""], 0),
     (
-        b"\xE2\x82\xAC\xF0\x9F\x98\x80",
-        ["\u{20AC}\u{1F600}", "", ""],
+        b"\xE2\x82\xAC\xF0\x90\x8C\xB0",
+        ["\u{20AC}\u{10330}", "", ""],
         0,
     ),
     (b"a\x07b\x1B[\x07Ac", ["abc", "", ""], 2),

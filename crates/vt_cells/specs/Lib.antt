@@ -1,3 +1,4 @@
 pub mod AttrByte
 pub mod Colours
 pub mod Rendition
+pub mod Width

@@ -1,1 +1,2 @@
-mod Prefixes
+pub mod Cutting
+pub mod Prefixes

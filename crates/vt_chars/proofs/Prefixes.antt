@@ -79,15 +79,15 @@ begun-begins (a ∷ b ∷ c ∷ []) is =
     begun-three a b c p.0 p.1 q.1
 begun-begins (a ∷ b ∷ c ∷ d ∷ rest) is = absurd (false≢true is)
 
-wider : (low high bottom top a : ℕ) → bottom ≤ low → high ≤ top → within low high a ≡ true
+pub wider : (low high bottom top a : ℕ) → bottom ≤ low → high ≤ top → within low high a ≡ true
     → within bottom top a ≡ true
 wider low high bottom top a under over inside = grind (arith, nat_tests)
 
 -- the beginnings of well-formed sequences of two, three and four bytes
-of-two : (a b : ℕ) → is_well_formed (a ∷ b ∷ []) ≡ true → is_begun (a ∷ []) ≡ true
+pub of-two : (a b : ℕ) → is_well_formed (a ∷ b ∷ []) ≡ true → is_begun (a ∷ []) ≡ true
 of-two a b is = wider 0xC2 0xDF 0xC2 0xF4 a (omega arith) (omega arith) (and_parts _ _ is).0
 
-of-three : (a b c : ℕ) → is_well_formed (a ∷ b ∷ c ∷ []) ≡ true
+pub of-three : (a b c : ℕ) → is_well_formed (a ∷ b ∷ c ∷ []) ≡ true
     → (is_begun (a ∷ []) ≡ true) × (is_begun (a ∷ b ∷ []) ≡ true)
 of-three a b c is =
     let q : ((within 0xE0 0xEF a && is_second a b) ≡ true) × (is_tail c ≡ true) = and_parts _ _ is in
@@ -96,7 +96,7 @@ of-three a b c is =
       and_from _ _ (wider 0xE0 0xEF 0xE0 0xF4 a (omega arith) (omega arith) p.0) p.1,
     )
 
-of-four : (a b c d : ℕ) → is_well_formed (a ∷ b ∷ c ∷ d ∷ []) ≡ true
+pub of-four : (a b c d : ℕ) → is_well_formed (a ∷ b ∷ c ∷ d ∷ []) ≡ true
     → (is_begun (a ∷ []) ≡ true) × (is_begun (a ∷ b ∷ []) ≡ true) × (is_begun (a ∷ b ∷ c ∷ []) ≡ true)
 of-four a b c d is =
     let r : ((within 0xF0 0xF4 a && is_second a b && is_tail c) ≡ true) × (is_tail d ≡ true) = and_parts _ _ is in

@@ -1,4 +1,5 @@
 pub mod CharMap
+pub mod Characters
 pub mod Kept
 pub mod Push
 pub mod Utf8

@@ -25,6 +25,19 @@ pub fn decode(text: &[u8], b: u8) -> Decoded
     }
 }
 
+/// What `text` is. The answer takes the same time for each text.
+pub fn decode_all(text: &[u8]) -> Decoded
+    ensures { result ≡ decoded text.now }
+{
+    match text.len() {
+        1 => decode_one(text[0]),
+        2 => decode_two(text[0], text[1]),
+        3 => decode_three(text[0], text[1], text[2]),
+        4 => decode_four(text[0], text[1], text[2], text[3]),
+        _ => Decoded::Malformed,
+    }
+}
+
 /// What a byte is.
 pub fn decode_one(a: u8) -> Decoded
     ensures { result ≡ decoded (a ∷ []) }

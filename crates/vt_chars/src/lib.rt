@@ -9,7 +9,7 @@ mod laws;
 mod utf8;
 
 pub use char_map::CharMap;
-pub use decoded::{Decoded, decode, decode_four, decode_one, decode_three, decode_two};
+pub use decoded::{Decoded, decode, decode_all, decode_four, decode_one, decode_three, decode_two};
 pub use got::Got;
-pub use laws::unfinished_begins;
+pub use laws::{ascii_cuts, byte_more, characters_are_all, unfinished_begins};
 pub use utf8::Utf8;

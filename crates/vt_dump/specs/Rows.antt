@@ -1,6 +1,7 @@
 -- The text of rows.
 use Rattle.std.specs.Prelude.{ℕ, Bool, ◌&&◌, ◌||◌, nat_le, List, [], ◌∷◌, ◌++◌, encode_utf8, if◌then◌else◌}
 use Rattle.std.specs.List.{flat_map}
+use Rattle.vt_cells.specs.Width.{is_half}
 use Rattle.vt_cells.specs.declared.cell.Cell.{Cell}
 
 -- the code is a character's and no control's: 20 to 7E, and A0 to 10FFFF but the surrogates
@@ -9,9 +10,13 @@ is_shown code =
     (nat_le 0x20 code && nat_le code 0x7E)
     || ((nat_le 0xA0 code && nat_le code 0xD7FF) || (nat_le 0xE000 code && nat_le code 0x10FFFF))
 
--- a cell's character in UTF-8, or a question mark
+-- a cell's character in UTF-8, or a question mark; nothing of a right half, whose character stands in
+-- the cell before
 abbrev pub cell_text : Cell → List ℕ
-cell_text cell = if is_shown cell.code then encode_utf8 cell.code else 0x3F ∷ []
+cell_text cell =
+    if is_half cell then []
+    else if is_shown cell.code then encode_utf8 cell.code
+    else 0x3F ∷ []
 
 -- a bar, the cells, a bar, and the line's end
 abbrev pub row_text : List Cell → List ℕ

@@ -29,7 +29,8 @@ pub fn add_row(form: Form, g: &Grid, y: u8, out: &mut Bytes)
     ensures room { out.new.room + length out.new.bytes ≡ out.old.room + length out.old.bytes }
     ensures most { out.old.room ≤ out.new.room + g.now.cols * most_bytes form }
 {
-    for x in 0..g.size().cols {
-        add_cell(form, g.at(y, x), out);
+    let _ = g.size();
+    for cell in g.row(y) {
+        add_cell(form, cell, out);
     }
 }

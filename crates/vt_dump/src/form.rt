@@ -4,7 +4,7 @@ ghost use Rattle.vt_dump.specs.Forms.{cell_bytes, most_bytes};
 ghost use Rattle.vt_dump.specs.Rows.{cell_text, is_shown};
 
 use vt_base::Bytes;
-use vt_cells::{Cell, swapped};
+use vt_cells::{Cell, HALF, swapped};
 
 /// What a dump says of a cell.
 #[derive(Clone, Copy)]
@@ -15,7 +15,7 @@ pub enum Form {
     WithAttribute { reversed: bool },
     /// Its code point.
     Code,
-    /// Its character in UTF-8.
+    /// Its character in UTF-8, or nothing of a right half.
     Text,
 }
 
@@ -42,6 +42,9 @@ fn add_text(cell: Cell, out: &mut Bytes)
     ensures room { out.new.room + length out.new.bytes ≡ out.old.room + length out.old.bytes }
     ensures most { out.old.room ≤ out.new.room + 4 }
 {
+    if cell.code == HALF {
+        return;
+    }
     match char::from_u32(cell.code) {
         Some(c) if is_shown(c) => {
             let mut buffer = [0; 4];

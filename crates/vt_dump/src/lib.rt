@@ -7,4 +7,4 @@ mod form;
 mod rows;
 
 pub use dumps::{codes, vcs, vcsa};
-pub use rows::{add_rows, text_rows};
+pub use rows::{add_rows, text_row, text_rows};

@@ -15,12 +15,22 @@ const CELL_BYTES: usize = 4;
 const FRAME_BYTES: usize = 3;
 
 /// The rows as text: each is `|`, its cells' characters in UTF-8, `|` and LF. A code that is a
-/// control's, or no character's, is shown as `?`. This project's own.
+/// control's, or no character's, is shown as `?`, and a right half as nothing. This project's own.
 pub fn text_rows(alloc: Global, g: &Grid) -> Result<Bytes, NoMemory>
     ensures { IfOk result (λ text. text.bytes ≡ rows_text g.now.cells) }
 {
     let mut text = Bytes::new(alloc);
     add_rows(alloc, &mut text, g)?;
+    Ok(text)
+}
+
+/// One row as text, as [`text_rows`] writes it.
+pub fn text_row(alloc: Global, g: &Grid, y: u8) -> Result<Bytes, NoMemory>
+    requires { y < g.now.rows }
+    ensures { IfOk result (λ text. text.bytes ≡ row_text (row_at g.now y)) }
+{
+    let mut text = Bytes::with_room(alloc, usize::from(g.size().cols) * CELL_BYTES + FRAME_BYTES)?;
+    add_row_text(g, y, &mut text);
     Ok(text)
 }
 

@@ -1,5 +1,5 @@
 -- Rows that are laid over others.
-use Rattle.std.proofs.Common.{◌≡◌, ℕ, zero, suc, ◌<◌, ◌≤◌, min, List, [], ◌∷◌, ◌++◌, length, take, set, get_or, refl, ap, ◌∙◌, arith, rules}
+use Rattle.std.proofs.Common.{◌≡◌, ℕ, zero, suc, ◌<◌, ◌≤◌, min, List, [], ◌∷◌, length, take, set, get_or, refl, ap, ◌∙◌, arith, rules}
 use Rattle.std.proofs.lemmas.Bool.{cases_eq}
 use Rattle.std.proofs.lemmas.List.{places, same_lists, set-set, get_or-set_same, length-set}
 use Rattle.vt_grid.specs.Grid.{IsFull, Sheet, laid_over, overlaid, row_at, rows_laid_over, with_cell, with_run}
@@ -45,23 +45,22 @@ pub overlaid-laid_over : (cols : ℕ) (row under : List Cell)
 overlaid-laid_over cols row under cols_is =
     same_lists _ _ (search (rules, places)) (λ k d k_in. grind (arith, places))
 
-overlaid-push : (cells row : List Cell) (c : Cell) → length cells < length row
-    → set (overlaid 0 cells row) (length cells) c ≡ overlaid 0 (cells ++ c ∷ []) row
-overlaid-push cells row c within =
+overlaid-set : (x : ℕ) (cells row : List Cell) (c : Cell) → x < length cells → length cells ≤ length row
+    → set (overlaid 0 cells row) x c ≡ overlaid 0 (set cells x c) row
+overlaid-set x cells row c within in_row =
     same_lists _ _ (search (rules, places, length-set))
-    (λ k d k_in. grind (arith, places, length-set, get_or-set_same, cases_eq k (length cells)))
+    (λ k d k_in. grind (arith, places, length-set, get_or-set_same, cases_eq k x))
 
--- a run, and one more cell behind it
-pub with_run-push : (s : Sheet) (y : ℕ) (cells : List Cell) (c : Cell) → IsFull s → y < s.rows
-    → length cells < s.cols
-    → with_cell (with_run s y 0 cells) y (length cells) c ≡ with_run s y 0 (cells ++ c ∷ [])
-with_run-push s y cells c full y_in within =
+-- a run of which one cell is set then
+pub with_run-set : (s : Sheet) (y x : ℕ) (cells : List Cell) (c : Cell) → IsFull s → y < s.rows
+    → x < length cells → length cells ≤ s.cols
+    → with_cell (with_run s y 0 cells) y x c ≡ with_run s y 0 (set cells x c)
+with_run-set s y x cells c full y_in within in_cols =
     let row = row_at s y in
-    let n = length cells in
     let wide : length row ≡ s.cols = full.wide y [] (omega (arith, full.tall)) in
     let tall : y < length s.cells = omega (arith, full.tall) in
     ap (λ (now : List (List Cell)). record s { cells = now })
     ((λ i. set (set s.cells y (overlaid 0 cells row)) y
-    (set (get_or-set_same s.cells y (overlaid 0 cells row) [] tall i) n c))
-    ∙ set-set s.cells y (overlaid 0 cells row) (set (overlaid 0 cells row) n c)
-    ∙ ap (set s.cells y) (overlaid-push cells row c (omega arith)))
+    (set (get_or-set_same s.cells y (overlaid 0 cells row) [] tall i) x c))
+    ∙ set-set s.cells y (overlaid 0 cells row) (set (overlaid 0 cells row) x c)
+    ∙ ap (set s.cells y) (overlaid-set x cells row c within (omega (arith, wide))))

@@ -1,9 +1,15 @@
+mod Border
+mod Clears
+mod Covered
 mod Edited
+mod Joins
 mod Laid
+mod Lays
 mod Naming
+mod Paired
 mod Parts
 mod Runs
 mod Scrolls
 mod Shown
+mod Split
 mod Turns
-mod Clears

@@ -1,4 +1,5 @@
 pub mod Grid
+pub mod Halves
 pub mod Laws
 pub mod Line
 pub mod Ring

@@ -43,3 +43,7 @@ inserted_at cols x count c line =
 abbrev pub removed_at : ℕ → ℕ → Cell → Line → Line
 removed_at x count c line =
     record { stored = take x line.stored ++ drop (x + count) line.stored; rest = c }
+
+-- the first cells are those of another row, so many
+abbrev pub covered : ℕ → Line → Line → Line
+covered count over line = written 0 (take count (cells_of count over)) line

@@ -1,6 +1,6 @@
 //! What the calls of a grid make of its rows. Each opens a counter of its own.
-ghost use Rattle.std.specs.Prelude.{◌≡◌, ◌<◌, ◌≤◌, ◌+◌, ◌-◌, ◌==◌, if◌then◌else◌, length, map};
-ghost use Rattle.vt_grid.specs.Grid.{deleted, erased, inserted, scrolled_down, with_run};
+ghost use Rattle.std.specs.Prelude.{◌≡◌, ◌<◌, ◌≤◌, ◌+◌, ◌-◌, ◌==◌, if◌then◌else◌, length, map, take};
+ghost use Rattle.vt_grid.specs.Grid.{deleted, erased, inserted, row_at, scrolled_down, with_run};
 ghost use Rattle.vt_grid.specs.Store.{part_turned, sheet_shown};
 
 use crate::code::Code;
@@ -124,4 +124,32 @@ pub fn delete<L: Ledger>(store: &mut RowStore, y: u8, x: u8, n: u16, c: Cell, bl
     let room = store.size().cols - x;
     let count = n.min(u16::from(room)) as u8;
     store.remove(y, x, count, c, &mut steps);
+}
+
+/// Copies the first `cols` cells of the old row `from` to row `y`.
+pub fn copy_row<L: Ledger>(
+    store: &mut RowStore,
+    y: u8,
+    old: &RowStore,
+    from: u8,
+    cols: u8,
+    blank: Blank,
+)
+    requires name { blank.name ≡ L.name }
+    requires parts { blank.parts ≡ L.parts }
+    requires some { 0 < blank.parts }
+    requires row { y < store.old.rows }
+    requires columns { cols ≤ store.old.cols }
+    requires from { from < old.now.rows }
+    requires old_columns { cols ≤ old.now.cols }
+    ensures { sheet_shown store.new
+        ≡ with_run (sheet_shown store.old) y 0 (take cols (row_at (sheet_shown old.now) from)) }
+{
+    let mut steps = Steps::<L>::open(blank);
+    let _ = old.size();
+    if cols == store.size().cols {
+        store.copy_row(y, old, from, &mut steps);
+    } else {
+        store.cover_row(y, old, from, cols, &mut steps);
+    }
 }

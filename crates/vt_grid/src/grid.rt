@@ -1,9 +1,11 @@
-ghost use Rattle.std.specs.Prelude.{◌≡◌, ◌<◌, ◌≤◌, ◌+◌, length, IfOk};
-ghost use Rattle.vt_grid.specs.Grid.{HasCellAt, IsFull, cells_of_codes, deleted, erased, filled, inserted, resized, scrolled_down, scrolled_up, with_cell, with_run};
+ghost use Rattle.std.specs.Prelude.{◌≡◌, ◌<◌, ◌≤◌, ◌+◌, length, take, IfOk};
+ghost use Rattle.vt_grid.specs.Grid.{HasCellAt, IsFull, cells_of_codes, deleted, erased, filled, inserted, resized, row_at, scrolled_down, scrolled_up, with_cell, with_run};
+ghost use Rattle.vt_grid.specs.Halves.{parted_rows};
 ghost use Rattle.vt_grid.specs.Store.{scroll_steps};
 
-use crate::edits::{delete, erase, insert, move_up, put_run, scroll_down};
+use crate::edits::{copy_row, delete, erase, insert, move_up, put_run, scroll_down};
 use crate::resize::copy_cells;
+use crate::row_cells::RowCells;
 use crate::rows::{RowStore, Steps};
 use std::alloc::Global;
 use std::marker::{Brand, Model};
@@ -53,6 +55,15 @@ impl Grid {
     {
         let _ = self.store.size();
         self.store.at(y, x)
+    }
+
+    /// The cells of row `y`, from left to right.
+    pub fn row(&self, y: u8) -> RowCells<'_>
+        requires { y < self.now.rows }
+        ensures { result ≡ row_at self.now y }
+    {
+        let _ = self.store.size();
+        self.store.cells(y)
     }
 
     /// Sets one cell.
@@ -161,8 +172,34 @@ impl Grid {
         ensures old { result ≡ self.old }
     {
         let mut fresh = fresh;
-        copy_cells(&mut fresh, self, skip);
+        let cols = self.size().cols;
+        copy_cells(&mut fresh, self, skip, cols);
         mem::replace(self, fresh)
+    }
+
+    /// Does what [`Grid::resized_into`] does, but a character that the last column of `fresh` cuts
+    /// becomes a space.
+    pub fn resized_parted_into(&mut self, fresh: Grid, skip: u8) -> Grid
+        ensures grid { self.new ≡ resized (parted_rows fresh.cols self.old) fresh skip }
+        ensures old { result ≡ self.old }
+    {
+        let mut fresh = fresh;
+        let cols = fresh.size().cols;
+        copy_cells(&mut fresh, self, skip, cols);
+        mem::replace(self, fresh)
+    }
+}
+
+impl Grid {
+    // Copies the first `cols` cells of the old row `from` to row `y`.
+    pub(crate) fn copy_row(&mut self, y: u8, old: &Grid, from: u8, cols: u8)
+        requires row { y < self.old.rows }
+        requires columns { cols ≤ self.old.cols }
+        requires from { from < old.now.rows }
+        requires old_columns { cols ≤ old.now.cols }
+        ensures { self.new ≡ with_run self.old y 0 (take cols (row_at old.now from)) }
+    {
+        copy_row::<Brand>(&mut self.store, y, &old.store, from, cols, Blank::new(1));
     }
 }
 

@@ -4,9 +4,12 @@
 mod code;
 mod edits;
 mod grid;
+mod halves;
 mod kept;
 pub mod laws;
 mod resize;
+mod row_cells;
 pub mod rows;
 
 pub use grid::Grid;
+pub use row_cells::RowCells;

@@ -1,32 +1,41 @@
-ghost use Rattle.std.specs.Prelude.{◌≡◌, ◌<◌, ◌≤◌, take};
+ghost use Rattle.std.specs.Prelude.{◌≡◌, ◌<◌, ◌≤◌, min, take};
 ghost use Rattle.vt_grid.specs.Grid.{resized, row_at, with_run};
+ghost use Rattle.vt_grid.specs.Halves.{parted, parted_rows};
 
 use crate::Grid;
 
-/// Copies the old cell of row `y + skip` and column `x` to row `y` and column `x`, where both are.
-pub fn copy_cells(fresh: &mut Grid, old: &Grid, skip: u8)
-    ensures { fresh.new ≡ resized old.now fresh.old skip }
+/// Copies the old cell of row `y + skip` and column `x` to row `y` and column `x`, where both are. The
+/// old rows are read as if they were parted at `border`, which isn't before the last column that both
+/// have.
+pub fn copy_cells(fresh: &mut Grid, old: &Grid, skip: u8, border: u8)
+    requires { min fresh.old.cols old.now.cols ≤ border }
+    ensures { fresh.new ≡ resized (parted_rows border old.now) fresh.old skip }
 {
     let new = fresh.size();
     let was = old.size();
     let rows = new.rows.min(was.rows.saturating_sub(skip));
     let cols = new.cols.min(was.cols);
     for y in 0..rows {
-        copy_row(fresh, old, y, y + skip, cols);
+        copy_row(fresh, old, y, y + skip, cols, border);
     }
 }
 
-// Copies the first cells of the old row `from` to row `y`.
-fn copy_row(fresh: &mut Grid, old: &Grid, y: u8, from: u8, cols: u8)
+// Copies the first cells of the old row `from`, parted at `border`, to row `y`.
+fn copy_row(fresh: &mut Grid, old: &Grid, y: u8, from: u8, cols: u8, border: u8)
     requires row { y < fresh.old.rows }
     requires from { from < old.now.rows }
     requires columns { cols ≤ fresh.old.cols }
     requires old_columns { cols ≤ old.now.cols }
-    ensures { fresh.new ≡ with_run fresh.old y 0 (take cols (row_at old.now from)) }
+    requires border { cols ≤ border }
+    ensures { fresh.new ≡ with_run fresh.old y 0 (take cols (parted border (row_at old.now from))) }
 {
     let _new = fresh.size();
-    let _was = old.size();
-    for x in 0..cols {
-        fresh.put(y, x, old.at(from, x));
+    let was = old.size();
+    fresh.copy_row(y, old, from, cols);
+    if border < was.cols {
+        if 0 < cols {
+            let last = cols - 1;
+            fresh.put(y, last, old.at_parted(from, last, border));
+        }
     }
 }

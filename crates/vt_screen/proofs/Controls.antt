@@ -3,7 +3,7 @@ use Rattle.std.proofs.Common.{◌≡◌, ◌==◌, ◌&&◌, not, ℕ, Bool, tru
 use Rattle.std.proofs.lemmas.Bool.{and_parts}
 use Rattle.vt_screen.proofs.Printed.{empty-is}
 use Rattle.vt_screen.specs.Effect.{control}
-use Rattle.vt_screen.specs.Run.{Told, drawing, having_said, listed}
+use Rattle.vt_screen.specs.Run.{Drawn, drawing, having_said, listed}
 use Rattle.vt_screen.specs.Saying.{Done}
 use Rattle.vt_screen.specs.Screen.{Screen, mode_of}
 use Rattle.vt_screen.specs.declared.out.Out.{Out}
@@ -31,7 +31,7 @@ control-step law b outs s rest m mode takes done is =
     let first = and_parts (is_empty rest.text) (is_control m b) last.0 in
     let one = law rest (mode_of s) b (empty-is rest.text first.0)
     (ap (λ (n : Mode). is_control n b) (sym mode) ∙ first.1) (is-not (b == 0x1B) last.1) in
-    let start : Told = record { screen = s; outs = outs } in
+    let start : Drawn = record { screen = s; outs = outs } in
     let stepped : reached (effects_of drawing (answer rest (mode_of s) b) start) (rest_after rest (mode_of s) b)
     ≡ having_said (outs ++ listed (control b s).said) (reached (control b s).screen (fresh (mode_of s))) =
     ap (λ (r : Read). reached (effects_of drawing r start) (rest_after rest (mode_of s) b)) one.0

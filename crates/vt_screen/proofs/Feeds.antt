@@ -1,12 +1,12 @@
 -- A run of a text, piece by piece.
 use Rattle.std.proofs.Common.{◌≡◌, ℕ, ◌+◌, ◌<◌, List, [], refl, ◌∷◌, ◌++◌, take, drop, drop-cons, get_or, length, sym, ap, ◌∙◌, subst, add-one, arith, length-drop, ◌-◌}
 use Rattle.std.proofs.lemmas.List.{drop-drop, take-append-drop, take_all}
-use Rattle.vt_screen.specs.Run.{Told, drawing}
+use Rattle.vt_screen.specs.Run.{Drawn, drawing}
 use Rattle.vt_units.proofs.Runs.{any-cut}
 use Rattle.vt_units.specs.Run.{Reached, run, step}
 
 -- behind the first n bytes of what is left
-pub run-on : (text : List ℕ) (at n : ℕ) (before after : Reached Told)
+pub run-on : (text : List ℕ) (at n : ℕ) (before after : Reached Drawn)
     → run drawing (take n (take (length text - at) (drop at text))) before ≡ after
     → run drawing (drop (at + n) text) after ≡ run drawing (drop at text) before
 run-on text at n before after ran =
@@ -23,7 +23,7 @@ run-on text at n before after ran =
     ∙ ap (λ (bytes : List ℕ). run drawing bytes before) (take-append-drop n left)
 
 -- behind one byte
-pub run-byte : (text : List ℕ) (at : ℕ) (before after : Reached Told) → at < length text
+pub run-byte : (text : List ℕ) (at : ℕ) (before after : Reached Drawn) → at < length text
     → after ≡ step drawing (get_or text at 0) before
     → run drawing (drop (at + 1) text) after ≡ run drawing (drop at text) before
 run-byte text at before after within done =

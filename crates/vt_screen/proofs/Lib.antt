@@ -1,9 +1,17 @@
 mod Controls
 mod Cuts
 mod Feeds
+mod Halved
+mod InsideTable
+mod Insides
+mod Narrow
 mod Printed
+mod PutBack
 mod Scrolled
 mod Sequences
 mod Shown
+mod Spread
 mod Start
+mod TapeHalves
+mod TapeInside
 mod Tapes

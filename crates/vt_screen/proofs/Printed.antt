@@ -1,16 +1,15 @@
 -- Printable bytes, one after another.
-use Rattle.std.proofs.Common.{◌≡◌, ◌<◌, ◌==◌, ◌&&◌, ◌≤◌, arith, length, zero, ℕ, Bool, true, false, suc, ◌+◌, List, [], ◌∷◌, take, refl, sym, ap, subst, ◌∙◌, cond, nat_lt, if◌then◌else◌}
+use Rattle.std.proofs.Common.{◌≡◌, ◌==◌, ◌&&◌, ◌||◌, ◌-◌, ◌≤◌, arith, length, zero, ℕ, Bool, true, false, suc, ◌+◌, List, [], ◌∷◌, take, refl, sym, ap, subst, ◌∙◌, cond, if◌then◌else◌}
 use Rattle.std.proofs.lemmas.Bool.{and_parts, cond-true, cond-false}
 use Rattle.std.proofs.lemmas.Bool.Decides.{nat_tests}
 use Rattle.std.proofs.lemmas.List.{append-nil}
 use Rattle.std.specs.List.{prefix_len}
 use Rattle.vt_screen.specs.Cursor.{at_column, linefeed}
 use Rattle.vt_screen.specs.Effect.{effect}
-use Rattle.vt_screen.specs.Printing.{opened, print, printed, put_here, wrapped}
-use Rattle.vt_grid.specs.Grid.{cells_of_codes, inserted, row_at, with_cell, with_run}
-use Rattle.vt_grid.specs.Laws.{CellKeepsWidth, RunOfMore, RunOfNone}
-use Rattle.vt_screen.specs.Run.{Told, drawing, having_said, told}
-use Rattle.vt_screen.specs.Screen.{Screen, blank_of, cell_of, mode_of, printed_byte}
+use Rattle.vt_cells.specs.Width.{columns}
+use Rattle.vt_screen.specs.Printing.{lacks_room, print, print_character, printed, set_down, wrapped}
+use Rattle.vt_screen.specs.Run.{Drawn, drawing, having_said, then_done}
+use Rattle.vt_screen.specs.Screen.{Screen, mode_of}
 use Rattle.vt_screen.specs.declared.out.Out.{Out}
 use Rattle.vt_units.specs.Answer.{answer, rest_after}
 use Rattle.vt_units.specs.Bytes.{decodes, is_printable}
@@ -28,18 +27,25 @@ either-mode true s t m first second = first
 either-mode false s t m first second = second
 
 -- a print leaves the mode
-pub print-mode : (code : ℕ) (s : Screen) → mode_of (print code s) ≡ mode_of s
-unfolding print
-print-mode code s =
+set_down-mode : (w code : ℕ) (s : Screen) → mode_of (set_down w code s) ≡ mode_of s
+set_down-mode w code s =
     let first : Screen = at_column 0 s in
     let line : mode_of (linefeed first) ≡ mode_of s =
     either-mode (first.state.y == first.state.bottom) _ _ (mode_of s) refl refl in
-    let after : mode_of (wrapped s) ≡ mode_of s =
-    either-mode (s.state.wrap && s.state.autowrap) (linefeed first) s (mode_of s) line refl in
-    either-mode (wrapped s).state.insert _ (wrapped s) (mode_of s) after after
+    let near : mode_of (cond (lacks_room w s) (at_column (s.grid.cols - w) s) s) ≡ mode_of s =
+    either-mode (lacks_room w s) _ _ (mode_of s) refl refl in
+    let after : mode_of (wrapped w s) ≡ mode_of s =
+    either-mode (s.state.autowrap && (s.state.wrap || lacks_room w s)) (linefeed first) _ (mode_of s) line near in
+    either-mode (wrapped w s).state.insert _ (wrapped w s) (mode_of s) after after
+
+pub print-mode : (w code : ℕ) (s : Screen) → mode_of (print w code s) ≡ mode_of s
+unfolding print
+print-mode w code s =
+    either-mode (w == 0) s _ (mode_of s) refl
+    (either-mode (w == 2 && s.grid.cols == 1) _ _ (mode_of s) (set_down-mode 1 0xFFFD s) (set_down-mode w code s))
 
 -- each byte is printable
-abbrev AllPrintable : List ℕ → Type 0
+abbrev pub AllPrintable : List ℕ → Type 0
 AllPrintable [] = Unit {0}
 AllPrintable (b ∷ bytes) = (is_printable b ≡ true) × AllPrintable bytes
 
@@ -60,19 +66,19 @@ printables-run law [] outs s rest all nothing decoding = refl
 printables-run law (b ∷ bytes) outs s rest all nothing decoding =
     let m : Mode = mode_of s in
     let one = law rest m b nothing decoding all.0 in
-    let start : Told = record { screen = s; outs = outs } in
-    let quiet : told (effect (units.Unit.Char b)) start ≡ record { screen = print b s; outs = outs } =
-    ap (λ (o : List Out). record { screen = print b s; outs = o }) (append-nil outs) in
-    let same : mode_of (print b s) ≡ m = print-mode b s in
-    let rests : rest_behind bytes (mode_of (print b s)) (fresh m) ≡ fresh m =
+    let start : Drawn = record { screen = s; outs = outs } in
+    let quiet : then_done (effect (units.Unit.Char b)) start ≡ record { screen = print_character b s; outs = outs } =
+    ap (λ (o : List Out). record { screen = print_character b s; outs = o }) (append-nil outs) in
+    let same : mode_of (print_character b s) ≡ m = print-mode (columns b) b s in
+    let rests : rest_behind bytes (mode_of (print_character b s)) (fresh m) ≡ fresh m =
     ap (λ (n : Mode). rest_behind bytes n (fresh m)) same ∙ fresh-behind bytes m in
     let first : reached (effects_of drawing (answer rest m b) start) (rest_after rest m b)
-    ≡ having_said outs (reached (print b s) (fresh m)) =
+    ≡ having_said outs (reached (print_character b s) (fresh m)) =
     ap (λ (r : Read). reached (effects_of drawing r start) (rest_after rest m b)) one.0
     ∙ (λ i. reached (quiet i) (one.1 i)) in
     ap (run drawing bytes) first
-    ∙ printables-run law bytes outs (print b s) (fresh m) all.1 refl (ap decodes same ∙ decoding)
-    ∙ ap (λ (r : Rest). having_said outs (reached (printed bytes (print b s)) r)) rests
+    ∙ printables-run law bytes outs (print_character b s) (fresh m) all.1 refl (ap decodes same ∙ decoding)
+    ∙ ap (λ (r : Rest). having_said outs (reached (printed bytes (print_character b s)) r)) rests
 
 pub prefix-printable : (bytes : List ℕ) → AllPrintable (take (prefix_len is_printable bytes) bytes)
 prefix-printable [] = tt
@@ -140,46 +146,3 @@ front-runs law text count outs s rest new m mode is within left = by (is_empty r
         let nothing : take count text ≡ [] = ap (λ (n : ℕ). take n text) none in
         ap (λ (bytes : List ℕ). run drawing bytes (having_said outs (reached s rest))) nothing
         ∙ (λ i. having_said outs (reached (printed (sym nothing i) s) (sym stays i)))
-
--- a run of cells at the cursor, which is then behind it
-abbrev pub run_behind : ℕ → List ℕ → Screen → Screen
-run_behind attr codes s = record {
-  sheet = with_run s.sheet s.state.y s.state.x (cells_of_codes codes attr);
-  state = record s.state { x = s.state.x + length codes };
-}
-
--- characters that end before the last column are one run of cells
-pub printed-run : RunOfNone → RunOfMore → CellKeepsWidth → (bytes : List ℕ) (s : Screen) → s.state.wrap ≡ false
-    → s.state.insert ≡ false → s.state.x + length bytes < s.sheet.cols
-    → length (row_at s.sheet s.state.y) ≡ s.sheet.cols
-    → printed bytes s ≡ run_behind (printed_byte s.state.pen.attr s.state.pen.look) bytes s
-unfolding print
-printed-run none more width [] s wrap closed fits long =
-    let same : s.state.x ≡ s.state.x + 0 = omega arith in
-    λ i. record { sheet = sym (none s.sheet s.state.y s.state.x) i; state = record s.state { x = same i } }
-printed-run none more width (b ∷ bytes) s wrap closed fits long =
-    let next : nat_lt (s.state.x + 1) s.sheet.cols ≡ true = grind (arith, nat_tests, fits) in
-    let after : Screen = record {
-      sheet = with_cell s.sheet s.state.y s.state.x (cell_of s b);
-      state = record s.state { x = s.state.x + 1 };
-    } in
-    let one : print b s ≡ after =
-    ap (λ (w : Bool). put_here b (opened (if w && s.state.autowrap then linefeed (at_column 0 s) else s))) wrap
-    ∙ ap (λ (o : Bool). put_here b (if o then record s { sheet = inserted s.sheet s.state.y s.state.x 1 (blank_of s) } else s)) closed
-    ∙ (λ i. record {
-      sheet = with_cell s.sheet s.state.y s.state.x (cell_of s b);
-      state = record s.state {
-        x = if next i then s.state.x + 1 else s.state.x;
-        wrap = if next i then false else s.state.autowrap;
-      };
-    })
-    ∙ (λ i. record after { state = record after.state { wrap = sym wrap i } }) in
-    let here : s.state.x < length (row_at s.sheet s.state.y) = omega (arith, long, fits) in
-    let attr : ℕ = printed_byte s.state.pen.attr s.state.pen.look in
-    let cells : with_run after.sheet s.state.y (s.state.x + 1) (cells_of_codes bytes attr)
-    ≡ with_run s.sheet s.state.y s.state.x (cell_of s b ∷ cells_of_codes bytes attr) =
-    sym (more s.sheet s.state.y s.state.x (cell_of s b) (cells_of_codes bytes attr) here) in
-    let count : s.state.x + 1 + length bytes ≡ s.state.x + length (b ∷ bytes) = omega arith in
-    ap (printed bytes) one
-    ∙ printed-run none more width bytes after wrap closed (omega (arith, fits)) (width s.sheet s.state.y s.state.x (cell_of s b) ∙ long)
-    ∙ (λ i. record { sheet = cells i; state = record s.state { x = count i } })

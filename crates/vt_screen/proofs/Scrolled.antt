@@ -9,7 +9,7 @@ use Rattle.vt_grid.specs.Grid.{Sheet, moved_up, scrolled_up}
 use Rattle.vt_screen.proofs.Printed.{either-mode, fresh-behind, rest_behind}
 use Rattle.vt_screen.specs.Cursor.{at_column, at_row, linefeed, newline, newlines, region_up}
 use Rattle.vt_screen.specs.Effect.{control, effect}
-use Rattle.vt_screen.specs.Run.{Told, drawing, having_said, listed, told}
+use Rattle.vt_screen.specs.Run.{Drawn, drawing, having_said, listed, then_done}
 use Rattle.vt_screen.specs.Saying.{Done, quiet}
 use Rattle.vt_screen.specs.Screen.{Screen, blank_of, mode_of}
 use Rattle.vt_screen.specs.declared.out.Out.{Out}
@@ -105,34 +105,34 @@ scrolled_more s top bottom n c tall order within =
 -- line feeds at once
 abbrev pub at_once : ℕ → Screen → Screen
 at_once n s = record {
-  sheet = scrolled_up s.sheet s.state.top s.state.bottom n (blank_of s);
+  grid = scrolled_up s.grid s.state.top s.state.bottom n (blank_of s);
   state = record s.state { x = cond s.state.newline 0 s.state.x; wrap = false };
 }
 
 by_newline : (line : Bool) (s : Screen) → (s.state.y == s.state.bottom) ≡ true
     → linefeed (cond line (at_column 0 s) s) ≡ record {
-      sheet = scrolled_up s.sheet s.state.top s.state.bottom 1 (blank_of s);
+      grid = scrolled_up s.grid s.state.top s.state.bottom 1 (blank_of s);
       state = record s.state { x = cond line 0 s.state.x; wrap = false };
     }
 by_newline true s is =
     let from : Screen = at_column 0 s in
-    cond-true (s.state.y == s.state.bottom) (region_up from) (at_row (min (s.state.y + 1) (s.sheet.rows - 1)) from) is
+    cond-true (s.state.y == s.state.bottom) (region_up from) (at_row (min (s.state.y + 1) (s.grid.rows - 1)) from) is
 by_newline false s is =
-    cond-true (s.state.y == s.state.bottom) (region_up s) (at_row (min (s.state.y + 1) (s.sheet.rows - 1)) s) is
+    cond-true (s.state.y == s.state.bottom) (region_up s) (at_row (min (s.state.y + 1) (s.grid.rows - 1)) s) is
 
 twice : (line : Bool) (x : ℕ) → cond line 0 (cond line 0 x) ≡ cond line 0 x
 twice true x = refl
 twice false x = refl
 
 -- the rows stay as many
-scrolled-tall : (s : Screen) → length s.sheet.cells ≡ s.sheet.rows → s.state.top ≤ s.state.bottom
-    → s.state.bottom < s.sheet.rows → length (at_once 1 s).sheet.cells ≡ s.sheet.rows
+scrolled-tall : (s : Screen) → length s.grid.cells ≡ s.grid.rows → s.state.top ≤ s.state.bottom
+    → s.state.bottom < s.grid.rows → length (at_once 1 s).grid.cells ≡ s.grid.rows
 scrolled-tall s tall order within =
-    let xs : List Row = s.sheet.cells in
+    let xs : List Row = s.grid.cells in
     let top : ℕ = s.state.top in
     let bottom : ℕ = s.state.bottom in
     let h : ℕ = bottom + 1 - top in
-    let f : Row = replicate s.sheet.cols (blank_of s) in
+    let f : Row = replicate s.grid.cols (blank_of s) in
     let rows : List Row = take h (drop top xs) in
     let m : List Row = moved_up (min 1 h) f rows in
     let z : List Row = drop (bottom + 1) xs in
@@ -160,16 +160,16 @@ one s last =
 
 -- each more goes on
 pub all-at-once : (n : ℕ) (s : Screen) → s.state.y ≡ s.state.bottom
-    → length s.sheet.cells ≡ s.sheet.rows → s.state.top ≤ s.state.bottom → s.state.bottom < s.sheet.rows
+    → length s.grid.cells ≡ s.grid.rows → s.state.top ≤ s.state.bottom → s.state.bottom < s.grid.rows
     → newlines (suc n) s ≡ at_once (suc n) s
 all-at-once zero s last tall order within = one s last
 all-at-once (suc n) s last tall order within =
     let next : Screen = at_once 1 s in
-    let kept : length next.sheet.cells ≡ next.sheet.rows = scrolled-tall s tall order within in
+    let kept : length next.grid.cells ≡ next.grid.rows = scrolled-tall s tall order within in
     ap (newlines (suc n)) (one s last)
     ∙ all-at-once n next last kept order within
     ∙ (λ i. record {
-      sheet = scrolled_more s.sheet s.state.top s.state.bottom (suc n) (blank_of s) tall order within i;
+      grid = scrolled_more s.grid s.state.top s.state.bottom (suc n) (blank_of s) tall order within i;
       state = record s.state {
         x = twice s.state.newline s.state.x i;
         wrap = false;
@@ -183,7 +183,7 @@ newline-mode s =
     let same : mode_of from ≡ mode_of s =
     either-mode s.state.newline (at_column 0 s) s (mode_of s) refl refl in
     either-mode (from.state.y == from.state.bottom) (region_up from)
-    (at_row (min (from.state.y + 1) (from.sheet.rows - 1)) from) (mode_of s) same same
+    (at_row (min (from.state.y + 1) (from.grid.rows - 1)) from) (mode_of s) same same
 
 control-feed : (s : Screen) → control 0x0A s ≡ quiet (newline s)
 unfolding control
@@ -206,8 +206,8 @@ feeds-run law (b ∷ bytes) outs s rest all nothing =
     let m : Mode = mode_of s in
     let feed : ℕ = 0x0A in
     let one_step = law rest m feed nothing (feed-controls m) refl in
-    let start : Told = record { screen = s; outs = outs } in
-    let said : told (effect (units.Unit.Control feed)) start ≡ record { screen = newline s; outs = outs } =
+    let start : Drawn = record { screen = s; outs = outs } in
+    let said : then_done (effect (units.Unit.Control feed)) start ≡ record { screen = newline s; outs = outs } =
     ap (λ (done : Done). record { screen = done.screen; outs = outs ++ listed done.said }) (control-feed s)
     ∙ ap (λ (o : List Out). record { screen = newline s; outs = o }) (append-nil outs) in
     let rests : rest_behind bytes (mode_of (newline s)) (fresh m) ≡ fresh m =

@@ -2,7 +2,7 @@
 use Rattle.std.proofs.Common.{◌≡◌, ◌<◌, zero, suc, ℕ, List, [], ◌∷◌, ◌++◌, take, Some, refl, sym, ap, ◌∙◌, arith}
 use Rattle.vt_screen.specs.Effect.{effect}
 use Rattle.vt_screen.specs.Saying.{Done}
-use Rattle.vt_screen.specs.Run.{Told, drawing, having_said, listed}
+use Rattle.vt_screen.specs.Run.{Drawn, drawing, having_said, listed}
 use Rattle.vt_screen.specs.Screen.{Screen, mode_of}
 use Rattle.vt_screen.specs.declared.out.Out.{Out}
 use Rattle.vt_units.specs.Ahead.{Sequence, taken_ahead}
@@ -41,17 +41,17 @@ pub sequence-run : SequencesAreUnits → (text : List ℕ) (outs : List Out) (s 
     ≡ having_said (outs ++ listed done.said) (reached done.screen (fresh m))
 sequence-run law text outs s rest m one mode found done is =
     let comes : IsUnitOf m rest text one = law rest m text one found in
-    let start : Told = record { screen = s; outs = outs } in
+    let start : Drawn = record { screen = s; outs = outs } in
     come-run drawing one.unit m (take one.count text) start rest (sym mode) comes.comes
     ∙ ap (λ (d : Done). having_said (outs ++ listed d.said) (reached d.screen (fresh m))) is
 
 -- the same, where its effect added what it says to what was said
-pub sequence-done : SequencesAreUnits → (text : List ℕ) (outs told : List Out) (s drawn : Screen) (rest left : Rest)
+pub sequence-done : SequencesAreUnits → (text : List ℕ) (outs said_after : List Out) (s drawn : Screen) (rest left : Rest)
     (m : Mode) (one : Sequence)
     → m ≡ mode_of s → taken_ahead rest text ≡ Some one → left ≡ fresh m
-    → drawn ≡ (effect one.unit s).screen → told ≡ outs ++ listed (effect one.unit s).said
+    → drawn ≡ (effect one.unit s).screen → said_after ≡ outs ++ listed (effect one.unit s).said
     → run drawing (take one.count text) (having_said outs (reached s rest))
-    ≡ having_said told (reached drawn left)
-sequence-done law text outs told s drawn rest left m one mode found fresh_is drawn_is told_is =
+    ≡ having_said said_after (reached drawn left)
+sequence-done law text outs said_after s drawn rest left m one mode found fresh_is drawn_is said_is =
     sequence-run law text outs s rest m one mode found (effect one.unit s) refl
-    ∙ (λ i. having_said (sym told_is i) (reached (sym drawn_is i) (sym fresh_is i)))
+    ∙ (λ i. having_said (sym said_is i) (reached (sym drawn_is i) (sym fresh_is i)))

@@ -1,10 +1,11 @@
 -- Whole characters at the front of a text.
 use Rattle.std.proofs.Common.{◌≡◌, ◌<◌, true, ℕ, List, [], ◌∷◌, length, refl, sym, ap, ◌∙◌, arith}
 use Rattle.std.proofs.lemmas.List.{append-nil}
+use Rattle.vt_cells.specs.Width.{columns}
 use Rattle.vt_screen.proofs.Printed.{print-mode}
 use Rattle.vt_screen.specs.Effect.{effect}
-use Rattle.vt_screen.specs.Printing.{print, printed}
-use Rattle.vt_screen.specs.Run.{Told, drawing, having_said, told}
+use Rattle.vt_screen.specs.Printing.{print_character, printed}
+use Rattle.vt_screen.specs.Run.{Drawn, drawing, having_said, then_done}
 use Rattle.vt_screen.specs.Screen.{Screen, mode_of}
 use Rattle.vt_screen.specs.declared.out.Out.{Out}
 use Rattle.vt_units.proofs.Wholes.{all_shown, characters-run}
@@ -16,7 +17,7 @@ use Rattle.vt_units.specs.Run.{reached, run}
 use Rattle.vt_units.specs.declared.mode.Mode.{Mode}
 use Rattle.vt_units.specs.declared.unit.Unit as units
 
-abbrev saying : List Out → Screen → Told
+abbrev saying : List Out → Screen → Drawn
 saying outs s = record { screen = s; outs = outs }
 
 -- they say nothing
@@ -24,9 +25,9 @@ codes-shown : (codes : List ℕ) (outs : List Out) (s : Screen)
     → all_shown drawing codes (saying outs s) ≡ saying outs (printed codes s)
 codes-shown [] outs s = refl
 codes-shown (code ∷ codes) outs s =
-    let quiet : told (effect (units.Unit.Char code)) (saying outs s) ≡ saying outs (print code s) =
-    ap (λ (o : List Out). saying o (print code s)) (append-nil outs) in
-    ap (all_shown drawing codes) quiet ∙ codes-shown codes outs (print code s)
+    let quiet : then_done (effect (units.Unit.Char code)) (saying outs s) ≡ saying outs (print_character code s) =
+    ap (λ (o : List Out). saying o (print_character code s)) (append-nil outs) in
+    ap (all_shown drawing codes) quiet ∙ codes-shown codes outs (print_character code s)
 
 -- some characters, as they are taken
 pub codes-run : PrintablesAreCharacters → (text codes : List ℕ) (outs : List Out) (s : Screen) (rest : Rest) (m : Mode)
@@ -34,5 +35,5 @@ pub codes-run : PrintablesAreCharacters → (text codes : List ℕ) (outs : List
     → run drawing text (having_said outs (reached s rest)) ≡ having_said outs (reached (printed codes s) (fresh m))
 codes-run law text [] outs s rest m mode are some nothing decoding = absurd (omega (arith, ap (λ (t : List ℕ). length t) are, some))
 codes-run law text (code ∷ codes) outs s rest m mode are some nothing decoding =
-    characters-run drawing law (λ c t. print-mode c t.screen) text (code ∷ codes) (saying outs s) rest m (sym mode) are nothing decoding
-    ∙ ap (λ (t : Told). reached t (fresh m)) (codes-shown (code ∷ codes) outs s)
+    characters-run drawing law (λ c t. print-mode (columns c) c t.screen) text (code ∷ codes) (saying outs s) rest m (sym mode) are nothing decoding
+    ∙ ap (λ (t : Drawn). reached t (fresh m)) (codes-shown (code ∷ codes) outs s)

@@ -1,10 +1,10 @@
 -- Runs over tapes.
 use Rattle.std.proofs.Common.{◌≡◌, ℕ, List, [], ◌∷◌, map, refl}
-use Rattle.vt_screen.specs.Run.{Told, drawing, having_said}
+use Rattle.vt_screen.specs.Run.{Drawn, drawing, having_said}
 use Rattle.vt_screen.specs.Tape.{AnyTapeCut, StretchesRun, byte, played, run_tape}
 use Rattle.vt_units.specs.Run.{Reached, run, step}
 
-stretch : (bytes : List ℕ) (at : Reached Told) → run_tape (map byte bytes) at ≡ run drawing bytes at
+stretch : (bytes : List ℕ) (at : Reached Drawn) → run_tape (map byte bytes) at ≡ run drawing bytes at
 stretch [] at = refl
 stretch (b ∷ bytes) at = stretch bytes (step drawing b at)
 

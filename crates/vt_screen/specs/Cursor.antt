@@ -16,13 +16,13 @@ at_row y s = with_state s (record s.state { y = y; wrap = false })
 -- the rows of the region move up, or down, by one, and a blank one comes in; no wrap is pending
 abbrev pub region_up : Screen → Screen
 region_up s = record {
-  sheet = scrolled_up s.sheet s.state.top s.state.bottom 1 (blank_of s);
+  grid = scrolled_up s.grid s.state.top s.state.bottom 1 (blank_of s);
   state = record s.state { wrap = false };
 }
 
 abbrev pub region_down : Screen → Screen
 region_down s = record {
-  sheet = scrolled_down s.sheet s.state.top s.state.bottom 1 (blank_of s);
+  grid = scrolled_down s.grid s.state.top s.state.bottom 1 (blank_of s);
   state = record s.state { wrap = false };
 }
 
@@ -30,7 +30,7 @@ region_down s = record {
 abbrev pub linefeed : Screen → Screen
 linefeed s =
     if s.state.y == s.state.bottom then region_up s
-    else at_row (min (s.state.y + 1) (s.sheet.rows - 1)) s
+    else at_row (min (s.state.y + 1) (s.grid.rows - 1)) s
 
 -- one row up, not past the first one; in the region's first row the region scrolls
 abbrev pub reverse_linefeed : Screen → Screen
@@ -51,21 +51,21 @@ newlines (suc n) s = newlines n (newline s)
 unfoldable pub tab : Screen → Screen
 tab s =
     let passed = prefix_len not (drop (s.state.x + 1) s.state.stops) in
-    with_state s (record s.state { x = min (s.state.x + 1 + passed) (s.sheet.cols - 1) })
+    with_state s (record s.state { x = min (s.state.x + 1 + passed) (s.grid.cols - 1) })
 
 -- the first and the last row that a move reaches: in origin mode those of the region
 abbrev pub first_row : Screen → ℕ
 first_row s = if s.state.origin then s.state.top else 0
 
 abbrev pub last_row : Screen → ℕ
-last_row s = if s.state.origin then s.state.bottom else s.sheet.rows - 1
+last_row s = if s.state.origin then s.state.bottom else s.grid.rows - 1
 
 -- move: to a row and a column, or as far as a move reaches
 unfoldable pub moved : ℕ → ℕ → Screen → Screen
 moved y x s =
     with_state s
     (record s.state {
-      x = min x (s.sheet.cols - 1);
+      x = min x (s.grid.cols - 1);
       y = max (first_row s) (min y (last_row s));
       wrap = false;
     })

@@ -5,7 +5,7 @@ use Rattle.std.specs.Prelude.{ℕ, true, false, ◌+◌, ◌-◌, ◌==◌, max,
 use Rattle.vt_chars.specs.Utf8.{within}
 use Rattle.vt_screen.specs.Cursor.{at_column, linefeed, moved, newline, placed, reverse_linefeed, tab}
 use Rattle.vt_screen.specs.Erasing.{delete_characters, delete_lines, erase_characters, erase_display, erase_line, insert_characters, insert_lines}
-use Rattle.vt_screen.specs.Printing.{print, shown}
+use Rattle.vt_screen.specs.Printing.{print, print_character, shown}
 use Rattle.vt_screen.specs.Saying.{Done, console_setting, device_report, lights, quiet, saying, status_report}
 use Rattle.vt_screen.specs.Screen.{Screen}
 use Rattle.vt_screen.specs.Settings.{aligned, clear_stops, each, invoking, rendered, reset, restore, save, set_stop, with_coding, with_colour, with_g0, with_g1, with_keypad, with_mode, with_private_mode, with_region, with_start_palette}
@@ -162,8 +162,8 @@ private_sequence params last s =
 
 -- what a unit does, one case for each kind
 abbrev pub effect : units.Unit → Screen → Done
-effect (Char code) s = quiet (print code s)
-effect (Byte b) s = quiet (print (shown b s) s)
+effect (Char code) s = quiet (print_character code s)
+effect (Byte b) s = quiet (print 1 (shown b s) s)
 effect (Control code) s = control code s
 effect (Esc mid last) s = escape mid last s
 effect (Csi private params last) s =

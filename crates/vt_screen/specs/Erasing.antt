@@ -2,47 +2,72 @@
 -- blank, in the pen's two colours. This project's own is that all of these switch the wrap flag off.
 use Rattle.std.specs.Prelude.{ℕ, Bool, false, ◌+◌, ◌-◌, ◌==◌, ◌&&◌, ◌||◌, nat_le, min, ◌++◌, take, drop, replicate, if◌then◌else◌}
 use Rattle.vt_grid.specs.Grid.{Sheet, deleted, erased, inserted, scrolled_down, scrolled_up}
+use Rattle.vt_grid.specs.Halves.{parted_between}
 use Rattle.vt_screen.specs.Screen.{Screen, blank_of, with_state}
 
 -- no wrap is pending
 abbrev pub unwrapped : Screen → Screen
 unwrapped s = with_state s (record s.state { wrap = false })
 
-abbrev pub with_sheet : Screen → Sheet → Screen
-with_sheet s sheet = record s { sheet = sheet }
+abbrev pub with_grid : Screen → Sheet → Screen
+with_grid s grid = record s { grid = grid }
 
--- the cells of the cursor's row from column x0 to x1, both included, are blank
+-- the cells of the cursor's row from column x0 to x1, both included, are blank; a character that
+-- stands there in part is parted
 abbrev pub line_erased : ℕ → ℕ → Screen → Screen
-line_erased x0 x1 s = with_sheet s (erased s.sheet s.state.y x0 x1 (blank_of s))
+line_erased x0 x1 s =
+    with_grid s
+    (erased (parted_between s.grid s.state.y x0 (x1 + 1)) s.state.y x0 x1 (blank_of s))
+
+-- as many of n cells as the cursor's row has from the cursor on
+abbrev pub fitting : ℕ → Screen → ℕ
+fitting n s = min n (s.grid.cols - s.state.x)
+
+-- n blanks come in at the cursor; a character that stands there, or of which a part passes the row's
+-- end, is parted
+abbrev pub cells_inserted : ℕ → Screen → Screen
+cells_inserted n s =
+    let y = s.state.y in
+    let x = s.state.x in
+    with_grid s
+    (inserted (parted_between s.grid y x (s.grid.cols - fitting n s)) y x n (blank_of s))
+
+-- n cells go out at the cursor; a character that goes out in part is parted. Past the row's end there
+-- is none
+abbrev pub cells_deleted : ℕ → Screen → Screen
+cells_deleted n s =
+    let y = s.state.y in
+    let x = s.state.x in
+    with_grid s (deleted (parted_between s.grid y x (x + n)) y x n (blank_of s))
 
 -- so many rows from this one on are blank
 unfoldable pub rows_erased : ℕ → ℕ → Screen → Screen
 rows_erased from count s =
-    with_sheet s
-    (record s.sheet {
+    with_grid s
+    (record s.grid {
       cells =
-          take from s.sheet.cells
-          ++ (replicate count (replicate s.sheet.cols (blank_of s))
-          ++ drop (from + count) s.sheet.cells);
+          take from s.grid.cells
+          ++ (replicate count (replicate s.grid.cols (blank_of s))
+          ++ drop (from + count) s.grid.cells);
     })
 
 -- from the cursor to the end of its row, and from the row's start to the cursor, the cursor's cell
 -- included
 abbrev pub line_end_erased : Screen → Screen
-line_end_erased s = line_erased s.state.x (s.sheet.cols - 1) s
+line_end_erased s = line_erased s.state.x (s.grid.cols - 1) s
 
 abbrev pub line_start_erased : Screen → Screen
 line_start_erased s = line_erased 0 s.state.x s
 
 -- the rows below the cursor's one, those above it, and all of them
 abbrev pub below_erased : Screen → Screen
-below_erased s = rows_erased (s.state.y + 1) (s.sheet.rows - (s.state.y + 1)) s
+below_erased s = rows_erased (s.state.y + 1) (s.grid.rows - (s.state.y + 1)) s
 
 abbrev pub above_erased : Screen → Screen
 above_erased s = rows_erased 0 s.state.y s
 
 abbrev pub all_erased : Screen → Screen
-all_erased s = rows_erased 0 s.sheet.rows s
+all_erased s = rows_erased 0 s.grid.rows s
 
 -- ED: 0 from the cursor to the end, 1 from the start to the cursor, 2 and 3 the whole display; 3 has
 -- no more to erase, since nothing scrolls back here
@@ -58,23 +83,21 @@ unfoldable pub erase_line : ℕ → Screen → Screen
 erase_line which s =
     if which == 0 then unwrapped (line_end_erased s)
     else if which == 1 then unwrapped (line_start_erased s)
-    else if which == 2 then unwrapped (line_erased 0 (s.sheet.cols - 1) s)
+    else if which == 2 then unwrapped (line_erased 0 (s.grid.cols - 1) s)
     else s
 
 -- ECH: n cells from the cursor on, as far as the row goes
 unfoldable pub erase_characters : ℕ → Screen → Screen
 erase_characters n s =
-    unwrapped (line_erased s.state.x (min (s.state.x + n - 1) (s.sheet.cols - 1)) s)
+    unwrapped (line_erased s.state.x (min (s.state.x + n - 1) (s.grid.cols - 1)) s)
 
 -- ICH: n blanks come in at the cursor
 unfoldable pub insert_characters : ℕ → Screen → Screen
-insert_characters n s =
-    unwrapped (with_sheet s (inserted s.sheet s.state.y s.state.x n (blank_of s)))
+insert_characters n s = unwrapped (cells_inserted n s)
 
 -- DCH: n cells go out at the cursor
 unfoldable pub delete_characters : ℕ → Screen → Screen
-delete_characters n s =
-    unwrapped (with_sheet s (deleted s.sheet s.state.y s.state.x n (blank_of s)))
+delete_characters n s = unwrapped (cells_deleted n s)
 
 -- the cursor is in the region
 abbrev pub in_region : Screen → Bool
@@ -86,7 +109,7 @@ unfoldable pub insert_lines : ℕ → Screen → Screen
 insert_lines n s =
     unwrapped
     (if in_region s
-    then with_sheet s (scrolled_down s.sheet s.state.y s.state.bottom n (blank_of s))
+    then with_grid s (scrolled_down s.grid s.state.y s.state.bottom n (blank_of s))
     else s)
 
 -- DL: n rows go out at the cursor's one, and the region's rows behind them move up
@@ -94,5 +117,5 @@ unfoldable pub delete_lines : ℕ → Screen → Screen
 delete_lines n s =
     unwrapped
     (if in_region s
-    then with_sheet s (scrolled_up s.sheet s.state.y s.state.bottom n (blank_of s))
+    then with_grid s (scrolled_up s.grid s.state.y s.state.bottom n (blank_of s))
     else s)

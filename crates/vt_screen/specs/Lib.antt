@@ -1,9 +1,13 @@
 pub mod Cursor
 pub mod Effect
 pub mod Erasing
+pub mod Halves
+pub mod Inside
 pub mod Kept
+pub mod Narrow
 pub mod Printing
 pub mod Run
+pub mod SavedCursor
 pub mod Saying
 pub mod Screen
 pub mod Settings

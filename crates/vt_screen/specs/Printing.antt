@@ -1,48 +1,82 @@
--- What printing does (console_codes(4)). The wrap flag's rules are this project's own.
-use Rattle.std.specs.Prelude.{ℕ, false, ◌+◌, ◌-◌, ◌==◌, ◌&&◌, ◌||◌, nat_lt, List, [], ◌∷◌, if◌then◌else◌}
+-- What printing does (console_codes(4)). The wrap flag's rules and those of characters of two columns
+-- are this project's own.
+use Rattle.std.specs.Prelude.{ℕ, Bool, false, ◌+◌, ◌-◌, ◌==◌, ◌&&◌, ◌||◌, nat_lt, List, [], ◌∷◌, ◌++◌, length, if◌then◌else◌}
+use Rattle.vt_cells.specs.Width.{columns, half}
 use Rattle.vt_chars.specs.CharMap.{char_of}
-use Rattle.vt_grid.specs.Grid.{inserted, with_cell}
+use Rattle.vt_grid.specs.Grid.{cells_of_codes}
+use Rattle.vt_grid.specs.Halves.{drawn}
 use Rattle.vt_screen.specs.Cursor.{at_column, linefeed}
-use Rattle.vt_screen.specs.Screen.{Screen, blank_of, cell_of}
+use Rattle.vt_screen.specs.Erasing.{cells_inserted}
+use Rattle.vt_screen.specs.Screen.{Screen, pen_byte}
 
--- a pending wrap is done before a character: to the start of the next row. Without autowrap it isn't
--- done
-abbrev pub wrapped : Screen → Screen
-wrapped s = if s.state.wrap && s.state.autowrap then linefeed (at_column 0 s) else s
+-- a character of w columns doesn't end in the cursor's row
+abbrev pub lacks_room : ℕ → Screen → Bool
+lacks_room w s = nat_lt s.grid.cols (s.state.x + w)
 
--- in insert mode a blank comes in at the cursor
-abbrev pub opened : Screen → Screen
-opened s =
-    if s.state.insert
-    then record s { sheet = inserted s.sheet s.state.y s.state.x 1 (blank_of s) }
+-- where a wrap is pending, or the character doesn't end in this row, it goes to the start of the next
+-- row; without autowrap as near to this row's end as it fits
+abbrev pub wrapped : ℕ → Screen → Screen
+wrapped w s =
+    if s.state.autowrap && (s.state.wrap || lacks_room w s) then linefeed (at_column 0 s)
+    else if lacks_room w s then at_column (s.grid.cols - w) s
     else s
 
--- the character in the cursor's cell, and the cursor behind it;
--- in the last column the cursor stays, and with autowrap a wrap is pending
-abbrev pub put_here : ℕ → Screen → Screen
-put_here code s =
-    let has_next = nat_lt (s.state.x + 1) s.sheet.cols in
+-- in insert mode as many blanks come in at the cursor
+abbrev pub opened : ℕ → Screen → Screen
+opened w s = if s.state.insert then cells_inserted w s else s
+
+-- the codes of a character's cells: of two, the right one has the code of a half
+abbrev pub codes_drawn : ℕ → ℕ → List ℕ
+codes_drawn w code = if w == 2 then code ∷ half ∷ [] else code ∷ []
+
+-- cells of these codes from the cursor on, and the cursor after them; where they end the row the cursor
+-- is in the last column, and with autowrap a wrap is pending
+abbrev pub put_here : List ℕ → Screen → Screen
+put_here codes s =
+    let end = s.state.x + length codes in
+    let has_next = nat_lt end s.grid.cols in
     record {
-      sheet = with_cell s.sheet s.state.y s.state.x (cell_of s code);
+      grid = drawn s.grid s.state.y s.state.x (cells_of_codes codes (pen_byte s));
       state = record s.state {
-        x = if has_next then s.state.x + 1 else s.state.x;
+        x = if has_next then end else s.grid.cols - 1;
         wrap = if has_next then false else s.state.autowrap;
       };
     }
 
--- a character is printed
-unfoldable pub print : ℕ → Screen → Screen
-print code s = put_here code (opened (wrapped s))
+-- a character of w columns, of which a row has as many, is printed
+abbrev pub set_down : ℕ → ℕ → Screen → Screen
+set_down w code s = put_here (codes_drawn w code) (opened w (wrapped w s))
+
+-- a character of w columns is printed. One of none does nothing at all; one of two, where rows have
+-- one, is printed as the replacement character
+unfoldable pub print : ℕ → ℕ → Screen → Screen
+print w code s =
+    if w == 0 then s
+    else if w == 2 && s.grid.cols == 1 then set_down 1 0xFFFD s
+    else set_down w code s
+
+-- a character is printed in the columns that it takes
+abbrev pub print_character : ℕ → Screen → Screen
+print_character code s = print (columns code) code s
 
 -- characters, one after another
 abbrev pub printed : List ℕ → Screen → Screen
 printed [] s = s
-printed (code ∷ codes) s = printed codes (print code s)
+printed (code ∷ codes) s = printed codes (print_character code s)
 
--- how many characters fit before the last column, where no wrap is pending and insert mode is off:
--- these change one row
+-- how many cells there are from the cursor to the end of its row, where no wrap is pending and insert
+-- mode is off: characters that end there are put at once
 abbrev pub room : Screen → ℕ
-room s = if s.state.wrap || s.state.insert then 0 else s.sheet.cols - 1 - s.state.x
+room s = if s.state.wrap || s.state.insert then 0 else s.grid.cols - s.state.x
+
+-- the codes of a character's cells, of which there may be none. No public clause names this
+abbrev pub cells_codes : ℕ → ℕ → List ℕ
+cells_codes w code = if w == 0 then [] else codes_drawn w code
+
+-- the codes of the cells of characters, one after another. No public clause names this
+abbrev pub spread : List ℕ → List ℕ
+spread [] = []
+spread (code ∷ codes) = cells_codes (columns code) code ++ spread codes
 
 -- the table in use: the null mapping, or the one that is G0 or G1
 abbrev pub table_of : Screen → ℕ

@@ -12,7 +12,7 @@ use Rattle.vt_units.specs.Run.{Effects, Reached, reached, run}
 use Rattle.vt_units.specs.Units.{IsUnfinished}
 
 -- the screen, and all that was said, in order
-pub record Told : Type 0 where
+pub record Drawn : Type 0 where
   pub screen : Screen
   pub outs : List Out
 
@@ -21,25 +21,25 @@ listed None = []
 listed (Some out) = out ∷ []
 
 -- something is done to the screen; what it says comes last
-abbrev pub told : (Screen → Done) → Told → Told
-told f t =
+abbrev pub then_done : (Screen → Done) → Drawn → Drawn
+then_done f t =
     let done = f t.screen in
     record { screen = done.screen; outs = t.outs ++ listed done.said }
 
 -- what control characters and units do: the effect table
-abbrev pub drawing : Effects Told
+abbrev pub drawing : Effects Drawn
 drawing = record {
   mode_of = λ t. mode_of t.screen;
-  on_control = λ code. told (control code);
-  on_unit = λ unit. told (effect unit);
+  on_control = λ code. then_done (control code);
+  on_unit = λ unit. then_done (effect unit);
 }
 
 -- a screen with the rest of its text, and what it said so far
-abbrev pub having_said : List Out → Reached Screen → Reached Told
+abbrev pub having_said : List Out → Reached Screen → Reached Drawn
 having_said outs m = reached (record { screen = m.state; outs = outs }) m.rest
 
 -- run: what the bytes make of a screen and the rest of its text
-abbrev pub ran : Reached Screen → List ℕ → Reached Told
+abbrev pub ran : Reached Screen → List ℕ → Reached Drawn
 ran m bytes = run drawing bytes (having_said [] m)
 
 -- the screen and the rest after the bytes

@@ -15,7 +15,7 @@ use Rattle.vt_units.specs.declared.mode.Mode.{Mode}
 
 -- the cells, and the state beside them
 pub record Screen : Type 0 where
-  pub sheet : Sheet
+  pub grid : Sheet
   pub state : ScreenState
 
 -- the screen with another state
@@ -26,12 +26,12 @@ with_state s state = record s { state = state }
 -- the last column, the region is in the rows, the tables are four, G0 or G1 is in use, here and in
 -- what is saved, and the user's table has all bytes
 pub record IsWhole (s : Screen) : Type 0 where
-  pub full : IsFull s.sheet
-  pub row : s.state.y < s.sheet.rows
-  pub column : s.state.x < s.sheet.cols
-  pub wrapped : IsTrue s.state.wrap → s.state.x + 1 ≡ s.sheet.cols
+  pub full : IsFull s.grid
+  pub row : s.state.y < s.grid.rows
+  pub column : s.state.x < s.grid.cols
+  pub wrapped : IsTrue s.state.wrap → s.state.x + 1 ≡ s.grid.cols
   pub order : s.state.top ≤ s.state.bottom
-  pub region : s.state.bottom < s.sheet.rows
+  pub region : s.state.bottom < s.grid.rows
   pub tables : (s.state.g0 < 4) × (s.state.g1 < 4)
   pub invoked : s.state.shift ≤ 1
   pub saved_tables : (s.state.saved.g0 < 4) × (s.state.saved.g1 < 4)
@@ -50,9 +50,9 @@ printed_byte a l = attr_byte a l
 unfoldable pub erased_byte : Rendition → ℕ
 erased_byte a = erase_byte a
 
--- a character as the pen prints it
-abbrev pub cell_of : Screen → ℕ → Cell
-cell_of s code = record { code = code; attr = printed_byte s.state.pen.attr s.state.pen.look }
+-- the attribute byte of what the pen prints
+abbrev pub pen_byte : Screen → ℕ
+pen_byte s = printed_byte s.state.pen.attr s.state.pen.look
 
 -- what an empty place holds: a space in the pen's two colours
 abbrev pub blank_of : Screen → Cell
@@ -140,4 +140,4 @@ start_blank = record { code = 0x20; attr = 0x07 }
 
 -- the start screen: all blank, in the start state
 abbrev pub start_screen : ℕ → ℕ → Screen
-start_screen rows cols = record { sheet = filled rows cols start_blank; state = start_state rows }
+start_screen rows cols = record { grid = filled rows cols start_blank; state = start_state rows }

@@ -98,8 +98,8 @@ with_private_mode on n s =
 -- screen; 0 for b is the last row. Then the cursor goes home
 unfoldable pub with_region : ℕ → ℕ → Screen → Screen
 with_region t b s =
-    let last = if b == 0 then s.sheet.rows else b in
-    if nat_lt t last && nat_le last s.sheet.rows
+    let last = if b == 0 then s.grid.rows else b in
+    if nat_lt t last && nat_le last s.grid.rows
     then homed (with_state s (record s.state { top = t - 1; bottom = last - 1 }))
     else s
 
@@ -140,8 +140,8 @@ restore s =
 -- and the user's table are kept: this project's own
 unfoldable pub reset : Screen → Screen
 reset s = record {
-  sheet = filled s.sheet.rows s.sheet.cols start_blank;
-  state = record (start_state s.sheet.rows) {
+  grid = filled s.grid.rows s.grid.cols start_blank;
+  state = record (start_state s.grid.rows) {
     pen = mapped (drawn s.state.pen start_attr) false false false;
     palette = s.state.palette;
     map = s.state.map;
@@ -152,8 +152,8 @@ reset s = record {
 unfoldable pub aligned : Screen → Screen
 aligned s =
     record s {
-      sheet =
-          filled s.sheet.rows s.sheet.cols
+      grid =
+          filled s.grid.rows s.grid.cols
           (record { code = 0x45; attr = erased_byte s.state.pen.attr });
     }
 

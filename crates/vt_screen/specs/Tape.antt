@@ -1,8 +1,9 @@
--- What a screen is made of in all its life: bytes, and marks between them.
+-- What a screen is made of in all its life: bytes, and changes between them.
 use Rattle.std.specs.Prelude.{◌≡◌, ℕ, false, ◌+◌, ◌-◌, min, ◌++◌, List, [], ◌∷◌, map}
 use Rattle.vt_cells.specs.Colours.{Rgb}
 use Rattle.vt_grid.specs.Grid.{filled, resized}
-use Rattle.vt_screen.specs.Run.{Told, drawing, having_said, ran}
+use Rattle.vt_grid.specs.Halves.{parted_rows}
+use Rattle.vt_screen.specs.Run.{Drawn, drawing, having_said, ran}
 use Rattle.vt_screen.specs.Screen.{Screen, blank_of, with_state}
 use Rattle.vt_units.specs.Run.{Reached, reached, step}
 
@@ -11,11 +12,11 @@ use Rattle.vt_units.specs.Run.{Reached, reached, step}
 abbrev pub lost_rows : ℕ → Screen → ℕ
 lost_rows rows s = s.state.y + 1 - rows
 
--- the screen in another size: the cells that both have stay, new ones are blank, the cursor stays at
--- its cell where that is kept, and the region is whole
+-- the screen in another size: the cells that both have stay, but for a character that is cut, new
+-- ones are blank, the cursor stays at its cell where that is kept, and the region is whole
 unfoldable pub resized_to : ℕ → ℕ → Screen → Screen
 resized_to rows cols s = record {
-  sheet = resized s.sheet (filled rows cols (blank_of s)) (lost_rows rows s);
+  grid = resized (parted_rows cols s.grid) (filled rows cols (blank_of s)) (lost_rows rows s);
   state = record s.state {
     y = s.state.y - lost_rows rows s;
     x = min s.state.x (cols - 1);
@@ -27,33 +28,33 @@ resized_to rows cols s = record {
 
 -- a change of the screen by a call: the user's table or the palette is set, or the screen gets so
 -- many rows and columns
-pub data Mark : Type 0 where
-  user_map : List ℕ → Mark
-  palette : List Rgb → Mark
-  resize : ℕ → ℕ → Mark
+pub data Change : Type 0 where
+  user_map : List ℕ → Change
+  palette : List Rgb → Change
+  resize : ℕ → ℕ → Change
 
--- a tape holds bytes and marks
+-- a tape holds bytes and changes
 pub data Taped : Type 0 where
   byte : ℕ → Taped
-  mark : Mark → Taped
+  change : Change → Taped
 
--- the screen that a mark makes
-abbrev pub marked : Mark → Screen → Screen
-marked (user_map words) s = with_state s (record s.state { map = words })
-marked (palette colours) s = with_state s (record s.state { palette = colours })
-marked (resize rows cols) s = resized_to rows cols s
+-- the screen that a change makes
+abbrev pub changed : Change → Screen → Screen
+changed (user_map words) s = with_state s (record s.state { map = words })
+changed (palette colours) s = with_state s (record s.state { palette = colours })
+changed (resize rows cols) s = resized_to rows cols s
 
--- a mark acts on the screen, and leaves the rest of the text
-abbrev pub with_mark : Mark → Reached Screen → Reached Screen
-with_mark m at = reached (marked m at.state) at.rest
+-- a change acts on the screen, and leaves the rest of the text
+abbrev pub with_change : Change → Reached Screen → Reached Screen
+with_change m at = reached (changed m at.state) at.rest
 
 -- what an item of a tape does
-abbrev pub played : Taped → Reached Told → Reached Told
+abbrev pub played : Taped → Reached Drawn → Reached Drawn
 played (byte b) at = step drawing b at
-played (mark m) at = reached (record at.state { screen = marked m at.state.screen }) at.rest
+played (change m) at = reached (record at.state { screen = changed m at.state.screen }) at.rest
 
 -- run over a tape: its items in order
-abbrev pub run_tape : List Taped → Reached Told → Reached Told
+abbrev pub run_tape : List Taped → Reached Drawn → Reached Drawn
 run_tape [] at = at
 run_tape (item ∷ items) at = run_tape items (played item at)
 
@@ -63,4 +64,4 @@ StretchesRun = (m : Reached Screen) (bytes : List ℕ) → run_tape (map byte by
 
 -- a tape cut in two is run in two parts
 abbrev pub AnyTapeCut : Type 0
-AnyTapeCut = (a b : List Taped) (at : Reached Told) → run_tape (a ++ b) at ≡ run_tape b (run_tape a at)
+AnyTapeCut = (a b : List Taped) (at : Reached Drawn) → run_tape (a ++ b) at ≡ run_tape b (run_tape a at)

@@ -1,17 +1,18 @@
 //! The screen that text draws on, without the reading of the text.
-ghost use Rattle.std.specs.Prelude.{◌≡◌, ◌<◌, ◌≤◌, ◌+◌, ◌++◌, length};
-ghost use Rattle.vt_grid.specs.Grid.{filled};
+ghost use Rattle.std.specs.Prelude.{◌≡◌, ◌<◌, ◌≤◌, ◌+◌, ◌++◌, false, length};
+ghost use Rattle.vt_cells.specs.Width.{is_half};
 ghost use Rattle.vt_screen.specs.Effect.{effect};
 ghost use Rattle.std.specs.Borrow.{Lends, sem};
 ghost use Rattle.vt_cells.specs.contracts.palette.Palette.{the_row as palette_row};
 ghost use Rattle.vt_screen.specs.contracts.canvas.Canvas.{the_row};
 ghost use Rattle.vt_screen.specs.Run.{listed};
-ghost use Rattle.vt_screen.specs.Tape.{marked, palette};
+ghost use Rattle.vt_screen.specs.Tape.{changed, palette};
 ghost use Rattle.vt_screen.specs.Screen.{IsWhole, blank_of, mode_of, start_screen, with_state};
 
 mod controls;
 mod erases;
 mod escapes;
+mod fronts;
 mod moves;
 mod print;
 mod reports;
@@ -20,6 +21,7 @@ mod saves;
 mod sequences;
 mod settings;
 
+use crate::board::Board;
 use crate::{BLANK, Out, Outs, ScreenState};
 use std::marker::Model;
 use vt_cells::{Cell, Palette};
@@ -29,7 +31,7 @@ use vt_units::{Mode, Unit};
 /// A screen, and what each unit does to it.
 #[derive(Debug, Drop)]
 pub struct Canvas {
-    grid: Grid,
+    grid: Board,
     state: ScreenState,
     // The attribute byte of what the pen prints.
     attr: u8,
@@ -43,9 +45,9 @@ impl Model for Canvas {
 
     ghost Value = { Screen };
 
-    ghost view = { λ c. record { sheet = c.grid; state = c.state } };
+    ghost view = { λ c. record { grid = c.grid; state = c.state } };
 
-    ghost invariant = { λ c. IsKept (record { sheet = c.grid; state = c.state }) c.attr c.erase };
+    ghost invariant = { λ c. IsKept (record { grid = c.grid; state = c.state }) c.attr c.erase };
 }
 
 impl Canvas {
@@ -54,8 +56,7 @@ impl Canvas {
     pub fn new(grid: Grid) -> Canvas
         ensures { result ≡ start_screen grid.rows grid.cols }
     {
-        let mut grid = grid;
-        fill(&mut grid, BLANK);
+        let grid = Board::filled(grid, BLANK);
         let state = ScreenState::start(grid.size().rows);
         Canvas {
             grid,
@@ -67,10 +68,10 @@ impl Canvas {
 
     /// The cells.
     pub fn grid(&self) -> &Grid
-        ensures cells { result.now ≡ self.now.sheet }
+        ensures cells { result.now ≡ self.now.grid }
         ensures whole { IsWhole self.now }
     {
-        &self.grid
+        self.grid.grid()
     }
 
     /// The state beside the cells.
@@ -101,7 +102,7 @@ impl Canvas {
     /// The palette.
     pub fn palette_mut(&mut self) -> &mut Palette
         ensures* lends { sem 𝓛
-            (Lends the_row palette_row self.entry result (λ w. marked (palette w) self.old)) }
+            (Lends the_row palette_row self.entry result (λ w. changed (palette w) self.old)) }
         ensures value { result.now ≡ self.old.state.palette }
     {
         &mut self.state.palette
@@ -116,7 +117,7 @@ impl Canvas {
     {
         match unit {
             Unit::Char(code) => self.print(*code),
-            Unit::Byte(b) => self.print(self.shown(*b)),
+            Unit::Byte(b) => self.print_cells(1, self.shown(*b)),
             Unit::Control(code) => outs.say(Out::bell(self.control(*code))),
             Unit::Esc { mid, last } => self.escape(*mid, *last, outs),
             Unit::Csi {
@@ -132,19 +133,12 @@ impl Canvas {
 
     // What an empty place holds.
     fn blank(&self) -> Cell
-        ensures { result ≡ blank_of self.now }
+        ensures blank { result ≡ blank_of self.now }
+        ensures one { is_half result ≡ false }
     {
         Cell {
             code: 0x20,
             attr: self.erase,
         }
     }
-}
-
-// Makes every cell of the grid this one.
-fn fill(grid: &mut Grid, cell: Cell)
-    ensures { grid.new ≡ filled grid.old.rows grid.old.cols cell }
-{
-    let size = grid.size();
-    grid.scroll_up(0, size.rows - 1, u16::from(size.rows), cell);
 }

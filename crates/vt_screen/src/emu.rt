@@ -1,17 +1,18 @@
-ghost use Rattle.std.specs.Prelude.{All, ◌≡◌, ◌<◌, ◌≤◌, ◌+◌, [], List, length, take};
+ghost use Rattle.std.specs.Prelude.{◌≡◌, ◌<◌, ◌≤◌, ◌+◌, [], List, length, take};
 ghost use Rattle.vt_screen.specs.Run.{after, drawing, having_said, said, start};
 ghost use Rattle.vt_screen.specs.Screen.{IsWhole};
 ghost use Rattle.std.specs.Borrow.{Lends, sem};
 ghost use Rattle.vt_cells.specs.contracts.palette.Palette.{the_row as palette_row};
 ghost use Rattle.vt_screen.specs.contracts.emu.Emu.{the_row};
-ghost use Rattle.vt_screen.specs.Tape.{palette, resize, user_map, with_mark};
+ghost use Rattle.vt_screen.specs.Tape.{palette, resize, user_map, with_change};
 ghost use Rattle.vt_screen.specs.declared.out.Out.{Out};
 ghost use Rattle.vt_units.specs.Run.{run, step};
 
 use crate::canvas::Canvas;
+use crate::leading::line_feeds;
 use crate::{Out, Outs, ScreenState};
 use std::marker::Model;
-use vt_cells::{Cell, Palette};
+use vt_cells::{Cell, Palette, columns_are_few};
 use vt_grid::Grid;
 use vt_units::{
     Ahead, Codes, MOST_CODES, Params, Pending, Then, controls_are_units, printables_are_characters,
@@ -86,7 +87,7 @@ impl Emu {
 
     /// The cells of the screen.
     pub fn grid(&self) -> &Grid
-        ensures cells { result.now ≡ self.now.state.sheet }
+        ensures cells { result.now ≡ self.now.state.grid }
         ensures whole { IsWhole self.now.state }
     {
         self.canvas.grid()
@@ -102,7 +103,7 @@ impl Emu {
 
     /// Replaces the user's table: a code point for each byte. The text that is pending stays.
     pub fn set_user(&mut self, words: &[u16; 256])
-        ensures { self.new ≡ with_mark (user_map words.now) self.old }
+        ensures { self.new ≡ with_change (user_map words.now) self.old }
     {
         self.canvas.set_user(words);
     }
@@ -110,7 +111,7 @@ impl Emu {
     /// The palette. The text that is pending stays.
     pub fn palette_mut(&mut self) -> &mut Palette
         ensures* lends { sem 𝓛
-            (Lends the_row palette_row self.entry result (λ w. with_mark (palette w) self.old)) }
+            (Lends the_row palette_row self.entry result (λ w. with_change (palette w) self.old)) }
         ensures value { result.now ≡ self.old.state.state.palette }
     {
         self.canvas.palette_mut()
@@ -120,8 +121,8 @@ impl Emu {
     /// stays on the screen, if need be at the cost of those at the top. The text that is pending
     /// stays. The answer is the old grid.
     pub fn resize(&mut self, fresh: Grid) -> Grid
-        ensures screen { self.new ≡ with_mark (resize fresh.rows fresh.cols) self.old }
-        ensures old { result ≡ self.old.state.sheet }
+        ensures screen { self.new ≡ with_change (resize fresh.rows fresh.cols) self.old }
+        ensures old { result ≡ self.old.state.grid }
     {
         self.canvas.resize(fresh)
     }
@@ -322,8 +323,7 @@ impl Emu {
         count
     }
 
-    // Prints characters at the front of the text that end before the last column, and tells how many
-    // bytes they are.
+    // Prints characters at the front of the text, and tells how many bytes they are.
     #[inline(always)]
     fn print_front(&mut self, b: &[u8]) -> usize
         requires { 0 < length b.now }
@@ -340,8 +340,7 @@ impl Emu {
         }
     }
 
-    // Prints the whole characters at the front of the text that end before the last column, and tells
-    // how many bytes they are.
+    // Prints whole characters at the front of the text, and tells how many bytes they are.
     #[inline(never)]
     fn print_characters(&mut self, b: &[u8]) -> usize
         ensures within { result ≤ length b.now }
@@ -349,18 +348,17 @@ impl Emu {
             ≡ having_said outs self.new }
     {
         printables_are_characters();
-        let most = self.canvas.room().min(MOST_CODES);
         let mut codes = Codes::new();
         let count = self
             .pending
-            .take_characters(self.canvas.mode(), b, most, &mut codes);
+            .take_characters(self.canvas.mode(), b, MOST_CODES, &mut codes);
         if count > 0 {
             self.canvas.print_codes(codes.as_slice());
         }
         count
     }
 
-    // Prints the printable bytes at the front of the text that end before the last column, and
+    // Prints the printable bytes at the front of the text that end in the cursor's row, or one, and
     // tells how many they are.
     #[inline(always)]
     fn print_run(&mut self, b: &[u8]) -> usize
@@ -369,23 +367,28 @@ impl Emu {
             ≡ having_said outs self.new }
     {
         printables_are_characters();
-        let front = &b[..b.len().min(self.canvas.room())];
+        columns_are_few();
+        let room = self.canvas.room();
+        if room == 0 {
+            return self.print_one(b);
+        }
+        let front = &b[..b.len().min(room)];
         let count = self.pending.take_printable(self.canvas.mode(), front);
         self.canvas.print_bytes(&front[..count]);
         count
     }
-}
 
-// How many of the first bytes are line feeds, up to the greatest number of 16 bits.
-fn line_feeds(b: &[u8]) -> usize
-    ensures feeds { All (λ x. x ≡ 0x0A) (take result b.now) }
-    ensures within { result ≤ length b.now }
-    ensures bound { result ≤ 0xFFFF }
-{
-    let most = b.len().min(0xFFFF);
-    let mut count = 0;
-    while count < most && b[count] == b'\n' {
-        count += 1;
+    // Prints the first byte, where it is printable.
+    #[inline(never)]
+    fn print_one(&mut self, b: &[u8]) -> usize
+        ensures within { result ≤ length b.now }
+        ensures run { (outs : List Out) → run drawing (take result b.now) (having_said outs self.old)
+            ≡ having_said outs self.new }
+    {
+        printables_are_characters();
+        let front = &b[..b.len().min(1)];
+        let count = self.pending.take_printable(self.canvas.mode(), front);
+        self.canvas.print_first(&front[..count]);
+        count
     }
-    count
 }

@@ -1,8 +1,11 @@
 //! The laws of a run, which hold of every screen and every text.
+ghost use Rattle.vt_screen.specs.Halves.{TapesKeepHalves};
 ghost use Rattle.vt_screen.specs.Run.{AnyCut, PiecesAct, PiecesResume};
 ghost use Rattle.vt_screen.specs.Tape.{AnyTapeCut, StretchesRun};
 
 use vt_chars::unfinished_begins;
+use vt_grid::laws::edits_keep_halves;
+use vt_units::texts_spell_characters;
 
 /// However a text is cut into parts, running the parts in turn is running the whole.
 pub fn any_cut()
@@ -23,3 +26,12 @@ pub fn tapes_run()
     ensures stretches { StretchesRun }
     ensures cuts { AnyTapeCut }
 {}
+
+/// In every screen that bytes and changes make of a start, no right half of a character stands in
+/// column 0 or right of another.
+pub fn tapes_keep_halves()
+    ensures { TapesKeepHalves }
+{
+    edits_keep_halves();
+    texts_spell_characters();
+}

@@ -1,9 +1,12 @@
 //! The escape machine: it reads text byte by byte and keeps the screen that the text makes.
 #![tactic(auto)]
 
+mod board;
 mod canvas;
+pub mod cursor_laws;
 mod emu;
 mod laws;
+mod leading;
 mod out;
 mod outs;
 mod report_text;
@@ -13,7 +16,7 @@ mod stops;
 mod write;
 
 pub use emu::{BLANK, Emu, FEED_BYTES};
-pub use laws::{any_cut, pieces_draw, tapes_run};
+pub use laws::{any_cut, pieces_draw, tapes_keep_halves, tapes_run};
 pub use out::Out;
 pub use outs::Outs;
 pub use report_text::ReportText;

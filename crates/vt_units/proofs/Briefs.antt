@@ -46,7 +46,7 @@ plain-two text m j goes within order parts = by (get_or text 2 0 == 0x3F) refl
         ap (λ (k : ℕ). get_or text k 0 == 0x3F) (sym still) ∙ ap (λ (b : ℕ). b == 0x3F) parts
 
 pub goes_none : (text : List ℕ) (n i : ℕ) → Goes text n i n i
-goes_none text n i = record { numbers = refl; count = refl; rest = refl }
+goes_none text n i = record { numbers = refl; count = refl; rest = refl; digits = refl; left = refl }
 
 -- a digit more
 pub goes_on : (text : List ℕ) (n i m j more : ℕ) → Goes text n i m j → j < length text
@@ -56,6 +56,7 @@ goes_on text n i m j more before within digit is =
     let left : List ℕ = front is_parameter (drop (j + 1) text) in
     let one = front-goes is_parameter text j within (or_left _ _ digit) in
     let other : (b == 0x3B) ≡ false = grind (arith, nat_tests, digit) in
+    let next = front-goes is_digit text j within digit in
     record {
       numbers =
           before.numbers
@@ -64,6 +65,8 @@ goes_on text n i m j more before within digit is =
           ∙ ap (λ (k : ℕ). continued k left) (sym is);
       count = omega (arith, before.count, ap (λ (bytes : List ℕ). length bytes) one.0);
       rest = before.rest ∙ one.1;
+      digits = omega (arith, before.digits, ap (λ (bytes : List ℕ). length bytes) next.0);
+      left = before.left ∙ next.1;
     }
 
 last-stops : (b : ℕ) → ends_control b ≡ true → is_parameter b ≡ false

@@ -1,5 +1,6 @@
 mod Fields
 mod Fronts
+mod BriefForms
 mod Briefs
 mod Numbered
 mod Comes
@@ -25,3 +26,4 @@ mod Commons
 mod Bodies
 mod Empties
 pub mod Wholes
+mod Prints

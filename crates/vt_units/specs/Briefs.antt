@@ -1,6 +1,7 @@
 -- Control sequences of one or two short parameters, and how their numbers are read.
 use Rattle.std.specs.Prelude.{◌≡◌, ℕ, Bool, false, ◌+◌, ◌≤◌, List, [], ◌∷◌, length, drop, slice_index, if◌then◌else◌}
 use Rattle.vt_units.specs.Ahead.{Sequence}
+use Rattle.vt_units.specs.Bytes.{is_digit}
 use Rattle.vt_units.specs.Numbers.{continued}
 use Rattle.vt_units.specs.Reading.{behind, front}
 use Rattle.vt_units.specs.Sequences.{is_parameter}
@@ -18,9 +19,9 @@ sequence_in b = record {
   count = b.count;
 }
 
--- the text begins with ESC [, and goes on. No public clause names this
+-- the text begins with ESC [, and has ten bytes. No public clause names this
 pub record Begun (text : List ℕ) : Type 0 where
-  pub long : 3 ≤ length text
+  pub long : 10 ≤ length text
   pub escape : slice_index text 0 ≡ 0x1B
   pub bracket : slice_index text 1 ≡ 0x5B
 
@@ -30,3 +31,5 @@ pub record Goes (text : List ℕ) (n i m j : ℕ) : Type 0 where
   pub numbers : continued n (front is_parameter (drop i text)) ≡ continued m (front is_parameter (drop j text))
   pub count : length (front is_parameter (drop i text)) + i ≡ length (front is_parameter (drop j text)) + j
   pub rest : behind is_parameter (drop i text) ≡ behind is_parameter (drop j text)
+  pub digits : length (front is_digit (drop i text)) + i ≡ length (front is_digit (drop j text)) + j
+  pub left : behind is_digit (drop i text) ≡ behind is_digit (drop j text)

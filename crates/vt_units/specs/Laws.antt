@@ -1,5 +1,5 @@
 -- The laws of runs. Each is of the definitions alone.
-use Rattle.std.specs.Prelude.{◌≡◌, ◌⊎◌, ◌↔◌, ◌≤◌, ℕ, true, false, ◌==◌, List, [], ◌∷◌, ◌++◌, length, take, Some}
+use Rattle.std.specs.Prelude.{◌≡◌, ◌⊎◌, ◌↔◌, ◌<◌, ◌≤◌, ℕ, true, false, ◌==◌, List, [], ◌∷◌, ◌++◌, length, take, Some}
 use Rattle.vt_units.specs.Ahead.{Sequence, taken_ahead}
 use Rattle.vt_units.specs.Answer.{answer, rest_after, settled}
 use Rattle.vt_units.specs.Bytes.{decodes, interrupts, is_control, is_printable}
@@ -18,8 +18,8 @@ pub data Event : Type 0 where
   did : units.Unit → Event
 
 -- the list of events, with any modes: what each other state is made from
-abbrev pub told : (List Event → Mode) → Effects (List Event)
-told mode_of = record {
+abbrev pub gathering : (List Event → Mode) → Effects (List Event)
+gathering mode_of = record {
   mode_of = mode_of;
   on_control = λ c events. events ++ act c ∷ [];
   on_unit = λ u events. events ++ did u ∷ [];
@@ -29,14 +29,14 @@ told mode_of = record {
 abbrev pub OneResult : Type 0
 OneResult =
     (mode_of : List Event → Mode) (at : Reached (List Event)) (bytes : List ℕ)
-    → (after : Reached (List Event)) × Runs (told mode_of) at bytes after
-    × ((other : Reached (List Event)) → Runs (told mode_of) at bytes other → other ≡ after)
+    → (after : Reached (List Event)) × Runs (gathering mode_of) at bytes after
+    × ((other : Reached (List Event)) → Runs (gathering mode_of) at bytes other → other ≡ after)
 
 -- any cut: bytes run as a whole are run in two parts, wherever they are cut
 abbrev pub AnyCut : Type 0
 AnyCut =
     (mode_of : List Event → Mode) (at : Reached (List Event)) (a b : List ℕ)
-    → run (told mode_of) (a ++ b) at ≡ run (told mode_of) b (run (told mode_of) a at)
+    → run (gathering mode_of) (a ++ b) at ≡ run (gathering mode_of) b (run (gathering mode_of) a at)
 
 -- the bytes of a piece have the effects of the control characters in it, in order, and then that of
 -- its unit, whichever modes these give the bytes behind the first
@@ -44,8 +44,8 @@ abbrev pub PiecesAct : Type 0
 PiecesAct =
     (mode_of : List Event → Mode) (events : List Event) (rest : Rest) (bytes : List ℕ) → rest.text ≡ []
     → let m = mode_of events in
-    HasEffect (told mode_of) (reading m (text_of m [] bytes)) (controls_of m [] bytes)
-    (run (told mode_of) bytes (reached events rest)) events
+    HasEffect (gathering mode_of) (reading m (text_of m [] bytes)) (controls_of m [] bytes)
+    (run (gathering mode_of) bytes (reached events rest)) events
 
 -- the answers and the rests are alike
 abbrev pub AreAlike : Rest → Rest → Mode → ℕ → Type 0
@@ -77,8 +77,8 @@ abbrev pub PiecesResume : Type 0
 PiecesResume =
     (mode_of : List Event → Mode) (events : List Event) (rest : Rest) (bytes : List ℕ)
     → IsUnfinished rest.mode rest.text
-    → HasEffect (told mode_of) (reading rest.mode (text_of rest.mode rest.text bytes))
-    (controls_of rest.mode rest.text bytes) (run (told mode_of) bytes (reached events rest)) events
+    → HasEffect (gathering mode_of) (reading rest.mode (text_of rest.mode rest.text bytes))
+    (controls_of rest.mode rest.text bytes) (run (gathering mode_of) bytes (reached events rest)) events
 
 -- a byte drops a sequence exactly where the text that it stands behind, with it, is a dropped one
 abbrev pub DropsExactly : Type 0
@@ -122,3 +122,17 @@ abbrev pub SequencesAreUnits : Type 0
 SequencesAreUnits =
     (old : Rest) (m : Mode) (text : List ℕ) (s : Sequence) → taken_ahead old text ≡ Some s
     → IsUnitOf m old text s
+
+-- what a unit prints, where byte b ends its text: a character by its code point, or that byte
+abbrev pub PrintsOnly : ℕ → units.Unit → Type 0
+PrintsOnly b (units.Unit.Char code) = code < 0x110000
+PrintsOnly b (units.Unit.Byte byte) = byte ≡ b
+PrintsOnly b u = Unit {0}
+
+abbrev pub ThenPrints : ℕ → then.Then → Type 0
+ThenPrints b (then.Then.Unit u) = PrintsOnly b u
+ThenPrints b t = Unit {0}
+
+-- what a byte comes to prints a code point, or the byte itself
+abbrev pub TextsSpellCharacters : Type 0
+TextsSpellCharacters = (old : Rest) (m : Mode) (b : ℕ) → ThenPrints b (answer old m b).got

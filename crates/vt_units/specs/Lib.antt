@@ -1,5 +1,6 @@
 pub mod Ahead
 pub mod Answer
+pub mod BriefForms
 pub mod Briefs
 pub mod Bytes
 pub mod Characters

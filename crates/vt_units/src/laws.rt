@@ -1,5 +1,5 @@
 //! Laws of the definitions: nothing of the reader is in them.
-ghost use Rattle.vt_units.specs.Laws.{AnyCut, CharactersEnd, ControlsAreUnits, DropsExactly, OneResult, PiecesAct, PiecesResume, PrintablesAreCharacters, SequencesAreUnits, SequencesEnd, StringsEnd};
+ghost use Rattle.vt_units.specs.Laws.{AnyCut, CharactersEnd, ControlsAreUnits, DropsExactly, OneResult, PiecesAct, PiecesResume, PrintablesAreCharacters, SequencesAreUnits, SequencesEnd, StringsEnd, TextsSpellCharacters};
 ghost use Rattle.vt_units.specs.Units.{UnfinishedIsBefore};
 
 use vt_chars::unfinished_begins;
@@ -54,4 +54,9 @@ pub fn controls_are_units()
 /// What [`crate::Pending::take_sequence`] reads is the text of a unit, and comes to it byte by byte.
 pub fn sequences_are_units()
     ensures { SequencesAreUnits }
+{}
+
+/// What a byte comes to prints a code point, or the byte itself.
+pub fn texts_spell_characters()
+    ensures { TextsSpellCharacters }
 {}

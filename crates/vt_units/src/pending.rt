@@ -2,6 +2,7 @@ ghost use Rattle.std.specs.Prelude.{◌≡◌, false, ◌==◌, ◌≤◌, ◌<�
 ghost use Rattle.std.specs.List.{prefix_len};
 ghost use Rattle.vt_units.specs.Ahead.{parameters_ahead, rest_ahead, sequence_of, taken_ahead};
 ghost use Rattle.vt_units.specs.Answer.{answer, rest_after, settled, took};
+ghost use Rattle.vt_units.specs.BriefForms.{brief_stands, escape_stands};
 ghost use Rattle.vt_units.specs.Briefs.{sequence_in};
 ghost use Rattle.vt_units.specs.Bytes.{decodes, interrupts, is_control, is_printable};
 ghost use Rattle.vt_units.specs.Characters.{AreTextsOf, NoneBegins};
@@ -156,12 +157,14 @@ impl Pending {
     }
 
     /// Reads what [`Pending::take_sequence`] reads, where it is a control sequence of one or two
-    /// short parameters, which no `?` begins. Where there is no answer nothing is known: that call
-    /// says what is there.
+    /// short parameters, which no `?` begins. Where there is no answer, that call says what is
+    /// there.
     #[inline(always)]
     pub fn take_brief(&mut self, mode: Mode, b: &[u8]) -> Option<Brief>
         ensures sequence { IfSome result (λ brief. taken_ahead self.old b.now ≡ Some (sequence_in brief)) }
         ensures within { IfSome result (λ brief. brief.count ≤ length b.now) }
+        ensures exact { MatchOption result (brief_stands self.old b.now ≡ false)
+            (λ _. brief_stands self.old b.now ≡ true) }
         ensures rest { MatchOption result (self.new ≡ self.old) (λ _. self.new ≡ fresh mode) }
     {
         let begins = self.is_empty();
@@ -174,12 +177,14 @@ impl Pending {
     }
 
     /// Reads what [`Pending::take_sequence`] reads, where it is an escape sequence of two bytes, and
-    /// gives its last byte. Where there is no answer nothing is known.
+    /// gives its last byte, where that is one from `0` to `O`.
     #[inline(always)]
     pub fn take_escape(&mut self, mode: Mode, b: &[u8]) -> Option<u8>
         ensures sequence { IfSome result (λ last. taken_ahead self.old b.now
             ≡ Some (record { unit = Esc 0 last; count = 2 })) }
         ensures within { IfSome result (λ _. 2 ≤ length b.now) }
+        ensures exact { MatchOption result (escape_stands self.old b.now ≡ false)
+            (λ _. escape_stands self.old b.now ≡ true) }
         ensures rest { MatchOption result (self.new ≡ self.old) (λ _. self.new ≡ fresh mode) }
     {
         let starts = self.is_empty();

@@ -1,8 +1,9 @@
-ghost use Rattle.std.specs.Prelude.{◌≡◌, ◌+◌, ◌-◌, ◌<◌, ◌≤◌, [], ◌∷◌, ◌++◌, length, map, replicate, take, IfOk};
-ghost use Rattle.vt_grid.specs.Line.{blank_line, cell_at, cut_at, inserted_at, reached, removed_at, written};
+ghost use Rattle.std.specs.Prelude.{◌≡◌, ◌+◌, ◌-◌, ◌<◌, ◌≤◌, [], ◌∷◌, ◌++◌, drop, length, map, replicate, take, IfOk};
+ghost use Rattle.vt_grid.specs.Line.{blank_line, cell_at, cells_of, covered, cut_at, inserted_at, reached, removed_at, written};
 
 use crate::code::Code;
 use crate::kept::Kept;
+use crate::row_cells::RowCells;
 use std::alloc::Global;
 use std::marker::Model;
 use vt_base::NoMemory;
@@ -161,6 +162,72 @@ impl Row {
         self.len = (room - usize::from(count)) as u8;
         self.rest = tail;
     }
+
+    /// Becomes the row `from`, of which at most the first `count` cells are stored.
+    pub fn copy(&mut self, from: &Row, count: u8)
+        requires { count ≤ self.old.room }
+        ensures { self.new ≡ record self.old { line = cut_at count from.now.line.rest from.now.line } }
+    {
+        let stored = from.len.min(count);
+        copy_front(&mut self.cells, first(&from.cells, stored));
+        self.len = stored;
+        self.rest = from.rest;
+    }
+
+    /// Takes the first `count` cells of the row `from`.
+    pub fn cover(&mut self, from: &Row, count: u8)
+        requires { count ≤ self.old.room }
+        ensures { self.new ≡ record self.old { line = covered count from.now.line self.old.line } }
+    {
+        let stored = self.len;
+        let front = from.len.min(count);
+        cover_front(&mut self.cells, count, first(&from.cells, front), from.rest);
+        if stored < count {
+            self.len = count;
+        }
+    }
+
+    /// All cells, from left to right.
+    pub fn cells(&self) -> RowCells<'_>
+        ensures { result ≡ cells_of self.now.room self.now.line }
+    {
+        let past = self.cells.len() - usize::from(self.len);
+        RowCells::new(first(&self.cells, self.len), self.rest, past as u8)
+    }
+}
+
+fn first(cells: &[Kept], count: u8) -> &[Kept]
+    requires { count ≤ length cells.now }
+    ensures { result.now ≡ take count cells.now }
+{
+    &cells[..usize::from(count)]
+}
+
+fn copy_front(cells: &mut [Kept], front: &[Kept])
+    requires { length front.now ≤ length cells.old }
+    ensures { cells.new ≡ front.now ++ drop (length front.now) cells.old }
+{
+    cells[..front.len()].copy_from_slice(front);
+}
+
+// Writes the cells of `front`, and `rest` from there on up to place `end`.
+fn cover_front(cells: &mut [Kept], end: u8, front: &[Kept], rest: Kept)
+    requires front { length front.now ≤ end }
+    requires end { end ≤ length cells.old }
+    ensures { cells.new
+        ≡ (front.now ++ replicate (end - length front.now) rest) ++ drop end cells.old }
+{
+    cover_all(&mut cells[..usize::from(end)], front, rest);
+}
+
+// Writes the cells of `front`, and `rest` from there on.
+fn cover_all(cells: &mut [Kept], front: &[Kept], rest: Kept)
+    requires { length front.now ≤ length cells.old }
+    ensures { cells.new ≡ front.now ++ replicate (length cells.old - length front.now) rest }
+{
+    let count = front.len();
+    cells[..count].copy_from_slice(front);
+    cells[count..].fill(rest);
 }
 
 fn fill_all(cells: &mut [Kept], count: u8, c: Kept)

@@ -1,5 +1,5 @@
 ghost use Rattle.std.specs.Prelude.{◌≡◌, ◌+◌, ◌-◌, ◌<◌, ◌≤◌, [], ◌∷◌, ℕ, drop, length, map, replicate, slice_index, take, IfOk};
-ghost use Rattle.vt_grid.specs.Line.{blank_line, cell_at, cut_at, inserted_at, reached, removed_at, written};
+ghost use Rattle.vt_grid.specs.Line.{blank_line, cell_at, cells_of, covered, cut_at, inserted_at, reached, removed_at, written};
 ghost use Rattle.vt_grid.specs.Ring.{cut_all};
 ghost use Rattle.vt_grid.specs.Store.{IsFit, blank_store, cleared, line_at, part_turned, turned, with_line};
 
@@ -7,6 +7,7 @@ use super::Steps;
 use super::ring::Ring;
 use super::row::Row;
 use crate::code::Code;
+use crate::row_cells::RowCells;
 use std::alloc::Global;
 use std::marker::Model;
 use std::sync::ledger::Ledger;
@@ -263,6 +264,67 @@ impl RowStore {
         row.reach(cols);
         row.remove(x, count, c);
         steps.add(u64::from(cols - stored) + u64::from(cols - x));
+    }
+
+    // Row `y` becomes the old row `from`. As many steps as columns.
+    pub(crate) fn copy_row<L: Ledger>(
+        &mut self,
+        y: u8,
+        old: &RowStore,
+        from: u8,
+        steps: &mut Steps<L>,
+    )
+        requires row { y < self.old.rows }
+        requires from { from < old.now.rows }
+        ensures rows { self.new
+            ≡ with_line self.old y
+            (cut_at self.old.cols (line_at old.now from).rest (line_at old.now from)) }
+        ensures steps { steps.new ≡ steps.old + self.old.cols }
+    {
+        let cols = self.size.cols;
+        let number = self.ring.at(y);
+        let row = &mut self.rows[usize::from(number)];
+        row.copy(old.row(from), cols);
+        steps.add(u64::from(cols));
+    }
+
+    // The first `count` cells of row `y` become those of the old row `from`. As many steps as these.
+    pub(crate) fn cover_row<L: Ledger>(
+        &mut self,
+        y: u8,
+        old: &RowStore,
+        from: u8,
+        count: u8,
+        steps: &mut Steps<L>,
+    )
+        requires row { y < self.old.rows }
+        requires columns { count ≤ self.old.cols }
+        requires from { from < old.now.rows }
+        ensures rows { self.new
+            ≡ with_line self.old y (covered count (line_at old.now from) (line_at self.old y)) }
+        ensures steps { steps.new ≡ steps.old + count }
+    {
+        let number = self.ring.at(y);
+        let row = &mut self.rows[usize::from(number)];
+        row.cover(old.row(from), count);
+        steps.add(u64::from(count));
+    }
+
+    /// The cells of row `y`, from left to right.
+    pub fn cells(&self, y: u8) -> RowCells<'_>
+        requires { y < self.now.rows }
+        ensures { result ≡ cells_of self.now.cols (line_at self.now y) }
+    {
+        self.row(y).cells()
+    }
+
+    fn row(&self, y: u8) -> &Row
+        requires { y < self.now.rows }
+        ensures line { result.now.line ≡ line_at self.now y }
+        ensures room { result.now.room ≡ self.now.cols }
+    {
+        let number = self.ring.at(y);
+        &self.rows[usize::from(number)]
     }
 }
 

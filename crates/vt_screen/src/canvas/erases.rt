@@ -1,7 +1,9 @@
 ghost use Rattle.std.specs.Prelude.{◌≡◌, ◌<◌, ◌≤◌, ◌+◌, ◌-◌};
-ghost use Rattle.vt_screen.specs.Erasing.{above_erased, all_erased, below_erased, delete_characters, delete_lines, erase_characters, erase_display, erase_line, in_region, insert_characters, insert_lines, line_end_erased, line_erased, line_start_erased, rows_erased, unwrapped};
+ghost use Rattle.vt_screen.specs.Erasing.{above_erased, all_erased, below_erased, cells_deleted, cells_inserted, delete_characters, delete_lines, erase_characters, erase_display, erase_line, in_region, insert_characters, insert_lines, line_end_erased, line_erased, line_start_erased, rows_erased, unwrapped, with_grid};
+ghost use Rattle.vt_grid.specs.Halves.{parted_between};
 
 use super::Canvas;
+use vt_grid::laws::ends_are_whole;
 
 impl Canvas {
     /// ED: erases in the display.
@@ -67,10 +69,8 @@ impl Canvas {
     pub(super) fn insert_characters(&mut self, n: u16)
         ensures { self.new ≡ insert_characters n self.old }
     {
-        let blank = self.blank();
-        self.state.wrap = false;
-        self.grid.insert(self.state.y, self.state.x, n, blank);
-        let _ = self.grid.size();
+        self.insert_cells(n);
+        self.unwrap();
     }
 
     /// DCH: takes `n` cells out at the cursor.
@@ -78,10 +78,8 @@ impl Canvas {
     pub(super) fn delete_characters(&mut self, n: u16)
         ensures { self.new ≡ delete_characters n self.old }
     {
-        let blank = self.blank();
-        self.state.wrap = false;
-        self.grid.delete(self.state.y, self.state.x, n, blank);
-        let _ = self.grid.size();
+        self.delete_cells(n);
+        self.unwrap();
     }
 
     /// IL: puts `n` blank rows in at the cursor's one.
@@ -140,7 +138,7 @@ impl Canvas {
     }
 
     fn erase_whole_line(&mut self)
-        ensures { self.new ≡ line_erased 0 (self.old.sheet.cols - 1) self.old }
+        ensures { self.new ≡ line_erased 0 (self.old.grid.cols - 1) self.old }
     {
         let last = self.grid.size().cols - 1;
         self.erase_cells(0, last);
@@ -171,18 +169,69 @@ impl Canvas {
     // Erases the cells from column `from` to `to` of the cursor's row, both included.
     fn erase_cells(&mut self, from: u8, to: u8)
         requires order { from ≤ to }
-        requires column { to < self.old.sheet.cols }
+        requires column { to < self.old.grid.cols }
         ensures { self.new ≡ line_erased from to self.old }
     {
+        let _whole = self.grid.size();
         let blank = self.blank();
+        self.part(from, to + 1);
         self.grid.erase(self.state.y, from, to, blank);
+        let _ = self.grid.size();
+    }
+
+    /// Puts `n` blanks in at the cursor.
+    pub(super) fn insert_cells(&mut self, n: u16)
+        ensures { self.new ≡ cells_inserted n self.old }
+    {
+        let blank = self.blank();
+        let cols = self.grid.size().cols;
+        let count = n.min(u16::from(cols - self.state.x)) as u8;
+        self.part(self.state.x, cols - count);
+        self.grid.insert(self.state.y, self.state.x, n, blank);
+        let _ = self.grid.size();
+    }
+
+    // Takes `n` cells out at the cursor.
+    fn delete_cells(&mut self, n: u16)
+        ensures { self.new ≡ cells_deleted n self.old }
+    {
+        let blank = self.blank();
+        self.part_ends(n);
+        self.grid.delete(self.state.y, self.state.x, n, blank);
+        let _ = self.grid.size();
+    }
+
+    // Parts the cursor's row before the cursor, and then `n` columns on, where the row goes so far.
+    fn part_ends(&mut self, n: u16)
+        ensures { self.new
+            ≡ with_grid self.old
+            (parted_between self.old.grid self.old.state.y self.old.state.x (self.old.state.x + n)) }
+    {
+        ends_are_whole();
+        self.grid.part(self.state.y, self.state.x);
+        let end = u32::from(self.state.x) + u32::from(n);
+        if end < u32::from(self.grid.size().cols) {
+            self.grid.part(self.state.y, end as u8);
+            let _ = self.grid.size();
+        }
+    }
+
+    // Parts the cursor's row before column `x`, and then before column `end`.
+    fn part(&mut self, x: u8, end: u8)
+        requires column { x ≤ self.old.grid.cols }
+        requires end { end ≤ self.old.grid.cols }
+        ensures { self.new
+            ≡ with_grid self.old (parted_between self.old.grid self.old.state.y x end) }
+    {
+        self.grid.part(self.state.y, x);
+        self.grid.part(self.state.y, end);
         let _ = self.grid.size();
     }
 
     // Erases `count` rows from `from` on.
     #[tactic(auto, unfolding(crate::specs::Erasing::rows_erased))]
     fn erase_rows(&mut self, from: u8, count: u8)
-        requires { from + count ≤ self.old.sheet.rows }
+        requires { from + count ≤ self.old.grid.rows }
         ensures { self.new ≡ rows_erased from count self.old }
     {
         let _whole = self.grid.size();

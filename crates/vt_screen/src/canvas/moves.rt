@@ -61,7 +61,7 @@ impl Canvas {
     // The column that a line feed leads to.
     fn line_start(&self) -> u8
         ensures column { result ≡ (if self.now.state.newline then 0 else self.now.state.x) }
-        ensures within { result < self.now.sheet.cols }
+        ensures within { result < self.now.grid.cols }
     {
         let _cols = self.grid.size().cols;
         if self.state.newline { 0 } else { self.state.x }
@@ -145,7 +145,7 @@ impl Canvas {
     // The first row that a move reaches.
     fn first_row(&self) -> u8
         ensures row { result ≡ first_row self.now }
-        ensures within { result < self.now.sheet.rows }
+        ensures within { result < self.now.grid.rows }
     {
         let _whole = self.grid.size();
         if self.state.origin { self.state.top } else { 0 }
@@ -155,7 +155,7 @@ impl Canvas {
     #[inline(always)]
     fn reached_row(&self, row: u32) -> u8
         ensures row { result ≡ max (first_row self.now) (min row (last_row self.now)) }
-        ensures within { result < self.now.sheet.rows }
+        ensures within { result < self.now.grid.rows }
     {
         let last = u32::from(self.grid.size().rows) - 1;
         if self.state.origin {

@@ -1,102 +1,240 @@
-ghost use Rattle.std.specs.Prelude.{◌≡◌, ◌<◌, ◌≤◌, ◌+◌, false, length};
-ghost use Rattle.vt_screen.specs.Printing.{opened, print, printed, put_here, room, shown, table_of, toggled, wrapped};
+ghost use Rattle.std.specs.List.{list_all};
+ghost use Rattle.std.specs.Prelude.{◌≡◌, ◌<◌, ◌≤◌, ◌+◌, ◌-◌, false, true, length, nat_lt, take, if◌then◌else◌};
+ghost use Rattle.vt_cells.specs.Width.{is_plain};
+ghost use Rattle.vt_screen.specs.Printing.{codes_drawn, opened, print, print_character, printed, put_here, room, set_down, shown, spread, table_of, toggled, wrapped};
+ghost use Rattle.vt_screen.specs.Screen.{IsWhole};
 
 use super::Canvas;
-use vt_cells::Cell;
-use vt_grid::laws::run_is_its_cells;
+use super::fronts::{plain_front, spread_front};
+use crate::ScreenState;
+use vt_cells::{HALF, columns, columns_are_few};
+use vt_grid::laws::stretches_join;
+use vt_units::{Codes, MOST_CODES};
+
+/// What stands for a character that a row has no columns for (Unicode, "REPLACEMENT CHARACTER").
+const REPLACEMENT: u32 = 0xFFFD;
 
 impl Canvas {
-    /// Prints a character, by its code point.
-    #[tactic(auto, unfolding(crate::specs::Printing::print))]
+    /// Prints a character in the columns that it takes.
     pub fn print(&mut self, code: u32)
-        ensures { self.new ≡ print code self.old }
+        ensures { self.new ≡ print_character code self.old }
     {
-        self.wrap();
-        self.open();
-        self.put(code);
+        self.print_cells(columns(code), code);
     }
 
-    /// How many characters fit before the last column, where no wrap is pending and insert mode is off.
+    /// Prints a character in so many columns.
+    #[tactic(auto, unfolding(crate::specs::Printing::print))]
+    pub fn print_cells(&mut self, width: u8, code: u32)
+        requires { width ≤ 2 }
+        ensures { self.new ≡ print width code self.old }
+    {
+        let cols = self.grid.size().cols;
+        if width == 0 {
+            return;
+        }
+        if width == 2 && cols == 1 {
+            self.set_down(1, REPLACEMENT);
+        } else {
+            self.set_down(width, code);
+        }
+    }
+
+    /// How many cells there are from the cursor to the end of its row, where no wrap is pending and
+    /// insert mode is off.
     pub fn room(&self) -> usize
         ensures room { result ≡ room self.now }
+        ensures whole { IsWhole self.now }
         ensures unwrapped { 0 < result → self.now.state.wrap ≡ false }
         ensures closed { 0 < result → self.now.state.insert ≡ false }
-        ensures fits { self.now.state.x + result < self.now.sheet.cols }
-        ensures small { self.now.state.x + result < 255 }
+        ensures fits { self.now.state.x + result ≤ self.now.grid.cols }
+        ensures small { result < 256 }
     {
-        let last = self.grid.size().cols - 1;
+        let cols = self.grid.size().cols;
         if self.state.wrap || self.state.insert {
             0
         } else {
-            usize::from(last - self.state.x)
+            usize::from(cols - self.state.x)
         }
     }
 
-    /// Prints characters, one for each byte, that end before the last column.
-    pub fn print_bytes(&mut self, bytes: &[u8])
-        requires { length bytes.now ≤ room self.old }
+    /// Prints the character of a byte, or none.
+    pub fn print_first(&mut self, bytes: &[u8])
+        requires { length bytes.now ≤ 1 }
         ensures { self.new ≡ printed bytes.now self.old }
     {
-        run_is_its_cells();
-        let _room = self.room();
-        if !bytes.is_empty() {
-            self.grid
-                .put_bytes(self.state.y, self.state.x, bytes, self.attr);
-            self.state.x += bytes.len() as u8;
+        if bytes.is_empty() {
+            return;
         }
+        self.print(u32::from(bytes[0]));
     }
 
-    /// Prints characters that end before the last column.
+    /// Prints characters of one column, one for each byte, that end in the cursor's row.
+    #[inline(always)]
+    pub fn print_bytes(&mut self, bytes: &[u8])
+        requires narrow { spread bytes.now ≡ bytes.now }
+        requires some { 0 < room self.old }
+        requires room { length bytes.now ≤ room self.old }
+        ensures { self.new ≡ printed bytes.now self.old }
+    {
+        stretches_join();
+        columns_are_few();
+        let _ = self.room();
+        if bytes.is_empty() {
+            return;
+        }
+        self.put_bytes(bytes);
+    }
+
+    /// Prints characters, one after another.
     pub fn print_codes(&mut self, codes: &[u32])
-        requires { length codes.now ≤ room self.old }
         ensures { self.new ≡ printed codes.now self.old }
     {
-        run_is_its_cells();
-        let _room = self.room();
-        if !codes.is_empty() {
-            self.grid
-                .put_codes(self.state.y, self.state.x, codes, self.attr);
-            self.state.x += codes.len() as u8;
+        let mut at = 0;
+        while at < codes.len() {
+            at += self.print_some(&codes[at..]);
         }
     }
 
-    // Does the wrap that is pending.
-    fn wrap(&mut self)
-        ensures { self.new ≡ wrapped self.old }
+    // Prints characters at the front, as many at once as end in the cursor's row, and tells how many.
+    fn print_some(&mut self, codes: &[u32]) -> usize
+        requires { 0 < length codes.now }
+        ensures some { 0 < result }
+        ensures within { result ≤ length codes.now }
+        ensures printed { self.new ≡ printed (take result codes.now) self.old }
     {
-        if self.state.wrap && self.state.autowrap {
+        let plain = self.print_plain(codes);
+        if plain > 0 {
+            return plain;
+        }
+        let some = self.print_spread(codes);
+        if some > 0 {
+            return some;
+        }
+        self.print(codes[0]);
+        1
+    }
+
+    // Prints the plain characters at the front that end in the cursor's row, and tells how many.
+    fn print_plain(&mut self, codes: &[u32]) -> usize
+        ensures within { result ≤ length codes.now }
+        ensures printed { self.new ≡ printed (take result codes.now) self.old }
+    {
+        stretches_join();
+        columns_are_few();
+        let front = &codes[..codes.len().min(self.room())];
+        let count = plain_front(front);
+        if count > 0 {
+            self.put_plain(&front[..count]);
+        }
+        count
+    }
+
+    // Prints the characters at the front that end in the cursor's row, and tells how many: none where
+    // they have no cell.
+    fn print_spread(&mut self, codes: &[u32]) -> usize
+        ensures within { result ≤ length codes.now }
+        ensures printed { self.new ≡ printed (take result codes.now) self.old }
+    {
+        stretches_join();
+        columns_are_few();
+        let mut cells = Codes::new();
+        let count = spread_front(codes, self.room().min(MOST_CODES), &mut cells);
+        if cells.len() == 0 {
+            return 0;
+        }
+        self.put_codes(cells.as_slice());
+        count
+    }
+
+    // Prints a character in so many columns, of which a row has as many.
+    fn set_down(&mut self, width: u8, code: u32)
+        requires some { 0 < width }
+        requires few { width ≤ 2 }
+        requires fits { width ≤ self.old.grid.cols }
+        ensures { self.new ≡ set_down width code self.old }
+    {
+        self.wrap(width);
+        self.open(width);
+        self.put(width, code);
+    }
+
+    // Goes to where a character of so many columns ends in the row, and does the wrap that is pending.
+    fn wrap(&mut self, width: u8)
+        requires { width ≤ self.old.grid.cols }
+        ensures wrapped { self.new ≡ wrapped width self.old }
+        ensures fits { self.new.state.x + width ≤ self.new.grid.cols }
+    {
+        let cols = self.grid.size().cols;
+        let lacks = cols - width < self.state.x;
+        if self.state.autowrap && (self.state.wrap || lacks) {
             self.carriage_return();
             self.linefeed();
+        } else if lacks {
+            self.state.x = cols - width;
+            self.state.wrap = false;
         }
     }
 
     // In insert mode, makes a place at the cursor.
-    fn open(&mut self)
-        ensures { self.new ≡ opened self.old }
+    fn open(&mut self, width: u8)
+        ensures { self.new ≡ opened width self.old }
     {
         if self.state.insert {
-            let blank = self.blank();
-            let _size = self.grid.size();
-            self.grid.insert(self.state.y, self.state.x, 1, blank);
+            self.insert_cells(u16::from(width));
         }
     }
 
-    // Puts the character at the cursor, and moves the cursor on.
-    fn put(&mut self, code: u32)
-        ensures { self.new ≡ put_here code self.old }
+    // Puts a character of so many columns at the cursor, and moves the cursor on.
+    fn put(&mut self, width: u8, code: u32)
+        requires few { width ≤ 2 }
+        requires fits { self.old.state.x + length (codes_drawn width code) ≤ self.old.grid.cols }
+        ensures { self.new ≡ put_here (codes_drawn width code) self.old }
     {
-        let last = self.grid.size().cols - 1;
-        let cell = Cell {
-            code,
-            attr: self.attr,
-        };
-        self.grid.put(self.state.y, self.state.x, cell);
-        if self.state.x < last {
-            self.state.x += 1;
-            self.state.wrap = false;
+        if width == 2 {
+            self.put_codes(&[code, HALF]);
         } else {
-            self.state.wrap = self.state.autowrap;
+            self.put_codes(&[code]);
         }
+    }
+
+    // Puts the cells of these codes at the cursor, and moves the cursor on.
+    fn put_codes(&mut self, codes: &[u32])
+        requires { self.old.state.x + length codes.now ≤ self.old.grid.cols }
+        ensures { self.new ≡ put_here codes.now self.old }
+    {
+        let cols = self.grid.size().cols;
+        self.grid
+            .draw_codes(self.state.y, self.state.x, codes, self.attr);
+        let _ = self.grid.size();
+        go_on(&mut self.state, codes.len(), cols);
+    }
+
+    // Puts the cells of these plain codes at the cursor, and moves the cursor on.
+    #[inline(always)]
+    fn put_plain(&mut self, codes: &[u32])
+        requires plain { list_all is_plain codes.now ≡ true }
+        requires fits { self.old.state.x + length codes.now ≤ self.old.grid.cols }
+        ensures { self.new ≡ put_here codes.now self.old }
+    {
+        let cols = self.grid.size().cols;
+        self.grid
+            .draw_plain(self.state.y, self.state.x, codes, self.attr);
+        let _ = self.grid.size();
+        go_on(&mut self.state, codes.len(), cols);
+    }
+
+    // Puts the cells of these bytes at the cursor, and moves the cursor on.
+    #[inline(always)]
+    fn put_bytes(&mut self, bytes: &[u8])
+        requires fits { self.old.state.x + length bytes.now ≤ self.old.grid.cols }
+        requires unwrapped { self.old.state.wrap ≡ false }
+        ensures { self.new ≡ put_here bytes.now self.old }
+    {
+        let cols = self.grid.size().cols;
+        self.grid
+            .draw_bytes(self.state.y, self.state.x, bytes, self.attr);
+        let _ = self.grid.size();
+        go_on_unwrapped(&mut self.state, bytes.len(), cols);
     }
 
     /// The character that a byte is shown as.
@@ -120,6 +258,49 @@ impl Canvas {
         } else {
             self.state.g1
         }
+    }
+}
+
+// Moves the cursor on over so many cells: where they end the row it is in the last column, and with
+// autowrap a wrap is pending.
+#[inline(always)]
+fn go_on(state: &mut ScreenState, count: usize, cols: u8)
+    requires some { 0 < cols }
+    requires fits { state.old.x + count ≤ cols }
+    ensures { state.new
+        ≡ record state.old {
+          x = if nat_lt (state.old.x + count) cols then state.old.x + count else cols - 1;
+          wrap = if nat_lt (state.old.x + count) cols then false else state.old.autowrap;
+        } }
+{
+    let end = usize::from(state.x) + count;
+    if end < usize::from(cols) {
+        state.x = end as u8;
+        state.wrap = false;
+    } else {
+        state.x = cols - 1;
+        state.wrap = state.autowrap;
+    }
+}
+
+// Does the same where no wrap is pending.
+#[inline(always)]
+fn go_on_unwrapped(state: &mut ScreenState, count: usize, cols: u8)
+    requires some { 0 < cols }
+    requires fits { state.old.x + count ≤ cols }
+    requires unwrapped { state.old.wrap ≡ false }
+    ensures { state.new
+        ≡ record state.old {
+          x = if nat_lt (state.old.x + count) cols then state.old.x + count else cols - 1;
+          wrap = if nat_lt (state.old.x + count) cols then false else state.old.autowrap;
+        } }
+{
+    let end = usize::from(state.x) + count;
+    if end < usize::from(cols) {
+        state.x = end as u8;
+    } else {
+        state.x = cols - 1;
+        state.wrap = state.autowrap;
     }
 }
 

@@ -1,7 +1,7 @@
 ghost use Rattle.std.specs.Prelude.{◌≡◌};
 ghost use Rattle.vt_screen.specs.Tape.{resized_to};
 
-use super::{Canvas, fill};
+use super::Canvas;
 use vt_grid::Grid;
 
 impl Canvas {
@@ -9,20 +9,18 @@ impl Canvas {
     #[tactic(auto, unfolding(crate::specs::Tape::resized_to))]
     pub fn resize(&mut self, fresh: Grid) -> Grid
         ensures screen { self.new ≡ resized_to fresh.rows fresh.cols self.old }
-        ensures old { result ≡ self.old.sheet }
+        ensures old { result ≡ self.old.grid }
     {
-        let mut fresh = fresh;
         let size = fresh.size();
         let _whole = self.grid.size();
         let blank = self.blank();
-        fill(&mut fresh, blank);
         let skip = (self.state.y + 1).saturating_sub(size.rows);
         self.state.y -= skip;
         self.state.x = self.state.x.min(size.cols - 1);
         self.state.wrap = false;
         self.state.top = 0;
         self.state.bottom = size.rows - 1;
-        let old = self.grid.resized_into(fresh, skip);
+        let old = self.grid.resize(fresh, skip, blank);
         let _ = self.grid.size();
         old
     }

@@ -1,7 +1,7 @@
 ghost use Rattle.std.specs.Prelude.{◌≡◌};
 ghost use Rattle.vt_screen.specs.Settings.{aligned, reset, restore, save};
 
-use super::{Canvas, fill};
+use super::Canvas;
 use crate::screen_state::start_attr;
 use crate::{BLANK, Saved};
 use vt_cells::Cell;
@@ -53,7 +53,7 @@ impl Canvas {
             ..self.state.pen
         };
         self.set_pen(pen);
-        fill(&mut self.grid, BLANK);
+        self.grid.fill(BLANK);
         self.state.restart(self.grid.size().rows);
     }
 
@@ -66,7 +66,7 @@ impl Canvas {
             code: u32::from(b'E'),
             attr: self.erase,
         };
-        fill(&mut self.grid, cell);
+        self.grid.fill(cell);
         let _ = self.grid.size();
     }
 }

@@ -2,29 +2,35 @@ use Rattle.std.proofs.Common.{◌≡◌, ◌+◌, ◌<◌, List, [], length, tak
 use Rattle.std.proofs.lemmas.Bool.{cases_lt}
 use Rattle.std.proofs.lemmas.List.{get_or-drop, length-drop, take_all}
 use Rattle.vt_grid.proofs.Laid.{get_or-rows_laid_over, overlaid-laid_over, rows_laid_over-all, rows_laid_over-more}
-use Rattle.vt_grid.specs.Grid.{overlaid, row_at, rows_laid_over, with_run}
+use Rattle.vt_grid.proofs.Split.{full-parted, row-of-parted}
+use Rattle.vt_grid.specs.Grid.{IsFull, Sheet, overlaid, row_at, rows_laid_over, with_run}
+use Rattle.vt_grid.specs.Halves.{parted, parted_rows}
 use Rattle.vt_cells.specs.declared.cell.Cell.{Cell}
 use Rattle.vt_grid.proofs.resize.copy_cells.Goals as goal
 
 pub loop-y-preserved : goal.loop-y-preserved
 loop-y-preserved c =
     let fresh = c.args.fresh.now in
-    let old = c.args.old.now in
+    let whole = c.args.old.now in
+    let border = c.args.border in
+    let old : Sheet = parted_rows border whole in
     let olds = drop c.args.skip old.cells in
     let y = c.loop-y.y in
     let laid = rows_laid_over (take y olds) fresh.cells in
     let row = get_or olds y [] in
     let under = get_or fresh.cells y [] in
     let new_full = c.size-new.ensures.full in
-    let old_full = c.size-was.ensures.full in
+    let old_full : IsFull old = full-parted whole border c.size-was.ensures.full in
     let in_olds : y < length olds =
     omega (arith, length-drop c.args.skip old.cells, old_full.tall) in
     let in_fresh : y < length fresh.cells = omega (arith, new_full.tall) in
-    let read : row_at old (y + c.args.skip) ≡ row =
+    let shown : row_at old (y + c.args.skip) ≡ row =
     ap (λ n. get_or old.cells n []) (add_comm y c.args.skip)
     ∙ sym (get_or-drop c.args.skip old.cells y []) in
+    let read : parted border (row_at whole (y + c.args.skip)) ≡ row =
+    row-of-parted whole border (y + c.args.skip) (omega (arith, c.size-was.ensures.full.tall)) ∙ shown in
     let wide_row : length row ≡ old.cols =
-    ap length (sym read)
+    ap length (sym shown)
     ∙ old_full.wide (y + c.args.skip) [] (omega (arith, old_full.tall)) in
     let wide_under : length under ≡ fresh.cols = new_full.wide y [] in_fresh in
     let cols_is : c.min-cols.result ≡ min (length under) (length row) = omega arith in
@@ -40,11 +46,13 @@ loop-y-preserved c =
 pub returns : goal.returns
 returns c =
     let fresh = c.args.fresh.now in
-    let old = c.args.old.now in
+    let whole = c.args.old.now in
+    let border = c.args.border in
+    let old : Sheet = parted_rows border whole in
     let olds = drop c.args.skip old.cells in
     let y = c.loop-y.y in
     let new_full = c.size-new.ensures.full in
-    let old_full = c.size-was.ensures.full in
+    let old_full : IsFull old = full-parted whole border c.size-was.ensures.full in
     let left = length-drop c.args.skip old.cells in
     c.loop-y.invariant
     ∙ ap (λ (cells : List (List Cell)). record fresh { cells = cells })

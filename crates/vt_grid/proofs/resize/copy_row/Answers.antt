@@ -1,26 +1,40 @@
-use Rattle.std.proofs.Common.{◌≡◌, [], ◌∷◌, ◌++◌, length, take, sym, ap, ◌∙◌, arith}
-use Rattle.std.proofs.lemmas.List.{length-take-le, take_more}
-use Rattle.std.proofs.lemmas.Option.{get_or_from_slice_get}
-use Rattle.vt_grid.proofs.Laid.{with_run-push}
+use Rattle.std.proofs.Common.{◌≡◌, ◌-◌, suc, List, [], length, take, set, sym, ap, ◌∙◌, arith}
+use Rattle.std.proofs.lemmas.List.{length-take-le}
+use Rattle.vt_grid.proofs.Border.{parted-past}
+use Rattle.vt_grid.proofs.Covered.{parted-last}
+use Rattle.vt_grid.proofs.Laid.{with_run-set}
 use Rattle.vt_grid.specs.Grid.{Sheet, row_at, with_cell, with_run}
+use Rattle.vt_grid.specs.Halves.{parted}
+use Rattle.vt_cells.specs.declared.cell.Cell.{Cell}
 use Rattle.vt_grid.proofs.resize.copy_row.Goals as goal
 
-pub loop-x-preserved : goal.loop-x-preserved
-loop-x-preserved c =
+pub returns-then-cols-gt0 : goal.returns-then-cols-gt0
+returns-then-cols-gt0 c =
     let fresh = c.args.fresh.now in
+    let border = c.args.border in
     let row = row_at c.args.old.now c.args.from in
-    let x = c.loop-x.x in
-    let cell = c.at.result in
     let full = c.size-was.ensures.full in
-    let wide : length row ≡ c.args.old.now.cols =
-    full.wide c.args.from [] (omega (arith, full.tall)) in
-    let len : length (take x row) ≡ x = length-take-le x row (omega arith) in
-    let more =
-    take_more row x cell (omega arith)
-    ∙ ap (λ d. take x row ++ d ∷ []) (get_or_from_slice_get row x cell cell c.at.ensures) in
+    let cols = c.args.cols in
+    let last = cols - 1 in
+    let cell = c.at_parted.result in
+    let wide : length row ≡ c.args.old.now.cols = full.wide c.args.from [] (omega (arith, full.tall)) in
+    let cols_is : suc last ≡ cols = omega (arith, c.if-cols-gt0.true) in
+    let len : length (take cols row) ≡ cols = length-take-le cols row (omega (arith, wide)) in
     c.put.ensures
-    ∙ ap (λ (s : Sheet). with_cell s c.args.y x cell) c.loop-x.invariant
-    ∙ ap (λ n. with_cell (with_run fresh c.args.y 0 (take x row)) c.args.y n cell) (sym len)
-    ∙ with_run-push fresh c.args.y (take x row) cell c.size-new.ensures.full c.requires.row
-    (omega arith)
-    ∙ ap (with_run fresh c.args.y 0) (sym more)
+    ∙ ap (λ (s : Sheet). with_cell s c.args.y last cell) c.copy_row.ensures
+    ∙ with_run-set fresh c.args.y last (take cols row) cell c.size-new.ensures.full c.requires.row
+    (omega (arith, len, cols_is)) (omega (arith, len))
+    ∙ ap (with_run fresh c.args.y 0)
+    (ap (λ n. set (take n row) last cell) (sym cols_is)
+    ∙ parted-last border last row cell (omega (arith, cols_is)) (omega (arith, cols_is, wide)) c.at_parted.ensures
+    ∙ ap (λ n. take n (parted border row)) cols_is)
+
+pub returns-else-border-was : goal.returns-else-border-was
+returns-else-border-was c =
+    let border = c.args.border in
+    let row = row_at c.args.old.now c.args.from in
+    let full = c.size-was.ensures.full in
+    let wide : length row ≡ c.args.old.now.cols = full.wide c.args.from [] (omega (arith, full.tall)) in
+    c.copy_row.ensures
+    ∙ ap (λ (cells : List Cell). with_run c.args.fresh.now c.args.y 0 (take c.args.cols cells))
+    (sym (parted-past border row (omega (arith, wide, c.size-was.ensures.cols, c.if-border-was.false))))

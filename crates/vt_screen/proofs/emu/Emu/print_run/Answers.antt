@@ -1,5 +1,8 @@
-use Rattle.std.proofs.Common.{◌≡◌, ℕ, List, take, sym, ap, ◌∙◌}
+use Rattle.std.proofs.Common.{◌≡◌, ◌&&◌, ℕ, List, take, sym, ap, ◌∙◌}
 use Rattle.vt_screen.proofs.Printed.{front-runs, take-short}
+use Rattle.vt_screen.proofs.Spread.{front-spread}
+use Rattle.vt_units.specs.Bytes.{decodes}
+use Rattle.vt_units.specs.Reading.{is_empty}
 use Rattle.vt_screen.specs.Run.{drawing, having_said}
 use Rattle.vt_screen.specs.Screen.{Screen}
 use Rattle.vt_units.specs.Rest.{Rest}
@@ -22,3 +25,8 @@ returns-clause-run c = λ outs.
     c.mode.result c.mode.ensures c.take_printable-count.ensures.count c.take_printable-count.ensures.bound
     c.take_printable-count.ensures.rest
     ∙ ap (λ (s : Screen). having_said outs (reached s rest)) (sym c.print_bytes.ensures)
+
+pub print_bytes-requires-clause-narrow : goal.print_bytes-requires-clause-narrow
+print_bytes-requires-clause-narrow c =
+    front-spread c.columns_are_few.ensures.low (is_empty c.self.inside.pending.text && decodes c.mode.result)
+    (take c.min.result c.args.b.now) c.take_printable-count.result c.take_printable-count.ensures.count

@@ -1,5 +1,5 @@
 use Rattle.std.proofs.Common.{ℕ, ◌≡◌, List, [], take, sym, ap, subst, ◌∙◌, arith}
-use Rattle.vt_screen.specs.Run.{Told, drawing, having_said}
+use Rattle.vt_screen.specs.Run.{Drawn, drawing, having_said}
 use Rattle.vt_screen.specs.Screen.{Screen}
 use Rattle.vt_screen.specs.declared.out.Out.{Out}
 use Rattle.vt_units.specs.Run.{Reached, reached, run}
@@ -19,4 +19,4 @@ returns-clause-run c =
     ap (run drawing front) same
     ∙ ap (λ (outs : List Out). run drawing front (having_said outs then)) (sym c.clear.ensures)
     ∙ c.take_other.ensures.run in
-    sym (ap (λ (end : Reached Told). reached end.state.screen end.rest) ran)
+    sym (ap (λ (end : Reached Drawn). reached end.state.screen end.rest) ran)

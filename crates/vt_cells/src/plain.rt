@@ -1,0 +1,35 @@
+ghost use Rattle.std.specs.Prelude.{◌≡◌};
+ghost use Rattle.vt_cells.specs.Width.{is_plain};
+
+/// How many codes are a block.
+const BLOCK: u32 = 64;
+
+const Y: bool = true;
+
+const N: bool = false;
+
+/// Whether each code of a block takes one column and is of a kind that text has often, block by
+/// block. A row begins with the code beside it.
+#[rattlefmt::skip]
+static PLAIN: [bool; 160] = [
+    Y, Y, N, Y, Y, Y, Y, Y, Y, Y, Y, Y, N, N, Y, Y, // 0000
+    Y, Y, N, Y, Y, N, N, N, N, N, N, N, N, N, N, N, // 0400
+    N, N, N, N, N, N, N, N, N, N, N, N, N, N, N, N, // 0800
+    N, N, N, N, N, N, N, N, N, N, N, N, N, N, N, N, // 0C00
+    N, N, N, N, N, N, N, N, N, N, N, N, N, N, N, N, // 1000
+    N, N, N, N, N, N, N, N, N, N, N, N, N, N, N, N, // 1400
+    N, N, N, N, N, N, N, N, N, N, N, N, N, N, N, N, // 1800
+    N, N, N, N, N, N, N, N, Y, Y, Y, Y, Y, Y, Y, Y, // 1C00
+    N, N, Y, N, Y, Y, Y, Y, Y, Y, Y, Y, N, N, N, N, // 2000
+    Y, Y, Y, Y, Y, Y, Y, N, N, N, N, N, N, N, N, N, // 2400
+];
+
+/// Whether a code is of a block whose codes all take one column: most of what text has but Han
+/// characters. It asks less than [`crate::columns`].
+#[inline(always)]
+pub fn is_plain(code: u32) -> bool
+    ensures { result ≡ is_plain code }
+{
+    let block = (code / BLOCK) as usize;
+    block < PLAIN.len() && PLAIN[block]
+}

@@ -1,0 +1,280 @@
+-- Texts cut into characters.
+use Rattle.std.proofs.Common.{◌≡◌, ⊎_elim, ℕ, zero, suc, ◌-◌, ◌<◌, ◌≤◌, Bool, true, false, cond, ◌&&◌, ◌||◌, List, [], ◌∷◌, ◌++◌, length, take, drop, refl, sym, ap, ◌∙◌, subst, arith, append_assoc}
+use Rattle.std.proofs.Math.Seq.{drop-length}
+use Rattle.std.proofs.lemmas.Bool.{and_left, and_parts, and_right, and_from, cases_Bool, cond-true, cond-false, false≢true, or_cases, or_from}
+use Rattle.std.proofs.lemmas.Bool.Decides.{nat_tests}
+use Rattle.std.proofs.lemmas.List.{append-nil, drop-append-le, length-drop, length-take}
+use Rattle.std.specs.List.{concat}
+use Rattle.vt_chars.proofs.Prefixes.{of-two, of-three, of-four, wider}
+use Rattle.vt_chars.specs.Characters.{AsciiCuts, ByteMore, CharactersAreAll, characters, characters_past, first_of, is_part, with_byte}
+use Rattle.vt_chars.specs.Utf8.{is_begun, is_second, is_tail, is_well_formed, within}
+
+or_right : (a b : Bool) → b ≡ true → (a || b) ≡ true
+or_right true b is = refl
+or_right false b is = is
+
+-- what is before the last byte of a part begins one
+before-last : (a : ℕ) (text : List ℕ) (b : ℕ) → is_part ((a ∷ text) ++ b ∷ []) ≡ true
+    → is_begun (a ∷ text) ≡ true
+before-last a [] b is = ⊎_elim
+    (λ (whole : is_well_formed (a ∷ b ∷ []) ≡ true). of-two a b whole)
+    (λ (begun : is_begun (a ∷ b ∷ []) ≡ true).
+    wider 0xE0 0xF4 0xC2 0xF4 a (omega arith) (omega arith) (and_parts _ _ begun).0)
+    (or_cases _ _ is)
+before-last a (c ∷ []) b is = ⊎_elim
+    (λ (whole : is_well_formed (a ∷ c ∷ b ∷ []) ≡ true). (of-three a c b whole).1)
+    (λ (begun : is_begun (a ∷ c ∷ b ∷ []) ≡ true).
+    let q : ((within 0xF0 0xF4 a && is_second a c) ≡ true) × (is_tail b ≡ true) = and_parts _ _ begun in
+    let p : (within 0xF0 0xF4 a ≡ true) × (is_second a c ≡ true) = and_parts _ _ q.0 in
+    and_from _ _ (wider 0xF0 0xF4 0xE0 0xF4 a (omega arith) (omega arith) p.0) p.1)
+    (or_cases _ _ is)
+before-last a (c ∷ d ∷ []) b is = ⊎_elim
+    (λ (whole : is_well_formed (a ∷ c ∷ d ∷ b ∷ []) ≡ true). (of-four a c d b whole).2)
+    (λ (begun : is_begun (a ∷ c ∷ d ∷ b ∷ []) ≡ true). absurd (false≢true begun))
+    (or_cases _ _ is)
+before-last a (c ∷ d ∷ e ∷ []) b is = absurd (false≢true is)
+before-last a (c ∷ d ∷ e ∷ f ∷ text) b is = absurd (false≢true is)
+
+-- a text with a byte more that is a part is its own first character, and so was the text
+joined : (a : ℕ) (text : List ℕ) (b : ℕ) → is_part ((a ∷ text) ++ b ∷ []) ≡ true
+    → (first_of ((a ∷ text) ++ b ∷ []) ≡ (a ∷ text) ++ b ∷ []) × (first_of (a ∷ text) ≡ a ∷ text)
+joined a [] b is =
+    (cond-true _ _ _ is, cond-true _ _ _ (or_right _ _ (before-last a [] b is)))
+joined a (c ∷ []) b is =
+    (cond-true _ _ _ is, cond-true _ _ _ (or_right _ _ (before-last a (c ∷ []) b is)))
+joined a (c ∷ d ∷ []) b is =
+    (cond-true _ _ _ is, cond-true _ _ _ (or_right _ _ (before-last a (c ∷ d ∷ []) b is)))
+joined a (c ∷ d ∷ e ∷ []) b is = absurd (false≢true is)
+joined a (c ∷ d ∷ e ∷ f ∷ text) b is = absurd (false≢true is)
+
+-- choices between texts, where the longest other a part
+module _ {A : Type 0} where
+  past-one : (p q : Bool) (x y : A) → p ≡ false
+      → cond p x (cond p x (cond p x y)) ≡ cond q y (cond q y (cond q y y))
+  past-one false true x y is = refl
+  past-one false false x y is = refl
+  past-one true q x y is = absurd (false≢true (sym is))
+
+  past-two : (p q : Bool) (x y z : A) → p ≡ false
+      → cond p x (cond p x (cond q y z)) ≡ cond q y (cond q y (cond q y z))
+  past-two false true x y z is = refl
+  past-two false false x y z is = refl
+  past-two true q x y z is = absurd (false≢true (sym is))
+
+  past-three : (p q r : Bool) (x y z t : A) → p ≡ false
+      → cond p x (cond q y (cond r z t)) ≡ cond q y (cond q y (cond r z t))
+  past-three false true r x y z t is = refl
+  past-three false false r x y z t is = refl
+  past-three true q r x y z t is = absurd (false≢true (sym is))
+
+-- a byte more that makes no part leaves the first character
+apart : (a : ℕ) (text : List ℕ) (b : ℕ) → is_part ((a ∷ text) ++ b ∷ []) ≡ false
+    → first_of ((a ∷ text) ++ b ∷ []) ≡ first_of (a ∷ text)
+apart a [] b is = past-one _ (is_part (a ∷ [])) _ _ is
+apart a (c ∷ []) b is = past-two _ (is_part (a ∷ c ∷ [])) _ _ _ is
+apart a (c ∷ d ∷ []) b is = past-three _ (is_part (a ∷ c ∷ d ∷ [])) (is_part (a ∷ c ∷ [])) _ _ _ _ is
+apart a (c ∷ d ∷ e ∷ text) b is = refl
+
+-- the first character is a front of the text, of at least one byte
+pick : (x y z : Bool) (text : List ℕ)
+    → (n : ℕ) × (1 ≤ n)
+    × (cond x (take 4 text) (cond y (take 3 text) (cond z (take 2 text) (take 1 text))) ≡ take n text)
+pick true y z text = (4, omega arith, refl)
+pick false true z text = (3, omega arith, refl)
+pick false false true text = (2, omega arith, refl)
+pick false false false text = (1, omega arith, refl)
+
+front : (text : List ℕ) → (n : ℕ) × (1 ≤ n) × (first_of text ≡ take n text)
+front text = pick (is_part (take 4 text)) (is_part (take 3 text)) (is_part (take 2 text)) text
+
+taken-and-left : (n : ℕ) (text : List ℕ) → take n text ++ drop (length (take n text)) text ≡ text
+taken-and-left zero text = refl
+taken-and-left (suc n) [] = refl
+taken-and-left (suc n) (a ∷ text) = ap (λ xs. a ∷ xs) (taken-and-left n text)
+
+first-and-left : (text : List ℕ) → first_of text ++ drop (length (first_of text)) text ≡ text
+first-and-left text =
+    let f = front text in
+    ap (λ c. c ++ drop (length c) text) f.2 ∙ taken-and-left f.0 text
+
+first-some : (a : ℕ) (text : List ℕ) → 1 ≤ length (first_of (a ∷ text))
+first-some a text =
+    let f = front (a ∷ text) in
+    omega (arith, f.1, ap length f.2, length-take f.0 (a ∷ text))
+
+first-within : (text : List ℕ) → length (first_of text) ≤ length text
+first-within text =
+    let f = front text in
+    omega (arith, ap length f.2, length-take f.0 text)
+
+-- a text that a character of before goes into has the characters of what is left
+past-is-drop : (n : ℕ) (text : List ℕ) → characters_past n text ≡ characters (drop n text)
+past-is-drop zero text = refl
+past-is-drop (suc n) [] = refl
+past-is-drop (suc n) (a ∷ text) = past-is-drop n text
+
+pub first-then-left : (a : ℕ) (text : List ℕ)
+    → characters (a ∷ text)
+    ≡ first_of (a ∷ text) ∷ characters (drop (length (first_of (a ∷ text))) (a ∷ text))
+first-then-left a text =
+    let c : List ℕ = first_of (a ∷ text) in
+    let long : length c ≡ suc (length c - 1) = omega (arith, first-some a text) in
+    ap (λ cs. c ∷ cs)
+    (past-is-drop (length c - 1) text ∙ ap (λ n. characters (drop n (a ∷ text))) (sym long))
+
+-- a text that is its own first character
+alone : (a : ℕ) (text : List ℕ) → first_of (a ∷ text) ≡ a ∷ text → characters (a ∷ text) ≡ (a ∷ text) ∷ []
+alone a text is =
+    first-then-left a text
+    ∙ ap (λ c. c ∷ characters (drop (length c) (a ∷ text))) is
+    ∙ ap (λ left. (a ∷ text) ∷ characters left) (drop-length (a ∷ text))
+
+one-byte : (b : ℕ) → first_of (b ∷ []) ≡ b ∷ []
+one-byte b = same (is_part (b ∷ []))
+  where
+    same : (p : Bool) → cond p (b ∷ []) (cond p (b ∷ []) (cond p (b ∷ []) (b ∷ []))) ≡ b ∷ []
+    same true = refl
+    same false = refl
+
+none-of-none : (text : List ℕ) → characters text ≡ [] → text ≡ []
+none-of-none [] is = refl
+none-of-none (a ∷ text) is = absurd (let wrong : ⊥ = cc (first-then-left a text) in wrong)
+
+-- where the first character stays as it is with the byte more, the others take the byte
+goes-past : (c : List ℕ) (others : List (List ℕ)) (b : ℕ)
+    → (others ≡ [] → is_part (c ++ b ∷ []) ≡ false)
+    → c ∷ with_byte others b ≡ with_byte (c ∷ others) b
+goes-past c [] b stays = sym (cond-false _ _ _ (stays refl))
+goes-past c (d ∷ others) b stays = refl
+
+more-by : (n : ℕ) (text : List ℕ) (b : ℕ) → length text ≤ n
+    → characters (text ++ b ∷ []) ≡ with_byte (characters text) b
+more-by n [] b few = alone b [] (one-byte b)
+more-by zero (a ∷ text) b few = absurd (omega (arith, few))
+more-by (suc n) (a ∷ text) b few =
+    let c : List ℕ = first_of (a ∷ text) in
+    let left : List ℕ = drop (length c) (a ∷ text) in
+    let whole : List ℕ = (a ∷ text) ++ b ∷ [] in
+    ⊎_elim
+    (λ (is : is_part whole ≡ true).
+    let both = joined a text b is in
+    alone a (text ++ b ∷ []) both.0
+    ∙ sym (cond-true _ _ _ is)
+    ∙ ap (λ cs. with_byte cs b) (sym (alone a text both.1)))
+    (λ (other : is_part whole ≡ false).
+    let shorter : length left ≤ n =
+    omega (arith, length-drop (length c) (a ∷ text), first-some a text, few) in
+    let stays : characters left ≡ [] → is_part (c ++ b ∷ []) ≡ false =
+    λ none.
+    ap (λ t. is_part (t ++ b ∷ []))
+    (sym (append-nil c) ∙ ap (λ t. c ++ t) (sym (none-of-none left none)) ∙ first-and-left (a ∷ text))
+    ∙ other in
+    first-then-left a (text ++ b ∷ [])
+    ∙ ap (λ d. d ∷ characters (drop (length d) whole)) (apart a text b other)
+    ∙ ap (λ t. c ∷ characters t) (drop-append-le (length c) (a ∷ text) (b ∷ []) (first-within (a ∷ text)))
+    ∙ ap (λ cs. c ∷ cs) (more-by n left b shorter)
+    ∙ goes-past c (characters left) b stays
+    ∙ ap (λ cs. with_byte cs b) (sym (first-then-left a text)))
+    (cases_Bool (is_part whole))
+
+pub byte-more : ByteMore
+byte-more text b = more-by (length text) text b (omega arith)
+
+all-by : (n : ℕ) (text : List ℕ) → length text ≤ n → concat (characters text) ≡ text
+all-by n [] few = refl
+all-by zero (a ∷ text) few = absurd (omega (arith, few))
+all-by (suc n) (a ∷ text) few =
+    let c : List ℕ = first_of (a ∷ text) in
+    let left : List ℕ = drop (length c) (a ∷ text) in
+    let shorter : length left ≤ n =
+    omega (arith, length-drop (length c) (a ∷ text), first-some a text, few) in
+    ap concat (first-then-left a text)
+    ∙ ap (λ t. c ++ t) (all-by n left shorter)
+    ∙ first-and-left (a ∷ text)
+
+pub characters-are-all : CharactersAreAll
+characters-are-all text = all-by (length text) text (omega arith)
+
+-- characters of at least one byte each
+abbrev Filled : List (List ℕ) → Type 0
+Filled [] = Unit
+Filled (c ∷ more) = (1 ≤ length c) × Filled more
+
+filled-by : (n : ℕ) (text : List ℕ) → length text ≤ n → Filled (characters text)
+filled-by n [] few = tt
+filled-by zero (a ∷ text) few = absurd (omega (arith, few))
+filled-by (suc n) (a ∷ text) few =
+    let c : List ℕ = first_of (a ∷ text) in
+    let left : List ℕ = drop (length c) (a ∷ text) in
+    let shorter : length left ≤ n =
+    omega (arith, length-drop (length c) (a ∷ text), first-some a text, few) in
+    subst Filled (sym (first-then-left a text)) (first-some a text, filled-by n left shorter)
+
+no-tail : (b : ℕ) → b < 0x80 → is_tail b ≡ false
+no-tail b low = grind (arith, nat_tests)
+
+no-second : (a b : ℕ) → b < 0x80 → is_second a b ≡ false
+no-second a b low = grind (arith, nat_tests)
+
+no-lead : (low high b : ℕ) → b < 0x80 → 0x80 ≤ low → within low high b ≡ false
+no-lead low high b is above = grind (arith, nat_tests)
+
+-- a byte below 80 goes on no character, and none goes on it
+ends-apart : (a : ℕ) (text : List ℕ) (b : ℕ) → b < 0x80 → is_part ((a ∷ text) ++ b ∷ []) ≡ false
+ends-apart a [] b low =
+    or_from _ _ (and_right _ _ (no-tail b low)) (and_right _ _ (no-second a b low))
+ends-apart a (c ∷ []) b low =
+    or_from _ _ (and_right _ _ (no-tail b low)) (and_right _ _ (no-tail b low))
+ends-apart a (c ∷ d ∷ []) b low = or_from _ _ (and_right _ _ (no-tail b low)) refl
+ends-apart a (c ∷ d ∷ e ∷ []) b low = refl
+ends-apart a (c ∷ d ∷ e ∷ f ∷ text) b low = refl
+
+starts-apart : (b x : ℕ) → b < 0x80 → is_part (b ∷ x ∷ []) ≡ false
+starts-apart b x low =
+    or_from _ _
+    (and_left _ _ (no-lead 0xC2 0xDF b low (omega arith)))
+    (and_left _ _ (no-lead 0xE0 0xF4 b low (omega arith)))
+
+at-end : (cs : List (List ℕ)) (b : ℕ) → b < 0x80 → Filled cs → with_byte cs b ≡ cs ++ (b ∷ []) ∷ []
+at-end [] b low filled = refl
+at-end ([] ∷ []) b low filled = absurd (omega (arith, filled.0))
+at-end ((a ∷ c) ∷ []) b low filled = cond-false _ _ _ (ends-apart a c b low)
+at-end (c ∷ d ∷ more) b low filled = ap (λ cs. c ∷ cs) (at-end (d ∷ more) b low filled.1)
+
+after-some : (xs : List (List ℕ)) (y : List ℕ) (ys : List (List ℕ)) (b : ℕ)
+    → with_byte (xs ++ y ∷ ys) b ≡ xs ++ with_byte (y ∷ ys) b
+after-some [] y ys b = refl
+after-some (x ∷ []) y ys b = refl
+after-some (x ∷ z ∷ xs) y ys b = ap (λ cs. x ∷ cs) (after-some (z ∷ xs) y ys b)
+
+after-ascii : (b : ℕ) (ys : List (List ℕ)) (x : ℕ) → b < 0x80
+    → with_byte ((b ∷ []) ∷ ys) x ≡ (b ∷ []) ∷ with_byte ys x
+after-ascii b [] x low = cond-false _ _ _ (starts-apart b x low)
+after-ascii b (y ∷ ys) x low = refl
+
+module _ (before : List ℕ) (b : ℕ) (low : b < 0x80) where
+  abbrev Cuts : List ℕ → Type 0
+  Cuts after = characters (before ++ b ∷ after) ≡ characters before ++ (b ∷ []) ∷ characters after
+
+  nothing-after : Cuts []
+  nothing-after =
+      byte-more before b ∙ at-end (characters before) b low (filled-by (length before) before (omega arith))
+
+  byte-after : (after : List ℕ) (x : ℕ) → Cuts after → Cuts (after ++ x ∷ [])
+  byte-after after x cuts =
+      ap characters (sym (append_assoc before (b ∷ after) (x ∷ [])))
+      ∙ byte-more (before ++ b ∷ after) x
+      ∙ ap (λ cs. with_byte cs x) cuts
+      ∙ after-some (characters before) (b ∷ []) (characters after) x
+      ∙ ap (λ cs. characters before ++ cs)
+      (after-ascii b (characters after) x low
+      ∙ ap (λ cs. (b ∷ []) ∷ cs) (sym (byte-more after x)))
+
+  cuts-on : (done more : List ℕ) → Cuts done → Cuts (done ++ more)
+  cuts-on done [] cuts = subst Cuts (sym (append-nil done)) cuts
+  cuts-on done (x ∷ more) cuts =
+      subst Cuts (append_assoc done (x ∷ []) more)
+      (cuts-on (done ++ x ∷ []) more (byte-after done x cuts))
+
+pub ascii-cuts : AsciiCuts
+ascii-cuts before b after low = cuts-on before b low [] after (nothing-after before b low)

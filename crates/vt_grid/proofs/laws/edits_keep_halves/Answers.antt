@@ -1,0 +1,5 @@
+use Rattle.vt_grid.proofs.Paired.{edits-keep-halves}
+use Rattle.vt_grid.proofs.laws.edits_keep_halves.Goals as goal
+
+pub returns : goal.returns
+returns c = edits-keep-halves

@@ -1,0 +1,132 @@
+//! Characters of two columns: a border between the halves of one makes both spaces.
+ghost use Rattle.std.specs.Prelude.{◌≡◌, ◌<◌, ◌≤◌, ◌+◌, Some, false, true, length, slice_get};
+ghost use Rattle.vt_grid.specs.Grid.{cells_of_codes, row_at};
+ghost use Rattle.vt_grid.specs.Halves.{drawn, parted, parted_at, parted_between, spaced};
+
+use crate::Grid;
+use vt_cells::{Cell, HALF};
+
+impl Grid {
+    /// Parts row `y` before column `x`: a character that stands on both sides of that border becomes
+    /// two spaces in its colours.
+    pub fn part(&mut self, y: u8, x: u8)
+        requires row { y < self.old.rows }
+        requires column { x ≤ self.old.cols }
+        ensures { self.new ≡ parted_at self.old y x }
+    {
+        if self.splits(y, x) {
+            self.space(y, x);
+        }
+    }
+
+    /// Sets the cells from column `x` on, one for each byte, and parts what stood there in part.
+    pub fn draw_bytes(&mut self, y: u8, x: u8, bytes: &[u8], attr: u8)
+        requires row { y < self.old.rows }
+        requires columns { x + length bytes.now ≤ self.old.cols }
+        ensures { self.new ≡ drawn self.old y x (cells_of_codes bytes.now attr) }
+    {
+        let _ = self.size();
+        self.part_ends(y, x, x + bytes.len() as u8);
+        self.put_bytes(y, x, bytes, attr);
+    }
+
+    /// Sets the cells from column `x` on, one for each code, and parts what stood there in part.
+    pub fn draw_codes(&mut self, y: u8, x: u8, codes: &[u32], attr: u8)
+        requires row { y < self.old.rows }
+        requires columns { x + length codes.now ≤ self.old.cols }
+        ensures { self.new ≡ drawn self.old y x (cells_of_codes codes.now attr) }
+    {
+        let _ = self.size();
+        self.part_ends(y, x, x + codes.len() as u8);
+        self.put_codes(y, x, codes, attr);
+    }
+
+    // Parts row `y` before column `x`, and then before column `end`.
+    #[inline(always)]
+    fn part_ends(&mut self, y: u8, x: u8, end: u8)
+        requires row { y < self.old.rows }
+        requires column { x ≤ self.old.cols }
+        requires end { end ≤ self.old.cols }
+        ensures { self.new ≡ parted_between self.old y x end }
+    {
+        if self.splits(y, x) || self.splits(y, end) {
+            self.part_both(y, x, end);
+        }
+    }
+
+    #[inline(never)]
+    fn part_both(&mut self, y: u8, x: u8, end: u8)
+        requires row { y < self.old.rows }
+        requires column { x ≤ self.old.cols }
+        requires end { end ≤ self.old.cols }
+        ensures { self.new ≡ parted_between self.old y x end }
+    {
+        self.part(y, x);
+        self.part(y, end);
+    }
+
+    // Whether the cell in column `x` is the right half of the one before it.
+    #[inline(always)]
+    fn splits(&self, y: u8, x: u8) -> bool
+        requires { y < self.now.rows }
+        ensures half { result ≡ true → (0 < x) × (x < self.now.cols) }
+        ensures none { result ≡ false → self.now ≡ parted_at self.now y x }
+    {
+        if x == 0 {
+            return false;
+        }
+        if self.size().cols <= x {
+            return false;
+        }
+        self.at(y, x).code == HALF
+    }
+
+    // The cell in row `y` and column `x`, where the row is parted before a later column.
+    pub(crate) fn at_parted(&self, y: u8, x: u8, border: u8) -> Cell
+        requires row { y < self.now.rows }
+        requires column { x < self.now.cols }
+        requires before { x < border }
+        ensures { slice_get (parted border (row_at self.now y)) x ≡ Some result }
+    {
+        let cols = self.size().cols;
+        let cell = self.at(y, x);
+        if border - x > 1 {
+            return cell;
+        }
+        if cols <= border {
+            return cell;
+        }
+        if self.at(y, border).code == HALF {
+            spaced(cell)
+        } else {
+            cell
+        }
+    }
+
+    // Makes the cells on both sides of the border spaces, where the right one is a half.
+    #[inline(never)]
+    fn space(&mut self, y: u8, x: u8)
+        requires row { y < self.old.rows }
+        requires some { 0 < x }
+        requires column { x < self.old.cols }
+        ensures { self.new ≡ parted_at self.old y x }
+    {
+        let _ = self.size();
+        let right = self.at(y, x);
+        if right.code == HALF {
+            let left = self.at(y, x - 1);
+            self.put(y, x - 1, spaced(left));
+            self.put(y, x, spaced(right));
+        }
+    }
+}
+
+// A space in the cell's colours.
+fn spaced(c: Cell) -> Cell
+    ensures { result ≡ spaced c }
+{
+    Cell {
+        code: u32::from(b' '),
+        attr: c.attr,
+    }
+}

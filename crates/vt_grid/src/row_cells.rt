@@ -1,0 +1,57 @@
+ghost use Rattle.std.specs.Prelude.{◌≡◌, ◌++◌, replicate};
+ghost use Rattle.std.specs.Iterator.{YieldsFirst, item_count};
+
+use crate::kept::Kept;
+use std::iter::FusedIterator;
+use std::marker::Model;
+use vt_cells::Cell;
+
+/// The cells of a row from left to right, seen as the list of those that are left. From
+/// [`Grid::row`](crate::Grid::row). A blank end of a row is stored nowhere, so there is no slice.
+#[derive(Debug, Drop)]
+pub struct RowCells<'a> {
+    stored: &'a [Kept],
+    rest: Kept,
+    past: u8,
+}
+
+impl<'a> Model for RowCells<'a> {
+    ghost use Rattle.std.specs.Prelude.{List, ◌++◌, replicate};
+    ghost use Rattle.vt_cells.specs.declared.cell.Cell.{Cell};
+
+    ghost Value = { List Cell };
+
+    ghost view = { λ r. r.stored.now ++ replicate r.past r.rest };
+}
+
+impl<'a> RowCells<'a> {
+    // The stored cells, and then `rest`, `past` times.
+    pub(crate) fn new(stored: &'a [Kept], rest: Kept, past: u8) -> RowCells<'a>
+        ensures { result ≡ stored.now ++ replicate past rest }
+    {
+        RowCells { stored, rest, past }
+    }
+}
+
+impl<'a> Iterator for RowCells<'a> {
+    type Item = Cell;
+
+    ghost next_gives = { YieldsFirst (λ cells. cells) };
+
+    ghost remaining = { item_count (λ cells. cells) };
+
+    #[inline(always)]
+    fn next(&mut self) -> Option<Cell> {
+        if let Some((first, others)) = self.stored.split_first() {
+            self.stored = others;
+            return Some(first.cell());
+        }
+        if self.past == 0 {
+            return None;
+        }
+        self.past -= 1;
+        Some(self.rest.cell())
+    }
+}
+
+impl<'a> FusedIterator for RowCells<'a> {}

@@ -1,0 +1,135 @@
+-- No half stands in column 0 or right of a half, whatever a tape does to a start screen.
+use Rattle.std.proofs.Common.{◌≡◌, ℕ, zero, suc, ◌+◌, ◌-◌, ◌<◌, ◌≤◌, ◌==◌, Bool, true, false, List, [], ◌∷◌, map, refl, sym, subst, cond, arith, nat_lt, ltb-true}
+use Rattle.std.specs.Prelude.{All, slice_index}
+use Rattle.std.specs.List.{list_all, range_with_len}
+use Rattle.std.proofs.lemmas.Bool.{and_parts}
+use Rattle.std.proofs.lemmas.Bool.Decides.{nat_tests}
+use Rattle.std.proofs.lemmas.List.Elements.{All-head, All-tail}
+use Rattle.vt_cells.specs.Width.{columns, half}
+use Rattle.vt_chars.specs.CharMap.{char_of, font_place, graphic_of, graphics}
+use Rattle.vt_chars.specs.Utf8.{within}
+use Rattle.vt_grid.specs.Laws.{EditsKeepHalves}
+use Rattle.vt_screen.proofs.Halved.{HasHalves, NoHalves, coloured, colours-reset, control-keeps, escape-keeps, printed-once, private-keeps, sequence-keeps}
+use Rattle.vt_screen.specs.Effect.{control_sequence, effect, private_sequence}
+use Rattle.vt_screen.specs.Halves.{IsPlainTaped, TapesKeepHalves}
+use Rattle.vt_screen.specs.Printing.{shown, table_of, toggled}
+use Rattle.vt_screen.specs.Run.{Drawn, drawing, having_said, start}
+use Rattle.vt_screen.specs.Screen.{Screen, blank_of, mode_of}
+use Rattle.vt_screen.specs.Tape.{Change, Taped, byte, lost_rows, change, changed, palette, played, resize, resized_to, run_tape, user_map}
+use Rattle.vt_units.specs.Answer.{answer}
+use Rattle.vt_units.specs.Laws.{PrintsOnly, TextsSpellCharacters, ThenPrints}
+use Rattle.vt_units.specs.Run.{Reached, effect_of}
+use Rattle.vt_units.specs.declared.read.Read.{Read}
+use Rattle.vt_units.specs.declared.then.Then as then
+use Rattle.vt_units.specs.declared.unit.Unit as units
+
+below-half : (code : ℕ) → code < 0x110000 → (code == half) ≡ false
+below-half code small = grind (arith, nat_tests, small)
+
+-- one of these codes, or none
+no-half-at : (codes : List ℕ) (i : ℕ) → NoHalves codes → (slice_index codes i == half) ≡ false
+no-half-at [] i h = refl
+no-half-at (code ∷ codes) zero h = h.0
+no-half-at (code ∷ codes) (suc i) h = no-half-at codes i h.1
+
+tested : (codes : List ℕ) → list_all (λ code. nat_lt code 0x110000) codes ≡ true → NoHalves codes
+tested [] h = tt
+tested (code ∷ codes) h =
+    let parts = and_parts (nat_lt code 0x110000) (list_all (λ c. nat_lt c 0x110000) codes) h in
+    (below-half code (ltb-true code 0x110000 parts.0), tested codes parts.1)
+
+-- the user's table at the start
+places : (n a : ℕ) → a + n ≤ 256 → NoHalves (map font_place (range_with_len a n))
+places zero a small = tt
+places (suc n) a small =
+    (below-half (font_place a) (omega (arith, small)), places n (a + 1) (omega (arith, small)))
+
+words-kept : (words : List ℕ) → All (λ word. word < 65536) words → NoHalves words
+words-kept [] h = tt
+words-kept (word ∷ words) h =
+    (below-half word (omega (arith, All-head (λ w. w < 65536) word words h)), words-kept words (All-tail (λ w. w < 65536) word words h))
+
+either-code : (test : Bool) (a b : ℕ) → (a == half) ≡ false → (b == half) ≡ false → (cond test a b == half) ≡ false
+either-code true a b first second = first
+either-code false a b first second = second
+
+either-below : (test : Bool) (a b : ℕ) → a < 256 → b < 256 → cond test a b < 256
+either-below true a b first second = first
+either-below false a b first second = second
+
+toggled-below : (b : ℕ) → b < 256 → toggled b < 256
+toggled-below b small = grind (arith, nat_tests, small)
+
+graphic-whole : (b : ℕ) → b < 256 → (graphic_of b == half) ≡ false
+graphic-whole b small =
+    either-code (within 0x5F 0x7E b) (slice_index graphics (b - 0x5F)) b (no-half-at graphics (b - 0x5F) (tested graphics refl))
+    (below-half b (omega (arith, small)))
+
+table-whole : (user : List ℕ) (table b : ℕ) → NoHalves user → b < 256 → (char_of user table b == half) ≡ false
+table-whole user table b h small =
+    either-code (table == 0) b _ (below-half b (omega (arith, small)))
+    (either-code (table == 1) (graphic_of b) _ (graphic-whole b small)
+    (either-code (table == 2) (font_place b) (slice_index user b) (below-half (font_place b) (omega (arith, small))) (no-half-at user b h)))
+
+shown-whole : (b : ℕ) (s : Screen) → b < 256 → HasHalves s → (shown b s == half) ≡ false
+unfolding shown
+shown-whole b s small h =
+    table-whole s.state.map (table_of s) (cond s.state.pen.toggle (toggled b) b) h.1
+    (either-below s.state.pen.toggle (toggled b) b (toggled-below b small) small)
+
+module _ (law : EditsKeepHalves) where
+  unit-keeps : (b : ℕ) (u : units.Unit) (s : Screen) → b < 256 → PrintsOnly b u → HasHalves s → HasHalves (effect u s).screen
+  unit-keeps b (units.Unit.Char code) s small only h = printed-once law (columns code) code s (below-half code only) h
+  unit-keeps b (units.Unit.Byte x) s small only h =
+      printed-once law 1 (shown x s) s (shown-whole x s (subst (λ n. n < 256) (sym only) small) h) h
+  unit-keeps b (units.Unit.Control code) s small only h = control-keeps law code s h
+  unit-keeps b (units.Unit.Esc mid last) s small only h = escape-keeps law mid last s h
+  unit-keeps b (units.Unit.Csi private params last) s small only h = by private
+    where
+      by : (test : Bool) → HasHalves (cond test (private_sequence params last s) (control_sequence params last s)).screen
+      by true = private-keeps law params last s h
+      by false = sequence-keeps law params last s h
+  unit-keeps b (units.Unit.Colour n rgb) s small only h = coloured law n rgb s h
+  unit-keeps b units.Unit.ColourReset s small only h = colours-reset law s h
+  unit-keeps b units.Unit.Ignored s small only h = h
+
+  then-keeps : (b : ℕ) (t : then.Then) (at : Drawn) → b < 256 → ThenPrints b t → HasHalves at.screen
+      → HasHalves (effect_of drawing t at).screen
+  then-keeps b (then.Then.Unit u) at small only h = unit-keeps b u at.screen small only h
+  then-keeps b (then.Then.Act code) at small only h = control-keeps law code at.screen h
+  then-keeps b then.Then.More at small only h = h
+  then-keeps b then.Then.Dropped at small only h = h
+
+  bad-keeps : (bad : Bool) (at : Drawn) → HasHalves at.screen
+      → HasHalves (cond bad (drawing.on_unit (units.Unit.Char 0xFFFD) at) at).screen
+  bad-keeps true at h = printed-once law (columns 0xFFFD) 0xFFFD at.screen refl h
+  bad-keeps false at h = h
+
+  change-keeps : (m : Change) (s : Screen) → IsPlainTaped (change m) → HasHalves s → HasHalves (changed m s)
+  unfolding resized_to
+  change-keeps (user_map words) s plain h = (h.0, words-kept words plain)
+  change-keeps (palette colours) s plain h = h
+  change-keeps (resize rows cols) s plain h =
+      (law.resizing s.grid rows cols (lost_rows rows s) (blank_of s) h.0 refl, h.1)
+
+  module _ (spell : TextsSpellCharacters) where
+    played-keeps : (item : Taped) (at : Reached Drawn) → IsPlainTaped item → HasHalves at.state.screen
+        → HasHalves (played item at).state.screen
+    played-keeps (byte b) at plain h =
+        let m = mode_of at.state.screen in
+        let read : Read = answer at.rest m b in
+        then-keeps b read.got (cond read.bad (drawing.on_unit (units.Unit.Char 0xFFFD) at.state) at.state) plain (spell at.rest m b)
+        (bad-keeps read.bad at.state h)
+    played-keeps (change m) at plain h = change-keeps m at.state.screen plain h
+
+    tape-keeps : (tape : List Taped) (at : Reached Drawn) → All IsPlainTaped tape → HasHalves at.state.screen
+        → HasHalves (run_tape tape at).state.screen
+    tape-keeps [] at plain h = h
+    tape-keeps (item ∷ tape) at plain h =
+        tape-keeps tape (played item at) (All-tail IsPlainTaped item tape plain)
+        (played-keeps item at (All-head IsPlainTaped item tape plain) h)
+
+    pub tapes-keep-halves : TapesKeepHalves
+    tapes-keep-halves rows cols tape plain =
+        (tape-keeps tape (having_said [] (start rows cols)) plain
+        (law.filling rows cols _ refl, places 256 0 (omega arith))).0

@@ -1,0 +1,13 @@
+//! The laws of the cursor, which hold of every screen that bytes and changes make.
+ghost use Rattle.vt_screen.specs.Inside.{TapesKeepCursor};
+ghost use Rattle.vt_screen.specs.SavedCursor.{RestorePutsBack};
+
+/// After every tape the cursor is in the screen, and in origin mode in the region.
+pub fn tapes_keep_cursor()
+    ensures { TapesKeepCursor }
+{}
+
+/// ESC 8 puts the cursor where it was at ESC 7.
+pub fn restore_puts_back()
+    ensures { RestorePutsBack }
+{}

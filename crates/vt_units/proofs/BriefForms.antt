@@ -1,0 +1,86 @@
+-- Where a brief sequence stands, by its numbers as they are read.
+use Rattle.std.proofs.Common.{◌≡◌, ℕ, ◌==◌, ◌≤◌, ◌<◌, ◌+◌, Bool, true, false, ◌&&◌, List, length, drop, get_or, refl, sym, ap, ◌∙◌, arith}
+use Rattle.std.specs.Prelude.{nat_le, slice_index}
+use Rattle.std.proofs.lemmas.Bool.{cond-true, cond-false, eq-eqb, le-leb}
+use Rattle.std.proofs.lemmas.Bool.Decides.{nat_tests}
+use Rattle.std.proofs.lemmas.List.{drop_more}
+use Rattle.vt_units.proofs.Numbered.{front-goes, front-stops}
+use Rattle.vt_units.specs.BriefForms.{begins_brief, ends_brief, ends_numbers, is_brief_end, is_number_before}
+use Rattle.vt_units.specs.Briefs.{Begun, Goes}
+use Rattle.vt_units.specs.Bytes.{is_digit}
+use Rattle.vt_units.specs.Reading.{behind, front}
+
+-- a number that ends before place j
+number-ends : (holds : List ℕ → Bool) (text : List ℕ) (n i m j : ℕ) → Goes text n i m j → j ≤ i + 3
+    → j < length text → is_digit (get_or text j 0) ≡ false
+    → is_number_before holds (drop i text) ≡ holds (drop j text)
+number-ends holds text n i m j goes few within stops =
+    let end = front-stops is_digit text j within stops in
+    let short : length (front is_digit (drop i text)) ≤ 3 =
+    omega (arith, goes.digits, ap (λ (bytes : List ℕ). length bytes) end.0) in
+    ap (λ (test : Bool). test && holds (behind is_digit (drop i text))) (le-leb _ 3 short)
+    ∙ ap holds (goes.left ∙ end.1)
+
+-- a fourth digit
+number-long : (holds : List ℕ → Bool) (text : List ℕ) (n i m j : ℕ) → Goes text n i m j → j ≡ i + 3
+    → j < length text → is_digit (get_or text j 0) ≡ true
+    → is_number_before holds (drop i text) ≡ false
+number-long holds text n i m j goes is within digit =
+    let more = front-goes is_digit text j within digit in
+    let long : 3 < length (front is_digit (drop i text)) =
+    omega (arith, goes.digits, is, ap (λ (bytes : List ℕ). length bytes) more.0) in
+    let over : nat_le (length (front is_digit (drop i text))) 3 ≡ false = grind (arith, nat_tests, long) in
+    ap (λ (test : Bool). test && holds (behind is_digit (drop i text))) over
+
+digit-ends-none : (b : ℕ) → is_digit b ≡ true → is_brief_end b ≡ false
+digit-ends-none b digit = grind (arith, nat_tests, digit)
+
+-- by what stands at place j: this is true of the text from there on where the byte there is an end
+number-exact : (holds : List ℕ → Bool) (text : List ℕ) (n i m j : ℕ) → Goes text n i m j → j ≤ i + 3
+    → j < length text → (is_digit (get_or text j 0) ≡ true → j ≡ i + 3)
+    → holds (drop j text) ≡ is_brief_end (get_or text j 0)
+    → is_number_before holds (drop i text) ≡ is_brief_end (get_or text j 0)
+number-exact holds text n i m j goes few within stops there = by (is_digit (get_or text j 0)) refl
+  where
+    by : (test : Bool) → is_digit (get_or text j 0) ≡ test
+        → is_number_before holds (drop i text) ≡ is_brief_end (get_or text j 0)
+    by true digit =
+        number-long holds text n i m j goes (stops digit) within digit
+        ∙ sym (digit-ends-none (get_or text j 0) digit)
+    by false other = number-ends holds text n i m j goes few within other ∙ there
+
+begun-exact : (text : List ℕ) (b : ℕ) → Begun text
+    → is_number_before ends_numbers (drop 2 text) ≡ is_brief_end b → begins_brief text ≡ is_brief_end b
+begun-exact text b begun is =
+    let numbers : Bool = is_number_before ends_numbers (drop 2 text) in
+    let opened : Bool = slice_index text 1 == 0x5B && numbers in
+    let escaped : Bool = slice_index text 0 == 0x1B && opened in
+    ap (λ (test : Bool). test && escaped) (le-leb 10 (length text) begun.long)
+    ∙ ap (λ (test : Bool). test && opened) (eq-eqb (slice_index text 0) 0x1B begun.escape)
+    ∙ ap (λ (test : Bool). test && numbers) (eq-eqb (slice_index text 1) 0x5B begun.bracket)
+    ∙ is
+
+pub one_exact : (text : List ℕ) (first j : ℕ) → Begun text → Goes text 0 2 first j → j ≤ 5 → j < length text
+    → (is_digit (get_or text j 0) ≡ true → j ≡ 5) → (get_or text j 0 == 0x3B) ≡ false
+    → begins_brief text ≡ is_brief_end (get_or text j 0)
+one_exact text first j begun goes few within stops last =
+    let there : ends_numbers (drop j text) ≡ is_brief_end (get_or text j 0) =
+    ap ends_numbers (drop_more text j 0 within) ∙ cond-false _ _ _ last in
+    begun-exact text (get_or text j 0) begun
+    (number-exact ends_numbers text 0 2 first j goes few within stops there)
+
+pub two_exact : (text : List ℕ) (first second j e : ℕ) → Begun text → Goes text 0 2 first j → j ≤ 5
+    → Goes text 0 (j + 1) second e → e ≤ j + 4 → j < length text → get_or text j 0 ≡ 0x3B → e < length text
+    → (is_digit (get_or text e 0) ≡ true → e ≡ j + 4)
+    → begins_brief text ≡ is_brief_end (get_or text e 0)
+two_exact text first second j e begun goes few more long within parts end stops =
+    let b : ℕ = get_or text e 0 in
+    let last : ends_brief (drop e text) ≡ is_brief_end b = ap ends_brief (drop_more text e 0 end) in
+    let numbered : is_number_before ends_brief (drop (j + 1) text) ≡ is_brief_end b =
+    number-exact ends_brief text 0 (j + 1) second e more (omega (arith, long)) end
+    (λ digit. omega (arith, stops digit)) last in
+    let there : ends_numbers (drop j text) ≡ is_brief_end b =
+    ap ends_numbers (drop_more text j 0 within) ∙ cond-true _ _ _ (eq-eqb _ _ parts) ∙ numbered in
+    let other : is_digit (get_or text j 0) ≡ false = ap is_digit parts in
+    begun-exact text b begun
+    (number-ends ends_numbers text 0 2 first j goes few within other ∙ there)

@@ -1,0 +1,43 @@
+-- The forms of sequence that are read without a list of their parameters.
+use Rattle.std.specs.Prelude.{ℕ, Bool, false, ◌==◌, ◌&&◌, ◌||◌, nat_le, List, [], ◌∷◌, length, take, drop, slice_index, if◌then◌else◌}
+use Rattle.vt_chars.specs.Utf8.{within}
+use Rattle.vt_units.specs.Bytes.{is_digit}
+use Rattle.vt_units.specs.Reading.{behind, front, is_empty}
+use Rattle.vt_units.specs.Rest.{Rest}
+
+-- a letter, @ or a grave accent
+abbrev pub is_brief_end : ℕ → Bool
+is_brief_end b = within 0x40 0x5A b || within 0x60 0x7A b
+
+-- a number of at most three digits comes first, perhaps of none, and of what is after it this is true
+abbrev pub is_number_before : (List ℕ → Bool) → List ℕ → Bool
+is_number_before holds text = nat_le (length (front is_digit text)) 3 && holds (behind is_digit text)
+
+abbrev pub ends_brief : List ℕ → Bool
+ends_brief [] = false
+ends_brief (last ∷ more) = is_brief_end last
+
+-- the end, or a semicolon, a second number and the end
+abbrev pub ends_numbers : List ℕ → Bool
+ends_numbers [] = false
+ends_numbers (b ∷ more) = if b == 0x3B then is_number_before ends_brief more else is_brief_end b
+
+-- ESC [, one or two numbers and the end, in a text that has room for the longest such sequence
+abbrev pub begins_brief : List ℕ → Bool
+begins_brief text =
+    nat_le 10 (length text)
+    && (slice_index text 0 == 0x1B
+    && (slice_index text 1 == 0x5B && is_number_before ends_numbers (drop 2 text)))
+
+-- ESC and a byte from 0 to O
+abbrev pub begins_escape : List ℕ → Bool
+begins_escape (esc ∷ last ∷ more) = esc == 0x1B && within 0x30 0x4F last
+begins_escape text = false
+
+-- such a control sequence stands at the front of the text, where nothing is pending
+abbrev pub brief_stands : Rest → List ℕ → Bool
+brief_stands rest text = if is_empty rest.text then begins_brief (take 256 text) else false
+
+-- such an escape sequence stands there
+abbrev pub escape_stands : Rest → List ℕ → Bool
+escape_stands rest text = if is_empty rest.text then begins_escape text else false
