@@ -6,7 +6,7 @@ use Rattle.std.proofs.lemmas.List.Folds.{list_all-append, list_any_at}
 use Rattle.std.specs.List.{flat_map, list_all, list_any}
 use Rattle.key_syms.specs.declared.pair.Pair.{Pair}
 use Rattle.key_tables.specs.Tables.{Tables, exists_in}
-use Rattle.key_text.specs.Told.{Telling, Told, alt_is_meta, compose, is_fit, is_real, keymaps, keys, one, string, usual_pairs, usual_strings}
+use Rattle.key_text.specs.KeymapLine.{Telling, KeymapLine, alt_is_meta, compose, is_fit, is_real, keymaps, keys, one, string, usual_pairs, usual_strings}
 use Rattle.key_compile.specs.Compiled.{AreTablesOf}
 use Rattle.key_compile.specs.Dumpable.{AreFit, CompiledAreDumpable, is_dumpable}
 use Rattle.key_compile.specs.Pairs.{pairs_by, pairs_in, usual}
@@ -34,7 +34,7 @@ named_by alt_is_meta e fit = absurd (false≢true e)
 named_by usual_strings e fit = absurd (false≢true e)
 named_by usual_pairs e fit = absurd (false≢true e)
 
-named_in : (lines : List Told) → AreFit lines → list_any (λ l. is_keymaps l.telling) lines ≡ true → SomeTable (λ t. list_any (λ l. names_table t l.telling) lines)
+named_in : (lines : List KeymapLine) → AreFit lines → list_any (λ l. is_keymaps l.telling) lines ≡ true → SomeTable (λ t. list_any (λ l. names_table t l.telling) lines)
 named_in [] fit e = absurd (false≢true e)
 named_in (l ∷ ls) fit e = by_first (named_in ls (All-tail (λ l. IsTrue (is_fit l.telling)) l ls fit)) (is_keymaps l.telling) refl
   where
@@ -50,7 +50,7 @@ named_in (l ∷ ls) fit e = by_first (named_in ls (All-tail (λ l. IsTrue (is_fi
         let found = rest (sym (ap (λ b. b || list_any (λ l. is_keymaps l.telling) ls) other) ∙ e) in
         (found.0, found.1, ap (λ b. names_table found.0 l.telling || b) found.2 ∙ or_true (names_table found.0 l.telling))
 
-union_some : (lines : List Told) → AreFit lines → SomeTable (in_union lines)
+union_some : (lines : List KeymapLine) → AreFit lines → SomeTable (in_union lines)
 unfolding in_union
 union_some lines fit = by_test (named_in lines fit) (list_any (λ l. is_keymaps l.telling) lines) refl
   where
@@ -58,13 +58,13 @@ union_some lines fit = by_test (named_in lines fit) (list_any (λ l. is_keymaps 
     by_test named true e = named e
     by_test named false e = (0, omega arith, refl)
 
-declared_some : (lines : List Told) → AreFit lines → SomeTable (is_declared lines)
+declared_some : (lines : List KeymapLine) → AreFit lines → SomeTable (is_declared lines)
 unfolding is_declared
 declared_some lines fit =
     let found = union_some lines fit in
     (found.0, found.1, or_left (in_union lines found.0) (list_any (λ l. modifies_table found.0 l.telling) lines) found.2)
 
-has_table : (lines : List Told) (tables : Tables) → AreFit lines → AreTablesOf lines tables → list_any is_some tables.maps ≡ true
+has_table : (lines : List KeymapLine) (tables : Tables) → AreFit lines → AreTablesOf lines tables → list_any is_some tables.maps ≡ true
 has_table lines tables fit are =
     let found = declared_some lines fit in
     list_any_at is_some tables.maps found.0 None (let e = are.whole.tall in omega (arith, found.1, e)) (are.exist found.0 found.1 ∙ found.2)
@@ -83,7 +83,7 @@ pairs_real alt_is_meta fit = refl
 pairs_real usual_strings fit = refl
 pairs_real usual_pairs fit = usual-real
 
-all_real : (lines : List Told) → AreFit lines → list_all is_real (pairs_in lines) ≡ true
+all_real : (lines : List KeymapLine) → AreFit lines → list_all is_real (pairs_in lines) ≡ true
 all_real [] fit = refl
 all_real (l ∷ ls) fit =
     list_all-append is_real (pairs_by l.telling) (pairs_in ls)

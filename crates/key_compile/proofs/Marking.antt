@@ -2,7 +2,7 @@
 use Rattle.std.proofs.Common.{◌≡◌, ℕ, suc, zero, ◌+◌, ◌<◌, ◌≤◌, Bool, true, false, ◌||◌, cond, List, [], ◌∷◌, ◌++◌, length, get_or, take, replicate, append-nil, refl, sym, ap, ◌∙◌, arith}
 use Rattle.std.proofs.lemmas.List.{get_or-replicate, length-replicate, take_more}
 use Rattle.std.specs.List.{list_any, slice_index_or}
-use Rattle.key_text.specs.Told.{Telling, Told}
+use Rattle.key_text.specs.KeymapLine.{Telling, KeymapLine}
 use Rattle.key_compile.specs.Union.{IsSetOf, in_union, passing_below, union_of}
 
 -- the tables below t that pass were added
@@ -32,20 +32,20 @@ any_more {X = X} test xs i d h = ap (list_any test) (take_more xs i d h) ∙ any
     any_pushed (z ∷ ys) y = ap (λ b. test z || b) (any_pushed ys y) ∙ or_assoc (test z) (list_any test ys) (test y)
 
 -- the marks of a union, and of what the first lines name
-pub marked_none : (names : ℕ → Telling → Bool) (lines : List Told) (marks : List Bool) → marks ≡ replicate 256 false → IsSetOf marks (λ t. false || list_any (λ l. names t l.telling) (take 0 lines))
+pub marked_none : (names : ℕ → Telling → Bool) (lines : List KeymapLine) (marks : List Bool) → marks ≡ replicate 256 false → IsSetOf marks (λ t. false || list_any (λ l. names t l.telling) (take 0 lines))
 marked_none names lines marks e = record {
   full = ap length e ∙ length-replicate 256 false;
   each = λ t h. ap (λ ms. slice_index_or ms t false) e ∙ get_or-replicate 256 t false false h;
 }
 
-pub marked_more : (base : ℕ → Bool) (names : ℕ → Telling → Bool) (lines : List Told) (marks new : List Bool) (i : ℕ) (d : Told) → IsSetOf marks (λ t. base t || list_any (λ l. names t l.telling) (take i lines)) → i < length lines → length new ≡ 256 → ((t : ℕ) → t < 256 → slice_index_or new t false ≡ (slice_index_or marks t false || names t (get_or lines i d).telling)) → IsSetOf new (λ t. base t || list_any (λ l. names t l.telling) (take (i + 1) lines))
+pub marked_more : (base : ℕ → Bool) (names : ℕ → Telling → Bool) (lines : List KeymapLine) (marks new : List Bool) (i : ℕ) (d : KeymapLine) → IsSetOf marks (λ t. base t || list_any (λ l. names t l.telling) (take i lines)) → i < length lines → length new ≡ 256 → ((t : ℕ) → t < 256 → slice_index_or new t false ≡ (slice_index_or marks t false || names t (get_or lines i d).telling)) → IsSetOf new (λ t. base t || list_any (λ l. names t l.telling) (take (i + 1) lines))
 marked_more base names lines marks new i d so_far h full each = record {
   full = full;
   each = λ t k.
       each t k
       ∙ ap (λ b. b || names t (get_or lines i d).telling) (so_far.each t k)
       ∙ sym (or_assoc (base t) (list_any (λ l. names t l.telling) (take i lines)) (names t (get_or lines i d).telling))
-      ∙ ap (λ b. base t || b) (sym (any_more (λ (l : Told). names t l.telling) lines i d h));
+      ∙ ap (λ b. base t || b) (sym (any_more (λ (l : KeymapLine). names t l.telling) lines i d h));
 }
 
 pub passing_below-none : (test : ℕ → Bool) → passing_below test 0 ≡ []
@@ -76,6 +76,6 @@ passing_below-same (suc n) f g same =
     ∙ sym (passing_below-suc g n)
 
 -- the tables of the marks of a union
-pub marks_union : (lines : List Told) (marks : List Bool) → IsSetOf marks (in_union lines) → passing_below (λ t. slice_index_or marks t false) 256 ≡ union_of lines
+pub marks_union : (lines : List KeymapLine) (marks : List Bool) → IsSetOf marks (in_union lines) → passing_below (λ t. slice_index_or marks t false) 256 ≡ union_of lines
 unfolding union_of
 marks_union lines marks set = passing_below-same 256 (λ t. slice_index_or marks t false) (in_union lines) set.each

@@ -8,7 +8,7 @@ use Rattle.std.specs.List.{list_any}
 use Rattle.std.specs.Option.{option_map, option_or}
 use Rattle.key_syms.specs.Act.{Act}
 use Rattle.key_tables.specs.Tables.{Tables, entry_of, exists_in, map_of, with_entry}
-use Rattle.key_text.specs.Told.{Telling, Told}
+use Rattle.key_text.specs.KeymapLine.{Telling, KeymapLine}
 use Rattle.key_compile.specs.Entries.{by_symbols, decided, everywhere, gives, paired}
 use Rattle.key_compile.specs.Existing.{HasOwnTable, HasTables}
 use Rattle.key_compile.specs.Fill.{filled}
@@ -88,7 +88,7 @@ puts_one old new table code a there each funcs pairs = record {
     ])
 
 -- the lines so far, and one more
-decided_more : (union : List ℕ) (lines : List Told) (l : Told) (t c : ℕ) → decided union (lines ++ l ∷ []) t c ≡ option_or (gives union l.telling t c) (decided union lines t c)
+decided_more : (union : List ℕ) (lines : List KeymapLine) (l : KeymapLine) (t c : ℕ) → decided union (lines ++ l ∷ []) t c ≡ option_or (gives union l.telling t c) (decided union lines t c)
 decided_more union [] l t c = or_none (gives union l.telling t c)
   where
     or_none : (x : Option Act) → option_or None x ≡ option_or x None
@@ -100,7 +100,7 @@ decided_more union (m ∷ lines) l t c = ap (λ x. option_or x (gives union m.te
     or_moved None y z = refl
     or_moved (Some a) y z = refl
 
-pub decided_next : (union : List ℕ) (lines : List Told) (i : ℕ) (d : Told) → i < length lines → (t c : ℕ) → option_or (gives union (get_or lines i d).telling t c) (decided union (take i lines) t c) ≡ decided union (take (i + 1) lines) t c
+pub decided_next : (union : List ℕ) (lines : List KeymapLine) (i : ℕ) (d : KeymapLine) → i < length lines → (t c : ℕ) → option_or (gives union (get_or lines i d).telling t c) (decided union (take i lines) t c) ≡ decided union (take (i + 1) lines) t c
 decided_next union lines i d h t c =
     sym (ap (λ ls. decided union ls t c) (take_more lines i d h) ∙ decided_more union (take i lines) (get_or lines i d) t c)
 

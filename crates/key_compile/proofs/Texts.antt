@@ -4,7 +4,7 @@ use Rattle.std.proofs.lemmas.Bool.{cases_lt, le-ltb, lt-ltb}
 use Rattle.std.proofs.lemmas.List.{get_or_past, take_more}
 use Rattle.std.specs.Option.{option_or}
 use Rattle.key_tables.specs.Tables.{Tables, func_of}
-use Rattle.key_text.specs.Told.{Told}
+use Rattle.key_text.specs.KeymapLine.{KeymapLine}
 use Rattle.key_compile.specs.Puts.{PutsTexts}
 use Rattle.key_compile.specs.Strings.{last_text, some_text, text_by, trimmed, usual_string}
 use Rattle.key_compile.specs.declared.usual.TheConstants.{USUAL_STRINGS}
@@ -27,7 +27,7 @@ texts_join f g old middle new first second = record {
     twice x None t = refl
     twice x (Some s) t = refl
 
-last_more : (lines : List Told) (l : Told) (i : ℕ) → last_text (lines ++ l ∷ []) i ≡ option_or (text_by l.telling i) (last_text lines i)
+last_more : (lines : List KeymapLine) (l : KeymapLine) (i : ℕ) → last_text (lines ++ l ∷ []) i ≡ option_or (text_by l.telling i) (last_text lines i)
 last_more [] l i = or_none (text_by l.telling i)
   where
     or_none : (x : Option (List ℕ)) → option_or None x ≡ option_or x None
@@ -39,7 +39,7 @@ last_more (m ∷ lines) l i = ap (λ x. option_or x (text_by m.telling i)) (last
     or_moved None y z = refl
     or_moved (Some a) y z = refl
 
-pub last_next : (lines : List Told) (k : ℕ) (d : Told) → k < length lines → (i : ℕ) → option_or (text_by (get_or lines k d).telling i) (last_text (take k lines) i) ≡ last_text (take (k + 1) lines) i
+pub last_next : (lines : List KeymapLine) (k : ℕ) (d : KeymapLine) → k < length lines → (i : ℕ) → option_or (text_by (get_or lines k d).telling i) (last_text (take k lines) i) ≡ last_text (take (k + 1) lines) i
 last_next lines k d h i = sym (ap (λ ls. last_text ls i) (take_more lines k d h) ∙ last_more (take k lines) (get_or lines k d) i)
 
 -- past the usual strings there are none

@@ -9,7 +9,7 @@ use Rattle.key_syms.specs.Act.{Act, act}
 use Rattle.key_syms.specs.Kinds.{HOLE, META}
 use Rattle.key_syms.specs.declared.pair.Pair.{Pair}
 use Rattle.key_tables.specs.Tables.{IsEmpty, IsWhole, Tables, entry_of, exists_in, func_of, hole, with_pairs}
-use Rattle.key_text.specs.Told.{Telling, Told, keymaps, keys, one, string, compose, alt_is_meta, usual_strings, usual_pairs}
+use Rattle.key_text.specs.KeymapLine.{Telling, KeymapLine, keymaps, keys, one, string, compose, alt_is_meta, usual_strings, usual_pairs}
 use Rattle.key_text.specs.declared.fault.KeyFault.{KeyFault}
 use Rattle.key_compile.specs.Compiled.{AreStart, AreTablesOf}
 use Rattle.key_compile.specs.Entries.{decided, entry_in, is_alt, is_ascii_act, line_entry, meta_over}
@@ -100,7 +100,7 @@ named pass t e = elim (cases_lt t 256) [
   | inr ge ↦ absurd (false≢true (sym (none_from pass 256 t ge) ∙ sym (flipped t (passing_below pass 256)) ∙ e))
 ]
 
-pub start_of : (lines : List Told) (marks : List Bool) (declared : List ℕ) (k : Tables) → IsSetOf marks (is_declared lines) → declared ≡ passing_below (λ t. slice_index_or marks t false) 256 → IsEmpty declared k → AreStart lines k
+pub start_of : (lines : List KeymapLine) (marks : List Bool) (declared : List ℕ) (k : Tables) → IsSetOf marks (is_declared lines) → declared ≡ passing_below (λ t. slice_index_or marks t false) 256 → IsEmpty declared k → AreStart lines k
 start_of lines marks declared k set e empty = record {
   exist = λ t h. empty.exists t ∙ ap (list_any (λ d. d == t)) e ∙ among (λ n. slice_index_or marks n false) 256 t h ∙ set.each t h;
   entries = empty.entries;
@@ -116,18 +116,18 @@ or_second : (a b : Bool) → b ≡ true → (a || b) ≡ true
 or_second true b e = refl
 or_second false b e = e
 
-pub has_union : (lines : List Told) (union : List ℕ) (k : Tables) → AreStart lines k → union ≡ union_of lines → HasTables union k
+pub has_union : (lines : List KeymapLine) (union : List ℕ) (k : Tables) → AreStart lines k → union ≡ union_of lines → HasTables union k
 unfolding union_of is_declared
 has_union lines union k start e t h =
     let in_it = named (in_union lines) t (ap (list_any (λ u. t == u)) (sym e) ∙ h) in
     start.exist t in_it.0 ∙ or_first (in_union lines t) (list_any (λ l. modifies_table t l.telling) lines) in_it.1
 
-pub has_own : (lines : List Told) (k : Tables) → AreStart lines k → HaveOwnTables lines k
+pub has_own : (lines : List KeymapLine) (k : Tables) → AreStart lines k → HaveOwnTables lines k
 unfolding is_declared
 has_own lines k start i d h t small e =
     start.exist t small ∙ or_second (in_union lines t) (list_any (λ l. modifies_table t l.telling) lines) (list_any_at (λ l. modifies_table t l.telling) lines i d h e)
 
-no_fault : (l : Told) (x : Option ℕ) (y : Option KeyFault) → option_or (option_map (at_line l) x) y ≡ None → (x ≡ None) × (y ≡ None)
+no_fault : (l : KeymapLine) (x : Option ℕ) (y : Option KeyFault) → option_or (option_map (at_line l) x) y ≡ None → (x ≡ None) × (y ≡ None)
 no_fault l None y e = (refl, e)
 no_fault l (Some kind) y e = let f : Some (at_line l kind) ≡ None = e in cc
 
@@ -145,12 +145,12 @@ fits n seen count alt_is_meta e = refl
 fits n seen count usual_strings e = refl
 fits n seen count usual_pairs e = refl
 
-all_fit : (n : ℕ) (seen : Bool) (count : ℕ) (lines : List Told) → first_fault n seen count lines ≡ None → FitUnion n lines
+all_fit : (n : ℕ) (seen : Bool) (count : ℕ) (lines : List KeymapLine) → first_fault n seen count lines ≡ None → FitUnion n lines
 all_fit n seen count [] e i d h = absurd (omega arith)
 all_fit n seen count (l ∷ ls) e zero d h = fits n seen count l.telling (no_fault l _ _ e).0
 all_fit n seen count (l ∷ ls) e (suc i) d h = all_fit n (seen || is_key l.telling) (count + pairs_of_line l.telling) ls (no_fault l _ _ e).1 i d (omega arith)
 
-pub lines_fit : (lines : List Told) (union : List ℕ) → union ≡ union_of lines → compile_fault lines ≡ None → FitUnion (length union) lines
+pub lines_fit : (lines : List KeymapLine) (union : List ℕ) → union ≡ union_of lines → compile_fault lines ≡ None → FitUnion (length union) lines
 unfolding compile_fault
 lines_fit lines union e good = all_fit (length union) false 0 lines (ap (λ us. first_fault (length us) false 0 lines) e ∙ good)
 
@@ -171,7 +171,7 @@ few n seen count alt_is_meta e h = (omega arith, refl)
 few n seen count usual_strings e h = (omega arith, refl)
 few n seen count usual_pairs e h = (few_of (count + 66) e, length-usual)
 
-pairs_few : (n : ℕ) (seen : Bool) (count : ℕ) (lines : List Told) → first_fault n seen count lines ≡ None → count ≤ 256 → count + length (pairs_in lines) ≤ 256
+pairs_few : (n : ℕ) (seen : Bool) (count : ℕ) (lines : List KeymapLine) → first_fault n seen count lines ≡ None → count ≤ 256 → count + length (pairs_in lines) ≤ 256
 pairs_few n seen count [] e h = omega arith
 pairs_few n seen count (l ∷ ls) e h =
     let parts = no_fault l (fault_of n seen count l.telling) (first_fault n (seen || is_key l.telling) (count + pairs_of_line l.telling) ls) e in
@@ -183,12 +183,12 @@ pairs_few n seen count (l ∷ ls) e h =
     together : (count all first others adds : ℕ) → all ≡ first + others → first ≡ adds → count + adds + others ≤ 256 → count + all ≤ 256
     together count all first others adds p q r = omega arith
 
-pub pairs_fit : (lines : List Told) (pairs : List Pair) → pairs ≡ pairs_in lines → compile_fault lines ≡ None → length pairs ≤ 256
+pub pairs_fit : (lines : List KeymapLine) (pairs : List Pair) → pairs ≡ pairs_in lines → compile_fault lines ≡ None → length pairs ≤ 256
 unfolding compile_fault
 pairs_fit lines pairs e good = omega (arith, pairs_few (length (union_of lines)) false 0 lines good (omega arith), ap length e)
 
 -- the entries that the lines decide
-entry_first : (lines : List Told) (union : List ℕ) (k0 k1 : Tables) → AreStart lines k0 → union ≡ union_of lines → Puts (decided union lines) k0 k1 → (t c : ℕ) → t < 256 → entry_of k1 t c ≡ cond (is_declared lines t) (Some (line_entry lines t c)) None
+entry_first : (lines : List KeymapLine) (union : List ℕ) (k0 k1 : Tables) → AreStart lines k0 → union ≡ union_of lines → Puts (decided union lines) k0 k1 → (t c : ℕ) → t < 256 → entry_of k1 t c ≡ cond (is_declared lines t) (Some (line_entry lines t c)) None
 unfolding line_entry
 entry_first lines union k0 k1 start e puts t c h =
     puts.entries t c
@@ -226,7 +226,7 @@ meta_there k t c h j =
     ap (λ b. cond (b && nat_lt c 256) (meta_of (entry_of k t c) (entry_of k (t + 8) c)) None) (le-leb 1 c h)
     ∙ ap (λ b. cond b (meta_of (entry_of k t c) (entry_of k (t + 8) c)) None) (lt-ltb c 256 j)
 
-entry_last : (lines : List Told) (k1 k2 : Tables) → ((t c : ℕ) → t < 256 → entry_of k1 t c ≡ cond (is_declared lines t) (Some (line_entry lines t c)) None) → Puts (λ t c. cond (list_any (λ l. is_alt l.telling) lines) (metas_below k1 8 t c) None) k1 k2 → (t c : ℕ) → t < 256 → 1 ≤ c → c < 256 → entry_of k2 t c ≡ cond (is_declared lines t) (Some (entry_in lines t c)) None
+entry_last : (lines : List KeymapLine) (k1 k2 : Tables) → ((t c : ℕ) → t < 256 → entry_of k1 t c ≡ cond (is_declared lines t) (Some (line_entry lines t c)) None) → Puts (λ t c. cond (list_any (λ l. is_alt l.telling) lines) (metas_below k1 8 t c) None) k1 k2 → (t c : ℕ) → t < 256 → 1 ≤ c → c < 256 → entry_of k2 t c ≡ cond (is_declared lines t) (Some (entry_in lines t c)) None
 unfolding entry_in metas_below
 entry_last lines k1 k2 first metas t c h i j =
     metas.entries t c
@@ -234,7 +234,7 @@ entry_last lines k1 k2 first metas t c h i j =
     ∙ by_test (is_declared lines t) (λ e. with_meta alt range (is_declared lines (t - 8)) (line_entry lines (t - 8) c) (line_entry lines t c) (meta_at k1 (t - 8) c) (λ r. given r e))
   where
     alt : Bool
-    alt = list_any (λ (l : Told). is_alt l.telling) lines
+    alt = list_any (λ (l : KeymapLine). is_alt l.telling) lines
 
     range : Bool
     range = nat_le 8 t && nat_lt t 16
@@ -251,7 +251,7 @@ entry_last lines k1 k2 first metas t c h i j =
     by_test true e = ap Some (e refl)
     by_test false e = refl
 
-pub finish : (lines : List Told) (union : List ℕ) (pairs : List Pair) (k0 k1 k2 k3 k4 : Tables) → AreStart lines k0 → union ≡ union_of lines → Puts (decided union lines) k0 k1 → Puts (λ t c. cond (list_any (λ l. is_alt l.telling) lines) (metas_below k1 8 t c) None) k1 k2 → PutsTexts (last_text lines) k2 k3 → k4 ≡ with_pairs k3 pairs → pairs ≡ pairs_in lines → IsWhole k4 → AreTablesOf lines k4
+pub finish : (lines : List KeymapLine) (union : List ℕ) (pairs : List Pair) (k0 k1 k2 k3 k4 : Tables) → AreStart lines k0 → union ≡ union_of lines → Puts (decided union lines) k0 k1 → Puts (λ t c. cond (list_any (λ l. is_alt l.telling) lines) (metas_below k1 8 t c) None) k1 k2 → PutsTexts (last_text lines) k2 k3 → k4 ≡ with_pairs k3 pairs → pairs ≡ pairs_in lines → IsWhole k4 → AreTablesOf lines k4
 finish lines union pairs k0 k1 k2 k3 k4 start e puts metas texts is same whole = record {
   whole = whole;
   exist = λ t h.

@@ -1,7 +1,7 @@
 -- The tables of the lines of a keymap.
 use Rattle.std.specs.Prelude.{◌≡◌, ℕ, ◌<◌, ◌≤◌, cond, [], Some, None, Result, Ok, Err, List}
 use Rattle.key_tables.specs.Tables.{IsWhole, Tables, entry_of, exists_in, func_of, hole}
-use Rattle.key_text.specs.Told.{Told}
+use Rattle.key_text.specs.KeymapLine.{KeymapLine}
 use Rattle.key_text.specs.declared.fault.KeyError.{KeyError}
 use Rattle.key_text.specs.declared.fault.KeyError.TheVariants as errors
 use Rattle.key_compile.specs.Entries.{entry_in}
@@ -12,7 +12,7 @@ use Rattle.key_compile.specs.Union.{is_declared}
 
 -- the tables of the lines: which exist, what each keycode from 1 to 255 does in them, the strings
 -- and the pairs; code 0 is no keycode
-pub record AreTablesOf (lines : List Told) (tables : Tables) : Type 0 where
+pub record AreTablesOf (lines : List KeymapLine) (tables : Tables) : Type 0 where
   pub whole : IsWhole tables
   pub exist : (t : ℕ) → t < 256 → exists_in tables t ≡ is_declared lines t
   pub entries :
@@ -23,17 +23,17 @@ pub record AreTablesOf (lines : List Told) (tables : Tables) : Type 0 where
 
 -- lines have one value of tables
 abbrev pub OneValue : Type 0
-OneValue = (lines : List Told) (a b : Tables) → AreTablesOf lines a → AreTablesOf lines b → a ≡ b
+OneValue = (lines : List KeymapLine) (a b : Tables) → AreTablesOf lines a → AreTablesOf lines b → a ≡ b
 
 -- the tables that are declared exist, and nothing is set
-pub record AreStart (lines : List Told) (tables : Tables) : Type 0 where
+pub record AreStart (lines : List KeymapLine) (tables : Tables) : Type 0 where
   pub exist : (t : ℕ) → t < 256 → exists_in tables t ≡ is_declared lines t
   pub entries : (t c : ℕ) → entry_of tables t c ≡ cond (exists_in tables t) (Some hole) None
   pub funcs : (i : ℕ) → func_of tables i ≡ []
   pub pairs : tables.pairs ≡ []
 
 -- the lines have no fault and these are their tables; or this is their first fault
-abbrev pub Compiles : List Told → Result Tables KeyError → Type 0
+abbrev pub Compiles : List KeymapLine → Result Tables KeyError → Type 0
 Compiles lines (Ok tables) = (compile_fault lines ≡ None) × AreTablesOf lines tables
 Compiles lines (Err errors.NoMemory) = Unit {0}
 Compiles lines (Err (errors.Fault f)) = compile_fault lines ≡ Some f

@@ -2,7 +2,7 @@
 use Rattle.std.specs.Prelude.{◌≡◌, Bool, ◌&&◌, is_some, IsTrue, List, All}
 use Rattle.std.specs.List.{list_all, list_any}
 use Rattle.key_tables.specs.Tables.{Tables}
-use Rattle.key_text.specs.Told.{Told, is_fit, is_real}
+use Rattle.key_text.specs.KeymapLine.{KeymapLine, is_fit, is_real}
 use Rattle.key_compile.specs.Compiled.{AreTablesOf}
 
 -- a table exists, and the pairs are of characters
@@ -10,11 +10,11 @@ abbrev pub is_dumpable : Tables → Bool
 is_dumpable tables = list_any is_some tables.maps && list_all is_real tables.pairs
 
 -- each line is fit to be one, as those that are read are
-abbrev pub AreFit : List Told → Type 0
+abbrev pub AreFit : List KeymapLine → Type 0
 AreFit lines = All (λ l. IsTrue (is_fit l.telling)) lines
 
 -- the tables of lines can be written
 abbrev pub CompiledAreDumpable : Type 0
 CompiledAreDumpable =
-    (lines : List Told) (tables : Tables) → AreFit lines → AreTablesOf lines tables
+    (lines : List KeymapLine) (tables : Tables) → AreFit lines → AreTablesOf lines tables
     → IsTrue (is_dumpable tables)

@@ -5,7 +5,7 @@ use Rattle.std.specs.Option.{option_or}
 use Rattle.key_syms.specs.Act.{Act, act}
 use Rattle.key_syms.specs.Kinds.{HOLE, META}
 use Rattle.key_tables.specs.Tables.{hole}
-use Rattle.key_text.specs.Told.{Telling, Told, keymaps, keys, one, string, compose, alt_is_meta, usual_strings, usual_pairs}
+use Rattle.key_text.specs.KeymapLine.{Telling, KeymapLine, keymaps, keys, one, string, compose, alt_is_meta, usual_strings, usual_pairs}
 use Rattle.key_compile.specs.Fill.{filled, is_character_act}
 use Rattle.key_compile.specs.Union.{is_declared, union_of}
 
@@ -37,12 +37,12 @@ gives union usual_strings t c = None
 gives union usual_pairs t c = None
 
 -- what the last line that names a table and a code gives
-abbrev pub decided : List ℕ → List Told → ℕ → ℕ → Option Act
+abbrev pub decided : List ℕ → List KeymapLine → ℕ → ℕ → Option Act
 decided union [] t c = None
 decided union (l ∷ ls) t c = option_or (decided union ls t c) (gives union l.telling t c)
 
 -- the entry that the lines decide: a hole where none names it
-unfoldable pub line_entry : List Told → ℕ → ℕ → Act
+unfoldable pub line_entry : List KeymapLine → ℕ → ℕ → Act
 line_entry lines t c = unwrap_or (decided (union_of lines) lines t c) hole
 
 -- a line `alt_is_meta`
@@ -66,7 +66,7 @@ meta_over below a =
     cond (a.kind == HOLE && is_ascii_act below) (act META below.value) a
 
 -- the entry of a table and a code: tables 8 to 15 are filled from those without Alt
-unfoldable pub entry_in : List Told → ℕ → ℕ → Act
+unfoldable pub entry_in : List KeymapLine → ℕ → ℕ → Act
 entry_in lines t c =
     cond (list_any (λ l. is_alt l.telling) lines && (nat_le 8 t && nat_lt t 16)
     && is_declared lines (t - 8))

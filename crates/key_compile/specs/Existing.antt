@@ -2,7 +2,7 @@
 use Rattle.std.specs.Prelude.{◌≡◌, ℕ, ◌<◌, Bool, true, ◌==◌, nat_le, List, length, All}
 use Rattle.std.specs.List.{list_any}
 use Rattle.key_tables.specs.Tables.{Tables, exists_in}
-use Rattle.key_text.specs.Told.{Telling, Told, keymaps, keys, one, string, compose, alt_is_meta, usual_strings, usual_pairs}
+use Rattle.key_text.specs.KeymapLine.{Telling, KeymapLine, keymaps, keys, one, string, compose, alt_is_meta, usual_strings, usual_pairs}
 use Rattle.key_compile.specs.Union.{modifies_table}
 
 -- the tables of the list exist
@@ -26,8 +26,8 @@ fits_union n alt_is_meta = true
 fits_union n usual_strings = true
 fits_union n usual_pairs = true
 
-abbrev pub HaveOwnTables : List Told → Tables → Type 0
+abbrev pub HaveOwnTables : List KeymapLine → Tables → Type 0
 HaveOwnTables lines tables = All (λ l. HasOwnTable l.telling tables) lines
 
-abbrev pub FitUnion : ℕ → List Told → Type 0
+abbrev pub FitUnion : ℕ → List KeymapLine → Type 0
 FitUnion n lines = All (λ l. fits_union n l.telling ≡ true) lines

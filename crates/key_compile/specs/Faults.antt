@@ -1,7 +1,7 @@
 -- The first fault of the lines of a keymap.
 use Rattle.std.specs.Prelude.{ℕ, ◌+◌, Bool, true, false, ◌||◌, cond, nat_lt, Option, Some, None, List, [], ◌∷◌, length}
 use Rattle.std.specs.Option.{option_map, option_or}
-use Rattle.key_text.specs.Told.{Telling, Told, keymaps, keys, one, string, compose, alt_is_meta, usual_strings, usual_pairs}
+use Rattle.key_text.specs.KeymapLine.{Telling, KeymapLine, keymaps, keys, one, string, compose, alt_is_meta, usual_strings, usual_pairs}
 use Rattle.key_text.specs.declared.fault.KeyFault.{KeyFault}
 use Rattle.key_text.specs.FaultKinds.{LATE_KEYMAPS, TOO_MANY_PAIRS, WRONG_COUNT}
 use Rattle.key_compile.specs.Union.{union_of}
@@ -45,14 +45,14 @@ fault_of n seen count usual_strings = None
 fault_of n seen count usual_pairs = pairs_fault (count + 66)
 
 -- a fault of this kind at a line's first word
-abbrev pub at_line : Told → ℕ → KeyFault
+abbrev pub at_line : KeymapLine → ℕ → KeyFault
 at_line l kind = record { kind = kind; line = l.line; column = l.column }
 
-abbrev pub first_fault : ℕ → Bool → ℕ → List Told → Option KeyFault
+abbrev pub first_fault : ℕ → Bool → ℕ → List KeymapLine → Option KeyFault
 first_fault n seen count [] = None
 first_fault n seen count (l ∷ ls) =
     option_or (option_map (at_line l) (fault_of n seen count l.telling))
     (first_fault n (seen || is_key l.telling) (count + pairs_of_line l.telling) ls)
 
-unfoldable pub compile_fault : List Told → Option KeyFault
+unfoldable pub compile_fault : List KeymapLine → Option KeyFault
 compile_fault lines = first_fault (length (union_of lines)) false 0 lines

@@ -2,7 +2,7 @@
 use Rattle.std.specs.Prelude.{ℕ, ◌==◌, not, cond, Option, Some, None, unwrap_or, List, [], ◌∷◌, take, slice_index_or}
 use Rattle.std.specs.List.{prefix_len}
 use Rattle.std.specs.Option.{option_or}
-use Rattle.key_text.specs.Told.{Telling, Told, keymaps, keys, one, string, compose, alt_is_meta, usual_strings, usual_pairs}
+use Rattle.key_text.specs.KeymapLine.{Telling, KeymapLine, keymaps, keys, one, string, compose, alt_is_meta, usual_strings, usual_pairs}
 use Rattle.key_compile.specs.declared.usual.TheConstants.{USUAL_STRINGS}
 
 -- the bytes of a row up to the first 0
@@ -30,10 +30,10 @@ text_by usual_strings i = usual_string i
 text_by usual_pairs i = None
 
 -- what the last line that names a function key gives
-abbrev pub last_text : List Told → ℕ → Option (List ℕ)
+abbrev pub last_text : List KeymapLine → ℕ → Option (List ℕ)
 last_text [] i = None
 last_text (l ∷ ls) i = option_or (last_text ls i) (text_by l.telling i)
 
 -- the string of a function key
-abbrev pub string_in : List Told → ℕ → List ℕ
+abbrev pub string_in : List KeymapLine → ℕ → List ℕ
 string_in lines i = unwrap_or (last_text lines i) []

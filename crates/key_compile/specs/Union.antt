@@ -1,7 +1,7 @@
 -- Which tables the lines of a keymap declare.
 use Rattle.std.specs.Prelude.{◌≡◌, ℕ, zero, suc, ◌<◌, Bool, true, false, ◌==◌, ◌||◌, cond, nat_le, List, [], ◌∷◌, ◌++◌, length, slice_index_or}
 use Rattle.std.specs.List.{list_any}
-use Rattle.key_text.specs.Told.{Telling, Told, keymaps, keys, one, string, compose, alt_is_meta, usual_strings, usual_pairs}
+use Rattle.key_text.specs.KeymapLine.{Telling, KeymapLine, keymaps, keys, one, string, compose, alt_is_meta, usual_strings, usual_pairs}
 
 -- a line `keymaps`
 abbrev pub is_keymaps : Telling → Bool
@@ -41,7 +41,7 @@ abbrev pub is_usual_table : ℕ → Bool
 is_usual_table t = nat_le t 2 || t == 4 || t == 5 || t == 8 || t == 12
 
 -- the table is in the union: one of the `keymaps` lines has it, wherever the line stands
-unfoldable pub in_union : List Told → ℕ → Bool
+unfoldable pub in_union : List KeymapLine → ℕ → Bool
 in_union lines t =
     cond (list_any (λ l. is_keymaps l.telling) lines)
     (list_any (λ l. names_table t l.telling) lines) (is_usual_table t)
@@ -52,11 +52,11 @@ passing_below test zero = []
 passing_below test (suc n) = passing_below test n ++ cond (test n) (n ∷ []) []
 
 -- the tables of the union, in rising order
-unfoldable pub union_of : List Told → List ℕ
+unfoldable pub union_of : List KeymapLine → List ℕ
 union_of lines = passing_below (in_union lines) 256
 
 -- the table is declared: it is in the union, or a line with modifier words is for it
-unfoldable pub is_declared : List Told → ℕ → Bool
+unfoldable pub is_declared : List KeymapLine → ℕ → Bool
 is_declared lines t = in_union lines t || list_any (λ l. modifies_table t l.telling) lines
 
 -- the list says for each table whether it passes

@@ -9,7 +9,7 @@ use Rattle.key_syms.specs.Act.{Act, act, is_action}
 use Rattle.key_syms.specs.Kinds.{HOLE}
 use Rattle.key_syms.specs.declared.pair.Pair.{Pair}
 use Rattle.key_tables.specs.Tables.{IsMap, Tables, entry_of, exists_in, func_of, hole, map_of}
-use Rattle.key_text.specs.Told.{Telling, Told, compose, one, string}
+use Rattle.key_text.specs.KeymapLine.{Telling, KeymapLine, compose, one, string}
 use Rattle.key_compile.specs.Entries.{entry_in, gives, is_alt, line_entry, meta_over}
 use Rattle.key_compile.specs.Pairs.{pairs_by, pairs_in}
 use Rattle.key_compile.specs.Strings.{last_text, string_in, text_by}
@@ -56,7 +56,7 @@ gives-other : (union : List ℕ) (t c u d : ℕ) (a : Act) → (t == u && c == d
 gives-other union t c u d a e = ap (λ b. cond b (Some a) None) e
 
 -- what the lines give an entry
-decided-is : (union : List ℕ) (lines : List Told) (tables : Tables) (t c : ℕ) (map : List Act) → AreDumped lines tables → t < 256 → c < 256 → map_of tables t ≡ Some map → length map ≡ 256 → last_by (λ telling. gives union telling t c) (tellings_of lines) ≡ last_by (λ telling. gives union telling t c) (entry_tellings t c (get_or map c hole))
+decided-is : (union : List ℕ) (lines : List KeymapLine) (tables : Tables) (t c : ℕ) (map : List Act) → AreDumped lines tables → t < 256 → c < 256 → map_of tables t ≡ Some map → length map ≡ 256 → last_by (λ telling. gives union telling t c) (tellings_of lines) ≡ last_by (λ telling. gives union telling t c) (entry_tellings t c (get_or map c hole))
 decided-is union lines tables t c map are low small e full =
     let f : Telling → Option Act = λ telling. gives union telling t c in
     let entries = rows_from table_tellings 0 tables.maps in
@@ -93,20 +93,20 @@ entry-back union t c a action = by_test (a.kind == HOLE) refl
     by_test false e =
         ap (λ b. unwrap_or (cond b (Some a) None) hole) (and_from (t == t) (c == c) (eq-eqb t t refl) (eq-eqb c c refl))
 
-no-alt : (lines : List Told) (tables : Tables) → AreDumped lines tables → list_any (λ l. is_alt l.telling) lines ≡ false
+no-alt : (lines : List KeymapLine) (tables : Tables) → AreDumped lines tables → list_any (λ l. is_alt l.telling) lines ≡ false
 no-alt lines tables are =
     any-dumped is_alt lines tables are
     ∙ items-any is_alt tables (tables-any is_alt tables (λ t c a. refl)) (λ i text. refl) (λ pair. refl)
 
 -- the entry that the lines decide is the table's
-entry-is : (lines : List Told) (tables : Tables) (t c : ℕ) (map : List Act) → AreDumped lines tables → t < 256 → c < 256 → map_of tables t ≡ Some map → IsMap map → entry_in lines t c ≡ get_or map c hole
+entry-is : (lines : List KeymapLine) (tables : Tables) (t c : ℕ) (map : List Act) → AreDumped lines tables → t < 256 → c < 256 → map_of tables t ≡ Some map → IsMap map → entry_in lines t c ≡ get_or map c hole
 unfolding entry_in line_entry
 entry-is lines tables t c map are low small e is =
     ap (λ b. cond (b && (leb 8 t && ltb t 16) && is_declared lines (t - 8)) (meta_over (line_entry lines (t - 8) c) (line_entry lines t c)) (line_entry lines t c)) (no-alt lines tables are)
     ∙ ap (λ a. unwrap_or a hole) (decided-last (union_of lines) t c lines ∙ decided-is (union_of lines) lines tables t c map are low small e is.full)
     ∙ entry-back (union_of lines) t c (get_or map c hole) (is.known c hole (let full = is.full in omega (arith, full, small)))
 
-pub entries-are : (lines : List Told) (tables : Tables) (t c : ℕ) → AreDumped lines tables → t < 256 → c < 256 → entry_of tables t c ≡ cond (exists_in tables t) (Some (entry_in lines t c)) None
+pub entries-are : (lines : List KeymapLine) (tables : Tables) (t c : ℕ) → AreDumped lines tables → t < 256 → c < 256 → entry_of tables t c ≡ cond (exists_in tables t) (Some (entry_in lines t c)) None
 entries-are lines tables t c are low small =
     by_map (map_of tables t) refl (are.whole.maps t None (let tall = are.whole.tall in omega (arith, tall, low)))
   where
@@ -115,7 +115,7 @@ entries-are lines tables t c are low small =
     by_map (Some map) e is = ap Some (sym (entry-is lines tables t c map are low small e is))
 
 -- the string that the lines give a function key
-texts-are : (lines : List Told) (tables : Tables) (i : ℕ) → AreDumped lines tables → last_text lines i ≡ last_by (λ telling. text_by telling i) (rows_from string_tellings 0 tables.funcs)
+texts-are : (lines : List KeymapLine) (tables : Tables) (i : ℕ) → AreDumped lines tables → last_text lines i ≡ last_by (λ telling. text_by telling i) (rows_from string_tellings 0 tables.funcs)
 texts-are lines tables i are =
     let f : Telling → Option (List ℕ) = λ telling. text_by telling i in
     let entries = rows_from table_tellings 0 tables.maps in
@@ -134,7 +134,7 @@ text-own : (i : ℕ) (text : List ℕ) → unwrap_or (last_by (λ telling. text_
 text-own i [] = refl
 text-own i (b ∷ bs) = ap (λ t. unwrap_or (cond t (Some (b ∷ bs)) None) []) (eq-eqb i i refl)
 
-pub strings-are : (lines : List Told) (tables : Tables) (i : ℕ) → AreDumped lines tables → func_of tables i ≡ string_in lines i
+pub strings-are : (lines : List KeymapLine) (tables : Tables) (i : ℕ) → AreDumped lines tables → func_of tables i ≡ string_in lines i
 strings-are lines tables i are = elim (cases_lt i (length tables.funcs)) [
   | inl low ↦
       sym (ap (λ a. unwrap_or a []) (texts-are lines tables i are
@@ -167,7 +167,7 @@ string-pairs : (i : ℕ) (text : List ℕ) → flat_map pairs_by (string_telling
 string-pairs i [] = refl
 string-pairs i (b ∷ bs) = refl
 
-pub pairs-are : (lines : List Told) (tables : Tables) → AreDumped lines tables → tables.pairs ≡ pairs_in lines
+pub pairs-are : (lines : List KeymapLine) (tables : Tables) → AreDumped lines tables → tables.pairs ≡ pairs_in lines
 pairs-are lines tables are =
     let entries = rows_from table_tellings 0 tables.maps in
     let strings = rows_from string_tellings 0 tables.funcs in

@@ -5,7 +5,7 @@ use Rattle.std.specs.List.{list_any}
 use Rattle.std.specs.Option.{option_map, option_or}
 use Rattle.key_syms.specs.declared.pair.Pair.{Pair}
 use Rattle.key_text.specs.FaultKinds.{TOO_MANY_PAIRS}
-use Rattle.key_text.specs.Told.{Telling, Told, alt_is_meta, compose, keymaps, keys, one, string, usual_pairs, usual_strings}
+use Rattle.key_text.specs.KeymapLine.{Telling, KeymapLine, alt_is_meta, compose, keymaps, keys, one, string, usual_pairs, usual_strings}
 use Rattle.key_compile.specs.Faults.{at_line, fault_of, first_fault, is_key, pairs_of_line}
 use Rattle.key_dump.proofs.Tellings.{tellings_of}
 
@@ -16,7 +16,7 @@ faultless n seen count (telling ∷ tellings) =
     (fault_of n seen count telling ≡ None)
     × faultless n (seen || is_key telling) (count + pairs_of_line telling) tellings
 
-pub first-none : (n : ℕ) (seen : Bool) (count : ℕ) (lines : List Told) → faultless n seen count (tellings_of lines) → first_fault n seen count lines ≡ None
+pub first-none : (n : ℕ) (seen : Bool) (count : ℕ) (lines : List KeymapLine) → faultless n seen count (tellings_of lines) → first_fault n seen count lines ≡ None
 first-none n seen count [] free = refl
 first-none n seen count (l ∷ ls) free =
     ap (λ fault. option_or (option_map (at_line l) fault) (first_fault n (seen || is_key l.telling) (count + pairs_of_line l.telling) ls)) free.0

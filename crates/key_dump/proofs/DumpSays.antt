@@ -10,7 +10,7 @@ use Rattle.key_syms.specs.Laws.{CodePointsAreTheirOwn, NamesAreTheirOwn}
 use Rattle.key_syms.specs.declared.pair.Pair.{Pair}
 use Rattle.key_tables.specs.Tables.{IsMap, IsWhole, Tables, exists_in, hole}
 use Rattle.key_text.specs.Lines.{marked}
-use Rattle.key_text.specs.Told.{Telling, compose, is_real, keymaps, one, string}
+use Rattle.key_text.specs.KeymapLine.{Telling, compose, is_real, keymaps, one, string}
 use Rattle.key_compile.specs.Dumpable.{is_dumpable}
 use Rattle.key_dump.specs.Dump.{dump_rows, entry_rows, entry_words, pair_words, rows_from, string_rows, table_numbers, table_rows}
 use Rattle.key_dump.proofs.EntryLines.{entry_says}

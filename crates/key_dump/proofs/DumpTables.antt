@@ -9,7 +9,7 @@ use Rattle.key_syms.specs.Kinds.{HOLE}
 use Rattle.key_syms.specs.declared.pair.Pair.{Pair}
 use Rattle.key_tables.specs.Tables.{IsWhole, Tables, exists_in, hole}
 use Rattle.key_text.specs.Lines.{covers, marked}
-use Rattle.key_text.specs.Told.{Telling, Told, compose, one, string}
+use Rattle.key_text.specs.KeymapLine.{Telling, KeymapLine, compose, one, string}
 use Rattle.key_compile.specs.Union.{in_union, is_declared, is_keymaps, is_usual_table, modifies_table, names_table}
 use Rattle.key_dump.specs.Dump.{rows_from, table_numbers}
 use Rattle.key_dump.proofs.DumpSays.{dump_tellings, entry_tellings, item_tellings, string_tellings, table_tellings}
@@ -115,18 +115,18 @@ unmodified tables t none =
         (λ c a. ne_eqb t j (λ (same : t ≡ j). false≢true (sym none ∙ ap (exists_in tables) same ∙ ap (λ (m : Option (List Act)). is_some m) e)))
 
 -- the lines tell what a dump tells
-pub record AreDumped (lines : List Told) (tables : Tables) : Type 0 where
+pub record AreDumped (lines : List KeymapLine) (tables : Tables) : Type 0 where
   pub tell : tellings_of lines ≡ dump_tellings tables
   pub whole : IsWhole tables
 
-pub any-dumped : (test : Telling → Bool) (lines : List Told) (tables : Tables) → AreDumped lines tables → list_any (λ l. test l.telling) lines ≡ list_any test (dump_tellings tables)
+pub any-dumped : (test : Telling → Bool) (lines : List KeymapLine) (tables : Tables) → AreDumped lines tables → list_any (λ l. test l.telling) lines ≡ list_any test (dump_tellings tables)
 any-dumped test lines tables are = any-tellings test lines ∙ ap (list_any test) are.tell
 
-pub declared-is : (lines : List Told) (tables : Tables) (t : ℕ) → AreDumped lines tables → t < 256 → is_declared lines t ≡ exists_in tables t
+pub declared-is : (lines : List KeymapLine) (tables : Tables) (t : ℕ) → AreDumped lines tables → t < 256 → is_declared lines t ≡ exists_in tables t
 unfolding is_declared in_union
 declared-is lines tables t are h =
-    ap (λ b. cond b (list_any (λ (l : Told). names_table t l.telling) lines) (is_usual_table t) || list_any (λ (l : Told). modifies_table t l.telling) lines) (any-dumped is_keymaps lines tables are)
-    ∙ ap (λ b. b || list_any (λ (l : Told). modifies_table t l.telling) lines) named
+    ap (λ b. cond b (list_any (λ (l : KeymapLine). names_table t l.telling) lines) (is_usual_table t) || list_any (λ (l : KeymapLine). modifies_table t l.telling) lines) (any-dumped is_keymaps lines tables are)
+    ∙ ap (λ b. b || list_any (λ (l : KeymapLine). modifies_table t l.telling) lines) named
     ∙ ap (λ b. exists_in tables t || b) (any-dumped (modifies_table t) lines tables are)
     ∙ by_test (exists_in tables t) refl
   where

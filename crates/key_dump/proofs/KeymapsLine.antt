@@ -9,7 +9,7 @@ use Rattle.key_text.specs.Fault.{◌>>=◌}
 use Rattle.key_text.specs.FaultKinds.{UNKNOWN_WORD}
 use Rattle.key_text.specs.Fields.{ended}
 use Rattle.key_text.specs.Lines.{before, comma, dash, in_order, keymaps_line, marked, pieces, range_by, range_of, ranges_of, table_of, tables_in, tells, with_byte}
-use Rattle.key_text.specs.Told.{keymaps}
+use Rattle.key_text.specs.KeymapLine.{keymaps}
 use Rattle.key_text.specs.Words.{bytes, next}
 use Rattle.key_text.specs.declared.keymaps_line.TableRange.{TableRange}
 use Rattle.key_text.specs.declared.placed.Place.{Place}

@@ -8,7 +8,7 @@ use Rattle.key_syms.specs.Laws.{CodePointsAreTheirOwn}
 use Rattle.key_syms.specs.declared.pair.Pair.{Pair}
 use Rattle.key_text.specs.Fields.{character_at, ended, keyword_at}
 use Rattle.key_text.specs.Lines.{compose_line, is_next, is_next_by, pair_line, pair_of, tells, usual_pairs_line}
-use Rattle.key_text.specs.Told.{compose, is_real}
+use Rattle.key_text.specs.KeymapLine.{compose, is_real}
 use Rattle.key_text.specs.Words.{bytes}
 use Rattle.key_text.specs.declared.placed.Place.{Place}
 use Rattle.key_text.specs.declared.placed.Placed.{Placed}

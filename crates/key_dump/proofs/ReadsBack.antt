@@ -2,7 +2,7 @@
 use Rattle.std.proofs.Common.{◌≡◌, false, cond, None, Some, List, ◌++◌, length, map, refl, sym, ap, ◌∙◌, subst, arith}
 use Rattle.key_syms.specs.Laws.{CodePointsAreTheirOwn, NamesAreTheirOwn}
 use Rattle.key_tables.specs.Tables.{Tables}
-use Rattle.key_text.specs.Told.{Told, compose}
+use Rattle.key_text.specs.KeymapLine.{KeymapLine, compose}
 use Rattle.key_compile.specs.Compiled.{AreTablesOf}
 use Rattle.key_compile.specs.Entries.{entry_in}
 use Rattle.key_compile.specs.Faults.{compile_fault}
@@ -15,7 +15,7 @@ use Rattle.key_dump.proofs.DumpSays.{dump_say, dump_tellings, string_tellings, t
 use Rattle.key_dump.proofs.DumpTables.{AreDumped, declared-is, strings-any, tables-any}
 use Rattle.key_dump.proofs.TextRows.{text-read}
 
-fine : (lines : List Told) (tables : Tables) → AreDumped lines tables → compile_fault lines ≡ None
+fine : (lines : List KeymapLine) (tables : Tables) → AreDumped lines tables → compile_fault lines ≡ None
 unfolding compile_fault
 fine lines tables are =
     let n = length (union_of lines) in
@@ -29,7 +29,7 @@ fine lines tables are =
           (λ s. pairs-few n s 0 tables.pairs (let few = are.whole.few in omega (arith, few)))),
     ))
 
-compiled : (lines : List Told) (tables : Tables) → AreDumped lines tables → AreTablesOf lines tables
+compiled : (lines : List KeymapLine) (tables : Tables) → AreDumped lines tables → AreTablesOf lines tables
 compiled lines tables are = record {
   whole = are.whole;
   exist = λ t h. sym (declared-is lines tables t are h);

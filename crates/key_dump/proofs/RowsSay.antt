@@ -5,7 +5,7 @@ use Rattle.std.specs.List.{join_with_byte, list_all}
 use Rattle.std.specs.Str.{str_eq_ignore_ascii_case}
 use Rattle.key_text.specs.Fault.{◌>>=◌}
 use Rattle.key_text.specs.Lines.{Said, alt_is_meta_line, charset_line, compose_line, include_line, keymaps_line, keys_line, line_by, modified_by, said_from, string_line, tells, usual_strings_line, weight_of}
-use Rattle.key_text.specs.Told.{Telling}
+use Rattle.key_text.specs.KeymapLine.{Telling}
 use Rattle.key_text.specs.Words.{bytes, word_at}
 use Rattle.key_text.specs.declared.fault.KeyFault.{KeyFault}
 use Rattle.key_text.specs.declared.placed.Place.{Place}

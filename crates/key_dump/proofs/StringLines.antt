@@ -10,7 +10,7 @@ use Rattle.key_text.specs.FaultKinds.{BAD_TEXT}
 use Rattle.key_text.specs.Fields.{ended, function_at, keyword_at, string_at, text_at}
 use Rattle.key_text.specs.Lines.{string_line, tells}
 use Rattle.key_text.specs.Quoted.{text_of}
-use Rattle.key_text.specs.Told.{string}
+use Rattle.key_text.specs.KeymapLine.{string}
 use Rattle.key_text.specs.Words.{bytes, next, spot}
 use Rattle.key_text.specs.declared.placed.Place.{Place}
 use Rattle.key_text.specs.declared.placed.Placed.{Placed}

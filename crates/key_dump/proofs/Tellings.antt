@@ -4,7 +4,7 @@ use Rattle.std.proofs.lemmas.Bool.{or_from}
 use Rattle.std.proofs.lemmas.List.Folds.{list_any-append}
 use Rattle.std.specs.List.{flat_map, list_any}
 use Rattle.std.specs.Option.{option_or}
-use Rattle.key_text.specs.Told.{Telling, Told}
+use Rattle.key_text.specs.KeymapLine.{Telling, KeymapLine}
 use Rattle.key_compile.specs.Entries.{decided, gives}
 use Rattle.key_compile.specs.Pairs.{pairs_by, pairs_in}
 use Rattle.key_compile.specs.Strings.{last_text, text_by}
@@ -109,22 +109,22 @@ last-at f tell xs d k h others =
     last-at-from f tell 0 xs d k h (λ j low other. ap (λ n. last_by f (tell n (get_or xs j d))) (let e : 0 + j ≡ j = omega arith in e) ∙ others j low other)
     ∙ ap (λ n. last_by f (tell n (get_or xs k d))) (let e : 0 + k ≡ k = omega arith in e)
 
-abbrev pub tellings_of : List Told → List Telling
+abbrev pub tellings_of : List KeymapLine → List Telling
 tellings_of lines = map (λ l. l.telling) lines
 
 -- the words of the compiler, over what the lines tell
-pub any-tellings : (test : Telling → Bool) (lines : List Told) → list_any (λ l. test l.telling) lines ≡ list_any test (tellings_of lines)
+pub any-tellings : (test : Telling → Bool) (lines : List KeymapLine) → list_any (λ l. test l.telling) lines ≡ list_any test (tellings_of lines)
 any-tellings test [] = refl
 any-tellings test (l ∷ ls) = ap (λ t. test l.telling || t) (any-tellings test ls)
 
-pub decided-last : (union : List ℕ) (t c : ℕ) (lines : List Told) → decided union lines t c ≡ last_by (λ telling. gives union telling t c) (tellings_of lines)
+pub decided-last : (union : List ℕ) (t c : ℕ) (lines : List KeymapLine) → decided union lines t c ≡ last_by (λ telling. gives union telling t c) (tellings_of lines)
 decided-last union t c [] = refl
 decided-last union t c (l ∷ ls) = ap (λ a. option_or a (gives union l.telling t c)) (decided-last union t c ls)
 
-pub text-last : (i : ℕ) (lines : List Told) → last_text lines i ≡ last_by (λ telling. text_by telling i) (tellings_of lines)
+pub text-last : (i : ℕ) (lines : List KeymapLine) → last_text lines i ≡ last_by (λ telling. text_by telling i) (tellings_of lines)
 text-last i [] = refl
 text-last i (l ∷ ls) = ap (λ a. option_or a (text_by l.telling i)) (text-last i ls)
 
-pub pairs-tellings : (lines : List Told) → pairs_in lines ≡ flat_map pairs_by (tellings_of lines)
+pub pairs-tellings : (lines : List KeymapLine) → pairs_in lines ≡ flat_map pairs_by (tellings_of lines)
 pairs-tellings [] = refl
 pairs-tellings (l ∷ ls) = ap (λ ps. pairs_by l.telling ++ ps) (pairs-tellings ls)

@@ -6,8 +6,8 @@ use Rattle.key_text.specs.Fault.{◌>>=◌}
 use Rattle.key_text.specs.Lines.{tells, said_from}
 use Rattle.key_text.specs.Reading.{Deeper, Got, blamed, given, got, lines_of, most_deep, read_row, read_row_by, read_rows, start, with_lines, within}
 use Rattle.key_text.specs.Rows.{Row, after, backslash, begins_end, begins_lf, carriage_return, joined, line_feed, next_line, place_of, placed, put_at, row_of, rows, rows_of, with_item}
-use Rattle.key_text.specs.Told.{Telling, Told}
-use Rattle.key_text.specs.View.{told}
+use Rattle.key_text.specs.KeymapLine.{Telling, KeymapLine}
+use Rattle.key_text.specs.View.{keymap_line}
 use Rattle.key_text.specs.Words.{bytes, spot, word_at}
 use Rattle.key_text.specs.declared.fault.KeyFault.{KeyFault}
 use Rattle.key_text.specs.declared.placed.Place.{Place}
@@ -97,11 +97,11 @@ all_say-append (x ∷ xs) ys (u ∷ us) vs p q = (p.0, all_say-append xs ys us v
 
 -- lines that were read tell this
 pub record LinesTell (read : Result Got KeyFault) (tellings : List Telling) : Type 0 where
-  pub lines : List Told
+  pub lines : List KeymapLine
   pub is : read ≡ Ok (got lines 0)
   pub tell : map (λ l. l.telling) lines ≡ tellings
 
-read_row-says : (deeper : Deeper) (end : Place) (items : List Placed) (telling : Telling) (says : SaysAt end items telling) → read_row deeper [] None 0 end items ≡ Ok (got (told telling (spot says.word).line (spot says.word).column ∷ []) 0)
+read_row-says : (deeper : Deeper) (end : Place) (items : List Placed) (telling : Telling) (says : SaysAt end items telling) → read_row deeper [] None 0 end items ≡ Ok (got (keymap_line telling (spot says.word).line (spot says.word).column ∷ []) 0)
 unfolding read_row
 read_row-says deeper end items telling says =
     ap (read_row_by deeper [] None 0 end) says.found
@@ -111,7 +111,7 @@ no_row : (deeper : Deeper) (at : Place) → read_rows deeper [] None 0 (rows at 
 unfolding read_row word_at
 no_row deeper at = refl
 
-one_row : (deeper : Deeper) (end : Place) (items : List Placed) (left : List Row) (telling : Told) (lines : List Told) → read_row deeper [] None 0 end items ≡ Ok (got (telling ∷ []) 0) → read_rows deeper [] None 0 left ≡ Ok (got lines 0) → read_rows deeper [] None 0 (row_of items end ∷ left) ≡ Ok (got (telling ∷ lines) 0)
+one_row : (deeper : Deeper) (end : Place) (items : List Placed) (left : List Row) (telling : KeymapLine) (lines : List KeymapLine) → read_row deeper [] None 0 end items ≡ Ok (got (telling ∷ []) 0) → read_rows deeper [] None 0 left ≡ Ok (got lines 0) → read_rows deeper [] None 0 (row_of items end ∷ left) ≡ Ok (got (telling ∷ lines) 0)
 one_row deeper end items left telling lines first more =
     ap (λ read. read >>= λ g. with_lines g.lines (read_rows deeper [] None g.count left)) first
     ∙ ap (with_lines (telling ∷ [])) more
@@ -126,7 +126,7 @@ rows-read deeper at (ws ∷ rs) (telling ∷ tellings) said =
     let next = next_line (past at row) in
     let says = said.0.says (past at row) (spread at row) (bytes-spread at row) in
     let more = rows-read deeper next rs tellings said.1 in
-    let line = told telling (spot says.word).line (spot says.word).column in
+    let line = keymap_line telling (spot says.word).line (spot says.word).column in
     record {
       lines = line ∷ more.lines;
       is =
@@ -139,7 +139,7 @@ rows-read deeper at (ws ∷ rs) (telling ∷ tellings) said =
 
 -- a text is read as lines that tell this
 pub record TextTells (text : List ℕ) (tellings : List Telling) : Type 0 where
-  pub lines : List Told
+  pub lines : List KeymapLine
   pub is : lines_of [] text ≡ Ok lines
   pub tell : map (λ l. l.telling) lines ≡ tellings
 

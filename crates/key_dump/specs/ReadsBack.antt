@@ -5,12 +5,12 @@ use Rattle.key_compile.specs.Dumpable.{is_dumpable}
 use Rattle.key_compile.specs.Faults.{compile_fault}
 use Rattle.key_tables.specs.Tables.{IsWhole, Tables}
 use Rattle.key_text.specs.Reading.{lines_of}
-use Rattle.key_text.specs.Told.{Told}
+use Rattle.key_text.specs.KeymapLine.{KeymapLine}
 use Rattle.key_dump.specs.Dump.{dump_of}
 
 -- the text, with no includes, is read as lines without a fault, and these are their tables
 pub record ReadsAs (text : List ℕ) (tables : Tables) : Type 0 where
-  pub lines : List Told
+  pub lines : List KeymapLine
   pub read : lines_of [] text ≡ Ok lines
   pub fine : compile_fault lines ≡ None
   pub compiled : AreTablesOf lines tables

@@ -5,7 +5,7 @@ ghost use Rattle.key_dump.specs.Dump.{dump_of, keymaps_words, pair_words, row_te
 ghost use Rattle.key_dump.specs.ReadsBack.{ReadsAs};
 ghost use Rattle.key_syms.specs.Act.{is_character};
 ghost use Rattle.key_tables.specs.Tables.{IsWhole};
-ghost use Rattle.key_text.specs.Told.{is_real};
+ghost use Rattle.key_text.specs.KeymapLine.{is_real};
 
 use crate::entries::add_table;
 use crate::laws::dump_reads_back;

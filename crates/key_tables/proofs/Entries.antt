@@ -1,16 +1,14 @@
 -- What one entry or string that is set changes.
-use Rattle.std.proofs.Common.{◌≡◌, ◌≢◌, ℕ, zero, suc, ◌<◌, Bool, true, false, ◌==◌, ◌&&◌, cond, Option, Some, None, is_some, IfSome, IsTrue, All, List, [], ◌∷◌, length, replicate, refl, sym, ap, ◌∙◌, subst, inl, inr, arith}
+use Rattle.std.proofs.Common.{◌≡◌, ◌≢◌, ℕ, ◌<◌, Bool, true, false, ◌==◌, ◌&&◌, cond, Option, Some, None, is_some, IfSome, IsTrue, List, length, refl, sym, ap, ◌∙◌, subst, inl, inr, arith}
 use Rattle.std.proofs.lemmas.Bool.{false≢true}
 use Rattle.std.proofs.lemmas.Bool.Decides.{eqb_tells}
-use Rattle.std.proofs.lemmas.List.{get_or-set_other, get_or-set_same, get_or_default, length-set}
+use Rattle.std.proofs.lemmas.List.{get_or-set_other, get_or-set_same, length-set}
 use Rattle.std.proofs.lemmas.List.Elements.{All-set}
 use Rattle.std.specs.List.{slice_index_or, slice_set}
 use Rattle.std.specs.Option.{option_map}
 use Rattle.key_syms.specs.Act.{Act, is_action}
 use Rattle.key_syms.specs.declared.pair.Pair.{Pair}
-use Rattle.key_tables.specs.Kept.{kept_map}
 use Rattle.key_tables.specs.Tables.{IsMap, IsWhole, Tables, entry_of, exists_in, hole, tables_of}
-use Rattle.key_tables.proofs.Holes.{are_map}
 
 pub in_map : (map : List Act) (c d : ℕ) (a : Act) → c < length map → slice_index_or (slice_set map c a) d hole ≡ cond (d == c) a (slice_index_or map d hole)
 in_map map c d a h = elim (eqb_tells d c) [
@@ -22,18 +20,12 @@ in_map map c d a h = elim (eqb_tells d c) [
       ∙ sym (ap (λ t. cond t a (slice_index_or map d hole)) other.0)
 ]
 
--- a table of holes is a map
-pub kept_holes : (map : List Act) → map ≡ replicate 256 hole → IfSome (kept_map map) IsMap
-kept_holes map e = subst (λ (m : List Act). IfSome (kept_map m) IsMap) (sym e) are_map
-
 -- a map stays one where an action is put at a keycode
-pub put_map : (map : List Act) (c i : ℕ) (a : Act) → i ≡ c → c ≢ 0 → IsTrue (is_action a.kind a.value) → IfSome (kept_map map) IsMap → IfSome (kept_map (slice_set map i a)) IsMap
-put_map [] c i a e key known is = tt
-put_map (x ∷ map) c zero a e key known is = absurd (key (sym e))
-put_map (x ∷ map) c (suc n) a e key known is = record {
-  full = length-set (x ∷ map) (suc n) a ∙ is.full;
-  no_key = is.no_key;
-  known = All-set (λ (b : Act). IsTrue (is_action b.kind b.value)) (x ∷ map) (suc n) a known is.known;
+pub put_map : (map : List Act) (c i : ℕ) (a : Act) → i ≡ c → c ≢ 0 → IsTrue (is_action a.kind a.value) → IsMap map → IsMap (slice_set map i a)
+put_map map c i a e key known is = record {
+  full = length-set map i a ∙ is.full;
+  no_key = get_or-set_other map i 0 a hole (λ z. key (sym (z ∙ e))) ∙ is.no_key;
+  known = All-set (λ (b : Act). IsTrue (is_action b.kind b.value)) map i a known is.known;
 }
 
 in_table : (m : Option (List Act)) (c d : ℕ) (a : Act) → is_some m ≡ true → IfSome m IsMap → c < 256 → option_map (λ map. slice_index_or map d hole) (option_map (λ map. slice_set map c a) m) ≡ cond (d == c) (Some a) (option_map (λ map. slice_index_or map d hole) m)
@@ -46,16 +38,16 @@ in_table (Some map) c d a e is h =
     outside false = refl
 
 -- the entries after one is set
-pub entry_set : (maps : List (Option (List Act))) (funcs : List (List ℕ)) (pairs : List Pair) (now : Tables) → tables_of maps funcs pairs ≡ now → IsWhole (tables_of maps funcs pairs) → (t i c : ℕ) (a : Act) → i ≡ t → t < 256 → c < 256 → exists_in now t ≡ true → (table put : Option (List Act)) → table ≡ slice_index_or maps i table → put ≡ option_map (λ map. slice_set map c a) table → (u d : ℕ) → entry_of (tables_of (slice_set maps i put) funcs pairs) u d ≡ cond (u == t && d == c) (Some a) (entry_of now u d)
-entry_set maps funcs pairs now view whole t i c a e low_t low_c exists table put there new u d =
-    subst (λ (k : Tables). entry_of (tables_of (slice_set maps i put) funcs pairs) u d ≡ cond (u == t && d == c) (Some a) (entry_of k u d)) view
-    (subst (λ (j : ℕ). entry_of (tables_of (slice_set maps j put) funcs pairs) u d ≡ cond (u == t && d == c) (Some a) (entry_of (tables_of maps funcs pairs) u d)) (sym e) by_table)
+pub entry_set : (maps : List (Option (List Act))) (funcs : List (List ℕ)) (pairs : List Pair) (now : Tables) → tables_of maps funcs pairs ≡ now → IsWhole (tables_of maps funcs pairs) → (t c : ℕ) (a : Act) → t < 256 → c < 256 → exists_in now t ≡ true → (after : List (Option (List Act))) → after ≡ slice_set maps t (option_map (λ map. slice_set map c a) (slice_index_or maps t None)) → (u d : ℕ) → entry_of (tables_of after funcs pairs) u d ≡ cond (u == t && d == c) (Some a) (entry_of now u d)
+entry_set maps funcs pairs now view whole t c a low_t low_c exists after new u d =
+    subst (λ (k : Tables). entry_of (tables_of after funcs pairs) u d ≡ cond (u == t && d == c) (Some a) (entry_of k u d)) view
+    (ap (λ ms. entry_of (tables_of ms funcs pairs) u d) new ∙ by_table)
   where
+    put : Option (List Act)
+    put = option_map (λ map. slice_set map c a) (slice_index_or maps t None)
+
     within : t < length maps
     within = let tall = whole.tall in omega (arith, tall, low_t)
-
-    is_table : table ≡ slice_index_or maps t None
-    is_table = there ∙ ap (λ j. slice_index_or maps j table) e ∙ get_or_default maps t table None within
 
     present : is_some (slice_index_or maps t None) ≡ true
     present = subst (λ (k : Tables). exists_in k t ≡ true) (sym view) exists
@@ -63,7 +55,7 @@ entry_set maps funcs pairs now view whole t i c a e low_t low_c exists table put
     same_table : u ≡ t → (u == t) ≡ true → entry_of (tables_of (slice_set maps t put) funcs pairs) u d ≡ cond (u == t && d == c) (Some a) (entry_of (tables_of maps funcs pairs) u d)
     same_table same test =
         ap (λ v. option_map (λ map. slice_index_or map d hole) (slice_index_or (slice_set maps t put) v None)) same
-        ∙ ap (option_map (λ map. slice_index_or map d hole)) (get_or-set_same maps t put None within ∙ new ∙ ap (option_map (λ map. slice_set map c a)) is_table)
+        ∙ ap (option_map (λ map. slice_index_or map d hole)) (get_or-set_same maps t put None within)
         ∙ in_table (slice_index_or maps t None) c d a present (whole.maps t None within) low_c
         ∙ ap (λ v. cond (d == c) (Some a) (option_map (λ map. slice_index_or map d hole) (slice_index_or maps v None))) (sym same)
         ∙ ap (λ b. cond (b && d == c) (Some a) (entry_of (tables_of maps funcs pairs) u d)) (sym test)

@@ -1,23 +1,21 @@
 -- Maps of holes, table by table.
-use Rattle.std.proofs.Common.{◌≡◌, ℕ, suc, ◌<◌, ◌≤◌, Bool, true, false, ◌==◌, cond, Option, Some, None, is_some, IfSome, List, [], ◌∷◌, length, get_or, replicate, All, IsTrue, refl, sym, ap, ◌∙◌, subst, inl, inr, arith}
+use Rattle.std.proofs.Common.{◌≡◌, ℕ, zero, suc, ◌+◌, ◌<◌, ◌≤◌, Bool, true, false, ◌==◌, cond, Option, Some, None, is_some, List, [], ◌∷◌, ◌++◌, length, get_or, replicate, All, IsTrue, refl, sym, ap, ◌∙◌, subst, inl, inr, ◌⊎◌, arith}
 use Rattle.std.proofs.lemmas.Bool.{cases_lt}
 use Rattle.std.proofs.lemmas.Bool.Decides.{eqb_tells}
-use Rattle.std.proofs.lemmas.List.{get_or-replicate, get_or_default, get_or_past, length-replicate}
-use Rattle.std.proofs.lemmas.List.Elements.{All-replicate}
+use Rattle.std.proofs.lemmas.List.{get_or-replicate, get_or_append_left, get_or_past, get_or_push, length-replicate, length_push}
+use Rattle.std.proofs.lemmas.List.Elements.{All-push, All-replicate}
+use Rattle.std.proofs.lemmas.Option.{none-some, same_Some}
 use Rattle.std.specs.List.{list_any, slice_index_or}
 use Rattle.std.specs.Option.{option_map}
 use Rattle.key_syms.specs.Act.{Act, is_action}
 use Rattle.key_syms.specs.declared.pair.Pair.{Pair}
-use Rattle.key_tables.specs.Tables.{AreHoles, IsEmpty, IsMap, IsWhole, hole, tables_of}
+use Rattle.key_tables.specs.Kept.{AreKept, maps_at}
+use Rattle.key_tables.specs.Tables.{AreHoles, AreMaps, IsEmpty, IsMap, IsWhole, hole, tables_of}
+use Rattle.key_tables.proofs.Places.{kept_at, kept_maps, map_at}
 
 -- the map of a table that is declared or not
 abbrev pub start_map : List ℕ → ℕ → Option (List Act)
 start_map declared t = cond (list_any (λ d. d == t) declared) (Some (replicate 256 hole)) None
-
--- the first n maps are those of the start
-pub record HolesBelow (declared : List ℕ) (maps : List (Option (List Act))) (n : ℕ) : Type 0 where
-  pub tall : length maps ≡ n
-  pub each : (t : ℕ) → t < n → slice_index_or maps t None ≡ start_map declared t
 
 holes_at : (c : ℕ) → slice_index_or (replicate 256 hole) c hole ≡ hole
 holes_at c = elim (cases_lt c 256) [
@@ -32,16 +30,126 @@ are_map = record {
   known = All-replicate (λ (a : Act). IsTrue (is_action a.kind a.value)) 256 hole refl;
 }
 
-start-fits : (b : Bool) → IfSome (cond b (Some (replicate 256 hole)) None) IsMap
-start-fits true = are_map
-start-fits false = tt
+pub holes_are_map : (map : List Act) → map ≡ replicate 256 hole → IsMap map
+holes_are_map map e = subst (λ (m : List Act). IsMap m) (sym e) are_map
 
-pub all_fit : (declared : List ℕ) (maps : List (Option (List Act))) → AreHoles declared maps → All (λ map. IfSome map IsMap) maps
-all_fit declared maps holes k d h =
-    let within : k < 256 = omega (arith, holes.tall) in
-    subst (λ (m : Option (List Act)). IfSome m IsMap)
-    (sym (get_or_default maps k d None h ∙ holes.each k within))
-    (start-fits (list_any (λ x. x == k) declared))
+-- the first n numbers have places where they are declared, and what is kept are tables of holes
+pub record AreBegun (declared : List ℕ) (places : List (Option ℕ)) (kept : List (List Act)) (n : ℕ) : Type 0 where
+  pub tall : length places ≡ n
+  pub few : length kept ≤ n
+  pub holes : All (λ map. map ≡ replicate 256 hole) kept
+  pub named : (t : ℕ) → t < n → is_some (slice_index_or places t None) ≡ list_any (λ d. d == t) declared
+  pub within : (t p : ℕ) → slice_index_or places t None ≡ Some p → p < length kept
+  pub own : (t u p : ℕ) → slice_index_or places t None ≡ Some p → slice_index_or places u None ≡ Some p → t ≡ u
+
+pub begun_none : (declared : List ℕ) (places : List (Option ℕ)) (kept : List (List Act)) → places ≡ [] → kept ≡ [] → AreBegun declared places kept 0
+begun_none declared places kept no_places no_tables =
+    subst (λ (xs : List (Option ℕ)). AreBegun declared xs kept 0) (sym no_places)
+    (subst (λ (xs : List (List Act)). AreBegun declared [] xs 0) (sym no_tables)
+    (record {
+      tall = refl;
+      few = omega arith;
+      holes = λ k d h. absurd (omega arith);
+      named = λ t h. absurd (omega arith);
+      within = λ t p e. absurd (none-some _ e);
+      own = λ t u p e f. absurd (none-some _ e);
+    }))
+
+-- a place behind others is one of them or the last
+place_in : (places : List (Option ℕ)) (x : Option ℕ) (t p : ℕ) → slice_index_or (places ++ x ∷ []) t None ≡ Some p → (slice_index_or places t None ≡ Some p) ⊎ ((t ≡ length places) × (x ≡ Some p))
+place_in [] x zero p h = inr (refl, h)
+place_in [] x (suc t) p h = absurd (none-some _ h)
+place_in (y ∷ ys) x zero p h = inl h
+place_in (y ∷ ys) x (suc t) p h = elim (place_in ys x t p h) [
+  | inl before ↦ inl before
+  | inr last ↦ inr (ap suc last.0, last.1)
+]
+
+-- a number more: it gets no place
+begun_without : (declared : List ℕ) (places : List (Option ℕ)) (kept : List (List Act)) (n : ℕ) → AreBegun declared places kept n → list_any (λ d. d == n) declared ≡ false → AreBegun declared (places ++ None ∷ []) kept (n + 1)
+begun_without declared places kept n is absent = record {
+  tall = length_push places None ∙ ap (λ m. m + 1) is.tall;
+  few = let few = is.few in omega arith;
+  holes = is.holes;
+  named = λ t h. elim (cases_lt t n) [
+    | inl low ↦ ap is_some (get_or_append_left places (None ∷ []) None t (let tall = is.tall in omega arith)) ∙ is.named t low
+    | inr high ↦
+        let e : t ≡ n = omega arith in
+        ap (λ u. is_some (slice_index_or (places ++ None ∷ []) u None)) e
+        ∙ ap is_some (get_or_push places None None n is.tall)
+        ∙ sym (ap (λ u. list_any (λ d. d == u) declared) e ∙ absent)
+  ];
+  within = λ t p e. elim (place_in places None t p e) [
+    | inl before ↦ is.within t p before
+    | inr last ↦ absurd (none-some _ last.1)
+  ];
+  own = λ t u p e f. elim (place_in places None t p e) [
+    | inl first ↦ elim (place_in places None u p f) [
+      | inl second ↦ is.own t u p first second
+      | inr last ↦ absurd (none-some _ last.1)
+    ]
+    | inr last ↦ absurd (none-some _ last.1)
+  ];
+}
+
+-- or that of a further table
+begun_with : (declared : List ℕ) (places : List (Option ℕ)) (kept : List (List Act)) (n : ℕ) → AreBegun declared places kept n → list_any (λ d. d == n) declared ≡ true → AreBegun declared (places ++ Some (length kept) ∷ []) (kept ++ replicate 256 hole ∷ []) (n + 1)
+begun_with declared places kept n is present = record {
+  tall = length_push places (Some (length kept)) ∙ ap (λ m. m + 1) is.tall;
+  few = let few = is.few in let more = length_push kept (replicate 256 hole) in omega arith;
+  holes = All-push (λ (map : List Act). map ≡ replicate 256 hole) kept (replicate 256 hole) is.holes refl;
+  named = λ t h. elim (cases_lt t n) [
+    | inl low ↦ ap is_some (get_or_append_left places (Some (length kept) ∷ []) None t (let tall = is.tall in omega arith)) ∙ is.named t low
+    | inr high ↦
+        let e : t ≡ n = omega arith in
+        ap (λ u. is_some (slice_index_or (places ++ Some (length kept) ∷ []) u None)) e
+        ∙ ap is_some (get_or_push places (Some (length kept)) None n is.tall)
+        ∙ sym (ap (λ u. list_any (λ d. d == u) declared) e ∙ present)
+  ];
+  within = λ t p e. let more = length_push kept (replicate 256 hole) in elim (place_in places (Some (length kept)) t p e) [
+    | inl before ↦ let low = is.within t p before in omega arith
+    | inr last ↦ let same = same_Some _ _ last.1 in omega arith
+  ];
+  own = λ t u p e f. elim (place_in places (Some (length kept)) t p e) [
+    | inl first ↦ elim (place_in places (Some (length kept)) u p f) [
+      | inl second ↦ is.own t u p first second
+      | inr last ↦ absurd (let low = is.within t p first in let same = same_Some _ _ last.1 in omega arith)
+    ]
+    | inr last ↦ elim (place_in places (Some (length kept)) u p f) [
+      | inl second ↦ absurd (let low = is.within u p second in let same = same_Some _ _ last.1 in omega arith)
+      | inr also ↦ last.0 ∙ sym also.0
+    ]
+  ];
+}
+
+pub begun_more : (declared : List ℕ) (places : List (Option ℕ)) (kept : List (List Act)) (n : ℕ) → AreBegun declared places kept n → (exists : Bool) → exists ≡ list_any (λ d. d == n) declared → (place : Option ℕ) → place ≡ cond exists (Some (length kept)) None → (after : List (List Act)) → after ≡ cond exists (kept ++ replicate 256 hole ∷ []) kept → (pushed : List (Option ℕ)) → pushed ≡ places ++ place ∷ [] → AreBegun declared pushed after (n + 1)
+begun_more declared places kept n is true test place e after f pushed g =
+    subst (λ (xs : List (Option ℕ)). AreBegun declared xs after (n + 1)) (sym (g ∙ ap (λ x. places ++ x ∷ []) e))
+    (subst (λ (ms : List (List Act)). AreBegun declared (places ++ Some (length kept) ∷ []) ms (n + 1)) (sym f)
+    (begun_with declared places kept n is (sym test)))
+begun_more declared places kept n is false test place e after f pushed g =
+    subst (λ (xs : List (Option ℕ)). AreBegun declared xs after (n + 1)) (sym (g ∙ ap (λ x. places ++ x ∷ []) e))
+    (subst (λ (ms : List (List Act)). AreBegun declared (places ++ None ∷ []) ms (n + 1)) (sym f)
+    (begun_without declared places kept n is (sym test)))
+
+pub begun_kept : (declared : List ℕ) (places : List (Option ℕ)) (kept : List (List Act)) → AreBegun declared places kept 256 → AreKept places kept
+begun_kept declared places kept is = record {
+  tall = is.tall;
+  whole = λ k d h. holes_are_map (get_or kept k d) (is.holes k d h);
+  within = is.within;
+  own = is.own;
+}
+
+pub begun_holes : (declared : List ℕ) (places : List (Option ℕ)) (kept : List (List Act)) → AreBegun declared places kept 256 → AreHoles declared (maps_at places kept)
+begun_holes declared places kept is = record {
+  tall = (kept_maps places kept (begun_kept declared places kept is)).tall;
+  each = λ t h. map_at places kept t ∙ by_place t (slice_index_or places t None) refl (is.named t h);
+}
+  where
+    by_place : (t : ℕ) (o : Option ℕ) → slice_index_or places t None ≡ o → is_some o ≡ list_any (λ d. d == t) declared → option_map (kept_at kept) o ≡ start_map declared t
+    by_place t None e named = ap (λ b. cond b (Some (replicate 256 hole)) None) named
+    by_place t (Some p) e named =
+        ap Some (is.holes p [] (is.within t p e)) ∙ ap (λ b. cond b (Some (replicate 256 hole)) None) named
 
 none_named : (declared : List ℕ) (t : ℕ) → ((i : ℕ) → get_or declared i 0 < 256) → 256 ≤ t → list_any (λ d. d == t) declared ≡ false
 none_named [] t bytes h = refl
@@ -85,10 +193,10 @@ no_texts i = elim (cases_lt i 256) [
   | inr ge ↦ get_or_past (replicate 256 no_text) i no_text (subst (λ (n : ℕ). n ≤ i) (sym (length-replicate 256 no_text)) ge)
 ]
 
-pub whole_start : (declared : List ℕ) (maps : List (Option (List Act))) (funcs : List (List ℕ)) (pairs : List Pair) → AreHoles declared maps → funcs ≡ replicate 256 [] → pairs ≡ [] → IsWhole (tables_of maps funcs pairs)
-whole_start declared maps funcs pairs holes texts none = record {
-  tall = holes.tall;
-  maps = all_fit declared maps holes;
+pub whole_start : (maps : List (Option (List Act))) (funcs : List (List ℕ)) (pairs : List Pair) → AreMaps maps → funcs ≡ replicate 256 [] → pairs ≡ [] → IsWhole (tables_of maps funcs pairs)
+whole_start maps funcs pairs are texts none = record {
+  tall = are.tall;
+  maps = are.each;
   strings = ap length texts ∙ length-replicate 256 no_text;
   short = subst (λ (fs : List (List ℕ)). All (λ text. length text ≤ 255) fs) (sym texts) (All-replicate (λ (text : List ℕ). length text ≤ 255) 256 no_text (omega arith));
   bytes = subst (λ (fs : List (List ℕ)). All (λ text. All (λ b. b < 256) text) fs) (sym texts) (All-replicate (λ (text : List ℕ). All (λ b. b < 256) text) 256 no_text no_bytes);

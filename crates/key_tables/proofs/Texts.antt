@@ -1,7 +1,9 @@
 -- A text that grows by the texts of items, one after another.
-use Rattle.std.proofs.Common.{◌≡◌, ℕ, zero, suc, ◌+◌, ◌<◌, List, [], ◌∷◌, ◌++◌, length, get_or, take, refl, sym, ap, ◌∙◌, append_assoc, append-nil, arith}
+use Rattle.std.proofs.Common.{◌≡◌, ℕ, zero, suc, ◌+◌, ◌<◌, Bool, cond, Option, Some, None, is_some, List, [], ◌∷◌, ◌++◌, length, get_or, take, refl, sym, ap, ◌∙◌, append_assoc, append-nil, arith}
 use Rattle.std.specs.List.{flat_map}
-use Rattle.key_tables.specs.Listing.{texts_from}
+use Rattle.std.specs.Option.{unwrap_or}
+use Rattle.key_syms.specs.Act.{Act}
+use Rattle.key_tables.specs.Listing.{entry_text, map_text, number_text, table_text, texts_from}
 
 texts_from-more : {X : Type 0} (text : ℕ → X → List ℕ) (from : ℕ) (xs : List X) (i : ℕ) (d : X) → i < length xs → texts_from text from (take (suc i) xs) ≡ texts_from text from (take i xs) ++ text (from + i) (get_or xs i d)
 texts_from-more text from [] i d h = absurd (omega arith)
@@ -37,3 +39,12 @@ flat_more f xs i x start before after h e added so_far =
 pub four_more : (start a b c d w x y z : List ℕ) → a ≡ start ++ w → b ≡ a ++ x → c ≡ b ++ y → d ≡ c ++ z → d ≡ start ++ (w ++ (x ++ (y ++ z)))
 four_more start a b c d w x y z p q r s =
     s ∙ ap (λ t. t ++ z) (r ∙ ap (λ t. t ++ y) (q ∙ ap (λ t. t ++ x) p)) ∙ simp append_assoc
+
+-- the texts of a table, from what was read of it
+pub table_told : (t : ℕ) (m : Option (List Act)) (exists : Bool) → exists ≡ is_some m → cond exists (number_text t) [] ≡ table_text t m
+table_told t None exists e = ap (λ b. cond b (number_text t) []) e
+table_told t (Some map) exists e = ap (λ b. cond b (number_text t) []) e
+
+pub map_told : (t : ℕ) (m : Option (List Act)) (entries : List Act) → entries ≡ unwrap_or m [] → texts_from (entry_text t) 0 entries ≡ map_text t m
+map_told t None entries e = ap (texts_from (entry_text t) 0) e
+map_told t (Some map) entries e = ap (texts_from (entry_text t) 0) e

@@ -56,6 +56,11 @@ pub record IsWhole (tables : Tables) : Type 0 where
   pub bytes : All (λ text. All (λ b. b < 256) text) tables.funcs
   pub few : length tables.pairs ≤ 256
 
+-- of 256 tables each is a map where it exists
+pub record AreMaps (maps : List (Option (List Act))) : Type 0 where
+  pub tall : length maps ≡ 256
+  pub each : All (λ map. IfSome map IsMap) maps
+
 -- the tables that are declared exist, and nothing is set
 pub record IsEmpty (declared : List ℕ) (tables : Tables) : Type 0 where
   pub exists :

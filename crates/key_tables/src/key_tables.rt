@@ -1,23 +1,23 @@
 ghost use Rattle.std.specs.Prelude.{◌≡◌, ◌≢◌, ◌≤◌, ◌==◌, ◌&&◌, ℕ, [], None, Some, cond, length, replicate, IsTrue, IfOk};
 ghost use Rattle.key_tables.specs.Listing.{listing_of};
-ghost use Rattle.key_tables.specs.Tables.{IsEmpty, IsWhole, AreHoles, hole, entry_of, exists_in, found_in, func_of, with_entry, with_func, with_pairs};
+ghost use Rattle.key_tables.specs.Tables.{IsEmpty, IsWhole, entry_of, exists_in, found_in, func_of, with_entry, with_func, with_pairs};
 
 use crate::func_text::FuncText;
 use crate::listing;
-use crate::table::Table;
+use crate::maps::Maps;
 use key_syms::{Action, Pair};
 use std::alloc::Global;
 use std::marker::Model;
 use vt_base::{Bytes, NoMemory};
 
-// How many tables there may be, and how many function keys and pairs.
+// How many function keys and pairs there may be.
 const COUNT: usize = 256;
 
 /// Which tables exist and what each keycode does in them, the strings of the function keys, and the
-/// pairs. All memory is taken at the start.
+/// pairs. All memory is taken at the start, of the tables for the declared ones alone.
 #[derive(Debug, Drop)]
 pub struct KeyTables {
-    maps: Vec<Table>,
+    maps: Maps,
     funcs: Vec<FuncText>,
     pairs: Vec<Pair>,
 }
@@ -28,10 +28,10 @@ impl Model for KeyTables {
 
     ghost Value = { Tables };
 
-    ghost view = { λ k. tables_of k.maps.items k.funcs.items k.pairs.items };
+    ghost view = { λ k. tables_of k.maps k.funcs.items k.pairs.items };
 
     ghost invariant = { λ k.
-        IsWhole (tables_of k.maps.items k.funcs.items k.pairs.items) × (256 ≤ vec_capacity k.pairs) };
+        IsWhole (tables_of k.maps k.funcs.items k.pairs.items) × (256 ≤ vec_capacity k.pairs) };
 }
 
 impl KeyTables {
@@ -40,7 +40,7 @@ impl KeyTables {
         ensures { IfOk result (IsEmpty declared.now) }
     {
         Ok(KeyTables {
-            maps: empty_maps(alloc, declared)?,
+            maps: Maps::holes(alloc, declared)?,
             funcs: empty_funcs(alloc)?,
             pairs: Vec::with_capacity(alloc, COUNT)?,
         })
@@ -53,7 +53,7 @@ impl KeyTables {
         let mut pairs = Vec::with_capacity(alloc, COUNT)?;
         pairs.extend_from_slice(self.pairs.as_slice())?;
         Ok(KeyTables {
-            maps: copy_maps(alloc, self.maps.as_slice())?,
+            maps: self.maps.copy(alloc)?,
             funcs: copy_funcs(alloc, self.funcs.as_slice())?,
             pairs,
         })
@@ -64,18 +64,17 @@ impl KeyTables {
         ensures value { result ≡ exists_in self.now t }
         ensures whole { IsWhole self.now }
     {
-        self.maps[usize::from(t)].exists()
+        self.maps.exists(t)
     }
 
     /// What a keycode does in a table.
     pub fn entry(&self, t: u8, c: u8) -> Option<Action>
         ensures { result ≡ entry_of self.now t c }
     {
-        self.maps[usize::from(t)].at(c)
+        self.maps.at(t, c)
     }
 
     /// Sets what a keycode does in a table.
-    #[tactic(auto, using(crate::proofs::Entries::in_map))]
     pub fn set_entry(&mut self, t: u8, c: u8, a: Action)
         requires exists { IsTrue (exists_in self.old t) }
         requires key { c ≢ 0 }
@@ -83,8 +82,7 @@ impl KeyTables {
         ensures entries { (u d : ℕ) → entry_of self.new u d
             ≡ cond (u == t && d == c) (Some a) (entry_of self.old u d) }
     {
-        let table = &mut self.maps[usize::from(t)];
-        table.put(c, a);
+        self.maps.put(t, c, a);
     }
 
     /// The string of a function key.
@@ -142,26 +140,15 @@ impl KeyTables {
         ensures { IfOk result (λ text. text.bytes ≡ listing_of self.now) }
     {
         let mut text = Bytes::with_room(alloc, 0)?;
-        let maps = self.maps.as_slice();
         listing::add_tables(
             alloc,
             &mut text,
-            maps,
+            &self.maps,
             self.funcs.as_slice(),
             self.pairs.as_slice(),
         )?;
         Ok(text)
     }
-}
-
-fn copy_maps(alloc: Global, maps: &[Table]) -> Result<Vec<Table>, NoMemory>
-    ensures { IfOk result (λ copies. copies.items ≡ maps.now) }
-{
-    let mut copies = Vec::with_capacity(alloc, maps.len())?;
-    for map in maps {
-        copies.push(map.copy(alloc)?)?;
-    }
-    Ok(copies)
 }
 
 fn copy_funcs(alloc: Global, funcs: &[FuncText]) -> Result<Vec<FuncText>, NoMemory>
@@ -172,27 +159,6 @@ fn copy_funcs(alloc: Global, funcs: &[FuncText]) -> Result<Vec<FuncText>, NoMemo
         copies.push(func.copy())?;
     }
     Ok(copies)
-}
-
-// The tables from 0 to 255.
-fn empty_maps(alloc: Global, declared: &[u8]) -> Result<Vec<Table>, NoMemory>
-    ensures { IfOk result (λ maps. AreHoles declared.now maps.items) }
-{
-    let mut maps = Vec::with_capacity(alloc, COUNT)?;
-    for t in 0..COUNT {
-        maps.push(empty_map(alloc, declared.contains(&(t as u8)))?)?;
-    }
-    Ok(maps)
-}
-
-fn empty_map(alloc: Global, exists: bool) -> Result<Table, NoMemory>
-    ensures { IfOk result (λ map. map ≡ cond exists (Some (replicate 256 hole)) None) }
-{
-    if exists {
-        Table::holes(alloc)
-    } else {
-        Ok(Table::none(alloc))
-    }
 }
 
 fn empty_funcs(alloc: Global) -> Result<Vec<FuncText>, NoMemory>

@@ -4,6 +4,7 @@
 mod func_text;
 mod key_tables;
 mod listing;
+mod maps;
 mod table;
 #[cfg(test)]
 mod tests;

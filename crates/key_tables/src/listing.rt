@@ -1,25 +1,28 @@
-ghost use Rattle.std.specs.Prelude.{◌≡◌, ◌++◌, ◌≤◌, length, OnOk};
+ghost use Rattle.std.specs.Prelude.{◌≡◌, ◌++◌, ◌≤◌, [], cond, length, OnOk};
 ghost use Rattle.std.specs.List.{flat_map};
-ghost use Rattle.key_tables.specs.Listing.{entry_text, func_text, hex_byte, hex_digit, listing_of, map_text, maps_text, number_text, numbers_line, pair_text, table_text, texts_from};
+ghost use Rattle.key_tables.specs.Listing.{entry_text, func_text, hex_byte, hex_digit, listing_of, map_text, maps_text, number_text, numbers_line, pair_text, texts_from};
 ghost use Rattle.key_tables.specs.Tables.{tables_of};
 
 use crate::func_text::FuncText;
-use crate::table::Table;
+use crate::maps::Maps;
 use itoa::Buffer;
 use key_syms::{Action, Pair, kind};
 use std::alloc::Global;
 use vt_base::{Bytes, NoMemory};
+
+// How many tables there may be.
+const COUNT: u16 = 256;
 
 /// Adds the whole listing.
 #[tactic(auto, using(crate::proofs::Texts::four_more), unfolding(crate::specs::Listing::listing_of))]
 pub fn add_tables(
     alloc: Global,
     text: &mut Bytes,
-    maps: &[Table],
+    maps: &Maps,
     funcs: &[FuncText],
     pairs: &[Pair],
 ) -> Result<(), NoMemory>
-    requires maps { length maps.now ≤ 256 }
+    requires maps { length maps.now ≡ 256 }
     requires funcs { length funcs.now ≤ 256 }
     ensures { OnOk result (text.new.bytes
         ≡ text.old.bytes ++ listing_of (tables_of maps.now funcs.now pairs.now)) }
@@ -31,41 +34,42 @@ pub fn add_tables(
 }
 
 // Adds the line of the tables that exist.
-fn add_maps(alloc: Global, text: &mut Bytes, maps: &[Table]) -> Result<(), NoMemory>
-    requires { length maps.now ≤ 256 }
+fn add_maps(alloc: Global, text: &mut Bytes, maps: &Maps) -> Result<(), NoMemory>
+    requires { length maps.now ≡ 256 }
     ensures { OnOk result (text.new.bytes ≡ text.old.bytes ++ maps_text maps.now) }
 {
     add(alloc, text, b"maps")?;
-    for t in 0..maps.len() {
-        add_table(alloc, text, t as u16, &maps[t])?;
+    for t in 0..COUNT {
+        add_table(alloc, text, t, maps.exists(t as u8))?;
     }
     add(alloc, text, b"\n")
 }
 
-fn add_table(alloc: Global, text: &mut Bytes, t: u16, map: &Table) -> Result<(), NoMemory>
-    ensures { OnOk result (text.new.bytes ≡ text.old.bytes ++ table_text t map.now) }
+fn add_table(alloc: Global, text: &mut Bytes, t: u16, exists: bool) -> Result<(), NoMemory>
+    ensures { OnOk result (text.new.bytes ≡ text.old.bytes ++ cond exists (number_text t) []) }
 {
-    if map.exists() {
+    if exists {
         return add_number(alloc, text, t);
     }
     Ok(())
 }
 
 // Adds a line for each entry that isn't a hole.
-fn add_entries(alloc: Global, text: &mut Bytes, maps: &[Table]) -> Result<(), NoMemory>
-    requires { length maps.now ≤ 256 }
+fn add_entries(alloc: Global, text: &mut Bytes, maps: &Maps) -> Result<(), NoMemory>
+    requires { length maps.now ≡ 256 }
     ensures { OnOk result (text.new.bytes ≡ text.old.bytes ++ texts_from map_text 0 maps.now) }
 {
-    for t in 0..maps.len() {
-        add_map(alloc, text, t as u16, &maps[t])?;
+    for t in 0..COUNT {
+        add_map(alloc, text, t, maps.entries(t as u8))?;
     }
     Ok(())
 }
 
-fn add_map(alloc: Global, text: &mut Bytes, t: u16, map: &Table) -> Result<(), NoMemory>
-    ensures { OnOk result (text.new.bytes ≡ text.old.bytes ++ map_text t map.now) }
+fn add_map(alloc: Global, text: &mut Bytes, t: u16, entries: &[Action]) -> Result<(), NoMemory>
+    requires { length entries.now ≤ 256 }
+    ensures { OnOk result
+        (text.new.bytes ≡ text.old.bytes ++ texts_from (entry_text t) 0 entries.now) }
 {
-    let entries = map.entries();
     for c in 0..entries.len() {
         add_entry(alloc, text, t, c as u16, entries[c])?;
     }

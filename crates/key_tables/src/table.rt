@@ -1,6 +1,4 @@
-ghost use Rattle.std.specs.Prelude.{◌≡◌, ◌≢◌, ◌≤◌, length, Option, Some, None, [], IsSome, IfSome, unwrap_or, is_some, replicate, slice_index_or, slice_set, IfOk};
-ghost use Rattle.std.specs.Option.{option_map};
-ghost use Rattle.key_syms.specs.Act.{Act};
+ghost use Rattle.std.specs.Prelude.{◌≡◌, ◌≢◌, replicate, slice_index_or, slice_set, IfOk};
 ghost use Rattle.key_tables.specs.Tables.{IsMap, hole};
 
 use key_syms::{Action, kind};
@@ -11,38 +9,28 @@ use vt_base::NoMemory;
 // How many codes a table has entries for.
 const CODES: usize = 256;
 
-/// A table that may exist: the actions by code. One that doesn't exist keeps none.
+/// A table: the actions by code.
 #[derive(Debug, Drop)]
 pub struct Table {
     entries: Vec<Action>,
 }
 
 impl Model for Table {
-    ghost use Rattle.std.specs.Prelude.{List, Option, IfSome};
+    ghost use Rattle.std.specs.Prelude.{List};
     ghost use Rattle.key_syms.specs.Act.{Act};
-    ghost use Rattle.key_tables.specs.Kept.{kept_map};
     ghost use Rattle.key_tables.specs.Tables.{IsMap};
 
-    ghost Value = { Option (List Act) };
+    ghost Value = { List Act };
 
-    ghost view = { λ t. kept_map t.entries.items };
+    ghost view = { λ t. t.entries.items };
 
-    ghost invariant = { λ t. IfSome (kept_map t.entries.items) IsMap };
+    ghost invariant = { λ t. IsMap t.entries.items };
 }
 
 impl Table {
-    /// No table.
-    pub fn none(alloc: Global) -> Table
-        ensures { result ≡ None }
-    {
-        Table {
-            entries: Vec::new(alloc),
-        }
-    }
-
     /// A table of holes.
     pub fn holes(alloc: Global) -> Result<Table, NoMemory>
-        ensures { IfOk result (λ table. table ≡ Some (replicate 256 hole)) }
+        ensures { IfOk result (λ table. table ≡ replicate 256 hole) }
     {
         let entries = hole_entries(alloc)?;
         Ok(Table { entries })
@@ -57,32 +45,24 @@ impl Table {
         })
     }
 
-    pub fn exists(&self) -> bool
-        ensures value { result ≡ is_some self.now }
-        ensures whole { IfSome self.now IsMap }
-    {
-        !self.entries.is_empty()
-    }
-
-    /// The actions by code, or none where the table doesn't exist.
+    /// The actions by code.
     pub fn entries(&self) -> &[Action]
-        ensures value { result.now ≡ unwrap_or self.now [] }
-        ensures few { length result.now ≤ 256 }
+        ensures value { result.now ≡ self.now }
+        ensures whole { IsMap self.now }
     {
         self.entries.as_slice()
     }
 
-    pub fn at(&self, c: u8) -> Option<Action>
-        ensures { result ≡ option_map (λ map. slice_index_or map c hole) self.now }
+    pub fn at(&self, c: u8) -> Action
+        ensures { result ≡ slice_index_or self.now c hole }
     {
-        self.entries.as_slice().get(usize::from(c)).copied()
+        self.entries[usize::from(c)]
     }
 
     pub fn put(&mut self, c: u8, a: Action)
-        requires exists { IsSome self.old }
-        requires key { c ≢ 0 }
-        ensures map { self.new ≡ option_map (λ map. slice_set map c a) self.old }
-        ensures whole { IfSome self.new IsMap }
+        requires { c ≢ 0 }
+        ensures map { self.new ≡ slice_set self.old c a }
+        ensures whole { IsMap self.new }
     {
         let _ = &a.kind; // opens the action: it is one
         self.entries[usize::from(c)] = a;

@@ -1,8 +1,8 @@
 -- A row that has begun.
-use Rattle.std.proofs.Common.{◌≡◌, ◌≢◌, ℕ, suc, ◌+◌, ◌<◌, ◌≤◌, List, [], ◌∷◌, ◌++◌, length, drop, get_or, append-nil, drop-cons, refl, sym, ap, ◌∙◌, subst, arith}
+use Rattle.std.proofs.Common.{◌≡◌, ◌≢◌, ℕ, suc, ◌+◌, ◌<◌, ◌≤◌, List, [], ◌∷◌, ◌++◌, length, drop, get_or, append-nil, drop-cons, sym, ap, ◌∙◌, subst, arith}
 use Rattle.std.proofs.lemmas.List.{drop-drop, drop_all}
 use Rattle.key_text.specs.Cut.{end_len, join_len}
-use Rattle.key_text.specs.Rows.{Row, after, next_line, put_at, row_of, rows_of}
+use Rattle.key_text.specs.Rows.{after, next_line, put_at, row_of, rows_of}
 use Rattle.key_text.specs.declared.placed.Place.{Place}
 use Rattle.key_text.specs.declared.placed.Placed.{Placed}
 use Rattle.key_text.proofs.Turns.{byte_turn, end_turn, join_turn, rows_from, rows_of-from, with_items, with_items-more, with_items-row}

@@ -1,14 +1,14 @@
 -- How far the front of a list passes a test, and how far a quoted text goes.
-use Rattle.std.proofs.Common.{◌≡◌, ℕ, suc, zero, ◌+◌, ◌<◌, ◌≤◌, Bool, true, false, ◌==◌, ◌&&◌, not, cond, Option, Some, None, List, [], ◌∷◌, length, get_or, drop, drop-cons, refl, sym, ap, ◌∙◌, subst, arith}
+use Rattle.std.proofs.Common.{◌≡◌, ℕ, suc, zero, ◌+◌, ◌<◌, ◌≤◌, Bool, true, false, cond, nat_lt, List, [], ◌∷◌, length, get_or, drop, refl, sym, ap, ◌∙◌, subst, arith}
 use Rattle.std.proofs.lemmas.List.Sums.{prefix_len-drop_all, prefix_len-drop_no, prefix_len-drop_yes}
-use Rattle.std.proofs.lemmas.List.{drop_all}
-use Rattle.std.proofs.lemmas.Str.{utf8_valid_len-IsUtf8}
+use Rattle.std.proofs.lemmas.Bool.{ltb-true}
+use Rattle.std.proofs.lemmas.List.{length-map}
+use Rattle.std.proofs.lemmas.Str.{IsUtf8-from_ascii, utf8_valid_len-IsUtf8}
 use Rattle.std.specs.List.{prefix_len}
 use Rattle.std.specs.Option.{option_map}
-use Rattle.std.specs.Str.{IsUtf8}
+use Rattle.std.specs.Str.{IsAscii, IsUtf8}
 use Rattle.std.specs.Str.Lossy.{utf8_valid_len}
-use Rattle.key_text.specs.Rows.{backslash}
-use Rattle.key_text.specs.Words.{close_at}
+use Rattle.key_text.specs.Words.{bytes, close_at}
 use Rattle.key_text.specs.declared.placed.Placed.{Placed}
 
 -- the whole of a text is UTF-8
@@ -32,3 +32,20 @@ passes_all test items i h k = omega (arith, prefix_len-drop_all test items i k, 
 abbrev pub OpenBelow : ℕ → List Placed → ℕ → Bool → Type 0
 OpenBelow q items i escaped =
     close_at q false items ≡ option_map (λ n. i + n) (close_at q escaped (drop i items))
+
+-- a word of bytes below 128
+plain_cons : (p : Placed) (ps : List Placed) (b : Bool) → nat_lt p.byte 128 ≡ b → prefix_len (λ p. nat_lt p.byte 128) (p ∷ ps) ≡ suc (length ps) → (prefix_len (λ p. nat_lt p.byte 128) ps ≡ length ps → IsAscii (bytes ps)) → IsAscii (bytes (p ∷ ps))
+plain_cons p ps true low e rest zero = ltb-true p.byte 128 low
+plain_cons p ps true low e rest (suc i) =
+    rest (let f : cond true (1 + prefix_len (λ p. nat_lt p.byte 128) ps) 0 ≡ suc (length ps) = subst (λ (b : Bool). cond b (1 + prefix_len (λ p. nat_lt p.byte 128) ps) 0 ≡ suc (length ps)) low e in omega arith) i
+plain_cons p ps false high e rest i =
+    absurd (let f : cond false (1 + prefix_len (λ p. nat_lt p.byte 128) ps) 0 ≡ suc (length ps) = subst (λ (b : Bool). cond b (1 + prefix_len (λ p. nat_lt p.byte 128) ps) 0 ≡ suc (length ps)) high e in omega arith)
+
+plain_bytes : (word : List Placed) → prefix_len (λ p. nat_lt p.byte 128) word ≡ length word → IsAscii (bytes word)
+plain_bytes [] e = λ i. omega arith
+plain_bytes (p ∷ ps) e = plain_cons p ps (nat_lt p.byte 128) refl e (plain_bytes ps)
+
+-- is UTF-8
+pub plain_text : (word : List Placed) → prefix_len (λ p. nat_lt p.byte 128) word ≡ length word → length word ≡ utf8_valid_len (bytes word)
+plain_text word e =
+    sym (utf8_valid_len-IsUtf8 (bytes word) (IsUtf8-from_ascii (bytes word) (plain_bytes word e)) ∙ length-map word (λ p. p.byte))

@@ -1,11 +1,11 @@
 -- Ranges of tables that are marked one by one.
-use Rattle.std.proofs.Common.{◌≡◌, ◌≢◌, ℕ, zero, suc, ◌+◌, ◌-◌, ◌<◌, ◌≤◌, Bool, true, false, ◌==◌, ◌&&◌, ◌||◌, not, cond, Result, Ok, Err, List, [], ◌∷◌, ◌++◌, length, get_or, take, drop, map, replicate, append_assoc, refl, sym, ap, ◌∙◌, subst, inl, inr, arith}
+use Rattle.std.proofs.Common.{◌≡◌, ◌≢◌, ℕ, suc, ◌+◌, ◌<◌, ◌≤◌, Bool, true, false, ◌==◌, ◌||◌, cond, Result, Ok, Err, List, [], ◌∷◌, ◌++◌, length, take, drop, replicate, append_assoc, refl, sym, ap, ◌∙◌, subst, inl, inr, arith}
 use Rattle.std.proofs.lemmas.Bool.Decides.{eqb_tells}
 use Rattle.std.proofs.lemmas.Bool.{eq-eqb, le-leb}
 use Rattle.std.proofs.lemmas.List.{get_or-replicate, length-replicate, take_all}
 use Rattle.std.proofs.lemmas.List.Folds.{list_any_at}
 use Rattle.std.proofs.lemmas.List.FromFn.{fill_by_all}
-use Rattle.std.specs.List.{list_any, range_with_len, slice_index_or}
+use Rattle.std.specs.List.{list_any, slice_index_or}
 use Rattle.key_text.specs.Fault.{◌>>=◌}
 use Rattle.key_text.specs.Lines.{before, comma, covers, marked, pieces, range_of, ranges_of, tables_in, with_byte}
 use Rattle.key_text.specs.Tables.{IsTableSet, is_table_set}

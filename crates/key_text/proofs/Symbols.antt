@@ -1,9 +1,9 @@
 -- Symbols and modifier words that are read one by one.
-use Rattle.std.proofs.Common.{◌≡◌, ℕ, zero, suc, ◌+◌, ◌-◌, ◌<◌, ◌≤◌, Option, Some, None, Result, Ok, Err, List, [], ◌∷◌, ◌++◌, length, append_assoc, append-nil, bit_or, refl, sym, ap, ◌∙◌, subst, arith}
+use Rattle.std.proofs.Common.{◌≡◌, ℕ, suc, ◌+◌, ◌-◌, ◌<◌, Some, None, Result, Ok, Err, List, [], ◌∷◌, ◌++◌, length, append_assoc, append-nil, bit_or, refl, sym, ap, ◌∙◌, subst, arith}
 use Rattle.key_syms.specs.Act.{Act}
 use Rattle.key_text.specs.Fault.{◌>>=◌}
 use Rattle.key_text.specs.Fields.{action_of, symbols_after, symbols_at, with_actions}
-use Rattle.key_text.specs.Lines.{keycode_by, modifiers_at, modifiers_by, weight_of}
+use Rattle.key_text.specs.Lines.{modifiers_at, modifiers_by, weight_of}
 use Rattle.key_text.specs.Words.{next, whole, word_at}
 use Rattle.key_text.specs.declared.fault.KeyFault.{KeyFault}
 use Rattle.key_text.specs.FaultKinds.{UNKNOWN_WORD}

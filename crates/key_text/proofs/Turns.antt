@@ -1,8 +1,8 @@
 -- One turn of the reading of a row: a line's end, a join, or another byte.
-use Rattle.std.proofs.Common.{◌≡◌, ◌≢◌, ℕ, zero, suc, ◌+◌, ◌<◌, ◌≤◌, Bool, true, false, ◌==◌, ◌&&◌, cond, List, [], ◌∷◌, ◌++◌, length, get_or, drop, refl, sym, ap, ◌∙◌, subst, inl, inr, arith}
+use Rattle.std.proofs.Common.{◌≡◌, ◌≢◌, ℕ, ◌+◌, false, ◌==◌, ◌&&◌, cond, List, [], ◌∷◌, ◌++◌, drop, refl, sym, ap, ◌∙◌, subst, inl, inr, arith}
 use Rattle.std.proofs.lemmas.Bool.Decides.{eqb_tells}
 use Rattle.key_text.specs.Cut.{end_len, join_len, joining, lf_len}
-use Rattle.key_text.specs.Rows.{Row, after, backslash, begins_end, begins_lf, carriage_return, joined, line_feed, next_line, behind, placed, put_at, row_of, rows, rows_of, with_item}
+use Rattle.key_text.specs.Rows.{Row, after, begins_end, begins_lf, joined, next_line, placed, put_at, row_of, rows, rows_of, with_item}
 use Rattle.key_text.specs.declared.placed.Place.{Place}
 use Rattle.key_text.specs.declared.placed.Placed.{Placed}
 
@@ -28,7 +28,7 @@ with_items-more [] p left = refl
 with_items-more (q ∷ ps) p left = ap (with_item q) (with_items-more ps p left)
 
 -- what begins with a line's end
-data Ends : List ℕ → Type 0 where
+pub data Ends : List ℕ → Type 0 where
   lf : (bs : List ℕ) → Ends (10 ∷ bs)
   crlf : (bs : List ℕ) → Ends (13 ∷ 10 ∷ bs)
 
@@ -39,7 +39,7 @@ at_lf (b ∷ bs) h = elim (eqb_tells b 10) [
   | inr e ↦ absurd (h (ap (λ t. cond t 1 0 + cond t 1 0) e.0))
 ]
 
-ends : (bytes : List ℕ) → end_len bytes ≢ 0 → Ends bytes
+pub ends : (bytes : List ℕ) → end_len bytes ≢ 0 → Ends bytes
 ends [] h = absurd (h refl)
 ends (b ∷ bs) h = elim (eqb_tells b 10) [
   | inl e ↦ subst (λ (x : ℕ). Ends (x ∷ bs)) (sym e.1) (lf bs)
@@ -63,7 +63,7 @@ join_turn-at : (end here : Place) (bs : List ℕ) → Ends bs → rows_from end 
 join_turn-at end here bs (lf cs) = refl
 join_turn-at end here bs (crlf cs) = refl
 
-joining-some : (n : ℕ) → joining n ≢ 0 → n ≢ 0
+pub joining-some : (n : ℕ) → joining n ≢ 0 → n ≢ 0
 joining-some n h e = h (subst (λ (m : ℕ). joining m ≡ 0) (sym e) refl)
 
 pub join_turn : (end here : Place) (bytes : List ℕ) → join_len bytes ≢ 0 → rows_from end here bytes ≡ rows_from end (next_line here) (drop (join_len bytes) bytes)

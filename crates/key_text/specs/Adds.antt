@@ -1,14 +1,14 @@
 -- What a call that adds lines did.
-use Rattle.std.specs.Prelude.{◌≡◌, ℕ, Option, Result, Ok, Err, List, ◌++◌}
+use Rattle.std.specs.Prelude.{◌≡◌, ℕ, Result, Ok, Err, List, ◌++◌}
 use Rattle.key_text.specs.Fault.{Fails}
 use Rattle.key_text.specs.Reading.{Got, got}
-use Rattle.key_text.specs.Told.{Told}
+use Rattle.key_text.specs.KeymapLine.{KeymapLine}
 use Rattle.key_text.specs.declared.fault.KeyError.{KeyError}
 use Rattle.key_text.specs.declared.fault.KeyFault.{KeyFault}
 
 -- the lines that reading gives came behind those before, and the answer is its count; or the call
 -- failed as reading does, or for want of memory
-abbrev pub Adds : List Told → List Told → Result ℕ KeyError → Result Got KeyFault → Type 0
+abbrev pub Adds : List KeymapLine → List KeymapLine → Result ℕ KeyError → Result Got KeyFault → Type 0
 Adds old new (Ok count) read =
-    (lines : List Told) × (read ≡ Ok (got lines count)) × (new ≡ old ++ lines)
+    (lines : List KeymapLine) × (read ≡ Ok (got lines count)) × (new ≡ old ++ lines)
 Adds old new (Err e) read = Fails e read

@@ -1,5 +1,5 @@
 -- What may stand at a place of a line: a word, a number, a symbol, a quoted text, a character.
-use Rattle.std.specs.Prelude.{ℕ, zero, suc, ◌+◌, Bool, ◌==◌, ◌&&◌, cond, nat_le, Option, Some, None, Result, Ok, Err, List, [], ◌∷◌, ◌++◌, length, codes, slice_index_or}
+use Rattle.std.specs.Prelude.{ℕ, zero, suc, Bool, ◌==◌, ◌&&◌, cond, nat_le, Option, Some, None, Result, Ok, Err, List, [], ◌∷◌, ◌++◌, length, slice_index_or}
 use Rattle.key_syms.specs.Act.{Act, is_character}
 use Rattle.key_syms.specs.Names.{symbol}
 use Rattle.key_syms.specs.Numbers.{number_of}

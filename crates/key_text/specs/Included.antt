@@ -1,5 +1,5 @@
 -- Texts that may be included, by name.
-use Rattle.std.specs.Prelude.{ℕ, Bool, cond, is_some, Option, List, [], ◌∷◌, ◌++◌, find}
+use Rattle.std.specs.Prelude.{ℕ, cond, is_some, Option, List, [], ◌∷◌, ◌++◌, find}
 use Rattle.std.specs.Option.{option_map}
 use Rattle.std.specs.Str.{bytes_eq}
 

@@ -1,13 +1,12 @@
 -- The lines of a keymap, by their first words (keymaps(5)).
-use Rattle.std.specs.Prelude.{ℕ, zero, suc, ◌+◌, Bool, true, false, ◌==◌, ◌&&◌, cond, not, nat_le, bit_or, Option, Some, None, Result, Ok, Err, List, [], ◌∷◌, length, codes, take, drop, map}
+use Rattle.std.specs.Prelude.{ℕ, zero, suc, ◌+◌, Bool, false, ◌==◌, ◌&&◌, cond, not, nat_le, bit_or, Option, Some, None, Result, Ok, Err, List, [], ◌∷◌, length, codes, take, drop, map}
 use Rattle.std.specs.List.{list_any, prefix_len, range_with_len}
 use Rattle.std.specs.Result.{result_err}
-use Rattle.key_syms.specs.Act.{Act}
 use Rattle.key_syms.specs.Numbers.{number_of}
 use Rattle.key_syms.specs.declared.pair.Pair.{Pair}
 use Rattle.key_text.specs.Fault.{fault, ◌>>=◌}
 use Rattle.key_text.specs.Fields.{character_at, code_at, ended, keyword_at, ranged, string_at, symbol_at, symbols_at, function_at, text_at, with_actions}
-use Rattle.key_text.specs.Told.{Telling, keymaps, keys, one, string, compose, alt_is_meta, usual_strings, usual_pairs}
+use Rattle.key_text.specs.KeymapLine.{Telling, keymaps, keys, one, string, compose, alt_is_meta, usual_strings, usual_pairs}
 use Rattle.key_text.specs.Words.{bytes, is_word, next, spot, whole, word_at}
 use Rattle.key_text.specs.declared.fault.KeyFault.{KeyFault}
 use Rattle.key_text.specs.FaultKinds.{OUT_OF_RANGE, UNKNOWN_WORD}

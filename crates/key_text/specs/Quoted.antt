@@ -1,5 +1,5 @@
 -- Quoted texts and quoted characters, and their escapes (keymaps(5)).
-use Rattle.std.specs.Prelude.{ℕ, zero, suc, ◌+◌, ◌-◌, ◌*◌, Bool, true, false, ◌==◌, ◌&&◌, ◌||◌, cond, nat_le, Option, Some, None, List, [], ◌∷◌, length, take, drop, fold}
+use Rattle.std.specs.Prelude.{ℕ, zero, suc, ◌+◌, ◌-◌, ◌*◌, Bool, false, ◌==◌, ◌&&◌, ◌||◌, cond, nat_le, Option, Some, None, List, [], ◌∷◌, length, take, drop, fold}
 use Rattle.std.specs.List.{prefix_len}
 use Rattle.std.specs.Option.{option_and_then, option_map}
 use Rattle.key_text.specs.Rows.{backslash}

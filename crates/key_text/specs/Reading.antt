@@ -5,8 +5,8 @@ use Rattle.key_text.specs.Fault.{fault, ◌>>=◌}
 use Rattle.key_text.specs.Included.{Named, text_named}
 use Rattle.key_text.specs.Lines.{Said, nothing, tells, includes, said_from}
 use Rattle.key_text.specs.Rows.{Row, rows_of}
-use Rattle.key_text.specs.Told.{Told}
-use Rattle.key_text.specs.View.{told}
+use Rattle.key_text.specs.KeymapLine.{KeymapLine}
+use Rattle.key_text.specs.View.{keymap_line}
 use Rattle.key_text.specs.Words.{spot, word_at}
 use Rattle.key_text.specs.declared.fault.KeyFault.{KeyFault}
 use Rattle.key_text.specs.FaultKinds.{NOT_GIVEN, TOO_DEEP, TOO_MANY_INCLUDES}
@@ -15,10 +15,10 @@ use Rattle.key_text.specs.declared.placed.Placed.{Placed}
 
 -- lines, and how many texts were included up to the last of them
 pub record Got : Type 0 where
-  pub lines : List Told
+  pub lines : List KeymapLine
   pub count : ℕ
 
-abbrev pub got : List Told → ℕ → Got
+abbrev pub got : List KeymapLine → ℕ → Got
 got lines count = record { lines = lines; count = count }
 
 -- where a text begins
@@ -50,7 +50,7 @@ abbrev pub given : Deeper → List Named → Option Place → Place → ℕ → 
 given deeper texts outer first count nothing = Ok (got [] count)
 given deeper texts outer first count (tells telling) =
     let at = unwrap_or outer first in
-    Ok (got (told telling at.line at.column ∷ []) count)
+    Ok (got (keymap_line telling at.line at.column ∷ []) count)
 given deeper texts outer first count (includes name quoted bad_end) =
     let at = unwrap_or outer quoted in
     included (deeper at (unwrap_or outer first) (option_map (blamed_fault outer) bad_end) count) at
@@ -67,7 +67,7 @@ read_row deeper texts outer count end items =
     read_row_by deeper texts outer count end (word_at items)
 
 -- lines before those that are read
-abbrev pub with_lines : List Told → Result Got KeyFault → Result Got KeyFault
+abbrev pub with_lines : List KeymapLine → Result Got KeyFault → Result Got KeyFault
 with_lines front read = read >>= λ g. Ok (got (front ++ g.lines) g.count)
 
 -- what rows give, one behind another
@@ -99,6 +99,6 @@ abbrev pub most_deep : ℕ
 most_deep = 8
 
 -- the lines of a text that may include these
-unfoldable pub lines_of : List Named → List ℕ → Result (List Told) KeyFault
+unfoldable pub lines_of : List Named → List ℕ → Result (List KeymapLine) KeyFault
 lines_of texts text =
     read_rows (within most_deep texts) texts None 0 (rows_of start text) >>= λ g. Ok g.lines

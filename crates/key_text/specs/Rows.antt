@@ -1,6 +1,6 @@
 -- A text as rows: its bytes with their places, joined where a backslash stands before a line's end,
 -- and cut at the line ends (keymaps(5)).
-use Rattle.std.specs.Prelude.{ℕ, ◌+◌, Bool, true, false, ◌==◌, ◌&&◌, ◌||◌, cond, min, List, [], ◌∷◌, drop}
+use Rattle.std.specs.Prelude.{ℕ, ◌+◌, Bool, false, ◌==◌, ◌&&◌, ◌||◌, cond, min, List, [], ◌∷◌, drop}
 use Rattle.key_text.specs.declared.placed.Place.{Place}
 use Rattle.key_text.specs.declared.placed.Placed.{Placed}
 

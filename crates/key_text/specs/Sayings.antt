@@ -1,7 +1,7 @@
 -- What a row says, as the code has it.
-use Rattle.std.specs.Prelude.{ℕ, Bool, true, List}
+use Rattle.std.specs.Prelude.{Bool, true}
 use Rattle.key_text.specs.Lines.{Said, nothing, tells, includes}
-use Rattle.key_text.specs.Told.{is_fit}
+use Rattle.key_text.specs.KeymapLine.{is_fit}
 use Rattle.key_text.specs.View.{telling_of}
 use Rattle.key_text.specs.declared.saying.Saying.{Saying}
 use Rattle.key_text.specs.declared.saying.Saying.TheVariants as sayings

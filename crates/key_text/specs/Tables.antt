@@ -1,5 +1,5 @@
 -- Sets of tables.
-use Rattle.std.specs.Prelude.{◌≡◌, ℕ, Bool, true, ◌==◌, ◌&&◌, List, length}
+use Rattle.std.specs.Prelude.{◌≡◌, Bool, true, ◌==◌, ◌&&◌, List, length}
 use Rattle.std.specs.List.{list_any}
 
 -- the list says for 256 tables whether each is in a set, and one is

@@ -1,7 +1,6 @@
 -- What the lines that are read tell.
-use Rattle.std.specs.Prelude.{ℕ, Bool, true, List}
-use Rattle.key_text.specs.Lines.{Said, nothing, tells, includes}
-use Rattle.key_text.specs.Told.{Telling, Told, is_fit, keymaps, keys, one, string, compose, alt_is_meta, usual_strings, usual_pairs}
+use Rattle.std.specs.Prelude.{ℕ}
+use Rattle.key_text.specs.KeymapLine.{Telling, KeymapLine, keymaps, keys, one, string, compose, alt_is_meta, usual_strings, usual_pairs}
 use Rattle.key_text.specs.declared.line_kind.LineKind.{LineKind}
 use Rattle.key_text.specs.declared.line_kind.LineKind.TheVariants as kinds
 
@@ -17,5 +16,5 @@ telling_of kinds.UsualStrings = usual_strings
 telling_of kinds.UsualPairs = usual_pairs
 
 -- a line that tells this, and its place
-abbrev pub told : Telling → ℕ → ℕ → Told
-told telling line column = record { telling = telling; line = line; column = column }
+abbrev pub keymap_line : Telling → ℕ → ℕ → KeymapLine
+keymap_line telling line column = record { telling = telling; line = line; column = column }

@@ -1,6 +1,6 @@
 -- The words of a row: quoted texts and what touches them, or bytes up to a blank or a comment
 -- (keymaps(5)).
-use Rattle.std.specs.Prelude.{ℕ, suc, ◌+◌, Bool, true, false, ◌==◌, ◌&&◌, ◌||◌, not, cond, Option, Some, None, Result, Ok, Err, List, [], ◌∷◌, length, take, drop, map, slice_index_or}
+use Rattle.std.specs.Prelude.{ℕ, suc, ◌+◌, Bool, false, ◌==◌, ◌&&◌, ◌||◌, not, cond, Option, Some, None, Result, Ok, Err, List, [], ◌∷◌, length, take, drop, map, slice_index_or}
 use Rattle.std.specs.List.{prefix_len}
 use Rattle.std.specs.Option.{option_map, option_map_or}
 use Rattle.std.specs.Str.{str_eq_ignore_ascii_case}
@@ -8,7 +8,7 @@ use Rattle.std.specs.Str.Lossy.{utf8_valid_len}
 use Rattle.key_text.specs.Fault.{fault}
 use Rattle.key_text.specs.Rows.{backslash, place_of}
 use Rattle.key_text.specs.declared.fault.KeyFault.{KeyFault}
-use Rattle.key_text.specs.FaultKinds.{BAD_TEXT, LEFT_OVER, UNKNOWN_WORD}
+use Rattle.key_text.specs.FaultKinds.{BAD_TEXT}
 use Rattle.key_text.specs.declared.placed.Place.{Place}
 use Rattle.key_text.specs.declared.placed.Placed.{Placed}
 

@@ -9,10 +9,11 @@ use crate::fault::KeyError;
 use crate::fault_kind::{
     BAD_TEXT, LEFT_OVER, LONG_STRING, OUT_OF_RANGE, UNKNOWN_SYMBOL, UNKNOWN_WORD,
 };
+use crate::named::{named_action, named_number};
 use crate::placed::{Place, Placed};
 use crate::quoted::{character_of, text_of};
-use crate::words::{bytes, fault, is_quote, is_word, next, spot, whole, word_at};
-use key_syms::{Action, by_bytes, kind, number};
+use crate::words::{fault, is_quote, is_word, next, spot, whole, word_at};
+use key_syms::{Action, kind};
 use std::alloc::Global;
 
 // The greatest bytes of a string.
@@ -43,7 +44,7 @@ pub fn keyword_at<'a>(
     ensures { Gives (λ rest. rest.now) result (keyword_at text.now end items.entry.now) }
 {
     let (word, rest) = next(alloc, UNKNOWN_WORD, end, items)?;
-    if is_word(alloc, text, word)? {
+    if is_word(text, word) {
         return Ok(rest);
     }
     Err(fault(UNKNOWN_WORD, spot(word)))
@@ -74,8 +75,7 @@ pub fn code_at(alloc: Global, end: Place, items: &[Placed]) -> Result<(u8, &[Pla
     ensures key { IfOk result (λ x. 1 ≤ x.0) }
 {
     let (word, rest) = next(alloc, UNKNOWN_WORD, end, items)?;
-    let text = bytes(alloc, word)?;
-    let code = ranged(1, 255, word, number(text.as_slice()))?;
+    let code = ranged(1, 255, word, named_number(alloc, word)?)?;
     Ok((code, rest))
 }
 
@@ -83,8 +83,7 @@ pub fn code_at(alloc: Global, end: Place, items: &[Placed]) -> Result<(u8, &[Pla
 pub fn action_of(alloc: Global, word: &[Placed]) -> Result<Action, KeyError>
     ensures { Gives (λ x. x) result (action_of word.now) }
 {
-    let text = bytes(alloc, word)?;
-    match by_bytes(text.as_slice()) {
+    match named_action(alloc, word)? {
         Some(action) => Ok(action),
         None => Err(fault(UNKNOWN_SYMBOL, spot(word))),
     }

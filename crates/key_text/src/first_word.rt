@@ -36,28 +36,28 @@ fn line_by(alloc: Global, end: Place, word: &[Placed], rest: &[Placed]) -> Resul
     ensures value { Gives said result (line_by end (word.now, rest.now)) }
     ensures fit { IfOk result (λ s. IsTrue (is_fit_said (said s))) }
 {
-    if is_word(alloc, b"keymaps", word)? {
+    if is_word(b"keymaps", word) {
         return keymaps_line(alloc, end, rest);
     }
-    if is_word(alloc, b"keycode", word)? {
+    if is_word(b"keycode", word) {
         return keys_line(alloc, end, rest);
     }
-    if is_word(alloc, b"string", word)? {
+    if is_word(b"string", word) {
         return string_line(alloc, end, rest);
     }
-    if is_word(alloc, b"compose", word)? {
+    if is_word(b"compose", word) {
         return compose_line(alloc, end, rest);
     }
-    if is_word(alloc, b"include", word)? {
+    if is_word(b"include", word) {
         return include_line(alloc, end, rest);
     }
-    if is_word(alloc, b"charset", word)? {
+    if is_word(b"charset", word) {
         return charset_line(alloc, end, rest);
     }
-    if is_word(alloc, b"alt_is_meta", word)? {
+    if is_word(b"alt_is_meta", word) {
         return alt_is_meta_line(alloc, rest);
     }
-    if is_word(alloc, b"strings", word)? {
+    if is_word(b"strings", word) {
         return usual_strings_line(alloc, end, rest);
     }
     modified_by(alloc, end, word, rest)
@@ -73,7 +73,7 @@ fn modified_by(
         (modified_by end (word.now, rest.now) (weight_of word.now)) }
     ensures fit { IfOk result (λ s. IsTrue (is_fit_said (said s))) }
 {
-    match weight_of(alloc, word)? {
+    match weight_of(word) {
         Some(weight) => modified_line(alloc, weight, end, rest),
         None => Err(fault(UNKNOWN_WORD, spot(word))),
     }

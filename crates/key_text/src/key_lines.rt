@@ -13,7 +13,7 @@ use crate::saying::Saying;
 use crate::syms::Syms;
 use crate::words::{fault, is_word, next, spot, whole, word_at};
 use key_syms::Action;
-use std::alloc::{AllocError, Global};
+use std::alloc::Global;
 
 /// `keycode N =` and symbols.
 #[tactic(auto, unfolding(crate::specs::Lines::keys_line, crate::specs::Fields::symbol_at))]
@@ -88,20 +88,19 @@ fn modifiers_at(
     let mut rest = items;
     for _turn in 0..items.len() + 1 {
         let (word, left) = next(alloc, UNKNOWN_WORD, end, rest)?;
-        match weight_of(alloc, word)? {
+        match weight_of(word) {
             Some(weight) => {
                 table |= weight;
                 rest = left;
                 continue;
             }
-            None => return keycode_by(alloc, table, word, left),
+            None => return keycode_by(table, word, left),
         }
     }
     Err(fault(UNKNOWN_WORD, end))
 }
 
 fn keycode_by<'a>(
-    alloc: Global,
     table: u8,
     word: &'a [Placed],
     rest: &'a [Placed],
@@ -109,7 +108,7 @@ fn keycode_by<'a>(
     ensures { Gives (λ x. (x.0, x.1.now)) result
         (keycode_by table (word.entry.now, rest.entry.now)) }
 {
-    if is_word(alloc, b"keycode", word)? {
+    if is_word(b"keycode", word) {
         return Ok((table, rest));
     }
     Err(fault(UNKNOWN_WORD, spot(word)))
@@ -117,35 +116,35 @@ fn keycode_by<'a>(
 
 /// The weight of a modifier word: 2 to its number, as key_syms has it, and 0 for `plain`.
 #[tactic(auto, unfolding(crate::specs::Lines::weight_of))]
-pub fn weight_of(alloc: Global, word: &[Placed]) -> Result<Option<u8>, AllocError>
-    ensures { IfOk result (λ weight. weight ≡ weight_of word.now) }
+pub fn weight_of(word: &[Placed]) -> Option<u8>
+    ensures { result ≡ weight_of word.now }
 {
-    if is_word(alloc, b"plain", word)? {
-        return Ok(Some(0));
+    if is_word(b"plain", word) {
+        return Some(0);
     }
-    if is_word(alloc, b"shift", word)? {
-        return Ok(Some(1));
+    if is_word(b"shift", word) {
+        return Some(1);
     }
-    if is_word(alloc, b"altgr", word)? {
-        return Ok(Some(2));
+    if is_word(b"altgr", word) {
+        return Some(2);
     }
-    if is_word(alloc, b"control", word)? {
-        return Ok(Some(4));
+    if is_word(b"control", word) {
+        return Some(4);
     }
-    if is_word(alloc, b"alt", word)? {
-        return Ok(Some(8));
+    if is_word(b"alt", word) {
+        return Some(8);
     }
-    if is_word(alloc, b"shiftl", word)? {
-        return Ok(Some(16));
+    if is_word(b"shiftl", word) {
+        return Some(16);
     }
-    if is_word(alloc, b"shiftr", word)? {
-        return Ok(Some(32));
+    if is_word(b"shiftr", word) {
+        return Some(32);
     }
-    if is_word(alloc, b"ctrll", word)? {
-        return Ok(Some(64));
+    if is_word(b"ctrll", word) {
+        return Some(64);
     }
-    if is_word(alloc, b"ctrlr", word)? {
-        return Ok(Some(128));
+    if is_word(b"ctrlr", word) {
+        return Some(128);
     }
-    Ok(None)
+    None
 }

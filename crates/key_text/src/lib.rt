@@ -3,15 +3,18 @@
 
 mod fault;
 pub mod fault_kind;
+mod fault_text;
 mod fields;
 mod first_word;
 mod included;
 mod includes;
 mod key_lines;
 mod keymaps_line;
+pub mod laws;
 mod line;
 mod line_kind;
 mod lines;
+mod named;
 mod next_row;
 mod placed;
 mod quoted;

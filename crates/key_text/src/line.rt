@@ -12,12 +12,12 @@ pub struct Line {
 
 impl Model for Line {
     ghost use Rattle.std.specs.Prelude.{IsTrue};
-    ghost use Rattle.key_text.specs.Told.{Told, is_fit};
-    ghost use Rattle.key_text.specs.View.{telling_of, told};
+    ghost use Rattle.key_text.specs.KeymapLine.{KeymapLine, is_fit};
+    ghost use Rattle.key_text.specs.View.{telling_of, keymap_line};
 
-    ghost Value = { Told };
+    ghost Value = { KeymapLine };
 
-    ghost view = { λ l. told (telling_of l.kind) l.line l.column };
+    ghost view = { λ l. keymap_line (telling_of l.kind) l.line l.column };
 
     ghost invariant = { λ l. IsTrue (is_fit (telling_of l.kind)) };
 }

@@ -12,7 +12,7 @@ use crate::placed::{Place, Placed};
 use crate::saying::Saying;
 use crate::words::{is_word, word_at};
 use key_syms::Pair;
-use std::alloc::{AllocError, Global};
+use std::alloc::Global;
 use vt_base::{Bytes, NoMemory};
 
 /// `string NAME = "text"`.
@@ -35,7 +35,7 @@ pub fn compose_line(alloc: Global, end: Place, items: &[Placed]) -> Result<Sayin
     ensures value { Gives said result (compose_line end items.now) }
     ensures fit { IfOk result (λ s. IsTrue (is_fit_said (said s))) }
 {
-    if is_next(alloc, b"as", items)? {
+    if is_next(b"as", items) {
         return usual_pairs_line(alloc, end, items);
     }
     pair_line(alloc, end, items)
@@ -75,7 +75,7 @@ fn usual_pairs_line(alloc: Global, end: Place, items: &[Placed]) -> Result<Sayin
 fn after_charset(alloc: Global, end: Place, items: &[Placed]) -> Result<&[Placed], KeyError>
     ensures { Gives (λ rest. rest.now) result (after_charset end items.now) }
 {
-    if is_next(alloc, b"for", items)? {
+    if is_next(b"for", items) {
         let rest = keyword_at(alloc, b"for", end, items)?;
         let (_name, _at, rest) = text_at(alloc, end, rest)?;
         return Ok(rest);
@@ -85,12 +85,12 @@ fn after_charset(alloc: Global, end: Place, items: &[Placed]) -> Result<&[Placed
 
 // Whether the next word is this one.
 #[tactic(auto, unfolding(crate::specs::Lines::is_next))]
-fn is_next(alloc: Global, text: &[u8], items: &[Placed]) -> Result<bool, AllocError>
-    ensures { IfOk result (λ same. same ≡ is_next text.now items.now) }
+fn is_next(text: &[u8], items: &[Placed]) -> bool
+    ensures { result ≡ is_next text.now items.now }
 {
     match word_at(items) {
-        Some((word, _rest)) => is_word(alloc, text, word),
-        None => Ok(false),
+        Some((word, _rest)) => is_word(text, word),
+        None => false,
     }
 }
 

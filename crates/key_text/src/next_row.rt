@@ -3,30 +3,34 @@ ghost use Rattle.key_text.specs.Cut.{end_len, join_len};
 ghost use Rattle.key_text.specs.Rows.{put_at, row_of, rows_of};
 
 use crate::placed::{Place, Placed};
-use std::alloc::Global;
 use vt_base::NoMemory;
 
-/// A row of a text: its bytes without the joins, the place behind the last one, and where the next
-/// row starts, if there is one.
-#[derive(Drop)]
+/// What is told of a row beside its bytes: the place behind the last one, and where the next row
+/// starts, if there is one.
+#[derive(Clone, Copy)]
 pub struct Row {
-    pub items: Vec<Placed>,
     pub end: Place,
     pub more: bool,
     pub at: usize,
     pub place: Place,
 }
 
-/// Reads a row. `at` is where it starts in the text, and `place` is the place there.
-pub fn next_row(alloc: Global, text: &[u8], at: usize, place: Place) -> Result<Row, NoMemory>
+/// Reads a row into `items`, in place of what they hold: its bytes without the joins. `at` is where
+/// it starts in the text, and `place` is the place there.
+pub fn next_row(
+    text: &[u8],
+    at: usize,
+    place: Place,
+    items: &mut Vec<Placed>,
+) -> Result<Row, NoMemory>
     requires { at ≤ length text.now }
     ensures rows { IfOk result (λ row. rows_of place (drop at text.now)
-        ≡ row_of row.items.items row.end
+        ≡ row_of items.new.items row.end
         ∷ cond row.more (rows_of row.place (drop row.at text.now)) []) }
     ensures goes { IfOk result (λ row. IsTrue row.more → at < row.at) }
     ensures within { IfOk result (λ row. row.at ≤ length text.now) }
 {
-    let mut items = Vec::new(alloc);
+    items.clear();
     let mut end = place;
     let mut here = place;
     let mut i = at;
@@ -34,7 +38,6 @@ pub fn next_row(alloc: Global, text: &[u8], at: usize, place: Place) -> Result<R
         let ended = end_len(text, i);
         if ended != 0 {
             return Ok(Row {
-                items,
                 end: here,
                 more: true,
                 at: i + ended,
@@ -53,7 +56,6 @@ pub fn next_row(alloc: Global, text: &[u8], at: usize, place: Place) -> Result<R
         i += 1;
     }
     Ok(Row {
-        items,
         end,
         more: false,
         at: i,

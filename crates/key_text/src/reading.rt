@@ -75,17 +75,10 @@ fn read_text(
     let mut count = count;
     let mut at = 0;
     let mut place = Place { line: 1, column: 1 };
+    let mut items = Vec::new(alloc);
     'rows: loop {
-        let row = next_row(alloc, text, at, place)?;
-        count = read_row(
-            alloc,
-            texts,
-            depth,
-            count,
-            row.end,
-            row.items.as_slice(),
-            out,
-        )?;
+        let row = next_row(text, at, place, &mut items)?;
+        count = read_row(alloc, texts, depth, count, row.end, items.as_slice(), out)?;
         if !row.more {
             return Ok(count);
         }

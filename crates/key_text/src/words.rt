@@ -1,4 +1,4 @@
-ghost use Rattle.std.specs.Prelude.{◌≡◌, ◌+◌, ◌<◌, ◌≤◌, ◌==◌, ◌&&◌, not, false, length, take, drop, IfOk, IfSome};
+ghost use Rattle.std.specs.Prelude.{◌≡◌, ◌+◌, ◌<◌, ◌≤◌, ◌==◌, ◌&&◌, not, false, nat_lt, length, take, drop, IfOk, IfSome};
 ghost use Rattle.std.specs.List.{prefix_len};
 ghost use Rattle.std.specs.Option.{option_map};
 ghost use Rattle.std.specs.Str.Lossy.{utf8_valid_len};
@@ -94,15 +94,30 @@ pub fn whole<'a>(
 }
 
 // How many of a word's bytes are UTF-8 up to the first fault.
-#[tactic(auto, using(crate::proofs::Lengths::whole_text))]
+#[tactic(auto, using(crate::proofs::Lengths::whole_text, crate::proofs::Lengths::plain_text))]
 fn valid_len(alloc: Global, word: &[Placed]) -> Result<usize, AllocError>
     ensures { IfOk result (λ n. n ≡ utf8_valid_len (bytes word.now)) }
 {
+    if plain_len(word) == word.len() {
+        return Ok(word.len());
+    }
     let text = bytes(alloc, word)?;
     match str::from_utf8(text.as_slice()) {
         Ok(text) => Ok(text.len()),
         Err(error) => Ok(error.valid_up_to()),
     }
+}
+
+fn plain_len(items: &[Placed]) -> usize
+    ensures value { result ≡ prefix_len (λ p. nat_lt p.byte 128) items.now }
+    ensures within { result ≤ length items.now }
+{
+    for i in 0..items.len() {
+        if items[i].byte >= 128 {
+            return i;
+        }
+    }
+    items.len()
 }
 
 fn blank_len(items: &[Placed]) -> usize
@@ -197,11 +212,18 @@ pub fn is_quote(b: u8) -> bool
 }
 
 /// Whether a word is this one, in any ASCII case.
-pub fn is_word(alloc: Global, text: &[u8], word: &[Placed]) -> Result<bool, AllocError>
-    ensures { IfOk result (λ same. same ≡ is_word text.now word.now) }
+pub fn is_word(text: &[u8], word: &[Placed]) -> bool
+    ensures { result ≡ is_word text.now word.now }
 {
-    let word = bytes(alloc, word)?;
-    Ok(word.as_slice().eq_ignore_ascii_case(text))
+    if word.len() != text.len() {
+        return false;
+    }
+    for i in 0..text.len() {
+        if !word[i].byte.eq_ignore_ascii_case(&text[i]) {
+            return false;
+        }
+    }
+    true
 }
 
 /// The first n items.

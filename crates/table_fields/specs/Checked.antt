@@ -37,3 +37,8 @@ abbrev pub Gives : {X Y : Type 0} → (X → Y) → Result X TableError → Resu
 Gives view (Ok x) checked = checked ≡ Ok (view x)
 Gives view (Err (errors.Fault f)) checked = checked ≡ Err f
 Gives view (Err errors.NoMemory) checked = ⊤
+
+-- what a call that takes no memory returned, seen by `view`, is what the checks give
+abbrev pub Returns : {X Y : Type 0} → (X → Y) → Result X TableFault → Result Y TableFault → Type 0
+Returns view (Ok x) checked = checked ≡ Ok (view x)
+Returns view (Err f) checked = checked ≡ Err f

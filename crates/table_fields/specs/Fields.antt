@@ -5,7 +5,7 @@ use Rattle.std.specs.Str.{is_utf8}
 use Rattle.key_compile.specs.Faults.{compile_fault}
 use Rattle.key_text.specs.Included.{Named, with_text}
 use Rattle.key_text.specs.Reading.{lines_of}
-use Rattle.key_text.specs.Told.{Told}
+use Rattle.key_text.specs.KeymapLine.{KeymapLine}
 use Rattle.key_text.specs.declared.fault.KeyFault.{KeyFault}
 use Rattle.toml.specs.Data.{Data, Members, no_members, member, as_integer, as_str, as_table}
 use Rattle.toml.specs.Parse.{parse_document}
@@ -71,16 +71,16 @@ texts_of part key (Some d) = texts_in (fault WRONG_KIND part key) (as_table d)
 abbrev pub keymap_fault : KeyFault → TableFault
 keymap_fault f = fault KEYMAP f.line f.column
 
-abbrev pub lines_read : Result (List Told) KeyFault → Result (List Told) TableFault
+abbrev pub lines_read : Result (List KeymapLine) KeyFault → Result (List KeymapLine) TableFault
 lines_read (Ok lines) = Ok lines
 lines_read (Err f) = Err (keymap_fault f)
 
-abbrev pub lines_compiled : List Told → Option KeyFault → Result (List Told) TableFault
+abbrev pub lines_compiled : List KeymapLine → Option KeyFault → Result (List KeymapLine) TableFault
 lines_compiled lines None = Ok lines
 lines_compiled lines (Some f) = Err (keymap_fault f)
 
 -- the lines of a keymap that may include these texts, where they can be compiled
-abbrev pub keymap_of : List Named → List ℕ → Result (List Told) TableFault
+abbrev pub keymap_of : List Named → List ℕ → Result (List KeymapLine) TableFault
 keymap_of texts keymap =
     lines_read (lines_of texts keymap) >>= λ lines. lines_compiled lines (compile_fault lines)
 

@@ -23,11 +23,18 @@ pub enum TableError {
     NoMemory,
 }
 
+/// The fault of this kind at a place.
+pub fn fault(kind: u16, part: u32, item: u32) -> TableFault
+    ensures { result ≡ fault kind part item }
+{
+    TableFault { kind, part, item }
+}
+
 /// The error of a fault of this kind.
 pub fn refused(kind: u16, part: u32, item: u32) -> TableError
     ensures { result ≡ TableError.Fault (fault kind part item) }
 {
-    TableError::Fault(TableFault { kind, part, item })
+    TableError::Fault(fault(kind, part, item))
 }
 
 impl From<TableFault> for TableError {

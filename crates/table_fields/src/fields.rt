@@ -2,10 +2,10 @@ ghost use Rattle.std.specs.Prelude.{◌≡◌, ◌≤◌, option_map, IfOk};
 ghost use Rattle.toml.specs.Data.{get_member};
 ghost use Rattle.toml.specs.View.{table_view, view};
 ghost use Rattle.table_fields.specs.Arrays.{flag_of};
-ghost use Rattle.table_fields.specs.Checked.{Gives, fault};
+ghost use Rattle.table_fields.specs.Checked.{Returns, fault};
 ghost use Rattle.table_fields.specs.Fields.{number_of, number_within, text_of};
 
-use crate::fault::{TableError, refused};
+use crate::fault::{TableFault, fault};
 use crate::fault_code::{OUT_OF_RANGE, WRONG_KIND};
 use toml::{Table, Value};
 
@@ -30,8 +30,8 @@ pub fn number(
     part: u32,
     key: u32,
     numbers: Numbers,
-) -> Result<u64, TableError>
-    ensures value { Gives (λ n. n) result
+) -> Result<u64, TableFault>
+    ensures value { Returns (λ n. n) result
         (number_of part key numbers.default numbers.low numbers.high
         (option_map (λ v. view v.now) value.entry)) }
     ensures bound { numbers.default ≤ numbers.high → IfOk result (λ n. n ≤ numbers.high) }
@@ -41,7 +41,7 @@ pub fn number(
     };
     match value.as_integer() {
         Some(n) => within(n, numbers.low, numbers.high, OUT_OF_RANGE, part, key),
-        None => Err(refused(WRONG_KIND, part, key)),
+        None => Err(fault(WRONG_KIND, part, key)),
     }
 }
 
@@ -53,24 +53,24 @@ pub fn within(
     kind: u16,
     part: u32,
     item: u32,
-) -> Result<u64, TableError>
-    ensures value { Gives (λ n. n) result (number_within low high (fault kind part item) n) }
+) -> Result<u64, TableFault>
+    ensures value { Returns (λ n. n) result (number_within low high (fault kind part item) n) }
     ensures low { IfOk result (λ n. low ≤ n) }
     ensures high { IfOk result (λ n. n ≤ high) }
 {
     if n < 0 {
-        return Err(refused(kind, part, item));
+        return Err(fault(kind, part, item));
     }
     let n = n as u64;
     if n < low || high < n {
-        return Err(refused(kind, part, item));
+        return Err(fault(kind, part, item));
     }
     Ok(n)
 }
 
 /// A text, the empty one where it isn't given: 22 where the value is no text.
-pub fn text<'a>(value: Option<&'a Value>, part: u32, key: u32) -> Result<&'a str, TableError>
-    ensures { Gives (λ text. text.now) result
+pub fn text<'a>(value: Option<&'a Value>, part: u32, key: u32) -> Result<&'a str, TableFault>
+    ensures { Returns (λ text. text.now) result
         (text_of part key (option_map (λ v. view v.now) value.entry)) }
 {
     let Some(value) = value else {
@@ -78,19 +78,19 @@ pub fn text<'a>(value: Option<&'a Value>, part: u32, key: u32) -> Result<&'a str
     };
     match value.as_str() {
         Some(text) => Ok(text),
-        None => Err(refused(WRONG_KIND, part, key)),
+        None => Err(fault(WRONG_KIND, part, key)),
     }
 }
 
 /// Whether a key is set, false where it isn't given: 22 where the value is no truth value.
-pub fn flag(value: Option<&Value>, part: u32, key: u32) -> Result<bool, TableError>
-    ensures { Gives (λ b. b) result (flag_of part key (option_map (λ v. view v.now) value.entry)) }
+pub fn flag(value: Option<&Value>, part: u32, key: u32) -> Result<bool, TableFault>
+    ensures { Returns (λ b. b) result (flag_of part key (option_map (λ v. view v.now) value.entry)) }
 {
     let Some(value) = value else {
         return Ok(false);
     };
     match value.as_bool() {
         Some(set) => Ok(set),
-        None => Err(refused(WRONG_KIND, part, key)),
+        None => Err(fault(WRONG_KIND, part, key)),
     }
 }

@@ -4,6 +4,7 @@
 
 mod arrays;
 mod documents;
+mod error_text;
 mod fault;
 pub mod fault_code;
 mod fields;

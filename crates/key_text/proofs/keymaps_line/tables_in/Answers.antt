@@ -1,4 +1,4 @@
-use Rattle.std.proofs.Common.{◌≡◌, ◌∙◌, Ok, List, ℕ, ap, length, sym, subst, arith}
+use Rattle.std.proofs.Common.{◌∙◌, Ok, List, ℕ, ap, sym, subst, arith}
 use Rattle.std.proofs.lemmas.Result.{err_from_is_err_and}
 use Rattle.key_text.specs.Lines.{range_of}
 use Rattle.key_text.specs.Tables.{is_table_set}

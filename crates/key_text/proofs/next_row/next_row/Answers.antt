@@ -1,11 +1,10 @@
-use Rattle.std.proofs.Common.{◌≡◌, ◌≢◌, ◌+◌, ℕ, List, [], ◌∷◌, ◌∙◌, ap, drop, refl, sym, subst, arith}
-use Rattle.key_text.specs.Cut.{end_len, join_len}
-use Rattle.key_text.specs.Rows.{after, next_line, put_at, row_of, rows_of}
+use Rattle.std.proofs.Common.{◌+◌, ◌∷◌, ◌∙◌, ap, drop, sym}
+use Rattle.key_text.specs.Rows.{row_of, rows_of}
 use Rattle.key_text.proofs.Begun.{begun, begun-ended, begun-left, begun-pushed, begun-skipped}
 use Rattle.key_text.proofs.next_row.next_row.Goals as goal
 
 pub loop-i-init : goal.loop-i-init
-loop-i-init c = begun _ _ _ _ c.requires c.new-items.ensures.items
+loop-i-init c = begun _ _ _ _ c.requires c.clear.ensures.items
 
 pub returns-then-ended-ne0-clause-rows : goal.returns-then-ended-ne0-clause-rows
 returns-then-ended-ne0-clause-rows c =

@@ -1,5 +1,5 @@
-use Rattle.key_tables.proofs.Entries.{kept_holes}
+use Rattle.key_tables.proofs.Holes.{holes_are_map}
 use Rattle.key_tables.proofs.table.Table.holes.Goals as goal
 
 pub invariant_of-result : goal.invariant_of-result
-invariant_of-result c = kept_holes c.in_ok-entries.entries.items c.in_ok-entries.ensures
+invariant_of-result c = holes_are_map c.in_ok-entries.entries.items c.in_ok-entries.ensures

@@ -1,0 +1,39 @@
+-- What a line of a keymap tells.
+use Rattle.std.specs.Prelude.{ℕ, Bool, ◌&&◌, nat_le, true, List, length}
+use Rattle.key_syms.specs.Act.{Act, is_character}
+use Rattle.key_syms.specs.declared.pair.Pair.{Pair}
+use Rattle.key_text.specs.Tables.{is_table_set}
+
+-- which tables there are; the actions of a code in the tables in order; the one action of a code in
+-- one table; a string; a pair; and the lines of one meaning
+pub data Telling : Type 0 where
+  keymaps : List Bool → Telling
+  keys : ℕ → List Act → Telling
+  one : ℕ → ℕ → Act → Telling
+  string : ℕ → List ℕ → Telling
+  compose : Pair → Telling
+  alt_is_meta : Telling
+  usual_strings : Telling
+  usual_pairs : Telling
+
+-- a line: what it tells, and the place of its first word
+pub record KeymapLine : Type 0 where
+  pub telling : Telling
+  pub line : ℕ
+  pub column : ℕ
+
+-- a pair of characters
+abbrev pub is_real : Pair → Bool
+is_real pair =
+    is_character pair.accent && is_character pair.base && is_character pair.result
+
+-- there is a table, a code isn't 0, a string has at most 255 bytes, and a pair is of characters
+abbrev pub is_fit : Telling → Bool
+is_fit (keymaps tables) = is_table_set tables
+is_fit (keys code actions) = nat_le 1 code
+is_fit (one table code action) = nat_le 1 code
+is_fit (string func bytes) = nat_le (length bytes) 255
+is_fit (compose pair) = is_real pair
+is_fit alt_is_meta = true
+is_fit usual_strings = true
+is_fit usual_pairs = true

@@ -1,0 +1,69 @@
+-- Texts in two parts, and the laws that a part is read by itself (keymaps(5)).
+use Rattle.std.specs.Prelude.{◌≡◌, ℕ, Bool, false, ◌==◌, ◌&&◌, not, None, Result, Ok, Err, List, [], ◌∷◌, ◌++◌, ◌⊎◌, length, IsTrue}
+use Rattle.key_text.specs.Cut.{end_len}
+use Rattle.key_text.specs.Fault.{◌>>=◌}
+use Rattle.key_text.specs.Included.{Named}
+use Rattle.key_text.specs.KeymapLine.{KeymapLine}
+use Rattle.key_text.specs.Reading.{Got, lines_of, most_deep, read_rows, start, with_lines, within}
+use Rattle.key_text.specs.Rows.{backslash, behind, line_feed, rows_of}
+use Rattle.key_text.specs.Tellings.{told}
+use Rattle.key_text.specs.declared.fault.KeyFault.{KeyFault}
+use Rattle.key_text.specs.declared.placed.Place.{Place}
+
+-- the bytes are a line's end and no more
+abbrev pub is_line_end : List ℕ → Bool
+is_line_end [] = false
+is_line_end (b ∷ bs) = end_len (b ∷ bs) == length (b ∷ bs)
+
+-- the text ends with a line's end, and no backslash stands before it
+abbrev pub is_ended : List ℕ → Bool
+is_ended [] = false
+is_ended (b ∷ []) = b == line_feed
+is_ended (b ∷ c ∷ bs) = not (b == backslash && is_line_end (c ∷ bs)) && is_ended (c ∷ bs)
+
+-- the place behind a text that starts at this one
+abbrev pub place_behind : Place → List ℕ → Place
+place_behind at [] = at
+place_behind at (b ∷ bs) = place_behind (behind at b) bs
+
+-- what a text gives that starts at this place, where so many texts were included before
+abbrev pub read_from : List Named → Place → ℕ → List ℕ → Result Got KeyFault
+read_from texts at count text = read_rows (within most_deep texts) texts None count (rows_of at text)
+
+-- the lines that it gives
+abbrev pub lines_from : List Named → Place → ℕ → List ℕ → Result (List KeymapLine) KeyFault
+lines_from texts at count text = read_from texts at count text >>= λ g. Ok g.lines
+
+-- a text is read from the start, with no text included before
+abbrev pub StartsThere : Type 0
+StartsThere = (texts : List Named) (text : List ℕ) → lines_of texts text ≡ lines_from texts start 0 text
+
+-- where a text starts changes no line but for its place
+abbrev pub PlacesTell : Type 0
+PlacesTell =
+    (texts : List Named) (at there : Place) (count : ℕ) (text : List ℕ)
+    → told (lines_from texts at count text) ≡ told (lines_from texts there count text)
+
+-- where a text that ends a line has no fault, its lines stand before those of what follows it, which
+-- is read as it would be there
+abbrev pub TextsFollow : Type 0
+TextsFollow =
+    (texts : List Named) (at : Place) (count : ℕ) (a b : List ℕ) (g : Got)
+    → IsTrue (is_ended a) → read_from texts at count a ≡ Ok g
+    → read_from texts at count (a ++ b) ≡ with_lines g.lines (read_from texts (place_behind at a) g.count b)
+
+-- where it has a fault, nothing that follows it changes the answer
+abbrev pub FaultsStop : Type 0
+FaultsStop =
+    (texts : List Named) (at : Place) (count : ℕ) (a b : List ℕ) (f : KeyFault)
+    → IsTrue (is_ended a) → read_from texts at count a ≡ Err f
+    → read_from texts at count (a ++ b) ≡ Err f
+
+-- where a text has a fault, a front of it that ends a line has the same fault, or it has none and
+-- what follows has the fault where it stands
+abbrev pub FaultsAreFirst : Type 0
+FaultsAreFirst =
+    (texts : List Named) (at : Place) (count : ℕ) (a b : List ℕ) (f : KeyFault)
+    → IsTrue (is_ended a) → read_from texts at count (a ++ b) ≡ Err f
+    → (read_from texts at count a ≡ Err f)
+    ⊎ ((g : Got) × (read_from texts at count a ≡ Ok g) × (read_from texts (place_behind at a) g.count b ≡ Err f))

@@ -1,0 +1,12 @@
+-- What a text tells, without the places of its lines.
+use Rattle.std.specs.Prelude.{ℕ, Result, Ok, Err, List, map}
+use Rattle.key_text.specs.KeymapLine.{KeymapLine, Telling}
+use Rattle.key_text.specs.declared.fault.KeyFault.{KeyFault}
+
+abbrev pub tellings : List KeymapLine → List Telling
+tellings lines = map (λ line. line.telling) lines
+
+-- what the lines tell, in order, or the kind of the first fault
+abbrev pub told : Result (List KeymapLine) KeyFault → Result (List Telling) ℕ
+told (Ok lines) = Ok (tellings lines)
+told (Err f) = Err f.kind
