@@ -1,4 +1,5 @@
 pub mod Again
 pub mod Blocks
+pub mod KeptBytes
 pub mod Tables
 pub mod Texts

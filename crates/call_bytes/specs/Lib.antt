@@ -1,4 +1,5 @@
 pub mod Colours
+pub mod Kept
 pub mod Laws
 pub mod Numbers
 pub mod Pairs

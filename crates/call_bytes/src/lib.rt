@@ -12,7 +12,7 @@ mod tests;
 mod words;
 
 pub use colours::{add_colours, read_colours};
-pub use laws::reads_what_was_added;
+pub use laws::{adds_what_was_read, reads_what_was_added};
 pub use pair_list::PairList;
 pub use pairs::{add_pairs, read_pairs};
 pub use words::{add_words, read_words};

@@ -1,14 +1,14 @@
 -- What an event changes in the keys that are down.
-use Rattle.std.proofs.Common.{◌≡◌, ◌≢◌, ℕ, ◌<◌, ◌≤◌, ◌==◌, not, Bool, true, false, cond, List, [], ◌∷◌, Option, Some, None, is_some, refl, sym, ap, ◌∙◌, inl, inr, ⊎_elim, ltb, arith}
+use Rattle.std.proofs.Common.{◌≡◌, ◌⊎◌, ℕ, ◌<◌, ◌≤◌, ◌==◌, ◌&&◌, not, Bool, true, false, cond, List, [], ◌∷◌, Option, Some, None, is_some, refl, sym, ap, ◌∙◌, inl, inr, ⊎_elim, arith}
 use Rattle.std.specs.Prelude.{filter, find}
 use Rattle.std.specs.Option.{option_map, option_or}
-use Rattle.std.proofs.lemmas.Bool.{cases_Bool, cases_lt, eqb-true, eq-eqb, false≢true}
-use Rattle.std.proofs.lemmas.Bool.Decides.{eqb_tells}
+use Rattle.std.proofs.lemmas.Bool.{and_parts, cases_Bool, cases_order, eqb-true, false≢true}
 use Rattle.std.proofs.lemmas.List.Folds.{find-append}
-use Rattle.key_machine.proofs.Downs.{apart, less, not-less}
-use Rattle.key_machine.specs.Keys.{Down, Keys, State, down_as, is_on, recorded, table_of, weight_of, with_key, without_key}
-use Rattle.key_machine.specs.Laws.{KeysFollow, RecordsStay}
-use Rattle.key_machine.specs.Step.{Step, acted, action_of, performed, pressed, released, special}
+use Rattle.key_machine.proofs.Places.{both-other, both-same, first-after, first-before, second-after, second-before}
+use Rattle.key_machine.specs.Keys.{Down, Keys, State, down_as, is_before, is_key, recorded, weight_of, with_key, without_key, without_keyboard}
+use Rattle.key_machine.specs.Histories.{looked_up}
+use Rattle.key_machine.specs.Laws.{KeysFollow, RecordsStay, UnplugTakes}
+use Rattle.key_machine.specs.Step.{Step, acted, performed, pressed, released, special}
 use Rattle.key_machine.specs.declared.key_modes.KeyModes.{KeyModes}
 use Rattle.key_syms.specs.Act.{Act}
 use Rattle.key_tables.specs.Tables.{Tables}
@@ -37,141 +37,245 @@ unfolding performed
 performed-down tables modes weight a code keys s = simp (down-cond, acted-down, cond-same)
 
 -- a key that is up is recorded at its press, one that is down stays as it is
-fresh-down : (tables : Tables) (modes : KeyModes) (code : ℕ) (keys : Keys) (s : State)
-    → is_some (recorded keys.down code) ≡ false
-    → (a : Act) × ((pressed tables modes code keys s).keys.down ≡ with_key keys.down code a)
+pub fresh-down : (tables : Tables) (modes : KeyModes) (from code : ℕ) (keys : Keys) (s : State)
+    → is_some (recorded keys.down from code) ≡ false
+    → (pressed tables modes from code keys s).keys.down ≡ with_key keys.down from code (looked_up tables code keys s)
 unfolding pressed
-fresh-down tables modes code keys s up =
+fresh-down tables modes from code keys s up =
     let weight = weight_of keys.down in
-    let a = action_of tables (table_of weight s) (is_on s.flags 4) code in
-    (a, rw up (performed-down tables modes weight a code (record keys { down = with_key keys.down code a }) s))
+    let a = looked_up tables code keys s in
+    rw up (performed-down tables modes weight a code (record keys { down = with_key keys.down from code a }) s)
 
-held-down : (tables : Tables) (modes : KeyModes) (code : ℕ) (keys : Keys) (s : State)
-    → is_some (recorded keys.down code) ≡ true
-    → (pressed tables modes code keys s).keys.down ≡ keys.down
+pub held-down : (tables : Tables) (modes : KeyModes) (from code : ℕ) (keys : Keys) (s : State)
+    → is_some (recorded keys.down from code) ≡ true
+    → (pressed tables modes from code keys s).keys.down ≡ keys.down
 unfolding pressed
-held-down tables modes code keys s down = rw down (simp (down-cond, performed-down, cond-same))
+held-down tables modes from code keys s down = rw down (simp (down-cond, performed-down, cond-same))
 
-released-down : (code : ℕ) (keys : Keys) (s : State)
-    → (released code keys s).keys.down ≡ without_key keys.down code
+pub released-down : (from code : ℕ) (keys : Keys) (s : State)
+    → (released from code keys s).keys.down ≡ without_key keys.down from code
 unfolding released
-released-down code keys s = simp (down-cond, cond-same)
+released-down from code keys s = simp (down-cond, cond-same)
 
--- the tests of a keycode
-abbrev is_at : ℕ → Down → Bool
-is_at code d = d.code == code
+-- a test of a key that a keyboard and a keycode decide
+abbrev Test : Type 0
+Test = ℕ → ℕ → Bool
 
--- a key is found among those whose keycodes pass, where its own passes
-find-passed : (p : ℕ → Bool) (down : List Down) (code : ℕ) → p code ≡ true
-    → find (is_at code) (filter (λ d. p d.code) down) ≡ find (is_at code) down
-find-passed p [] code passes = refl
-find-passed p (d ∷ down) code passes = ⊎_elim
-    (λ (here : d.code == code ≡ true).
-    let same : d.code ≡ code = eqb-true d.code code here in
-    let kept : p d.code ≡ true = ap p same ∙ passes in
+-- the key is another one than this
+abbrev is_not : ℕ → ℕ → Test
+is_not at code on key = not (on == at && key == code)
+
+numbers-same : (a b c d : ℕ) → (a == b && c == d) ≡ true → (a ≡ b) × (c ≡ d)
+numbers-same a b c d is =
+    let both = and_parts (a == b) (c == d) is in (eqb-true a b both.0, eqb-true c d both.1)
+
+is-key : (from code : ℕ) (d : Down) → is_key from code d ≡ true → (d.from ≡ from) × (d.code ≡ code)
+is-key from code d is = numbers-same d.from from d.code code is
+
+-- a key is found among those that pass, where it passes itself
+find-passed : (p : Test) (down : List Down) (from code : ℕ) → p from code ≡ true
+    → find (is_key from code) (filter (λ d. p d.from d.code) down) ≡ find (is_key from code) down
+find-passed p [] from code passes = refl
+find-passed p (d ∷ down) from code passes = ⊎_elim
+    (λ (here : is_key from code d ≡ true).
+    let same = is-key from code d here in
+    let kept : p d.from d.code ≡ true = rw (same.0, same.1) passes in
     rw kept (rw here refl))
-    (λ (other : d.code == code ≡ false).
+    (λ (other : is_key from code d ≡ false).
     rw other (⊎_elim
-    (λ (kept : p d.code ≡ true). rw kept (rw other (find-passed p down code passes)))
-    (λ (left : p d.code ≡ false). rw left (find-passed p down code passes))
-    (cases_Bool (p d.code))))
-    (cases_Bool (d.code == code))
+    (λ (kept : p d.from d.code ≡ true). rw kept (rw other (find-passed p down from code passes)))
+    (λ (left : p d.from d.code ≡ false). rw left (find-passed p down from code passes))
+    (cases_Bool (p d.from d.code))))
+    (cases_Bool (is_key from code d))
 
-find-left : (p : ℕ → Bool) (down : List Down) (code : ℕ) → p code ≡ false
-    → find (is_at code) (filter (λ d. p d.code) down) ≡ None
-find-left p [] code fails = refl
-find-left p (d ∷ down) code fails = ⊎_elim
-    (λ (kept : p d.code ≡ true).
-    let other : d.code == code ≡ false = ⊎_elim
-    (λ (here : d.code == code ≡ true).
-    absurd (false≢true (sym fails ∙ (ap p (sym (eqb-true d.code code here)) ∙ kept))))
-    (λ (no_match : d.code == code ≡ false). no_match)
-    (cases_Bool (d.code == code)) in
-    rw kept (rw other (find-left p down code fails)))
-    (λ (left : p d.code ≡ false). rw left (find-left p down code fails))
-    (cases_Bool (p d.code))
+find-left : (p : Test) (down : List Down) (from code : ℕ) → p from code ≡ false
+    → find (is_key from code) (filter (λ d. p d.from d.code) down) ≡ None
+find-left p [] from code fails = refl
+find-left p (d ∷ down) from code fails = ⊎_elim
+    (λ (kept : p d.from d.code ≡ true).
+    let other : is_key from code d ≡ false = ⊎_elim
+    (λ (here : is_key from code d ≡ true).
+    let same = is-key from code d here in
+    let fails_here : p d.from d.code ≡ false = rw (same.0, same.1) fails in
+    absurd (false≢true (sym fails_here ∙ kept)))
+    (λ (no_match : is_key from code d ≡ false). no_match)
+    (cases_Bool (is_key from code d)) in
+    rw kept (rw other (find-left p down from code fails)))
+    (λ (left : p d.from d.code ≡ false). rw left (find-left p down from code fails))
+    (cases_Bool (p d.from d.code))
 
 or-none : (o : Option Down) → option_or o None ≡ o
 or-none None = refl
 or-none (Some d) = refl
 
+-- how a key stands to the key that goes down: it is the same, or it comes before or after it
+abbrev Same : ℕ → ℕ → ℕ → ℕ → Type 0
+Same at key from code = (from ≡ at) × (code ≡ key)
+
+record Apart (at key from code : ℕ) (low : Bool) : Type 0 where
+  other : (from == at && code == key) ≡ false
+  no_match : (at == from && key == code) ≡ false
+  below : is_before from code at key ≡ low
+  above : is_before at key from code ≡ not low
+
+keys-order : (at key from code : ℕ)
+    → Same at key from code ⊎ (Apart at key from code true ⊎ Apart at key from code false)
+keys-order at key from code = elim (cases_order from at) [
+  | inl same ↦ elim (cases_order code key) [
+    | inl again ↦ inl (same, again)
+    | inr (inl lt) ↦ inr (inl (record {
+      other = both-other from at code key (λ _ is. omega (arith, lt, is));
+      no_match = both-other at from key code (λ _ is. omega (arith, lt, is));
+      below = second-before from at code key same lt;
+      above = second-after at from key code (sym same) (omega (arith, lt));
+    }))
+    | inr (inr gt) ↦ inr (inr (record {
+      other = both-other from at code key (λ _ is. omega (arith, gt, is));
+      no_match = both-other at from key code (λ _ is. omega (arith, gt, is));
+      below = second-after from at code key same (omega (arith, gt));
+      above = second-before at from key code (sym same) gt;
+    }))
+  ]
+  | inr (inl lt) ↦ inr (inl (record {
+    other = both-other from at code key (λ is _. omega (arith, lt, is));
+    no_match = both-other at from key code (λ is _. omega (arith, lt, is));
+    below = first-before from at code key lt;
+    above = first-after at from key code lt;
+  }))
+  | inr (inr gt) ↦ inr (inr (record {
+    other = both-other from at code key (λ is _. omega (arith, gt, is));
+    no_match = both-other at from key code (λ is _. omega (arith, gt, is));
+    below = first-after from at code key gt;
+    above = first-before at from key code gt;
+  }))
+]
+
+-- the tests of the keys before and after the one that goes down
+abbrev lower : ℕ → ℕ → Test
+lower at key from code = is_before from code at key
+
+abbrev upper : ℕ → ℕ → Test
+upper at key from code = is_before at key from code
+
+found-with : (down : List Down) (at key from code : ℕ) (a : Act)
+    → find (is_key from code) (with_key down at key a)
+    ≡ option_or (find (is_key from code) (filter (λ d. lower at key d.from d.code) down))
+    (find (is_key from code) (down_as at key a ∷ filter (λ d. upper at key d.from d.code) down))
+unfolding with_key
+found-with down at key from code a =
+    find-append (is_key from code) (filter (λ d. lower at key d.from d.code) down)
+    (down_as at key a ∷ filter (λ d. upper at key d.from d.code) down)
+
 -- what is recorded after a key went down
-recorded-with_key : (down : List Down) (at code : ℕ) (a : Act)
-    → recorded (with_key down at a) code ≡ cond (code == at) (Some a) (recorded down code)
-unfolding recorded with_key
-recorded-with_key down at code a =
-    rw (find-append (is_at code) (filter (λ d. ltb d.code at) down) (down_as at a ∷ filter (λ d. ltb at d.code) down))
-    (elim (eqb_tells code at) [
-      | inl here ↦
-          rw (find-left (λ c. ltb c at) down code (not-less code at (omega arith)))
-          (rw here.0 (rw (eq-eqb at code (sym here.1)) refl))
-      | inr other ↦
-          rw (other.0, apart at code (λ same. other.1 (sym same)))
-          (⊎_elim
-          (λ (lower : code < at).
-          rw (find-passed (λ c. ltb c at) down code (less code at lower))
-          (rw (find-left (λ c. ltb at c) down code (not-less at code (omega arith)))
-          (ap (λ o. option_map (λ (d : Down). d.action) o) (or-none (find (is_at code) down)))))
-          (λ (higher : at ≤ code).
-          rw (find-left (λ c. ltb c at) down code (not-less code at higher))
-          (rw (find-passed (λ c. ltb at c) down code (less at code (omega arith))) refl))
-          (cases_lt code at))
+pub recorded-with_key : (down : List Down) (at key from code : ℕ) (a : Act)
+    → recorded (with_key down at key a) from code
+    ≡ cond (from == at && code == key) (Some a) (recorded down from code)
+unfolding recorded
+recorded-with_key down at key from code a =
+    rw (found-with down at key from code a) (elim (keys-order at key from code) [
+      | inl same ↦
+          rw (
+            find-left (lower at key) down from code (second-after from at code key same.0 (omega (arith, same.1))),
+            both-same at from key code (sym same.0) (sym same.1),
+            both-same from at code key same.0 same.1,
+          ) refl
+      | inr (inl low) ↦
+          rw (
+            low.other,
+            low.no_match,
+            find-passed (lower at key) down from code low.below,
+            find-left (upper at key) down from code low.above,
+          )
+          (ap (λ o. option_map (λ (d : Down). d.action) o) (or-none (find (is_key from code) down)))
+      | inr (inr high) ↦
+          rw (
+            high.other,
+            high.no_match,
+            find-left (lower at key) down from code high.below,
+            find-passed (upper at key) down from code high.above,
+          ) refl
     ])
 
 -- and after it went up
-recorded-without_key : (down : List Down) (at code : ℕ)
-    → recorded (without_key down at) code ≡ cond (code == at) None (recorded down code)
+pub recorded-without_key : (down : List Down) (at key from code : ℕ)
+    → recorded (without_key down at key) from code
+    ≡ cond (from == at && code == key) None (recorded down from code)
 unfolding recorded without_key
-recorded-without_key down at code = ⊎_elim
-    (λ (here : code == at ≡ true).
-    let left : not (code == at) ≡ false = rw here refl in
-    rw (find-left (λ c. not (c == at)) down code left) (rw here refl))
-    (λ (other : code == at ≡ false).
-    let passes : not (code == at) ≡ true = rw other refl in
-    rw (find-passed (λ c. not (c == at)) down code passes) (rw other refl))
-    (cases_Bool (code == at))
+recorded-without_key down at key from code = ⊎_elim
+    (λ (here : (from == at && code == key) ≡ true).
+    let left : is_not at key from code ≡ false = rw here refl in
+    rw (find-left (is_not at key) down from code left) (rw here refl))
+    (λ (other : (from == at && code == key) ≡ false).
+    let passes : is_not at key from code ≡ true = rw other refl in
+    rw (find-passed (is_not at key) down from code passes) (rw other refl))
+    (cases_Bool (from == at && code == key))
 
-pressed-follows : (tables : Tables) (modes : KeyModes) (at code : ℕ) (keys : Keys) (s : State)
-    → is_some (recorded (pressed tables modes at keys s).keys.down code)
-    ≡ cond (code == at) true (is_some (recorded keys.down code))
-pressed-follows tables modes at code keys s = ⊎_elim
-    (λ (down : is_some (recorded keys.down at) ≡ true).
-    let same = held-down tables modes at keys s down in
-    rw same (elim (eqb_tells code at) [
-      | inl here ↦ rw (here.0, here.1) down
-      | inr other ↦ rw other.0 refl
-    ]))
-    (λ (up : is_some (recorded keys.down at) ≡ false).
-    let fresh = fresh-down tables modes at keys s up in
-    rw (fresh.1, recorded-with_key keys.down at code fresh.0) (elim (eqb_tells code at) [
-      | inl here ↦ rw here.0 refl
-      | inr other ↦ rw other.0 refl
-    ]))
-    (cases_Bool (is_some (recorded keys.down at)))
+-- and after its keyboard went
+pub recorded-without_keyboard : (down : List Down) (at from code : ℕ)
+    → recorded (without_keyboard down at) from code ≡ cond (from == at) None (recorded down from code)
+unfolding recorded without_keyboard
+recorded-without_keyboard down at from code = ⊎_elim
+    (λ (here : (from == at) ≡ true).
+    let left : not (from == at) ≡ false = rw here refl in
+    rw (find-left (λ on _. not (on == at)) down from code left) (rw here refl))
+    (λ (other : (from == at) ≡ false).
+    let passes : not (from == at) ≡ true = rw other refl in
+    rw (find-passed (λ on _. not (on == at)) down from code passes) (rw other refl))
+    (cases_Bool (from == at))
+
+pub unplug-takes : UnplugTakes
+unplug-takes from keys = record {
+  down = λ on code. recorded-without_keyboard keys.down from on code;
+  waiting = refl;
+  number = refl;
+}
+
+pressed-follows : (tables : Tables) (modes : KeyModes) (at key from code : ℕ) (keys : Keys) (s : State)
+    → is_some (recorded (pressed tables modes at key keys s).keys.down from code)
+    ≡ cond (from == at && code == key) true (is_some (recorded keys.down from code))
+pressed-follows tables modes at key from code keys s = ⊎_elim
+    (λ (down : is_some (recorded keys.down at key) ≡ true).
+    let same = held-down tables modes at key keys s down in
+    rw same (⊎_elim
+    (λ (here : (from == at && code == key) ≡ true).
+    let is = numbers-same from at code key here in
+    rw here (rw (is.0, is.1) down))
+    (λ (other : (from == at && code == key) ≡ false). rw other refl)
+    (cases_Bool (from == at && code == key))))
+    (λ (up : is_some (recorded keys.down at key) ≡ false).
+    let fresh = fresh-down tables modes at key keys s up in
+    rw (fresh, recorded-with_key keys.down at key from code (looked_up tables key keys s))
+    (⊎_elim
+    (λ (here : (from == at && code == key) ≡ true). rw here refl)
+    (λ (other : (from == at && code == key) ≡ false). rw other refl)
+    (cases_Bool (from == at && code == key))))
+    (cases_Bool (is_some (recorded keys.down at key)))
 
 pub keys-follow : KeysFollow
-keys-follow tables modes e keys s code = ⊎_elim
-    (λ (down : e.down ≡ true). rw down (pressed-follows tables modes e.code code keys s))
+keys-follow tables modes from e keys s on code = ⊎_elim
+    (λ (down : e.down ≡ true). rw down (pressed-follows tables modes from e.code on code keys s))
     (λ (up : e.down ≡ false).
-    rw (up, released-down e.code keys s, recorded-without_key keys.down e.code code)
-    (elim (eqb_tells code e.code) [
-      | inl here ↦ rw here.0 refl
-      | inr other ↦ rw other.0 refl
-    ]))
+    rw (up, released-down from e.code keys s, recorded-without_key keys.down from e.code on code)
+    (⊎_elim
+    (λ (here : (on == from && code == e.code) ≡ true). rw here refl)
+    (λ (other : (on == from && code == e.code) ≡ false). rw other refl)
+    (cases_Bool (on == from && code == e.code))))
     (cases_Bool e.down)
 
 pub records-stay : RecordsStay
-records-stay tables modes e keys s code down stays = ⊎_elim
+records-stay tables modes from e keys s on code down stays = ⊎_elim
     (λ (goes_down : e.down ≡ true).
     rw goes_down (⊎_elim
-    (λ (held : is_some (recorded keys.down e.code) ≡ true). rw (held-down tables modes e.code keys s held) refl)
-    (λ (up : is_some (recorded keys.down e.code) ≡ false).
-    let fresh = fresh-down tables modes e.code keys s up in
-    let other : code ≢ e.code = λ same. false≢true (sym up ∙ (rw same at down)) in
-    rw (fresh.1, recorded-with_key keys.down e.code code fresh.0, apart code e.code other) refl)
-    (cases_Bool (is_some (recorded keys.down e.code)))))
+    (λ (held : is_some (recorded keys.down from e.code) ≡ true).
+    rw (held-down tables modes from e.code keys s held) refl)
+    (λ (up : is_some (recorded keys.down from e.code) ≡ false).
+    let fresh = fresh-down tables modes from e.code keys s up in
+    let other = both-other on from code e.code
+    (λ first second. false≢true (sym up ∙ (rw (sym first, sym second) down))) in
+    rw (fresh, recorded-with_key keys.down from e.code on code (looked_up tables e.code keys s), other) refl)
+    (cases_Bool (is_some (recorded keys.down from e.code)))))
     (λ (goes_up : e.down ≡ false).
-    let other : code ≢ e.code = λ same. false≢true (sym goes_up ∙ stays same) in
-    rw (goes_up, released-down e.code keys s, recorded-without_key keys.down e.code code, apart code e.code other)
+    let other = both-other on from code e.code (λ first second. false≢true (sym goes_up ∙ stays first second)) in
+    rw (goes_up, released-down from e.code keys s, recorded-without_key keys.down from e.code on code, other)
     refl)
     (cases_Bool e.down)

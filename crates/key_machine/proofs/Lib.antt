@@ -1,4 +1,8 @@
 pub mod Counting
 pub mod Downs
 pub mod Following
+pub mod Histories
+pub mod Medium
+pub mod Places
 pub mod Strings
+pub mod Unplugging

@@ -1,21 +1,22 @@
 -- The keys that are down, what waits, and the key state (keymaps(5), loadkeys(1)).
-use Rattle.std.specs.Prelude.{ℕ, ◌+◌, ◌^◌, Bool, false, ◌==◌, ◌&&◌, not, nat_lt, Option, None, List, [], ◌∷◌, ◌++◌, filter, find, bit_and, bit_or, bit_xor, if◌then◌else◌}
+use Rattle.std.specs.Prelude.{ℕ, ◌+◌, ◌^◌, Bool, false, ◌==◌, ◌&&◌, ◌||◌, not, nat_lt, Option, None, List, [], ◌∷◌, ◌++◌, filter, find, bit_and, bit_or, bit_xor, if◌then◌else◌}
 use Rattle.std.specs.List.{list_any}
 use Rattle.std.specs.Option.{option_map}
 use Rattle.key_machine.specs.declared.waiting.Waiting.{Waiting}
 use Rattle.key_syms.specs.Act.{Act}
 use Rattle.key_syms.specs.Kinds.{MODIFIER}
 
--- a key that is down: its keycode, and the action that was recorded at its press
+-- a key that is down: its keyboard, its keycode, and the action that was recorded at its press
 pub record Down : Type 0 where
+  pub from : ℕ
   pub code : ℕ
   pub action : Act
 
-abbrev pub down_as : ℕ → Act → Down
-down_as code a = record { code = code; action = a }
+abbrev pub down_as : ℕ → ℕ → Act → Down
+down_as from code a = record { from = from; code = code; action = a }
 
--- the keys that are down, by rising keycodes; what waits for a character; and the number that Ascii
--- keys have begun
+-- the keys that are down, by rising keyboards and keycodes. All keyboards share the rest: what waits
+-- for a character, and the number that Ascii keys have begun
 pub record Keys : Type 0 where
   pub down : List Down
   pub waiting : Waiting
@@ -32,19 +33,34 @@ nothing_waits = record { accent = None; composing = false }
 abbrev pub start_keys : Keys
 start_keys = keys_of [] nothing_waits None
 
--- the action that was recorded at the press of a keycode, where it is down
-unfoldable pub recorded : List Down → ℕ → Option Act
-recorded down code = option_map (λ d. d.action) (find (λ d. d.code == code) down)
+-- a key is that of a keyboard and a keycode
+abbrev pub is_key : ℕ → ℕ → Down → Bool
+is_key from code d = d.from == from && d.code == code
 
--- a key goes down: it stands between those of lower and of higher keycodes
-unfoldable pub with_key : List Down → ℕ → Act → List Down
-with_key down code a =
-    filter (λ d. nat_lt d.code code) down
-    ++ down_as code a ∷ filter (λ d. nat_lt code d.code) down
+-- the first key comes before the second one
+abbrev pub is_before : ℕ → ℕ → ℕ → ℕ → Bool
+is_before from code from2 code2 = nat_lt from from2 || (from == from2 && nat_lt code code2)
+
+-- the action that was recorded at the press of a key, where it is down
+unfoldable pub recorded : List Down → ℕ → ℕ → Option Act
+recorded down from code = option_map (λ d. d.action) (find (is_key from code) down)
+
+-- a key goes down: it stands between those before it and those after it
+unfoldable pub with_key : List Down → ℕ → ℕ → Act → List Down
+with_key down from code a =
+    filter (λ d. is_before d.from d.code from code) down
+    ++ down_as from code a ∷ filter (λ d. is_before from code d.from d.code) down
 
 -- a key goes up
-unfoldable pub without_key : List Down → ℕ → List Down
-without_key down code = filter (λ d. not (d.code == code)) down
+unfoldable pub without_key : List Down → ℕ → ℕ → List Down
+without_key down from code = filter (λ d. not (is_key from code d)) down
+
+-- a keyboard goes, with all its keys
+unfoldable pub without_keyboard : List Down → ℕ → List Down
+without_keyboard down from = filter (λ d. not (d.from == from)) down
+
+abbrev pub unplugged : ℕ → Keys → Keys
+unplugged from keys = record keys { down = without_keyboard keys.down from }
 
 -- an action is this modifier
 abbrev pub is_modifier : ℕ → Act → Bool
@@ -54,7 +70,7 @@ is_modifier v a = a.kind == MODIFIER && a.value == v
 abbrev pub weighs : List Down → ℕ → ℕ
 weighs down v = if list_any (λ d. is_modifier v d.action) down then 2 ^ v else 0
 
--- the modifier weight: the sum of the distinct weights of the keys down
+-- the modifier weight: the sum of the distinct weights of the keys down on all keyboards
 unfoldable pub weight_of : List Down → ℕ
 weight_of down =
     weighs down 0 + weighs down 1 + weighs down 2 + weighs down 3

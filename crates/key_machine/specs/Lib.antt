@@ -2,6 +2,7 @@ pub mod Bytes
 pub mod Codes
 pub mod Compose
 pub mod Held
+pub mod Histories
 pub mod Keys
 pub mod Laws
 pub mod Numbers

@@ -122,14 +122,14 @@ repeats a =
     not (a.kind == MODIFIER || a.kind == LOCK || a.kind == STICKY
     || (a.kind == SPECIAL && changes_flag a.value))
 
--- a key goes down: it is recorded with its action, unless it is down already. Then it repeats: its
--- action is looked up again, and what is recorded stays
-unfoldable pub pressed : Tables → KeyModes → ℕ → Keys → State → Step
-pressed tables modes code keys s =
+-- a key goes down: it is recorded with its action, unless that same keyboard holds it down already.
+-- Then it repeats: its action is looked up again, and what is recorded stays
+unfoldable pub pressed : Tables → KeyModes → ℕ → ℕ → Keys → State → Step
+pressed tables modes from code keys s =
     let weight = weight_of keys.down in
     let a = action_of tables (table_of weight s) (is_on s.flags CAPS) code in
-    if not (is_some (recorded keys.down code)) then
-    performed tables modes weight a code (record keys { down = with_key keys.down code a }) s
+    if not (is_some (recorded keys.down from code)) then
+    performed tables modes weight a code (record keys { down = with_key keys.down from code a }) s
     else if modes.repeat && repeats a then performed tables modes weight a code keys s
     else step keys s (out_of (idle_bytes s.mode code true))
 
@@ -144,14 +144,14 @@ was_modifier None = false
 was_modifier (Some a) = a.kind == MODIFIER
 
 -- a key goes up: where it was a modifier by its record, the number goes out
-unfoldable pub released : ℕ → Keys → State → Step
-released code keys s =
-    let up = record keys { down = without_key keys.down code } in
-    if acts_in s.mode && was_modifier (recorded keys.down code) then
+unfoldable pub released : ℕ → ℕ → Keys → State → Step
+released from code keys s =
+    let up = record keys { down = without_key keys.down from code } in
+    if acts_in s.mode && was_modifier (recorded keys.down from code) then
     step (record up { number = None }) s (out_of (number_bytes s.mode keys.number))
     else step up s (out_of (idle_bytes s.mode code false))
 
--- one key event
-abbrev pub key_step : Tables → KeyModes → KeyEvent → Keys → State → Step
-key_step tables modes e keys s =
-    if e.down then pressed tables modes e.code keys s else released e.code keys s
+-- one key event of a keyboard
+abbrev pub key_step : Tables → KeyModes → ℕ → KeyEvent → Keys → State → Step
+key_step tables modes from e keys s =
+    if e.down then pressed tables modes from e.code keys s else released from e.code keys s

@@ -1,16 +1,19 @@
-ghost use Rattle.std.specs.Prelude.{◌≡◌, ◌<◌, [], None, cond, is_some, nat_lt, IfSome};
-ghost use Rattle.key_machine.specs.Held.{modifier_of};
-ghost use Rattle.key_machine.specs.Keys.{recorded, weight_of, with_key, without_key};
+ghost use Rattle.std.specs.Prelude.{◌≡◌, ◌<◌, ◌+◌, ◌*◌, [], None, cond, is_some, nat_lt, IfSome};
+ghost use Rattle.key_machine.specs.Held.{left_to, modifier_of};
+ghost use Rattle.key_machine.specs.Keys.{recorded, weight_of, with_key, without_key, without_keyboard};
 ghost use Rattle.key_machine.specs.Step.{was_modifier};
 
 use key_syms::{Action, kind};
 use std::marker::Model;
 
-/// The keys that are down, each with the action of its press.
+/// The keycodes of a keyboard, from 0 on.
+const CODES: usize = 256;
+
+/// The keys that are down on all keyboards, each with the action of its press.
 #[derive(Debug, Drop)]
 pub(crate) struct Held {
-    // By keycode.
-    entries: [Option<Action>; 256],
+    // By keyboard and keycode.
+    entries: [Option<Action>; 1024],
     // How many keys are down as each modifier.
     counts: [u16; 8],
 }
@@ -33,25 +36,27 @@ impl Held {
         ensures { result ≡ [] }
     {
         Held {
-            entries: [None; 256],
+            entries: [None; 1024],
             counts: [0; 8],
         }
     }
 
     #[tactic(auto, using(crate::proofs::Downs::entries_as_keys))]
-    pub(crate) fn is_down(&self, code: u8) -> bool
-        ensures { result ≡ is_some (recorded self.now code) }
+    pub(crate) fn is_down(&self, from: u8, code: u8) -> bool
+        requires { from < 4 }
+        ensures { result ≡ is_some (recorded self.now from code) }
     {
-        self.entries[usize::from(code)].is_some()
+        self.entries[place(from, code)].is_some()
     }
 
     /// The key goes down with this action.
     #[tactic(auto, using(crate::proofs::Downs::entries_as_keys))]
-    pub(crate) fn press(&mut self, code: u8, a: Action)
-        requires { recorded self.old code ≡ None }
-        ensures { self.new ≡ with_key self.old code a }
+    pub(crate) fn press(&mut self, from: u8, code: u8, a: Action)
+        requires keyboard { from < 4 }
+        requires up { recorded self.old from code ≡ None }
+        ensures { self.new ≡ with_key self.old from code a }
     {
-        self.entries[usize::from(code)] = Some(a);
+        self.entries[place(from, code)] = Some(a);
         if let Some(v) = modifier_of(a) {
             self.counts[v] += 1;
         }
@@ -59,12 +64,14 @@ impl Held {
 
     /// The key goes up. The answer is whether it was down as a modifier.
     #[tactic(auto, using(crate::proofs::Downs::entries_as_keys))]
-    pub(crate) fn release(&mut self, code: u8) -> bool
-        ensures was { result ≡ was_modifier (recorded self.old code) }
-        ensures up { self.new ≡ without_key self.old code }
+    pub(crate) fn release(&mut self, from: u8, code: u8) -> bool
+        requires { from < 4 }
+        ensures was { result ≡ was_modifier (recorded self.old from code) }
+        ensures up { self.new ≡ without_key self.old from code }
     {
-        let was = self.entries[usize::from(code)];
-        self.entries[usize::from(code)] = None;
+        let at = place(from, code);
+        let was = self.entries[at];
+        self.entries[at] = None;
         let Some(a) = was else {
             return false;
         };
@@ -73,6 +80,24 @@ impl Held {
         };
         self.counts[v] -= 1;
         true
+    }
+
+    /// The keyboard goes, with all its keys.
+    pub(crate) fn unplug(&mut self, from: u8)
+        requires { from < 4 }
+        ensures { self.new ≡ without_keyboard self.old from }
+    {
+        self.has_bytes(from);
+        for code in 0..CODES {
+            let _ = self.release(from, code as u8);
+        }
+    }
+
+    // Nothing is done: every keycode is below 256.
+    fn has_bytes(&self, from: u8)
+        ensures { left_to from 256 self.now ≡ without_keyboard self.now from }
+    {
+        let _entries = &self.entries;
     }
 
     /// The modifier weight of the keys that are down.
@@ -89,6 +114,15 @@ impl Held {
             + weight(counts[6], 64)
             + weight(counts[7], 128)
     }
+}
+
+// The place of a key: a keyboard's keys stand together, by their keycodes.
+fn place(from: u8, code: u8) -> usize
+    requires { from < 4 }
+    ensures place { result ≡ 256 * from + code }
+    ensures high { result < 1024 }
+{
+    CODES * usize::from(from) + usize::from(code)
 }
 
 // Which modifier an action is.

@@ -1,6 +1,6 @@
-ghost use Rattle.std.specs.Prelude.{◌≡◌, ◌≤◌, Some, None};
+ghost use Rattle.std.specs.Prelude.{◌≡◌, ◌<◌, ◌≤◌, Some, None};
 ghost use Rattle.key_machine.specs.Compose.{accent_of, character, dead};
-ghost use Rattle.key_machine.specs.Keys.{start_keys};
+ghost use Rattle.key_machine.specs.Keys.{start_keys, unplugged};
 ghost use Rattle.key_machine.specs.Step.{acted, key_step, number_bytes, number_with, performed, pressed, released, special, step, types};
 
 use crate::accents::{accent_of, character, dead};
@@ -18,8 +18,8 @@ use key_tables::KeyTables;
 use scan_codes::KeyEvent;
 use std::marker::Model;
 
-/// A keyboard: the keys that are down, each with the action of its press, and what waits for the next
-/// key. A key takes no memory, and the same time whatever is down.
+/// Up to four keyboards, which type together: the keys that are down, each with the action of its
+/// press, and what waits for the next key. A key takes no memory, and the same time whatever is down.
 #[derive(Debug, Drop)]
 pub struct Keyboard {
     held: Held,
@@ -47,28 +47,46 @@ impl Keyboard {
         }
     }
 
-    /// A key goes down, again where it repeats, or up.
-    pub fn key(&mut self, e: KeyEvent, t: &KeyTables, s: &mut KbState, m: KeyModes) -> KeyOut
-        ensures keys { self.new ≡ (key_step t.now m e self.old s.old).keys }
-        ensures state { s.new ≡ (key_step t.now m e self.old s.old).state }
-        ensures out { result ≡ (key_step t.now m e self.old s.old).out }
+    /// A key of the keyboard `from` goes down, again where it repeats, or up.
+    pub fn key(
+        &mut self,
+        from: u8,
+        e: KeyEvent,
+        t: &KeyTables,
+        s: &mut KbState,
+        m: KeyModes,
+    ) -> KeyOut
+        requires { from < 4 }
+        ensures keys { self.new ≡ (key_step t.now m from e self.old s.old).keys }
+        ensures state { s.new ≡ (key_step t.now m from e self.old s.old).state }
+        ensures out { result ≡ (key_step t.now m from e self.old s.old).out }
     {
         if e.down {
-            self.press(e.code, t, s, m)
+            self.press(from, e.code, t, s, m)
         } else {
-            self.release(e.code, s)
+            self.release(from, e.code, s)
         }
+    }
+
+    /// The keyboard `from` goes: none of its keys is down any more, nothing goes out, and what waits,
+    /// the number and the other keyboards' keys stay. It looks at every keycode.
+    pub fn unplug(&mut self, from: u8)
+        requires { from < 4 }
+        ensures { self.new ≡ unplugged from self.old }
+    {
+        self.held.unplug(from);
     }
 
     // A key goes down. That its weight is taken before it is recorded is part of the rule.
     #[tactic(auto, unfolding(crate::specs::Step::pressed))]
-    fn press(&mut self, code: u8, t: &KeyTables, s: &mut KbState, m: KeyModes) -> KeyOut
-        ensures { pressed t.now m code self.old s.old ≡ step self.new s.new result }
+    fn press(&mut self, from: u8, code: u8, t: &KeyTables, s: &mut KbState, m: KeyModes) -> KeyOut
+        requires { from < 4 }
+        ensures { pressed t.now m from code self.old s.old ≡ step self.new s.new result }
     {
         let weight = self.held.weight();
         let a = action_of(t, table_of(weight, s), is_on(s.flags, flag::CAPS), code);
-        if !self.held.is_down(code) {
-            self.held.press(code, a);
+        if !self.held.is_down(from, code) {
+            self.held.press(from, code, a);
             self.perform(code, a, weight, t, s, m)
         } else if m.repeat && repeats(a) {
             self.perform(code, a, weight, t, s, m)
@@ -79,10 +97,11 @@ impl Keyboard {
 
     // A key goes up.
     #[tactic(auto, unfolding(crate::specs::Step::released))]
-    fn release(&mut self, code: u8, s: &KbState) -> KeyOut
-        ensures { released code self.old s.now ≡ step self.new s.now result }
+    fn release(&mut self, from: u8, code: u8, s: &KbState) -> KeyOut
+        requires { from < 4 }
+        ensures { released from code self.old s.now ≡ step self.new s.now result }
     {
-        let was_modifier = self.held.release(code);
+        let was_modifier = self.held.release(from, code);
         if acts_in(s.mode) && was_modifier {
             sent(self.take_number(s.mode))
         } else {

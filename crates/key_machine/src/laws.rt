@@ -1,6 +1,7 @@
 //! Laws of the definitions, and of the numbers in the code.
 ghost use Rattle.std.specs.Prelude.{◌≡◌};
-ghost use Rattle.key_machine.specs.Laws.{KeysFollow, RecordsStay};
+ghost use Rattle.key_machine.specs.Histories.{AllComeUp, DownsAreLast, LocksStay, MediumBytesTell, PressesRecord, ReleasesTake};
+ghost use Rattle.key_machine.specs.Laws.{KeysFollow, RecordsStay, UnplugTakes};
 ghost use Rattle.key_machine.specs.Numbers as number;
 ghost use Rattle.key_machine.specs.declared.mode.TheConstants as mode;
 ghost use Rattle.key_machine.specs.declared.meta.TheConstants as meta;
@@ -18,6 +19,35 @@ pub fn keys_follow()
 /// A key keeps the action of its press until it goes up.
 pub fn records_stay()
     ensures { RecordsStay }
+{}
+
+/// A keyboard that goes takes its own keys from those that are down, and changes nothing else.
+pub fn unplug_takes()
+    ensures { UnplugTakes }
+{}
+
+/// After a history the keys that are down are those whose last event says so, and where every key
+/// that went down came up again, or its keyboard went, none is down and no modifier weighs.
+pub fn keys_come_up()
+    ensures last { DownsAreLast }
+    ensures none { AllComeUp }
+{}
+
+/// A fresh press records the action that is looked up at it, and the release of that key on
+/// the same keyboard takes this record and no other.
+pub fn presses_record()
+    ensures presses { PressesRecord }
+    ensures releases { ReleasesTake }
+{}
+
+/// Locks change only at a press of a lock key.
+pub fn locks_stay()
+    ensures { LocksStay }
+{}
+
+/// The bytes of key events in K_MEDIUMRAW give the events back.
+pub fn medium_bytes_tell()
+    ensures { MediumBytesTell }
 {}
 
 /// The numbers in the code are those of the definitions.

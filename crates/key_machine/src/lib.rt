@@ -1,5 +1,5 @@
-//! The keyboard: keys that go down and up become bytes and requests, by the tables of a keymap and a
-//! console's key state.
+//! Up to four keyboards: keys that go down and up become bytes and requests, by the tables of a keymap
+//! and a console's key state.
 #![tactic(auto)]
 
 mod accents;
@@ -28,4 +28,7 @@ pub use key_bytes::KeyBytes;
 pub use key_modes::KeyModes;
 pub use key_out::KeyOut;
 pub use keyboard::Keyboard;
-pub use laws::{keys_follow, numbers_are_kept, records_stay};
+pub use laws::{
+    keys_come_up, keys_follow, locks_stay, medium_bytes_tell, numbers_are_kept, presses_record,
+    records_stay, unplug_takes,
+};

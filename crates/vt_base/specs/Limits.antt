@@ -11,9 +11,16 @@ signals = 64
 abbrev pub processes : ℕ
 processes = 64
 
--- the keyboard, which is number 0, and the processes
+abbrev pub keyboards : ℕ
+keyboards = 4
+
+-- the keyboards and the processes
 abbrev pub callers : ℕ
-callers = 65
+callers = 68
+
+-- callers are numbered from 0 to this one
+abbrev pub greatest_caller : ℕ
+greatest_caller = 67
 
 abbrev pub descriptors : ℕ
 descriptors = 16

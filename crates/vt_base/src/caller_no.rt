@@ -1,12 +1,14 @@
 ghost use Rattle.std.specs.List.{range_with_len};
-ghost use Rattle.std.specs.Prelude.{◌≡◌, ◌==◌, ◌≤◌};
-ghost use Rattle.vt_base.specs.Limits.{callers, processes};
+ghost use Rattle.std.specs.Prelude.{◌≡◌, ◌<◌, ◌≤◌, IfSome, Some, map};
+ghost use Rattle.vt_base.specs.Keyboards.{is_keyboard, keyboard_caller, keyboard_of};
+ghost use Rattle.vt_base.specs.Limits.{callers, greatest_caller, keyboards, processes};
 ghost use Rattle.vt_base.specs.Range.{in_range};
 
-use crate::{CALLERS, PROCESSES};
+use crate::{CALLERS, KEYBOARDS, PROCESSES};
 use std::marker::Model;
 
-/// The number of a caller, from 0 to 64: 0 is the keyboard, the others are processes.
+/// The number of a caller, from 0 to 67: 0 is the first keyboard, 1 to 64 are processes, and 65 to 67
+/// are the further keyboards.
 #[derive(Clone, Copy, Debug, PartialEq, Eq)]
 pub struct CallerNo {
     n: u8,
@@ -19,20 +21,20 @@ impl Model for CallerNo {
 
     ghost view = { λ c. c.n };
 
-    ghost invariant = { λ c. c.n ≤ 64 };
+    ghost invariant = { λ c. c.n ≤ 67 };
 
     ghost inverse = { λ n. record { n = n } };
 }
 
 impl CallerNo {
-    /// The keyboard.
+    /// The first keyboard.
     pub const KEYBOARD: CallerNo = CallerNo { n: 0 };
 
     /// The caller of this number, where there is one.
     pub fn new(n: u16) -> Option<CallerNo>
-        ensures { result ≡ in_range 0 processes n }
+        ensures { result ≡ in_range 0 greatest_caller n }
     {
-        if PROCESSES < usize::from(n) {
+        if CALLERS <= usize::from(n) {
             return None;
         }
         Some(CallerNo { n: n as u8 })
@@ -40,7 +42,7 @@ impl CallerNo {
 
     /// The caller of a number that is known to be one's.
     pub fn numbered(n: u16) -> CallerNo
-        requires { n ≤ 64 }
+        requires { n ≤ 67 }
         ensures { result ≡ n }
     {
         CallerNo { n: n as u8 }
@@ -48,24 +50,50 @@ impl CallerNo {
 
     /// Nothing is done: the range of the number is known from here on.
     pub fn stays_in_range(self)
-        ensures { self ≤ 64 }
+        ensures { self ≤ 67 }
     {}
 
     /// The number.
     pub fn get(self) -> u16
         ensures same { result ≡ self }
-        ensures high { result ≤ 64 }
+        ensures high { result ≤ 67 }
     {
         u16::from(self.n)
     }
 
     pub fn is_keyboard(self) -> bool
-        ensures { result ≡ (self == 0) }
+        ensures { result ≡ is_keyboard self }
     {
-        self.n == 0
+        self.n == 0 || PROCESSES < usize::from(self.n)
     }
 
-    /// All callers, rising: the keyboard, then the processes.
+    /// The keyboard k, which journals name `kK`.
+    pub fn keyboard(k: u8) -> CallerNo
+        requires { k < keyboards }
+        ensures caller { result ≡ keyboard_caller k }
+        ensures back { keyboard_of result ≡ Some k }
+    {
+        CallerNo {
+            n: if k == 0 { 0 } else { PROCESSES as u8 + k },
+        }
+    }
+
+    /// Which keyboard this is, where it is one.
+    pub fn keyboard_no(self) -> Option<u8>
+        ensures number { result ≡ keyboard_of self }
+        ensures high { IfSome result (λ k. k < keyboards) }
+        ensures back { IfSome result (λ k. keyboard_caller k ≡ self) }
+    {
+        if self.n == 0 {
+            Some(0)
+        } else if PROCESSES < usize::from(self.n) {
+            Some(self.n - PROCESSES as u8)
+        } else {
+            None
+        }
+    }
+
+    /// All callers, rising: the first keyboard, the processes, and the further keyboards.
     pub fn all() -> [CallerNo; CALLERS]
         ensures { result ≡ range_with_len 0 callers }
     {
@@ -74,6 +102,18 @@ impl CallerNo {
             all[i] = CallerNo { n: i as u8 };
         }
         all
+    }
+
+    /// All keyboards, rising.
+    pub fn keyboards() -> [CallerNo; KEYBOARDS]
+        ensures { result ≡ map keyboard_caller (range_with_len 0 keyboards) }
+    {
+        [
+            CallerNo { n: 0 },
+            CallerNo { n: 65 },
+            CallerNo { n: 66 },
+            CallerNo { n: 67 },
+        ]
     }
 
     /// All processes, rising.

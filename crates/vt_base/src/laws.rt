@@ -1,8 +1,8 @@
 //! Laws of the definitions.
 ghost use Rattle.std.specs.Prelude.{◌≡◌};
-ghost use Rattle.vt_base.specs.Limits.{callers, consoles, descriptors, piece_bytes, processes, signals};
+ghost use Rattle.vt_base.specs.Limits.{callers, consoles, descriptors, keyboards, piece_bytes, processes, signals};
 ghost use Rattle.vt_base.specs.Signals.{WithAddsOne};
-ghost use Rattle.vt_base.specs.declared.limits.TheConstants.{CALLERS, CONSOLES, DESCRIPTORS, PIECE_BYTES, PROCESSES, SIGNALS};
+ghost use Rattle.vt_base.specs.declared.limits.TheConstants.{CALLERS, CONSOLES, DESCRIPTORS, KEYBOARDS, PIECE_BYTES, PROCESSES, SIGNALS};
 
 /// A set with a signal has it, and else what it had.
 pub fn with_adds_one()
@@ -14,6 +14,7 @@ pub fn limits_are_kept()
     ensures consoles { CONSOLES ≡ consoles }
     ensures signals { SIGNALS ≡ signals }
     ensures processes { PROCESSES ≡ processes }
+    ensures keyboards { KEYBOARDS ≡ keyboards }
     ensures callers { CALLERS ≡ callers }
     ensures descriptors { DESCRIPTORS ≡ descriptors }
     ensures piece { PIECE_BYTES ≡ piece_bytes }

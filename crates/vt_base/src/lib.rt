@@ -29,7 +29,7 @@ pub use errno::Errno;
 pub use fd::Fd;
 pub use inval::Inval;
 pub use laws::{limits_are_kept, with_adds_one};
-pub use limits::{CALLERS, CONSOLES, DESCRIPTORS, PIECE_BYTES, PROCESSES, SIGNALS};
+pub use limits::{CALLERS, CONSOLES, DESCRIPTORS, KEYBOARDS, PIECE_BYTES, PROCESSES, SIGNALS};
 pub use no_memory::NoMemory;
 pub use sig_set::SigSet;
 pub use signal::Signal;

@@ -10,8 +10,12 @@ pub const SIGNALS: usize = 64;
 /// Processes, whose numbers as callers are from 1 to this one.
 pub const PROCESSES: usize = 64;
 
-/// Callers: the keyboard, which is number 0, and the processes.
-pub const CALLERS: usize = 65;
+/// Keyboards, which are numbered from 0 on: the first is the caller 0, and keyboard k the caller
+/// 64 + k.
+pub const KEYBOARDS: usize = 4;
+
+/// Callers: the keyboards and the processes.
+pub const CALLERS: usize = 68;
 
 /// Descriptors of a process, whose numbers are from 0 on.
 pub const DESCRIPTORS: usize = 16;

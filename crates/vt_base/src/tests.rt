@@ -7,14 +7,30 @@ fn numbers_are_listed_rising(rt: HostRuntime) {
     let (low, high) = (consoles[0].get(), consoles[62].get());
     assert_eq!(rt; (low, high), (1, 63));
     let callers = CallerNo::all();
-    let (keyboard, last) = (callers[0], callers[64]);
-    assert!(rt; keyboard.is_keyboard());
-    assert!(rt; !last.is_keyboard());
-    assert_eq!(rt; (keyboard.get(), last.get()), (0, 64));
+    let (keyboard, process, last) = (callers[0], callers[64], callers[67]);
+    assert!(rt; keyboard.is_keyboard() && last.is_keyboard());
+    assert!(rt; !process.is_keyboard());
+    assert_eq!(rt; (keyboard.get(), process.get(), last.get()), (0, 64, 67));
+    assert_eq!(rt;
+        CallerNo::keyboards(),
+        [keyboard, callers[65], callers[66], last]
+    );
     let processes = CallerNo::processes();
     let first = processes[0];
     assert_eq!(rt; first.get(), 1);
     assert_eq!(rt; CallerNo::KEYBOARD.get(), 0);
+}
+
+#[test]
+fn keyboards_are_named(rt: HostRuntime) -> Result<(), Fail> {
+    for (k, n) in [(0, 0), (1, 65), (2, 66), (3, 67)] {
+        assert_eq!(rt; CallerNo::keyboard(k).get(), n);
+        let caller = CallerNo::new(n).ok_or("none")?;
+        assert_eq!(rt; caller.keyboard_no(), Some(k));
+    }
+    assert_eq!(rt; CallerNo::new(64).ok_or("none")?.keyboard_no(), None);
+    assert_eq!(rt; CallerNo::new(68), None);
+    Ok(())
 }
 
 #[test]

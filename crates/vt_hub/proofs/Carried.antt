@@ -4,57 +4,57 @@ use Rattle.std.proofs.lemmas.List.{length-take-le, map-append, take-append-le}
 use Rattle.turn_lock.specs.History.{IsWordIn, display_after, entries_by, word_of}
 use Rattle.vt_events.specs.declared.entry.Entry.{Entry}
 use Rattle.vt_hub.specs.Histories.{IsRead, made_by}
-use Rattle.vt_hub.specs.Told.{Carried, display_of, plain, told, told_entry}
+use Rattle.vt_hub.specs.Carrying.{Carried, display_of, plain, carried, carried_entry}
 use Rattle.vt_world.specs.History.{replay}
 use Rattle.vt_world.specs.State.{WorldState}
 use Rattle.vt_world.specs.Step.{step}
 
-pub plain-told : (w : WorldState) (es : List Entry) → plain (told w es) ≡ es
-plain-told w [] = refl
-plain-told w (e ∷ es) =
-    ap (λ (xs : List Entry). e ∷ xs) (plain-told (step w e.caller e.event).world es)
+pub plain-carried : (w : WorldState) (es : List Entry) → plain (carried w es) ≡ es
+plain-carried w [] = refl
+plain-carried w (e ∷ es) =
+    ap (λ (xs : List Entry). e ∷ xs) (plain-carried (step w e.caller e.event).world es)
 
-pub length-told : (w : WorldState) (es : List Entry) → length (told w es) ≡ length es
-length-told w [] = refl
-length-told w (e ∷ es) = ap suc (length-told (step w e.caller e.event).world es)
+pub length-carried : (w : WorldState) (es : List Entry) → length (carried w es) ≡ length es
+length-carried w [] = refl
+length-carried w (e ∷ es) = ap suc (length-carried (step w e.caller e.event).world es)
 
 -- the display after the last entry
 abbrev pub front_after : WorldState → List Entry → Entry → ℕ
 front_after w es e = (step (replay w es) e.caller e.event).world.display.front
 
-pub told-more : (w : WorldState) (es : List Entry) (e : Entry)
-    → told w (es ++ e ∷ []) ≡ told w es ++ told_entry (front_after w es e) e ∷ []
-told-more w [] e = refl
-told-more w (x ∷ es) e =
+pub carried-more : (w : WorldState) (es : List Entry) (e : Entry)
+    → carried w (es ++ e ∷ []) ≡ carried w es ++ carried_entry (front_after w es e) e ∷ []
+carried-more w [] e = refl
+carried-more w (x ∷ es) e =
     ap (λ (xs : List Carried).
-    told_entry (step w x.caller x.event).world.display.front x ∷ xs)
-    (told-more (step w x.caller x.event).world es e)
+    carried_entry (step w x.caller x.event).world.display.front x ∷ xs)
+    (carried-more (step w x.caller x.event).world es e)
 
-pub display-told : (w : WorldState) (es : List Entry)
-    → display_after w.display.front (told w es) ≡ (replay w es).display.front
-display-told w [] = refl
-display-told w (e ∷ es) = display-told (step w e.caller e.event).world es
+pub display-carried : (w : WorldState) (es : List Entry)
+    → display_after w.display.front (carried w es) ≡ (replay w es).display.front
+display-carried w [] = refl
+display-carried w (e ∷ es) = display-carried (step w e.caller e.event).world es
 
-pub take-told : (n : ℕ) (w : WorldState) (es : List Entry)
-    → take n (told w es) ≡ told w (take n es)
-take-told zero w es = refl
-take-told (suc n) w [] = refl
-take-told (suc n) w (e ∷ es) =
+pub take-carried : (n : ℕ) (w : WorldState) (es : List Entry)
+    → take n (carried w es) ≡ carried w (take n es)
+take-carried zero w es = refl
+take-carried (suc n) w [] = refl
+take-carried (suc n) w (e ∷ es) =
     ap (λ (xs : List Carried).
-    told_entry (step w e.caller e.event).world.display.front e ∷ xs)
-    (take-told n (step w e.caller e.event).world es)
+    carried_entry (step w e.caller e.event).world.display.front e ∷ xs)
+    (take-carried n (step w e.caller e.event).world es)
 
 -- the entries of a number
-pub made-told : (n : ℕ) (w : WorldState) (es : List Entry)
-    → plain (entries_by n (told w es)) ≡ made_by n es
-made-told n w [] = refl
-made-told n w (e ∷ es) =
+pub made-carried : (n : ℕ) (w : WorldState) (es : List Entry)
+    → plain (entries_by n (carried w es)) ≡ made_by n es
+made-carried n w [] = refl
+made-carried n w (e ∷ es) =
     let after : WorldState = (step w e.caller e.event).world in
-    go (e.caller == n) (entries_by n (told after es)) (made_by n es) (made-told n after es)
+    go (e.caller == n) (entries_by n (carried after es)) (made_by n es) (made-carried n after es)
   where
     go : (b : Bool) (xs : List Carried) (ys : List Entry) → plain xs ≡ ys
         → plain (cond b
-        (told_entry (step w e.caller e.event).world.display.front e ∷ xs) xs)
+        (carried_entry (step w e.caller e.event).world.display.front e ∷ xs) xs)
         ≡ cond b (e ∷ ys) ys
     go true xs ys same = ap (λ (zs : List Entry). e ∷ zs) same
     go false xs ys same = same
@@ -67,12 +67,12 @@ pub first-display : (w : WorldState) → 0 < w.display.front → w.display.front
     → display_of w ≡ w.display.front
 first-display w low high = omega (arith, low, high)
 
-pub word-told : (w : WorldState) (es : List Entry) → display_of w ≡ w.display.front
-    → 64 * length es + (replay w es).display.front ≡ word_of (display_of w) (told w es)
-word-told w es first =
-    let shown : display_after (display_of w) (told w es) ≡ (replay w es).display.front =
-    ap (λ n. display_after n (told w es)) first ∙ display-told w es in
-    let long = length-told w es in omega (arith, shown, long)
+pub word-carried : (w : WorldState) (es : List Entry) → display_of w ≡ w.display.front
+    → 64 * length es + (replay w es).display.front ≡ word_of (display_of w) (carried w es)
+word-carried w es first =
+    let shown : display_after (display_of w) (carried w es) ≡ (replay w es).display.front =
+    ap (λ n. display_after n (carried w es)) first ∙ display-carried w es in
+    let long = length-carried w es in omega (arith, shown, long)
 
 -- a word of the beginning of a history is one of a longer history
 pub word-grown : (before : ℕ) (log more : List Carried) (word : ℕ) → IsWordIn before log word
@@ -83,18 +83,18 @@ word-grown before log more word is = record {
 }
 
 -- a word that the lock knows
-pub read-told : (w : WorldState) (es : List Entry) (word : ℕ) → display_of w ≡ w.display.front
-    → IsWordIn (display_of w) (told w es) word → IsRead w es word
-read-told w es word first is =
+pub read-carried : (w : WorldState) (es : List Entry) (word : ℕ) → display_of w ≡ w.display.front
+    → IsWordIn (display_of w) (carried w es) word → IsRead w es word
+read-carried w es word first is =
     let n : ℕ = word / 64 in
-    let long = length-told w es in
-    let taken : length (take n (told w es)) ≡ n = length-take-le n (told w es) is.within in
-    let shown : display_after (display_of w) (take n (told w es))
+    let long = length-carried w es in
+    let taken : length (take n (carried w es)) ≡ n = length-take-le n (carried w es) is.within in
+    let shown : display_after (display_of w) (take n (carried w es))
     ≡ (replay w (take n es)).display.front =
-    ap (λ d. display_after d (take n (told w es))) first
-    ∙ (ap (display_after w.display.front) (take-told n w es) ∙ display-told w (take n es)) in
-    let whole : 64 * length (take n (told w es))
-    + display_after (display_of w) (take n (told w es)) ≡ word = is.is in record {
+    ap (λ d. display_after d (take n (carried w es))) first
+    ∙ (ap (display_after w.display.front) (take-carried n w es) ∙ display-carried w (take n es)) in
+    let whole : 64 * length (take n (carried w es))
+    + display_after (display_of w) (take n (carried w es)) ≡ word = is.is in record {
       within = omega (arith, is.within, long);
       shown = omega (arith, taken, shown, whole);
     }

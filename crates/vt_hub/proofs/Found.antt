@@ -19,9 +19,9 @@ use Rattle.vt_hub.specs.Answers.{Called, Stopped, Waited}
 use Rattle.vt_hub.specs.Histories.{IsRead, awaits, made_by}
 use Rattle.vt_hub.specs.Places.{known_by}
 use Rattle.vt_hub.specs.Shared.{Enters, IsSound, SharedView, Stops, Waits}
-use Rattle.vt_hub.specs.Told.{Carried, display_of, plain, told, told_entry}
+use Rattle.vt_hub.specs.Carrying.{Carried, display_of, plain, carried, carried_entry}
 use Rattle.vt_hub.specs.Views.{PassView}
-use Rattle.vt_hub.proofs.Carried.{first-display, front_after, made-told, plain-more, plain-told, read-told, told-more, word-grown, word-told}
+use Rattle.vt_hub.proofs.Carried.{first-display, front_after, made-carried, plain-more, plain-carried, read-carried, carried-more, word-grown, word-carried}
 use Rattle.vt_hub.proofs.Lists.{made-own}
 use Rattle.vt_journal.specs.Room.{full_at, has_room}
 use Rattle.vt_journal.specs.declared.full.Full.{Full}
@@ -36,32 +36,32 @@ pub record Found (start : WorldState) (most : Limits) (number seq : ℕ) (v : Vi
   pub sound : IsSound start most s
   pub named : v.role ≡ Caller number
   pub counted : seq ≡ length v.mine
-  pub begins : StartsWith (told start s.log.entries) v.seen
-  pub owns : HasMine (told start s.log.entries) v.role v.mine
-  pub reads : IsWordIn (display_of start) (told start s.log.entries) v.known
-  pub stands : Stands s.stop (told start s.log.entries) v
+  pub begins : StartsWith (carried start s.log.entries) v.seen
+  pub owns : HasMine (carried start s.log.entries) v.role v.mine
+  pub reads : IsWordIn (display_of start) (carried start s.log.entries) v.known
+  pub stands : Stands s.stop (carried start s.log.entries) v
   pub knows : KnowsOwn s.stop v
 
 -- from what the lock tells of the value that it gives, which s is
 pub found-from : (start : WorldState) (most : Limits) (number seq : ℕ) (v : View Entry Full)
     (old s : SharedView) → s ≡ old → IsSound start most s → v.role ≡ Caller number
-    → seq ≡ length v.mine → StartsWith (told start old.log.entries) v.seen
-    → HasMine (told start old.log.entries) v.role v.mine
-    → IsWordIn (display_of start) (told start old.log.entries) v.known
-    → Stands old.stop (told start old.log.entries) v → KnowsOwn old.stop v
+    → seq ≡ length v.mine → StartsWith (carried start old.log.entries) v.seen
+    → HasMine (carried start old.log.entries) v.role v.mine
+    → IsWordIn (display_of start) (carried start old.log.entries) v.known
+    → Stands old.stop (carried start old.log.entries) v → KnowsOwn old.stop v
     → Found start most number seq v s
 found-from start most number seq v old s same sound named counted begins owns reads stands
     knows = record {
       sound = sound;
       named = named;
       counted = counted;
-      begins = subst (λ (o : SharedView). StartsWith (told start o.log.entries) v.seen) (sym same)
+      begins = subst (λ (o : SharedView). StartsWith (carried start o.log.entries) v.seen) (sym same)
           begins;
-      owns = subst (λ (o : SharedView). HasMine (told start o.log.entries) v.role v.mine) (sym same)
+      owns = subst (λ (o : SharedView). HasMine (carried start o.log.entries) v.role v.mine) (sym same)
           owns;
       reads = subst (λ (o : SharedView).
-          IsWordIn (display_of start) (told start o.log.entries) v.known) (sym same) reads;
-      stands = subst (λ (o : SharedView). Stands o.stop (told start o.log.entries) v) (sym same)
+          IsWordIn (display_of start) (carried start o.log.entries) v.known) (sym same) reads;
+      stands = subst (λ (o : SharedView). Stands o.stop (carried start o.log.entries) v) (sym same)
           stands;
       knows = subst (λ (o : SharedView). KnowsOwn o.stop v) (sym same) knows;
     }
@@ -85,10 +85,10 @@ few-made n es =
 -- the word that is computed is that of the history
 pub front-is : (start : WorldState) (most : Limits) (s : SharedView) → IsSound start most s
     → 64 * length s.log.entries + s.world.display.front
-    ≡ word_of (display_of start) (told start s.log.entries)
+    ≡ word_of (display_of start) (carried start s.log.entries)
 front-is start most s sound =
     ap (λ (w : WorldState). 64 * length s.log.entries + w.display.front) sound.replayed
-    ∙ word-told start s.log.entries (first-display start sound.display_low sound.display_high)
+    ∙ word-carried start s.log.entries (first-display start sound.display_low sound.display_high)
 
 no_seal : (a b : Option (Seal Full)) → ((z : Seal Full) → a ≡ Some z → b ≡ Some z) → b ≡ None
     → a ≡ None
@@ -117,9 +117,9 @@ module _ (start : WorldState) (most : Limits) (number seq : ℕ) (v : View Entry
 
   pub made : plain v.mine ≡ made_by number s.log.entries
   made =
-      ap plain (subst (λ (r : Role Entry Full). HasMine (told start s.log.entries) r v.mine)
+      ap plain (subst (λ (r : Role Entry Full). HasMine (carried start s.log.entries) r v.mine)
       found.named found.owns)
-      ∙ made-told number start s.log.entries
+      ∙ made-carried number start s.log.entries
 
   -- its number of calls is that of its entries
   pub count : seq ≡ length (made_by number s.log.entries)
@@ -133,11 +133,11 @@ module _ (start : WorldState) (most : Limits) (number seq : ℕ) (v : View Entry
   pub seen : s.log.entries ≡ plain v.seen ++ later
   unfolding later
   seen =
-      sym (plain-told start s.log.entries)
+      sym (plain-carried start s.log.entries)
       ∙ (ap plain found.begins.1 ∙ plain-more v.seen found.begins.0)
 
   pub read : IsRead start s.log.entries v.known
-  read = read-told start s.log.entries v.known first found.reads
+  read = read-carried start s.log.entries v.known first found.reads
 
   pub unmet : s.stop ≡ None → v.seal ≡ None
   unmet none = no_seal v.seal s.stop (λ z is. (found.stands z is).0) none
@@ -145,18 +145,18 @@ module _ (start : WorldState) (most : Limits) (number seq : ℕ) (v : View Entry
   -- the entry that a call adds is the next one of the pass
   pub adds : (ticket : ℕ) (s' : SharedView) (e : Event) (place : ℕ) (r : Reply)
       → Enters number seq e s s' place r → IsSound start most s'
-      → AddsNext (told start s'.log.entries)
-      (having ticket (told start s.log.entries) s.stop v)
+      → AddsNext (carried start s'.log.entries)
+      (having ticket (carried start s.log.entries) s.stop v)
   adds ticket s' e place r enters sound =
       let entry : Entry = enters.entry in
-      let grown : told start s'.log.entries ≡ told start s.log.entries
-      ++ told_entry (front_after start s.log.entries entry) entry ∷ [] =
-      ap (told start) enters.entries ∙ told-more start s.log.entries entry in
+      let grown : carried start s'.log.entries ≡ carried start s.log.entries
+      ++ carried_entry (front_after start s.log.entries entry) entry ∷ [] =
+      ap (carried start) enters.entries ∙ carried-more start s.log.entries entry in
       let after : s'.world.display.front ≡ front_after start s.log.entries entry =
       ap (λ (w : WorldState). w.display.front)
       (sound.replayed ∙ (ap (replay start) enters.entries ∙ replay-one start s.log.entries entry))
       in (
-        told_entry (front_after start s.log.entries entry) entry,
+        carried_entry (front_after start s.log.entries entry) entry,
         grown,
         found.named ∙ ap (λ (n : ℕ). Caller n) (sym enters.caller),
         enters.number ∙ found.counted,
@@ -207,11 +207,11 @@ module _ (start : WorldState) (most : Limits) (number seq : ℕ) (v : View Entry
         met = unmet enters.met;
         goes_on = left.stop_is;
         word = subst (λ (l : List Entry). IsRead start l v.known) (sym left.seen_is)
-            (read-told start s'.log.entries v.known first
+            (read-carried start s'.log.entries v.known first
             (subst (λ (l : List Carried). IsWordIn (display_of start) l v.known)
-            (sym (ap (told start) enters.entries ∙ told-more start es entry))
-            (word-grown (display_of start) (told start es)
-            (told_entry (front_after start es entry) entry ∷ []) v.known found.reads)));
+            (sym (ap (carried start) enters.entries ∙ carried-more start es entry))
+            (word-grown (display_of start) (carried start es)
+            (carried_entry (front_after start es entry) entry ∷ []) v.known found.reads)));
       }
 
   own_charge : (s' : SharedView) (e : Event) (full : Full) (stops : Stops number e s s' full)
@@ -252,7 +252,7 @@ module _ (start : WorldState) (most : Limits) (number seq : ℕ) (v : View Entry
             let stands = found.stands z is in (
               stops.again z stands.0,
               left.seen_is
-                  ∙ (sym (plain-told start s.log.entries) ∙ ap plain stands.1),
+                  ∙ (sym (plain-carried start s.log.entries) ∙ ap plain stands.1),
             );
         numbers = right.numbers ∙ ap (λ (l : List Entry). full_at l full.charge) same;
         no_room = ap (λ (l : List Entry). has_room most l full.charge) (sym same)
@@ -283,27 +283,27 @@ module _ (start : WorldState) (most : Limits) (number seq : ℕ) (v : View Entry
   -- the entry, and as it left
   module _ (hub : TableId) (old : PassView) (is : known_by hub number v ≡ old) (here : TableId)
       (home : here ≡ hub) (ticket : ℕ) (s' : SharedView) (held after : View Entry Full)
-      (has : held ≡ having ticket (told start s.log.entries) s.stop v) where
+      (has : held ≡ having ticket (carried start s.log.entries) s.stop v) where
     module _ (e : Event) (place : ℕ) (r : Reply) (enters : Enters number seq e s s' place r)
-        (shown : View Entry Full) (shows : shown ≡ published (told start s'.log.entries) held)
-        (adds_one : (x : Carried) → told start s'.log.entries ≡ held.seen ++ x ∷ []
+        (shown : View Entry Full) (shows : shown ≡ published (carried start s'.log.entries) held)
+        (adds_one : (x : Carried) → carried start s'.log.entries ≡ held.seen ++ x ∷ []
         → shown.mine ≡ held.mine ++ x ∷ [])
         (left : after ≡ resting s'.stop shown) where
-      entry_told : Carried
-      entry_told = told_entry (front_after start s.log.entries enters.entry) enters.entry
+      entry_carried : Carried
+      entry_carried = carried_entry (front_after start s.log.entries enters.entry) enters.entry
 
-      after-mine : after.mine ≡ v.mine ++ entry_told ∷ []
-      unfolding entry_told
+      after-mine : after.mine ≡ v.mine ++ entry_carried ∷ []
+      unfolding entry_carried
       after-mine =
-          let grown : told start s'.log.entries ≡ held.seen ++ entry_told ∷ [] =
-          ap (told start) enters.entries
-          ∙ (told-more start s.log.entries enters.entry
-          ∙ ap (λ (x : View Entry Full). x.seen ++ entry_told ∷ []) (sym has)) in
+          let grown : carried start s'.log.entries ≡ held.seen ++ entry_carried ∷ [] =
+          ap (carried start) enters.entries
+          ∙ (carried-more start s.log.entries enters.entry
+          ∙ ap (λ (x : View Entry Full). x.seen ++ entry_carried ∷ []) (sym has)) in
           ap (λ (x : View Entry Full). x.mine) left
-          ∙ (adds_one entry_told grown
-          ∙ ap (λ (x : View Entry Full). x.mine ++ entry_told ∷ []) has)
+          ∙ (adds_one entry_carried grown
+          ∙ ap (λ (x : View Entry Full). x.mine ++ entry_carried ∷ []) has)
 
-      after-whole : after ≡ resting s'.stop (published (told start s'.log.entries) held)
+      after-whole : after ≡ resting s'.stop (published (carried start s'.log.entries) held)
       after-whole = left ∙ ap (resting s'.stop) shows
 
       pub role-after : after.role ≡ Caller number
@@ -312,14 +312,14 @@ module _ (start : WorldState) (most : Limits) (number seq : ℕ) (v : View Entry
           ∙ (ap (λ (x : View Entry Full). x.role) has ∙ found.named)
 
       pub counted-after : seq + 1 ≡ length after.mine
-      unfolding entry_told
+      unfolding entry_carried
       counted-after =
           let long = ap length after-mine in
-          let one = length-append v.mine (entry_told ∷ []) in
+          let one = length-append v.mine (entry_carried ∷ []) in
           let counted = found.counted in omega (arith, long, one, counted)
 
       pub done : IsSound start most s' → Called start most e old (known_by here number after) place r
-      unfolding entry_told
+      unfolding entry_carried
       done sound = subst
           (λ (o : PassView). Called start most e o (known_by here number after) place r) is
           (called hub s' e place r (known_by here number after) enters sound (record {
@@ -328,18 +328,18 @@ module _ (start : WorldState) (most : Limits) (number seq : ℕ) (v : View Entry
             known_is = ap (λ (x : View Entry Full). x.known) after-whole
                 ∙ ap (λ (x : View Entry Full). x.known) has;
             seen_is = ap (λ (x : View Entry Full). plain x.seen) after-whole
-                ∙ plain-told start s'.log.entries;
-            mine_is = ap plain after-mine ∙ plain-more v.mine (entry_told ∷ []);
+                ∙ plain-carried start s'.log.entries;
+            mine_is = ap plain after-mine ∙ plain-more v.mine (entry_carried ∷ []);
             stop_is = ap (λ (x : View Entry Full). x.seal) after-whole ∙ enters.goes_on;
           }))
 
     module _ (left : after ≡ resting s'.stop held) where
-      left-whole : after ≡ resting s'.stop (having ticket (told start s.log.entries) s.stop v)
+      left-whole : after ≡ resting s'.stop (having ticket (carried start s.log.entries) s.stop v)
       left-whole = left ∙ ap (resting s'.stop) has
 
       same-seen : plain after.seen ≡ s.log.entries
       same-seen = ap (λ (x : View Entry Full). plain x.seen) left-whole
-          ∙ plain-told start s.log.entries
+          ∙ plain-carried start s.log.entries
 
       pub full : (e : Event) (full : Full) → Stops number e s s' full → IsSound start most s'
           → Stopped start most e old (known_by here number after) full

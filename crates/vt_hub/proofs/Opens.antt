@@ -16,16 +16,16 @@ unmade-at zero n = refl
 unmade-at (suc size) zero = refl
 unmade-at (suc size) (suc n) = unmade-at size n
 
-pub none-made : (n : ℕ) → false ≡ is_made (stand_at (replicate 65 Unmade) n)
-none-made n = sym (ap is_made (unmade-at 65 n))
+pub none-made : (n : ℕ) → false ≡ is_made (stand_at (replicate 68 Unmade) n)
+none-made n = sym (ap is_made (unmade-at 68 n))
 
-pub none-home : (n : ℕ) → false ≡ is_home (stand_at (replicate 65 Unmade) n)
-none-home n = sym (ap is_home (unmade-at 65 n))
+pub none-home : (n : ℕ) → false ≡ is_home (stand_at (replicate 68 Unmade) n)
+none-home n = sym (ap is_home (unmade-at 68 n))
 
 -- the steward of a hub that opens
 module _ {K : Type 0} where
   pub keeps-none : (before : ℕ) (p : Pass K Entry Full) → lock.Rests p
-      → lock.view p ≡ newcomer before → Keeps (replicate 65 Unmade) 0 p
+      → lock.view p ≡ newcomer before → Keeps (replicate 68 Unmade) 0 p
   keeps-none before p rests new = record {
     rests = rests;
     first = subst (λ (v : View Entry Full). IsFirst v.role) (sym new) tt;

@@ -15,10 +15,10 @@ use Rattle.vt_events.specs.declared.entry.Entry.{Entry}
 use Rattle.vt_hub.specs.Closed.{BeginsWith, IsPart, IsStopped, IsWhole}
 use Rattle.vt_hub.specs.Places.{joined_by, kept_by}
 use Rattle.vt_hub.specs.Shared.{IsSound, IsStop, SharedView}
-use Rattle.vt_hub.specs.Told.{Carried, display_of, plain, told}
+use Rattle.vt_hub.specs.Carrying.{Carried, display_of, plain, carried}
 use Rattle.vt_hub.specs.Views.{PassView, is_made, stand_at}
 use Rattle.vt_hub.specs.declared.stand.Stand.{Stand}
-use Rattle.vt_hub.proofs.Carried.{first-display, made-told, plain-more, plain-told, read-told}
+use Rattle.vt_hub.proofs.Carried.{first-display, made-carried, plain-more, plain-carried, read-carried}
 use Rattle.vt_journal.specs.Log.{Logged}
 use Rattle.vt_journal.specs.Room.{IsWithin, full_at, has_room}
 use Rattle.vt_journal.specs.declared.full.Full.{Full}
@@ -53,7 +53,7 @@ module _ {B : Type 0} where
       all-at P ys i x (λ k d low. all (suc k) d (omega (arith, low))) is
 
 -- what the lock tells as it closes
-pub record Told (before : ℕ) (log : List Carried) (seal : Option (Seal Full)) (v : View Entry Full)
+pub record KnownAt (before : ℕ) (log : List Carried) (seal : Option (Seal Full)) (v : View Entry Full)
     : Type 0 where
   pub seen : StartsWith log v.seen
   pub known : IsWordIn before log v.known
@@ -71,9 +71,9 @@ stop_of seal = option_map (λ (z : Seal Full). z.what) seal
 
 module _ (start : WorldState) (most : Limits) (hub : TableId) (stands : List Stand)
     (v : View Entry Full) (s : SharedView) (sound : IsSound start most s)
-    (told_of : Told (display_of start) (told start s.log.entries) s.stop v) where
+    (known_at : KnownAt (display_of start) (carried start s.log.entries) s.stop v) where
   log : List Carried
-  log = told start s.log.entries
+  log = carried start s.log.entries
 
   first : display_of start ≡ start.display.front
   first = first-display start sound.display_low sound.display_high
@@ -82,7 +82,7 @@ module _ (start : WorldState) (most : Limits) (hub : TableId) (stands : List Sta
   unfolding log
   begins seen is = (
     plain is.0,
-    sym (plain-told start s.log.entries) ∙ (ap plain is.1 ∙ plain-more seen is.0),
+    sym (plain-carried start s.log.entries) ∙ (ap plain is.1 ∙ plain-more seen is.0),
   )
 
   part : (x : Joined Entry Full) → IsPartOf (display_of start) log s.stop x
@@ -90,13 +90,13 @@ module _ (start : WorldState) (most : Limits) (hub : TableId) (stands : List Sta
   unfolding log
   part x is = record {
     seen = begins x.seen is.seen;
-    mine = ap plain is.mine ∙ made-told x.number start s.log.entries;
-    word = read-told start s.log.entries x.known first is.known;
+    mine = ap plain is.mine ∙ made-carried x.number start s.log.entries;
+    word = read-carried start s.log.entries x.known first is.known;
     met = λ z has. ⊎_elim
         (λ unmet. let bad : None ≡ Some z = sym unmet ∙ has in absurd cc)
         (λ m. (
           ap stop_of (sym m.0 ∙ has),
-          ap plain m.1 ∙ plain-told start s.log.entries,
+          ap plain m.1 ∙ plain-carried start s.log.entries,
         ))
         is.met;
   }
@@ -104,7 +104,7 @@ module _ (start : WorldState) (most : Limits) (hub : TableId) (stands : List Sta
   parts : All (IsPart start s.log.entries (stop_of s.stop)) (map (joined_by hub) (joined_of v.role))
   unfolding log
   parts = all-map (joined_by hub) (IsPartOf (display_of start) log s.stop)
-      (IsPart start s.log.entries (stop_of s.stop)) part (joined_of v.role) told_of.joined
+      (IsPart start s.log.entries (stop_of s.stop)) part (joined_of v.role) known_at.joined
 
   stops : (full : Full) → stop_of s.stop ≡ Some full
       → IsStopped most s.world s.log.entries (map (joined_by hub) (joined_of v.role)) full
@@ -115,7 +115,7 @@ module _ (start : WorldState) (most : Limits) (hub : TableId) (stands : List Sta
       go None stop e = absurd cc
       go (Some z) stop e =
           let what : z.what ≡ full = cc in
-          let it = told_of.named z stop in
+          let it = known_at.named z stop in
           let right : IsStop most s.world s.log.entries z = sound.stops z stop in record {
             place = it.0;
             pass = joined_by hub it.1;
@@ -178,11 +178,11 @@ module _ (start : WorldState) (most : Limits) (hub : TableId) (stands : List Sta
         free = sound.free;
         limits = sound.limits;
         within = within;
-        seen = begins v.seen told_of.seen;
-        word = read-told start s.log.entries v.known first told_of.known;
+        seen = begins v.seen known_at.seen;
+        word = read-carried start s.log.entries v.known first known_at.known;
         parts = parts;
-        unmade = λ n at. sym (made-told n start s.log.entries)
-            ∙ ap plain (told_of.unmade n (made n ∙ ap is_made at));
+        unmade = λ n at. sym (made-carried n start s.log.entries)
+            ∙ ap plain (known_at.unmade n (made n ∙ ap is_made at));
         stops = stops;
         unstopped = (unstopped-all, all-unstopped);
         lawful = lawful start s.log.entries;

@@ -3,5 +3,5 @@ pub mod Closed
 pub mod Histories
 pub mod Places
 pub mod Shared
-pub mod Told
+pub mod Carrying
 pub mod Views

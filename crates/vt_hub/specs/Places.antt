@@ -9,7 +9,7 @@ use Rattle.turn_lock.specs.declared.view.Role.TheVariants.{Caller}
 use Rattle.turn_lock.specs.declared.view.View.{View}
 use Rattle.atomic_table.specs.Seated.{TableId}
 use Rattle.vt_events.specs.declared.entry.Entry.{Entry}
-use Rattle.vt_hub.specs.Told.{plain}
+use Rattle.vt_hub.specs.Carrying.{plain}
 use Rattle.vt_hub.specs.Views.{PassView, StewardView, is_home, is_made, is_out, stand_at}
 use Rattle.vt_hub.specs.declared.stand.Stand.{Stand}
 use Rattle.vt_journal.specs.declared.full.Full.{Full}
@@ -63,7 +63,7 @@ module _ {K : Type 0} where
   pub record Keeps (stands : List Stand) (out : ℕ) (p : Pass K Entry Full) : Type 0 where
     pub rests : lock.Rests p
     pub first : IsFirst (lock.view p).role
-    pub size : length stands ≡ 65
+    pub size : length stands ≡ 68
     pub made : (n : ℕ) → among n (made_of (lock.view p).role) ≡ is_made (stand_at stands n)
     pub home : (n : ℕ) → has_joined n (joined_of (lock.view p).role) ≡ is_home (stand_at stands n)
     pub counted : out ≡ count_by is_out stands

@@ -51,7 +51,7 @@ is_home s = false
 abbrev pub opened : WorldState → TableId → StewardView
 opened start hub = record {
   hub = hub;
-  stands = replicate 65 Unmade;
+  stands = replicate 68 Unmade;
   seen = [];
   known = start.display.front;
   joined = [];

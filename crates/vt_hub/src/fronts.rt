@@ -7,7 +7,7 @@ use vt_journal::Full;
 
 impl<J: Opening> Kept for Shared<J> {
     ghost use Rattle.std.proofs.Common.{arith};
-    ghost use Rattle.vt_hub.specs.Told.{display_of, told};
+    ghost use Rattle.vt_hub.specs.Carrying.{display_of, carried};
 
     type What = Entry;
 
@@ -15,7 +15,7 @@ impl<J: Opening> Kept for Shared<J> {
 
     ghost before = { display_of J.start };
 
-    ghost entries = { λ s. told J.start s.log.entries };
+    ghost entries = { λ s. carried J.start s.log.entries };
 
     ghost seal = { λ s. s.stop };
 

@@ -55,11 +55,11 @@ impl<J: Opening> Hub<J> {
         ensures { IfOk result (λ made. made.1 ≡ opened J.start made.0) }
     {
         let log = Log::with_room(alloc, limits.events, limits.bytes)?;
-        let shared = Shared::new(w, log);
+        let shared = Shared::new(Box::new(alloc, w)?, log);
         shared.sound();
         let bells = Bells::new(alloc)?;
         let (lock, place) = TurnLock::open(alloc, shared)?;
-        let stands = [Stand::Unmade; 65];
+        let stands = [Stand::Unmade; 68];
         Ok((
             Hub { lock, bells, alloc },
             Steward {

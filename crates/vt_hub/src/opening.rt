@@ -16,7 +16,7 @@ impl Opening for Brand {
     ghost use Rattle.key_tables.specs.Tables.{tables_of};
     ghost use Rattle.vt_world.specs.Start.{opening};
 
-    ghost start = { opening 1 1 2 1 [] (tables_of [] [] []) };
+    ghost start = { opening 1 1 2 1 1 [] (tables_of [] [] []) };
 
     ghost limits = { record { events = 0; bytes = 0 } };
 }

@@ -19,7 +19,8 @@ use vt_world::{Spare, World, legal_grows, sizes_stay, tickets_are_called};
 /// What lies under the lock: the world after the entries of the log, and where the hub stopped.
 #[derive(Drop)]
 pub struct Shared<J: Opening> {
-    world: World,
+    // In a box, so that a turn moves one word of it.
+    world: Box<World>,
     log: Log,
     stop: Option<Seal<Full>>,
     // Whose tickets are open after the last call, and whose it ended.
@@ -33,19 +34,19 @@ impl<J: Opening> Model for Shared<J> {
 
     ghost Value = { SharedView };
 
-    ghost view = { λ s. record { world = s.world; log = s.log; stop = s.stop } };
+    ghost view = { λ s. record { world = s.world.value; log = s.log; stop = s.stop } };
 
     ghost invariant = { λ s.
-        IsSound J.start J.limits (record { world = s.world; log = s.log; stop = s.stop }) };
+        IsSound J.start J.limits (record { world = s.world.value; log = s.log; stop = s.stop }) };
 }
 
 impl<J: Opening> Shared<J> {
     /// The world that is opened, with no entries.
-    pub fn new(world: World, log: Log) -> Shared<J>
-        requires start { world ≡ J.start }
+    pub fn new(world: Box<World>, log: Log) -> Shared<J>
+        requires start { world.value ≡ J.start }
         requires limits { log.limits ≡ J.limits }
         requires empty { log.entries ≡ [] }
-        requires free { (p : ℕ) → is_waiting world p ≡ false }
+        requires free { (p : ℕ) → is_waiting world.value p ≡ false }
         ensures log { result.log ≡ log }
         ensures stop { result.stop ≡ None }
     {
@@ -149,6 +150,6 @@ impl<J: Opening> Shared<J> {
             Some(stop) => Some(stop.what),
             None => None,
         };
-        (self.world, self.log, stop)
+        (Box::into_inner(self.world), self.log, stop)
     }
 }

@@ -12,7 +12,7 @@ use vt_base::CallerNo;
 #[derive(Drop)]
 pub struct Steward<J: Opening> {
     pub(crate) place: Place<Shared<J>>,
-    pub(crate) stands: [Stand; 65],
+    pub(crate) stands: [Stand; 68],
     pub(crate) out: u32,
 }
 

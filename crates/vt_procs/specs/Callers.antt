@@ -1,12 +1,13 @@
--- The callers by number: 0 is the keyboard, the others are processes. The rules are this project's
--- own.
+-- The callers by number: 0 and the numbers above 64 are keyboards, the others are processes. The
+-- rules are this project's own.
 use Rattle.std.specs.List.{list_any, range_with_len}
-use Rattle.std.specs.Prelude.{◌≡◌, ℕ, ◌-◌, ◌==◌, Bool, true, false, not, List, map, replicate, position, Option, Some, None, IfSome, is_some, slice_get, slice_index_or, slice_set, if◌then◌else◌}
+use Rattle.std.specs.Prelude.{◌≡◌, ◌≤◌, ℕ, ◌-◌, ◌==◌, nat_lt, Bool, true, false, not, List, map, replicate, position, Option, Some, None, IfSome, is_some, slice_get, slice_index_or, slice_set, if◌then◌else◌}
+use Rattle.vt_base.specs.Limits.{callers as every_caller, processes}
 use Rattle.vt_procs.specs.declared.process.Process.{Process}
 use Rattle.vt_procs.specs.declared.proc_start.ProcStart.{ProcStart}
 use Rattle.vt_procs.specs.declared.waiting.Waiting.TheVariants.{Nothing}
 
--- all callers, from number 0 to 64, and who accepts the key signal, with the signal that it named
+-- all callers, from number 0 to 67, and who accepts the key signal, with the signal that it named
 pub record Callers : Type 0 where
   pub list : List Process
   pub accepter : Option (ℕ × ℕ)
@@ -30,22 +31,31 @@ plain_caller live home privileged = record {
 abbrev pub no_caller : Process
 no_caller = plain_caller false 0 false
 
-abbrev pub keyboard : Process
-keyboard = plain_caller true 0 false
+-- keyboard k, of so many that are there
+abbrev pub keyboard : ℕ → ℕ → Process
+keyboard keyboards k = plain_caller (nat_lt k keyboards) 0 false
 
 abbrev pub caller_of : Option ProcStart → Process
 caller_of None = no_caller
 caller_of (Some start) = plain_caller true start.home start.privileged
 
--- the caller of number p at the start: the keyboard, or the process at that place of the list,
--- counted from 1
-abbrev pub starting : List ProcStart → ℕ → Process
-starting starts p = if p == 0 then keyboard else caller_of (slice_get starts (p - 1))
+-- the caller of number p at the start: a keyboard, or the process at that place of the list, counted
+-- from 1
+abbrev pub starting : ℕ → List ProcStart → ℕ → Process
+starting keyboards starts p =
+    if p == 0 then keyboard keyboards 0
+    else if nat_lt processes p then keyboard keyboards (p - processes)
+    else caller_of (slice_get starts (p - 1))
+
+-- so many keyboards can be there
+pub record IsFitCount (keyboards : ℕ) : Type 0 where
+  pub one : 1 ≤ keyboards
+  pub four : keyboards ≤ 4
 
 -- the callers at the start; nobody accepts the key signal
-abbrev pub callers_of : List ProcStart → Callers
-callers_of starts = record {
-  list = map (starting starts) (range_with_len 0 65);
+abbrev pub callers_of : ℕ → List ProcStart → Callers
+callers_of keyboards starts = record {
+  list = map (starting keyboards starts) (range_with_len 0 every_caller);
   accepter = None;
 }
 

@@ -10,5 +10,7 @@ pub struct Config {
     pub consoles: u64,
     /// The console in front, which is one of them.
     pub front: ConsoleNo,
+    /// How many keyboards there are: 1 to 4.
+    pub keyboards: u8,
     pub procs: ProcList,
 }

@@ -1,4 +1,4 @@
-//! The callers of the console: the keyboard and the processes, with what each of them has open, the
+//! The callers of the console: the keyboards and the processes, with what each of them has open, the
 //! signals that are pending for it, and what it waits for.
 #![tactic(auto)]
 

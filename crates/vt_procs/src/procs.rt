@@ -1,13 +1,13 @@
-ghost use Rattle.std.specs.Prelude.{◌≡◌, true, Some, None, is_some, if◌then◌else◌};
-ghost use Rattle.vt_procs.specs.Callers.{IsFit, accepts, caller_at, callers_of, console_of, ended, free_fd, has_open, is_live, is_opened, opened, plain_caller, shut, starting};
+ghost use Rattle.std.specs.Prelude.{◌≡◌, ◌≤◌, true, Some, None, is_some, length, if◌then◌else◌};
+ghost use Rattle.vt_procs.specs.Callers.{IsFit, IsFitCount, accepts, caller_at, callers_of, console_of, ended, free_fd, has_open, is_live, is_opened, opened, plain_caller, shut, starting};
 ghost use Rattle.vt_procs.specs.Tickets.{accepting};
 
 use crate::opens::NO_OPENS;
 use crate::{ProcStart, Process, Waiting};
 use std::marker::Model;
-use vt_base::{CALLERS, CallerNo, ConsoleNo, Fd, SigSet, Signal};
+use vt_base::{CALLERS, CallerNo, ConsoleNo, Fd, PROCESSES, SigSet, Signal};
 
-/// All callers: the keyboard, which is number 0, and the processes.
+/// All callers: the keyboards and the processes.
 #[derive(Debug, Drop)]
 pub struct Procs {
     pub(crate) callers: [Process; CALLERS],
@@ -27,13 +27,15 @@ impl Model for Procs {
 }
 
 impl Procs {
-    /// The keyboard, and these processes.
-    pub fn start(list: &[ProcStart]) -> Procs
-        ensures { result ≡ callers_of list.now }
+    /// So many keyboards, and these processes. A keyboard lives until it ends.
+    pub fn start(list: &[ProcStart], keyboards: u8) -> Procs
+        requires processes { length list.now ≤ 64 }
+        requires keyboards { IsFitCount keyboards }
+        ensures { result ≡ callers_of keyboards list.now }
     {
         let mut callers = [plain_caller(false, 0, false); CALLERS];
         for p in 0..CALLERS {
-            callers[p] = starting(list, p);
+            callers[p] = starting(list, keyboards, p);
         }
         Procs {
             callers,
@@ -165,11 +167,14 @@ fn plain_caller(live: bool, home: u8, privileged: bool) -> Process
 }
 
 // The caller of number `p` at the start.
-fn starting(list: &[ProcStart], p: usize) -> Process
-    ensures { result ≡ starting list.now p }
+fn starting(list: &[ProcStart], keyboards: u8, p: usize) -> Process
+    ensures { result ≡ starting keyboards list.now p }
 {
     if p == 0 {
-        return plain_caller(true, 0, false);
+        return plain_caller(0 < keyboards, 0, false);
+    }
+    if PROCESSES < p {
+        return plain_caller(p - PROCESSES < usize::from(keyboards), 0, false);
     }
     match list.get(p - 1) {
         Some(start) => plain_caller(true, start.home, start.privileged),

@@ -9,7 +9,7 @@ fn two_processes() -> Procs {
         home: 2,
         privileged: false,
     };
-    Procs::start(&[start, ProcStart::default()])
+    Procs::start(&[start, ProcStart::default()], 1)
 }
 
 #[test]
@@ -107,6 +107,30 @@ fn end_caller(procs: &mut Procs, p: CallerNo) {
     if procs.live(p) {
         procs.end(p);
     }
+}
+
+// Of four keyboards and a process that waits, the fourth keyboard is the last that can go on.
+#[test]
+fn every_keyboard_keeps_the_others_waiting(rt: HostRuntime) -> Result<(), Fail> {
+    let p = CallerNo::new(1).ok_or("none")?;
+    let mut procs = Procs::start(&[ProcStart::default()], 4);
+    assert!(rt; !procs.live(CallerNo::new(2).ok_or("none")?));
+    begin(&mut procs, p, &Ticket::AnySignal);
+    for (k, told) in [
+        (0, Waited::Still),
+        (1, Waited::Still),
+        (2, Waited::Still),
+        (3, Waited::Broken),
+    ] {
+        assert!(rt; procs.live(CallerNo::keyboard(k)));
+        end_caller(&mut procs, CallerNo::keyboard(k));
+        procs.settle();
+        assert_eq!(rt; procs.ticket(p), told);
+    }
+    let two = Procs::start(&[], 2);
+    assert!(rt; two.live(CallerNo::keyboard(1)));
+    assert!(rt; !two.live(CallerNo::keyboard(2)));
+    Ok(())
 }
 
 #[test]

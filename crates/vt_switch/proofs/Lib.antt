@@ -1,3 +1,4 @@
+mod Due
 mod Hops
 mod Lawful
 mod Lookups
@@ -7,3 +8,4 @@ mod Reasons
 mod Sets
 mod Sound
 mod Stays
+mod Told

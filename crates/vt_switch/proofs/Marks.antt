@@ -1,9 +1,11 @@
 -- The hops of a trace are the one that its act makes.
 use Rattle.std.proofs.Common.{◌≡◌, ℕ, Bool, true, false, cond, List, [], ◌∷◌, ◌++◌, Option, Some, None, refl, ap, ◌∙◌}
+use Rattle.std.specs.Prelude.{option_to_list}
 use Rattle.vt_switch.specs.Acts.{SwitchAct, Allocate, Request, Release, SetMode, SetKd, Lock, Free, End, hop_of}
 use Rattle.vt_switch.specs.Calls.{asked}
 use Rattle.vt_switch.specs.Display.{console, is_allocated}
-use Rattle.vt_switch.specs.Moments.{Core, core_after, hop_marks, hops, is_live, marks, own_marks, raise_acquire, raise_release}
+use Rattle.vt_switch.specs.Moments.{Core, core_after, hop_marks, hops, is_live, own_marks, raise_acquire, raise_release}
+use Rattle.vt_switch.specs.News.{OneHopIsTold}
 use Rattle.vt_switch.specs.declared.asked.Asked.{Asked}
 use Rattle.vt_switch.specs.declared.asked.Asked.TheVariants.{Hopped, Signalled, Ignored}
 use Rattle.vt_switch.specs.declared.handling.Handling.{Handling}
@@ -11,10 +13,6 @@ use Rattle.vt_switch.specs.declared.handling.Handling.TheVariants.{Auto, Process
 use Rattle.vt_switch.specs.declared.hop.Hop.{Hop}
 use Rattle.vt_switch.specs.declared.mark.Mark.{Mark}
 use Rattle.vt_switch.specs.declared.mark.Mark.TheVariants as mark
-
-abbrev pub hop_list : Option Hop → List Hop
-hop_list None = []
-hop_list (Some hop) = hop ∷ []
 
 raised_if : (b : Bool) (p signal : ℕ) (more : List Mark)
     → hops (cond b (mark.Raised p signal ∷ []) [] ++ more) ≡ hops more
@@ -53,13 +51,12 @@ acquired_quiet k (Auto words) = refl
 acquired_quiet k (Process handshake) =
     alone_quiet (is_live k handshake.owner) handshake.owner handshake.acqsig
 
-hop_told : (k : Core) (hop : Option Hop) → hops (hop_marks k hop) ≡ hop_list hop
+hop_told : (k : Core) (hop : Option Hop) → hops (hop_marks k hop) ≡ option_to_list hop
 hop_told k None = refl
 hop_told k (Some hop) =
     ap (λ (more : List Hop). hop ∷ more) (acquired_quiet k (console k.display hop.to).handling)
 
-pub hops_of_marks : (k : Core) (act : SwitchAct)
-    → hops (marks k act) ≡ hop_list (hop_of k.display act)
+pub hops_of_marks : OneHopIsTold
 hops_of_marks k act =
     own_quiet k act (hop_marks (core_after k act) (hop_of k.display act))
     ∙ hop_told (core_after k act) (hop_of k.display act)

@@ -1,19 +1,23 @@
 -- Why a hop was made, and what a request leaves.
-use Rattle.std.proofs.Common.{◌≡◌, ℕ, ◌+◌, ◌≤◌, Bool, true, false, cond, List, [], ◌∷◌, ◌++◌, Option, Some, None, Ok, Err, refl, sym, ap, subst, ◌∙◌, inl, inr, arith}
-use Rattle.std.specs.Prelude.{◌==◌, ◌||◌, not}
-use Rattle.vt_switch.proofs.Lookups.{equal, named, nothing, same_number}
-use Rattle.vt_switch.proofs.Marks.{hop_list, hops_of_marks}
+use Rattle.std.proofs.Common.{◌≡◌, ℕ, ◌+◌, ◌≤◌, Bool, true, false, cond, List, [], ◌∷◌, ◌++◌, Option, Some, None, refl, sym, ap, subst, ◌∙◌, inl, inr, arith}
+use Rattle.std.specs.Prelude.{◌==◌, ◌||◌, not, IfSome, option_to_list}
+use Rattle.vt_switch.proofs.Lookups.{nothing, same_number}
+use Rattle.vt_switch.proofs.Due.{hops-are-due}
+use Rattle.vt_switch.proofs.Marks.{hops_of_marks}
 use Rattle.vt_switch.proofs.Stays.{Stays, stays}
-use Rattle.vt_switch.specs.Acts.{SwitchAct, Allocate, Request, Release, SetMode, SetKd, Lock, Free, End, hop_of, hop_of_asked, hop_of_released}
-use Rattle.vt_switch.specs.Calls.{after_asked, asked, asked_of, inval, kept, let_go, owns}
-use Rattle.vt_switch.specs.Deaths.{falls_to}
+use Rattle.vt_switch.proofs.Told.{going, ignored_tells, quiet_tells}
+use Rattle.vt_switch.specs.Acts.{SwitchAct, Request, hop_of, hop_of_asked}
+use Rattle.vt_switch.specs.Calls.{after_asked, asked, asked_of}
 use Rattle.vt_switch.specs.Display.{Display, console, is_allocated, owner_of}
-use Rattle.vt_switch.specs.Law.{EachAllowed, Handed, IsExplained, OwnersLive, Quiet, Raises, Since, WasAskedFor, release_of}
+use Rattle.vt_switch.specs.Law.{AllowedBy, DueBy, EachAllowed, Handed, IsDue, IsExplained, IsLetGo, OwnersLive, Quiet, Raises, Since, WasAskedFor, release_of}
 use Rattle.vt_switch.specs.Moments.{Core, Moment, core_after, hop_marks, hops, is_live, is_request, raise_release, settles, trace}
 use Rattle.vt_switch.specs.declared.asked.Asked.{Asked}
 use Rattle.vt_switch.specs.declared.asked.Asked.TheVariants.{Hopped, Signalled, Ignored}
+use Rattle.vt_switch.specs.declared.cause.Cause.{Cause}
+use Rattle.vt_switch.specs.declared.cause.Cause.TheVariants as cause
 use Rattle.vt_switch.specs.declared.handling.Handling.{Handling}
 use Rattle.vt_switch.specs.declared.handling.Handling.TheVariants.{Auto, Process}
+use Rattle.vt_switch.specs.declared.hop.Hop.{Hop}
 use Rattle.vt_switch.specs.declared.mark.Mark.TheVariants as mark
 
 -- what was in an entry before the i-th was in one before the j-th
@@ -44,7 +48,7 @@ carry i e k h act isnt explained n waits =
     let quiet : Quiet k.display.front n m = record {
       no_mode = s.no_mode;
       no_refusal = s.no_refusal;
-      no_hop = hops_of_marks k act ∙ ap hop_list s.no_hop;
+      no_news = quiet_tells k act isnt ∙ ap going s.no_hop;
       target = waits;
     } in
     record {
@@ -130,8 +134,7 @@ ask_by i e k h n Ignored is more owners explained w waits =
     let quiet : Quiet d.front w m = record {
       no_mode = refl;
       no_refusal = refl;
-      no_hop = hops_of_marks k (Request n)
-          ∙ ap (λ (a : Asked). hop_list (hop_of_asked a)) is;
+      no_news = ignored_tells k n is;
       target = waits;
     } in
     record {
@@ -174,101 +177,48 @@ pub ask : (i e : ℕ) (k : Core) (h : List Moment) (n : ℕ) → i ≤ e + 1 →
 ask i e k h n more owners explained w waits =
     ask_by i e k h n (asked k.display n) refl more owners explained w waits
 
--- a hop at a request
-asked_allowed : (e : ℕ) (k : Core) (h : List Moment) (n : ℕ) (none front locked : Bool)
-    (graphics : Bool) (handling : Handling) → k.display.locked ≡ locked
-    → (console k.display k.display.front).graphics ≡ graphics
-    → (console k.display k.display.front).handling ≡ handling
-    → EachAllowed h (moment e k (Request n))
-    (hop_list (hop_of_asked (cond (none || front || locked) Ignored (asked_of k.display n graphics handling))))
-asked_allowed e k h n true front locked graphics handling is shows handles = tt
-asked_allowed e k h n false true locked graphics handling is shows handles = tt
-asked_allowed e k h n false false true graphics handling is shows handles = tt
-asked_allowed e k h n false false false graphics (Process handshake) is shows handles = tt
-asked_allowed e k h n false false false true (Auto words) is shows handles = tt
-asked_allowed e k h n false false false false (Auto words) is shows handles =
-    (record { from = refl; because = (ap owner_of handles, shows, is) }, tt)
-
 -- the owner had been asked
-handed : (e : ℕ) (k : Core) (h : List Moment) (act : SwitchAct) (p n : ℕ) → IsExplained e k h
-    → owns k.display p k.display.front ≡ true → k.display.pending ≡ Some n
-    → Handed h (moment e k act) k.display.front p n
-handed e k h act p n explained mine waits =
-    let d = k.display in
-    let owned : owner_of (console d d.front).handling ≡ Some p =
-    named p (owner_of (console d d.front).handling) mine in
-    let w : WasAskedFor e k h n = explained n waits in
+handed : (m : Moment) (h : List Moment) (p n : ℕ) → IsExplained m.entry m.before h
+    → IsLetGo m.before.display m.before.display.front p n
+    → Handed h m m.before.display.front p n
+handed m h p n explained goes =
+    let d : Display = m.before.display in
+    let w : WasAskedFor m.entry m.before h n = explained n goes.waits in
     record {
-      owner = owned;
-      waits = waits;
-      asked = subst (λ owner. Since (Quiet d.front n) (Raises e d.front owner n) h)
-          (same_number w.owner p (sym w.owned ∙ owned)) w.asked;
+      owner = goes.owner;
+      waits = goes.waits;
+      asked = subst (λ owner. Since (Quiet d.front n) (Raises m.entry d.front owner n) h)
+          (same_number w.owner p (sym w.owned ∙ goes.owner)) w.asked;
     }
 
--- a hop at a release
-released_allowed : (e : ℕ) (k : Core) (h : List Moment) (c p arg : ℕ)
-    (mine keeps goes knows here : Bool) (waits : Option ℕ) → IsExplained e k h
-    → owns k.display p c ≡ mine → (arg == 1) ≡ goes → (c == k.display.front) ≡ here
-    → k.display.pending ≡ waits
-    → EachAllowed h (moment e k (Release c p arg))
-    (hop_list (hop_of_released
-    (cond (not mine) (Err inval) (cond keeps (kept (cond here waits None))
-    (cond goes (let_go k.display p (cond here waits None)) (cond knows (Ok None) (Err inval)))))))
-released_allowed e k h c p arg false keeps goes knows here waits explained owned one front pend = tt
-released_allowed e k h c p arg true true goes knows true None explained owned one front pend = tt
-released_allowed e k h c p arg true true goes knows true (Some n) explained owned one front pend = tt
-released_allowed e k h c p arg true true goes knows false waits explained owned one front pend = tt
-released_allowed e k h c p arg true false true knows false waits explained owned one front pend = tt
-released_allowed e k h c p arg true false true knows true None explained owned one front pend = tt
-released_allowed e k h c p arg true false true knows true (Some n) explained owned one front pend =
-    let at : c ≡ k.display.front = equal c k.display.front front in
-    let lets : arg ≡ 1 = equal arg 1 one in (
-      record {
-        from = refl;
-        because = (
-          (λ i. Release (at i) p (lets i)),
-          handed e k h (Release c p arg) p n explained
-              (sym (ap (λ a. owns k.display p a) at) ∙ owned) pend,
-        );
-      },
-      tt,
-    )
-released_allowed e k h c p arg true false false true here waits explained owned one front pend = tt
-released_allowed e k h c p arg true false false false here waits explained owned one front pend = tt
+-- a hop that is due was allowed, where what waits is explained before a release or an end
+because : (m : Moment) (h : List Moment) (n : ℕ) (cause : Cause)
+    → (settles m.act ≡ true → IsExplained m.entry m.before h)
+    → DueBy m.before.display m.act m.before.display.front n cause
+    → AllowedBy h m m.before.display.front n cause
+because m h n cause.Free explained due = due
+because m h n (cause.Released p) explained due =
+    (due.0, handed m h p n (explained (ap settles due.0)) due.1)
+because m h n (cause.Died p) explained due =
+    (due.0, handed m h p n (explained (ap settles due.0)) due.1)
 
--- a hop at an end
-ended_allowed : (e : ℕ) (k : Core) (h : List Moment) (p : ℕ) (mine : Bool) (waits : Option ℕ)
-    → IsExplained e k h → owns k.display p k.display.front ≡ mine → k.display.pending ≡ waits
-    → EachAllowed h (moment e k (End p))
-    (hop_list (cond mine (falls_to k.display p waits) None))
-ended_allowed e k h p false waits explained owned pend = tt
-ended_allowed e k h p true None explained owned pend = tt
-ended_allowed e k h p true (Some n) explained owned pend =
-    (record { from = refl; because = (refl, handed e k h (End p) p n explained owned pend) }, tt)
-
--- the hop of an act was allowed, where what waits is explained before a release or an end
-by_act : (e : ℕ) (k : Core) (h : List Moment) (act : SwitchAct)
-    → (settles act ≡ true → IsExplained e k h)
-    → EachAllowed h (moment e k act) (hop_list (hop_of k.display act))
-by_act e k h (Allocate n) explained = tt
-by_act e k h (Request n) explained =
-    let d = k.display in
-    asked_allowed e k h n (not (is_allocated d n)) (n == d.front) d.locked
-    (console d d.front).graphics (console d d.front).handling refl refl refl
-by_act e k h (Release c p arg) explained =
-    let d = k.display in
-    released_allowed e k h c p arg (owns d p c) (arg == 0) (arg == 1) (arg == 2) (c == d.front)
-    d.pending (explained refl) refl refl refl refl
-by_act e k h (SetMode c p m) explained = tt
-by_act e k h (SetKd c graphics) explained = tt
-by_act e k h (Lock on) explained = tt
-by_act e k h (Free n) explained = tt
-by_act e k h (End p) explained =
-    ended_allowed e k h p (owns k.display p k.display.front) k.display.pending (explained refl) refl
-    refl
+by_hop : (m : Moment) (h : List Moment) (hop : Option Hop)
+    → (settles m.act ≡ true → IsExplained m.entry m.before h)
+    → IfSome hop (IsDue m.before.display m.act) → EachAllowed h m (option_to_list hop)
+by_hop m h None explained due = tt
+by_hop m h (Some hop) explained due = (
+  record {
+    from = due.from;
+    because = subst (λ a. AllowedBy h m a hop.to hop.cause) (sym due.from)
+        (because m h hop.to hop.cause explained
+        (subst (λ a. DueBy m.before.display m.act a hop.to hop.cause) due.from due.because));
+  },
+  tt,
+)
 
 pub allowed : (e : ℕ) (k : Core) (h : List Moment) (act : SwitchAct)
     → (settles act ≡ true → IsExplained e k h)
     → EachAllowed h (moment e k act) (hops (trace (moment e k act)))
 allowed e k h act explained =
-    subst (EachAllowed h (moment e k act)) (sym (hops_of_marks k act)) (by_act e k h act explained)
+    subst (EachAllowed h (moment e k act)) (sym (hops_of_marks k act))
+    (by_hop (moment e k act) h (hop_of k.display act) explained (hops-are-due k.display act))

@@ -1,8 +1,9 @@
 -- The display law: why each hop was allowed. This project's own.
-use Rattle.std.specs.Prelude.{◌≡◌, ⊤, ◌⊎◌, ◌<◌, ℕ, true, false, List, [], ◌∷◌, length, Option, Some, None}
-use Rattle.vt_switch.specs.Acts.{SwitchAct, Release, End}
-use Rattle.vt_switch.specs.Display.{console, owner_of}
+use Rattle.std.specs.Prelude.{◌≡◌, ⊤, ◌⊎◌, ◌<◌, ℕ, true, false, List, [], ◌∷◌, length, Option, Some, None, IfSome}
+use Rattle.vt_switch.specs.Acts.{SwitchAct, Release, End, hop_of}
+use Rattle.vt_switch.specs.Display.{Display, console, owner_of}
 use Rattle.vt_switch.specs.Moments.{Core, Moment, after_entries, history, hops, is_live, is_ordered, left, refuses, sets_mode, trace}
+use Rattle.vt_switch.specs.News.{news}
 use Rattle.vt_switch.specs.declared.cause.Cause.{Cause}
 use Rattle.vt_switch.specs.declared.cause.Cause.TheVariants.{Free, Released, Died}
 use Rattle.vt_switch.specs.declared.handling.Handling.{Handling}
@@ -30,11 +31,11 @@ pub record Raises (i a p n : ℕ) (m : Moment) : Type 0 where
   pub raised : trace m ≡ mark.Asked n ∷ mark.Raised p signal ∷ []
   pub target : (left m).display.pending ≡ Some n
 
--- no accepted set mode of a, no accepted refusal of a, no hop, and n still waits
+-- no accepted set mode of a, no accepted refusal of a, no hop and nobody asked, and n still waits
 pub record Quiet (a n : ℕ) (m : Moment) : Type 0 where
   pub no_mode : sets_mode a m.before m.act ≡ false
   pub no_refusal : refuses a m.before m.act ≡ false
-  pub no_hop : hops (trace m) ≡ []
+  pub no_news : news (trace m) ≡ []
   pub target : (left m).display.pending ≡ Some n
 
 -- p handled the switches of a, n waited, and a's release signal had been raised to p for it
@@ -42,6 +43,29 @@ pub record Handed (earlier : List Moment) (m : Moment) (a p n : ℕ) : Type 0 wh
   pub owner : owner_of (console m.before.display a).handling ≡ Some p
   pub waits : m.before.display.pending ≡ Some n
   pub asked : Since (Quiet a n) (Raises m.entry a p n) earlier
+
+-- what the display was and what was done, where an act moves it: the console in front handled its
+-- switches itself and showed text, and switching wasn't locked; or its owner let the display go to
+-- what waited; or its owner ended
+pub record IsLetGo (d : Display) (a p n : ℕ) : Type 0 where
+  pub owner : owner_of (console d a).handling ≡ Some p
+  pub waits : d.pending ≡ Some n
+
+abbrev pub DueBy : Display → SwitchAct → ℕ → ℕ → Cause → Type 0
+DueBy d act a n Free =
+    (owner_of (console d a).handling ≡ None)
+    × ((console d a).graphics ≡ false)
+    × (d.locked ≡ false)
+DueBy d act a n (Released p) = (act ≡ Release a p 1) × IsLetGo d a p n
+DueBy d act a n (Died p) = (act ≡ End p) × IsLetGo d a p n
+
+pub record IsDue (d : Display) (act : SwitchAct) (hop : Hop) : Type 0 where
+  pub from : hop.from ≡ d.front
+  pub because : DueBy d act hop.from hop.to hop.cause
+
+-- in every display, whatever came before, a hop that an act makes is due
+abbrev pub HopsAreDue : Type 0
+HopsAreDue = (d : Display) (act : SwitchAct) → IfSome (hop_of d act) (IsDue d act)
 
 -- the console in front handled its switches itself and showed text, and switching wasn't locked; or
 -- its owner let the display go; or its owner died

@@ -4,3 +4,4 @@ pub mod Deaths
 pub mod Display
 pub mod Law
 pub mod Moments
+pub mod News

@@ -1,6 +1,7 @@
 //! The laws of the switch.
 ghost use Rattle.vt_switch.specs.Acts.{OnlyHopsSwitch};
-ghost use Rattle.vt_switch.specs.Law.{DisplayLaw, OwnersStayLive, TargetLaw};
+ghost use Rattle.vt_switch.specs.Law.{DisplayLaw, HopsAreDue, OwnersStayLive, TargetLaw};
+ghost use Rattle.vt_switch.specs.News.{OneHopIsTold, OneNewsIsTold};
 
 /// Each act of the switch changes the console in front by its hop alone.
 pub fn only_hops_switch()
@@ -18,4 +19,11 @@ pub fn each_hop_was_allowed()
 pub fn each_target_was_asked_for()
     ensures asked { TargetLaw }
     ensures owners { OwnersStayLive }
+{}
+
+/// What one act tells of the display, and to what its hop is due, whatever came before.
+pub fn acts_tell_one_thing()
+    ensures due { HopsAreDue }
+    ensures hop { OneHopIsTold }
+    ensures news { OneNewsIsTold }
 {}

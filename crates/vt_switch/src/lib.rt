@@ -26,7 +26,9 @@ pub use console::Console;
 pub use handling::Handling;
 pub use handshake::Handshake;
 pub use hop::Hop;
-pub use laws::{each_hop_was_allowed, each_target_was_asked_for, only_hops_switch};
+pub use laws::{
+    acts_tell_one_thing, each_hop_was_allowed, each_target_was_asked_for, only_hops_switch,
+};
 pub use mark::Mark;
 pub use state::Switch;
 pub use words::Words;

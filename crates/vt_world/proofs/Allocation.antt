@@ -297,7 +297,7 @@ disallocate_keeps w p fd n accepted has =
 row_keeps : (w : WorldState) (p : ℕ) (e : Event) → first_refusal (own_refusals w p e) ≡ None
     → HasTerminals w → HasTerminals (all_done w (row w p e).deeds)
 row_keeps w p (event.Scan b) accepted has =
-    quiet_keeps w (row w p (event.Scan b)).deeds (scan_quiet w w.display.front b) has
+    quiet_keeps w (row w p (event.Scan b)).deeds (scan_quiet w _ w.display.front b) has
 row_keeps w p (event.OpenCon n) accepted has = starts_keeps w (named w n) has
 row_keeps w p (event.Activate fd n) accepted has =
     acted_keeps (done (done w (By (Allocate n))) (Own (Starts n))) (Request n) refl
@@ -353,9 +353,9 @@ taken_alike consoles one other (n ∷ numbers) =
     ∙ ap (λ (list : List Bool). is_some (cond (is_among consoles n) (Some other) None) ∷ list)
     (taken_alike consoles one other numbers)
 
-pub opening_has : (rows cols consoles front : ℕ) (processes : List ProcStart) (tables : Tables)
-    → HasTerminals (opening rows cols consoles front processes tables)
-opening_has rows cols consoles front processes tables =
+pub opening_has : (rows cols consoles front keyboards : ℕ) (processes : List ProcStart) (tables : Tables)
+    → HasTerminals (opening rows cols consoles front keyboards processes tables)
+opening_has rows cols consoles front keyboards processes tables =
     taken_alike consoles (new_terminal rows cols) fresh (range_with_len 0 64)
 
 replay_keeps : (w : WorldState) (entries : List Entry) → HasTerminals w
@@ -368,7 +368,7 @@ replay_keeps w (entry ∷ entries) has =
 pub start_has : (w : WorldState) → IsStart w → HasTerminals w
 start_has w start =
     subst HasTerminals (sym start.opened)
-    (opening_has start.rows start.cols start.consoles start.front start.processes start.tables)
+    (opening_has start.rows start.cols start.consoles start.front start.keyboards start.processes start.tables)
 
 pub terminals-are-allocated : TerminalsAreAllocated
 terminals-are-allocated w entries start = replay_keeps w entries (start_has w start)

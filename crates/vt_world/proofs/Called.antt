@@ -66,7 +66,7 @@ row_called : (w : WorldState) (p : ℕ) (e : Event)
     → AllCalled w p e (all_acts (cleared w) (row (cleared w) p e).deeds)
 row_called w p (event.Scan b) =
     let v : WorldState = cleared w in
-    all_quiet w p (event.Scan b) v (row v p (event.Scan b)).deeds (scan_quiet v w.display.front b)
+    all_quiet w p (event.Scan b) v (row v p (event.Scan b)).deeds (scan_quiet v _ w.display.front b)
 row_called w p (event.Write fd b) =
     let v : WorldState = cleared w in
     let c : ℕ = target w p fd in

@@ -20,7 +20,7 @@ use Rattle.vt_switch.specs.declared.hop.Hop.{Hop}
 use Rattle.vt_switch.specs.declared.mark.Mark.{Mark}
 use Rattle.vt_switch.specs.declared.mark.Mark.TheVariants as mark
 use Rattle.vt_world.specs.Acts.{acts_of, all_acts, request_of}
-use Rattle.vt_world.specs.Deeds.{Deed, By, Asks, Own, OwnDeed, Starts, Clears, Writes, Alters, Puts, Takes, Lights, Keyed, Scanned, Mapped, Types, Opens, Shuts, Waits, Collects, Receives, Accepts, Raises, acted, all_done, done, own_done, requested}
+use Rattle.vt_world.specs.Deeds.{Deed, By, Asks, Own, OwnDeed, Starts, Clears, Writes, Alters, Puts, Takes, Lights, Keyed, Scanned, Coded, Mapped, Types, Unplugs, Opens, Shuts, Waits, Collects, Receives, Accepts, Raises, acted, all_done, done, own_done, requested}
 use Rattle.vt_world.specs.Heard.{heard, heard_by, tell}
 use Rattle.vt_world.specs.Inputs.{comes, input_at}
 use Rattle.vt_world.specs.State.{WorldState, core}
@@ -177,9 +177,11 @@ own_core w (Puts n piece) =
 own_core w (Takes n count) = refl
 own_core w (Lights n lights) = refl
 own_core w (Keyed n state) = refl
-own_core w (Scanned scanner) = refl
+own_core w (Scanned k scanner) = refl
+own_core w (Coded scan code) = refl
 own_core w (Mapped tables) = refl
 own_core w (Types n keys state) = refl
+own_core w (Unplugs p) = refl
 own_core w (Opens p c) =
     let new : Process = adds_open (caller_at w.callers p) c in
     same_core w (with_caller w.callers p new) (with_kept w.callers p new refl)

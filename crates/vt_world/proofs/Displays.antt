@@ -51,7 +51,7 @@ history_ordered w (entry ∷ entries) = (
   history_ordered (step w entry.caller entry.event).world entries,
 )
 
-replay_core : (w : WorldState) (entries : List Entry)
+pub replay_core : (w : WorldState) (entries : List Entry)
     → after_entries (core w) (history_acts w entries) ≡ core (replay w entries)
 replay_core w [] = refl
 replay_core w (entry ∷ entries) =
@@ -60,7 +60,7 @@ replay_core w (entry ∷ entries) =
     (sym (acts-make-cores w entry.caller entry.event))
     ∙ replay_core next entries
 
-acts_length : (w : WorldState) (entries : List Entry)
+pub acts_length : (w : WorldState) (entries : List Entry)
     → length (history_acts w entries) ≡ length entries
 acts_length w [] = refl
 acts_length w (entry ∷ entries) =
@@ -81,9 +81,9 @@ all_fresh consoles (n ∷ numbers) (suc c) = all_fresh consoles numbers c
 nobody : {X : Type 0} (p : ℕ) → None ≡ Some p → X
 nobody p same = absurd (true≢false (sym (ap (λ (o : Option ℕ). is_some o) same)))
 
-opening_owners : (rows cols consoles front : ℕ) (processes : List ProcStart) (tables : Tables)
-    → OwnersLive (core (opening rows cols consoles front processes tables))
-opening_owners rows cols consoles front processes tables c p owned =
+opening_owners : (rows cols consoles front keyboards : ℕ) (processes : List ProcStart) (tables : Tables)
+    → OwnersLive (core (opening rows cols consoles front keyboards processes tables))
+opening_owners rows cols consoles front keyboards processes tables c p owned =
     nobody p
     (sym (ap (λ (place : Console). owner_of place.handling)
     (all_fresh consoles (range_with_len 0 64) c))
@@ -92,7 +92,7 @@ opening_owners rows cols consoles front processes tables c p owned =
 start_owners : (w : WorldState) → IsStart w → OwnersLive (core w)
 start_owners w start =
     subst (λ (x : WorldState). OwnersLive (core x)) (sym start.opened)
-    (opening_owners start.rows start.cols start.consoles start.front start.processes start.tables)
+    (opening_owners start.rows start.cols start.consoles start.front start.keyboards start.processes start.tables)
 
 nothing_waits : (w : WorldState) → IsStart w → w.display.pending ≡ None
 nothing_waits w start = ap (λ (x : WorldState). x.display.pending) start.opened

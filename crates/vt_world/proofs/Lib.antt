@@ -9,6 +9,7 @@ mod Freed
 mod Histories
 mod Lives
 mod Masks
+mod Moments
 mod Opening
 mod Orders
 mod Places
@@ -21,9 +22,12 @@ mod Sizes
 mod Stays
 mod Steps
 mod Taping
+mod Tellings
 mod Traces
+mod Translations
 mod Truths
 mod Typed
+mod Untouched
 mod Users
 pub mod Waits
 mod Writes

@@ -1,12 +1,13 @@
 -- Whose ticket a step opens, and that none is open at a start.
-use Rattle.std.proofs.Common.{◌≡◌, ◌⊎◌, ℕ, zero, suc, ◌-◌, true, false, inl, inr, List, [], ◌∷◌, get_or, map, Option, Some, None, refl, sym, subst}
+use Rattle.std.proofs.Common.{◌≡◌, ◌⊎◌, ℕ, zero, suc, ◌-◌, Bool, true, false, cond, inl, inr, List, [], ◌∷◌, get_or, map, Option, Some, None, refl, sym, subst}
 use Rattle.std.specs.List.{range_with_len}
-use Rattle.std.specs.Prelude.{◌==◌, slice_get, if◌then◌else◌}
-use Rattle.vt_events.specs.declared.event.Event.{Event}
+use Rattle.std.specs.Prelude.{◌==◌, nat_lt, slice_get}
+use Rattle.vt_base.specs.Limits.{processes}
 use Rattle.vt_events.specs.declared.reply.Reply.TheVariants as reply
 use Rattle.vt_procs.specs.Callers.{Callers, caller_at, caller_of, keyboard, no_caller, starting}
 use Rattle.vt_procs.specs.Tickets.{is_open, settled, waits, with_waiting}
 use Rattle.vt_procs.specs.declared.proc_start.ProcStart.{ProcStart}
+use Rattle.vt_procs.specs.declared.process.Process.{Process}
 use Rattle.vt_procs.specs.declared.waiting.Waiting.TheVariants.{Open}
 use Rattle.vt_world.proofs.Ages.{AllAge, at-set, settled-age, then_all}
 use Rattle.vt_world.proofs.Steps.{by_step, outcome}
@@ -49,18 +50,25 @@ shut_of : (start : Option ProcStart) → is_open (caller_of start).waiting ≡ f
 shut_of None = refl
 shut_of (Some start) = refl
 
-starts_shut : (starts : List ProcStart) (n : ℕ) → is_open (starting starts n).waiting ≡ false
-starts_shut starts n =
-    elim (n == 0) as (λ b. is_open (if b then keyboard else caller_of (slice_get starts (n - 1))).waiting ≡ false)
-    [ true ↦ refl | false ↦ shut_of (slice_get starts (n - 1)) ]
+either-shut : (b : Bool) (x y : Process) → is_open x.waiting ≡ false → is_open y.waiting ≡ false
+    → is_open (cond b x y).waiting ≡ false
+either-shut true x y first second = first
+either-shut false x y first second = second
 
-all_shut : (starts : List ProcStart) (numbers : List ℕ) (p : ℕ)
-    → is_open (get_or (map (starting starts) numbers) p no_caller).waiting ≡ false
-all_shut starts [] p = refl
-all_shut starts (n ∷ numbers) zero = starts_shut starts n
-all_shut starts (n ∷ numbers) (suc p) = all_shut starts numbers p
+starts_shut : (keyboards : ℕ) (starts : List ProcStart) (n : ℕ) → is_open (starting keyboards starts n).waiting ≡ false
+starts_shut keyboards starts n =
+    let process : Process = caller_of (slice_get starts (n - 1)) in
+    let further : Process = keyboard keyboards (n - processes) in
+    either-shut (n == 0) (keyboard keyboards 0) (cond (nat_lt processes n) further process) refl
+    (either-shut (nat_lt processes n) further process refl (shut_of (slice_get starts (n - 1))))
+
+all_shut : (keyboards : ℕ) (starts : List ProcStart) (numbers : List ℕ) (p : ℕ)
+    → is_open (get_or (map (starting keyboards starts) numbers) p no_caller).waiting ≡ false
+all_shut keyboards starts [] p = refl
+all_shut keyboards starts (n ∷ numbers) zero = starts_shut keyboards starts n
+all_shut keyboards starts (n ∷ numbers) (suc p) = all_shut keyboards starts numbers p
 
 pub nobody-waits-at-start : NobodyWaitsAtStart
 nobody-waits-at-start w start p =
     subst (λ (x : WorldState). is_waiting x p ≡ false) (sym start.opened)
-    (all_shut start.processes (range_with_len 0 65) p)
+    (all_shut start.keyboards start.processes (range_with_len 0 68) p)

@@ -1,10 +1,11 @@
--- In no event a request comes before a release or an end.
+-- In no event a request comes before a release, an end or a signal that is raised by itself.
 use Rattle.std.proofs.Common.{◌≡◌, ℕ, Bool, true, false, cond, List, [], ◌∷◌, ◌++◌, filter, flat_map, Option, Some, None, refl}
 use Rattle.std.specs.List.{range_with_len}
-use Rattle.std.specs.Prelude.{◌&&◌, ◌||◌, ◌==◌, not}
+use Rattle.std.specs.Prelude.{unwrap_or, ◌&&◌, ◌||◌, ◌==◌, not}
 use Rattle.key_machine.specs.declared.key_out.KeyOut.{KeyOut}
 use Rattle.key_machine.specs.declared.key_out.KeyOut.TheVariants as heard
-use Rattle.scan_codes.specs.Scan.{event_after}
+use Rattle.vt_base.specs.Keyboards.{keyboard_of}
+use Rattle.scan_codes.specs.Scan.{Scan, event_after}
 use Rattle.scan_codes.specs.declared.key_event.KeyEvent.{KeyEvent}
 use Rattle.vt_events.specs.declared.event.Event.{Event}
 use Rattle.vt_events.specs.declared.event.Event.TheVariants as event
@@ -22,18 +23,20 @@ use Rattle.vt_world.specs.Rows.{freeing, out_deeds, row, waits_unless}
 use Rattle.vt_world.specs.State.{WorldState}
 use Rattle.vt_world.specs.Terminals.{said_of, terminal_at}
 use Rattle.vt_world.specs.Refusals.{is_empty, is_in_use, target}
-use Rattle.vt_world.specs.Typing.{ends_of, key_deeds, key_on, key_out_deeds, read_deeds, spawn_deeds, users}
+use Rattle.vt_world.specs.Typing.{ends_of, key_deeds, key_on, key_out_deeds, read_deeds, scanner_of, spawn_deeds, users}
 use Rattle.vt_world.specs.Wanted.{wanted_in}
 
 -- the order in deeds: a deed that asks for a console stands for a request
-abbrev asks : Deed → Bool
+abbrev pub asks : Deed → Bool
 asks (By act) = is_request act
 asks (Asks wanted) = true
 asks (Own deed) = false
 
-abbrev ends : Deed → Bool
+-- what comes after no request
+abbrev pub ends : Deed → Bool
 ends (By act) = settles act
 ends (Asks wanted) = false
+ends (Own (Raises p signal)) = true
 ends (Own deed) = false
 
 abbrev pub in_order : Bool → List Deed → Bool
@@ -84,7 +87,7 @@ acts_ordered asked w (Own deed ∷ deeds) ordered =
     let rest : Bool = in_order (asked || false) deeds in
     or_not asked (all_acts (done w (Own deed)) deeds)
     (acts_ordered (asked || false) (done w (Own deed)) deeds
-    (right_of (not (asked && false)) rest ordered))
+    (right_of (not (asked && ends (Own deed))) rest ordered))
 
 -- what a text says asks, and ends nothing
 outs_ordered : (asked : Bool) (c : ℕ) (said : List Out)
@@ -134,29 +137,30 @@ key_ordered w n heard.Spawn = spawn_ordered w.callers.accepter
 key_ordered w n heard.Attention = ends_ordered (users w n) n
 key_ordered w n heard.Nothing = refl
 
-typed_ordered : (w : WorldState) (n : ℕ) (e : Option KeyEvent)
-    → in_order false (key_deeds w n e) ≡ true
-typed_ordered w n None = refl
-typed_ordered w n (Some e) = key_ordered w n (key_on w n e).out
+typed_ordered : (w : WorldState) (k n : ℕ) (e : Option KeyEvent)
+    → in_order false (key_deeds w k n e) ≡ true
+typed_ordered w k n None = refl
+typed_ordered w k n (Some e) = key_ordered w n (key_on w k n e).out
 
-read_ordered : (w : WorldState) (n b : ℕ) → in_order false (read_deeds w n b) ≡ true
-read_ordered w n b =
-    typed_ordered w n (event_after w.board.scanner.codes w.board.scanner.bytes b)
+read_ordered : (w : WorldState) (k n b : ℕ) → in_order false (read_deeds w k n b) ≡ true
+read_ordered w k n b =
+    let scanner : Scan = scanner_of w.board.scanners k in
+    typed_ordered w k n (event_after scanner.codes scanner.bytes b)
 
-scan_ordered : (raw : Bool) (w : WorldState) (n b : ℕ)
-    → in_order false (cond raw (Own (Puts n (b ∷ [])) ∷ read_deeds w n b) (read_deeds w n b)) ≡ true
-scan_ordered true w n b = read_ordered w n b
-scan_ordered false w n b = read_ordered w n b
+scan_ordered : (raw : Bool) (w : WorldState) (k n b : ℕ)
+    → in_order false (cond raw (Own (Puts n (b ∷ [])) ∷ read_deeds w k n b) (read_deeds w k n b)) ≡ true
+scan_ordered true w k n b = read_ordered w k n b
+scan_ordered false w k n b = read_ordered w k n b
 
 wait_ordered : (there : Bool) (p : ℕ) (ticket : Ticket)
     → in_order false (waits_unless there p ticket).deeds ≡ true
 wait_ordered true p ticket = refl
 wait_ordered false p ticket = refl
 
--- no row has a request before a release or an end
+-- no row has a request before any of these
 pub row_ordered : (w : WorldState) (p : ℕ) (e : Event) → in_order false (row w p e).deeds ≡ true
 row_ordered w p (event.Scan b) =
-    scan_ordered ((input_at w.inputs w.display.front).keys.mode == 0) w w.display.front b
+    scan_ordered ((input_at w.inputs w.display.front).keys.mode == 0) w (unwrap_or (keyboard_of p) 0) w.display.front b
 row_ordered w p (event.Write fd b) =
     outs_ordered false (target w p fd) (said_of (terminal_at w.terminals (target w p fd)) b.bytes)
 row_ordered w p (event.WaitInput fd) =

@@ -5,7 +5,7 @@ use Rattle.std.specs.List.{list_all}
 use Rattle.std.specs.Prelude.{◌==◌}
 use Rattle.key_machine.specs.declared.key_out.KeyOut.{KeyOut}
 use Rattle.key_machine.specs.declared.key_out.KeyOut.TheVariants as heard
-use Rattle.scan_codes.specs.Scan.{event_after}
+use Rattle.scan_codes.specs.Scan.{Scan, event_after}
 use Rattle.scan_codes.specs.declared.key_event.KeyEvent.{KeyEvent}
 use Rattle.vt_procs.specs.declared.ticket.Ticket.{Ticket}
 use Rattle.vt_screen.specs.declared.out.Out.{Out}
@@ -15,7 +15,7 @@ use Rattle.vt_world.specs.Deeds.{Deed, Alters, Asks, By, Clears, Own, OwnDeed, P
 use Rattle.vt_world.specs.Inputs.{input_at}
 use Rattle.vt_world.specs.Rows.{out_deeds, waits_unless}
 use Rattle.vt_world.specs.State.{WorldState}
-use Rattle.vt_world.specs.Typing.{ends_of, key_deeds, key_on, key_out_deeds, read_deeds, scan_deeds, spawn_deeds, users}
+use Rattle.vt_world.specs.Typing.{ends_of, key_deeds, key_on, key_out_deeds, read_deeds, scan_deeds, scanner_of, spawn_deeds, users}
 
 abbrev pub is_quiet_act : SwitchAct → Bool
 is_quiet_act (Allocate n) = false
@@ -66,19 +66,22 @@ key_quiet w n heard.Spawn = spawn_quiet w.callers.accepter
 key_quiet w n heard.Attention = ends_quiet (users w n) n
 key_quiet w n out = refl
 
-typed_quiet : (w : WorldState) (n : ℕ) (e : Option KeyEvent) → are_quiet (key_deeds w n e) ≡ true
-typed_quiet w n None = refl
-typed_quiet w n (Some e) = key_quiet w n (key_on w n e).out
+typed_quiet : (w : WorldState) (k n : ℕ) (e : Option KeyEvent) → are_quiet (key_deeds w k n e) ≡ true
+typed_quiet w k n None = refl
+typed_quiet w k n (Some e) = key_quiet w n (key_on w k n e).out
 
-scan_if : (raw : Bool) (w : WorldState) (n b : ℕ)
-    → are_quiet (cond raw (Own (Puts n (b ∷ [])) ∷ read_deeds w n b) (read_deeds w n b)) ≡ true
-scan_if true w n b =
-    typed_quiet w n (event_after w.board.scanner.codes w.board.scanner.bytes b)
-scan_if false w n b =
-    typed_quiet w n (event_after w.board.scanner.codes w.board.scanner.bytes b)
+read_quiet : (w : WorldState) (k n b : ℕ) → are_quiet (read_deeds w k n b) ≡ true
+read_quiet w k n b =
+    let scanner : Scan = scanner_of w.board.scanners k in
+    typed_quiet w k n (event_after scanner.codes scanner.bytes b)
 
-pub scan_quiet : (w : WorldState) (n b : ℕ) → are_quiet (scan_deeds w n b) ≡ true
-scan_quiet w n b = scan_if ((input_at w.inputs n).keys.mode == 0) w n b
+scan_if : (raw : Bool) (w : WorldState) (k n b : ℕ)
+    → are_quiet (cond raw (Own (Puts n (b ∷ [])) ∷ read_deeds w k n b) (read_deeds w k n b)) ≡ true
+scan_if true w k n b = read_quiet w k n b
+scan_if false w k n b = read_quiet w k n b
+
+pub scan_quiet : (w : WorldState) (k n b : ℕ) → are_quiet (scan_deeds w k n b) ≡ true
+scan_quiet w k n b = scan_if ((input_at w.inputs n).keys.mode == 0) w k n b
 
 pub wait_quiet : (there : Bool) (p : ℕ) (ticket : Ticket)
     → are_quiet (waits_unless there p ticket).deeds ≡ true

@@ -1,8 +1,8 @@
 -- What was said before a tape is run changes nothing of its screen.
 use Rattle.std.proofs.Common.{◌≡◌, ℕ, Bool, true, false, cond, List, [], ◌∷◌, ◌++◌, map, refl, sym, ap, ◌∙◌}
-use Rattle.vt_screen.specs.Run.{Told, after, drawing, having_said, start}
+use Rattle.vt_screen.specs.Run.{Drawn, after, drawing, having_said, start}
 use Rattle.vt_screen.specs.Screen.{Screen, mode_of}
-use Rattle.vt_screen.specs.Tape.{AnyTapeCut, Mark, StretchesRun, Taped, byte, mark, marked, run_tape, with_mark}
+use Rattle.vt_screen.specs.Tape.{AnyTapeCut, Change, StretchesRun, Taped, byte, change, changed, run_tape, with_change}
 use Rattle.vt_screen.specs.declared.out.Out.{Out}
 use Rattle.vt_units.specs.Answer.{answer, rest_after}
 use Rattle.vt_units.specs.Rest.{Rest}
@@ -12,11 +12,11 @@ use Rattle.vt_units.specs.declared.then.Then as then
 use Rattle.vt_units.specs.declared.unit.Unit as units
 use Rattle.vt_world.specs.Tapes.{screen_of}
 
-abbrev saying : List Out → Screen → Told
+abbrev saying : List Out → Screen → Drawn
 saying outs s = record { screen = s; outs = outs }
 
 -- the screen, with the rest of the text
-abbrev seen : Reached Told → Reached Screen
+abbrev seen : Reached Drawn → Reached Screen
 seen at = reached at.state.screen at.rest
 
 -- the effect of what a byte comes to, with its tests as variables
@@ -37,12 +37,12 @@ runs_alike : (items : List Taped) (s : Screen) (rest : Rest) (a b : List Out)
     → seen (run_tape items (reached (saying a s) rest))
     ≡ seen (run_tape items (reached (saying b s) rest))
 runs_alike [] s rest a b = refl
-runs_alike (mark m ∷ items) s rest a b = runs_alike items (marked m s) rest a b
+runs_alike (change m ∷ items) s rest a b = runs_alike items (changed m s) rest a b
 runs_alike (byte n ∷ items) s rest a b =
     let read : Read = answer rest (mode_of s) n in
     let left : Rest = rest_after rest (mode_of s) n in
-    let one : Told = effects_of drawing read (saying a s) in
-    let other : Told = effects_of drawing read (saying b s) in
+    let one : Drawn = effects_of drawing read (saying a s) in
+    let other : Drawn = effects_of drawing read (saying b s) in
     runs_alike items one.screen left one.outs other.outs
     ∙ ap (λ (screen : Screen). seen (run_tape items (reached (saying other.outs screen) left)))
     (effect_alike read.got read.bad s a b)
@@ -51,15 +51,15 @@ runs_alike (byte n ∷ items) s rest a b =
 pub tape_writes : StretchesRun → AnyTapeCut → (rows cols : ℕ) (tape : List Taped) (bytes : List ℕ)
     → after (screen_of rows cols tape) bytes ≡ screen_of rows cols (tape ++ map byte bytes)
 tape_writes stretches cuts rows cols tape bytes =
-    let begin : Reached Told = having_said [] (start rows cols) in
-    let at : Reached Told = run_tape tape begin in
+    let begin : Reached Drawn = having_said [] (start rows cols) in
+    let at : Reached Drawn = run_tape tape begin in
     sym
     (ap seen (cuts tape (map byte bytes) begin)
     ∙ runs_alike (map byte bytes) at.state.screen at.rest at.state.outs []
     ∙ ap seen (stretches (seen at) bytes))
 
--- and a mark changes it
-pub tape_marks : AnyTapeCut → (rows cols : ℕ) (tape : List Taped) (m : Mark)
-    → with_mark m (screen_of rows cols tape) ≡ screen_of rows cols (tape ++ mark m ∷ [])
-tape_marks cuts rows cols tape m =
-    sym (ap seen (cuts tape (mark m ∷ []) (having_said [] (start rows cols))))
+-- and a change changes it
+pub tape_changes : AnyTapeCut → (rows cols : ℕ) (tape : List Taped) (m : Change)
+    → with_change m (screen_of rows cols tape) ≡ screen_of rows cols (tape ++ change m ∷ [])
+tape_changes cuts rows cols tape m =
+    sym (ap seen (cuts tape (change m ∷ []) (having_said [] (start rows cols))))

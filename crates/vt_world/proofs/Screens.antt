@@ -11,14 +11,14 @@ use Rattle.vt_events.specs.declared.event.Event.{Event}
 use Rattle.vt_procs.specs.declared.proc_start.ProcStart.{ProcStart}
 use Rattle.vt_screen.specs.Run.{after, start}
 use Rattle.vt_screen.specs.Screen.{Screen}
-use Rattle.vt_screen.specs.Tape.{AnyTapeCut, Mark, StretchesRun, byte, mark, with_mark}
+use Rattle.vt_screen.specs.Tape.{AnyTapeCut, Change, StretchesRun, byte, change, with_change}
 use Rattle.vt_switch.specs.Acts.{SwitchAct, Request}
 use Rattle.vt_switch.specs.Display.{Display, fresh, is_allocated}
 use Rattle.vt_switch.specs.Moments.{core_after, marks, raise}
 use Rattle.vt_switch.specs.declared.mark.Mark as told
 use Rattle.vt_units.specs.Run.{Reached}
 use Rattle.vt_world.proofs.Allocation.{start_has, step_keeps}
-use Rattle.vt_world.proofs.Reruns.{tape_marks, tape_writes}
+use Rattle.vt_world.proofs.Reruns.{tape_changes, tape_writes}
 use Rattle.vt_world.proofs.Steps.{by_step}
 use Rattle.vt_world.proofs.Taping.{Tape, accepted_tape, begun, refused_tape, tape_by, tape_of_deeds, taped}
 use Rattle.vt_world.proofs.Truths.{equal, unequal}
@@ -67,9 +67,9 @@ no_machine a same =
 
 -- what each change of a terminal and of its tape keeps
 abbrev Keeps : ℕ → ℕ → (Option TerminalState → Option TerminalState) → (Tape → Tape) → Type 0
-Keeps rows cols change add =
+Keeps rows cols alter add =
     (terminal : Option TerminalState) (tape : Tape) → Shows rows cols terminal tape
-    → Shows rows cols (change terminal) (add tape)
+    → Shows rows cols (alter terminal) (add tape)
 
 starts_show : (rows cols new_rows new_cols : ℕ) → new_rows ≡ rows → new_cols ≡ cols
     → Keeps rows cols (λ terminal. Some (or_new new_rows new_cols terminal)) begun
@@ -97,48 +97,48 @@ writes_show laws rows cols bytes (Some t) (Some tape) shows =
     ∙ ap (λ (m : Reached Screen). Some m)
     (tape_writes laws.stretches laws.cuts rows cols tape bytes)
 
-alters_show : RunLaws → (rows cols : ℕ) (m : Mark)
-    → Keeps rows cols (option_map (altered_by m)) (taped (mark m ∷ []))
+alters_show : RunLaws → (rows cols : ℕ) (m : Change)
+    → Keeps rows cols (option_map (altered_by m)) (taped (change m ∷ []))
 alters_show laws rows cols m None None shows = refl
 alters_show laws rows cols m None (Some tape) shows = no_machine (screen_of rows cols tape) shows
 alters_show laws rows cols m (Some t) None shows = no_machine t.machine (sym shows)
 alters_show laws rows cols m (Some t) (Some tape) shows =
-    ap (λ (at : Reached Screen). Some (with_mark m at))
+    ap (λ (at : Reached Screen). Some (with_change m at))
     (same_machine t.machine (screen_of rows cols tape) shows)
-    ∙ ap (λ (at : Reached Screen). Some at) (tape_marks laws.cuts rows cols tape m)
+    ∙ ap (λ (at : Reached Screen). Some at) (tape_changes laws.cuts rows cols tape m)
 
 -- such a change at console n, as console c sees it
 abbrev changed : (Option TerminalState → Option TerminalState) → ℕ → List (Option TerminalState)
     → List (Option TerminalState)
-changed change n terminals = set terminals n (change (terminal_at terminals n))
+changed alter n terminals = set terminals n (alter (terminal_at terminals n))
 
-seen_change : (rows cols c n : ℕ) (here : Bool) (change : Option TerminalState → Option TerminalState)
+seen_change : (rows cols c n : ℕ) (here : Bool) (alter : Option TerminalState → Option TerminalState)
     (add : Tape → Tape) (terminals : List (Option TerminalState)) (tape : Tape)
-    → (n == c) ≡ here → c < length terminals → Keeps rows cols change add
+    → (n == c) ≡ here → c < length terminals → Keeps rows cols alter add
     → Shows rows cols (terminal_at terminals c) tape
-    → Shows rows cols (terminal_at (changed change n terminals) c) (cond here (add tape) tape)
-seen_change rows cols c n true change add terminals tape is room keeps shows =
-    ap (λ k. machine_of (terminal_at (changed change k terminals) c)) (equal n c is)
+    → Shows rows cols (terminal_at (changed alter n terminals) c) (cond here (add tape) tape)
+seen_change rows cols c n true alter add terminals tape is room keeps shows =
+    ap (λ k. machine_of (terminal_at (changed alter k terminals) c)) (equal n c is)
     ∙ ap machine_of
-    (get_or-set_same terminals c (change (terminal_at terminals c)) None room)
+    (get_or-set_same terminals c (alter (terminal_at terminals c)) None room)
     ∙ keeps (terminal_at terminals c) tape shows
-seen_change rows cols c n false change add terminals tape is room keeps shows =
+seen_change rows cols c n false alter add terminals tape is room keeps shows =
     ap machine_of
-    (get_or-set_other terminals n c (change (terminal_at terminals n)) None (unequal n c is))
+    (get_or-set_other terminals n c (alter (terminal_at terminals n)) None (unequal n c is))
     ∙ shows
 
 is_changed : (rows cols c n new_rows new_cols : ℕ)
-    (change : Option TerminalState → Option TerminalState) (add : Tape → Tape)
-    (terminals : List (Option TerminalState)) (tape : Tape) → Keeps rows cols change add
+    (alter : Option TerminalState → Option TerminalState) (add : Tape → Tape)
+    (terminals : List (Option TerminalState)) (tape : Tape) → Keeps rows cols alter add
     → IsShown rows cols c new_rows new_cols terminals tape
-    → IsShown rows cols c new_rows new_cols (changed change n terminals)
+    → IsShown rows cols c new_rows new_cols (changed alter n terminals)
     (cond (n == c) (add tape) tape)
-is_changed rows cols c n new_rows new_cols change add terminals tape keeps shown = record {
+is_changed rows cols c n new_rows new_cols alter add terminals tape keeps shown = record {
   rows_are = shown.rows_are;
   cols_are = shown.cols_are;
   room = subst (λ k. c < k)
-      (sym (length-set terminals n (change (terminal_at terminals n)))) shown.room;
-  shows = seen_change rows cols c n (n == c) change add terminals tape refl shown.room keeps
+      (sym (length-set terminals n (alter (terminal_at terminals n)))) shown.room;
+  shows = seen_change rows cols c n (n == c) alter add terminals tape refl shown.room keeps
       shown.shows;
 }
 
@@ -171,7 +171,7 @@ own_shows laws rows cols c w tape (Writes n bytes) shown =
     is_changed rows cols c n w.rows w.cols (option_map (written_on bytes)) (taped (map byte bytes))
     w.terminals tape (writes_show laws rows cols bytes) shown
 own_shows laws rows cols c w tape (Alters n m) shown =
-    is_changed rows cols c n w.rows w.cols (option_map (altered_by m)) (taped (mark m ∷ []))
+    is_changed rows cols c n w.rows w.cols (option_map (altered_by m)) (taped (change m ∷ []))
     w.terminals tape (alters_show laws rows cols m) shown
 own_shows laws rows cols c w tape (Raises p signal) shown =
     tell_shows rows cols c w tape (raise (core w) p signal) shown
@@ -272,11 +272,11 @@ new_shows rows cols consoles [] c = refl
 new_shows rows cols consoles (n ∷ numbers) zero = new_if (is_among consoles n) rows cols
 new_shows rows cols consoles (n ∷ numbers) (suc c) = new_shows rows cols consoles numbers c
 
-opening_shows : (rows cols consoles front : ℕ) (processes : List ProcStart) (tables : Tables)
+opening_shows : (rows cols consoles front keyboards : ℕ) (processes : List ProcStart) (tables : Tables)
     (c : ℕ) → c < 64
-    → ShownIn rows cols c (opening rows cols consoles front processes tables)
-    (tape_after (is_allocated (opening rows cols consoles front processes tables).display c) [] None)
-opening_shows rows cols consoles front processes tables c within = record {
+    → ShownIn rows cols c (opening rows cols consoles front keyboards processes tables)
+    (tape_after (is_allocated (opening rows cols consoles front keyboards processes tables).display c) [] None)
+opening_shows rows cols consoles front keyboards processes tables c within = record {
   rows_are = refl;
   cols_are = refl;
   room = within;
@@ -290,7 +290,7 @@ start_shows w start c within =
     (λ (x : WorldState).
     ShownIn start.rows start.cols c x (tape_after (is_allocated x.display c) [] None))
     (sym start.opened)
-    (opening_shows start.rows start.cols start.consoles start.front start.processes start.tables c
+    (opening_shows start.rows start.cols start.consoles start.front start.keyboards start.processes start.tables c
     within)
 
 pub screens-are-tapes : StretchesRun → AnyTapeCut → ScreensAreTapes

@@ -9,7 +9,7 @@ use Rattle.vt_events.specs.declared.event.Event.TheVariants as event
 use Rattle.vt_events.specs.declared.reply.Reply.{Reply}
 use Rattle.vt_events.specs.declared.reply.Reply.TheVariants as reply
 use Rattle.vt_procs.specs.declared.ticket.Ticket.TheVariants.{Active, Input}
-use Rattle.vt_screen.specs.Tape.{Taped, byte, mark, palette, resize, user_map}
+use Rattle.vt_screen.specs.Tape.{Taped, byte, change, palette, resize, user_map}
 use Rattle.vt_screen.specs.declared.out.Out.{Out}
 use Rattle.vt_world.proofs.Quiet.{are_quiet, is_quiet_act, is_quiet_own, outs_quiet, scan_quiet, sent_quiet, wait_quiet}
 use Rattle.vt_world.proofs.Truths.{differ, left_of, right_of}
@@ -36,7 +36,7 @@ abbrev pub tape_by : ℕ → Tape → OwnDeed → Tape
 tape_by c tape (Starts n) = cond (n == c) (begun tape) tape
 tape_by c tape (Clears n) = cond (n == c) None tape
 tape_by c tape (Writes n bytes) = cond (n == c) (taped (map byte bytes) tape) tape
-tape_by c tape (Alters n m) = cond (n == c) (taped (mark m ∷ []) tape) tape
+tape_by c tape (Alters n m) = cond (n == c) (taped (change m ∷ []) tape) tape
 tape_by c tape deed = tape
 
 abbrev pub tape_of_deeds : ℕ → Tape → List Deed → Tape
@@ -109,7 +109,7 @@ quiet_grows c tape deeds quiet = subst (Grows [] tape) (sym (leaves c tape deeds
 row_grows : (c : ℕ) (tape : Tape) (w : WorldState) (p : ℕ) (e : Event)
     → Grows (items_of w p c e) tape (tape_of_deeds c tape (row w p e).deeds)
 row_grows c tape w p (event.Scan b) =
-    quiet_grows c tape (row w p (event.Scan b)).deeds (scan_quiet w w.display.front b)
+    quiet_grows c tape (row w p (event.Scan b)).deeds (scan_quiet w _ w.display.front b)
 row_grows c tape w p (event.OpenCon n) = begins_if (named w n == c) tape
 row_grows c tape w p (event.Activate fd n) = begins_if (n == c) tape
 row_grows c tape w p (event.Write fd b) =
@@ -129,11 +129,11 @@ row_grows c tape w p (event.WaitActive fd n) =
 row_grows c tape w p (event.Disallocate fd n) =
     disallocate_grows (n == 0) c tape n (filter (λ k. not (is_in_use w k)) (range_with_len 1 63))
 row_grows c tape w p (event.Resize fd rows cols) =
-    grows_if (target w p fd == c) (mark (resize rows cols) ∷ []) tape
+    grows_if (target w p fd == c) (change (resize rows cols) ∷ []) tape
 row_grows c tape w p (event.SetMap fd b) =
-    grows_if (target w p fd == c) (mark (user_map (unwrap_or (words_in b.bytes) [])) ∷ []) tape
+    grows_if (target w p fd == c) (change (user_map (unwrap_or (words_in b.bytes) [])) ∷ []) tape
 row_grows c tape w p (event.SetPal fd b) =
-    grows_if (target w p fd == c) (mark (palette (unwrap_or (colours_in b.bytes) [])) ∷ []) tape
+    grows_if (target w p fd == c) (change (palette (unwrap_or (colours_in b.bytes) [])) ∷ []) tape
 row_grows c tape w p (event.Kill q s) =
     quiet_grows c tape (row w p (event.Kill q s)).deeds (sent_quiet (s == 9) q s)
 row_grows c tape w p e = stays tape

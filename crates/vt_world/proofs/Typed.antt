@@ -1,6 +1,6 @@
 -- What a key does hangs on none of what was done with its byte before.
 use Rattle.std.proofs.Common.{◌≡◌, ℕ, zero, suc, Bool, true, false, cond, List, [], ◌∷◌, Option, Some, None, refl, sym, ap, ◌∙◌}
-use Rattle.std.specs.Prelude.{◌==◌, ◌&&◌, ◌||◌, filter}
+use Rattle.std.specs.Prelude.{◌==◌, ◌&&◌, ◌||◌, filter, slice_set}
 use Rattle.std.specs.List.{range_with_len}
 use Rattle.in_queue.specs.Queue.{Queue}
 use Rattle.key_machine.specs.Keys.{Keys, State}
@@ -20,7 +20,8 @@ use Rattle.vt_world.specs.Deeds.{By, Deed, Own, Puts, Scanned, Types, all_done, 
 use Rattle.vt_world.specs.Inputs.{comes, input_at, keyed, with_bytes, with_queue}
 use Rattle.vt_world.specs.State.{WorldState}
 use Rattle.vt_world.specs.Terminals.{key_modes_of, terminal_at}
-use Rattle.vt_world.specs.Typing.{ends_of, key_deeds, key_on, key_out_deeds, read_by, read_deeds, scan_deeds, spawn_deeds, typed_deeds, uses}
+use Rattle.vt_world.specs.Typing.{ends_of, key_deeds, key_on, key_out_deeds, read_by, read_deeds, scan_deeds, scanner_of, spawn_deeds, typed_deeds, uses}
+use Rattle.vt_world.specs.declared.board.Board.{Board}
 use Rattle.vt_world.specs.declared.input.Input.{Input}
 
 -- the same processes use the console, and the same one accepts the key signal
@@ -84,38 +85,39 @@ keys-kept n q [] = refl
 keys-kept zero q (input ∷ inputs) = refl
 keys-kept (suc n) q (input ∷ inputs) = keys-kept n q inputs
 
-key-alike : (w : WorldState) (n : ℕ) (piece : List ℕ) (e : Option KeyEvent)
-    → key_deeds (with_input n piece w) n e ≡ key_deeds w n e
-key-alike w n piece None = refl
-key-alike w n piece (Some e) =
+key-alike : (w : WorldState) (k n : ℕ) (piece : List ℕ) (e : Option KeyEvent)
+    → key_deeds (with_input n piece w) k n e ≡ key_deeds w k n e
+key-alike w k n piece None = refl
+key-alike w k n piece (Some e) =
     let v : WorldState = with_input n piece w in
     let q : Queue = with_bytes (input_at w.inputs n).queue piece in
-    let step : State → Step = λ keys. key_step w.board.tables (key_modes_of (terminal_at w.terminals n)) e w.board.keyboard keys in
+    let step : State → Step = λ keys. key_step w.board.tables (key_modes_of (terminal_at w.terminals n)) k e w.board.keyboard keys in
     ap (λ (keys : State). typed_deeds v n (step keys)) (keys-kept n q w.inputs)
-    ∙ ap (λ (deeds : List Deed). Own (Types n (key_on w n e).keys (key_on w n e).state) ∷ deeds)
-    (key_out-alike v w n (key_on w n e).out (input-alike w n piece))
+    ∙ ap (λ (deeds : List Deed). Own (Types n (key_on w k n e).keys (key_on w k n e).state) ∷ deeds)
+    (key_out-alike v w n (key_on w k n e).out (input-alike w n piece))
 
 -- so a byte does the same whether or not it went into the queue
-pub read-alike : (w : WorldState) (n : ℕ) (piece : List ℕ) (b : ℕ)
-    → read_deeds (with_input n piece w) n b ≡ read_deeds w n b
-read-alike w n piece b =
-    ap (λ (deeds : List Deed). Own (Scanned (read_by w.board.scanner b)) ∷ deeds)
-    (key-alike w n piece (event_after w.board.scanner.codes w.board.scanner.bytes b))
+pub read-alike : (w : WorldState) (k n : ℕ) (piece : List ℕ) (b : ℕ)
+    → read_deeds (with_input n piece w) k n b ≡ read_deeds w k n b
+read-alike w k n piece b =
+    let scanner : Scan = scanner_of w.board.scanners k in
+    ap (λ (deeds : List Deed). Own (Scanned k (read_by scanner b)) ∷ deeds)
+    (key-alike w k n piece (event_after scanner.codes scanner.bytes b))
 
 -- a key is typed: the keyboard and the key state are left by it, and what it says is done
-pub typed-told : (w v : WorldState) (n : ℕ) (e : KeyEvent) (m : KeyModes) (before : State)
+pub typed-told : (w v : WorldState) (k n : ℕ) (e : KeyEvent) (m : KeyModes) (before : State)
     (keys : Keys) (state : State) (out : KeyOut) (inputs : List Input)
     → m ≡ key_modes_of (terminal_at w.terminals n) → before ≡ (input_at w.inputs n).keys
-    → keys ≡ (key_step w.board.tables m e w.board.keyboard before).keys
-    → state ≡ (key_step w.board.tables m e w.board.keyboard before).state
-    → out ≡ (key_step w.board.tables m e w.board.keyboard before).out
+    → keys ≡ (key_step w.board.tables m k e w.board.keyboard before).keys
+    → state ≡ (key_step w.board.tables m k e w.board.keyboard before).state
+    → out ≡ (key_step w.board.tables m k e w.board.keyboard before).out
     → inputs ≡ keyed n state w.inputs
     → let u : WorldState = record w { inputs = inputs; board = record w.board { keyboard = keys } } in
-    v ≡ all_done u (key_out_deeds u n out) → v ≡ all_done w (typed_deeds w n (key_on w n e))
-typed-told w v n e m before keys state out inputs m_is before_is keys_is state_is out_is inputs_is told =
-    let s : Step = key_on w n e in
-    let step : key_step w.board.tables m e w.board.keyboard before ≡ s =
-    λ i. key_step w.board.tables (m_is i) e w.board.keyboard (before_is i) in
+    v ≡ all_done u (key_out_deeds u n out) → v ≡ all_done w (typed_deeds w n (key_on w k n e))
+typed-told w v k n e m before keys state out inputs m_is before_is keys_is state_is out_is inputs_is told =
+    let s : Step = key_on w k n e in
+    let step : key_step w.board.tables m k e w.board.keyboard before ≡ s =
+    λ i. key_step w.board.tables (m_is i) k e w.board.keyboard (before_is i) in
     let state_s : state ≡ s.state = state_is ∙ ap (λ (x : Step). x.state) step in
     let keys_s : keys ≡ s.keys = keys_is ∙ ap (λ (x : Step). x.keys) step in
     let out_s : out ≡ s.out = out_is ∙ ap (λ (x : Step). x.out) step in
@@ -128,32 +130,38 @@ typed-told w v n e m before keys state out inputs m_is before_is keys_is state_i
     ∙ ap (all_done typed)
     (key_out-alike typed w n s.out (record { accepter = refl; users = λ p. refl }))
 
+-- the keyboards when a byte of keyboard k is read
+abbrev with_read : WorldState → ℕ → ℕ → Board
+with_read w k b = record w.board {
+  scanners = slice_set w.board.scanners k (read_by (scanner_of w.board.scanners k) b);
+}
+
 -- a byte is read that ends a key
-pub read-told : (w v : WorldState) (n b : ℕ) (e : KeyEvent) (scanner : Scan)
-    → event_after w.board.scanner.codes w.board.scanner.bytes b ≡ Some e
-    → scanner ≡ read_by w.board.scanner b
-    → let u : WorldState = record w { board = record w.board { scanner = scanner } } in
-    v ≡ all_done u (typed_deeds u n (key_on u n e)) → v ≡ all_done w (read_deeds w n b)
-read-told w v n b e scanner event scanner_is told =
-    let given : Scan → WorldState = λ s. record w { board = record w.board { scanner = s } } in
-    let read : WorldState = given (read_by w.board.scanner b) in
-    let s : Step = key_on w n e in
+pub read-told : (w v : WorldState) (k n b : ℕ) (e : KeyEvent) (board : Board)
+    → event_after (scanner_of w.board.scanners k).codes (scanner_of w.board.scanners k).bytes b ≡ Some e
+    → board ≡ with_read w k b
+    → let u : WorldState = record w { board = board } in
+    v ≡ all_done u (typed_deeds u n (key_on u k n e)) → v ≡ all_done w (read_deeds w k n b)
+read-told w v k n b e board event board_is told =
+    let given : Board → WorldState = λ x. record w { board = x } in
+    let read : WorldState = given (with_read w k b) in
+    let s : Step = key_on w k n e in
     told
-    ∙ ap (λ (x : Scan). all_done (given x) (typed_deeds (given x) n (key_on (given x) n e))) scanner_is
+    ∙ ap (λ (x : Board). all_done (given x) (typed_deeds (given x) n (key_on (given x) k n e))) board_is
     ∙ ap (λ (deeds : List Deed). all_done read (Own (Types n s.keys s.state) ∷ deeds))
     (key_out-alike read w n s.out (record { accepter = refl; users = λ p. refl }))
-    ∙ ap (λ (o : Option KeyEvent). all_done read (key_deeds w n o)) (sym event)
+    ∙ ap (λ (o : Option KeyEvent). all_done read (key_deeds w k n o)) (sym event)
 
 -- in K_RAW a byte goes into the queue first
-pub scan-told : (w v put : WorldState) (n b : ℕ) (keys : State) → keys ≡ (input_at w.inputs n).keys
-    → keys.mode ≡ 0 → put ≡ with_input n (b ∷ []) w → v ≡ all_done put (read_deeds put n b)
-    → v ≡ all_done w (scan_deeds w n b)
-scan-told w v put n b keys keys_is raw put_is told =
+pub scan-told : (w v put : WorldState) (k n b : ℕ) (keys : State) → keys ≡ (input_at w.inputs n).keys
+    → keys.mode ≡ 0 → put ≡ with_input n (b ∷ []) w → v ≡ all_done put (read_deeds put k n b)
+    → v ≡ all_done w (scan_deeds w k n b)
+scan-told w v put k n b keys keys_is raw put_is told =
     let after : WorldState = with_input n (b ∷ []) w in
     let is_raw : (input_at w.inputs n).keys.mode == 0 ≡ true =
     ap (λ (k : State). k.mode == 0) (sym keys_is) ∙ ap (λ (m : ℕ). m == 0) raw in
     told
-    ∙ ap (λ (u : WorldState). all_done u (read_deeds u n b)) put_is
-    ∙ ap (all_done after) (read-alike w n (b ∷ []) b)
-    ∙ ap (λ (is : Bool). all_done w (cond is (Own (Puts n (b ∷ [])) ∷ read_deeds w n b) (read_deeds w n b)))
+    ∙ ap (λ (u : WorldState). all_done u (read_deeds u k n b)) put_is
+    ∙ ap (all_done after) (read-alike w k n (b ∷ []) b)
+    ∙ ap (λ (is : Bool). all_done w (cond is (Own (Puts n (b ∷ [])) ∷ read_deeds w k n b) (read_deeds w k n b)))
     (sym is_raw)

@@ -1,10 +1,10 @@
 -- The attention key ends its users one by one.
-use Rattle.std.proofs.Common.{◌≡◌, ◌<◌, ℕ, ◌+◌, ◌-◌, Bool, true, false, cond, List, ◌∷◌, get_or, set, length, Some, None, sym, ap, ◌∙◌, arith, ⊎_elim}
+use Rattle.std.proofs.Common.{◌≡◌, ◌<◌, ℕ, ◌+◌, ◌-◌, Bool, true, false, cond, List, ◌∷◌, get_or, set, length, sym, ap, ◌∙◌, arith, ⊎_elim}
 use Rattle.std.proofs.lemmas.Bool.{cases_lt}
 use Rattle.std.proofs.lemmas.Grind.{get_or-set_at}
 use Rattle.std.proofs.lemmas.List.{get_or-set_other}
 use Rattle.std.specs.List.{range_with_len}
-use Rattle.std.specs.Prelude.{◌||◌, filter, nat_lt}
+use Rattle.std.specs.Prelude.{filter}
 use Rattle.vt_switch.specs.Acts.{End}
 use Rattle.vt_world.specs.Deeds.{By, Deed, all_done, done}
 use Rattle.vt_world.specs.State.{WorldState}

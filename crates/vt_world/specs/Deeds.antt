@@ -1,12 +1,13 @@
 -- What an event can do to the console.
-use Rattle.std.specs.Prelude.{ℕ, List, [], ◌∷◌, Option, Some, None, if◌then◌else◌}
-use Rattle.key_machine.specs.Keys.{Keys, State}
+use Rattle.std.specs.Prelude.{ℕ, List, [], ◌∷◌, map, slice_set, Option, Some, None, if◌then◌else◌}
+use Rattle.key_machine.specs.Keys.{Keys, State, unplugged}
 use Rattle.key_tables.specs.Tables.{Tables}
-use Rattle.scan_codes.specs.Scan.{Scan}
+use Rattle.scan_codes.specs.Scan.{Scan, with_code}
+use Rattle.vt_base.specs.Keyboards.{keyboard_of}
 use Rattle.vt_procs.specs.Callers.{opened, shut}
 use Rattle.vt_procs.specs.Tickets.{accepting, collected, filled, taken, waits}
 use Rattle.vt_procs.specs.declared.ticket.Ticket.{Ticket}
-use Rattle.vt_screen.specs.Tape.{Mark}
+use Rattle.vt_screen.specs.Tape.{Change}
 use Rattle.vt_switch.specs.Acts.{SwitchAct, Request}
 use Rattle.vt_switch.specs.Moments.{core_after, marks, raise}
 use Rattle.vt_world.specs.Heard.{tell}
@@ -22,17 +23,20 @@ pub data OwnDeed : Type 0 where
   Starts : ℕ → OwnDeed
   Clears : ℕ → OwnDeed
   Writes : ℕ → List ℕ → OwnDeed
-  Alters : ℕ → Mark → OwnDeed
+  Alters : ℕ → Change → OwnDeed
   -- of queues: a piece goes into console n's, or so many bytes are taken from it
   Puts : ℕ → List ℕ → OwnDeed
   Takes : ℕ → ℕ → OwnDeed
-  -- of the keyboard: console n has these lights or this key state, the scanner or the key tables are
-  -- these, and a key leaves the keyboard and the key state of console n like this
+  -- of keyboards: console n has these lights or this key state, the scanner of keyboard k is this, a
+  -- scan number has this keycode on all of them, the key tables are these, a key leaves the keys down
+  -- and the key state of console n like this, and p's keys go, if it is a keyboard
   Lights : ℕ → ℕ → OwnDeed
   Keyed : ℕ → State → OwnDeed
-  Scanned : Scan → OwnDeed
+  Scanned : ℕ → Scan → OwnDeed
+  Coded : ℕ → ℕ → OwnDeed
   Mapped : Tables → OwnDeed
   Types : ℕ → Keys → State → OwnDeed
+  Unplugs : ℕ → OwnDeed
   -- of callers: p opens console c, shuts a descriptor, begins a wait, is told of its ticket, takes
   -- its signals, accepts the key signal, or gets a signal
   Opens : ℕ → ℕ → OwnDeed
@@ -58,6 +62,11 @@ with_input n piece w = record w {
       if comes (input_at w.inputs n).queue piece then filled n w.callers else w.callers;
 }
 
+-- the keys down when a caller is gone
+abbrev pub keys_without : Option ℕ → Keys → Keys
+keys_without None keys = keys
+keys_without (Some k) keys = unplugged k keys
+
 abbrev pub own_done : WorldState → OwnDeed → WorldState
 own_done w (Starts n) = record w { terminals = with_start n w.rows w.cols w.terminals }
 own_done w (Clears n) = record w {
@@ -70,11 +79,18 @@ own_done w (Puts n piece) = with_input n piece w
 own_done w (Takes n count) = record w { inputs = without_bytes n count w.inputs }
 own_done w (Lights n lights) = record w { inputs = lit n lights w.inputs }
 own_done w (Keyed n state) = record w { inputs = keyed n state w.inputs }
-own_done w (Scanned scanner) = record w { board = record w.board { scanner = scanner } }
+own_done w (Scanned k scanner) =
+    record w { board = record w.board { scanners = slice_set w.board.scanners k scanner } }
+own_done w (Coded scan code) = record w {
+  board = record w.board { scanners = map (λ s. with_code s scan code) w.board.scanners };
+}
 own_done w (Mapped tables) = record w { board = record w.board { tables = tables } }
 own_done w (Types n keys state) = record w {
   inputs = keyed n state w.inputs;
   board = record w.board { keyboard = keys };
+}
+own_done w (Unplugs p) = record w {
+  board = record w.board { keyboard = keys_without (keyboard_of p) w.board.keyboard };
 }
 own_done w (Opens p c) = record w { callers = opened p c w.callers }
 own_done w (Shuts p fd) = record w { callers = shut p fd w.callers }

@@ -11,7 +11,8 @@ use Rattle.vt_events.specs.declared.event.Event.TheVariants as event
 use Rattle.vt_procs.specs.declared.proc_start.ProcStart.{ProcStart}
 use Rattle.vt_switch.specs.Acts.{SwitchAct, Release, Request, SetMode}
 use Rattle.vt_switch.specs.Law.{IsExplained, IsLawful, OwnersLive}
-use Rattle.vt_switch.specs.Moments.{Core, Moment, all_after, core_after, history, hops, marks, raise}
+use Rattle.vt_switch.specs.Moments.{Core, Moment, all_after, core_after, history, hops, marks, raise, with_acts}
+use Rattle.vt_switch.specs.News.{news, news_of}
 use Rattle.vt_switch.specs.declared.hop.Hop.{Hop}
 use Rattle.vt_switch.specs.declared.mark.Mark.{Mark}
 use Rattle.vt_switch.specs.declared.mark.Mark.TheVariants as mark
@@ -33,14 +34,23 @@ pub record IsStart (w : WorldState) : Type 0 where
   pub cols : ℕ
   pub consoles : ℕ
   pub front : ℕ
+  pub keyboards : ℕ
   pub processes : List ProcStart
   pub tables : Tables
   pub fit : IsFitSet consoles front
-  pub opened : w ≡ opening rows cols consoles front processes tables
+  pub opened : w ≡ opening rows cols consoles front keyboards processes tables
 
 -- the acts of a history, each at its time; the newest comes first
 abbrev pub moments : WorldState → List Entry → List Moment
 moments w entries = history 0 (core w) (history_acts w entries) []
+
+-- one entry more is the moments of its acts, at the console that the earlier ones leave
+abbrev pub MomentsGrow : Type 0
+MomentsGrow =
+    (w : WorldState) (entries : List Entry) (entry : Entry)
+    → moments w (entries ++ entry ∷ [])
+    ≡ with_acts (length entries) (core (replay w entries))
+    (event_acts (replay w entries) entry.caller entry.event) (moments w entries)
 
 -- the display law: in every history from a start each hop was allowed
 abbrev pub DisplaysAreLawful : Type 0
@@ -127,6 +137,13 @@ abbrev pub TracesTellHops : Type 0
 TracesTellHops =
     (w : WorldState) (p : ℕ) (e : Event)
     → hops (step w p e).world.trace.marks ≡ hops_of (core w) (event_acts w p e)
+
+-- what an event tells of the display, who is asked and where it goes, is what its acts tell: no
+-- signal that is raised beside them stands right after a request
+abbrev pub TracesTellNews : Type 0
+TracesTellNews =
+    (w : WorldState) (p : ℕ) (e : Event)
+    → news (step w p e).world.trace.marks ≡ news_of (core w) (event_acts w p e)
 
 -- p called to release console c, with this argument
 pub record CallsRelease (w : WorldState) (p : ℕ) (e : Event) (c arg : ℕ) : Type 0 where

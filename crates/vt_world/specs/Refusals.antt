@@ -6,6 +6,7 @@ use Rattle.call_bytes.specs.Words.{words_in}
 use Rattle.key_syms.specs.Act.{is_action}
 use Rattle.key_tables.specs.Tables.{exists_in}
 use Rattle.scan_codes.specs.Groups.{is_scan}
+use Rattle.vt_base.specs.Keyboards.{is_keyboard}
 use Rattle.vt_base.specs.declared.errno.Errno.{Errno}
 use Rattle.vt_base.specs.declared.errno.Errno.TheVariants.{Srch, Intr, Nxio, Badf, Again, Busy, Inval, Notty, Perm}
 use Rattle.vt_base.specs.declared.vt_mode.VtMode.{VtMode}
@@ -213,11 +214,11 @@ own_refusals w p (event.Kill q s) =
     ∷ refusal (not (is_process q)) Nxio ∷ needs_sense (is_signal s)
     ∷ refusal (not (is_live w.callers q)) Srch ∷ []
 
--- the keyboard makes scans, and processes all others; both may end
+-- a keyboard makes scans, and processes all others; both may end
 abbrev pub may_make : ℕ → Event → Bool
-may_make p (event.Scan b) = p == 0
+may_make p (event.Scan b) = is_keyboard p
 may_make p event.Exit = true
-may_make p e = not (p == 0)
+may_make p e = not (is_keyboard p)
 
 -- a caller with a ticket may but ask how that ended
 abbrev pub ends_wait : Event → Bool

@@ -8,7 +8,7 @@ use Rattle.call_bytes.specs.Words.{words_in, words_text}
 use Rattle.key_machine.specs.Keys.{State}
 use Rattle.key_syms.specs.Act.{Act, act}
 use Rattle.key_tables.specs.Tables.{entry_of, func_of, with_entry, with_func, with_pairs}
-use Rattle.scan_codes.specs.Scan.{with_code}
+use Rattle.vt_base.specs.Keyboards.{keyboard_of}
 use Rattle.vt_base.specs.declared.errno.Errno.TheVariants.{Intr}
 use Rattle.vt_dump.specs.Dumps.{codes_bytes, vcs_bytes, vcsa_bytes}
 use Rattle.vt_events.specs.Plain.{text}
@@ -28,12 +28,12 @@ use Rattle.vt_screen.specs.declared.out.Out.TheVariants as outs
 use Rattle.vt_switch.specs.Acts.{Allocate, End, Free, Lock, Release, Request, SetKd, SetMode}
 use Rattle.vt_switch.specs.Calls.{words_of}
 use Rattle.vt_switch.specs.Display.{Display, console, is_allocated}
-use Rattle.vt_world.specs.Deeds.{Deed, Accepts, Alters, Asks, By, Clears, Collects, Keyed, Lights, Mapped, Opens, Own, Puts, Receives, Scanned, Shuts, Starts, Takes, Waits, Writes}
+use Rattle.vt_world.specs.Deeds.{Deed, Accepts, Alters, Asks, By, Clears, Collects, Keyed, Lights, Mapped, Opens, Own, Puts, Receives, Coded, Shuts, Starts, Takes, Unplugs, Waits, Writes}
 use Rattle.vt_world.specs.Inputs.{input_at}
 use Rattle.vt_world.specs.State.{WorldState}
 use Rattle.vt_world.specs.Terminals.{TerminalState, said_of, terminal_at}
 use Rattle.vt_world.specs.Refusals.{caller, is_empty, is_in_use, mode_of, named, target}
-use Rattle.vt_world.specs.Typing.{scan_deeds, sent}
+use Rattle.vt_world.specs.Typing.{scan_deeds, scanner_of, sent}
 use Rattle.vt_world.specs.declared.wanted.Wanted.TheVariants.{Last, Number}
 
 -- an answer, and what is done
@@ -141,17 +141,18 @@ screen_bytes bytes (Some t) = bytes t.machine.state
 -- a dump of a kind: 0 the characters, 1 with size, cursor and attributes, 2 the code points
 abbrev pub dump_of : ℕ → Screen → List ℕ
 dump_of kind s =
-    if kind == 0 then vcs_bytes s.sheet
-    else if kind == 1 then vcsa_bytes s.sheet s.state.x s.state.y s.state.reverse
-    else codes_bytes s.sheet
+    if kind == 0 then vcs_bytes s.grid
+    else if kind == 1 then vcsa_bytes s.grid s.state.x s.state.y s.state.reverse
+    else codes_bytes s.grid
 
 abbrev pub tells_screen : WorldState → ℕ → (Screen → List ℕ) → Row
 tells_screen w c bytes = tells_bytes (screen_bytes bytes (terminal_at w.terminals c))
 
 -- what an event answers and does
 abbrev pub row : WorldState → ℕ → Event → Row
-row w p (event.Scan b) = row_of reply.Done (scan_deeds w w.display.front b)
-row w p event.Exit = does (By (End p))
+row w p (event.Scan b) =
+    row_of reply.Done (scan_deeds w (unwrap_or (keyboard_of p) 0) w.display.front b)
+row w p event.Exit = row_of reply.Done (By (End p) ∷ Own (Unplugs p) ∷ [])
 row w p (event.OpenCon n) =
     row_of (reply.Num (unwrap_or (free_fd w.callers p) 0))
     (allocating (named w n) (Own (Opens p (named w n)) ∷ []))
@@ -205,8 +206,8 @@ row w p (event.GetFunc fd i) = tells_bytes (func_of w.board.tables i)
 row w p (event.SetDia fd b) =
     does (Own (Mapped (with_pairs w.board.tables (unwrap_or (pairs_in b.bytes) []))))
 row w p (event.GetDia fd) = tells_bytes (pairs_text w.board.tables.pairs)
-row w p (event.SetCode fd scan code) = does (Own (Scanned (with_code w.board.scanner scan code)))
-row w p (event.GetCode fd scan) = tells (slice_index w.board.scanner.codes scan)
+row w p (event.SetCode fd scan code) = does (Own (Coded scan code))
+row w p (event.GetCode fd scan) = tells (slice_index (scanner_of w.board.scanners 0).codes scan)
 row w p (event.Accept fd s) = does (Own (Accepts p s))
 row w p (event.SetMap fd b) =
     does (Own (Alters (target w p fd) (user_map (unwrap_or (words_in b.bytes) []))))

@@ -65,7 +65,7 @@ takes_spare e = false
 -- a grid of this size is there
 abbrev pub HasSize : Extent → Option Sheet → Type 0
 HasSize size None = ⊥
-HasSize size (Some sheet) = (sheet.rows ≡ size.rows) × (sheet.cols ≡ size.cols)
+HasSize size (Some grid) = (grid.rows ≡ size.rows) × (grid.cols ≡ size.cols)
 
 -- the grid that is needed is there
 abbrev pub HasGrid : Option Extent → Option Sheet → Type 0

@@ -11,15 +11,15 @@ use Rattle.vt_world.specs.State.{WorldState}
 use Rattle.vt_world.specs.Terminals.{new_terminal}
 use Rattle.vt_procs.specs.declared.proc_start.ProcStart.{ProcStart}
 
--- every place for a console is new, no key is down, and the key tables are these
-abbrev pub opening : ℕ → ℕ → ℕ → ℕ → List ProcStart → Tables → WorldState
-opening rows cols consoles front starts tables = record {
+-- every place for a console is new, so many keyboards live, no key is down, and the key tables are these
+abbrev pub opening : ℕ → ℕ → ℕ → ℕ → ℕ → List ProcStart → Tables → WorldState
+opening rows cols consoles front keyboards starts tables = record {
   rows = rows;
   cols = cols;
   display = first_display consoles front;
-  callers = callers_of starts;
+  callers = callers_of keyboards starts;
   terminals = at_each consoles (new_terminal rows cols);
   inputs = replicate 64 new_input;
-  board = record { scanner = start_scan; keyboard = start_keys; tables = tables };
+  board = record { scanners = replicate 4 start_scan; keyboard = start_keys; tables = tables };
   trace = record { marks = []; hops = 0 };
 }

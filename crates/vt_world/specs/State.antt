@@ -16,7 +16,7 @@ pub record Trace : Type 0 where
   pub hops : ℕ
 
 -- the rows and columns of every new screen, the display with its consoles, the callers, the terminal
--- of each console, what the keyboard put into each, the keyboard with its tables, and the trace
+-- of each console, what the keyboards put into each, the keyboards with their tables, and the trace
 pub record WorldState : Type 0 where
   pub rows : ℕ
   pub cols : ℕ

@@ -1,11 +1,16 @@
 -- The laws of every step, and of a start: what no event changes, and who gets a ticket. This project's
 -- own.
-use Rattle.std.specs.Prelude.{◌≡◌, ◌⊎◌, ℕ, true, false}
+use Rattle.std.specs.Prelude.{◌≡◌, ◌⊎◌, ◌==◌, ℕ, Bool, true, false, List, map, replicate, None}
+use Rattle.vt_events.specs.declared.entry.Entry.{Entry}
 use Rattle.vt_events.specs.declared.event.Event.{Event}
+use Rattle.vt_events.specs.declared.event.Event.TheVariants as event
 use Rattle.vt_events.specs.declared.reply.Reply.TheVariants as reply
+use Rattle.vt_world.specs.History.{replay}
 use Rattle.vt_world.specs.Laws.{IsStart}
+use Rattle.vt_world.specs.Refusals.{named, target}
 use Rattle.vt_world.specs.State.{WorldState, is_waiting}
 use Rattle.vt_world.specs.Step.{step}
+use Rattle.vt_world.specs.Terminals.{terminal_at}
 
 -- new screens keep their size
 abbrev pub SizesStay : Type 0
@@ -22,3 +27,35 @@ TicketsAreCalled =
 -- nobody has an open ticket at a start
 abbrev pub NobodyWaitsAtStart : Type 0
 NobodyWaitsAtStart = (w : WorldState) → IsStart w → (p : ℕ) → is_waiting w p ≡ false
+
+-- the console whose screen, or whose bells, an event may change, or which it may bring into being: the
+-- one that is written to, resized or coloured, that gets a table of characters, or that is opened or
+-- activated
+abbrev pub touches : WorldState → ℕ → Event → ℕ → Bool
+touches w p (event.Write fd b) c = target w p fd == c
+touches w p (event.Resize fd rows cols) c = target w p fd == c
+touches w p (event.SetMap fd b) c = target w p fd == c
+touches w p (event.SetPal fd b) c = target w p fd == c
+touches w p (event.OpenCon n) c = named w n == c
+touches w p (event.Activate fd n) c = n == c
+touches w p e c = false
+
+-- every other console keeps its screen with the rest of its text and its bells, or is freed
+abbrev pub TerminalsStay : Type 0
+TerminalsStay =
+    (w : WorldState) (p : ℕ) (e : Event) (c : ℕ) → touches w p e c ≡ false
+    → (terminal_at (step w p e).world.terminals c ≡ terminal_at w.terminals c)
+    ⊎ (terminal_at (step w p e).world.terminals c ≡ None)
+
+-- the keycodes by scan numbers, as each keyboard's scanner has them
+abbrev pub translations : WorldState → List (List ℕ)
+translations w = map (λ s. s.codes) w.board.scanners
+
+-- all four have the same
+abbrev pub IsOneTranslation : WorldState → Type 0
+IsOneTranslation w = (codes : List ℕ) × (translations w ≡ replicate 4 codes)
+
+-- after every history from a start, all keyboards have one translation
+abbrev pub OneTranslation : Type 0
+OneTranslation =
+    (w : WorldState) (entries : List Entry) → IsStart w → IsOneTranslation (replay w entries)

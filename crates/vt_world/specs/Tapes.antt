@@ -8,9 +8,9 @@ use Rattle.vt_events.specs.declared.event.Event.{Event}
 use Rattle.vt_events.specs.declared.event.Event.TheVariants as event
 use Rattle.vt_events.specs.declared.reply.Reply.{Reply}
 use Rattle.vt_events.specs.declared.reply.Reply.TheVariants as reply
-use Rattle.vt_screen.specs.Run.{Told, having_said, start}
+use Rattle.vt_screen.specs.Run.{Drawn, having_said, start}
 use Rattle.vt_screen.specs.Screen.{Screen}
-use Rattle.vt_screen.specs.Tape.{Taped, byte, mark, palette, resize, run_tape, user_map}
+use Rattle.vt_screen.specs.Tape.{Taped, byte, change, palette, resize, run_tape, user_map}
 use Rattle.vt_switch.specs.Display.{is_allocated}
 use Rattle.vt_units.specs.Run.{Reached, reached}
 use Rattle.vt_world.specs.State.{WorldState}
@@ -22,15 +22,15 @@ abbrev pub if_same : ℕ → ℕ → List Taped → List Taped
 if_same n c items = if n == c then items else []
 
 -- what an accepted event of p adds to the tape of console c: the bytes that it writes there, or a
--- mark of what it changes there
+-- change that it makes there
 abbrev pub items_of : WorldState → ℕ → ℕ → Event → List Taped
 items_of w p c (event.Write fd b) = if_same (target w p fd) c (map byte b.bytes)
 items_of w p c (event.Resize fd rows cols) =
-    if_same (target w p fd) c (mark (resize rows cols) ∷ [])
+    if_same (target w p fd) c (change (resize rows cols) ∷ [])
 items_of w p c (event.SetMap fd b) =
-    if_same (target w p fd) c (mark (user_map (unwrap_or (words_in b.bytes) [])) ∷ [])
+    if_same (target w p fd) c (change (user_map (unwrap_or (words_in b.bytes) [])) ∷ [])
 items_of w p c (event.SetPal fd b) =
-    if_same (target w p fd) c (mark (palette (unwrap_or (colours_in b.bytes) [])) ∷ [])
+    if_same (target w p fd) c (change (palette (unwrap_or (colours_in b.bytes) [])) ∷ [])
 items_of w p c e = []
 
 -- an event that is answered by an error isn't accepted, and adds nothing
@@ -62,5 +62,5 @@ tape_of c w entries = tape_from c (tape_after (is_allocated w.display c) [] None
 -- the screen, with the rest of the text, that a tape gives from the start screen
 abbrev pub screen_of : ℕ → ℕ → List Taped → Reached Screen
 screen_of rows cols tape =
-    let end : Reached Told = run_tape tape (having_said [] (start rows cols)) in
+    let end : Reached Drawn = run_tape tape (having_said [] (start rows cols)) in
     reached end.state.screen end.rest

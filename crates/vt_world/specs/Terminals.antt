@@ -2,7 +2,7 @@
 use Rattle.std.specs.Prelude.{ℕ, Bool, true, false, ◌+◌, min, count_by, List, [], Option, Some, None, option_map, slice_index_or, slice_set}
 use Rattle.key_machine.specs.declared.key_modes.KeyModes.{KeyModes}
 use Rattle.vt_screen.specs.Run.{after, said, start}
-use Rattle.vt_screen.specs.Tape.{Mark, with_mark}
+use Rattle.vt_screen.specs.Tape.{Change, with_change}
 use Rattle.vt_screen.specs.Screen.{Screen}
 use Rattle.vt_screen.specs.declared.out.Out.{Out}
 use Rattle.vt_screen.specs.declared.out.Out.TheVariants as outs
@@ -74,11 +74,11 @@ written n bytes terminals =
     slice_set terminals n (option_map (written_on bytes) (terminal_at terminals n))
 
 -- a call has changed the screen
-abbrev pub altered_by : Mark → TerminalState → TerminalState
-altered_by m t = record t { machine = with_mark m t.machine }
+abbrev pub altered_by : Change → TerminalState → TerminalState
+altered_by m t = record t { machine = with_change m t.machine }
 
 -- the screen of console n is changed by a call, if it has a terminal
-abbrev pub altered : ℕ → Mark → List (Option TerminalState) → List (Option TerminalState)
+abbrev pub altered : ℕ → Change → List (Option TerminalState) → List (Option TerminalState)
 altered n m terminals =
     slice_set terminals n (option_map (altered_by m) (terminal_at terminals n))
 

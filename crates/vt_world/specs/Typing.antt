@@ -1,10 +1,10 @@
 -- What a scan byte does. What the rules leave open is this project's own.
-use Rattle.std.specs.Prelude.{ℕ, ◌==◌, ◌&&◌, ◌||◌, Bool, false, List, [], ◌∷◌, filter, Option, Some, None, if◌then◌else◌}
+use Rattle.std.specs.Prelude.{ℕ, ◌==◌, ◌&&◌, ◌||◌, Bool, false, List, [], ◌∷◌, filter, slice_index_or, Option, Some, None, if◌then◌else◌}
 use Rattle.std.specs.List.{range_with_len}
 use Rattle.key_machine.specs.Step.{Step, key_step}
 use Rattle.key_machine.specs.declared.key_out.KeyOut.{KeyOut}
 use Rattle.key_machine.specs.declared.key_out.KeyOut.TheVariants as key_out
-use Rattle.scan_codes.specs.Scan.{Scan, bytes_after, event_after}
+use Rattle.scan_codes.specs.Scan.{Scan, bytes_after, event_after, start_scan}
 use Rattle.scan_codes.specs.declared.key_event.KeyEvent.{KeyEvent}
 use Rattle.vt_procs.specs.Callers.{caller_at, has_open, is_live}
 use Rattle.vt_switch.specs.Acts.{End, SetKd}
@@ -53,33 +53,38 @@ key_out_deeds w n key_out.Spawn = spawn_deeds w.callers.accepter
 key_out_deeds w n key_out.Attention = attention_deeds w n
 key_out_deeds w n key_out.Nothing = []
 
--- a key event, with console n in front
-abbrev pub key_on : WorldState → ℕ → KeyEvent → Step
-key_on w n e =
-    key_step w.board.tables (key_modes_of (terminal_at w.terminals n)) e w.board.keyboard
+-- a key event of keyboard k, with console n in front
+abbrev pub key_on : WorldState → ℕ → ℕ → KeyEvent → Step
+key_on w k n e =
+    key_step w.board.tables (key_modes_of (terminal_at w.terminals n)) k e w.board.keyboard
     (input_at w.inputs n).keys
 
 -- the key is typed, and then what it says is done
 abbrev pub typed_deeds : WorldState → ℕ → Step → List Deed
 typed_deeds w n s = Own (Types n s.keys s.state) ∷ key_out_deeds w n s.out
 
-abbrev pub key_deeds : WorldState → ℕ → Option KeyEvent → List Deed
-key_deeds w n None = []
-key_deeds w n (Some e) = typed_deeds w n (key_on w n e)
+abbrev pub key_deeds : WorldState → ℕ → ℕ → Option KeyEvent → List Deed
+key_deeds w k n None = []
+key_deeds w k n (Some e) = typed_deeds w n (key_on w k n e)
+
+-- the scanner of keyboard k
+abbrev pub scanner_of : List Scan → ℕ → Scan
+scanner_of scanners k = slice_index_or scanners k start_scan
 
 -- the scanner has read a byte
 abbrev pub read_by : Scan → ℕ → Scan
 read_by scanner b = record scanner { bytes = bytes_after scanner.bytes b }
 
 -- the byte is read, and the key that it ends is typed
-abbrev pub read_deeds : WorldState → ℕ → ℕ → List Deed
-read_deeds w n b =
-    Own (Scanned (read_by w.board.scanner b))
-    ∷ key_deeds w n (event_after w.board.scanner.codes w.board.scanner.bytes b)
+abbrev pub read_deeds : WorldState → ℕ → ℕ → ℕ → List Deed
+read_deeds w k n b =
+    let scanner = scanner_of w.board.scanners k in
+    Own (Scanned k (read_by scanner b))
+    ∷ key_deeds w k n (event_after scanner.codes scanner.bytes b)
 
--- a scan byte, with console n in front: where its keyboard mode is K_RAW, the byte goes into its
--- queue first
-abbrev pub scan_deeds : WorldState → ℕ → ℕ → List Deed
-scan_deeds w n b =
-    if (input_at w.inputs n).keys.mode == 0 then Own (Puts n (b ∷ [])) ∷ read_deeds w n b
-    else read_deeds w n b
+-- a scan byte of keyboard k, with console n in front: where its keyboard mode is K_RAW, the byte goes
+-- into its queue first
+abbrev pub scan_deeds : WorldState → ℕ → ℕ → ℕ → List Deed
+scan_deeds w k n b =
+    if (input_at w.inputs n).keys.mode == 0 then Own (Puts n (b ∷ [])) ∷ read_deeds w k n b
+    else read_deeds w k n b

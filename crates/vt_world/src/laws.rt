@@ -1,7 +1,7 @@
 //! The laws of histories.
 ghost use Rattle.vt_world.specs.History.{LegalGrows, NothingIsLegal, ReplayGrows};
-ghost use Rattle.vt_world.specs.Laws.{ActsAreCalls, ActsMakeCores, DisplaysAreLawful, DisplaysAreLawfulFrom, OwnersAreLive, ScreensAreTapes, TargetsAreExplained, TerminalsAreAllocated, TracesTellActs, TracesTellDeeds, TracesTellHops};
-ghost use Rattle.vt_world.specs.StepLaws.{NobodyWaitsAtStart, SizesStay, TicketsAreCalled};
+ghost use Rattle.vt_world.specs.Laws.{ActsAreCalls, ActsMakeCores, DisplaysAreLawful, DisplaysAreLawfulFrom, MomentsGrow, OwnersAreLive, ScreensAreTapes, TargetsAreExplained, TerminalsAreAllocated, TracesTellActs, TracesTellDeeds, TracesTellHops, TracesTellNews};
+ghost use Rattle.vt_world.specs.StepLaws.{NobodyWaitsAtStart, OneTranslation, SizesStay, TerminalsStay, TicketsAreCalled};
 
 use vt_screen::tapes_run;
 use vt_switch::{each_hop_was_allowed, each_target_was_asked_for};
@@ -35,14 +35,31 @@ pub fn displays_are_lawful_from()
     each_hop_was_allowed();
 }
 
+/// What the traces of a history tell of the display, who is asked and where it goes, and how the
+/// moments of a history grow, entry by entry.
+pub fn traces_tell_news()
+    ensures news { TracesTellNews }
+    ensures moments { MomentsGrow }
+{}
+
 /// No event changes the size of new screens.
 pub fn sizes_stay()
     ensures { SizesStay }
 {}
 
+/// What an event leaves of each console that it doesn't touch.
+pub fn terminals_stay()
+    ensures { TerminalsStay }
+{}
+
 /// Whose ticket an event opens: its caller's, by a wait.
 pub fn tickets_are_called()
     ensures { TicketsAreCalled }
+{}
+
+/// After every history from a start, the scan numbers of all keyboards have the same keycodes.
+pub fn one_translation()
+    ensures { OneTranslation }
 {}
 
 /// Nobody waits at a start.

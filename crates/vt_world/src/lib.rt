@@ -17,7 +17,8 @@ mod world;
 
 pub use laws::{
     displays_are_lawful, displays_are_lawful_from, legal_grows, nobody_waits_at_start,
-    screens_are_tapes, sizes_stay, tickets_are_called,
+    one_translation, screens_are_tapes, sizes_stay, terminals_stay, tickets_are_called,
+    traces_tell_news,
 };
 pub use spare::{Spare, spare_for};
 pub use vt_switch::{Hop, Mark};

@@ -126,7 +126,7 @@ impl World {
         ensures { Has (own_effect self.old p event.now) self.new result }
     {
         match event {
-            Event::Scan(b) => self.scan(*b),
+            Event::Scan(b) => self.scan(p, *b),
             Event::Exit => self.exit(p),
             Event::CloseFd(fd) => self.close(p, *fd),
             Event::Write(fd, b) => self.write(p, *fd, b),
@@ -187,8 +187,8 @@ impl World {
     }
 }
 
-// Whether the caller can make such an event: the keyboard makes scans, and processes all others;
-// both may end.
+// Whether the caller can make such an event: a keyboard makes scans, and processes all others; both
+// may end.
 fn may_make(caller: CallerNo, event: &Event) -> bool
     ensures { result ≡ may_make caller event.now }
 {

@@ -1,4 +1,4 @@
-ghost use Rattle.std.specs.Prelude.{◌≡◌, ◌<◌, [], IfOk, length};
+ghost use Rattle.std.specs.Prelude.{◌≡◌, ◌≤◌, ◌<◌, [], IfOk, length};
 ghost use Rattle.vt_world.specs.Heard.{hops_after, with_mark};
 
 use std::alloc::Global;
@@ -18,14 +18,14 @@ pub(crate) struct Trace {
 }
 
 impl Model for Trace {
-    ghost use Rattle.std.specs.Prelude.{◌≤◌, vec_capacity};
+    ghost use Rattle.std.specs.Prelude.{◌≤◌, vec_capacity, vec_len};
     ghost use Rattle.vt_world.specs.State.{Trace};
 
     ghost Value = { Trace };
 
     ghost view = { λ t. record { marks = t.marks.items; hops = t.hops } };
 
-    ghost invariant = { λ t. 12288 ≤ vec_capacity t.marks };
+    ghost invariant = { λ t. (12288 ≤ vec_capacity t.marks) × (vec_len t.marks ≤ 12288) };
 }
 
 impl Trace {
@@ -58,7 +58,8 @@ impl Trace {
 
     /// The marks in order.
     pub(crate) fn marks(&self) -> &[Mark]
-        ensures { result.now ≡ self.now.marks }
+        ensures items { result.now ≡ self.now.marks }
+        ensures few { length result.now ≤ 12288 }
     {
         self.marks.as_slice()
     }

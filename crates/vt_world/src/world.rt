@@ -1,4 +1,5 @@
-ghost use Rattle.std.specs.Prelude.{◌≡◌, IfOk, is_some, option_copied};
+ghost use Rattle.std.specs.Prelude.{◌≡◌, ◌≤◌, IfOk, is_some, length, option_copied};
+ghost use Rattle.vt_procs.specs.Callers.{IsFitCount, console_of};
 ghost use Rattle.vt_switch.specs.Display.{is_allocated};
 ghost use Rattle.vt_base.specs.ConsoleSet.{IsFitSet};
 ghost use Rattle.vt_world.specs.Inputs.{input_at};
@@ -20,7 +21,7 @@ use vt_screen::Emu;
 use vt_switch::{Mark, Switch};
 
 /// All consoles with what they show and what was typed into them, the display, the callers, the
-/// keyboard, and what the last event told.
+/// keyboards, and what the last event told.
 #[derive(Debug, Drop)]
 pub struct World {
     pub(crate) size: Size,
@@ -63,12 +64,13 @@ impl Model for World {
 }
 
 impl World {
-    /// All consoles of the set are new, every process lives and has nothing open, no key is down, and
-    /// the key tables are these. All memory for what is typed is taken here.
+    /// All consoles of the set are new, every keyboard and every process lives and has nothing open,
+    /// no key is down, and the key tables are these. All memory for what is typed is taken here.
     pub fn start(alloc: Global, c: &Config, t: &KeyTables) -> Result<World, NoMemory>
-        requires { IsFitSet c.now.consoles c.now.front }
+        requires consoles { IsFitSet c.now.consoles c.now.front }
+        requires keyboards { IsFitCount c.now.keyboards }
         ensures { IfOk result (λ w. w ≡ opening c.now.size.rows c.now.size.cols c.now.consoles
-            c.now.front c.now.procs t.now) }
+            c.now.front c.now.keyboards c.now.procs t.now) }
     {
         let terminals = Terminals::start(alloc, c.size, c.consoles)?;
         let inputs = Inputs::start(alloc)?;
@@ -77,7 +79,7 @@ impl World {
         Ok(World {
             size: c.size,
             switch: Switch::start(c.front, c.consoles),
-            procs: Procs::start(c.procs.as_slice()),
+            procs: Procs::start(c.procs.as_slice(), c.keyboards),
             terminals,
             inputs,
             board: Board::start(tables),
@@ -131,7 +133,8 @@ impl World {
     /// What the last event told of what it did to the display and to the callers, in order: nothing
     /// before the first one, or where it was refused.
     pub fn trace(&self) -> &[Mark]
-        ensures { result.now ≡ self.now.trace.marks }
+        ensures marks { result.now ≡ self.now.trace.marks }
+        ensures few { length result.now ≤ 12288 }
     {
         self.trace.marks()
     }
@@ -141,6 +144,13 @@ impl World {
         ensures { result ≡ self.now.trace.hops }
     {
         self.trace.hops()
+    }
+
+    /// The console that a descriptor of the caller is open on.
+    pub fn console_of(&self, p: CallerNo, fd: u16) -> Option<ConsoleNo>
+        ensures { result ≡ console_of self.now.callers p fd }
+    {
+        self.procs.console_of(p, fd)
     }
 
     /// Whether the caller has an open ticket.

@@ -118,7 +118,7 @@ fn check_row(rt: &impl Abort, t: &KeyTables, row: &Row, mode: u8)
     let mut s = start(mode);
     s.sticky = 2;
     let mut keys = Keyboard::start();
-    let out = keys.key(DOWN, t, &mut s, MODES);
+    let out = keys.key(0, DOWN, t, &mut s, MODES);
     assert!(rt;
         is_wanted(&out, press),
         "{kind} {value} pressed in {mode}: {out:?}"
@@ -128,12 +128,12 @@ fn check_row(rt: &impl Abort, t: &KeyTables, row: &Row, mode: u8)
         after,
         "{kind} {value} in {mode}"
     );
-    let out = keys.key(DOWN, t, &mut s, HELD);
+    let out = keys.key(0, DOWN, t, &mut s, HELD);
     assert!(rt;
         is_wanted(&out, idle(mode)),
         "{kind} {value} held in {mode}: {out:?}"
     );
-    let out = keys.key(DOWN, t, &mut s, MODES);
+    let out = keys.key(0, DOWN, t, &mut s, MODES);
     assert!(rt;
         is_wanted(&out, repeat),
         "{kind} {value} repeated in {mode}: {out:?}"
@@ -143,7 +143,7 @@ fn check_row(rt: &impl Abort, t: &KeyTables, row: &Row, mode: u8)
         after,
         "{kind} {value} in {mode}"
     );
-    let out = keys.key(UP, t, &mut s, MODES);
+    let out = keys.key(0, UP, t, &mut s, MODES);
     assert!(rt;
         is_wanted(&out, up),
         "{kind} {value} released in {mode}: {out:?}"

@@ -90,7 +90,7 @@ fn modes_change_what_is_sent(rt: HostRuntime) -> Result<(), Fail> {
             repeat: true,
             newline: case.newline,
         };
-        let out = Keyboard::start().key(DOWN, &t, &mut s, m);
+        let out = Keyboard::start().key(0, DOWN, &t, &mut s, m);
         assert!(rt; is_wanted(&out, Bytes(case.bytes)), "{what}: {out:?}");
     }
     Ok(())

@@ -230,9 +230,48 @@ fn scan_bytes_become_what_keys_say(rt: HostRuntime) -> Result<(), Fail> {
         let what = session.what;
         for (b, wanted) in session.keys {
             let e = scanner.push(*b).ok_or("a key")?;
-            let out = keys.key(e, &t, &mut s, MODES);
+            let out = keys.key(0, e, &t, &mut s, MODES);
             assert!(rt; is_wanted(&out, *wanted), "{what}: {b:02x} gave {out:?}");
         }
     }
+    Ok(())
+}
+
+// Keys of two keyboards: which keyboard, its scan byte, and what it says.
+#[test]
+fn keyboards_type_together(rt: HostRuntime) -> Result<(), Fail> {
+    let entries = [
+        (0, 42, 8, 0),
+        (1, 42, 8, 0),
+        (0, 30, 2, 0x61),
+        (1, 30, 2, 0x41),
+    ];
+    let t = tables(&rt, rt.alloc(), &entries)?;
+    let mut scanners = [Scanner::start(), Scanner::start()];
+    let mut keys = Keyboard::start();
+    let mut s = start(3);
+    let typed = [
+        (1, 0x2A, Nothing),
+        (0, 0x1E, Bytes(b"A")),
+        (1, 0x1E, Bytes(b"A")),
+        (1, 0x9E, Nothing),
+        (0, 0x1E, Bytes(b"A")),
+        (0, 0x2A, Nothing),
+        (1, 0xAA, Nothing),
+        (1, 0x1E, Bytes(b"A")),
+        (0, 0xAA, Nothing),
+        (0, 0x1E, Bytes(b"a")),
+        (1, 0x2A, Nothing),
+    ];
+    for (from, b, wanted) in typed {
+        let e = scanners[usize::from(from)].push(b).ok_or("a key")?;
+        assert!(rt; from < 2);
+        let out = keys.key(from, e, &t, &mut s, MODES);
+        assert!(rt; is_wanted(&out, wanted), "{from} {b:02x} gave {out:?}");
+    }
+    keys.unplug(1);
+    let e = scanners[0].push(0x1E).ok_or("a key")?;
+    let out = keys.key(0, e, &t, &mut s, MODES);
+    assert!(rt; is_wanted(&out, Bytes(b"a")), "after the unplug {out:?}");
     Ok(())
 }

@@ -6,10 +6,13 @@ ghost use Rattle.vt_world.specs.Typing.{attention_deeds, sent, spawn_deeds, uses
 
 use crate::World;
 use crate::trace::TRACE_MARKS;
-use vt_base::{CALLERS, CallerNo, ConsoleNo, Signal};
+use vt_base::{CallerNo, ConsoleNo, PROCESSES, Signal};
 
 /// SIGKILL, which ends its process (signal(7)).
 pub(crate) const KILL: u16 = 9;
+
+/// The places for processes by their numbers.
+const PLACES: usize = PROCESSES + 1;
 
 impl World {
     /// A signal is sent.
@@ -40,7 +43,7 @@ impl World {
         ensures { self.new ≡ all_done self.old (attention_deeds self.old n) }
     {
         let users = self.users(n);
-        for p in 1..CALLERS {
+        for p in 1..PLACES {
             self.end_user(p, users[p]);
         }
         self.show(n, false);
@@ -59,12 +62,12 @@ impl World {
         }
     }
 
-    // Which callers use the console, by their numbers.
-    fn users(&self, n: ConsoleNo) -> [bool; CALLERS]
+    // Which processes use the console, by their numbers. The keyboard has the first place.
+    fn users(&self, n: ConsoleNo) -> [bool; PLACES]
         ensures { (p : ℕ) → p < 65 → slice_index_or result p false ≡ uses self.now n p }
     {
-        let mut users = [false; CALLERS];
-        for p in 0..CALLERS {
+        let mut users = [false; PLACES];
+        for p in 0..PLACES {
             users[p] = self.uses(p, n);
         }
         users

@@ -1,5 +1,5 @@
 //! What a scan byte does.
-ghost use Rattle.std.specs.Prelude.{◌≡◌, []};
+ghost use Rattle.std.specs.Prelude.{◌≡◌, ◌<◌, []};
 ghost use Rattle.vt_world.specs.Deeds.{all_done};
 ghost use Rattle.vt_world.specs.Terminals.{key_modes_of, terminal_at};
 ghost use Rattle.vt_world.specs.Typing.{key_on, key_out_deeds, read_deeds, scan_deeds, typed_deeds};
@@ -19,39 +19,42 @@ const START_MODES: KeyModes = KeyModes {
 };
 
 impl World {
-    /// A byte of the keyboard, with console `n` in front.
-    pub(crate) fn scan_on(&mut self, n: ConsoleNo, b: u8)
-        requires { self.old.trace.marks ≡ [] }
-        ensures { self.new ≡ all_done self.old (scan_deeds self.old n b) }
+    /// A byte of keyboard `k`, with console `n` in front.
+    pub(crate) fn scan_on(&mut self, k: u8, n: ConsoleNo, b: u8)
+        requires clear { self.old.trace.marks ≡ [] }
+        requires keyboard { k < 4 }
+        ensures { self.new ≡ all_done self.old (scan_deeds self.old k n b) }
     {
         if self.inputs.keys(n).mode == mode::RAW {
             self.put(n, &[b]);
-            return self.read(n, b);
+            return self.read(k, n, b);
         }
-        self.read(n, b);
+        self.read(k, n, b);
     }
 
     // The byte is read, and the key that it ends is typed.
-    fn read(&mut self, n: ConsoleNo, b: u8)
-        requires { self.old.trace.marks ≡ [] }
-        ensures { self.new ≡ all_done self.old (read_deeds self.old n b) }
+    fn read(&mut self, k: u8, n: ConsoleNo, b: u8)
+        requires clear { self.old.trace.marks ≡ [] }
+        requires keyboard { k < 4 }
+        ensures { self.new ≡ all_done self.old (read_deeds self.old k n b) }
     {
-        if let Some(e) = self.board.scanner.push(b) {
-            self.type_key(n, e);
+        if let Some(e) = self.board.read(k, b) {
+            self.type_key(k, n, e);
         }
     }
 
-    // A key goes down or up, with console `n` in front.
-    fn type_key(&mut self, n: ConsoleNo, e: KeyEvent)
-        requires { self.old.trace.marks ≡ [] }
-        ensures { self.new ≡ all_done self.old (typed_deeds self.old n (key_on self.old n e)) }
+    // A key of keyboard `k` goes down or up, with console `n` in front.
+    fn type_key(&mut self, k: u8, n: ConsoleNo, e: KeyEvent)
+        requires clear { self.old.trace.marks ≡ [] }
+        requires keyboard { k < 4 }
+        ensures { self.new ≡ all_done self.old (typed_deeds self.old n (key_on self.old k n e)) }
     {
         let mut keys = self.inputs.keys(n);
         let modes = self.key_modes(n);
         let out = self
             .board
             .keyboard
-            .key(e, &self.board.tables, &mut keys, modes);
+            .key(k, e, &self.board.tables, &mut keys, modes);
         self.inputs.set_keys(n, keys);
         self.take_key(n, &out);
     }

@@ -1,6 +1,7 @@
-//! The keyboard: its bytes, the settings of a console's keys, the key tables and the scan numbers.
-ghost use Rattle.std.specs.Prelude.{◌≡◌, ◌≤◌, [], IsTrue, length};
+//! The keyboards: their bytes, the settings of a console's keys, the key tables and the scan numbers.
+ghost use Rattle.std.specs.Prelude.{◌≡◌, ◌<◌, ◌≤◌, [], IsTrue, length, unwrap_or};
 ghost use Rattle.key_tables.specs.Tables.{exists_in};
+ghost use Rattle.vt_base.specs.Keyboards.{keyboard_of};
 ghost use Rattle.vt_events.specs.declared.event.Event.TheVariants as event;
 ghost use Rattle.vt_world.specs.Deeds.{Keyed, Own, done};
 ghost use Rattle.vt_world.specs.Rows.{lights_of};
@@ -28,13 +29,13 @@ const MOST: u16 = 255;
 const MOST_BYTES: usize = 255;
 
 impl World {
-    /// A byte of the keyboard.
-    pub(crate) fn scan(&mut self, b: u8) -> Result<Reply, Errno>
-        requires { self.old.trace.marks ≡ [] }
-        ensures { Has (own_effect self.old 0 (event.Scan b)) self.new result }
+    /// A byte of a keyboard.
+    pub(crate) fn scan(&mut self, p: CallerNo, b: u8) -> Result<Reply, Errno>
+        requires clear { self.old.trace.marks ≡ [] }
+        ensures { Has (own_effect self.old p (event.Scan b)) self.new result }
     {
         let front = self.switch.front();
-        self.scan_on(front, b);
+        self.scan_on(number_of(p), front, b);
         Ok(Reply::Done)
     }
 
@@ -229,7 +230,7 @@ impl World {
         Ok(Reply::Text(reply))
     }
 
-    /// Gives a scan number another keycode (ioctl_console(2), KDSETKEYCODE).
+    /// Gives a scan number another keycode on all keyboards (ioctl_console(2), KDSETKEYCODE).
     pub(crate) fn set_code(
         &mut self,
         p: CallerNo,
@@ -240,9 +241,10 @@ impl World {
         ensures { Has (own_effect self.old p (event.SetCode fd scan code)) self.new result }
     {
         self.handled(p, fd)?;
-        if self.board.scanner.set(scan, code).is_err() {
+        if self.board.scanners[0].get(scan).is_err() || code > MOST {
             return Err(Errno::Inval);
         }
+        self.board.set_code(scan, code);
         Ok(Reply::Done)
     }
 
@@ -251,10 +253,21 @@ impl World {
         ensures { Has (own_effect self.old p (event.GetCode fd scan)) self.new result }
     {
         self.opened(p, fd)?;
-        let Ok(code) = self.board.scanner.get(scan) else {
+        let Ok(code) = self.board.scanners[0].get(scan) else {
             return Err(Errno::Inval);
         };
         Ok(Reply::Num(u32::from(code)))
+    }
+}
+
+// Which keyboard this is: 0 for a process, whose bytes are refused before.
+fn number_of(p: CallerNo) -> u8
+    ensures number { result ≡ unwrap_or (keyboard_of p) 0 }
+    ensures high { result < 4 }
+{
+    match p.keyboard_no() {
+        Some(k) => k,
+        None => 0,
     }
 }
 

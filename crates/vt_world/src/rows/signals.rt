@@ -7,7 +7,7 @@ ghost use Rattle.vt_world.specs.Step.{Has, own_effect};
 
 use crate::World;
 use crate::effects::attention::KILL;
-use vt_base::{CallerNo, Errno, Signal};
+use vt_base::{CallerNo, Errno, PROCESSES, Signal};
 use vt_events::Reply;
 
 impl World {
@@ -47,21 +47,22 @@ impl World {
         Ok(Reply::Done)
     }
 
-    /// The end of the caller (exit(2)).
+    /// The end of the caller (exit(2)). The keys of a keyboard go with it.
     pub(crate) fn exit(&mut self, p: CallerNo) -> Result<Reply, Errno>
         requires { self.old.trace.marks ≡ [] }
         ensures { Has (own_effect self.old p event.Exit) self.new result }
     {
         self.end(p);
+        self.board.unplug(p);
         Ok(Reply::Done)
     }
 }
 
-// The process of a number, if it is one: the keyboard isn't.
+// The process of a number, if it is one: keyboards aren't.
 fn process_of(q: u16) -> Option<CallerNo>
     ensures { result ≡ in_range 1 64 q }
 {
-    if q == 0 {
+    if q == 0 || PROCESSES < usize::from(q) {
         return None;
     }
     CallerNo::new(q)

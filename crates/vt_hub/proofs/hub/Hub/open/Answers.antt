@@ -1,4 +1,4 @@
-use Rattle.vt_hub.specs.Told.{display_of}
+use Rattle.vt_hub.specs.Carrying.{display_of}
 use Rattle.vt_hub.proofs.Opens.{keeps-none}
 use Rattle.vt_hub.proofs.hub.Hub.open.Goals as goal
 

@@ -6,8 +6,8 @@ use Rattle.atomic_table.specs.Seated.{TableId}
 use Rattle.vt_events.specs.declared.entry.Entry.{Entry}
 use Rattle.vt_journal.specs.declared.full.Full.{Full}
 use Rattle.vt_hub.specs.Shared.{Enters, IsSound, SharedView}
-use Rattle.vt_hub.specs.Told.{told}
-use Rattle.vt_hub.proofs.Carried.{length-told}
+use Rattle.vt_hub.specs.Carrying.{carried}
+use Rattle.vt_hub.proofs.Carried.{length-carried}
 use Rattle.vt_hub.specs.Shared.{Stops, Waits}
 use Rattle.vt_hub.specs.Views.{PassView}
 use Rattle.vt_hub.proofs.Found.{Found, adds, count, counted-after, done, few-made, found-from, full, role-after, waits}
@@ -35,7 +35,7 @@ publish-requires-clause-adds g c =
     (subst (λ (s : SharedView). IsSound start g.J.Opening.limits s) given c.sound.ensures)
     c.p.invariant.named c.p.invariant.counted c.enter-held.ensures.seen c.enter-held.ensures.mine
     c.enter-held.ensures.known c.enter-held.ensures.stands c.enter-held.ensures.named in
-    subst (AddsNext (told start c.call-answer.new.self.log.entries))
+    subst (AddsNext (carried start c.call-answer.new.self.log.entries))
     (sym c.enter-held.ensures.view.1)
     (adds start g.J.Opening.limits c.p.inside.number c.p.inside.seq (view c.p.inside.place) old
     found c.enter-held.ensures.view.0 c.call-answer.new.self c.args.event c.in-Done.at
@@ -52,7 +52,7 @@ publish-requires-clause-few g c =
     let few = c.in-Done.ensures.few in
     let same = ap (λ (s : SharedView). length s.log.entries) given in
     let seen = ap (λ v. length v.seen) c.enter-held.ensures.view.1 in
-    omega (arith, few, same, seen, length-told start old.log.entries)
+    omega (arith, few, same, seen, length-carried start old.log.entries)
 
 pub overflow_add-p : goal.overflow_add-p
 overflow_add-p g c =

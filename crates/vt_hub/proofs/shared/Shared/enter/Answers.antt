@@ -1,8 +1,9 @@
-use Rattle.std.proofs.Common.{arith, refl, sym, ap, ◌∙◌}
+use Rattle.std.proofs.Common.{arith, refl, sym, ap, subst, ◌∙◌}
 use Rattle.vt_events.specs.declared.entry.Entry.{Entry}
 use Rattle.vt_hub.specs.Histories.{made_by}
 use Rattle.vt_hub.specs.Shared.{SharedView}
-use Rattle.vt_world.specs.State.{is_waiting}
+use Rattle.vt_world.specs.State.{WorldState, is_waiting}
+use Rattle.vt_world.specs.Step.{Gives, step}
 use Rattle.vt_hub.proofs.Sounds.{IsEntryOf, enters}
 use Rattle.std.proofs.Common.{length}
 use Rattle.vt_hub.proofs.shared.Shared.enter.Goals as goal
@@ -10,7 +11,7 @@ use Rattle.vt_hub.proofs.shared.Shared.enter.Goals as goal
 pub invariant_of-self : goal.invariant_of-self
 invariant_of-self g c =
     let v : SharedView = record {
-      world = c.self.inside.world;
+      world = c.self.inside.world.value;
       log = c.self.inside.log;
       stop = c.self.inside.stop;
     } in
@@ -27,13 +28,17 @@ invariant_of-self g c =
     } in
     let of : IsEntryOf c.args.caller c.args.seq c.args.event c.step-reply.result.0 entry =
     record { caller = refl; number = refl; event = refl; reply = c.copy_into.ensures } in
+    let stepped : Gives (step v.world c.args.caller c.args.event) w.world c.step-reply.result.0 =
+    subst (λ (x : WorldState). Gives (step x c.args.caller c.args.event) w.world c.step-reply.result.0)
+    c.deref_mut.ensures.value c.step-reply.ensures.step in
+    let shown = ap (λ (x : WorldState). x.display.front) c.deref.ensures in
     enters g.J.Opening.start g.J.Opening.limits v w c.args.caller c.args.seq c.args.event
-    c.step-reply.result.0 entry of c.step-reply.ensures.step c.self.invariant c.legal_grows.ensures.more
+    c.step-reply.result.0 entry of stepped c.self.invariant c.legal_grows.ensures.more
     c.legal_grows.ensures.replay c.sizes_stay.ensures c.tickets_are_called.ensures
     (ap (λ (x : SharedView). is_waiting x.world c.args.caller) c.self.view_is ∙ c.requires.free)
     (c.requires.number
     ∙ ap (λ (x : SharedView). length (made_by c.args.caller x.log.entries)) (sym c.self.view_is))
     (ap (λ l. l.entries) c.push.ensures) (ap (λ l. l.limits) c.push.ensures)
     (ap (λ (x : SharedView). x.stop) c.self.view_is ∙ c.requires.open)
-    (omega (arith, c.get-front.ensures.low, c.get-front.ensures.same, c.display.ensures))
-    (omega (arith, c.get-front.ensures.high, c.get-front.ensures.same, c.display.ensures))
+    (omega (arith, c.get-front.ensures.low, c.get-front.ensures.same, c.display.ensures, shown))
+    (omega (arith, c.get-front.ensures.high, c.get-front.ensures.same, c.display.ensures, shown))

@@ -6,7 +6,7 @@ use Rattle.vt_procs.proofs.procs.Procs.start.Goals as goal
 
 pub returns : goal.returns
 returns c =
-    let list : c.loop-p.callers ≡ map (starting c.args.list.now) (range_with_len 0 65) =
-    fill_by_all (starting c.args.list.now) c.loop-p.callers 65 no_caller c.loop-p.invariant.places
+    let list : c.loop-p.callers ≡ map (starting c.args.keyboards c.args.list.now) (range_with_len 0 68) =
+    fill_by_all (starting c.args.keyboards c.args.list.now) c.loop-p.callers 68 no_caller c.loop-p.invariant.places
     (λ k within. c.loop-p.invariant.filled k (omega arith)) in
     λ i. record { list = list i; accepter = None }

@@ -4,6 +4,6 @@ use Rattle.vt_procs.proofs.procs.Procs.start.Given as goal
 
 abbrev pub invariant-loop-p : goal.invariant-loop-p
 invariant-loop-p l = record {
-  places : length l.callers ≡ 65;
-  filled : (k : ℕ) → k < l.p → get_or l.callers k no_caller ≡ starting l.list k;
+  places : length l.callers ≡ 68;
+  filled : (k : ℕ) → k < l.p → get_or l.callers k no_caller ≡ starting l.keyboards l.list k;
 }

@@ -9,6 +9,6 @@ use Rattle.vt_world.proofs.world.World.read.Goals as goal
 pub returns-in-Some : goal.returns-in-Some
 returns-in-Some c =
     let w : WorldState = the_view c.self.inside in
-    read-told w c.type_key.new.self c.args.n c.args.b c.in-Some.e c.push.new.self
-    (sym c.push.ensures.event ∙ c.in-Some.is) c.push.ensures.rest c.type_key.ensures
-    ∙ ap (λ (u : WorldState). all_done u (read_deeds u c.args.n c.args.b)) c.self.view_is
+    read-told w c.type_key.new.self c.args.k c.args.n c.args.b c.in-Some.e c.read.new.self
+    (sym c.read.ensures.event ∙ c.in-Some.is) c.read.ensures.rest c.type_key.ensures
+    ∙ ap (λ (u : WorldState). all_done u (read_deeds u c.args.k c.args.n c.args.b)) c.self.view_is

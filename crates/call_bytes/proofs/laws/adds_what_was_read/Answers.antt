@@ -1,0 +1,11 @@
+use Rattle.call_bytes.proofs.KeptBytes.{colours-kept, pairs-kept, words-kept}
+use Rattle.call_bytes.proofs.laws.adds_what_was_read.Goals as goal
+
+pub returns-clause-pairs : goal.returns-clause-pairs
+returns-clause-pairs c = pairs-kept
+
+pub returns-clause-words : goal.returns-clause-words
+returns-clause-words c = words-kept
+
+pub returns-clause-colours : goal.returns-clause-colours
+returns-clause-colours c = colours-kept

@@ -1,0 +1,61 @@
+-- A keyboard's keys go one after another.
+use Rattle.std.proofs.Common.{◌≡◌, ℕ, ◌+◌, ◌/◌, ◌%◌, ◌<◌, ◌==◌, ◌&&◌, not, Bool, true, false, List, [], ◌∷◌, Option, Some, None, refl, ap, arith, ltb, inl, inr, ⊎_elim}
+use Rattle.std.specs.Prelude.{filter}
+use Rattle.std.proofs.lemmas.Bool.{cases_Bool, cases_order, eq-eqb, and_right}
+use Rattle.key_machine.specs.Held.{downs, downs_from, left_to, stays}
+use Rattle.key_machine.specs.Keys.{Down, down_as, is_key, without_key, without_keyboard}
+use Rattle.key_machine.proofs.Places.{apart, less, not-less}
+use Rattle.key_syms.specs.Act.{Act}
+
+none_yet : (from : ℕ) (d : Down) → stays from 0 d ≡ true
+none_yet from d =
+    rw (not-less d.code 0 (omega arith)) (rw (and_right (d.from == from) false refl) refl)
+
+pub left-first : (from : ℕ) (down : List Down) → left_to from 0 down ≡ down
+left-first from [] = refl
+left-first from (d ∷ down) = rw (none_yet from d) (ap (λ (ds : List Down). d ∷ ds) (left-first from down))
+
+-- one key more
+stays_next : (from n : ℕ) (d : Down) → stays from (n + 1) d ≡ (stays from n d && not (is_key from n d))
+stays_next from n d = ⊎_elim
+    (λ (here : (d.from == from) ≡ true). rw here (elim (cases_order d.code n) [
+      | inl same ↦ rw (eq-eqb d.code n same, not-less d.code n (omega (arith, same)), less d.code (n + 1) (omega (arith, same))) refl
+      | inr (inl lt) ↦ rw (apart d.code n (λ same. omega (arith, same, lt)), less d.code n lt, less d.code (n + 1) (omega (arith, lt))) refl
+      | inr (inr gt) ↦ rw (apart d.code n (λ same. omega (arith, same, gt)), not-less d.code n (omega (arith, gt)), not-less d.code (n + 1) (omega (arith, gt))) refl
+    ]))
+    (λ (other : (d.from == from) ≡ false). rw other refl)
+    (cases_Bool (d.from == from))
+
+filter_twice : (p q r : Down → Bool) → ((d : Down) → r d ≡ (p d && q d)) → (down : List Down)
+    → filter q (filter p down) ≡ filter r down
+filter_twice p q r both [] = refl
+filter_twice p q r both (d ∷ down) = ⊎_elim
+    (λ (kept : p d ≡ true). rw (both d, kept) (⊎_elim
+    (λ (again : q d ≡ true). rw again (ap (λ (ds : List Down). d ∷ ds) (filter_twice p q r both down)))
+    (λ (left : q d ≡ false). rw left (filter_twice p q r both down))
+    (cases_Bool (q d))))
+    (λ (left : p d ≡ false). rw (both d, left) (filter_twice p q r both down))
+    (cases_Bool (p d))
+
+pub left-next : (from n : ℕ) (down : List Down)
+    → without_key (left_to from n down) from n ≡ left_to from (n + 1) down
+unfolding without_key
+left-next from n down =
+    filter_twice (stays from n) (λ d. not (is_key from n d)) (stays from (n + 1)) (stays_next from n) down
+
+-- below 256 are all keycodes
+all_from : (entries : List (Option Act)) (from n : ℕ)
+    → left_to from 256 (downs_from n entries) ≡ filter (λ (d : Down). not (d.from == from)) (downs_from n entries)
+all_from [] from n = refl
+all_from (None ∷ entries) from n = all_from entries from (n + 1)
+all_from (Some a ∷ entries) from n =
+    rw (less (n % 256) 256 (omega arith)) (⊎_elim
+    (λ (here : (n / 256 == from) ≡ true). rw here (all_from entries from (n + 1)))
+    (λ (other : (n / 256 == from) ≡ false).
+    rw other (ap (λ (ds : List Down). down_as (n / 256) (n % 256) a ∷ ds) (all_from entries from (n + 1))))
+    (cases_Bool (n / 256 == from)))
+
+pub left-all : (entries : List (Option Act)) (from : ℕ)
+    → left_to from 256 (downs entries) ≡ without_keyboard (downs entries) from
+unfolding downs without_keyboard
+left-all entries from = all_from entries from 0

@@ -1,0 +1,28 @@
+-- Histories as the lock carries them: each entry with the display after it. This project's own.
+use Rattle.std.specs.Prelude.{ℕ, min, max, List, [], ◌∷◌, map}
+use Rattle.turn_lock.specs.declared.entry.Entry as logged
+use Rattle.vt_events.specs.declared.entry.Entry.{Entry}
+use Rattle.vt_world.specs.State.{WorldState}
+use Rattle.vt_world.specs.Step.{step}
+
+-- the display before the first entry, as a number from 1 to 63
+abbrev pub display_of : WorldState → ℕ
+display_of w = max 1 (min 63 w.display.front)
+
+-- an entry with the display after it
+abbrev pub Carried : Type 0
+Carried = logged.Entry Entry
+
+abbrev pub carried_entry : ℕ → Entry → Carried
+carried_entry display e = record { by = e.caller; seq = e.seq; display = display; what = e }
+
+-- the entries, from this world on, each with the display after it
+abbrev pub carried : WorldState → List Entry → List Carried
+carried w [] = []
+carried w (e ∷ es) =
+    let after : WorldState = (step w e.caller e.event).world in
+    carried_entry after.display.front e ∷ carried after es
+
+-- the entries without their displays
+abbrev pub plain : List Carried → List Entry
+plain es = map (λ (e : Carried). e.what) es

@@ -1,0 +1,13 @@
+use Rattle.vt_switch.proofs.Due.{hops-are-due}
+use Rattle.vt_switch.proofs.Marks.{hops_of_marks}
+use Rattle.vt_switch.proofs.Told.{one-news-is-told}
+use Rattle.vt_switch.proofs.laws.acts_tell_one_thing.Goals as goal
+
+pub returns-clause-due : goal.returns-clause-due
+returns-clause-due c = hops-are-due
+
+pub returns-clause-hop : goal.returns-clause-hop
+returns-clause-hop c = hops_of_marks
+
+pub returns-clause-news : goal.returns-clause-news
+returns-clause-news c = one-news-is-told

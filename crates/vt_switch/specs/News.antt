@@ -1,0 +1,39 @@
+-- What a trace tells of the display: who is asked to let it go, and where it goes. This project's own.
+use Rattle.std.specs.Prelude.{◌≡◌, ◌≤◌, ℕ, List, [], ◌∷◌, ◌++◌, length, option_to_list}
+use Rattle.vt_switch.specs.Acts.{SwitchAct, hop_of}
+use Rattle.vt_switch.specs.Moments.{Core, core_after, hops, marks}
+use Rattle.vt_switch.specs.declared.hop.Hop.{Hop}
+use Rattle.vt_switch.specs.declared.mark.Mark.{Mark}
+use Rattle.vt_switch.specs.declared.mark.Mark.TheVariants as mark
+
+-- a process is asked, by a signal, to let the display go to a console
+pub record Ask : Type 0 where
+  pub to : ℕ
+  pub owner : ℕ
+  pub signal : ℕ
+
+pub data News : Type 0 where
+  Asking : Ask → News
+  Going : Hop → News
+
+-- all that a trace tells, in order; the raise of who is asked stands right after its request
+abbrev pub news : List Mark → List News
+news [] = []
+news (mark.Asked n ∷ mark.Raised p signal ∷ told) =
+    Asking (record { to = n; owner = p; signal = signal }) ∷ news told
+news (mark.Hopped hop ∷ told) = Going hop ∷ news told
+news (m ∷ told) = news told
+
+-- what acts tell, one after another
+abbrev pub news_of : Core → List SwitchAct → List News
+news_of k [] = []
+news_of k (act ∷ acts) = news (marks k act) ++ news_of (core_after k act) acts
+
+-- the hops of an act's trace are the one that it makes
+abbrev pub OneHopIsTold : Type 0
+OneHopIsTold =
+    (k : Core) (act : SwitchAct) → hops (marks k act) ≡ option_to_list (hop_of k.display act)
+
+-- an act asks somebody, or moves the display, once at most
+abbrev pub OneNewsIsTold : Type 0
+OneNewsIsTold = (k : Core) (act : SwitchAct) → length (news (marks k act)) ≤ 1

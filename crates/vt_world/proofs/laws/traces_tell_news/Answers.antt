@@ -1,0 +1,9 @@
+use Rattle.vt_world.proofs.Moments.{moments-grow}
+use Rattle.vt_world.proofs.Tellings.{traces-tell-news}
+use Rattle.vt_world.proofs.laws.traces_tell_news.Goals as goal
+
+pub returns-clause-news : goal.returns-clause-news
+returns-clause-news c = traces-tell-news
+
+pub returns-clause-moments : goal.returns-clause-moments
+returns-clause-moments c = moments-grow
