@@ -10,6 +10,7 @@ use Rattle.session_order.proofs.Deeds.{NoWait, OneWait, RowDoes, all-done-age, r
 use Rattle.session_order.proofs.Steps.{Accepted, RefusedByAll, RefusedByOwn, StepDoes, accepted, common-none, none-common, step-does}
 use Rattle.session_text.specs.Programs.{is_exit}
 use Rattle.vt_events.specs.Waits.{is_wait}
+use Rattle.vt_base.specs.Keyboards.{is_keyboard}
 use Rattle.vt_base.specs.declared.errno.Errno.{Errno}
 use Rattle.vt_base.specs.declared.errno.Errno.TheVariants as errno
 use Rattle.vt_events.specs.declared.event.Event.{Event}
@@ -178,7 +179,7 @@ own_tested : (held shut : Bool) → held ≡ true → shut ≡ false
 own_tested held shut is isnt = λ i. waitend_tested (is i) (isnt i)
 
 collect_does : (w : WorldState) (p : ℕ) (o : Outcome) → StepDoes w p event.WaitEnd o
-    → is_live w.callers p ≡ true → (p == 0) ≡ false
+    → is_live w.callers p ≡ true → is_keyboard p ≡ false
     → holds (caller_at w.callers p).waiting ≡ true
     → is_open (caller_at w.callers p).waiting ≡ false
     → holds (caller_at o.world.callers p).waiting ≡ false
@@ -197,7 +198,7 @@ collect_does w p o (Accepted none is) alive process held shut =
 
 -- waitend of who lives takes its ticket, where that isn't open
 pub waitend-collects : (w : WorldState) (p : ℕ) (e : Event) → ends_wait e ≡ true
-    → is_live w.callers p ≡ true → (p == 0) ≡ false
+    → is_live w.callers p ≡ true → is_keyboard p ≡ false
     → holds (caller_at w.callers p).waiting ≡ true
     → is_open (caller_at w.callers p).waiting ≡ false
     → holds (caller_at (step w p e).world.callers p).waiting ≡ false

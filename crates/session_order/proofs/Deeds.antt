@@ -3,10 +3,11 @@ use Rattle.std.proofs.Common.{◌≡◌, ℕ, Bool, true, false, cond, List, [],
 use Rattle.std.proofs.lemmas.Bool.{and_parts, and_from, false≢true}
 use Rattle.std.proofs.lemmas.List.Folds.{list_all-append}
 use Rattle.std.specs.List.{flat_map, list_all, range_with_len}
-use Rattle.std.specs.Prelude.{◌==◌, not, if◌then◌else◌}
+use Rattle.std.specs.Prelude.{unwrap_or, ◌==◌, not, if◌then◌else◌}
 use Rattle.key_machine.specs.declared.key_out.KeyOut.{KeyOut}
 use Rattle.key_machine.specs.declared.key_out.KeyOut.TheVariants as heard_keys
-use Rattle.scan_codes.specs.Scan.{event_after}
+use Rattle.vt_base.specs.Keyboards.{keyboard_of}
+use Rattle.scan_codes.specs.Scan.{Scan, event_after}
 use Rattle.scan_codes.specs.declared.key_event.KeyEvent.{KeyEvent}
 use Rattle.session_order.proofs.Ages.{AllAge, accepting-age, all-stay, collected-age, ended-age, filled-age, opened-age, raised-age, shown-age, shut-age, taken-age, then_all}
 use Rattle.vt_events.specs.declared.event.Event.{Event}
@@ -28,7 +29,7 @@ use Rattle.vt_world.specs.Rows.{Row, disallocating, freeing, out_deeds, row, wai
 use Rattle.vt_world.specs.State.{WorldState, core}
 use Rattle.vt_world.specs.Terminals.{said_of, terminal_at}
 use Rattle.vt_world.specs.Refusals.{is_empty, is_in_use, target}
-use Rattle.vt_world.specs.Typing.{ends_of, key_deeds, key_on, key_out_deeds, read_deeds, scan_deeds, sent, spawn_deeds, users}
+use Rattle.vt_world.specs.Typing.{ends_of, key_deeds, key_on, key_out_deeds, read_deeds, scan_deeds, scanner_of, sent, spawn_deeds, users}
 use Rattle.vt_world.specs.Wanted.{wanted_in}
 
 -- all deeds but a wait
@@ -120,15 +121,16 @@ key_out_quiet w n heard_keys.Spawn = spawn_quiet w.callers.accepter
 key_out_quiet w n heard_keys.Attention = ends_quiet (users w n) (By (SetKd n false) ∷ []) refl
 key_out_quiet w n out = refl
 
-key_quiet : (w : WorldState) (n : ℕ) (e : Option KeyEvent) → all_quiet (key_deeds w n e) ≡ true
-key_quiet w n None = refl
-key_quiet w n (Some e) = key_out_quiet w n (key_on w n e).out
+key_quiet : (w : WorldState) (k n : ℕ) (e : Option KeyEvent) → all_quiet (key_deeds w k n e) ≡ true
+key_quiet w k n None = refl
+key_quiet w k n (Some e) = key_out_quiet w n (key_on w k n e).out
 
-scan_quiet : (w : WorldState) (n b : ℕ) → all_quiet (scan_deeds w n b) ≡ true
-scan_quiet w n b =
-    let read : all_quiet (read_deeds w n b) ≡ true =
-    key_quiet w n (event_after w.board.scanner.codes w.board.scanner.bytes b) in
-    elim ((input_at w.inputs n).keys.mode == 0) as (λ raw. all_quiet (if raw then Own (Puts n (b ∷ [])) ∷ read_deeds w n b else read_deeds w n b) ≡ true)
+scan_quiet : (w : WorldState) (k n b : ℕ) → all_quiet (scan_deeds w k n b) ≡ true
+scan_quiet w k n b =
+    let scanner : Scan = scanner_of w.board.scanners k in
+    let read : all_quiet (read_deeds w k n b) ≡ true =
+    key_quiet w k n (event_after scanner.codes scanner.bytes b) in
+    elim ((input_at w.inputs n).keys.mode == 0) as (λ raw. all_quiet (if raw then Own (Puts n (b ∷ [])) ∷ read_deeds w k n b else read_deeds w k n b) ≡ true)
     [ true ↦ read | false ↦ read ]
 
 out_quiet : (c : ℕ) (out : Out) → all_quiet (out_deeds c out) ≡ true
@@ -152,7 +154,7 @@ waits_does true p ticket = NoWait (record { reply = reply.Done; deeds = [] }) re
 waits_does false p ticket = OneWait ticket
 
 pub row-does : (w : WorldState) (p : ℕ) (e : Event) → RowDoes p (row w p e)
-row-does w p (event.Scan b) = NoWait (row w p (event.Scan b)) (scan_quiet w w.display.front b)
+row-does w p (event.Scan b) = NoWait (row w p (event.Scan b)) (scan_quiet w (unwrap_or (keyboard_of p) 0) w.display.front b)
 row-does w p (event.Write fd b) =
     NoWait (row w p (event.Write fd b))
     (flat_quiet (out_deeds (target w p fd)) (said_of (terminal_at w.terminals (target w p fd)) b.bytes) (out_quiet (target w p fd)))

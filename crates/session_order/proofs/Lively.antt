@@ -13,6 +13,7 @@ use Rattle.session_order.proofs.Programs.{next-fine}
 use Rattle.session_order.proofs.Steps.{exit-never-waits, gone-dead, keyboard-never-waits}
 use Rattle.session_order.specs.Calls.{call_of, calls_by, next_by, next_of}
 use Rattle.session_text.specs.Programs.{Call, call, ends, is_exit, is_gone, is_kill, next}
+use Rattle.vt_base.specs.Keyboards.{is_keyboard}
 use Rattle.vt_events.specs.Waits.{is_wait}
 use Rattle.session_text.specs.declared.program.Program.{Program}
 use Rattle.vt_events.specs.declared.entry.Entry.{Entry}
@@ -26,10 +27,10 @@ use Rattle.vt_world.specs.State.{WorldState}
 use Rattle.vt_world.specs.Step.{step}
 use Rattle.vt_world.specs.Refusals.{ends_wait}
 
--- p has waitend next, and isn't the keyboard
+-- p has waitend next, and is no keyboard
 pub record HasWaitEnd (p : ℕ) (next : Option Event) : Type 0 where
   pub waitend : next ≡ Some event.WaitEnd
-  pub process : (p == 0) ≡ false
+  pub process : is_keyboard p ≡ false
 
 -- the callers c after a history h of the programs
 pub record IsLively (programs : List Program) (h : List Entry) (c : Callers) : Type 0 where

@@ -7,10 +7,10 @@ use Rattle.std.specs.List.{list_all, range_with_len, sum_by}
 use Rattle.std.specs.Prelude.{◌==◌, ◌&&◌, count_by, nat_le, nat_lt, slice_get}
 use Rattle.session_order.proofs.Programs.{next-fine, plain-twice}
 use Rattle.session_order.specs.Calls.{call_of, calls_by, is_none, next_by, next_of}
-use Rattle.session_order.specs.Ends.{Stage}
+use Rattle.session_order.specs.Ends.{Setup}
 use Rattle.vt_journal.specs.Room.{IsWithin, has_room}
 use Rattle.session_order.specs.Follows.{IsNextCall, is_waiting}
-use Rattle.session_order.specs.Meant.{EndsIsMeant, FollowsIsMeant, LegalIsMeant, NextIsMeant, NextIsPlain, ReplayIsMeant, meant}
+use Rattle.session_order.specs.Meant.{EndsIsMeant, FollowsIsMeant, LegalIsMeant, NextIsMeant, NextIsPlain, ReplayIsMeant, plain_history}
 use Rattle.session_text.specs.Programs.{call}
 use Rattle.session_text.specs.declared.program.Program.{Program}
 use Rattle.vt_events.specs.Charge.{charge_of}
@@ -63,10 +63,10 @@ wait_meant e = refl
 pub replay-meant : ReplayIsMeant
 replay-meant start [] = refl
 replay-meant start (entry ∷ entries) =
-    ap (λ (o : Outcome). replay o.world (meant entries)) (step-meant start entry.caller entry.event)
+    ap (λ (o : Outcome). replay o.world (plain_history entries)) (step-meant start entry.caller entry.event)
     ∙ replay-meant (step start entry.caller entry.event).world entries
 
-pub charges-meant : (entries : List Entry) → charge_of_all (meant entries) ≡ charge_of_all entries
+pub charges-meant : (entries : List Entry) → charge_of_all (plain_history entries) ≡ charge_of_all entries
 charges-meant entries =
     fold-map (λ n (x : Entry). n + charge_of x.event) plain_entry 0 entries
     ∙ (λ i. sum_by (λ (x : Entry). charge_meant x.event i) entries)
@@ -75,39 +75,39 @@ call_meant : (entry : Entry) → call_of (plain_entry entry) ≡ call_of entry
 call_meant entry = λ i. call (plain-twice entry.event i) (reply_twice entry.reply i)
 
 -- the calls of p
-pub calls-meant : (p : ℕ) (entries : List Entry) → calls_by p (meant entries) ≡ calls_by p entries
+pub calls-meant : (p : ℕ) (entries : List Entry) → calls_by p (plain_history entries) ≡ calls_by p entries
 calls-meant p [] = refl
 calls-meant p (entry ∷ entries) =
-    elim (entry.caller == p) as (λ b. map call_of (cond b (plain_entry entry ∷ filter (λ (x : Entry). x.caller == p) (meant entries)) (filter (λ (x : Entry). x.caller == p) (meant entries))) ≡ map call_of (cond b (entry ∷ filter (λ (x : Entry). x.caller == p) entries) (filter (λ (x : Entry). x.caller == p) entries)))
+    elim (entry.caller == p) as (λ b. map call_of (cond b (plain_entry entry ∷ filter (λ (x : Entry). x.caller == p) (plain_history entries)) (filter (λ (x : Entry). x.caller == p) (plain_history entries))) ≡ map call_of (cond b (entry ∷ filter (λ (x : Entry). x.caller == p) entries) (filter (λ (x : Entry). x.caller == p) entries)))
     [ true ↦ (λ i. call_meant entry i ∷ calls-meant p entries i) | false ↦ calls-meant p entries ]
 
 counts_meant : (p : ℕ) (entries : List Entry)
-    → count_by (λ (x : Entry). x.caller == p) (meant entries) ≡ count_by (λ (x : Entry). x.caller == p) entries
+    → count_by (λ (x : Entry). x.caller == p) (plain_history entries) ≡ count_by (λ (x : Entry). x.caller == p) entries
 counts_meant p entries =
     fold-map (λ n (x : Entry). n + cond (x.caller == p) 1 0) plain_entry 0 entries
 
 next_meant : (programs : List Program) (p : ℕ) (entries : List Entry)
-    → next_by programs p (meant entries) ≡ next_by programs p entries
+    → next_by programs p (plain_history entries) ≡ next_by programs p entries
 next_meant programs p entries = ap (next_of (slice_get programs p)) (calls-meant p entries)
 
 waiting_meant : (start : WorldState) (p : ℕ) (entries : List Entry)
-    → is_waiting (replay start (meant entries)) p ≡ is_waiting (replay start entries) p
+    → is_waiting (replay start (plain_history entries)) p ≡ is_waiting (replay start entries) p
 waiting_meant start p entries = ap (λ w. is_waiting w p) (replay-meant start entries)
 
 -- an entry of a history as it is meant, right behind those before it
 at_meant : (P : List Entry → Entry → Type 0) (entries : List Entry) (k : ℕ) (entry : Entry)
     → slice_get entries k ≡ Some entry
-    → ((entry : Entry) → slice_get (meant entries) k ≡ Some entry → P (take k (meant entries)) entry)
-    → P (meant (take k entries)) (plain_entry entry)
+    → ((entry : Entry) → slice_get (plain_history entries) k ≡ Some entry → P (take k (plain_history entries)) entry)
+    → P (plain_history (take k entries)) (plain_entry entry)
 at_meant P entries k entry here each =
-    let there : slice_get (meant entries) k ≡ Some (plain_entry entry) =
+    let there : slice_get (plain_history entries) k ≡ Some (plain_entry entry) =
     slice_get-map plain_entry entries k ∙ ap (option_map plain_entry) here in
     subst (λ before. P before (plain_entry entry)) (take-map plain_entry k entries) (each (plain_entry entry) there)
 
 pub legal-meant : LegalIsMeant
 legal-meant start entries legal k entry here =
     let before : List Entry = take k entries in
-    let next : IsNext start (meant before) (plain_entry entry) =
+    let next : IsNext start (plain_history before) (plain_entry entry) =
     at_meant (IsNext start) entries k entry here (legal k) in
     record {
       answer =
@@ -121,25 +121,25 @@ legal-meant start entries legal k entry here =
 pub follows-meant : FollowsIsMeant
 follows-meant start programs entries follows k entry here =
     let before : List Entry = take k entries in
-    let next : IsNextCall start programs (meant before) (plain_entry entry) =
+    let next : IsNextCall start programs (plain_history before) (plain_entry entry) =
     at_meant (IsNextCall start programs) entries k entry here (follows k) in
     record {
       next = sym (next_meant programs entry.caller before) ∙ next.next ∙ ap Some (plain-twice entry.event);
       ended = λ waitend. sym (waiting_meant start entry.caller before) ∙ next.ended (wait_meant entry.event ∙ waitend);
     }
 
-room_meant : (o : Stage) (entries : List Entry) (charge : ℕ)
-    → has_room o.limits (meant entries) charge ≡ has_room o.limits entries charge
+room_meant : (o : Setup) (entries : List Entry) (charge : ℕ)
+    → has_room o.limits (plain_history entries) charge ≡ has_room o.limits entries charge
 room_meant o entries charge =
     λ i. nat_lt (length-map entries plain_entry i) o.limits.events && nat_le (charges-meant entries i + charge) o.limits.bytes
 
 over_meant : (programs : List Program) (entries : List Entry) (callers : List ℕ)
-    → list_all (λ p. is_none (next_by programs p (meant entries))) callers ≡ list_all (λ p. is_none (next_by programs p entries)) callers
+    → list_all (λ p. is_none (next_by programs p (plain_history entries))) callers ≡ list_all (λ p. is_none (next_by programs p entries)) callers
 over_meant programs entries [] = refl
 over_meant programs entries (p ∷ callers) =
     λ i. is_none (next_meant programs p entries i) && over_meant programs entries callers i
 
-within_meant : (o : Stage) (entries : List Entry) → IsWithin o.limits (meant entries) → IsWithin o.limits entries
+within_meant : (o : Setup) (entries : List Entry) → IsWithin o.limits (plain_history entries) → IsWithin o.limits entries
 within_meant o entries within = record {
   events = subst (λ n. n ≤ o.limits.events) (length-map entries plain_entry) within.events;
   bytes = subst (λ n. n ≤ o.limits.bytes) (charges-meant entries) within.bytes;

@@ -1,18 +1,18 @@
 -- A play from a start goes on until it is finished.
 use Rattle.std.proofs.Common.{◌≡◌, ◌⊎◌, ℕ, ◌+◌, ◌-◌, ◌<◌, ◌≤◌, zero, suc, Bool, true, false, ⊎_elim, inl, inr, arith, List, [], ◌∷◌, ◌++◌, length, get_or, map, Option, Some, None, refl, sym, ap, ◌∙◌, subst, length-append}
-use Rattle.std.proofs.lemmas.Bool.{and_cases, and_parts, both_ways, cases_Bool, cases_lt, eqb-false, eqb-true, false_from_ne_true, false≢true, not-true, or_cases, or_left, true≢false}
+use Rattle.std.proofs.lemmas.Bool.{and_cases, and_parts, both_ways, cases_Bool, cases_lt, eqb-false, eqb-true, false_from_ne_true, false≢true, ltb-true, not-true, or_cases, or_left, true≢false}
 use Rattle.std.proofs.lemmas.List.{get_or_past}
 use Rattle.std.proofs.lemmas.List.FromFn.{get_or-map-range_with_len, length-map-range_with_len}
 use Rattle.std.proofs.lemmas.Option.{none-some, slice_get_cases, slice_get_within}
 use Rattle.std.specs.List.{list_all, list_any, range_with_len}
-use Rattle.std.specs.Prelude.{◌==◌, not, is_some, slice_get, if◌then◌else◌}
+use Rattle.std.specs.Prelude.{◌==◌, nat_lt, not, is_some, slice_get, if◌then◌else◌}
 use Rattle.session_order.proofs.Ages.{holds}
 use Rattle.session_order.proofs.Alive.{next-alive}
 use Rattle.session_order.proofs.Lively.{IsLively, Now, lively-more}
 use Rattle.session_order.proofs.Rounds.{finished-stays, is_none_none}
 use Rattle.session_order.proofs.Turns.{Enters, FindsFull, Goes, Skips, TurnDoes, event-plain, goes-nothing, reply-plain, turn-does, turns-go}
 use Rattle.session_order.specs.Calls.{all_over, calls_by, is_none, next_by, next_of}
-use Rattle.session_order.specs.Ends.{Stage}
+use Rattle.session_order.specs.Ends.{Setup}
 use Rattle.session_order.specs.Follows.{is_waiting}
 use Rattle.session_order.specs.Laws.{IsFromStart, RoundsGoOn, SerialEnds}
 use Rattle.session_order.specs.Serial.{Played, call_now, entry_at, is_finished, nothing_played, round, rounds, turn, turns}
@@ -31,38 +31,43 @@ use Rattle.vt_world.specs.Step.{step}
 
 -- a caller at the start
 start_at : (starts : List ProcStart) (q : ℕ)
-    → (caller_at (callers_of starts) q ≡ starting starts q) ⊎ (caller_at (callers_of starts) q ≡ no_caller)
+    → (caller_at (callers_of 1 starts) q ≡ starting 1 starts q) ⊎ (caller_at (callers_of 1 starts) q ≡ no_caller)
 start_at starts q = ⊎_elim
-    (λ within. inl (get_or-map-range_with_len (starting starts) 0 65 q q no_caller within (omega arith)))
-    (λ past. inr (get_or_past (map (starting starts) (range_with_len 0 65)) q no_caller
-    (omega (arith, past, length-map-range_with_len (starting starts) 0 65))))
-    (cases_lt q 65)
+    (λ within. inl (get_or-map-range_with_len (starting 1 starts) 0 68 q q no_caller within (omega arith)))
+    (λ past. inr (get_or_past (map (starting 1 starts) (range_with_len 0 68)) q no_caller
+    (omega (arith, past, length-map-range_with_len (starting 1 starts) 0 68))))
+    (cases_lt q 68)
 
-starting_free : (first : Bool) (start : Option ProcStart)
-    → holds (if first then keyboard else caller_of start).waiting ≡ false
-starting_free true start = refl
-starting_free false None = refl
-starting_free false (Some start) = refl
+starting_free : (q : ℕ) (first further : Bool) (start : Option ProcStart)
+    → holds (if first then keyboard 1 0 else if further then keyboard 1 (q - 64) else caller_of start).waiting ≡ false
+starting_free q true further start = refl
+starting_free q false true start = refl
+starting_free q false false None = refl
+starting_free q false false (Some start) = refl
 
-starting_lives : (starts : List ProcStart) (q : ℕ) (first : Bool) (start : Option ProcStart)
-    → (q == 0) ≡ first → slice_get starts (q - 1) ≡ start
-    → (if first then keyboard else caller_of start).live ≡ true → q < length starts + 1
-starting_lives starts q true start first here live = omega (arith, eqb-true q 0 first)
-starting_lives starts q false None first here live = absurd (false≢true live)
-starting_lives starts q false (Some start) first here live =
+-- of one keyboard and the processes, no other caller lives
+starting_lives : (starts : List ProcStart) (q : ℕ) (first further : Bool) (start : Option ProcStart)
+    → (q == 0) ≡ first → nat_lt 64 q ≡ further → slice_get starts (q - 1) ≡ start
+    → (if first then keyboard 1 0 else if further then keyboard 1 (q - 64) else caller_of start).live ≡ true
+    → q < length starts + 1
+starting_lives starts q true further start first high here live = omega (arith, eqb-true q 0 first)
+starting_lives starts q false true start first high here live =
+    absurd (omega (arith, ltb-true 64 q high, ltb-true (q - 64) 1 live))
+starting_lives starts q false false None first high here live = absurd (false≢true live)
+starting_lives starts q false false (Some start) first high here live =
     let apart : q ≡ 0 → ⊥ = eqb-false q 0 first in
     omega (arith, slice_get_within starts (q - 1) start here, apart)
 
 start_free : (starts : List ProcStart) (q : ℕ)
-    → holds (caller_at (callers_of starts) q).waiting ≡ false
+    → holds (caller_at (callers_of 1 starts) q).waiting ≡ false
 start_free starts q = ⊎_elim
-    (λ here. ap (λ (a : Process). holds a.waiting) here ∙ starting_free (q == 0) (slice_get starts (q - 1)))
+    (λ here. ap (λ (a : Process). holds a.waiting) here ∙ starting_free q (q == 0) (nat_lt 64 q) (slice_get starts (q - 1)))
     (λ none. ap (λ (a : Process). holds a.waiting) none) (start_at starts q)
 
-start_known : (starts : List ProcStart) (q : ℕ) → is_live (callers_of starts) q ≡ true
+start_known : (starts : List ProcStart) (q : ℕ) → is_live (callers_of 1 starts) q ≡ true
     → q < length starts + 1
 start_known starts q live = ⊎_elim
-    (λ here. starting_lives starts q (q == 0) (slice_get starts (q - 1)) refl refl
+    (λ here. starting_lives starts q (q == 0) (nat_lt 64 q) (slice_get starts (q - 1)) refl refl refl
     (subst (λ (a : Process). a.live ≡ true) here live))
     (λ none. absurd (false≢true (subst (λ (a : Process). a.live ≡ true) none live)))
     (start_at starts q)
@@ -78,19 +83,19 @@ none_past xs q none = ⊎_elim
     (slice_get_cases xs q).1
 
 lively_start : (programs : List Program) (starts : List ProcStart)
-    → length programs ≡ length starts + 1 → IsLively programs [] (callers_of starts)
+    → length programs ≡ length starts + 1 → IsLively programs [] (callers_of 1 starts)
 lively_start programs starts len =
-    let known : (q : ℕ) → is_live (callers_of starts) q ≡ true → q < length programs =
+    let known : (q : ℕ) → is_live (callers_of 1 starts) q ≡ true → q < length programs =
     λ q live. omega (arith, start_known starts q live, len) in
     record {
-      sound = λ q held. absurd (both_ways (holds (caller_at (callers_of starts) q).waiting) (start_free starts q) held);
+      sound = λ q held. absurd (both_ways (holds (caller_at (callers_of 1 starts) q).waiting) (start_free starts q) held);
       awake = inl refl;
       known = known;
-      over = λ q none. false_from_ne_true (is_live (callers_of starts) q)
+      over = λ q none. false_from_ne_true (is_live (callers_of 1 starts) q)
           (λ live.
           let past : length programs ≤ q = none_past programs q (has_next (slice_get programs q) none) in
           let no : ⊥ = omega (arith, past, known q live) in no);
-      waits = λ q held. absurd (both_ways (holds (caller_at (callers_of starts) q).waiting) (start_free starts q) held);
+      waits = λ q held. absurd (both_ways (holds (caller_at (callers_of 1 starts) q).waiting) (start_free starts q) held);
       walked = λ q program is. tt;
     }
 
@@ -101,10 +106,10 @@ replay_more start (first ∷ h) entry =
     replay_more (step start first.caller first.event).world h entry
 
 -- the callers after a play
-abbrev pub Lives : Stage → List Entry → Type 0
+abbrev pub Lives : Setup → List Entry → Type 0
 Lives o h = IsLively o.programs h (replay o.start h).callers
 
-lives_turn : (o : Stage) (p : ℕ) (h : List Entry) (t : Played) → TurnDoes o p h t → Lives o h
+lives_turn : (o : Setup) (p : ℕ) (h : List Entry) (t : Played) → TurnDoes o p h t → Lives o h
     → Lives o t.history
 lives_turn o p h _ (Skips none) lives = lives
 lives_turn o p h _ (Enters e shut next room) lives =
@@ -116,33 +121,33 @@ lives_turn o p h _ (Enters e shut next room) lives =
     (λ i. call (event-plain o.programs p h e next i) (reply-plain w p e i)))
 lives_turn o p h _ (FindsFull e shut next none) lives = lives
 
-turn_lives : (o : Stage) (p : ℕ) (h : List Entry) (stop : Option Full) → Lives o h
+turn_lives : (o : Setup) (p : ℕ) (h : List Entry) (stop : Option Full) → Lives o h
     → Lives o (turn o p (record { history = h; stop = stop })).history
 turn_lives o p h (Some full) lives = lives
 turn_lives o p h None lives = lives_turn o p h _ (turn-does o p h) lives
 
-turns_live : (o : Stage) (callers : List ℕ) (t : Played) → Lives o t.history
+turns_live : (o : Setup) (callers : List ℕ) (t : Played) → Lives o t.history
     → Lives o (turns o callers t).history
 turns_live o [] t lives = lives
 turns_live o (p ∷ callers) t lives =
     turns_live o callers (turn o p t) (turn_lives o p t.history t.stop lives)
 
 -- a play on its way from a start
-pub record OnWay (o : Stage) (t : Played) : Type 0 where
+pub record OnWay (o : Setup) (t : Played) : Type 0 where
   pub goes : Goes o t
   pub lives : Lives o t.history
 
-round_goes_on : (o : Stage) (t : Played) → OnWay o t → OnWay o (round o t)
+round_goes_on : (o : Setup) (t : Played) → OnWay o t → OnWay o (round o t)
 round_goes_on o t way = record {
   goes = turns-go o (range_with_len 0 (length o.programs)) t way.goes;
   lives = turns_live o (range_with_len 0 (length o.programs)) t way.lives;
 }
 
-rounds_go_on : (o : Stage) (n : ℕ) (t : Played) → OnWay o t → OnWay o (rounds o n t)
+rounds_go_on : (o : Setup) (n : ℕ) (t : Played) → OnWay o t → OnWay o (rounds o n t)
 rounds_go_on o zero t way = way
 rounds_go_on o (suc n) t way = rounds_go_on o n (round o t) (round_goes_on o t way)
 
-first_goes_on : (o : Stage) (first : List ℕ) → IsFromStart o → OnWay o (turns o first nothing_played)
+first_goes_on : (o : Setup) (first : List ℕ) → IsFromStart o → OnWay o (turns o first nothing_played)
 first_goes_on o first is = record {
   goes = turns-go o first nothing_played (goes-nothing o);
   lives = turns_live o first nothing_played
@@ -184,13 +189,13 @@ known_program programs q None made e here is = absurd (none-some e is)
 known_program programs q (Some program) made e here is = slice_get_within programs q program here
 
 -- a caller that can make a call now
-pub record CanCall (o : Stage) (h : List Entry) : Type 0 where
+pub record CanCall (o : Setup) (h : List Entry) : Type 0 where
   pub caller : ℕ
   pub known : caller < length o.programs
   pub call : Event
   pub now : call_now o h caller ≡ Some call
 
-can_call : (o : Stage) (h : List Entry) (q : ℕ) (e : Event) → next_by o.programs q h ≡ Some e
+can_call : (o : Setup) (h : List Entry) (q : ℕ) (e : Event) → next_by o.programs q h ≡ Some e
     → is_waiting (replay o.start h) q ≡ false → CanCall o h
 can_call o h q e next shut = record {
   caller = q;
@@ -199,7 +204,7 @@ can_call o h q e next shut = record {
   now = ap (λ b. if b then None else next_by o.programs q h) shut ∙ next;
 }
 
-somebody : (o : Stage) (h : List Entry) → Lives o h → all_over o.programs h ≡ false → CanCall o h
+somebody : (o : Setup) (h : List Entry) → Lives o h → all_over o.programs h ≡ false → CanCall o h
 somebody o h lives going =
     let w : WorldState = replay o.start h in
     let open_one : (p : ℕ) × (is_none (next_by o.programs p h) ≡ false) =
@@ -225,7 +230,7 @@ somebody o h lives going =
 abbrev pub Moved : List Entry → Played → Type 0
 Moved h t = (length h < length t.history) ⊎ (is_some t.stop ≡ true)
 
-moved_on : (o : Stage) (p : ℕ) (h g : List Entry) (t : Played) → TurnDoes o p g t
+moved_on : (o : Setup) (p : ℕ) (h g : List Entry) (t : Played) → TurnDoes o p g t
     → (length h < length g) ⊎ ⊥ → Moved h t
 moved_on o p h g _ (Skips none) longer = ⊎_elim (λ more. inl more) (λ no. absurd no) longer
 moved_on o p h g _ (Enters e shut next room) longer = ⊎_elim
@@ -233,7 +238,7 @@ moved_on o p h g _ (Enters e shut next room) longer = ⊎_elim
     (λ no. absurd no) longer
 moved_on o p h g _ (FindsFull e shut next none) longer = inr refl
 
-turn_moved : (o : Stage) (p : ℕ) (h g : List Entry) (stop : Option Full)
+turn_moved : (o : Setup) (p : ℕ) (h g : List Entry) (stop : Option Full)
     → Moved h (record { history = g; stop = stop })
     → Moved h (turn o p (record { history = g; stop = stop }))
 turn_moved o p h g (Some full) moved = moved
@@ -241,14 +246,14 @@ turn_moved o p h g None moved =
     moved_on o p h g _ (turn-does o p g)
     (⊎_elim (λ more. inl more) (λ no. absurd (false≢true no)) moved)
 
-turns_moved : (o : Stage) (callers : List ℕ) (h : List Entry) (t : Played) → Moved h t
+turns_moved : (o : Setup) (callers : List ℕ) (h : List Entry) (t : Played) → Moved h t
     → Moved h (turns o callers t)
 turns_moved o [] h t moved = moved
 turns_moved o (p ∷ callers) h t moved =
     turns_moved o callers h (turn o p t) (turn_moved o p h t.history t.stop moved)
 
 -- the turn of p moves the play, or p has no call
-moves_or : (o : Stage) (p : ℕ) (h : List Entry) (t : Played) → TurnDoes o p h t
+moves_or : (o : Setup) (p : ℕ) (h : List Entry) (t : Played) → TurnDoes o p h t
     → Moved h t ⊎ ((call_now o h p ≡ None) × (t ≡ record { history = h; stop = None }))
 moves_or o p h _ (Skips none) = inr (none, refl)
 moves_or o p h _ (Enters e shut next room) =
@@ -266,7 +271,7 @@ abbrev still : List Entry → Played
 still h = record { history = h; stop = None }
 
 -- a turn of a, and those of others, of whom q has a call
-turn_then : (o : Stage) (h : List Entry) (q : ℕ) (e : Event) (callers : List ℕ) (a : ℕ) (t : Played)
+turn_then : (o : Setup) (h : List Entry) (q : ℕ) (e : Event) (callers : List ℕ) (a : ℕ) (t : Played)
     → call_now o h q ≡ Some e → Moved h t ⊎ ((call_now o h a ≡ None) × (t ≡ still h))
     → ((a ≡ q → ⊥) → Moved h (turns o callers (still h))) → Moved h (turns o callers t)
 turn_then o h q e callers a t now (inl moved) others = turns_moved o callers h t moved
@@ -276,7 +281,7 @@ turn_then o h q e callers a t now (inr skips) others =
     subst (λ x. Moved h (turns o callers x)) (sym skips.1) (others apart)
 
 -- so do turns in which somebody has a call
-range_moves : (o : Stage) (h : List Entry) (q : ℕ) (e : Event) → call_now o h q ≡ Some e
+range_moves : (o : Setup) (h : List Entry) (q : ℕ) (e : Event) → call_now o h q ≡ Some e
     → (a n : ℕ) → a ≤ q → q < a + n → Moved h (turns o (range_with_len a n) (still h))
 range_moves o h q e now a zero low high = absurd (let no : ⊥ = omega (arith, low, high) in no)
 range_moves o h q e now a (suc n) low high =
@@ -284,7 +289,7 @@ range_moves o h q e now a (suc n) low high =
     (moves_or o a h (turn o a (still h)) (turn-does o a h))
     (λ apart. range_moves o h q e now (a + 1) n (above a q low apart) (within a n q high))
 
-round_moves : (o : Stage) (h : List Entry) (stop : Option Full) → Lives o h
+round_moves : (o : Setup) (h : List Entry) (stop : Option Full) → Lives o h
     → is_finished o (record { history = h; stop = stop }) ≡ false
     → Moved h (round o (record { history = h; stop = stop }))
 round_moves o h (Some full) lives going = absurd (true≢false going)
@@ -300,7 +305,7 @@ rounds-go-on o first n is going =
     round_moves o t.history t.stop way.lives going
 
 -- after n rounds a play is finished, or has n entries more
-enough : (o : Stage) (n : ℕ) (t : Played) → OnWay o t
+enough : (o : Setup) (n : ℕ) (t : Played) → OnWay o t
     → (is_finished o (rounds o n t) ≡ true) ⊎ (length t.history + n ≤ length (rounds o n t).history)
 enough o zero t way = inr (omega arith)
 enough o (suc n) t way =

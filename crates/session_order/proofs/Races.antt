@@ -6,7 +6,7 @@ use Rattle.std.specs.List.{list_all, range_with_len}
 use Rattle.std.specs.Prelude.{◌==◌, slice_get}
 use Rattle.session_order.proofs.Turns.{each-more}
 use Rattle.session_order.specs.Calls.{all_over, call_of, calls_by, is_none, made_by, next_by, next_of}
-use Rattle.session_order.specs.Ends.{Ends, EndsBy, Finishes, Stage, Stops}
+use Rattle.session_order.specs.Ends.{Ends, EndsBy, Finishes, Setup, Stops}
 use Rattle.session_order.specs.Follows.{Follows, IsNextCall}
 use Rattle.session_order.specs.Races.{HasEnded, HasNext, IsClosed, RaceIsRight, RunsGrow, StopsAt}
 use Rattle.session_text.specs.Programs.{next}
@@ -64,7 +64,7 @@ runs-grow program made entry run is =
     each-more (λ before e. next program (map call_of before) ≡ Some (plain_event e.event)) made entry run is
 
 -- a caller that made an entry has a program
-has_program : (o : Stage) (history : List Entry) (stop : Option Full) (caller p place : ℕ) (entry : Entry)
+has_program : (o : Setup) (history : List Entry) (stop : Option Full) (caller p place : ℕ) (entry : Entry)
     → IsClosed o history stop caller → slice_get (made_by p history) place ≡ Some entry
     → (program : Program) × (slice_get o.programs p ≡ Some program)
 has_program o history stop caller p place entry closed there =
@@ -73,7 +73,7 @@ has_program o history stop caller p place entry closed there =
     (λ past. absurd (none-some entry (sym (ap (λ made. slice_get made place) (closed.known p past.0)) ∙ there)))
     (slice_get_cases o.programs p).1
 
-follows : (o : Stage) (history : List Entry) (stop : Option Full) (caller : ℕ)
+follows : (o : Setup) (history : List Entry) (stop : Option Full) (caller : ℕ)
     → IsClosed o history stop caller
     → ((p : ℕ) (program : Program) → slice_get o.programs p ≡ Some program → HasEnded program (made_by p history) stop (p ≡ caller))
     → Follows o.start o.programs history
@@ -100,7 +100,7 @@ over_from test a (suc n) each =
     and_from (test a) (list_all test (range_with_len (a + 1) n)) (each a (omega arith))
     (over_from test (a + 1) n (λ p low. each p (omega (arith, low))))
 
-is_over : (o : Stage) (history : List Entry) (caller p : ℕ)
+is_over : (o : Setup) (history : List Entry) (caller p : ℕ)
     → ((p : ℕ) (program : Program) → slice_get o.programs p ≡ Some program → HasEnded program (made_by p history) None (p ≡ caller))
     → is_none (next_by o.programs p history) ≡ true
 is_over o history caller p ended =
@@ -111,7 +111,7 @@ is_over o history caller p ended =
     (λ past. ap (λ known. is_none (next_of known (calls_by p history))) past.1)
     (slice_get_cases o.programs p).1
 
-ends_by : (o : Stage) (history : List Entry) (stop : Option Full) (caller : ℕ)
+ends_by : (o : Setup) (history : List Entry) (stop : Option Full) (caller : ℕ)
     → IsClosed o history stop caller
     → ((p : ℕ) (program : Program) → slice_get o.programs p ≡ Some program → HasEnded program (made_by p history) stop (p ≡ caller))
     → EndsBy o history (tail_at history stop)

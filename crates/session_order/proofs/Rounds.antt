@@ -6,7 +6,7 @@ use Rattle.std.proofs.lemmas.List.FromFn.{get_or-range_with_len, length-range_wi
 use Rattle.std.proofs.lemmas.Option.{slice_get_past}
 use Rattle.std.specs.List.{range_with_len}
 use Rattle.session_order.specs.Calls.{all_over, calls_by, is_none, next_by, next_of}
-use Rattle.session_order.specs.Ends.{Stage}
+use Rattle.session_order.specs.Ends.{Setup}
 use Rattle.session_order.specs.Follows.{is_waiting}
 use Rattle.session_order.specs.Laws.{FinishedStays, SerialIsOne}
 use Rattle.session_order.specs.Serial.{Played, call_now, calls, is_finished, nothing_played, round, rounds, turn, turns}
@@ -41,7 +41,7 @@ none-next programs history p over =
     (cases_lt p n)
 
 -- who has no next call is skipped
-skipped : (o : Stage) (p : ℕ) (history : List Entry) → next_by o.programs p history ≡ None
+skipped : (o : Setup) (p : ℕ) (history : List Entry) → next_by o.programs p history ≡ None
     → calls o p (call_now o history p) history ≡ record { history = history; stop = None }
 skipped o p history none =
     let waits : Bool = is_waiting (replay o.start history) p in
@@ -50,14 +50,14 @@ skipped o p history none =
     ∙ elim waits as (λ b. ◌≡◌ {A = Option Event} (cond b None None) None) [ true ↦ refl | false ↦ refl ] in
     ap (λ e. calls o p e history) now
 
-pub turn-stays : (o : Stage) (p : ℕ) (history : List Entry) (stop : Option Full)
+pub turn-stays : (o : Setup) (p : ℕ) (history : List Entry) (stop : Option Full)
     → is_finished o (record { history = history; stop = stop }) ≡ true
     → turn o p (record { history = history; stop = stop })
     ≡ record { history = history; stop = stop }
 turn-stays o p history (Some full) over = refl
 turn-stays o p history None over = skipped o p history (none-next o.programs history p over)
 
-pub turns-stay : (o : Stage) (callers : List ℕ) (t : Played) → is_finished o t ≡ true
+pub turns-stay : (o : Setup) (callers : List ℕ) (t : Played) → is_finished o t ≡ true
     → turns o callers t ≡ t
 turns-stay o [] t over = refl
 turns-stay o (p ∷ callers) t over =
@@ -70,7 +70,7 @@ finished-stays o (suc n) t over =
     ∙ finished-stays o n t over
 
 -- rounds and more rounds
-pub rounds-more : (o : Stage) (m n : ℕ) (t : Played)
+pub rounds-more : (o : Setup) (m n : ℕ) (t : Played)
     → rounds o (m + n) t ≡ rounds o n (rounds o m t)
 rounds-more o zero n t = ap (λ k. rounds o k t) (let e : 0 + n ≡ n = omega arith in e)
 rounds-more o (suc m) n t =
@@ -78,7 +78,7 @@ rounds-more o (suc m) n t =
     ∙ rounds-more o m n (round o t)
 
 -- the same rounds in two counts
-same : (o : Stage) (m k : ℕ) (t : Played) → is_finished o (rounds o m t) ≡ true
+same : (o : Setup) (m k : ℕ) (t : Played) → is_finished o (rounds o m t) ≡ true
     → rounds o (m + k) t ≡ rounds o m t
 same o m k t over = rounds-more o m k t ∙ finished-stays o k (rounds o m t) over
 

@@ -6,6 +6,7 @@ use Rattle.std.specs.List.{list_all}
 use Rattle.std.specs.Prelude.{◌==◌, not, ◌&&◌, if◌then◌else◌}
 use Rattle.session_text.specs.Programs.{is_exit, is_gone, is_kill, is_srch}
 use Rattle.vt_events.specs.Waits.{is_wait}
+use Rattle.vt_base.specs.Keyboards.{is_keyboard}
 use Rattle.vt_base.specs.declared.errno.Errno.{Errno}
 use Rattle.vt_base.specs.declared.errno.Errno.TheVariants as errno
 use Rattle.vt_events.specs.declared.event.Event.{Event}
@@ -159,19 +160,19 @@ pub exit-never-waits : (w : WorldState) (p : ℕ) (e : Event) → is_exit e ≡ 
 exit-never-waits w p e = exit_waits w p e (step w p e) (step-does w p e)
 
 keyboard_reply : (w : WorldState) (p : ℕ) (e : Event) → may_make p e ≡ true
-    → is_wait (row w p e).reply ≡ true → (p == 0) ≡ false
+    → is_wait (row w p e).reply ≡ true → is_keyboard p ≡ false
 keyboard_reply w p (event.Scan b) may wait = absurd (false≢true wait)
 keyboard_reply w p event.Exit may wait = absurd (false≢true wait)
-keyboard_reply w p e may wait = not-true (p == 0) may
+keyboard_reply w p e may wait = not-true (is_keyboard p) may
 
 keyboard_waits : (w : WorldState) (p : ℕ) (e : Event) (o : Outcome) → StepDoes w p e o
-    → is_wait o.reply ≡ true → (p == 0) ≡ false
+    → is_wait o.reply ≡ true → is_keyboard p ≡ false
 keyboard_waits w p e o (RefusedByAll with is) wait = absurd (false≢true wait)
 keyboard_waits w p e o (RefusedByOwn with none is) wait = absurd (false≢true wait)
 keyboard_waits w p e o (Accepted none is) wait =
     keyboard_reply (cleared w) p e (common-none w p e none).1 wait
 
--- the keyboard never waits
+-- no keyboard waits
 pub keyboard-never-waits : (w : WorldState) (p : ℕ) (e : Event)
-    → is_wait (step w p e).reply ≡ true → (p == 0) ≡ false
+    → is_wait (step w p e).reply ≡ true → is_keyboard p ≡ false
 keyboard-never-waits w p e = keyboard_waits w p e (step w p e) (step-does w p e)

@@ -11,7 +11,7 @@ use Rattle.std.specs.List.{range_with_len}
 use Rattle.std.specs.Prelude.{◌==◌, not, slice_get, if◌then◌else◌, nat_le, nat_lt}
 use Rattle.session_order.proofs.Programs.{next-fine}
 use Rattle.session_order.specs.Calls.{calls_by, next_by, next_of}
-use Rattle.session_order.specs.Ends.{Ends, Stage, Stops}
+use Rattle.session_order.specs.Ends.{Ends, Setup, Stops}
 use Rattle.vt_journal.specs.Room.{IsWithin, full_at, has_room}
 use Rattle.session_order.specs.Follows.{Follows, IsNextCall, is_waiting}
 use Rattle.session_order.specs.Laws.{SerialIsRight}
@@ -115,7 +115,7 @@ pub each-none : (P : List Entry → Entry → Type 0) → EachIs P []
 each-none P k entry is = absurd (none-some entry is)
 
 -- what the turn of p makes of a history
-pub data TurnDoes (o : Stage) (p : ℕ) (h : List Entry) : Played → Type 0 where
+pub data TurnDoes (o : Setup) (p : ℕ) (h : List Entry) : Played → Type 0 where
   Skips : call_now o h p ≡ None → TurnDoes o p h (record { history = h; stop = None })
   Enters : (e : Event) → is_waiting (replay o.start h) p ≡ false → next_by o.programs p h ≡ Some e → has_room o.limits h (charge_of e) ≡ true → TurnDoes o p h (record { history = h ++ entry_at o.start h p e ∷ []; stop = None })
   FindsFull : (e : Event) → is_waiting (replay o.start h) p ≡ false → next_by o.programs p h ≡ Some e → has_room o.limits h (charge_of e) ≡ false → TurnDoes o p h (record { history = h; stop = Some (full_at h (charge_of e)) })
@@ -126,7 +126,7 @@ now_is : (waits : Bool) (next : Option Event) (e : Event)
 now_is true next e is = absurd (none-some e is)
 now_is false next e is = (refl, is)
 
-room_does : (o : Stage) (p : ℕ) (h : List Entry) (e : Event) → call_now o h p ≡ Some e
+room_does : (o : Setup) (p : ℕ) (h : List Entry) (e : Event) → call_now o h p ≡ Some e
     → TurnDoes o p h (calls o p (Some e) h)
 room_does o p h e is =
     let now : (is_waiting (replay o.start h) p ≡ false) × (next_by o.programs p h ≡ Some e) =
@@ -140,23 +140,23 @@ room_does o p h e is =
     (FindsFull e now.0 now.1 none))
     (cases_Bool (has_room o.limits h (charge_of e)))
 
-now_does : (o : Stage) (p : ℕ) (h : List Entry) (now : Option Event) → call_now o h p ≡ now
+now_does : (o : Setup) (p : ℕ) (h : List Entry) (now : Option Event) → call_now o h p ≡ now
     → TurnDoes o p h (calls o p now h)
 now_does o p h None is = Skips is
 now_does o p h (Some e) is = room_does o p h e is
 
-pub turn-does : (o : Stage) (p : ℕ) (h : List Entry)
+pub turn-does : (o : Setup) (p : ℕ) (h : List Entry)
     → TurnDoes o p h (turn o p (record { history = h; stop = None }))
 turn-does o p h = now_does o p h (call_now o h p) refl
 
 -- a play on its way
-pub record Goes (o : Stage) (t : Played) : Type 0 where
+pub record Goes (o : Setup) (t : Played) : Type 0 where
   pub legal : IsLegal o.start t.history
   pub follows : Follows o.start o.programs t.history
   pub within : IsWithin o.limits t.history
   pub stops : (full : Full) → t.stop ≡ Some full → Stops o t.history full
 
-pub goes-nothing : (o : Stage) → Goes o nothing_played
+pub goes-nothing : (o : Setup) → Goes o nothing_played
 goes-nothing o = record {
   legal = each-none (IsNext o.start);
   follows = each-none (IsNextCall o.start o.programs);
@@ -164,7 +164,7 @@ goes-nothing o = record {
   stops = λ full is. absurd (none-some full is);
 }
 
-within_more : (o : Stage) (h : List Entry) (entry : Entry)
+within_more : (o : Setup) (h : List Entry) (entry : Entry)
     → has_room o.limits h (charge_of entry.event) ≡ true → IsWithin o.limits (h ++ entry ∷ [])
 within_more o h entry room =
     let parts : (nat_lt (length h) o.limits.events ≡ true) × (nat_le (charge_of_all h + charge_of entry.event) o.limits.bytes ≡ true) =
@@ -174,7 +174,7 @@ within_more o h entry room =
       bytes = omega (arith, leb-true (charge_of_all h + charge_of entry.event) o.limits.bytes parts.1, sum_by-append (λ (x : Entry). charge_of x.event) h (entry ∷ []));
     }
 
-goes_turn : (o : Stage) (p : ℕ) (h : List Entry) (t : Played) → TurnDoes o p h t
+goes_turn : (o : Setup) (p : ℕ) (h : List Entry) (t : Played) → TurnDoes o p h t
     → Goes o (record { history = h; stop = None }) → Goes o t
 goes_turn o p h _ (Skips none) goes = goes
 goes_turn o p h _ (Enters e shut next room) goes =
@@ -207,22 +207,22 @@ goes_turn o p h _ (FindsFull e shut next none) goes = record {
   };
 }
 
-pub turn-goes : (o : Stage) (p : ℕ) (h : List Entry) (stop : Option Full)
+pub turn-goes : (o : Setup) (p : ℕ) (h : List Entry) (stop : Option Full)
     → Goes o (record { history = h; stop = stop }) → Goes o (turn o p (record { history = h; stop = stop }))
 turn-goes o p h (Some full) goes = goes
 turn-goes o p h None goes = goes_turn o p h _ (turn-does o p h) goes
 
-pub turns-go : (o : Stage) (callers : List ℕ) (t : Played) → Goes o t → Goes o (turns o callers t)
+pub turns-go : (o : Setup) (callers : List ℕ) (t : Played) → Goes o t → Goes o (turns o callers t)
 turns-go o [] t goes = goes
 turns-go o (p ∷ callers) t goes = turns-go o callers (turn o p t) (turn-goes o p t.history t.stop goes)
 
-pub rounds-go : (o : Stage) (n : ℕ) (t : Played) → Goes o t → Goes o (rounds o n t)
+pub rounds-go : (o : Setup) (n : ℕ) (t : Played) → Goes o t → Goes o (rounds o n t)
 rounds-go o zero t goes = goes
 rounds-go o (suc n) t goes =
     rounds-go o n (round o t) (turns-go o (range_with_len 0 (length o.programs)) t goes)
 
 -- a play that is finished ends
-ends : (o : Stage) (h : List Entry) (stop : Option Full)
+ends : (o : Setup) (h : List Entry) (stop : Option Full)
     → Goes o (record { history = h; stop = stop })
     → is_finished o (record { history = h; stop = stop }) ≡ true
     → Ends o h (tail_of (record { history = h; stop = stop }))

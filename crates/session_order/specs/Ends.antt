@@ -17,13 +17,13 @@ use Rattle.vt_world.specs.State.{WorldState}
 
 -- where a session begins: the console at the start, the programs of its callers, of which the first
 -- is the keyboard's, and the limits of its journal
-pub record Stage : Type 0 where
+pub record Setup : Type 0 where
   pub start : WorldState
   pub programs : List Program
   pub limits : Limits
 
 -- some caller doesn't wait, and its next call finds no room: that is where the history stops
-pub record Stops (o : Stage) (history : List Entry) (full : Full) : Type 0 where
+pub record Stops (o : Setup) (history : List Entry) (full : Full) : Type 0 where
   pub caller : ℕ
   pub call : Event
   pub next : next_by o.programs caller history ≡ Some call
@@ -32,16 +32,16 @@ pub record Stops (o : Stage) (history : List Entry) (full : Full) : Type 0 where
   pub numbers : full ≡ full_at history (charge_of call)
 
 -- every program is over, and these are the numbers of entries and bytes
-pub record Finishes (o : Stage) (history : List Entry) (events bytes : ℕ) : Type 0 where
+pub record Finishes (o : Setup) (history : List Entry) (events bytes : ℕ) : Type 0 where
   pub over : all_over o.programs history ≡ true
   pub entries : events ≡ length history
   pub charge : bytes ≡ charge_of_all history
 
-abbrev pub EndsBy : Stage → List Entry → Tail → Type 0
+abbrev pub EndsBy : Setup → List Entry → Tail → Type 0
 EndsBy o history (tail.End events bytes) = Finishes o history events bytes
 EndsBy o history (tail.Full full) = Stops o history full
 
 -- a history within the limits, and its journal's end
-pub record Ends (o : Stage) (history : List Entry) (end : Tail) : Type 0 where
+pub record Ends (o : Setup) (history : List Entry) (end : Tail) : Type 0 where
   pub within : IsWithin o.limits history
   pub rightly : EndsBy o history end

@@ -1,7 +1,7 @@
 -- Histories as they are meant: the room that the bytes of calls and answers have changes nothing.
 use Rattle.std.specs.Prelude.{◌≡◌, List, map, Some, Option}
 use Rattle.session_order.specs.Calls.{as_meant}
-use Rattle.session_order.specs.Ends.{Ends, Stage}
+use Rattle.session_order.specs.Ends.{Ends, Setup}
 use Rattle.vt_journal.specs.Room.{tail_at}
 use Rattle.session_order.specs.Follows.{Follows}
 use Rattle.session_text.specs.Programs.{Call, next}
@@ -14,8 +14,8 @@ use Rattle.vt_world.specs.History.{IsLegal, replay}
 use Rattle.vt_world.specs.State.{WorldState}
 
 -- the entries as they are meant
-abbrev pub meant : List Entry → List Entry
-meant entries = map plain_entry entries
+abbrev pub plain_history : List Entry → List Entry
+plain_history entries = map plain_entry entries
 
 -- the next call goes by the calls as they are meant, and is one itself
 abbrev pub NextIsMeant : Type 0
@@ -29,19 +29,19 @@ NextIsPlain =
 -- so do replay, and what makes a history right
 abbrev pub ReplayIsMeant : Type 0
 ReplayIsMeant =
-    (start : WorldState) (entries : List Entry) → replay start (meant entries) ≡ replay start entries
+    (start : WorldState) (entries : List Entry) → replay start (plain_history entries) ≡ replay start entries
 
 abbrev pub LegalIsMeant : Type 0
 LegalIsMeant =
-    (start : WorldState) (entries : List Entry) → IsLegal start (meant entries)
+    (start : WorldState) (entries : List Entry) → IsLegal start (plain_history entries)
     → IsLegal start entries
 
 abbrev pub FollowsIsMeant : Type 0
 FollowsIsMeant =
     (start : WorldState) (programs : List Program) (entries : List Entry)
-    → Follows start programs (meant entries) → Follows start programs entries
+    → Follows start programs (plain_history entries) → Follows start programs entries
 
 abbrev pub EndsIsMeant : Type 0
 EndsIsMeant =
-    (o : Stage) (entries : List Entry) (stop : Option Full)
-    → Ends o (meant entries) (tail_at (meant entries) stop) → Ends o entries (tail_at entries stop)
+    (o : Setup) (entries : List Entry) (stop : Option Full)
+    → Ends o (plain_history entries) (tail_at (plain_history entries) stop) → Ends o entries (tail_at entries stop)

@@ -2,7 +2,7 @@
 -- right. This project's own.
 use Rattle.std.specs.Prelude.{◌≡◌, ℕ, ◌<◌, ◌≤◌, false, List, [], ◌∷◌, ◌++◌, length, map, take, Option, Some, None, slice_get}
 use Rattle.session_order.specs.Calls.{call_of, made_by}
-use Rattle.session_order.specs.Ends.{Ends, Stage}
+use Rattle.session_order.specs.Ends.{Ends, Setup}
 use Rattle.session_order.specs.Follows.{Follows, is_waiting}
 use Rattle.session_text.specs.Programs.{next}
 use Rattle.session_text.specs.declared.program.Program.{Program}
@@ -41,14 +41,14 @@ pub record HasNext (program : Program) (made : List Entry) (charge : ℕ) : Type
   pub charge_is : charge_of call ≡ charge
 
 -- the history stops where a call of this caller finds no room
-pub record StopsAt (o : Stage) (history : List Entry) (full : Full) (caller : ℕ) : Type 0 where
+pub record StopsAt (o : Setup) (history : List Entry) (full : Full) (caller : ℕ) : Type 0 where
   pub known : caller < length o.programs
   pub goes : is_waiting (replay o.start history) caller ≡ false
   pub no_room : has_room o.limits history full.charge ≡ false
   pub numbers : full ≡ full_at history full.charge
 
 -- what the one history of all callers is once they have ended: where it stopped, by this caller's call
-pub record IsClosed (o : Stage) (history : List Entry) (stop : Option Full) (caller : ℕ) : Type 0 where
+pub record IsClosed (o : Setup) (history : List Entry) (stop : Option Full) (caller : ℕ) : Type 0 where
   pub within : IsWithin o.limits history
   pub free : IsFree o.start history
   pub known : (p : ℕ) → length o.programs ≤ p → made_by p history ≡ []
@@ -63,7 +63,7 @@ pub record HasEnded (program : Program) (made : List Entry) (stop : Option Full)
 -- then the history follows the programs and ends
 abbrev pub RaceIsRight : Type 0
 RaceIsRight =
-    (o : Stage) (history : List Entry) (stop : Option Full) (caller : ℕ)
+    (o : Setup) (history : List Entry) (stop : Option Full) (caller : ℕ)
     → IsClosed o history stop caller
     → ((p : ℕ) (program : Program) → slice_get o.programs p ≡ Some program
     → HasEnded program (made_by p history) stop (p ≡ caller))

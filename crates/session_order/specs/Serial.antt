@@ -3,7 +3,7 @@
 use Rattle.std.specs.Prelude.{◌≡◌, ℕ, zero, suc, ◌==◌, ◌||◌, Bool, true, List, [], ◌∷◌, ◌++◌, count_by, length, Option, Some, None, is_some, if◌then◌else◌}
 use Rattle.std.specs.List.{range_with_len}
 use Rattle.session_order.specs.Calls.{all_over, next_by}
-use Rattle.session_order.specs.Ends.{Stage}
+use Rattle.session_order.specs.Ends.{Setup}
 use Rattle.vt_journal.specs.Room.{full_at, has_room, tail_at}
 use Rattle.session_order.specs.Follows.{is_waiting}
 use Rattle.vt_events.specs.Charge.{charge_of}
@@ -33,12 +33,12 @@ entry_at start history p e = record {
 }
 
 -- the call that p can make after a history: none while its ticket is open
-abbrev pub call_now : Stage → List Entry → ℕ → Option Event
+abbrev pub call_now : Setup → List Entry → ℕ → Option Event
 call_now o history p =
     if is_waiting (replay o.start history) p then None else next_by o.programs p history
 
 -- p makes its call, or the play stops where that finds no room; who has no call is skipped
-abbrev pub calls : Stage → ℕ → Option Event → List Entry → Played
+abbrev pub calls : Setup → ℕ → Option Event → List Entry → Played
 calls o p None history = record { history = history; stop = None }
 calls o p (Some e) history =
     if has_room o.limits history (charge_of e)
@@ -46,28 +46,28 @@ calls o p (Some e) history =
     else record { history = history; stop = Some (full_at history (charge_of e)) }
 
 -- the turn of p: nothing is called any more where the play has stopped
-abbrev pub turn : Stage → ℕ → Played → Played
+abbrev pub turn : Setup → ℕ → Played → Played
 turn o p t = if is_some t.stop then t else calls o p (call_now o t.history p) t.history
 
 -- one turn after another
-abbrev pub turns : Stage → List ℕ → Played → Played
+abbrev pub turns : Setup → List ℕ → Played → Played
 turns o [] t = t
 turns o (p ∷ callers) t = turns o callers (turn o p t)
 
 -- a round: a turn of each caller, rising
-abbrev pub round : Stage → Played → Played
+abbrev pub round : Setup → Played → Played
 round o t = turns o (range_with_len 0 (length o.programs)) t
 
-abbrev pub rounds : Stage → ℕ → Played → Played
+abbrev pub rounds : Setup → ℕ → Played → Played
 rounds o zero t = t
 rounds o (suc n) t = rounds o n (round o t)
 
 -- the play has stopped, or every program is over
-abbrev pub is_finished : Stage → Played → Bool
+abbrev pub is_finished : Setup → Played → Bool
 is_finished o t = is_some t.stop || all_over o.programs t.history
 
 -- what the schedule plays: the turns that are given first, and then as many rounds as it takes
-pub record IsSerial (o : Stage) (first : List ℕ) (t : Played) : Type 0 where
+pub record IsSerial (o : Setup) (first : List ℕ) (t : Played) : Type 0 where
   pub count : ℕ
   pub played : t ≡ rounds o count (turns o first nothing_played)
   pub finished : is_finished o t ≡ true

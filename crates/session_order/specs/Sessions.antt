@@ -1,6 +1,6 @@
 -- Where a session begins, and what its consoles show. This project's own.
 use Rattle.std.specs.Prelude.{◌≡◌, ℕ, ◌<◌, List, option_map}
-use Rattle.session_order.specs.Ends.{Stage}
+use Rattle.session_order.specs.Ends.{Setup}
 use Rattle.session_text.specs.Sessions.{SessionView}
 use Rattle.vt_events.specs.declared.entry.Entry.{Entry}
 use Rattle.vt_world.specs.Start.{opening}
@@ -8,15 +8,15 @@ use Rattle.vt_world.specs.State.{WorldState}
 use Rattle.vt_world.specs.Tapes.{screen_of, tape_of}
 use Rattle.vt_world.specs.Terminals.{machine_of, terminal_at}
 
--- the console that a session begins with
+-- the console that a session begins with: it has one keyboard
 abbrev pub start_of : SessionView → WorldState
 start_of s =
-    opening s.config.size.rows s.config.size.cols s.config.consoles s.config.front s.config.procs
+    opening s.config.size.rows s.config.size.cols s.config.consoles s.config.front 1 s.config.procs
     s.tables
 
 -- with its programs and limits
-abbrev pub stage_of : SessionView → Stage
-stage_of s = record { start = start_of s; programs = s.programs; limits = s.limits }
+abbrev pub setup_of : SessionView → Setup
+setup_of s = record { start = start_of s; programs = s.programs; limits = s.limits }
 
 -- in this console, after this history, each screen with the rest of its text is its console's tape,
 -- run from the start screen

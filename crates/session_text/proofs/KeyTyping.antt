@@ -1,13 +1,13 @@
 -- The keyboard of a session, read key by key.
 use Rattle.std.proofs.Common.{◌≡◌, ℕ, List, Option, Ok, codes, refl, sym, ap, ◌∙◌}
 use Rattle.key_text.specs.Included.{Named}
-use Rattle.key_text.specs.Told.{Told}
+use Rattle.key_text.specs.KeymapLine.{KeymapLine}
 use Rattle.table_fields.specs.Fields.{keymap_of, scan_bytes_of, text_of, texts_of}
 use Rattle.toml.specs.Data.{Data, Members, get_member}
 use Rattle.session_text.specs.Keyboards.{typed_of}
 
 pub typed-read : (members : Members) (t k s : Option Data) (texts : List Named) (keymap : List ℕ)
-    (lines : List Told) (items keys : List ℕ)
+    (lines : List KeymapLine) (items keys : List ℕ)
     → t ≡ get_member (codes "include") members → texts_of 0 7 t ≡ Ok texts
     → k ≡ get_member (codes "keymap") members → text_of 0 8 k ≡ Ok keymap
     → keymap_of texts keymap ≡ Ok lines

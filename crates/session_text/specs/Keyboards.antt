@@ -1,7 +1,7 @@
 -- The keyboard of a session: its keymap and its scan bytes. This project's own.
 use Rattle.std.specs.Prelude.{◌≡◌, ℕ, Result, Ok, List, codes}
 use Rattle.key_compile.specs.Compiled.{AreTablesOf}
-use Rattle.key_text.specs.Told.{Told}
+use Rattle.key_text.specs.KeymapLine.{KeymapLine}
 use Rattle.table_fields.specs.Checked.{◌>>=◌}
 use Rattle.table_fields.specs.Fields.{keymap_of, scan_bytes_of, text_of, texts_of}
 use Rattle.table_fields.specs.declared.fault.TableFault.{TableFault}
@@ -11,7 +11,7 @@ use Rattle.session_text.specs.declared.keyboard.Keyboard.{Keyboard}
 
 -- the lines of the keymap, and the scan bytes
 pub record Typed : Type 0 where
-  pub lines : List Told
+  pub lines : List KeymapLine
   pub keys : List ℕ
 
 -- the keys seven to nine, in the order of the checks

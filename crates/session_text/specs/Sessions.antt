@@ -43,6 +43,7 @@ ArePrograms processes (programs.Script items acts ∷ scripts) = ⊥
 -- what a session keeps to
 pub record IsSession (s : SessionView) : Type 0 where
   pub fit : IsFitSet s.config.consoles s.config.front
+  pub keyboards : s.config.keyboards ≡ 1
   pub events : s.limits.events ≤ 1000000
   pub bytes : s.limits.bytes ≤ 1073741824
   pub turns : All (λ t. t ≤ length s.config.procs) s.turns

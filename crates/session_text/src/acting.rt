@@ -1,11 +1,11 @@
 //! The acts that are left of the signals that a process was given.
 ghost use Rattle.std.specs.Prelude.{◌≡◌, ◌≢◌, ◌+◌, ◌≤◌, None, [], ◌++◌, IfOk, IfSome, IfNone, is_none, option_to_list};
-ghost use Rattle.session_text.specs.Programs.{act_at, act_call, calls_from};
+ghost use Rattle.session_text.specs.Programs.{act_call, calls_from};
 
 use crate::asks::Asks;
 use sig_hooks::Act;
 use std::alloc::Global;
-use vt_base::{Bytes, NoMemory, SigSet, Signal};
+use vt_base::{Bytes, NoMemory, SigSet};
 use vt_events::Event;
 
 /// An act, and the signal at which it is made.
@@ -37,11 +37,19 @@ pub fn first_act<H: Asks>(hooks: &H, given: SigSet, from: u16) -> Option<Found>
     ensures within { IfSome result (λ found. found.signal ≤ 64) }
     ensures none { IfNone result (calls_from (H.acts hooks.now) given from ≡ []) }
 {
-    for signal in from..65 {
-        let act = act_at(hooks, given, signal);
+    let mut at = from;
+    while at <= 64 {
+        let Some(signal) = given.first_from(at) else {
+            return None;
+        };
+        let act = hooks.ask_for(signal);
         if !is_nothing(act) {
-            return Some(Found { signal, act });
+            return Some(Found {
+                signal: signal.get(),
+                act,
+            });
         }
+        at = signal.get() + 1;
     }
     None
 }
@@ -50,20 +58,4 @@ fn is_nothing(act: Act) -> bool
     ensures { result ≡ is_none (act_call act) }
 {
     matches!(act, Act::Nothing)
-}
-
-// The act at signal n, which is asked for where the set has it.
-fn act_at<H: Asks>(hooks: &H, given: SigSet, n: u16) -> Act
-    requires low { 1 ≤ n }
-    requires high { n ≤ 64 }
-    ensures { result ≡ act_at (H.acts hooks.now) given n }
-{
-    let Some(s) = Signal::new(n) else {
-        unreachable!()
-    };
-    if given.has(s) {
-        hooks.ask_for(s)
-    } else {
-        Act::Nothing
-    }
 }

@@ -61,6 +61,10 @@ fn say(alloc: Global, text: &str) -> Result<Option<Event>, NoMemory>
     ensures found { IfOk result (λ found. IfSome found (IsSay text.now)) }
     ensures none { IfOk result (λ found. IfNone found ((e : Event) → ¬ IsSay text.now e)) }
 {
+    // Most items are no say, and needn't be cut here to be seen as none.
+    if !text.as_bytes().starts_with(b"say ") {
+        return Ok(None);
+    }
     let words = words(alloc, text)?;
     match read_say(words.as_slice()) {
         Some(said) => {

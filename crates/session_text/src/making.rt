@@ -28,6 +28,7 @@ pub fn session(alloc: Global, parts: Parts) -> Result<Session, NoMemory>
         },
         consoles: opening.consoles,
         front: opening.front,
+        keyboards: 1,
         procs: starts(processes.as_slice()),
     };
     let limits = Limits {

@@ -1,6 +1,7 @@
 ghost use Rattle.std.specs.Prelude.{◌≡◌, ◌≤◌, length};
 ghost use Rattle.std.specs.List.{All};
 ghost use Rattle.vt_base.specs.ConsoleSet.{IsFitSet};
+ghost use Rattle.vt_procs.specs.Callers.{IsFitCount};
 ghost use Rattle.session_text.specs.Sessions.{ArePrograms, IsSession, acts_of};
 
 use crate::Program;
@@ -80,6 +81,8 @@ impl Session {
     pub fn config(&self) -> &Config
         ensures same { result.now ≡ self.now.config }
         ensures fit { IsFitSet result.now.consoles result.now.front }
+        ensures one { result.now.keyboards ≡ 1 }
+        ensures keyboards { IsFitCount result.now.keyboards }
     {
         &self.config
     }

@@ -9,7 +9,7 @@ use Rattle.std.proofs.lemmas.Option.{same_Some, slice_get_within}
 use Rattle.std.specs.List.{All}
 use Rattle.std.specs.Prelude.{◌==◌, count_by, slice_get}
 use Rattle.session_order.specs.Calls.{as_meant, call_of, calls_by, next_by, next_of}
-use Rattle.session_order.specs.Ends.{Stage}
+use Rattle.session_order.specs.Ends.{Setup}
 use Rattle.session_order.specs.Follows.{IsNextCall}
 use Rattle.session_order.specs.Meant.{NextIsMeant}
 use Rattle.session_text.specs.Programs.{Call, call, next}
@@ -62,9 +62,9 @@ count_more q h entry =
     omega (arith, added)
 
 -- the counts, where p's has risen
-counted : (counts : List ℕ) (h : List Entry) (entry : Entry) (q : ℕ) → q ≤ 64 → entry.caller ≤ 64
-    → length counts ≡ 65 → length h ≤ 1_000_000
-    → ((q : ℕ) → q ≤ 64 → get_or counts q 0 ≡ count_by (is_by q) h)
+counted : (counts : List ℕ) (h : List Entry) (entry : Entry) (q : ℕ) → q ≤ 67 → entry.caller ≤ 67
+    → length counts ≡ 68 → length h ≤ 1_000_000
+    → ((q : ℕ) → q ≤ 67 → get_or counts q 0 ≡ count_by (is_by q) h)
     → get_or (set counts entry.caller (min (get_or counts entry.caller 0 + 1) (2 ^ 32 - 1))) q 0
     ≡ count_by (is_by q) (h ++ entry ∷ [])
 counted counts h entry q within known places few old =
@@ -110,7 +110,7 @@ stands_more is_meant program walk moved made e r after walks next_is =
 pub record Takes (entry : Entry) (program : Program) (before after : JudgeView) : Type 0 where
   pub walk : Place
   pub moved : Place
-  pub known : entry.caller ≤ 64
+  pub known : entry.caller ≤ 67
   pub few : before.events ≤ 1_000_000
   pub stepped : (step before.world entry.caller entry.event).world ≡ after.world
   pub counts :
@@ -124,7 +124,7 @@ pub record Takes (entry : Entry) (program : Program) (before after : JudgeView) 
   pub events : after.events ≡ before.events + 1
   pub bytes : after.bytes ≡ before.bytes + charge_of entry.event
 
-pub taken : NextIsMeant → ReplayGrows → (o : Stage) (h : List Entry) (entry : Entry) (program : Program)
+pub taken : NextIsMeant → ReplayGrows → (o : Setup) (h : List Entry) (entry : Entry) (program : Program)
     (before after : JudgeView) → Takes entry program before after
     → slice_get o.programs entry.caller ≡ Some program
     → IsNextCall o.start o.programs h entry → IsAfter o h before
@@ -176,9 +176,9 @@ taken is_meant grows o h entry program before after takes is follows at =
     }
 
 -- a judge before its first entry
-pub first-after : (o : Stage) (view : JudgeView) → view.world ≡ o.start
+pub first-after : (o : Setup) (view : JudgeView) → view.world ≡ o.start
     → length view.walks ≡ length o.programs
-    → All (λ walk. (p : Program) → Stands p walk []) view.walks → view.counts ≡ replicate 65 0
+    → All (λ walk. (p : Program) → Stands p walk []) view.walks → view.counts ≡ replicate 68 0
     → view.events ≡ 0 → view.bytes ≡ 0 → IsAfter o [] view
 first-after o view opened many stand zero events bytes = record {
   replayed = opened;
@@ -190,14 +190,14 @@ first-after o view opened many stand zero events bytes = record {
         stands = subst (λ w. Stands program w []) (sym read) (stand q walk within program);
         meant = refl;
       };
-  places = ap length zero ∙ length-replicate {A = ℕ} 65 0;
-  counted = λ q within. ap (λ counts. get_or counts q 0) zero ∙ get_or-replicate 65 q 0 0 (omega (arith, within));
+  places = ap length zero ∙ length-replicate {A = ℕ} 68 0;
+  counted = λ q within. ap (λ counts. get_or counts q 0) zero ∙ get_or-replicate 68 q 0 0 (omega (arith, within));
   events = events;
   bytes = bytes;
 }
 
 -- what the walk of a caller has next is the next call of its program
-pub next_after : NextIsMeant → (o : Stage) (h : List Entry) (view : JudgeView) (q : ℕ) (program : Program)
+pub next_after : NextIsMeant → (o : Setup) (h : List Entry) (view : JudgeView) (q : ℕ) (program : Program)
     (walk : Place) (e : Option Event)
     → ((made : List Call) → Stands program walk made → e ≡ next program made)
     → slice_get o.programs q ≡ Some program → walk ≡ get_or view.walks q walk → IsAfter o h view

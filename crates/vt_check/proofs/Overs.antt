@@ -10,7 +10,7 @@ use Rattle.std.proofs.lemmas.List.Elements.{All-from_get_or}
 use Rattle.std.proofs.lemmas.List.FromFn.{get_or-range_with_len, length-range_with_len}
 use Rattle.std.proofs.lemmas.Option.{none-some, same_Some, slice_get_past}
 use Rattle.session_order.specs.Calls.{all_over, calls_by, is_none, next_by, next_of}
-use Rattle.session_order.specs.Ends.{Stage, Stops}
+use Rattle.session_order.specs.Ends.{Setup, Stops}
 use Rattle.session_order.specs.Follows.{is_waiting}
 use Rattle.session_text.specs.declared.program.Program.{Program}
 use Rattle.vt_check.specs.Judging.{HasCall, IsAfter, JudgeView}
@@ -67,7 +67,7 @@ call_known programs p h e is =
     (cases_lt p (length programs))
 
 -- the history stops at the call that was found
-pub stops_here : (o : Stage) (h : List Entry) (view : JudgeView) (full : Full) (caller : ℕ)
+pub stops_here : (o : Setup) (h : List Entry) (view : JudgeView) (full : Full) (caller : ℕ)
     → IsAfter o h view → full.events ≡ view.events → full.bytes ≡ view.bytes
     → has_room o.limits h full.charge ≡ false → HasCall o h caller full.charge → Stops o h full
 stops_here o h view full caller at events bytes none has =
@@ -84,14 +84,14 @@ stops_here o h view full caller at events bytes none has =
     }
 
 -- a history that stops has these numbers, no room, and such a call
-pub numbers_of_stop : (o : Stage) (h : List Entry) (view : JudgeView) (full : Full) → IsAfter o h view
+pub numbers_of_stop : (o : Setup) (h : List Entry) (view : JudgeView) (full : Full) → IsAfter o h view
     → Stops o h full → (full.events ≡ view.events) × (full.bytes ≡ view.bytes)
 numbers_of_stop o h view full at is = (
   ap (λ (f : Full). f.events) is.numbers ∙ sym at.events,
   ap (λ (f : Full). f.bytes) is.numbers ∙ sym at.bytes,
 )
 
-pub call_of_stop : (o : Stage) (h : List Entry) (full : Full) → (is : Stops o h full)
+pub call_of_stop : (o : Setup) (h : List Entry) (full : Full) → (is : Stops o h full)
     → HasCall o h is.caller full.charge
 call_of_stop o h full is = record {
   call = is.call;
@@ -100,13 +100,13 @@ call_of_stop o h full is = record {
   charge_is = sym (ap (λ (f : Full). f.charge) is.numbers);
 }
 
-pub no_room_at_stop : (o : Stage) (h : List Entry) (full : Full) → Stops o h full
+pub no_room_at_stop : (o : Setup) (h : List Entry) (full : Full) → Stops o h full
     → has_room o.limits h full.charge ≡ false
 no_room_at_stop o h full is =
     ap (λ (f : Full). has_room o.limits h f.charge) is.numbers ∙ is.no_room
 
 -- a call that was tested
-pub call_tested : (o : Stage) (h : List Entry) (p wanted : ℕ) (call : Event) (same : Bool)
+pub call_tested : (o : Setup) (h : List Entry) (p wanted : ℕ) (call : Event) (same : Bool)
     → Some call ≡ next_by o.programs p h → is_waiting (replay o.start h) p ≡ false
     → (IsTrue same ↔ (charge_of call ≡ wanted)) → IsTrue same ↔ HasCall o h p wanted
 call_tested o h p wanted call same found goes test = (
@@ -116,14 +116,14 @@ call_tested o h p wanted call same found goes test = (
       test.1 (ap charge_of calls ∙ has.charge_is),
 )
 
-pub waiting_calls : (o : Stage) (h : List Entry) (p wanted : ℕ)
+pub waiting_calls : (o : Setup) (h : List Entry) (p wanted : ℕ)
     → is_waiting (replay o.start h) p ≡ true → IsTrue false ↔ HasCall o h p wanted
 waiting_calls o h p wanted waits = (
   λ no_way. absurd (false≢true no_way),
   λ has. absurd (both_ways (is_waiting (replay o.start h) p) has.goes waits),
 )
 
-pub over_calls : (o : Stage) (h : List Entry) (p wanted : ℕ) → None ≡ next_by o.programs p h
+pub over_calls : (o : Setup) (h : List Entry) (p wanted : ℕ) → None ≡ next_by o.programs p h
     → IsTrue false ↔ HasCall o h p wanted
 over_calls o h p wanted none = (
   λ no_way. absurd (false≢true no_way),
@@ -131,7 +131,7 @@ over_calls o h p wanted none = (
 )
 
 -- whether the history stops, where the numbers are right and there is no room
-pub stop_tested : (o : Stage) (h : List Entry) (view : JudgeView) (full : Full) (programs : List Program) (is : Bool)
+pub stop_tested : (o : Setup) (h : List Entry) (view : JudgeView) (full : Full) (programs : List Program) (is : Bool)
     → IsAfter o h view → o.programs ≡ programs → (full.events ≡ view.events) × (full.bytes ≡ view.bytes)
     → has_room o.limits h full.charge ≡ false
     → OnTrue is ((caller : ℕ) × HasCall o h caller full.charge)

@@ -11,6 +11,7 @@ is_start s fit = record {
   cols = s.config.size.cols;
   consoles = s.config.consoles;
   front = s.config.front;
+  keyboards = 1;
   processes = s.config.procs;
   tables = s.tables;
   fit = fit;

@@ -4,7 +4,7 @@ use Rattle.std.specs.Prelude.{IsTrue, slice_get}
 use Rattle.std.proofs.lemmas.Bool.{and_from, both_ways, false_from_ne_true, false≢true}
 use Rattle.std.proofs.lemmas.Option.{none-some, same_Some, slice_get_read}
 use Rattle.session_order.specs.Calls.{next_by}
-use Rattle.session_order.specs.Ends.{Stage}
+use Rattle.session_order.specs.Ends.{Setup}
 use Rattle.session_order.specs.Follows.{IsNextCall, is_waiting}
 use Rattle.session_order.specs.Meant.{NextIsMeant, NextIsPlain}
 use Rattle.session_order.specs.Calls.{calls_by, next_of}
@@ -23,7 +23,7 @@ use Rattle.vt_world.specs.Refusals.{ends_wait}
 use Rattle.vt_check.proofs.Growing.{event_twice}
 
 -- the answer was compared with the console's
-pub answered_is : (o : Stage) (h : List Entry) (view : JudgeView) (entry : Entry) (after : WorldState) (reply : Reply) (same : Bool)
+pub answered_is : (o : Setup) (h : List Entry) (view : JudgeView) (entry : Entry) (after : WorldState) (reply : Reply) (same : Bool)
     → IsAfter o h view
     → step view.world entry.caller entry.event ≡ record { world = after; reply = plain_reply reply }
     → (IsTrue same ↔ (plain_reply reply ≡ plain_reply entry.reply))
@@ -35,7 +35,7 @@ answered_is o h view entry after reply same at stepped compared =
     (λ is. sym (compared.0 is) ∙ answer, λ is. compared.1 (answer ∙ sym is))
 
 -- a wait that goes on is ended by no call
-pub waits_on : (o : Stage) (h : List Entry) (view : JudgeView) (entry : Entry) (goes : Bool)
+pub waits_on : (o : Setup) (h : List Entry) (view : JudgeView) (entry : Entry) (goes : Bool)
     → IsAfter o h view → goes ≡ true
     → goes ≡ (ends_wait entry.event && is_waiting view.world entry.caller)
     → IsTrue false ↔ IsNextCall o.start o.programs h entry
@@ -53,7 +53,7 @@ waits_on o h view entry goes at is test = (
     parts false b is = absurd (false≢true is)
 
 -- the next call of the walk was compared with the entry's
-pub next_is : NextIsPlain → (o : Stage) (h : List Entry) (view : JudgeView) (entry : Entry) (goes same : Bool)
+pub next_is : NextIsPlain → (o : Setup) (h : List Entry) (view : JudgeView) (entry : Entry) (goes same : Bool)
     (call : Event) (program : Program) → IsAfter o h view → goes ≡ false
     → goes ≡ (ends_wait entry.event && is_waiting view.world entry.caller)
     → slice_get o.programs entry.caller ≡ Some program
@@ -80,7 +80,7 @@ next_is is_plain o h view entry goes same call program at going test is found co
     )
 
 -- a program that is over has no next call
-pub none_next : (o : Stage) (h : List Entry) (entry : Entry)
+pub none_next : (o : Setup) (h : List Entry) (entry : Entry)
     → None ≡ next_by o.programs entry.caller h
     → IsTrue false ↔ IsNextCall o.start o.programs h entry
 none_next o h entry none = (
@@ -89,7 +89,7 @@ none_next o h entry none = (
 )
 
 -- the program of a caller
-pub program_at : (o : Stage) (programs : List Program) (i p : ℕ) (program : Program)
+pub program_at : (o : Setup) (programs : List Program) (i p : ℕ) (program : Program)
     → o.programs ≡ programs → i ≡ p → p < length programs → program ≡ get_or programs i program
     → slice_get o.programs p ≡ Some program
 program_at o programs i p program same is within read =

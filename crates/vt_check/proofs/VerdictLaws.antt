@@ -7,7 +7,7 @@ use Rattle.std.proofs.lemmas.List.{length-take, take-take, take_all, take_more}
 use Rattle.std.proofs.lemmas.List.Sums.{sum_by-take-drop}
 use Rattle.std.proofs.lemmas.Option.{get_or_from_slice_get, none-some, same_Some, slice_get-get_or, slice_get_past, slice_get_within}
 use Rattle.session_order.specs.Calls.{calls_by, next_by, next_of}
-use Rattle.session_order.specs.Ends.{Ends, EndsBy, Stage}
+use Rattle.session_order.specs.Ends.{Ends, EndsBy, Setup}
 use Rattle.session_order.specs.Follows.{IsNextCall}
 use Rattle.session_text.specs.Programs.{Call}
 use Rattle.session_text.specs.declared.program.Program.{Program}
@@ -27,14 +27,14 @@ use Rattle.vt_journal.specs.declared.tail.Tail.{Tail}
 use Rattle.vt_journal.specs.declared.tail.Tail.TheVariants as tail
 
 -- an entry passes, or it fails for one reason
-not_both : (o : Stage) (before : List Entry) (entry : Entry) (why : ℕ) → Passes o before entry
+not_both : (o : Setup) (before : List Entry) (entry : Entry) (why : ℕ) → Passes o before entry
     → FailsAt o before entry why → ⊥
 not_both o before entry why is (NoCaller fails) = fails is.counted
 not_both o before entry why is (NoCall counted fails) = fails is.next
 not_both o before entry why is (NoAnswer counted next fails) = fails is.answered
 not_both o before entry why is (NoRoom counted next answered fails) = fails is.within
 
-fails_once : (o : Stage) (before : List Entry) (entry : Entry) (m n : ℕ) → FailsAt o before entry m
+fails_once : (o : Setup) (before : List Entry) (entry : Entry) (m n : ℕ) → FailsAt o before entry m
     → FailsAt o before entry n → m ≡ n
 fails_once o before entry m n (NoCaller a) (NoCaller b) = refl
 fails_once o before entry m n (NoCaller a) (NoCall counted b) = absurd (a counted)
@@ -58,13 +58,13 @@ fails_once o before entry m n (NoRoom counted next answered a) (NoRoom counted_b
     refl
 
 -- and so does the end
-not_both_end : (o : Stage) (h : List Entry) (end : Tail) (why : ℕ) → EndsBy o h end
+not_both_end : (o : Setup) (h : List Entry) (end : Tail) (why : ℕ) → EndsBy o h end
     → EndFails o h end why → ⊥
 not_both_end o h end why is (NotOver events bytes fails) = true≢false (sym is.over ∙ fails)
 not_both_end o h end why is (Differs events bytes over fails) = fails is
 not_both_end o h end why is (NoStop full fails) = fails is
 
-end_fails_once : (o : Stage) (h : List Entry) (end : Tail) (m n : ℕ) → EndFails o h end m
+end_fails_once : (o : Setup) (h : List Entry) (end : Tail) (m n : ℕ) → EndFails o h end m
     → EndFails o h end n → m ≡ n
 end_fails_once o h end m n (NotOver events bytes a) (NotOver others more b) = refl
 end_fails_once o h end m n (NotOver events bytes a) (Differs others more over b) =
@@ -82,7 +82,7 @@ slice_get_take (x ∷ xs) zero (suc j) before = refl
 slice_get_take (x ∷ xs) (suc i) (suc j) before = slice_get_take xs i j (omega (arith, before))
 
 -- the entries before an entry that fails pass
-earlier : (o : Stage) (entries : List Entry) (i j : ℕ) (entry : Entry) → i < j
+earlier : (o : Setup) (entries : List Entry) (i j : ℕ) (entry : Entry) → i < j
     → AllPass o (take j entries) → slice_get entries i ≡ Some entry → Passes o (take i entries) entry
 earlier o entries i j entry before all is =
     let within : i < length entries = slice_get_within entries i entry is in
@@ -93,7 +93,7 @@ earlier o entries i j entry before all is =
     below i j before = omega (arith, before)
 
 -- two entries that fail first are one
-entries_once : (o : Stage) (entries : List Entry) (i j m n : ℕ) (d e : Entry)
+entries_once : (o : Setup) (entries : List Entry) (i j m n : ℕ) (d e : Entry)
     → AllPass o (take i entries) → AllPass o (take j entries) → slice_get entries i ≡ Some d
     → slice_get entries j ≡ Some e → FailsAt o (take i entries) d m → FailsAt o (take j entries) e n
     → ◌≡◌ {A = Verdict} (verdict.Illegal i m) (verdict.Illegal j n)
@@ -113,7 +113,7 @@ entries_once o entries i j m n d e pass_i pass_j is_d is_e fails_d fails_e =
     absurd (not_both o (take j entries) e n (earlier o entries j i e after pass_i is_e) fails_e)))
     (cases_order i j)
 
-pub one_verdict : (o : Stage) (entries : List Entry) (end : Tail) (a b : Verdict)
+pub one_verdict : (o : Setup) (entries : List Entry) (end : Tail) (a b : Verdict)
     → Judges o entries end a → Judges o entries end b → a ≡ b
 one_verdict o entries end a b (Right pass ends) (Right pass_b ends_b) = refl
 one_verdict o entries end a b (Right pass ends) (EntryFails i why entry before is fails) =
@@ -140,7 +140,7 @@ next_take entries k entry is =
     take_more entries k entry (slice_get_within entries k entry is)
     ∙ ap (λ e. take k entries ++ e ∷ []) (get_or_from_slice_get entries k entry entry is)
 
-all_within : (o : Stage) (entries : List Entry) → AllPass o entries → IsWithin o.limits entries
+all_within : (o : Setup) (entries : List Entry) → AllPass o entries → IsWithin o.limits entries
 all_within o [] pass = record { events = omega arith; bytes = omega arith }
 all_within o (first ∷ entries) pass =
     let all : List Entry = first ∷ entries in
@@ -172,7 +172,7 @@ caller_known programs p h e is =
     (sym (ap (λ found. next_of found (calls_by p h)) (slice_get_past programs p past)) ∙ is)))
     (cases_lt p (length programs))
 
-pub legal_is_right : (o : Stage) (entries : List Entry) (end : Tail)
+pub legal_is_right : (o : Setup) (entries : List Entry) (end : Tail)
     → Judges o entries end verdict.Legal ↔ IsRightJournal o entries end
 legal_is_right o entries end = (right, judges)
   where
@@ -204,7 +204,7 @@ legal_is_right o entries end = (right, judges)
         is.ends.rightly
 
 -- one entry more passes
-pub pass_more : (o : Stage) (entries : List Entry) (i : ℕ) (entry : Entry)
+pub pass_more : (o : Setup) (entries : List Entry) (i : ℕ) (entry : Entry)
     → slice_get entries i ≡ Some entry → AllPass o (take i entries) → Passes o (take i entries) entry
     → AllPass o (take (i + 1) entries)
 pass_more o entries i entry is all passes = λ k other read.

@@ -1,7 +1,7 @@
 -- A judge on its way through a journal. No public clause names this.
 use Rattle.std.specs.Prelude.{◌≡◌, ℕ, ◌≤◌, ◌==◌, false, List, length, count_by, map, Some, slice_get, slice_index, slice_index_or}
 use Rattle.session_order.specs.Calls.{as_meant, calls_by, next_by}
-use Rattle.session_order.specs.Ends.{Stage}
+use Rattle.session_order.specs.Ends.{Setup}
 use Rattle.session_order.specs.Follows.{is_waiting}
 use Rattle.session_text.specs.Programs.{Call}
 use Rattle.session_text.specs.Walks.{Place, Stands}
@@ -29,19 +29,19 @@ pub record StandsAfter (program : Program) (walk : Place) (made : List Call) : T
   pub meant : map as_meant calls ≡ made
 
 -- the judge is behind this history
-pub record IsAfter (o : Stage) (h : List Entry) (j : JudgeView) : Type 0 where
+pub record IsAfter (o : Setup) (h : List Entry) (j : JudgeView) : Type 0 where
   pub replayed : j.world ≡ replay o.start h
   pub walks : length j.walks ≡ length o.programs
   pub stand :
       (q : ℕ) (program : Program) (walk : Place) → slice_get o.programs q ≡ Some program
       → walk ≡ slice_index_or j.walks q walk → StandsAfter program walk (calls_by q h)
-  pub places : length j.counts ≡ 65
-  pub counted : (q : ℕ) → q ≤ 64 → slice_index j.counts q ≡ count_by (λ entry. entry.caller == q) h
+  pub places : length j.counts ≡ 68
+  pub counted : (q : ℕ) → q ≤ 67 → slice_index j.counts q ≡ count_by (λ entry. entry.caller == q) h
   pub events : j.events ≡ length h
   pub bytes : j.bytes ≡ charge_of_all h
 
 -- a caller that doesn't wait has a next call of this charge
-pub record HasCall (o : Stage) (h : List Entry) (caller charge : ℕ) : Type 0 where
+pub record HasCall (o : Setup) (h : List Entry) (caller charge : ℕ) : Type 0 where
   pub call : Event
   pub next : next_by o.programs caller h ≡ Some call
   pub goes : is_waiting (replay o.start h) caller ≡ false

@@ -1,7 +1,7 @@
 -- What a journal of a session is: right, or where it fails first and why. This project's own.
 use Rattle.std.specs.Prelude.{◌≡◌, ◌↔◌, ℕ, ◌==◌, ◌<◌, true, false, List, [], ◌∷◌, ◌++◌, count_by, length, take, Some, slice_get}
 use Rattle.session_order.specs.Calls.{all_over}
-use Rattle.session_order.specs.Ends.{Ends, EndsBy, Stage}
+use Rattle.session_order.specs.Ends.{Ends, EndsBy, Setup}
 use Rattle.session_order.specs.Follows.{Follows, IsNextCall}
 use Rattle.vt_check.specs.declared.verdict.Verdict.{Verdict}
 use Rattle.vt_check.specs.declared.verdict.Verdict.TheVariants as verdict
@@ -15,44 +15,44 @@ use Rattle.vt_world.specs.History.{IsLegal, replay}
 use Rattle.vt_world.specs.Step.{step}
 
 -- the entry's caller is one of the session's, and its number counts the caller's calls before
-pub record IsCounted (o : Stage) (before : List Entry) (entry : Entry) : Type 0 where
+pub record IsCounted (o : Setup) (before : List Entry) (entry : Entry) : Type 0 where
   pub caller : entry.caller < length o.programs
   pub number : entry.seq ≡ count_by (λ earlier. earlier.caller == entry.caller) before
 
 -- its answer is the console's
-abbrev pub IsAnswered : Stage → List Entry → Entry → Type 0
+abbrev pub IsAnswered : Setup → List Entry → Entry → Type 0
 IsAnswered o before entry =
     plain_reply entry.reply ≡ (step (replay o.start before) entry.caller entry.event).reply
 
 -- an entry right behind these passes: its call is the next of its program as well, and with it the
 -- history is within the limits
-pub record Passes (o : Stage) (before : List Entry) (entry : Entry) : Type 0 where
+pub record Passes (o : Setup) (before : List Entry) (entry : Entry) : Type 0 where
   pub counted : IsCounted o before entry
   pub next : IsNextCall o.start o.programs before entry
   pub answered : IsAnswered o before entry
   pub within : IsWithin o.limits (before ++ entry ∷ [])
 
 -- the first of the four that fails there, by its number
-pub data FailsAt (o : Stage) (before : List Entry) (entry : Entry) : ℕ → Type 0 where
+pub data FailsAt (o : Setup) (before : List Entry) (entry : Entry) : ℕ → Type 0 where
   NoCaller : ¬ IsCounted o before entry → FailsAt o before entry 1
   NoCall : IsCounted o before entry → ¬ IsNextCall o.start o.programs before entry → FailsAt o before entry 2
   NoAnswer : IsCounted o before entry → IsNextCall o.start o.programs before entry → ¬ IsAnswered o before entry → FailsAt o before entry 3
   NoRoom : IsCounted o before entry → IsNextCall o.start o.programs before entry → IsAnswered o before entry → ¬ IsWithin o.limits (before ++ entry ∷ []) → FailsAt o before entry 5
 
 -- the first that fails at the end: a program isn't over, or the last line isn't as the history ends
-pub data EndFails (o : Stage) (history : List Entry) : Tail → ℕ → Type 0 where
+pub data EndFails (o : Setup) (history : List Entry) : Tail → ℕ → Type 0 where
   NotOver : (events bytes : ℕ) → all_over o.programs history ≡ false → EndFails o history (tail.End events bytes) 4
   Differs : (events bytes : ℕ) → all_over o.programs history ≡ true → ¬ EndsBy o history (tail.End events bytes) → EndFails o history (tail.End events bytes) 5
   NoStop : (full : Full) → ¬ EndsBy o history (tail.Full full) → EndFails o history (tail.Full full) 5
 
 -- each entry passes at its place
-abbrev pub AllPass : Stage → List Entry → Type 0
+abbrev pub AllPass : Setup → List Entry → Type 0
 AllPass o entries =
     (k : ℕ) (entry : Entry) → slice_get entries k ≡ Some entry → Passes o (take k entries) entry
 
 -- the verdict: the first entry that fails, counted from 0, and the first reason there; else the end, with
 -- the number of entries; else the journal is legal
-pub data Judges (o : Stage) (entries : List Entry) (end : Tail) : Verdict → Type 0 where
+pub data Judges (o : Setup) (entries : List Entry) (end : Tail) : Verdict → Type 0 where
   Right : AllPass o entries → EndsBy o entries end → Judges o entries end verdict.Legal
   EntryFails : (index why : ℕ) (entry : Entry) → AllPass o (take index entries) → slice_get entries index ≡ Some entry → FailsAt o (take index entries) entry why → Judges o entries end (verdict.Illegal index why)
   AtEnd : (why : ℕ) → AllPass o entries → EndFails o entries end why → Judges o entries end (verdict.Illegal (length entries) why)
@@ -60,11 +60,11 @@ pub data Judges (o : Stage) (entries : List Entry) (end : Tail) : Verdict → Ty
 -- there is one verdict
 abbrev pub OneVerdict : Type 0
 OneVerdict =
-    (o : Stage) (entries : List Entry) (end : Tail) (a b : Verdict) → Judges o entries end a
+    (o : Setup) (entries : List Entry) (end : Tail) (a b : Verdict) → Judges o entries end a
     → Judges o entries end b → a ≡ b
 
 -- the history is legal, follows the programs and ends so
-pub record IsRightJournal (o : Stage) (entries : List Entry) (end : Tail) : Type 0 where
+pub record IsRightJournal (o : Setup) (entries : List Entry) (end : Tail) : Type 0 where
   pub legal : IsLegal o.start entries
   pub follows : Follows o.start o.programs entries
   pub ends : Ends o entries end
@@ -72,5 +72,5 @@ pub record IsRightJournal (o : Stage) (entries : List Entry) (end : Tail) : Type
 -- it is legal exactly where it is right
 abbrev pub LegalIsRight : Type 0
 LegalIsRight =
-    (o : Stage) (entries : List Entry) (end : Tail)
+    (o : Setup) (entries : List Entry) (end : Tail)
     → Judges o entries end verdict.Legal ↔ IsRightJournal o entries end

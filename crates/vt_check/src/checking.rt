@@ -1,7 +1,7 @@
 //! The check of a journal.
 ghost use Rattle.std.specs.Prelude.{◌≡◌, ◌↔◌, ◌≤◌, List, length, IfOk};
-ghost use Rattle.session_order.specs.Ends.{Stage};
-ghost use Rattle.session_order.specs.Sessions.{ShowsTapes, stage_of, start_of};
+ghost use Rattle.session_order.specs.Ends.{Setup};
+ghost use Rattle.session_order.specs.Sessions.{ShowsTapes, setup_of, start_of};
 ghost use Rattle.vt_check.specs.Verdicts.{IsRightJournal, Judges};
 ghost use Rattle.vt_check.specs.declared.verdict.Verdict.{Verdict};
 ghost use Rattle.vt_check.specs.declared.verdict.Verdict.TheVariants as verdict;
@@ -22,11 +22,11 @@ use vt_world::{displays_are_lawful, screens_are_tapes};
 
 /// Whether the journal is one that the session can have: the verdict on it.
 pub fn check(alloc: Global, s: &Session, j: &Journal) -> Result<Verdict, NoMemory>
-    ensures judges { IfOk result (Judges (stage_of s.now) j.now.entries j.now.tail) }
+    ensures judges { IfOk result (Judges (setup_of s.now) j.now.entries j.now.tail) }
     ensures one { IfOk result (λ v. (other : Verdict)
-        → Judges (stage_of s.now) j.now.entries j.now.tail other → other ≡ v) }
+        → Judges (setup_of s.now) j.now.entries j.now.tail other → other ≡ v) }
     ensures legal { IfOk result (λ v. (v ≡ verdict.Legal)
-        ↔ IsRightJournal (stage_of s.now) j.now.entries j.now.tail) }
+        ↔ IsRightJournal (setup_of s.now) j.now.entries j.now.tail) }
     ensures lawful { IfOk result (λ v. v ≡ verdict.Legal
         → IsLawful (moments (start_of s.now) j.now.entries)) }
     ensures screens { IfOk result (λ v. v ≡ verdict.Legal
@@ -42,7 +42,7 @@ pub fn check(alloc: Global, s: &Session, j: &Journal) -> Result<Verdict, NoMemor
 
 // Judges the entries, and then the end.
 fn judge_journal(alloc: Global, s: &Session, j: &Journal) -> Result<Verdict, NoMemory>
-    ensures { IfOk result (Judges (stage_of s.now) j.now.entries j.now.tail) }
+    ensures { IfOk result (Judges (setup_of s.now) j.now.entries j.now.tail) }
 {
     let _starts = s.config().procs.as_slice();
     let limits = s.limits();

@@ -2,7 +2,7 @@
 ghost use Rattle.std.specs.Prelude.{◌≡◌, ◌≤◌, ◌<◌, ◌↔◌, ℕ, List, length, IfOk, IfSome, IfNone, IsTrue};
 ghost use Rattle.std.specs.Bool.{OnFalse, OnTrue};
 ghost use Rattle.session_order.specs.Calls.{all_over, next_by};
-ghost use Rattle.session_order.specs.Ends.{EndsBy, Stage, Stops};
+ghost use Rattle.session_order.specs.Ends.{EndsBy, Setup, Stops};
 ghost use Rattle.vt_check.specs.Judging.{HasCall, IsAfter};
 ghost use Rattle.vt_check.specs.Verdicts.{EndFails};
 ghost use Rattle.vt_events.specs.declared.entry.Entry.{Entry};
@@ -34,10 +34,10 @@ impl Judge {
         requires walks { length self.now.walks ≡ length programs.now }
         requires callers { length programs.now ≤ 65 }
         requires bytes { self.now.bytes ≤ 1_073_741_824 }
-        ensures fails { IfOk result (λ why. IfSome why (λ n. (o : Stage) (h : List Entry)
+        ensures fails { IfOk result (λ why. IfSome why (λ n. (o : Setup) (h : List Entry)
             → o.programs ≡ programs.now → o.limits ≡ limits → IsAfter o h self.now
             → EndFails o h end.now n)) }
-        ensures passes { IfOk result (λ why. IfNone why ((o : Stage) (h : List Entry)
+        ensures passes { IfOk result (λ why. IfNone why ((o : Setup) (h : List Entry)
             → o.programs ≡ programs.now → o.limits ≡ limits → IsAfter o h self.now
             → EndsBy o h end.now)) }
     {
@@ -71,7 +71,7 @@ impl Judge {
     // Whether every program is over.
     fn are_over(&self, alloc: Global, programs: &[Program]) -> Result<bool, NoMemory>
         requires walks { length self.now.walks ≡ length programs.now }
-        ensures { IfOk result (λ are. (o : Stage) (h : List Entry) → o.programs ≡ programs.now
+        ensures { IfOk result (λ are. (o : Setup) (h : List Entry) → o.programs ≡ programs.now
             → IsAfter o h self.now → all_over o.programs h ≡ are) }
     {
         for i in 0..programs.len() {
@@ -93,7 +93,7 @@ impl Judge {
         requires walks { length self.now.walks ≡ length programs.now }
         requires callers { length programs.now ≤ 65 }
         requires bytes { self.now.bytes ≤ 1_073_741_824 }
-        ensures { IfOk result (λ is. (o : Stage) (h : List Entry) → o.programs ≡ programs.now
+        ensures { IfOk result (λ is. (o : Setup) (h : List Entry) → o.programs ≡ programs.now
             → o.limits ≡ limits → IsAfter o h self.now → IsTrue is ↔ Stops o h full.now) }
     {
         if !self.has_numbers(full.events, full.bytes) {
@@ -108,7 +108,7 @@ impl Judge {
     // Whether a call of this charge finds room.
     fn has_room(&self, limits: Limits, charge: u32) -> bool
         requires { self.now.bytes ≤ 1_073_741_824 }
-        ensures { (o : Stage) (h : List Entry) → o.limits ≡ limits → IsAfter o h self.now
+        ensures { (o : Setup) (h : List Entry) → o.limits ≡ limits → IsAfter o h self.now
             → has_room o.limits h charge ≡ result }
     {
         self.events < limits.events && self.bytes + u64::from(charge) <= limits.bytes
@@ -123,10 +123,10 @@ impl Judge {
     ) -> Result<bool, NoMemory>
         requires walks { length self.now.walks ≡ length programs.now }
         requires callers { length programs.now ≤ 65 }
-        ensures found { IfOk result (λ is. OnTrue is ((o : Stage) (h : List Entry)
+        ensures found { IfOk result (λ is. OnTrue is ((o : Setup) (h : List Entry)
             → o.programs ≡ programs.now → IsAfter o h self.now
             → (caller : ℕ) × HasCall o h caller charge)) }
-        ensures none { IfOk result (λ is. OnFalse is ((o : Stage) (h : List Entry)
+        ensures none { IfOk result (λ is. OnFalse is ((o : Setup) (h : List Entry)
             → o.programs ≡ programs.now → IsAfter o h self.now
             → (caller : ℕ) → caller < length programs.now → ¬ HasCall o h caller charge)) }
     {
@@ -149,7 +149,7 @@ impl Judge {
         requires walks { length self.now.walks ≡ length programs.now }
         requires known { i < length programs.now }
         requires callers { length programs.now ≤ 65 }
-        ensures { IfOk result (λ is. (o : Stage) (h : List Entry) → o.programs ≡ programs.now
+        ensures { IfOk result (λ is. (o : Setup) (h : List Entry) → o.programs ≡ programs.now
             → IsAfter o h self.now → IsTrue is ↔ HasCall o h i wanted) }
     {
         if self.world.waiting(CallerNo::numbered(i as u16)) {
@@ -165,7 +165,7 @@ impl Judge {
     fn next(&self, alloc: Global, programs: &[Program], i: usize) -> Result<Option<Event>, NoMemory>
         requires walks { length self.now.walks ≡ length programs.now }
         requires known { i < length programs.now }
-        ensures { IfOk result (λ e. (o : Stage) (h : List Entry) → o.programs ≡ programs.now
+        ensures { IfOk result (λ e. (o : Setup) (h : List Entry) → o.programs ≡ programs.now
             → IsAfter o h self.now → e ≡ next_by o.programs i h) }
     {
         meant_laws();

@@ -1,7 +1,7 @@
 ghost use Rattle.std.specs.Prelude.{◌≡◌, ◌≤◌, ◌<◌, ◌↔◌, ◌&&◌, List, [], ◌∷◌, ◌++◌, Some, length, All, IfOk, IfSome, IfNone, IsTrue, slice_get};
-ghost use Rattle.session_order.specs.Ends.{Stage};
+ghost use Rattle.session_order.specs.Ends.{Setup};
 ghost use Rattle.session_order.specs.Follows.{IsNextCall, is_waiting};
-ghost use Rattle.session_order.specs.Sessions.{stage_of};
+ghost use Rattle.session_order.specs.Sessions.{setup_of};
 ghost use Rattle.session_text.specs.Walks.{Stands};
 ghost use Rattle.session_text.specs.declared.program.Program.{Program};
 ghost use Rattle.vt_check.specs.Judging.{IsAfter};
@@ -60,7 +60,7 @@ impl Model for Judge {
 impl Judge {
     /// Nothing is judged yet.
     pub(crate) fn open(alloc: Global, s: &Session) -> Result<Judge, NoMemory>
-        ensures at { IfOk result (λ judge. IsAfter (stage_of s.now) [] judge) }
+        ensures at { IfOk result (λ judge. IsAfter (setup_of s.now) [] judge) }
         ensures events { IfOk result (λ judge. judge.events ≡ 0) }
         ensures bytes { IfOk result (λ judge. judge.bytes ≡ 0) }
     {
@@ -86,13 +86,13 @@ impl Judge {
         requires walks { length self.old.walks ≡ length programs.now }
         requires events { self.old.events ≤ 1_000_000 }
         requires bytes { self.old.bytes ≤ 1_073_741_824 }
-        ensures fails { IfOk result (λ why. IfSome why (λ n. (o : Stage) (h : List Entry)
+        ensures fails { IfOk result (λ why. IfSome why (λ n. (o : Setup) (h : List Entry)
             → o.programs ≡ programs.now → o.limits ≡ limits → IsAfter o h self.old
             → FailsAt o h entry.now n)) }
-        ensures passes { IfOk result (λ why. IfNone why ((o : Stage) (h : List Entry)
+        ensures passes { IfOk result (λ why. IfNone why ((o : Setup) (h : List Entry)
             → o.programs ≡ programs.now → o.limits ≡ limits → IsAfter o h self.old
             → Passes o h entry.now)) }
-        ensures after { IfOk result (λ why. IfNone why ((o : Stage) (h : List Entry)
+        ensures after { IfOk result (λ why. IfNone why ((o : Setup) (h : List Entry)
             → o.programs ≡ programs.now → IsAfter o h self.old
             → IsAfter o (h ++ entry.now ∷ []) self.new)) }
         ensures walks { IfOk result (λ why. length self.new.walks ≡ length programs.now) }
@@ -117,7 +117,7 @@ impl Judge {
 
     // Whether the caller is one of so many, and the number counts its calls.
     fn is_counted(&self, callers: usize, entry: &Entry) -> bool
-        ensures counted { (o : Stage) (h : List Entry) → length o.programs ≡ callers
+        ensures counted { (o : Setup) (h : List Entry) → length o.programs ≡ callers
             → IsAfter o h self.now → IsTrue result ↔ IsCounted o h entry.now }
         ensures known { IsTrue result → entry.now.caller < callers }
     {
@@ -127,7 +127,7 @@ impl Judge {
     // Whether the call is the next of its caller's program, and ends no wait that goes on.
     fn is_next(&self, alloc: Global, program: &Program, entry: &Entry) -> Result<bool, NoMemory>
         requires { entry.now.caller < length self.now.walks }
-        ensures { IfOk result (λ is. (o : Stage) (h : List Entry)
+        ensures { IfOk result (λ is. (o : Setup) (h : List Entry)
             → slice_get o.programs entry.now.caller ≡ Some program.now → IsAfter o h self.now
             → IsTrue is ↔ IsNextCall o.start o.programs h entry.now) }
     {
@@ -160,9 +160,9 @@ impl Judge {
         requires walk { entry.now.caller < length self.old.walks }
         requires events { self.old.events ≤ 1_000_000 }
         requires bytes { self.old.bytes ≤ 1_073_741_824 }
-        ensures answered { IfOk result (λ is. (o : Stage) (h : List Entry) → IsAfter o h self.old
+        ensures answered { IfOk result (λ is. (o : Setup) (h : List Entry) → IsAfter o h self.old
             → IsTrue is ↔ IsAnswered o h entry.now) }
-        ensures after { IfOk result (λ is. (o : Stage) (h : List Entry) → IsTrue is
+        ensures after { IfOk result (λ is. (o : Setup) (h : List Entry) → IsTrue is
             → slice_get o.programs entry.now.caller ≡ Some program.now → IsAfter o h self.old
             → IsNextCall o.start o.programs h entry.now
             → IsAfter o (h ++ entry.now ∷ []) self.new) }
@@ -185,7 +185,7 @@ impl Judge {
 
     // Whether the entries so far are within the limits.
     fn is_within(&self, limits: Limits) -> bool
-        ensures within { (o : Stage) (h : List Entry) → o.limits ≡ limits → IsAfter o h self.now
+        ensures within { (o : Setup) (h : List Entry) → o.limits ≡ limits → IsAfter o h self.now
             → IsTrue result ↔ IsWithin o.limits h }
         ensures events { IsTrue result → self.now.events ≤ limits.events }
         ensures bytes { IsTrue result → self.now.bytes ≤ limits.bytes }

@@ -1,8 +1,10 @@
 pub mod Arguments
+pub mod CallerWords
 pub mod Calls
 pub mod Clear
 pub mod Comparing
 pub mod Cuts
+pub mod Firsts
 pub mod Lines
 pub mod Once
 pub mod Pairs

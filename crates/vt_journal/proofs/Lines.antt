@@ -1,5 +1,6 @@
 -- Lines, made word by word.
-use Rattle.std.proofs.Common.{◌≡◌, ℕ, ◌+◌, ◌<◌, List, [], ◌∷◌, ◌++◌, length, map, take, get_or, sym, ap, ◌∙◌, add-one, append_assoc}
+use Rattle.std.proofs.Common.{◌≡◌, ℕ, ◌+◌, ◌<◌, List, [], ◌∷◌, ◌++◌, decimal, length, map, take, get_or, sym, ap, ◌∙◌, add-one, append_assoc}
+use Rattle.std.proofs.lemmas.Fmt.{decimal_digit}
 use Rattle.std.proofs.lemmas.List.Concat.{flat_map-append}
 use Rattle.std.proofs.Math.Seq.{take-suc}
 use Rattle.std.proofs.lemmas.List.{append-nil, map-append}
@@ -19,6 +20,15 @@ spelled-cons word [] = sym (append-nil word)
 spelled-cons word (next ∷ words) =
     ap (λ text. word ++ (0x20 ∷ text)) (spelled-cons next words)
 
+-- a number of one digit behind a blank
+pub digit_next : (n : ℕ) (t0 t1 t2 t3 : List ℕ) → n < 10 → t1 ≡ t0 → t2 ≡ t1 ++ 0x20 ∷ []
+    → t3 ≡ t2 ++ (48 + n) ∷ [] → t3 ≡ t0 ++ 0x20 ∷ decimal n
+digit_next n t0 t1 t2 t3 few is1 is2 is3 =
+    is3
+    ∙ (ap (λ t. t ++ (48 + n) ∷ []) (is2 ∙ ap (λ t. t ++ 0x20 ∷ []) is1)
+    ∙ (append_assoc t0 (0x20 ∷ []) ((48 + n) ∷ [])
+    ∙ ap (λ digits. t0 ++ 0x20 ∷ digits) (sym (decimal_digit n few))))
+
 -- the line of an entry, from its pieces
 pub entry_line : (caller seq sign : List ℕ) (call answer : List (List ℕ))
     (t0 t1 t2 t3 t4 t5 t6 : List ℕ)
@@ -31,28 +41,38 @@ entry_line caller seq sign call answer t0 t1 t2 t3 t4 t5 t6 is1 is2 is3 is4 is5 
     rw whole (rw others (simp (is6, is5, is4, is3, is2, is1, append_assoc)))
 
 -- one more line, after those of the first entries
-pub lines_more : (head : List (List ℕ)) (entries : List Entry) (i : ℕ) (entry : Entry)
+pub lines_more : (version : ℕ) (head : List (List ℕ)) (entries : List Entry) (i : ℕ) (entry : Entry)
     (old text more : List ℕ) → i < length entries → entry ≡ get_or entries i entry
-    → text ≡ old ++ flat_map line_text (head ∷ map entry_words (take i entries))
-    → more ≡ text ++ line_text (entry_words entry)
-    → more ≡ old ++ flat_map line_text (head ∷ map entry_words (take (i + 1) entries))
-lines_more head entries i entry old text more within is so_far added =
+    → text ≡ old ++ flat_map line_text (head ∷ map (entry_words version) (take i entries))
+    → more ≡ text ++ line_text (entry_words version entry)
+    → more ≡ old ++ flat_map line_text (head ∷ map (entry_words version) (take (i + 1) entries))
+lines_more version head entries i entry old text more within is so_far added =
     let next : take (i + 1) entries ≡ take i entries ++ entry ∷ [] =
     ap (λ n. take n entries) (add-one i)
     ∙ take-suc entries i entry within
     ∙ ap (λ e. take i entries ++ e ∷ []) (sym is) in
-    rw (next, map-append entry_words (take i entries) (entry ∷ []))
-    (rw (flat_map-append line_text (map entry_words (take i entries)) (entry_words entry ∷ []))
+    rw (next, map-append (entry_words version) (take i entries) (entry ∷ []))
+    (rw (flat_map-append line_text (map (entry_words version) (take i entries)) (entry_words version entry ∷ []))
     (simp (added, so_far, append_assoc, append-nil)))
 
 -- one more entry that is fit, after the first ones
-pub fit_more : (entries : List Entry) (i : ℕ) (entry : Entry) → i < length entries
-    → entry ≡ get_or entries i entry → All IsFitEntry (map plain_entry (take i entries))
-    → IsFitEntry (plain_entry entry) → All IsFitEntry (map plain_entry (take (i + 1) entries))
-fit_more entries i entry within is so_far fit =
+pub fit_more : (version : ℕ) (entries : List Entry) (i : ℕ) (entry : Entry) → i < length entries
+    → entry ≡ get_or entries i entry → All (IsFitEntry version) (map plain_entry (take i entries))
+    → IsFitEntry version (plain_entry entry) → All (IsFitEntry version) (map plain_entry (take (i + 1) entries))
+fit_more version entries i entry within is so_far fit =
     let next : take (i + 1) entries ≡ take i entries ++ entry ∷ [] =
     ap (λ n. take n entries) (add-one i)
     ∙ take-suc entries i entry within
     ∙ ap (λ e. take i entries ++ e ∷ []) (sym is) in
     rw (next, map-append plain_entry (take i entries) (entry ∷ []))
-    (All-push IsFitEntry (map plain_entry (take i entries)) (plain_entry entry) so_far fit)
+    (All-push (IsFitEntry version) (map plain_entry (take i entries)) (plain_entry entry) so_far fit)
+
+-- one more entry of which the same holds
+pub all_more : (P : Entry → Type 0) (entries : List Entry) (i : ℕ) (entry : Entry) → i < length entries
+    → entry ≡ get_or entries i entry → All P (take i entries) → P entry → All P (take (i + 1) entries)
+all_more P entries i entry within is so_far holds =
+    let next : take (i + 1) entries ≡ take i entries ++ entry ∷ [] =
+    ap (λ n. take n entries) (add-one i)
+    ∙ take-suc entries i entry within
+    ∙ ap (λ e. take i entries ++ e ∷ []) (sym is) in
+    rw next (All-push P (take i entries) entry so_far holds)

@@ -1,14 +1,13 @@
 -- A line is one entry or one end.
 use Rattle.std.proofs.Common.{◌≡◌, ◌≢◌, ℕ, ◌+◌, ◌%◌, ◌<◌, ◌≤◌, ◌^◌, Bool, true, ◌&&◌, suc, ltb, List, [], ◌∷◌, ◌++◌, codes, decimal, refl, sym, ap, ◌∙◌, append_assoc, arith}
-use Rattle.std.specs.List.{list_all}
-use Rattle.std.proofs.lemmas.Bool.{false≢true, lt-ltb}
-use Rattle.std.proofs.lemmas.Fmt.{decimal_by_steps, decimal_injective}
+use Rattle.std.proofs.lemmas.Bool.{false≢true}
+use Rattle.std.proofs.lemmas.Fmt.{decimal_injective}
 use Rattle.std.proofs.lemmas.List.{append-nil}
-use Rattle.std.proofs.lemmas.List.Folds.{list_all-append}
 use Rattle.std.proofs.lemmas.List.Splits.{join_with_byte-slice_split}
 use Rattle.vt_events.specs.declared.entry.Entry.{Entry}
 use Rattle.vt_events.specs.declared.event.Event.{Event}
 use Rattle.vt_events.specs.Plain.{plain_event}
+use Rattle.vt_journal.specs.Callers.{caller_word}
 use Rattle.vt_journal.specs.Cut.{cut}
 use Rattle.vt_journal.specs.Journal.{entry_words, line_text, tail_words}
 use Rattle.vt_journal.specs.Lines.{IsCutAt, IsLine}
@@ -16,6 +15,7 @@ use Rattle.vt_journal.specs.Says.{IsFitEntry, IsFitTail}
 use Rattle.vt_journal.specs.Words.{IsFit, event_words, reply_words, spelled}
 use Rattle.vt_journal.specs.declared.tail.Tail.{Tail}
 use Rattle.vt_journal.specs.declared.tail.Tail.TheVariants as tail
+use Rattle.vt_journal.proofs.CallerWords.{is_clear-caller, is_high, is_high-caller, same_caller}
 use Rattle.vt_journal.proofs.Clear.{are_clear, are_clear-append, are_clear-event, cut-spelled, is_clear-decimal, line-spelled}
 use Rattle.vt_journal.proofs.ReplyWords.{are_clear-reply, reply_once}
 use Rattle.vt_journal.proofs.Spellings.{event_once}
@@ -23,9 +23,6 @@ use Rattle.vt_journal.proofs.Spellings.{event_once}
 -- numbers within their types
 pub small : (n : ℕ) → n ≤ 4294967295 → n < 2 ^ 64
 small n fit = omega (arith, fit)
-
-caller_small : (n : ℕ) → n ≤ 64 → n < 2 ^ 64
-caller_small n fit = omega (arith, fit)
 
 large : (n : ℕ) → n ≤ 18446744073709551615 → n < 2 ^ 64
 large n fit = omega (arith, fit)
@@ -37,33 +34,30 @@ pub same_long : (m n : ℕ) → m ≤ 18446744073709551615 → n ≤ 18446744073
     → decimal m ≡ decimal n → m ≡ n
 same_long m n fit_m fit_n = decimal_injective m n (large m fit_m) (large n fit_n)
 
-same_caller : (m n : ℕ) → m ≤ 64 → n ≤ 64 → decimal m ≡ decimal n → m ≡ n
-same_caller m n fit_m fit_n = decimal_injective m n (caller_small m fit_m) (caller_small n fit_n)
-
 -- what follows the call of an entry, behind a call that was read
-pub behind_call : (d : Event) (u : List (List ℕ)) (e : Entry) (rest : List (List ℕ)) → IsFit d
-    → plain_event d ≡ d → IsFitEntry e
+pub behind_call : (version : ℕ) (d : Event) (u : List (List ℕ)) (e : Entry) (rest : List (List ℕ)) → IsFit d
+    → plain_event d ≡ d → IsFitEntry version e
     → event_words d ++ u ≡ (event_words e.event ++ codes "=" ∷ reply_words e.reply) ++ rest
     → (d ≡ e.event) × (u ≡ codes "=" ∷ (reply_words e.reply ++ rest))
-behind_call d u e rest fit plain fit_e same =
+behind_call version d u e rest fit plain fit_e same =
     event_once d e.event u (codes "=" ∷ (reply_words e.reply ++ rest)) fit fit_e.call plain fit_e.plain
     (same ∙ append_assoc (event_words e.event) (codes "=" ∷ reply_words e.reply) rest)
 
 -- words are one entry and what follows it
-pub entry_once : (d e : Entry) (u v : List (List ℕ)) → IsFitEntry d → IsFitEntry e
-    → entry_words d ++ u ≡ entry_words e ++ v → (d ≡ e) × (u ≡ v)
-entry_once d e u v fit_d fit_e same =
-    let callers : decimal d.caller ≡ decimal e.caller = cc in
+pub entry_once : (version : ℕ) (d e : Entry) (u v : List (List ℕ)) → IsFitEntry version d → IsFitEntry version e
+    → entry_words version d ++ u ≡ entry_words version e ++ v → (d ≡ e) × (u ≡ v)
+entry_once version d e u v fit_d fit_e same =
+    let callers : caller_word version d.caller ≡ caller_word version e.caller = cc in
     let seqs : decimal d.seq ≡ decimal e.seq = cc in
     let others : (event_words d.event ++ codes "=" ∷ reply_words d.reply) ++ u
     ≡ (event_words e.event ++ codes "=" ∷ reply_words e.reply) ++ v = cc in
     let call =
-    behind_call d.event (codes "=" ∷ (reply_words d.reply ++ u)) e v fit_d.call fit_d.plain fit_e
+    behind_call version d.event (codes "=" ∷ (reply_words d.reply ++ u)) e v fit_d.call fit_d.plain fit_e
     (sym (append_assoc (event_words d.event) (codes "=" ∷ reply_words d.reply) u) ∙ others) in
     let answers : reply_words d.reply ++ u ≡ reply_words e.reply ++ v = cc in
     let answer = reply_once d.reply e.reply u v fit_d.answer fit_e.answer answers in (
       (λ j. record {
-        caller = same_caller d.caller e.caller fit_d.caller fit_e.caller callers j;
+        caller = same_caller version d.caller e.caller fit_d.caller fit_e.caller callers j;
         seq = same_number d.seq e.seq fit_d.seq fit_e.seq seqs j;
         event = call.0 j;
         reply = answer.0 j;
@@ -100,50 +94,36 @@ tail_once (tail.Full f) (tail.End n c) u v fit_d fit_e same =
     let names : codes "%full" ≡ codes "%end" = cc in
     cc
 
--- a number begins with a digit, which an end does not
-abbrev is_digits : List ℕ → Bool
-is_digits word = list_all (λ b. ltb 0x2F b) word
-
-is_digits-decimal : (n : ℕ) → n < 2 ^ 64 → is_digits (decimal n) ≡ true
-is_digits-decimal =
-    decimal_by_steps (λ _ digits. is_digits digits ≡ true) (λ n below. digit n)
-    (λ n digits above others.
-    list_all-append (λ b. ltb 0x2F b) digits ((48 + n % 10) ∷ [])
-    ∙ (λ j. others j && digit (n % 10) j))
-  where
-    digit : (n : ℕ) → is_digits ((48 + n) ∷ []) ≡ true
-    digit n = ap (λ b. b && true) (lt-ltb 0x2F (48 + n) (omega arith))
-
-pub apart : (e : Entry) (d : Tail) (u v : List (List ℕ)) → IsFitEntry e
-    → entry_words e ++ u ≢ tail_words d ++ v
-apart e (tail.End events bytes) u v fit same =
-    let first : decimal e.caller ≡ codes "%end" = cc in
-    false≢true (sym (ap is_digits first) ∙ is_digits-decimal e.caller (caller_small e.caller fit.caller))
-apart e (tail.Full full) u v fit same =
-    let first : decimal e.caller ≡ codes "%full" = cc in
-    false≢true (sym (ap is_digits first) ∙ is_digits-decimal e.caller (caller_small e.caller fit.caller))
+pub apart : (version : ℕ) (e : Entry) (d : Tail) (u v : List (List ℕ)) → IsFitEntry version e
+    → entry_words version e ++ u ≢ tail_words d ++ v
+apart version e (tail.End events bytes) u v fit same =
+    let first : caller_word version e.caller ≡ codes "%end" = cc in
+    false≢true (sym (ap is_high first) ∙ is_high-caller version e.caller fit.caller)
+apart version e (tail.Full full) u v fit same =
+    let first : caller_word version e.caller ≡ codes "%full" = cc in
+    false≢true (sym (ap is_high first) ∙ is_high-caller version e.caller fit.caller)
 
 -- the words of entries and of ends are clear
-clear_entry : (e : Entry) → IsFitEntry e
+clear_entry : (version : ℕ) (e : Entry) → IsFitEntry version e
     → are_clear (decimal e.seq ∷ event_words e.event ++ codes "=" ∷ reply_words e.reply) ≡ true
-clear_entry e fit =
+clear_entry version e fit =
     let seq = is_clear-decimal e.seq (small e.seq fit.seq) in
     let others =
     are_clear-append (event_words e.event) (codes "=" ∷ reply_words e.reply)
     (are_clear-event e.event fit.call) (are_clear-reply e.reply fit.answer) in
     λ j. seq j && others j
 
-pub cut_entry : (e : Entry) → IsFitEntry e → cut (spelled (entry_words e)) ≡ entry_words e
-cut_entry e fit =
-    cut-spelled (decimal e.caller)
+pub cut_entry : (version : ℕ) (e : Entry) → IsFitEntry version e → cut (spelled (entry_words version e)) ≡ entry_words version e
+cut_entry version e fit =
+    cut-spelled (caller_word version e.caller)
     (decimal e.seq ∷ event_words e.event ++ codes "=" ∷ reply_words e.reply)
-    (is_clear-decimal e.caller (caller_small e.caller fit.caller)) (clear_entry e fit)
+    (is_clear-caller version e.caller fit.caller) (clear_entry version e fit)
 
-pub line_entry : (e : Entry) → IsFitEntry e → IsLine (spelled (entry_words e))
-line_entry e fit =
-    line-spelled (decimal e.caller)
+pub line_entry : (version : ℕ) (e : Entry) → IsFitEntry version e → IsLine (spelled (entry_words version e))
+line_entry version e fit =
+    line-spelled (caller_word version e.caller)
     (decimal e.seq ∷ event_words e.event ++ codes "=" ∷ reply_words e.reply)
-    (is_clear-decimal e.caller (caller_small e.caller fit.caller)) (clear_entry e fit)
+    (is_clear-caller version e.caller fit.caller) (clear_entry version e fit)
 
 -- the numbers of an end
 abbrev numbers_in : Tail → List (List ℕ)
@@ -202,19 +182,19 @@ pub line_parts : (words : List (List ℕ)) (u : List ℕ)
     → line_text words ++ u ≡ spelled words ++ 0x0A ∷ u
 line_parts words u = append_assoc (spelled words) (0x0A ∷ []) u
 
-lines_once : (p q : List (List ℕ)) (u v : List ℕ) → IsLine (spelled p) → IsLine (spelled q)
+pub lines_once : (p q : List (List ℕ)) (u v : List ℕ) → IsLine (spelled p) → IsLine (spelled q)
     → line_text p ++ u ≡ line_text q ++ v → (spelled p ≡ spelled q) × (u ≡ v)
 lines_once p q u v line_p line_q same =
     line_once (spelled p) (spelled q) u v line_p line_q
     (sym (line_parts p u) ∙ same ∙ line_parts q v)
 
-pub entry_line_once : (d e : Entry) (u v : List ℕ) → IsFitEntry d → IsFitEntry e
-    → line_text (entry_words d) ++ u ≡ line_text (entry_words e) ++ v → (d ≡ e) × (u ≡ v)
-entry_line_once d e u v fit_d fit_e same =
-    let both = lines_once (entry_words d) (entry_words e) u v (line_entry d fit_d) (line_entry e fit_e) same in
-    let words : entry_words d ≡ entry_words e =
-    sym (cut_entry d fit_d) ∙ ap cut both.0 ∙ cut_entry e fit_e in
-    ((entry_once d e [] [] fit_d fit_e (ap (λ words. words ++ []) words)).0, both.1)
+pub entry_line_once : (version : ℕ) (d e : Entry) (u v : List ℕ) → IsFitEntry version d → IsFitEntry version e
+    → line_text (entry_words version d) ++ u ≡ line_text (entry_words version e) ++ v → (d ≡ e) × (u ≡ v)
+entry_line_once version d e u v fit_d fit_e same =
+    let both = lines_once (entry_words version d) (entry_words version e) u v (line_entry version d fit_d) (line_entry version e fit_e) same in
+    let words : entry_words version d ≡ entry_words version e =
+    sym (cut_entry version d fit_d) ∙ ap cut both.0 ∙ cut_entry version e fit_e in
+    ((entry_once version d e [] [] fit_d fit_e (ap (λ words. words ++ []) words)).0, both.1)
 
 pub tail_line_once : (d e : Tail) (u v : List ℕ) → IsFitTail d → IsFitTail e
     → line_text (tail_words d) ++ u ≡ line_text (tail_words e) ++ v → (d ≡ e) × (u ≡ v)
@@ -224,13 +204,13 @@ tail_line_once d e u v fit_d fit_e same =
     sym (cut_tail d fit_d) ∙ ap cut both.0 ∙ cut_tail e fit_e in
     ((tail_once d e [] [] fit_d fit_e (ap (λ words. words ++ []) words)).0, both.1)
 
-pub lines_apart : (e : Entry) (d : Tail) (u v : List ℕ) → IsFitEntry e → IsFitTail d
-    → line_text (entry_words e) ++ u ≢ line_text (tail_words d) ++ v
-lines_apart e d u v fit_e fit_d same =
-    let both = lines_once (entry_words e) (tail_words d) u v (line_entry e fit_e) (line_tail d fit_d) same in
-    let words : entry_words e ≡ tail_words d =
-    sym (cut_entry e fit_e) ∙ ap cut both.0 ∙ cut_tail d fit_d in
-    apart e d [] [] fit_e (ap (λ words. words ++ []) words)
+pub lines_apart : (version : ℕ) (e : Entry) (d : Tail) (u v : List ℕ) → IsFitEntry version e → IsFitTail d
+    → line_text (entry_words version e) ++ u ≢ line_text (tail_words d) ++ v
+lines_apart version e d u v fit_e fit_d same =
+    let both = lines_once (entry_words version e) (tail_words d) u v (line_entry version e fit_e) (line_tail d fit_d) same in
+    let words : entry_words version e ≡ tail_words d =
+    sym (cut_entry version e fit_e) ∙ ap cut both.0 ∙ cut_tail d fit_d in
+    apart version e d [] [] fit_e (ap (λ words. words ++ []) words)
 
 -- a line is not nothing
 pub some_line : (words : List (List ℕ)) (u : List ℕ) → line_text words ++ u ≢ []
@@ -240,16 +220,22 @@ some_line words u same = some (spelled words) (sym (line_parts words u) ∙ same
     some [] same = cc
     some (b ∷ text) same = cc
 
+-- what is left of an entry behind its caller
+pub behind_word : (version : ℕ) (w0 w1 : List (List ℕ)) (p : ℕ) (e : Entry) (rest : List (List ℕ))
+    → w0 ≡ caller_word version p ∷ w1 → w0 ≡ entry_words version e ++ rest
+    → w1 ≡ decimal e.seq ∷ ((event_words e.event ++ codes "=" ∷ reply_words e.reply) ++ rest)
+behind_word version w0 w1 p e rest is0 is = cc
+
 -- what is left of an entry behind its call
-pub behind_caller : (w0 w1 w2 w3 : List (List ℕ)) (p s : ℕ) (d : Event) (e : Entry)
-    (rest : List (List ℕ)) → IsFit d → plain_event d ≡ d → IsFitEntry e → w0 ≡ decimal p ∷ w1
-    → w1 ≡ decimal s ∷ w2 → w2 ≡ event_words d ++ w3 → w0 ≡ entry_words e ++ rest
+pub behind_caller : (version : ℕ) (w0 w1 w2 w3 : List (List ℕ)) (p s : ℕ) (d : Event) (e : Entry)
+    (rest : List (List ℕ)) → IsFit d → plain_event d ≡ d → IsFitEntry version e → w0 ≡ caller_word version p ∷ w1
+    → w1 ≡ decimal s ∷ w2 → w2 ≡ event_words d ++ w3 → w0 ≡ entry_words version e ++ rest
     → w3 ≡ codes "=" ∷ (reply_words e.reply ++ rest)
-behind_caller w0 w1 w2 w3 p s d e rest fit plain fit_e is0 is1 is2 is =
+behind_caller version w0 w1 w2 w3 p s d e rest fit plain fit_e is0 is1 is2 is =
     let others : w1
     ≡ decimal e.seq ∷ ((event_words e.event ++ codes "=" ∷ reply_words e.reply) ++ rest) = cc in
     let left : w2 ≡ (event_words e.event ++ codes "=" ∷ reply_words e.reply) ++ rest = cc in
-    (behind_call d w3 e rest fit plain fit_e (sym is2 ∙ left)).1
+    (behind_call version d w3 e rest fit plain fit_e (sym is2 ∙ left)).1
 
 -- the charge of an end that is full
 pub behind_bytes : (w0 w1 w2 : List (List ℕ)) (m b : ℕ) (d : Tail) (rest : List (List ℕ))
@@ -273,10 +259,10 @@ whole_words text words new is none =
     ∙ join_with_byte-slice_split 0x20 text
 
 -- the words of a line that spells an entry, or an end
-pub entry_cut : (line : List ℕ) (e : Entry) → IsFitEntry e → spelled (entry_words e) ≡ line
-    → cut line ≡ entry_words e ++ []
-entry_cut line e fit is =
-    ap cut (sym is) ∙ cut_entry e fit ∙ sym (append-nil (entry_words e))
+pub entry_cut : (version : ℕ) (line : List ℕ) (e : Entry) → IsFitEntry version e → spelled (entry_words version e) ≡ line
+    → cut line ≡ entry_words version e ++ []
+entry_cut version line e fit is =
+    ap cut (sym is) ∙ cut_entry version e fit ∙ sym (append-nil (entry_words version e))
 
 pub tail_cut : (line : List ℕ) (d : Tail) → IsFitTail d → spelled (tail_words d) ≡ line
     → cut line ≡ tail_words d ++ []

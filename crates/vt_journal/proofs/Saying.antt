@@ -10,159 +10,196 @@ use Rattle.vt_events.specs.declared.event.Event.{Event}
 use Rattle.vt_events.specs.declared.event.Event.TheVariants as event
 use Rattle.vt_events.specs.declared.reply.Reply.{Reply}
 use Rattle.vt_events.specs.declared.reply.Reply.TheVariants as reply
+use Rattle.vt_journal.specs.Callers.{IsVersion, caller_word}
 use Rattle.vt_journal.specs.Journal.{entry_words, first_words, journal_text, line_text, tail_words}
-use Rattle.vt_journal.specs.Says.{Begins, IsFitEntry, IsFitTail, IsNoEntry, IsNoFirst, IsNoTail, JournalSays, fault, most_entries}
+use Rattle.vt_journal.specs.Says.{Begins, HasFirst, IsFitEntry, IsFitTail, IsNoEntry, IsNoFirst, IsNoTail, JournalSays, fault, most_entries}
 use Rattle.vt_journal.specs.Says.JournalSays.{BadLine, More, NoFirst, NoLast, TooMany, Whole}
 use Rattle.vt_journal.specs.Words.{event_words, reply_words}
 use Rattle.vt_journal.specs.declared.j_fault.JFault.{JFault}
 use Rattle.vt_journal.specs.declared.journal.Journal.{Journal}
 use Rattle.vt_journal.specs.declared.tail.Tail.{Tail}
+use Rattle.vt_journal.proofs.Firsts.{first_once}
 use Rattle.vt_journal.proofs.Once.{entry_line_once, lines_apart, some_line, tail_line_once}
 
 -- the lines of entries, and the rest
-abbrev pub body : List Entry → List ℕ → List ℕ
-body entries rest = flat_map line_text (map entry_words entries) ++ rest
+abbrev pub body : ℕ → List Entry → List ℕ → List ℕ
+body version entries rest = flat_map line_text (map (entry_words version) entries) ++ rest
 
-next_line : (d : Entry) (a : List Entry) (u : List ℕ)
-    → body (d ∷ a) u ≡ line_text (entry_words d) ++ body a u
-next_line d a u =
-    append_assoc (line_text (entry_words d)) (flat_map line_text (map entry_words a)) u
+next_line : (version : ℕ) (d : Entry) (a : List Entry) (u : List ℕ)
+    → body version (d ∷ a) u ≡ line_text (entry_words version d) ++ body version a u
+next_line version d a u =
+    append_assoc (line_text (entry_words version d)) (flat_map line_text (map (entry_words version) a)) u
 
 -- behind the entries there is no other, so they are all
-same_front : (a b : List Entry) (u v : List ℕ) → All IsFitEntry a → All IsFitEntry b → IsNoEntry u
-    → IsNoEntry v → body a u ≡ body b v → (a ≡ b) × (u ≡ v)
-same_front [] [] u v fit_a fit_b none_u none_v same = (refl, same)
-same_front [] (e ∷ b) u v fit_a fit_b none_u none_v same =
-    absurd (none_u e (body b v) (All-head IsFitEntry e b fit_b) (same ∙ next_line e b v))
-same_front (d ∷ a) [] u v fit_a fit_b none_u none_v same =
-    absurd (none_v d (body a u) (All-head IsFitEntry d a fit_a) (sym same ∙ next_line d a u))
-same_front (d ∷ a) (e ∷ b) u v fit_a fit_b none_u none_v same =
+same_front : (version : ℕ) (a b : List Entry) (u v : List ℕ) → All (IsFitEntry version) a → All (IsFitEntry version) b → IsNoEntry version u
+    → IsNoEntry version v → body version a u ≡ body version b v → (a ≡ b) × (u ≡ v)
+same_front version [] [] u v fit_a fit_b none_u none_v same = (refl, same)
+same_front version [] (e ∷ b) u v fit_a fit_b none_u none_v same =
+    absurd (none_u e (body version b v) (All-head (IsFitEntry version) e b fit_b) (same ∙ next_line version e b v))
+same_front version (d ∷ a) [] u v fit_a fit_b none_u none_v same =
+    absurd (none_v d (body version a u) (All-head (IsFitEntry version) d a fit_a) (sym same ∙ next_line version d a u))
+same_front version (d ∷ a) (e ∷ b) u v fit_a fit_b none_u none_v same =
     let first =
-    entry_line_once d e (body a u) (body b v) (All-head IsFitEntry d a fit_a)
-    (All-head IsFitEntry e b fit_b) (sym (next_line d a u) ∙ same ∙ next_line e b v) in
+    entry_line_once version d e (body version a u) (body version b v) (All-head (IsFitEntry version) d a fit_a)
+    (All-head (IsFitEntry version) e b fit_b) (sym (next_line version d a u) ∙ same ∙ next_line version e b v) in
     let others =
-    same_front a b u v (All-tail IsFitEntry d a fit_a) (All-tail IsFitEntry e b fit_b) none_u none_v
+    same_front version a b u v (All-tail (IsFitEntry version) d a fit_a) (All-tail (IsFitEntry version) e b fit_b) none_u none_v
     first.1 in
     (λ j. first.0 j ∷ others.0 j, others.1)
 
-no_longer : (a b : List Entry) (u v : List ℕ) → All IsFitEntry a → All IsFitEntry b → IsNoEntry u
-    → body a u ≡ body b v → length b ≤ length a
-no_longer a [] u v fit_a fit_b none_u same = omega arith
-no_longer [] (e ∷ b) u v fit_a fit_b none_u same =
-    absurd (none_u e (body b v) (All-head IsFitEntry e b fit_b) (same ∙ next_line e b v))
-no_longer (d ∷ a) (e ∷ b) u v fit_a fit_b none_u same =
+no_longer : (version : ℕ) (a b : List Entry) (u v : List ℕ) → All (IsFitEntry version) a → All (IsFitEntry version) b → IsNoEntry version u
+    → body version a u ≡ body version b v → length b ≤ length a
+no_longer version a [] u v fit_a fit_b none_u same = omega arith
+no_longer version [] (e ∷ b) u v fit_a fit_b none_u same =
+    absurd (none_u e (body version b v) (All-head (IsFitEntry version) e b fit_b) (same ∙ next_line version e b v))
+no_longer version (d ∷ a) (e ∷ b) u v fit_a fit_b none_u same =
     let first =
-    entry_line_once d e (body a u) (body b v) (All-head IsFitEntry d a fit_a)
-    (All-head IsFitEntry e b fit_b) (sym (next_line d a u) ∙ same ∙ next_line e b v) in
+    entry_line_once version d e (body version a u) (body version b v) (All-head (IsFitEntry version) d a fit_a)
+    (All-head (IsFitEntry version) e b fit_b) (sym (next_line version d a u) ∙ same ∙ next_line version e b v) in
     omega (
       arith,
-      no_longer a b u v (All-tail IsFitEntry d a fit_a) (All-tail IsFitEntry e b fit_b) none_u
+      no_longer version a b u v (All-tail (IsFitEntry version) d a fit_a) (All-tail (IsFitEntry version) e b fit_b) none_u
           first.1,
     )
 
 -- what follows the entries, where no entry does
-data Follows (entries : List Entry) (u : List ℕ) : Result Journal JFault → Type 0 where
-  Ends : (end : Tail) → IsFitTail end → u ≡ line_text (tail_words end) ++ [] → Follows entries u (Ok (record { entries = entries; tail = end }))
-  Fails : u ≢ [] → IsNoTail u → Follows entries u (fault 41 (length entries + 2))
-  Stops : u ≡ [] → Follows entries u (fault 42 (length entries + 1))
-  Goes : (end : Tail) (rest : List ℕ) → IsFitTail end → u ≡ line_text (tail_words end) ++ rest → rest ≢ [] → Follows entries u (fault 43 (length entries + 2))
+data Follows (version : ℕ) (entries : List Entry) (u : List ℕ) : Result Journal JFault → Type 0 where
+  Ends : (end : Tail) → IsFitTail end → u ≡ line_text (tail_words end) ++ [] → Follows version entries u (Ok (record { version = version; entries = entries; tail = end }))
+  Fails : u ≢ [] → IsNoTail u → Follows version entries u (fault 41 (length entries + 2))
+  Stops : u ≡ [] → Follows version entries u (fault 42 (length entries + 1))
+  Goes : (end : Tail) (rest : List ℕ) → IsFitTail end → u ≡ line_text (tail_words end) ++ rest → rest ≢ [] → Follows version entries u (fault 43 (length entries + 2))
 
-follows_once : (entries : List Entry) (u : List ℕ) (a b : Result Journal JFault)
-    → Follows entries u a → Follows entries u b → a ≡ b
-follows_once entries u a b (Ends d fit_d is_d) (Ends e fit_e is_e) =
-    ap (λ (end : Tail). Ok (record { entries = entries; tail = end }))
+follows_once : (version : ℕ) (entries : List Entry) (u : List ℕ) (a b : Result Journal JFault)
+    → Follows version entries u a → Follows version entries u b → a ≡ b
+follows_once version entries u a b (Ends d fit_d is_d) (Ends e fit_e is_e) =
+    ap (λ (end : Tail). Ok (record { version = version; entries = entries; tail = end }))
     (tail_line_once d e [] [] fit_d fit_e (sym is_d ∙ is_e)).0
-follows_once entries u a b (Ends d fit_d is_d) (Fails some none) = absurd (none d [] fit_d is_d)
-follows_once entries u a b (Ends d fit_d is_d) (Stops none) =
+follows_once version entries u a b (Ends d fit_d is_d) (Fails some none) = absurd (none d [] fit_d is_d)
+follows_once version entries u a b (Ends d fit_d is_d) (Stops none) =
     absurd (some_line (tail_words d) [] (sym is_d ∙ none))
-follows_once entries u a b (Ends d fit_d is_d) (Goes e rest fit_e is_e some) =
+follows_once version entries u a b (Ends d fit_d is_d) (Goes e rest fit_e is_e some) =
     absurd (some (sym (tail_line_once d e [] rest fit_d fit_e (sym is_d ∙ is_e)).1))
-follows_once entries u a b (Fails some none) (Ends e fit_e is_e) = absurd (none e [] fit_e is_e)
-follows_once entries u a b (Fails some none) (Fails other others) = refl
-follows_once entries u a b (Fails some none) (Stops is) = absurd (some is)
-follows_once entries u a b (Fails some none) (Goes e rest fit_e is_e more) =
+follows_once version entries u a b (Fails some none) (Ends e fit_e is_e) = absurd (none e [] fit_e is_e)
+follows_once version entries u a b (Fails some none) (Fails other others) = refl
+follows_once version entries u a b (Fails some none) (Stops is) = absurd (some is)
+follows_once version entries u a b (Fails some none) (Goes e rest fit_e is_e more) =
     absurd (none e rest fit_e is_e)
-follows_once entries u a b (Stops none) (Ends e fit_e is_e) =
+follows_once version entries u a b (Stops none) (Ends e fit_e is_e) =
     absurd (some_line (tail_words e) [] (sym is_e ∙ none))
-follows_once entries u a b (Stops none) (Fails some other) = absurd (some none)
-follows_once entries u a b (Stops none) (Stops other) = refl
-follows_once entries u a b (Stops none) (Goes e rest fit_e is_e more) =
+follows_once version entries u a b (Stops none) (Fails some other) = absurd (some none)
+follows_once version entries u a b (Stops none) (Stops other) = refl
+follows_once version entries u a b (Stops none) (Goes e rest fit_e is_e more) =
     absurd (some_line (tail_words e) rest (sym is_e ∙ none))
-follows_once entries u a b (Goes d rest fit_d is_d some) (Ends e fit_e is_e) =
+follows_once version entries u a b (Goes d rest fit_d is_d some) (Ends e fit_e is_e) =
     absurd (some (tail_line_once d e rest [] fit_d fit_e (sym is_d ∙ is_e)).1)
-follows_once entries u a b (Goes d rest fit_d is_d some) (Fails more none) =
+follows_once version entries u a b (Goes d rest fit_d is_d some) (Fails more none) =
     absurd (none d rest fit_d is_d)
-follows_once entries u a b (Goes d rest fit_d is_d some) (Stops none) =
+follows_once version entries u a b (Goes d rest fit_d is_d some) (Stops none) =
     absurd (some_line (tail_words d) rest (sym is_d ∙ none))
-follows_once entries u a b (Goes d rest fit_d is_d some) (Goes e others fit_e is_e more) = refl
+follows_once version entries u a b (Goes d rest fit_d is_d some) (Goes e others fit_e is_e more) = refl
 
 -- what a text says, in three cases
 data Said (text : List ℕ) : Result Journal JFault → Type 0 where
   Lacks : IsNoFirst text → Said text (fault 40 0)
-  Many : (entries : List Entry) (rest : List ℕ) → Begins text entries rest → length entries ≡ most_entries + 1 → Said text (fault 44 (length entries + 1))
-  Has : (entries : List Entry) (u : List ℕ) (said : Result Journal JFault) → Begins text entries u → IsNoEntry u → length entries ≤ most_entries → Follows entries u said → Said text said
+  Many : (version : ℕ) (entries : List Entry) (rest : List ℕ) → Begins version text entries rest → length entries ≡ most_entries + 1 → Said text (fault 44 (length entries + 1))
+  Has : (version : ℕ) (entries : List Entry) (u : List ℕ) (said : Result Journal JFault) → Begins version text entries u → IsNoEntry version u → length entries ≤ most_entries → Follows version entries u said → Said text said
 
 -- the text of a journal, behind its entries
-pub parts_of : (entries : List Entry) (end : Tail)
-    → journal_text entries end
-    ≡ line_text first_words ++ body entries (line_text (tail_words end) ++ [])
-parts_of entries end =
-    ap (λ text. line_text first_words ++ text)
-    (flat_map-append line_text (map entry_words entries) (tail_words end ∷ []))
+pub parts_of : (version : ℕ) (entries : List Entry) (end : Tail)
+    → journal_text version entries end
+    ≡ line_text (first_words version) ++ body version entries (line_text (tail_words end) ++ [])
+parts_of version entries end =
+    ap (λ text. line_text (first_words version) ++ text)
+    (flat_map-append line_text (map (entry_words version) entries) (tail_words end ∷ []))
 
-no_entry_end : (end : Tail) (rest : List ℕ) → IsFitTail end
-    → IsNoEntry (line_text (tail_words end) ++ rest)
-no_entry_end end rest fit entry more fit_e same = lines_apart entry end more rest fit_e fit (sym same)
+no_entry_end : (version : ℕ) (end : Tail) (rest : List ℕ) → IsFitTail end
+    → IsNoEntry version (line_text (tail_words end) ++ rest)
+no_entry_end version end rest fit entry more fit_e same = lines_apart version entry end more rest fit_e fit (sym same)
 
-no_entry_none : IsNoEntry []
-no_entry_none entry rest fit same = some_line (entry_words entry) rest (sym same)
+no_entry_none : (version : ℕ) → IsNoEntry version []
+no_entry_none version entry rest fit same = some_line (entry_words version entry) rest (sym same)
 
 said : (text : List ℕ) (a : Result Journal JFault) → JournalSays text a → Said text a
-said text a (Whole entries end fit fit_e few is) =
-    Has entries (line_text (tail_words end) ++ []) (Ok (record { entries = entries; tail = end }))
-    (record { fit = fit; parts = is ∙ parts_of entries end }) (no_entry_end end [] fit_e) few
-    (Ends end fit_e refl)
+said text a (Whole version entries end known fit fit_e few is) =
+    Has version entries (line_text (tail_words end) ++ [])
+    (Ok (record { version = version; entries = entries; tail = end }))
+    (record { known = known; fit = fit; parts = is ∙ parts_of version entries end })
+    (no_entry_end version end [] fit_e) few (Ends end fit_e refl)
 said text a (NoFirst none) = Lacks none
-said text a (BadLine entries rest begins few some none no_tail) =
-    Has entries rest (fault 41 (length entries + 2)) begins none few (Fails some no_tail)
-said text a (NoLast entries begins few) =
-    Has entries [] (fault 42 (length entries + 1)) begins no_entry_none few (Stops refl)
-said text a (More entries end rest begins few fit_e some) =
-    Has entries (line_text (tail_words end) ++ rest) (fault 43 (length entries + 2)) begins
-    (no_entry_end end rest fit_e) few (Goes end rest fit_e refl some)
-said text a (TooMany entries rest begins many) = Many entries rest begins many
+said text a (BadLine version entries rest begins few some none no_tail) =
+    Has version entries rest (fault 41 (length entries + 2)) begins none few (Fails some no_tail)
+said text a (NoLast version entries begins few) =
+    Has version entries [] (fault 42 (length entries + 1)) begins (no_entry_none version) few (Stops refl)
+said text a (More version entries end rest begins few fit_e some) =
+    Has version entries (line_text (tail_words end) ++ rest) (fault 43 (length entries + 2)) begins
+    (no_entry_end version end rest fit_e) few (Goes end rest fit_e refl some)
+said text a (TooMany version entries rest begins many) = Many version entries rest begins many
 
-bodies : (text : List ℕ) (a b : List Entry) (u v : List ℕ) → Begins text a u → Begins text b v
-    → body a u ≡ body b v
-bodies text a b u v one other =
-    append_cancel_left (line_text first_words) (body a u) (body b v) (sym one.parts ∙ other.parts)
+-- a text begins as one version
+one_version : (v w : ℕ) (text : List ℕ) (a b : List Entry) (u t : List ℕ) → Begins v text a u
+    → Begins w text b t → v ≡ w
+one_version v w text a b u t one other =
+    first_once v w (body v a u) (body w b t) one.known other.known (sym one.parts ∙ other.parts)
 
-too_many : (text : List ℕ) (a b : List Entry) (u v : List ℕ) → Begins text a u → Begins text b v
-    → IsNoEntry u → length a ≤ most_entries → length b ≡ most_entries + 1 → ⊥
-too_many text a b u v one other none few many =
-    omega (arith, few, many, no_longer a b u v one.fit other.fit none (bodies text a b u v one other))
+bodies : (version : ℕ) (text : List ℕ) (a b : List Entry) (u v : List ℕ) → Begins version text a u → Begins version text b v
+    → body version a u ≡ body version b v
+bodies version text a b u v one other =
+    append_cancel_left (line_text (first_words version)) (body version a u) (body version b v) (sym one.parts ∙ other.parts)
+
+too_many : (version : ℕ) (text : List ℕ) (a b : List Entry) (u v : List ℕ) → Begins version text a u → Begins version text b v
+    → IsNoEntry version u → length a ≤ most_entries → length b ≡ most_entries + 1 → ⊥
+too_many version text a b u v one other none few many =
+    omega (arith, few, many, no_longer version a b u v one.fit other.fit none (bodies version text a b u v one other))
+
+first_of : (version : ℕ) (text : List ℕ) (entries : List Entry) (rest : List ℕ)
+    → Begins version text entries rest → HasFirst version text
+first_of version text entries rest begins = record {
+  known = begins.known;
+  rest = body version entries rest;
+  parts = begins.parts;
+}
+
+crowded : (v w : ℕ) (text : List ℕ) (a b : List Entry) (u t : List ℕ) → Begins v text a u
+    → Begins w text b t → IsNoEntry v u → length a ≤ most_entries → length b ≡ most_entries + 1 → ⊥
+crowded v w text a b u t one other =
+    too_many v text a b u t one
+    (subst (λ (n : ℕ). Begins n text b t) (sym (one_version v w text a b u t one other)) other)
+
+-- two readings of one version are one
+both_has : (version : ℕ) (text : List ℕ) (a b : Result Journal JFault) (entries others : List Entry)
+    (u v : List ℕ) → Begins version text entries u → Begins version text others v
+    → IsNoEntry version u → IsNoEntry version v → Follows version entries u a
+    → Follows version others v b → a ≡ b
+both_has version text a b entries others u v begins begins_b no_entry none_b follows follows_b =
+    let same =
+    same_front version entries others u v begins.fit begins_b.fit no_entry none_b
+    (bodies version text entries others u v begins begins_b) in
+    follows_once version entries u a b follows
+    (subst (λ entries. Follows version entries u b) (sym same.0)
+    (subst (λ u. Follows version others u b) (sym same.1) follows_b))
 
 said_once : (text : List ℕ) (a b : Result Journal JFault) → Said text a → Said text b → a ≡ b
 said_once text a b (Lacks none) (Lacks other) = refl
-said_once text a b (Lacks none) (Many entries rest begins many) = absurd (none _ begins.parts)
-said_once text a b (Lacks none) (Has entries u text_says begins no_entry few follows) =
-    absurd (none _ begins.parts)
-said_once text a b (Many entries rest begins many) (Lacks none) = absurd (none _ begins.parts)
-said_once text a b (Many entries rest begins many) (Many others more begins_b many_b) =
+said_once text a b (Lacks none) (Many v entries rest begins many) =
+    absurd (none v (first_of v text entries _ begins))
+said_once text a b (Lacks none) (Has v entries u text_says begins no_entry few follows) =
+    absurd (none v (first_of v text entries _ begins))
+said_once text a b (Many v entries rest begins many) (Lacks none) =
+    absurd (none v (first_of v text entries _ begins))
+said_once text a b (Many v entries rest begins many) (Many w others more begins_b many_b) =
     ap (λ n. fault 44 (n + 1)) (many ∙ sym many_b)
-said_once text a b (Many entries rest begins many) (Has others u text_says begins_b no_entry few follows) =
-    absurd (too_many text others entries u rest begins_b begins no_entry few many)
-said_once text a b (Has entries u text_says begins no_entry few follows) (Lacks none) =
-    absurd (none _ begins.parts)
-said_once text a b (Has entries u text_says begins no_entry few follows) (Many others rest begins_b many) =
-    absurd (too_many text entries others u rest begins begins_b no_entry few many)
-said_once text a b (Has entries u text_says begins no_entry few follows) (Has others v also_says begins_b none_b few_b follows_b) =
-    let same =
-    same_front entries others u v begins.fit begins_b.fit no_entry none_b
-    (bodies text entries others u v begins begins_b) in
-    follows_once entries u a b follows
-    (subst (λ entries. Follows entries u b) (sym same.0)
-    (subst (λ u. Follows others u b) (sym same.1) follows_b))
+said_once text a b (Many v entries rest begins many) (Has w others u text_says begins_b no_entry few follows) =
+    absurd (crowded w v text others entries u rest begins_b begins no_entry few many)
+said_once text a b (Has v entries u text_says begins no_entry few follows) (Lacks none) =
+    absurd (none v (first_of v text entries _ begins))
+said_once text a b (Has v entries u text_says begins no_entry few follows) (Many w others rest begins_b many) =
+    absurd (crowded v w text entries others u rest begins begins_b no_entry few many)
+said_once text a b (Has n entries u text_says begins no_entry few follows) (Has m others v also_says begins_b none_b few_b follows_b) =
+    let same : m ≡ n = one_version m n text others entries v u begins_b begins in
+    both_has n text a b entries others u v begins
+    (subst (λ (k : ℕ). Begins k text others v) same begins_b) no_entry
+    (subst (λ (k : ℕ). IsNoEntry k v) same none_b) follows
+    (subst (λ (k : ℕ). Follows k others v b) same follows_b)
 
 pub one_journal : (text : List ℕ) (a b : Result Journal JFault) → JournalSays text a
     → JournalSays text b → a ≡ b
@@ -177,72 +214,74 @@ plain_answer : (r : Reply) → reply_words (plain_reply r) ≡ reply_words r
 plain_answer (reply.Text b) = refl
 plain_answer r = refl
 
-plain_entries : (entries : List Entry)
-    → map entry_words (map plain_entry entries) ≡ map entry_words entries
-plain_entries [] = refl
-plain_entries (e ∷ entries) =
+plain_entries : (version : ℕ) (entries : List Entry)
+    → map (entry_words version) (map plain_entry entries) ≡ map (entry_words version) entries
+plain_entries version [] = refl
+plain_entries version (e ∷ entries) =
     λ j.
-    (decimal e.caller ∷ decimal e.seq
+    (caller_word version e.caller ∷ decimal e.seq
     ∷ plain_words e.event j ++ codes "=" ∷ plain_answer e.reply j)
-    ∷ plain_entries entries j
+    ∷ plain_entries version entries j
 
-pub printed_is_read : (entries : List Entry) (end : Tail) → All IsFitEntry (map plain_entry entries)
-    → IsFitTail end → length entries ≤ most_entries
-    → JournalSays (journal_text entries end)
-    (Ok (record { entries = map plain_entry entries; tail = end }))
-printed_is_read entries end fit fit_e few =
-    Whole (map plain_entry entries) end fit fit_e
+pub printed_is_read : (version : ℕ) (entries : List Entry) (end : Tail) → IsVersion version
+    → All (IsFitEntry version) (map plain_entry entries) → IsFitTail end
+    → length entries ≤ most_entries
+    → JournalSays (journal_text version entries end)
+    (Ok (record { version = version; entries = map plain_entry entries; tail = end }))
+printed_is_read version entries end known fit fit_e few =
+    Whole version (map plain_entry entries) end known fit fit_e
     (omega (arith, few, length-map entries plain_entry))
-    (ap (λ lines. line_text first_words ++ flat_map line_text (lines ++ tail_words end ∷ []))
-    (sym (plain_entries entries)))
+    (ap (λ lines. line_text (first_words version) ++ flat_map line_text (lines ++ tail_words end ∷ []))
+    (sym (plain_entries version entries)))
 
 -- so far these entries were read, and the rest is left
-pub record IsSoFar (text : List ℕ) (entries : List Entry) (rest : List ℕ) : Type 0 where
-  pub fit : All IsFitEntry entries
-  pub parts : text ≡ body entries rest
+pub record IsSoFar (version : ℕ) (text : List ℕ) (entries : List Entry) (rest : List ℕ) : Type 0 where
+  pub fit : All (IsFitEntry version) entries
+  pub parts : text ≡ body version entries rest
 
-pub one_more : (text : List ℕ) (entries : List Entry) (rest : List ℕ) (entry : Entry) (behind : List ℕ)
-    → IsSoFar text entries rest → IsFitEntry entry
-    → rest ≡ line_text (entry_words entry) ++ behind → IsSoFar text (entries ++ entry ∷ []) behind
-one_more text entries rest entry behind is fit next = record {
-  fit = All-push IsFitEntry entries entry is.fit fit;
+pub one_more : (version : ℕ) (text : List ℕ) (entries : List Entry) (rest : List ℕ) (entry : Entry) (behind : List ℕ)
+    → IsSoFar version text entries rest → IsFitEntry version entry
+    → rest ≡ line_text (entry_words version entry) ++ behind → IsSoFar version text (entries ++ entry ∷ []) behind
+one_more version text entries rest entry behind is fit next = record {
+  fit = All-push (IsFitEntry version) entries entry is.fit fit;
   parts =
       is.parts
-      ∙ ap (λ rest. flat_map line_text (map entry_words entries) ++ rest) next
-      ∙ sym (append_assoc (flat_map line_text (map entry_words entries)) (line_text (entry_words entry)) behind)
+      ∙ ap (λ rest. flat_map line_text (map (entry_words version) entries) ++ rest) next
+      ∙ sym (append_assoc (flat_map line_text (map (entry_words version) entries)) (line_text (entry_words version entry)) behind)
       ∙ ap (λ lines. lines ++ behind)
-      (ap (λ line. flat_map line_text (map entry_words entries) ++ line) (sym (append-nil (line_text (entry_words entry))))
-      ∙ sym (flat_map-append line_text (map entry_words entries) (entry_words entry ∷ []))
-      ∙ ap (flat_map line_text) (sym (map-append entry_words entries (entry ∷ []))));
+      (ap (λ line. flat_map line_text (map (entry_words version) entries) ++ line) (sym (append-nil (line_text (entry_words version entry))))
+      ∙ sym (flat_map-append line_text (map (entry_words version) entries) (entry_words version entry ∷ []))
+      ∙ ap (flat_map line_text) (sym (map-append (entry_words version) entries (entry ∷ []))));
 }
 
-pub begun : (whole text : List ℕ) (entries : List Entry) (rest : List ℕ)
-    → whole ≡ line_text first_words ++ text → IsSoFar text entries rest → Begins whole entries rest
-begun whole text entries rest is so_far = record {
+pub begun : (version : ℕ) (whole text : List ℕ) (entries : List Entry) (rest : List ℕ)
+    → IsVersion version → whole ≡ line_text (first_words version) ++ text → IsSoFar version text entries rest → Begins version whole entries rest
+begun version whole text entries rest known is so_far = record {
+  known = known;
   fit = so_far.fit;
-  parts = is ∙ ap (λ text. line_text first_words ++ text) so_far.parts;
+  parts = is ∙ ap (λ text. line_text (first_words version) ++ text) so_far.parts;
 }
 
 -- the whole text was read
-pub whole_is : (whole text : List ℕ) (entries : List Entry) (rest : List ℕ) (end : Tail)
-    → whole ≡ line_text first_words ++ text → IsSoFar text entries rest → IsFitTail end
+pub whole_is : (version : ℕ) (whole text : List ℕ) (entries : List Entry) (rest : List ℕ) (end : Tail)
+    → IsVersion version → whole ≡ line_text (first_words version) ++ text → IsSoFar version text entries rest → IsFitTail end
     → rest ≡ line_text (tail_words end) ++ [] → length entries ≤ most_entries
-    → JournalSays whole (Ok (record { entries = entries; tail = end }))
-whole_is whole text entries rest end is so_far fit next few =
-    Whole entries end so_far.fit fit few
+    → JournalSays whole (Ok (record { version = version; entries = entries; tail = end }))
+whole_is version whole text entries rest end known is so_far fit next few =
+    Whole version entries end known so_far.fit fit few
     (is
-    ∙ ap (λ text. line_text first_words ++ text) (so_far.parts ∙ ap (body entries) next)
-    ∙ sym (parts_of entries end))
+    ∙ ap (λ text. line_text (first_words version) ++ text) (so_far.parts ∙ ap (body version entries) next)
+    ∙ sym (parts_of version entries end))
 
 -- something is behind the last line
-pub more_is : (whole text : List ℕ) (entries : List Entry) (rest : List ℕ) (end : Tail) (behind : List ℕ)
-    → whole ≡ line_text first_words ++ text → IsSoFar text entries rest → IsFitTail end
+pub more_is : (version : ℕ) (whole text : List ℕ) (entries : List Entry) (rest : List ℕ) (end : Tail) (behind : List ℕ)
+    → IsVersion version → whole ≡ line_text (first_words version) ++ text → IsSoFar version text entries rest → IsFitTail end
     → rest ≡ line_text (tail_words end) ++ behind → length entries ≤ most_entries → behind ≢ []
     → JournalSays whole (fault 43 (length entries + 2))
-more_is whole text entries rest end behind is so_far fit next few some =
-    More entries end behind
-    (begun whole text entries (line_text (tail_words end) ++ behind) is
-    (subst (IsSoFar text entries) next so_far))
+more_is version whole text entries rest end behind known is so_far fit next few some =
+    More version entries end behind
+    (begun version whole text entries (line_text (tail_words end) ++ behind) known is
+    (subst (IsSoFar version text entries) next so_far))
     few fit some
 
 -- a text is nothing, or it isn't

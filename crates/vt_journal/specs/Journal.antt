@@ -1,15 +1,16 @@
--- The journal text: the one spelling of entries and how they end. This project's own.
+-- The journal text of a version: the one spelling of entries and how they end. This project's own.
 use Rattle.std.specs.Prelude.{ℕ, List, [], ◌∷◌, ◌++◌, codes, decimal, map}
 use Rattle.std.specs.List.{flat_map}
 use Rattle.vt_events.specs.declared.entry.Entry.{Entry}
+use Rattle.vt_journal.specs.Callers.{caller_word}
 use Rattle.vt_journal.specs.declared.tail.Tail.{Tail}
 use Rattle.vt_journal.specs.declared.tail.Tail.TheVariants as tail
 use Rattle.vt_journal.specs.Words.{event_words, reply_words, spelled}
 
 -- the caller, its count of earlier calls, the call, and the answer behind an equals sign
-abbrev pub entry_words : Entry → List (List ℕ)
-entry_words entry =
-    decimal entry.caller ∷ decimal entry.seq
+abbrev pub entry_words : ℕ → Entry → List (List ℕ)
+entry_words version entry =
+    caller_word version entry.caller ∷ decimal entry.seq
     ∷ event_words entry.event ++ codes "=" ∷ reply_words entry.reply
 
 -- the numbers of entries and of their bytes; where no room was found, the charge that found none
@@ -19,18 +20,18 @@ tail_words (tail.Full full) =
     codes "%full" ∷ decimal full.events ∷ decimal full.bytes ∷ decimal full.charge ∷ []
 
 -- the words of the first line
-abbrev pub first_words : List (List ℕ)
-first_words = codes "%journal" ∷ codes "1" ∷ []
+abbrev pub first_words : ℕ → List (List ℕ)
+first_words version = codes "%journal" ∷ decimal version ∷ []
 
 -- the lines of a journal, each as its words
-abbrev pub journal_lines : List Entry → Tail → List (List (List ℕ))
-journal_lines entries end =
-    first_words ∷ map entry_words entries ++ tail_words end ∷ []
+abbrev pub journal_lines : ℕ → List Entry → Tail → List (List (List ℕ))
+journal_lines version entries end =
+    first_words version ∷ map (entry_words version) entries ++ tail_words end ∷ []
 
 -- words as a line of text
 abbrev pub line_text : List (List ℕ) → List ℕ
 line_text words = spelled words ++ 0x0A ∷ []
 
 -- the text of a journal
-abbrev pub journal_text : List Entry → Tail → List ℕ
-journal_text entries end = flat_map line_text (journal_lines entries end)
+abbrev pub journal_text : ℕ → List Entry → Tail → List ℕ
+journal_text version entries end = flat_map line_text (journal_lines version entries end)

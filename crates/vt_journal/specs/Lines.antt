@@ -15,10 +15,10 @@ pub record IsCutAt (text line behind : List ℕ) : Type 0 where
   pub no_end : IsLine line
   pub parts : text ≡ line ++ 0x0A ∷ behind
 
--- what the first line of a text is
-abbrev pub NextIs : List ℕ → Next → Type 0
-NextIs text (next.Entry entry behind) =
-    IsFitEntry entry × (text ≡ line_text (entry_words entry) ++ behind.now)
-NextIs text (next.Tail end behind) =
+-- what the first line of a text is, in that version
+abbrev pub NextIs : ℕ → List ℕ → Next → Type 0
+NextIs version text (next.Entry entry behind) =
+    IsFitEntry version entry × (text ≡ line_text (entry_words version entry) ++ behind.now)
+NextIs version text (next.Tail end behind) =
     IsFitTail end × (text ≡ line_text (tail_words end) ++ behind.now)
-NextIs text next.Other = IsNoEntry text × IsNoTail text
+NextIs version text next.Other = IsNoEntry version text × IsNoTail text

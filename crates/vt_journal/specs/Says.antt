@@ -1,8 +1,10 @@
--- What a text says as a journal: its entries and how they end, or its first fault. This project's own.
+-- What a text says as a journal: its version, its entries and how they end, or its first fault. This
+-- project's own.
 use Rattle.std.specs.Prelude.{◌≡◌, ◌≢◌, ℕ, ◌+◌, ◌≤◌, ⊤, List, [], ◌++◌, Result, Ok, Err, length, map}
 use Rattle.std.specs.List.{All, flat_map}
 use Rattle.vt_events.specs.Plain.{plain_entry, plain_event}
 use Rattle.vt_events.specs.declared.entry.Entry.{Entry}
+use Rattle.vt_journal.specs.Callers.{HasWord, IsVersion}
 use Rattle.vt_journal.specs.Journal.{entry_words, first_words, journal_text, line_text, tail_words}
 use Rattle.vt_journal.specs.Replies.{IsFitReply}
 use Rattle.vt_journal.specs.Words.{IsFit}
@@ -13,9 +15,10 @@ use Rattle.vt_journal.specs.declared.journal.Journal.{Journal}
 use Rattle.vt_journal.specs.declared.tail.Tail.{Tail}
 use Rattle.vt_journal.specs.declared.tail.Tail.TheVariants as tail
 
--- an entry as a line can say it: its numbers are within their types, and its bytes have no room
-pub record IsFitEntry (entry : Entry) : Type 0 where
-  pub caller : entry.caller ≤ 64
+-- an entry as a line of that version can say it: its caller has a word, its numbers are within their
+-- types, and its bytes have no room
+pub record IsFitEntry (version : ℕ) (entry : Entry) : Type 0 where
+  pub caller : HasWord version entry.caller
   pub seq : entry.seq ≤ 4294967295
   pub call : IsFit entry.event
   pub plain : plain_event entry.event ≡ entry.event
@@ -27,19 +30,30 @@ IsFitTail (tail.End events bytes) = (events ≤ 4294967295) × (bytes ≤ 184467
 IsFitTail (tail.Full full) =
     (full.events ≤ 4294967295) × (full.bytes ≤ 18446744073709551615) × (full.charge ≤ 4294967295)
 
--- a text is the first line, the lines of these entries, and the rest
-pub record Begins (text : List ℕ) (entries : List Entry) (rest : List ℕ) : Type 0 where
-  pub fit : All IsFitEntry entries
-  pub parts : text ≡ line_text first_words ++ (flat_map line_text (map entry_words entries) ++ rest)
+-- a text is the first line of the version, the lines of these entries, and the rest
+pub record Begins (version : ℕ) (text : List ℕ) (entries : List Entry) (rest : List ℕ) : Type 0 where
+  pub known : IsVersion version
+  pub fit : All (IsFitEntry version) entries
+  pub parts :
+      text
+      ≡ line_text (first_words version)
+      ++ (flat_map line_text (map (entry_words version) entries) ++ rest)
 
--- no first line stands at the front
+-- the first line of the version stands at the front
+pub record HasFirst (version : ℕ) (text : List ℕ) : Type 0 where
+  pub known : IsVersion version
+  pub rest : List ℕ
+  pub parts : text ≡ line_text (first_words version) ++ rest
+
+-- that of no version does
 abbrev pub IsNoFirst : List ℕ → Type 0
-IsNoFirst text = (rest : List ℕ) → text ≢ line_text first_words ++ rest
+IsNoFirst text = (version : ℕ) → ¬ HasFirst version text
 
 -- no line of an entry
-abbrev pub IsNoEntry : List ℕ → Type 0
-IsNoEntry text =
-    (entry : Entry) (rest : List ℕ) → IsFitEntry entry → text ≢ line_text (entry_words entry) ++ rest
+abbrev pub IsNoEntry : ℕ → List ℕ → Type 0
+IsNoEntry version text =
+    (entry : Entry) (rest : List ℕ) → IsFitEntry version entry
+    → text ≢ line_text (entry_words version entry) ++ rest
 
 -- no last line
 abbrev pub IsNoTail : List ℕ → Type 0
@@ -57,12 +71,12 @@ fault kind line = Err (record { kind = kind; line = line })
 -- what the text says: a journal where it is the text of one; else the first fault, in the last line that
 -- was read
 pub data JournalSays (text : List ℕ) : Result Journal JFault → Type 0 where
-  Whole : (entries : List Entry) (end : Tail) → All IsFitEntry entries → IsFitTail end → length entries ≤ most_entries → text ≡ journal_text entries end → JournalSays text (Ok (record { entries = entries; tail = end }))
+  Whole : (version : ℕ) (entries : List Entry) (end : Tail) → IsVersion version → All (IsFitEntry version) entries → IsFitTail end → length entries ≤ most_entries → text ≡ journal_text version entries end → JournalSays text (Ok (record { version = version; entries = entries; tail = end }))
   NoFirst : IsNoFirst text → JournalSays text (fault 40 0)
-  BadLine : (entries : List Entry) (rest : List ℕ) → Begins text entries rest → length entries ≤ most_entries → rest ≢ [] → IsNoEntry rest → IsNoTail rest → JournalSays text (fault 41 (length entries + 2))
-  NoLast : (entries : List Entry) → Begins text entries [] → length entries ≤ most_entries → JournalSays text (fault 42 (length entries + 1))
-  More : (entries : List Entry) (end : Tail) (rest : List ℕ) → Begins text entries (line_text (tail_words end) ++ rest) → length entries ≤ most_entries → IsFitTail end → rest ≢ [] → JournalSays text (fault 43 (length entries + 2))
-  TooMany : (entries : List Entry) (rest : List ℕ) → Begins text entries rest → length entries ≡ most_entries + 1 → JournalSays text (fault 44 (length entries + 1))
+  BadLine : (version : ℕ) (entries : List Entry) (rest : List ℕ) → Begins version text entries rest → length entries ≤ most_entries → rest ≢ [] → IsNoEntry version rest → IsNoTail rest → JournalSays text (fault 41 (length entries + 2))
+  NoLast : (version : ℕ) (entries : List Entry) → Begins version text entries [] → length entries ≤ most_entries → JournalSays text (fault 42 (length entries + 1))
+  More : (version : ℕ) (entries : List Entry) (end : Tail) (rest : List ℕ) → Begins version text entries (line_text (tail_words end) ++ rest) → length entries ≤ most_entries → IsFitTail end → rest ≢ [] → JournalSays text (fault 43 (length entries + 2))
+  TooMany : (version : ℕ) (entries : List Entry) (rest : List ℕ) → Begins version text entries rest → length entries ≡ most_entries + 1 → JournalSays text (fault 44 (length entries + 1))
 
 -- a text says one thing only
 abbrev pub OneJournal : Type 0
@@ -71,9 +85,11 @@ OneJournal = (text : List ℕ) (a b : Result Journal JFault) → JournalSays tex
 -- what is printed is read again, as it is meant
 abbrev pub PrintedIsRead : Type 0
 PrintedIsRead =
-    (entries : List Entry) (end : Tail) → All IsFitEntry (map plain_entry entries) → IsFitTail end
+    (version : ℕ) (entries : List Entry) (end : Tail) → IsVersion version
+    → All (IsFitEntry version) (map plain_entry entries) → IsFitTail end
     → length entries ≤ most_entries
-    → JournalSays (journal_text entries end) (Ok (record { entries = map plain_entry entries; tail = end }))
+    → JournalSays (journal_text version entries end)
+    (Ok (record { version = version; entries = map plain_entry entries; tail = end }))
 
 -- what a call returned is what is said, unless memory ran out
 abbrev pub Reads : Result Journal JError → (Result Journal JFault → Type 0) → Type 0

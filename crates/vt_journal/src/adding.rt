@@ -1,5 +1,5 @@
 //! Adds words to a text, with room for them.
-ghost use Rattle.std.specs.Prelude.{◌≡◌, ◌<◌, ◌^◌, ◌∷◌, ◌++◌, decimal, map, OnOk, OnErr};
+ghost use Rattle.std.specs.Prelude.{◌≡◌, ◌<◌, ◌^◌, [], ◌∷◌, ◌++◌, decimal, map, OnOk, OnErr};
 ghost use Rattle.std.specs.List.{All};
 ghost use Rattle.vt_journal.specs.Hex.{hex_text};
 ghost use Rattle.vt_journal.specs.Text.{Begins, spaced};
@@ -34,8 +34,18 @@ pub fn add_word(alloc: Global, text: &mut Bytes, word: &[u8]) -> Result<(), NoMe
     ensures err { OnErr result (text.new.bytes ≡ text.old.bytes) }
 {
     text.grow(alloc, 1 + word.len())?;
-    text.append(b" ");
+    text.push(b' ');
     text.append(word);
+    Ok(())
+}
+
+/// Adds the end of a line.
+pub fn add_end(alloc: Global, text: &mut Bytes) -> Result<(), NoMemory>
+    ensures ok { OnOk result (text.new.bytes ≡ text.old.bytes ++ 0x0A ∷ []) }
+    ensures err { OnErr result (text.new.bytes ≡ text.old.bytes) }
+{
+    text.grow(alloc, 1)?;
+    text.push(b'\n');
     Ok(())
 }
 
@@ -44,6 +54,12 @@ pub fn add_next(alloc: Global, text: &mut Bytes, n: u64) -> Result<(), NoMemory>
     ensures ok { OnOk result (text.new.bytes ≡ text.old.bytes ++ 0x20 ∷ decimal n) }
     ensures err { OnErr result (text.new.bytes ≡ text.old.bytes) }
 {
+    if n < 10 {
+        text.grow(alloc, 2)?;
+        text.push(b' ');
+        text.push(b'0' + n as u8);
+        return Ok(());
+    }
     let mut buffer = Buffer::new();
     add_word(alloc, text, buffer.format(n).as_bytes())
 }

@@ -6,7 +6,8 @@ ghost use Rattle.vt_journal.specs.Journal.{entry_words};
 ghost use Rattle.vt_journal.specs.Says.{IsFitEntry};
 ghost use Rattle.vt_journal.specs.Words.{spelled};
 
-use crate::numbers::{take_caller, take_number};
+use crate::callers::take_caller;
+use crate::numbers::take_number;
 use crate::reading::take_event;
 use crate::replies::take_reply;
 use crate::words::Words;
@@ -14,16 +15,16 @@ use std::alloc::Global;
 use vt_base::NoMemory;
 use vt_events::Entry;
 
-/// The entry that the line spells.
-pub fn read_entry(alloc: Global, line: &[u8]) -> Result<Option<Entry>, NoMemory>
+/// The entry that the line of this version spells.
+pub fn read_entry(alloc: Global, line: &[u8], version: u8) -> Result<Option<Entry>, NoMemory>
     ensures found { IfOk result
-        (λ found. IfSome found (λ e. spelled (entry_words e) ≡ line.now)) }
-    ensures fit { IfOk result (λ found. IfSome found IsFitEntry) }
+        (λ found. IfSome found (λ e. spelled (entry_words version e) ≡ line.now)) }
+    ensures fit { IfOk result (λ found. IfSome found (IsFitEntry version)) }
     ensures none { IfOk result (λ found. IfNone found
-        ((e : Entry) → IsFitEntry e → spelled (entry_words e) ≢ line.now)) }
+        ((e : Entry) → IsFitEntry version e → spelled (entry_words version e) ≢ line.now)) }
 {
     let mut words = Words::of(line);
-    let Some(entry) = take_entry(alloc, &mut words)? else {
+    let Some(entry) = take_entry(alloc, &mut words, version)? else {
         return Ok(None);
     };
     if words.next().is_some() {
@@ -33,14 +34,14 @@ pub fn read_entry(alloc: Global, line: &[u8]) -> Result<Option<Entry>, NoMemory>
 }
 
 // The entry that the next words are.
-fn take_entry(alloc: Global, words: &mut Words) -> Result<Option<Entry>, NoMemory>
+fn take_entry(alloc: Global, words: &mut Words, version: u8) -> Result<Option<Entry>, NoMemory>
     ensures found { IfOk result
-        (λ found. IfSome found (λ e. words.old ≡ entry_words e ++ words.new)) }
-    ensures fit { IfOk result (λ found. IfSome found IsFitEntry) }
+        (λ found. IfSome found (λ e. words.old ≡ entry_words version e ++ words.new)) }
+    ensures fit { IfOk result (λ found. IfSome found (IsFitEntry version)) }
     ensures none { IfOk result (λ found. IfNone found
-        ((e : Entry) (rest : List (List ℕ)) → IsFitEntry e → words.old ≢ entry_words e ++ rest)) }
+        ((e : Entry) (rest : List (List ℕ)) → IsFitEntry version e → words.old ≢ entry_words version e ++ rest)) }
 {
-    let Some(caller) = take_caller(words) else {
+    let Some(caller) = take_caller(words, version) else {
         return Ok(None);
     };
     let Some(seq) = take_number(words, u64::from(u32::MAX)) else {

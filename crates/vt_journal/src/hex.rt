@@ -13,12 +13,13 @@ pub fn add_hex(alloc: Global, text: &mut Bytes, b: &[u8]) -> Result<(), NoMemory
 {
     if b.is_empty() {
         text.grow(alloc, 1)?;
-        text.append(b"-");
+        text.push(b'-');
         return Ok(());
     }
     text.grow(alloc, 2 * b.len())?;
     for byte in b {
-        text.append(&[digit(byte >> 4), digit(byte & 0xF)]);
+        text.push(digit(byte >> 4));
+        text.push(digit(byte & 0xF));
     }
     Ok(())
 }
@@ -59,7 +60,7 @@ fn parse_pairs(alloc: Global, word: &[u8]) -> Result<Option<Bytes>, NoMemory>
         let Some(b) = byte(word[2 * i], word[2 * i + 1]) else {
             return Ok(None);
         };
-        bytes.append(&[b]);
+        bytes.push(b);
     }
     Ok(Some(bytes))
 }

@@ -3,6 +3,8 @@ use crate::{Entries, Tail};
 /// What the text of a journal says.
 #[derive(Debug, Drop)]
 pub struct Journal {
+    /// The version of the text, 1 or 2.
+    pub version: u8,
     pub entries: Entries,
     pub tail: Tail,
 }

@@ -69,7 +69,7 @@ impl Kind {
         ensures none { IfNone result ((kind : Kind) → name_of (blank kind) ≢ name.now) }
     {
         for row in rows() {
-            if row.name == name {
+            if row.name.len() == name.len() && row.name == name {
                 return Some(row.kind);
             }
         }

@@ -1,11 +1,15 @@
-//! The journal of a console's calls: a log of entries within limits, its text, and what a text says.
+//! The journal of a console's calls: a log of entries within limits, its text in two versions, and what a text
+//! says.
 #![tactic(auto)]
 
 mod adding;
+mod callers;
 mod cut;
 mod entries;
 mod entry_lines;
+mod error_text;
 mod fault_code;
+mod first;
 mod full;
 mod hex;
 mod j_error;
@@ -32,8 +36,10 @@ mod tests;
 mod words;
 
 pub use adding::{add, add_next};
+pub use callers::are_numbered;
 pub use cut::{Cut, cut_line};
 pub use entries::Entries;
+pub use first::version_of;
 pub use full::Full;
 pub use hex::add_hex;
 pub use j_error::JError;

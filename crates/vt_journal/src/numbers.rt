@@ -6,7 +6,7 @@ ghost use Rattle.vt_journal.specs.Replies.{Within};
 use crate::kind::NUMBERS;
 use crate::words::Words;
 use arrayvec::ArrayVec;
-use vt_base::{CallerNo, parse_decimal};
+use vt_base::parse_decimal;
 
 /// The most numbers of an answer.
 pub const ANSWER_NUMBERS: usize = 5;
@@ -61,15 +61,4 @@ pub fn take_number(words: &mut Words, most: u64) -> Option<u64>
 {
     let word = words.next()?;
     parse_decimal(word, most)
-}
-
-/// The next word as the number of a caller.
-pub fn take_caller(words: &mut Words) -> Option<CallerNo>
-    ensures found { IfSome result (λ p. words.old ≡ decimal p ∷ words.new) }
-    ensures fit { IfSome result (λ p. p ≤ 64) }
-    ensures none { IfNone result
-        ((p : ℕ) (rest : List (List ℕ)) → p ≤ 64 → words.old ≢ decimal p ∷ rest) }
-{
-    let n = take_number(words, 64)?;
-    Some(CallerNo::numbered(n as u16))
 }

@@ -1,8 +1,9 @@
 //! Journals read from their texts.
 ghost use Rattle.std.specs.Prelude.{◌≡◌, ◌≢◌, ℕ, ◌+◌, ◌≤◌, List, [], ◌++◌, Result, Ok, Err, IfOk, IfSome, IfNone, length, vec_len};
+ghost use Rattle.vt_journal.specs.Callers.{IsVersion};
 ghost use Rattle.vt_journal.specs.Journal.{first_words, line_text};
 ghost use Rattle.vt_journal.specs.Lines.{NextIs};
-ghost use Rattle.vt_journal.specs.Says.{IsNoFirst, JournalSays, Reads};
+ghost use Rattle.vt_journal.specs.Says.{JournalSays, Reads};
 ghost use Rattle.vt_journal.specs.declared.j_error.JError.TheVariants as errors;
 ghost use Rattle.vt_journal.specs.declared.j_fault.JFault.{JFault};
 ghost use Rattle.vt_journal.specs.declared.journal.Journal.{Journal};
@@ -10,6 +11,7 @@ ghost use Rattle.vt_journal.specs.declared.journal.Journal.{Journal};
 use crate::cut::cut_line;
 use crate::entry_lines::read_entry;
 use crate::fault_code::{BAD_LINE, MORE, NO_FIRST, NO_LAST, TOO_MANY};
+use crate::first::read_first;
 use crate::j_error::refused;
 use crate::laws::one_journal;
 use crate::next::Next;
@@ -22,11 +24,8 @@ use vt_events::Entry;
 /// The most entries of a journal.
 const MOST: u32 = 1_000_000;
 
-/// The first line.
-const FIRST: &[u8] = b"%journal 1\n";
-
-/// What the text says as a journal, which is the one spelling of its entries and of how they end; or
-/// its first fault.
+/// What the text says as a journal of either version, which is the one spelling in it of the entries
+/// and of how they end; or its first fault.
 pub fn parse(alloc: Global, text: &[u8]) -> Result<Journal, JError>
     ensures says { Reads result (JournalSays text.now) }
     ensures one { (said : Result Journal JFault) → JournalSays text.now said
@@ -39,23 +38,16 @@ pub fn parse(alloc: Global, text: &[u8]) -> Result<Journal, JError>
 fn read_journal(alloc: Global, text: &[u8]) -> Result<Journal, JError>
     ensures { Reads result (JournalSays text.now) }
 {
-    match behind_first(text) {
-        Some(rest) => read_lines(alloc, rest),
+    match read_first(text) {
+        Some(first) => read_lines(alloc, first.version, first.behind),
         None => Err(refused(NO_FIRST, 0)),
     }
 }
 
-// What is behind the first line.
-fn behind_first(text: &[u8]) -> Option<&[u8]>
-    ensures found { IfSome result (λ rest. text.now ≡ line_text first_words ++ rest.now) }
-    ensures none { IfNone result (IsNoFirst text.now) }
-{
-    text.strip_prefix(FIRST)
-}
-
 // The lines of entries behind the first line, and the last line.
-fn read_lines(alloc: Global, text: &[u8]) -> Result<Journal, JError>
-    ensures { (whole : List ℕ) → whole ≡ line_text first_words ++ text.now
+fn read_lines(alloc: Global, version: u8, text: &[u8]) -> Result<Journal, JError>
+    requires { IsVersion version }
+    ensures { (whole : List ℕ) → whole ≡ line_text (first_words version) ++ text.now
         → Reads result (JournalSays whole) }
 {
     let mut entries = Vec::new(alloc);
@@ -64,12 +56,12 @@ fn read_lines(alloc: Global, text: &[u8]) -> Result<Journal, JError>
         if rest.is_empty() {
             return Err(refused(NO_LAST, read + 1));
         }
-        match read_line(alloc, rest)? {
+        match read_line(alloc, version, rest)? {
             Next::Entry(entry, behind) => {
                 entries.push(entry)?;
                 rest = behind;
             }
-            Next::Tail(end, behind) => return journal(entries, end, behind),
+            Next::Tail(end, behind) => return journal(version, entries, end, behind),
             Next::Other => return Err(refused(BAD_LINE, read + 2)),
         }
     }
@@ -77,10 +69,10 @@ fn read_lines(alloc: Global, text: &[u8]) -> Result<Journal, JError>
 }
 
 // The journal of these, where nothing is behind its last line.
-fn journal(entries: Vec<Entry>, end: Tail, behind: &[u8]) -> Result<Journal, JError>
+fn journal(version: u8, entries: Vec<Entry>, end: Tail, behind: &[u8]) -> Result<Journal, JError>
     requires { vec_len entries ≤ MOST }
     ensures whole { behind.now ≡ []
-        → result ≡ Ok (record { entries = entries.items; tail = end }) }
+        → result ≡ Ok (record { version = version; entries = entries.items; tail = end }) }
     ensures more { behind.now ≢ []
         → result ≡ Err (errors.Fault (record { kind = MORE; line = length entries.items + 2 })) }
 {
@@ -88,19 +80,20 @@ fn journal(entries: Vec<Entry>, end: Tail, behind: &[u8]) -> Result<Journal, JEr
         return Err(refused(MORE, entries.len() as u32 + 2));
     }
     Ok(Journal {
+        version,
         entries: Entries::new(entries),
         tail: end,
     })
 }
 
 // What the first line is.
-fn read_line(alloc: Global, text: &[u8]) -> Result<Next<'_>, NoMemory>
-    ensures { IfOk result (NextIs text.now) }
+fn read_line(alloc: Global, version: u8, text: &[u8]) -> Result<Next<'_>, NoMemory>
+    ensures { IfOk result (NextIs version text.now) }
 {
     let Some(cut) = cut_line(text) else {
         return Ok(Next::Other);
     };
-    if let Some(entry) = read_entry(alloc, cut.line)? {
+    if let Some(entry) = read_entry(alloc, cut.line, version)? {
         return Ok(Next::Entry(entry, cut.behind));
     }
     match read_tail(cut.line) {

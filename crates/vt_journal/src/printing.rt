@@ -1,61 +1,94 @@
-//! The text of a journal.
-ghost use Rattle.std.specs.Prelude.{◌≡◌, ◌<◌, ◌^◌, ◌∷◌, ◌++◌, map, option_copied, IfSome, OnOk, OnErr};
+//! The text of a journal, in either version.
+ghost use Rattle.std.specs.Prelude.{◌≡◌, ◌<◌, ◌≤◌, ◌^◌, ◌∷◌, ◌++◌, map, option_copied, IfSome, OnOk, OnErr};
 ghost use Rattle.std.specs.List.{All};
 ghost use Rattle.vt_events.specs.Plain.{plain_entry, plain_event, plain_reply};
-ghost use Rattle.vt_journal.specs.Journal.{entry_words, journal_text, line_text, tail_words};
+ghost use Rattle.vt_base.specs.Limits.{processes};
+ghost use Rattle.vt_journal.specs.Callers.{IsVersion};
+ghost use Rattle.vt_journal.specs.Journal.{entry_words, first_words, journal_text, line_text, tail_words};
 ghost use Rattle.vt_journal.specs.Replies.{IsFitReply};
 ghost use Rattle.vt_journal.specs.Says.{IsFitEntry, IsFitTail};
 ghost use Rattle.vt_journal.specs.Text.{Begins, spaced};
 ghost use Rattle.vt_journal.specs.Words.{IsFit, event_words, held_words, reply_words};
 
-use crate::adding::{add, add_bytes, add_named, add_next, add_number, add_word};
+use crate::adding::{add, add_bytes, add_end, add_named, add_next, add_word};
+use crate::callers::add_caller;
 use crate::parts::Parts;
 use crate::{Full, Tail};
 use std::alloc::Global;
 use vt_base::{Bytes, NoMemory};
 use vt_events::{Entry, Event, Reply};
 
-/// Adds the journal text of the entries and of how they end. What is printed is fit to be read again.
-pub fn print(alloc: Global, entries: &[Entry], end: &Tail, rest: &mut Bytes) -> Result<(), NoMemory>
-    ensures ok { OnOk result (rest.new.bytes ≡ rest.old.bytes ++ journal_text entries.now end.now) }
+/// Adds the journal text, in that version, of the entries and of how they end. What is printed is fit to
+/// be read again.
+pub fn print(
+    alloc: Global,
+    entries: &[Entry],
+    version: u8,
+    end: &Tail,
+    rest: &mut Bytes,
+) -> Result<(), NoMemory>
+    requires version { IsVersion version }
+    requires callers { version ≡ 1 → All (λ entry. entry.caller ≤ processes) entries.now }
+    ensures ok { OnOk result
+        (rest.new.bytes ≡ rest.old.bytes ++ journal_text version entries.now end.now) }
     ensures err { OnErr result (rest.new.bytes ≡ rest.old.bytes) }
-    ensures fit { OnOk result (All IsFitEntry (map plain_entry entries.now)) }
+    ensures fit { OnOk result (All (IsFitEntry version) (map plain_entry entries.now)) }
     ensures end { OnOk result (IsFitTail end.now) }
 {
     let before = rest.as_slice().len();
-    let added = add_lines(alloc, entries, end, rest);
+    let added = add_lines(alloc, entries, version, end, rest);
     if added.is_err() {
         rest.truncate(before);
     }
     added
 }
 
-fn add_lines(alloc: Global, entries: &[Entry], end: &Tail, rest: &mut Bytes) -> Result<(), NoMemory>
-    ensures ok { OnOk result (rest.new.bytes ≡ rest.old.bytes ++ journal_text entries.now end.now) }
+fn add_lines(
+    alloc: Global,
+    entries: &[Entry],
+    version: u8,
+    end: &Tail,
+    rest: &mut Bytes,
+) -> Result<(), NoMemory>
+    requires { version ≡ 1 → All (λ entry. entry.caller ≤ processes) entries.now }
+    ensures ok { OnOk result
+        (rest.new.bytes ≡ rest.old.bytes ++ journal_text version entries.now end.now) }
     ensures kept { Begins rest.old.bytes rest.new.bytes }
-    ensures fit { OnOk result (All IsFitEntry (map plain_entry entries.now)) }
+    ensures fit { OnOk result (All (IsFitEntry version) (map plain_entry entries.now)) }
     ensures end { OnOk result (IsFitTail end.now) }
 {
-    add(alloc, rest, b"%journal 1\n")?;
+    add_first(alloc, rest, version)?;
     for entry in entries {
-        add_entry(alloc, rest, entry)?;
+        add_entry(alloc, rest, version, entry)?;
     }
     add_tail(alloc, rest, end)?;
     Ok(())
 }
 
-fn add_entry(alloc: Global, text: &mut Bytes, entry: &Entry) -> Result<(), NoMemory>
+fn add_first(alloc: Global, text: &mut Bytes, version: u8) -> Result<(), NoMemory>
     ensures ok { OnOk result
-        (text.new.bytes ≡ text.old.bytes ++ line_text (entry_words entry.now)) }
+        (text.new.bytes ≡ text.old.bytes ++ line_text (first_words version)) }
     ensures kept { Begins text.old.bytes text.new.bytes }
-    ensures fit { OnOk result (IsFitEntry (plain_entry entry.now)) }
 {
-    add_number(alloc, text, u64::from(entry.caller.get()))?;
+    add(alloc, text, b"%journal")?;
+    add_next(alloc, text, u64::from(version))?;
+    add_end(alloc, text)?;
+    Ok(())
+}
+
+fn add_entry(alloc: Global, text: &mut Bytes, version: u8, entry: &Entry) -> Result<(), NoMemory>
+    requires { version ≡ 1 → entry.now.caller ≤ processes }
+    ensures ok { OnOk result
+        (text.new.bytes ≡ text.old.bytes ++ line_text (entry_words version entry.now)) }
+    ensures kept { Begins text.old.bytes text.new.bytes }
+    ensures fit { OnOk result (IsFitEntry version (plain_entry entry.now)) }
+{
+    add_caller(alloc, text, entry.caller, version)?;
     add_next(alloc, text, u64::from(entry.seq))?;
     add_event(alloc, text, &entry.event)?;
     add_word(alloc, text, b"=")?;
     add_reply(alloc, text, &entry.reply)?;
-    add(alloc, text, b"\n")?;
+    add_end(alloc, text)?;
     Ok(())
 }
 

@@ -3,7 +3,7 @@
 mod all_words;
 mod parsing;
 
-use crate::{Full, Log, Tail, add_hex, print, read_event};
+use crate::{Full, Log, Tail, add_hex, are_numbered, print, read_event};
 use std::alloc::Global;
 use std::process::Abort;
 use std::test::Fail;
@@ -66,13 +66,14 @@ fn entry(alloc: Global, row: Row) -> Result<Option<Entry>, NoMemory> {
     }))
 }
 
-// Some calls, the limits of their log, and its text.
+// Some calls, the limits of their log, and its text in version 1 and in version 2.
 #[derive(Clone, Copy)]
 struct Case<'a> {
     rows: &'a [Row],
     events: u32,
     bytes: u64,
-    text: &'static [u8],
+    old: &'static [u8],
+    new: &'static [u8],
 }
 
 // A log of the first rows, as many as its limits allow, and how it ends.
@@ -108,7 +109,7 @@ fn prints_what_a_log_holds(rt: HostRuntime) -> Result<(), Fail> {
             rows: &CALLS,
             events: 6,
             bytes: 386,
-            text: b"%journal 1\n\
+            old: b"%journal 1\n\
             1 0 open 1 = num 0\n\
             2 0 open 2 = num 0\n\
             1 1 write 0 6869 = num 2\n\
@@ -116,39 +117,64 @@ fn prints_what_a_log_holds(rt: HostRuntime) -> Result<(), Fail> {
             2 1 activate 0 2 = ok\n\
             1 3 reldisp 0 1 = ok\n\
             %end 6 386\n",
+            new: b"%journal 2\n\
+            p1 0 open 1 = num 0\n\
+            p2 0 open 2 = num 0\n\
+            p1 1 write 0 6869 = num 2\n\
+            p1 2 setmode 0 1 0 10 12 0 = ok\n\
+            p2 1 activate 0 2 = ok\n\
+            p1 3 reldisp 0 1 = ok\n\
+            %end 6 386\n",
         },
         Case {
             rows: &CALLS,
             events: 6,
             bytes: 193,
-            text: b"%journal 1\n\
+            old: b"%journal 1\n\
             1 0 open 1 = num 0\n\
             2 0 open 2 = num 0\n\
+            %full 2 128 66\n",
+            new: b"%journal 2\n\
+            p1 0 open 1 = num 0\n\
+            p2 0 open 2 = num 0\n\
             %full 2 128 66\n",
         },
         Case {
             rows: &ODD,
             events: 4,
             bytes: 1_000,
-            text: b"%journal 1\n\
+            old: b"%journal 1\n\
             0 3 scan e0 = ok\n\
             64 4294967295 write 65535 - = err 9\n\
             0 4 reldisp 0 2 = bytes 00a9\n\
             0 5 reldisp 0 3 = bytes -\n\
+            %full 4 256 64\n",
+            new: b"%journal 2\n\
+            k0 3 scan e0 = ok\n\
+            p64 4294967295 write 65535 - = err 9\n\
+            k0 4 reldisp 0 2 = bytes 00a9\n\
+            k0 5 reldisp 0 3 = bytes -\n\
             %full 4 256 64\n",
         },
         Case {
             rows: &ODD,
             events: 0,
             bytes: 64,
-            text: b"%journal 1\n%full 0 0 64\n",
+            old: b"%journal 1\n%full 0 0 64\n",
+            new: b"%journal 2\n%full 0 0 64\n",
         },
     ];
     for case in cases {
         let (log, tail) = run(&rt, rt.alloc(), &case)?;
         let mut text = Bytes::new(rt.alloc());
-        print(rt.alloc(), log.entries(), &tail, &mut text)?;
-        assert_eq!(rt; text.as_slice(), case.text);
+        print(rt.alloc(), log.entries(), 2, &tail, &mut text)?;
+        assert_eq!(rt; text.as_slice(), case.new);
+        if !are_numbered(log.entries()) {
+            return Err(Fail::from("a caller has no number"));
+        }
+        text.truncate(0);
+        print(rt.alloc(), log.entries(), 1, &tail, &mut text)?;
+        assert_eq!(rt; text.as_slice(), case.old);
     }
     Ok(())
 }

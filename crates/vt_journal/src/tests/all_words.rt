@@ -71,7 +71,7 @@ fn line(alloc: Global, event: Event, reply: Reply) -> Result<Bytes, Fail> {
         events: 1,
         bytes: 2,
     };
-    print(alloc, &[entry], &end, &mut text)?;
+    print(alloc, &[entry], 2, &end, &mut text)?;
     Ok(text)
 }
 
@@ -79,7 +79,7 @@ fn line(alloc: Global, event: Event, reply: Reply) -> Result<Bytes, Fail> {
 fn journal(alloc: Global, call: &[u8], answer: &[u8]) -> Result<Bytes, NoMemory> {
     let mut text = Bytes::new(alloc);
     for part in [
-        b"%journal 1\n1 0 ".as_slice(),
+        b"%journal 2\np1 0 ".as_slice(),
         call,
         b" = ",
         answer,

@@ -1,8 +1,9 @@
-use Rattle.std.proofs.Common.{ℕ, List, Bor, map, subst, sym, ap, ◌∙◌}
+use Rattle.std.proofs.Common.{ℕ, List, Bor, codes, eqb, map, subst, sym, ap, ◌∙◌, true≢false}
+use Rattle.std.specs.List.{starts_with}
 use Rattle.vt_events.specs.declared.event.Event.TheVariants as event
 use Rattle.session_text.specs.HookTexts.{words_of}
 use Rattle.session_text.specs.ItemTexts.{AreSay, IsSaid}
-use Rattle.session_text.proofs.ItemWords.{say_start}
+use Rattle.session_text.proofs.ItemWords.{say_start, say_text}
 use Rattle.session_text.proofs.item_texts.say.Goals as goal
 
 pub bytes_from-requires : goal.bytes_from-requires
@@ -30,3 +31,11 @@ returns-clause-none c =
     λ e say.
     let are = ap (map (λ (word : Bor (List ℕ)). word.now)) c.as_slice.ensures.value ∙ c.in_ok-words.ensures in
     c.in-None.ensures.none say.fd (subst (λ w. AreSay w say.fd) (sym are) say.say)
+
+pub returns-then-not-starts_with-clause-none : goal.returns-then-not-starts_with-clause-none
+returns-then-not-starts_with-clause-none c =
+    λ e say.
+    true≢false
+    (sym (ap (λ text. starts_with eqb text (codes "say "))
+    (c.as_bytes.ensures.value ∙ say_text c.args.text.now say.fd say.say))
+    ∙ (sym c.starts_with.ensures.value ∙ c.if-not-starts_with.true))

@@ -1,4 +1,4 @@
-use Rattle.std.proofs.Common.{◌≡◌, ◌≤◌, List, length, map, subst, sym, ap, ◌∙◌}
+use Rattle.std.proofs.Common.{◌≡◌, ◌≤◌, List, length, map, refl, subst, sym, ap, ◌∙◌}
 use Rattle.std.proofs.lemmas.List.{length-map}
 use Rattle.std.proofs.lemmas.List.Elements.{All-map}
 use Rattle.std.specs.List.{All}
@@ -15,6 +15,7 @@ make-requires c =
     ∙ length-map list (λ (p : Process). p.start)) in
     record {
       fit = c.requires.opening.fit;
+      keyboards = refl;
       events = c.requires.opening.events;
       bytes = c.requires.opening.bytes;
       turns = subst (λ n. All (λ t. t ≤ n) c.args.parts.turns.bytes) many c.requires.turns;

@@ -1,5 +1,5 @@
 use Rattle.std.proofs.Common.{subst}
-use Rattle.session_order.specs.Sessions.{stage_of, start_of}
+use Rattle.session_order.specs.Sessions.{setup_of, start_of}
 use Rattle.vt_base.specs.ConsoleSet.{IsFitSet}
 use Rattle.vt_check.proofs.Starts.{is_start}
 use Rattle.vt_check.specs.Verdicts.{Judges}
@@ -10,18 +10,18 @@ use Rattle.vt_check.proofs.checking.check.Goals as goal
 
 pub returns-clause-one : goal.returns-clause-one
 returns-clause-one c = λ other judges.
-    c.one_verdict.ensures.one (stage_of c.args.s.now) c.args.j.now.entries c.args.j.now.tail other
+    c.one_verdict.ensures.one (setup_of c.args.s.now) c.args.j.now.entries c.args.j.now.tail other
     c.in_ok-verdict.verdict judges c.in_ok-verdict.ensures
 
 pub returns-clause-legal : goal.returns-clause-legal
 returns-clause-legal c =
-    let legal = c.one_verdict.ensures.legal (stage_of c.args.s.now) c.args.j.now.entries c.args.j.now.tail in (
+    let legal = c.one_verdict.ensures.legal (setup_of c.args.s.now) c.args.j.now.entries c.args.j.now.tail in (
       λ is.
           legal.0
-          (subst (Judges (stage_of c.args.s.now) c.args.j.now.entries c.args.j.now.tail) is
+          (subst (Judges (setup_of c.args.s.now) c.args.j.now.entries c.args.j.now.tail) is
           c.in_ok-verdict.ensures),
       λ right.
-          c.one_verdict.ensures.one (stage_of c.args.s.now) c.args.j.now.entries c.args.j.now.tail
+          c.one_verdict.ensures.one (setup_of c.args.s.now) c.args.j.now.entries c.args.j.now.tail
           c.in_ok-verdict.verdict verdict.Legal c.in_ok-verdict.ensures (legal.1 right),
     )
 

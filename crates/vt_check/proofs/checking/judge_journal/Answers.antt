@@ -2,8 +2,8 @@ use Rattle.std.proofs.Common.{◌≡◌, ◌∷◌, [], ◌+◌, ◌++◌, ◌�
 use Rattle.std.specs.Prelude.{slice_get}
 use Rattle.std.proofs.lemmas.List.{take_all}
 use Rattle.std.proofs.lemmas.Option.{slice_get_read}
-use Rattle.session_order.specs.Ends.{Stage}
-use Rattle.session_order.specs.Sessions.{stage_of}
+use Rattle.session_order.specs.Ends.{Setup}
+use Rattle.session_order.specs.Sessions.{setup_of}
 use Rattle.vt_check.proofs.VerdictLaws.{next_take, pass_more}
 use Rattle.vt_check.specs.Judging.{IsAfter}
 use Rattle.vt_check.specs.Verdicts.{AllPass, Judges}
@@ -14,7 +14,7 @@ use Rattle.vt_check.proofs.checking.judge_journal.Goals as goal
 
 pub returns-in-Some : goal.returns-in-Some
 returns-in-Some c =
-    let o : Stage = stage_of c.args.s.now in
+    let o : Setup = setup_of c.args.s.now in
     let entries : List Entry = c.as_slice-entries.result.now in
     let here : slice_get entries c.loop-i.i ≡ Some c.index-entries-i.result =
     slice_get_read entries (length entries) c.loop-i.i c.index-entries-i.result refl c.loop-i-test.true
@@ -28,7 +28,7 @@ returns-in-Some c =
 
 pub loop-i-preserved : goal.loop-i-preserved
 loop-i-preserved c =
-    let o : Stage = stage_of c.args.s.now in
+    let o : Setup = setup_of c.args.s.now in
     let entries : List Entry = c.as_slice-entries.result.now in
     let front : List Entry = take c.loop-i.i entries in
     let here : slice_get entries c.loop-i.i ≡ Some c.index-entries-i.result =
@@ -53,7 +53,7 @@ loop-i-preserved c =
 
 pub returns-in-Some-2 : goal.returns-in-Some-2
 returns-in-Some-2 c =
-    let o : Stage = stage_of c.args.s.now in
+    let o : Setup = setup_of c.args.s.now in
     let entries : List Entry = c.as_slice-entries.result.now in
     let whole : take c.loop-i.i entries ≡ entries =
     take_all c.loop-i.i entries c.loop-i-test.false in
@@ -66,7 +66,7 @@ returns-in-Some-2 c =
 
 pub returns : goal.returns
 returns c =
-    let o : Stage = stage_of c.args.s.now in
+    let o : Setup = setup_of c.args.s.now in
     let entries : List Entry = c.as_slice-entries.result.now in
     let whole : take c.loop-i.i entries ≡ entries =
     take_all c.loop-i.i entries c.loop-i-test.false in

@@ -1,13 +1,13 @@
 use Rattle.std.proofs.Common.{◌≡◌, ◌≤◌, length, take}
-use Rattle.session_order.specs.Sessions.{stage_of}
+use Rattle.session_order.specs.Sessions.{setup_of}
 use Rattle.vt_check.specs.Judging.{IsAfter}
 use Rattle.vt_check.specs.Verdicts.{AllPass}
 use Rattle.vt_check.proofs.checking.judge_journal.Given as goal
 
 abbrev pub invariant-loop-i : goal.invariant-loop-i
 invariant-loop-i l = record {
-  pass : AllPass (stage_of l.s) (take l.i l.entries);
-  after : IsAfter (stage_of l.s) (take l.i l.entries) l.judge;
+  pass : AllPass (setup_of l.s) (take l.i l.entries);
+  after : IsAfter (setup_of l.s) (take l.i l.entries) l.judge;
   walks : length l.judge.walks ≡ length l.programs;
   events : l.judge.events ≤ 1_000_000;
   bytes : l.judge.bytes ≤ 1_073_741_824;

@@ -11,10 +11,10 @@ returns-in_default-clause-none c =
 pub loop-i-preserved : goal.loop-i-preserved
 loop-i-preserved c =
     let fit : c.in-Some.b < 2 ^ 8 = search rules in (
-      rw c.append.ensures.bytes
+      rw c.push.ensures.bytes
           (hex_more c.args.word.now c.loop-i.bytes.bytes c.loop-i.i c.in-Some.b (omega arith)
           c.loop-i.invariant.0 c.in-Some.ensures.found),
-      subst (All (λ x. x < 2 ^ 8)) (sym c.append.ensures.bytes)
+      subst (All (λ x. x < 2 ^ 8)) (sym c.push.ensures.bytes)
           (All-more c.loop-i.bytes.bytes c.in-Some.b fit c.loop-i.invariant.1),
       omega arith,
     )

@@ -7,7 +7,7 @@ returns-in-None c = (
   λ entry rest fit is.
       let none = rw c.in_default-2.is at c.in_ok-entry.ensures.none in
       none entry fit
-      (cut_is c.args.text.now _ _ (entry_words entry) rest c.in-Some.ensures.found (line_entry entry fit) is),
+      (cut_is c.args.text.now _ _ (entry_words c.args.version entry) rest c.in-Some.ensures.found (line_entry c.args.version entry fit) is),
   λ end rest fit is.
       c.in-None.ensures.none end fit
       (cut_is c.args.text.now _ _ (tail_words end) rest c.in-Some.ensures.found (line_tail end fit) is),

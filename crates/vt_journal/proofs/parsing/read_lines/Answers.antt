@@ -18,9 +18,9 @@ returns-then-is_empty c =
     nil_from_length c.loop-read.rest.now
     (eqb-true (length c.loop-read.rest.now) 0 (sym c.is_empty.ensures ∙ c.if-is_empty.true)) in
     subst (λ n. JournalSays whole (fault 42 (n + 1))) c.loop-read.invariant.many
-    (NoLast c.loop-read.entries.items
-    (begun whole c.args.text.now c.loop-read.entries.items [] is
-    (subst (IsSoFar c.args.text.now c.loop-read.entries.items) empty c.loop-read.invariant.so_far))
+    (NoLast c.args.version c.loop-read.entries.items
+    (begun c.args.version whole c.args.text.now c.loop-read.entries.items [] c.requires is
+    (subst (IsSoFar c.args.version c.args.text.now c.loop-read.entries.items) empty c.loop-read.invariant.so_far))
     few))
 
 pub returns-in-Tail : goal.returns-in-Tail
@@ -32,13 +32,13 @@ returns-in-Tail c =
     ⊎_elim
     (λ none.
     rw (c.journal.ensures.whole none)
-    (whole_is whole c.args.text.now c.loop-read.entries.items c.loop-read.rest.now c.in-Tail.end is
+    (whole_is c.args.version whole c.args.text.now c.loop-read.entries.items c.loop-read.rest.now c.in-Tail.end c.requires is
     c.loop-read.invariant.so_far next.0
     (next.1 ∙ ap (λ behind. line_text (tail_words c.in-Tail.end) ++ behind) none) few))
     (λ some.
     rw (c.journal.ensures.more some)
-    (more_is whole c.args.text.now c.loop-read.entries.items c.loop-read.rest.now c.in-Tail.end
-    c.in-Tail.behind.now is c.loop-read.invariant.so_far next.0 next.1 few some))
+    (more_is c.args.version whole c.args.text.now c.loop-read.entries.items c.loop-read.rest.now c.in-Tail.end
+    c.in-Tail.behind.now c.requires is c.loop-read.invariant.so_far next.0 next.1 few some))
     (nothing_or_some c.in-Tail.behind.now)
 
 pub returns-in-Other : goal.returns-in-Other
@@ -49,8 +49,8 @@ returns-in-Other c =
     let few : length c.loop-read.entries.items ≤ most_entries =
     omega (arith, c.loop-read.invariant.many, c.loop-read-test.true) in
     subst (λ n. JournalSays whole (fault 41 (n + 2))) c.loop-read.invariant.many
-    (BadLine c.loop-read.entries.items c.loop-read.rest.now
-    (begun whole c.args.text.now c.loop-read.entries.items c.loop-read.rest.now is
+    (BadLine c.args.version c.loop-read.entries.items c.loop-read.rest.now
+    (begun c.args.version whole c.args.text.now c.loop-read.entries.items c.loop-read.rest.now c.requires is
     c.loop-read.invariant.so_far)
     few
     (λ none.
@@ -63,9 +63,9 @@ loop-read-preserved c =
     let next = rw c.in-Entry.is at c.in_ok-entry.ensures in
     record {
       so_far =
-          subst (λ (entries : List Entry). IsSoFar c.args.text.now entries c.in-Entry.behind.now)
+          subst (λ (entries : List Entry). IsSoFar c.args.version c.args.text.now entries c.in-Entry.behind.now)
           (sym c.in_ok-push-in-Entry.ensures.items)
-          (one_more c.args.text.now c.loop-read.entries.items c.loop-read.rest.now c.in-Entry.entry
+          (one_more c.args.version c.args.text.now c.loop-read.entries.items c.loop-read.rest.now c.in-Entry.entry
           c.in-Entry.behind.now c.loop-read.invariant.so_far next.0 next.1);
       many =
           ap length c.in_ok-push-in-Entry.ensures.items
@@ -80,7 +80,7 @@ returns c =
     let many : length c.loop-read.entries.items ≡ most_entries + 1 =
     omega (arith, c.loop-read.invariant.many, c.loop-read-test.false, c.loop-read.auto.read-end) in
     subst (λ n. JournalSays whole (fault 44 (n + 1))) many
-    (TooMany c.loop-read.entries.items c.loop-read.rest.now
-    (begun whole c.args.text.now c.loop-read.entries.items c.loop-read.rest.now is
+    (TooMany c.args.version c.loop-read.entries.items c.loop-read.rest.now
+    (begun c.args.version whole c.args.text.now c.loop-read.entries.items c.loop-read.rest.now c.requires is
     c.loop-read.invariant.so_far)
     many))

@@ -4,6 +4,6 @@ use Rattle.vt_journal.proofs.parsing.read_lines.Given as goal
 
 abbrev pub invariant-loop-read : goal.invariant-loop-read
 invariant-loop-read l = record {
-  so_far : IsSoFar l.text l.entries.items l.rest;
+  so_far : IsSoFar l.version l.text l.entries.items l.rest;
   many : length l.entries.items ≡ l.read;
 }

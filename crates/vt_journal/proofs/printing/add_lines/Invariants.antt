@@ -1,7 +1,7 @@
 use Rattle.std.proofs.Common.{◌≡◌, ◌∷◌, [], ◌++◌, codes, take, map}
 use Rattle.std.specs.List.{All, flat_map}
 use Rattle.vt_events.specs.Plain.{plain_entry}
-use Rattle.vt_journal.specs.Journal.{entry_words, line_text}
+use Rattle.vt_journal.specs.Journal.{entry_words, first_words, line_text}
 use Rattle.vt_journal.specs.Says.{IsFitEntry}
 use Rattle.vt_journal.specs.Text.{Begins}
 use Rattle.vt_journal.proofs.printing.add_lines.Given as goal
@@ -11,7 +11,7 @@ invariant-loop-entry l = record {
   lines : l.rest.bytes
       ≡ l.fn.rest.bytes
       ++ flat_map line_text
-      ((codes "%journal" ∷ codes "1" ∷ []) ∷ map entry_words (take l.entry-index l.entries));
+      (first_words l.version ∷ map (entry_words l.version) (take l.entry-index l.entries));
   begins : Begins l.fn.rest.bytes l.rest.bytes;
-  fit : All IsFitEntry (map plain_entry (take l.entry-index l.entries));
+  fit : All (IsFitEntry l.version) (map plain_entry (take l.entry-index l.entries));
 }

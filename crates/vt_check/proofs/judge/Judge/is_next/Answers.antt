@@ -1,7 +1,7 @@
 use Rattle.std.proofs.Common.{◌≡◌, List, Option, Some, get_or, sym, ◌∙◌, subst}
 use Rattle.std.specs.Prelude.{slice_get}
 use Rattle.session_order.specs.Calls.{next_by}
-use Rattle.session_order.specs.Ends.{Stage}
+use Rattle.session_order.specs.Ends.{Setup}
 use Rattle.session_text.specs.Walks.{Place}
 use Rattle.vt_check.proofs.Growing.{next_after}
 use Rattle.vt_check.proofs.Tested.{next_is, none_next, waits_on}

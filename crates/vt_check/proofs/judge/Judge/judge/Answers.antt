@@ -1,6 +1,6 @@
 use Rattle.std.proofs.Common.{◌≡◌, ◌∷◌, [], ◌++◌, List, Some, length, ap, ◌∙◌}
 use Rattle.std.specs.Prelude.{slice_get}
-use Rattle.session_order.specs.Ends.{Stage}
+use Rattle.session_order.specs.Ends.{Setup}
 use Rattle.session_order.specs.Follows.{IsNextCall}
 use Rattle.vt_check.proofs.Tested.{fails, program_at}
 use Rattle.vt_check.specs.Judging.{IsAfter}

@@ -1,5 +1,5 @@
 use Rattle.std.proofs.Common.{◌≡◌, refl, ap, ◌∙◌, length}
-use Rattle.session_order.specs.Sessions.{stage_of, start_of}
+use Rattle.session_order.specs.Sessions.{setup_of, start_of}
 use Rattle.vt_check.proofs.Growing.{first-after}
 use Rattle.vt_check.specs.Judging.{JudgeView}
 use Rattle.vt_world.specs.Start.{opening}
@@ -16,7 +16,7 @@ returns-clause-at c =
     } in
     let world : c.in_ok-world.world ≡ start_of c.args.s.now =
     c.in_ok-world.ensures
-    ∙ (λ i. opening (c.config.ensures.same i).size.rows (c.config.ensures.same i).size.cols (c.config.ensures.same i).consoles (c.config.ensures.same i).front (c.config.ensures.same i).procs (c.key_tables.ensures i)) in
-    first-after (stage_of c.args.s.now) view world
+    ∙ (λ i. opening (c.config.ensures.same i).size.rows (c.config.ensures.same i).size.cols (c.config.ensures.same i).consoles (c.config.ensures.same i).front (c.config.ensures.one i) (c.config.ensures.same i).procs (c.key_tables.ensures i)) in
+    first-after (setup_of c.args.s.now) view world
     (c.in_ok-walks.ensures.callers ∙ ap length c.programs.ensures.same) c.in_ok-walks.ensures.stand
     c.new.ensures refl refl

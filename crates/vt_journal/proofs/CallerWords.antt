@@ -1,0 +1,130 @@
+-- A word is one caller's.
+use Rattle.std.proofs.Common.{◌≡◌, ◌≢◌, true≢false, ℕ, ◌+◌, ◌-◌, ◌%◌, ◌<◌, ◌≤◌, ◌^◌, ◌⊎◌, ⊎_elim, Bool, true, false, ◌&&◌, ◌||◌, eqb, ltb, cond, Option, Some, None, List, [], ◌∷◌, ◌++◌, codes, decimal, refl, sym, ap, ◌∙◌, arith}
+use Rattle.std.specs.List.{list_all}
+use Rattle.std.specs.Prelude.{nat_le, IfNone}
+use Rattle.vt_base.specs.Limits.{callers}
+use Rattle.vt_base.specs.Range.{in_range}
+use Rattle.std.proofs.lemmas.Bool.{cases_lt, le-ltb, lt-ltb}
+use Rattle.std.proofs.lemmas.Fmt.{decimal_by_steps, decimal_injective}
+use Rattle.std.proofs.lemmas.List.Folds.{list_all-append}
+use Rattle.vt_journal.specs.Callers.{HasWord, caller_word, is_process, keyboard_number}
+use Rattle.vt_journal.proofs.Clear.{is_clear, is_clear-decimal}
+
+small : (version n : ℕ) → HasWord version n → n < 2 ^ 64
+small version n fit = omega (arith, fit.0)
+
+keyboard_small : (version n : ℕ) → HasWord version n → keyboard_number n < 2 ^ 64
+keyboard_small version n fit = omega (arith, fit.0)
+
+-- a caller that isn't a process is the first keyboard, or one after the processes
+keyboards : (n : ℕ) → is_process n ≡ false → (n ≡ 0) ⊎ (64 < n)
+keyboards n is = grind arith
+
+same_keyboard : (m n : ℕ) → is_process m ≡ false → is_process n ≡ false
+    → keyboard_number m ≡ keyboard_number n → m ≡ n
+same_keyboard m n is_m is_n same =
+    ⊎_elim
+    (λ zero. ⊎_elim (λ none. zero ∙ (λ j. 0) ∙ (omega (arith, none))) (λ above. omega (arith, zero, above, same)) (keyboards n is_n))
+    (λ above. ⊎_elim (λ none. omega (arith, above, none, same)) (λ high. omega (arith, above, high, same)) (keyboards n is_n))
+    (keyboards m is_m)
+
+-- a word is that of one caller
+pub same_caller : (version m n : ℕ) → HasWord version m → HasWord version n
+    → caller_word version m ≡ caller_word version n → m ≡ n
+same_caller version m n fit_m fit_n = by_test (eqb version 1) (is_process m) (is_process n) refl refl
+  where
+    numbers : decimal m ≡ decimal n → m ≡ n
+    numbers same = decimal_injective m n (small version m fit_m) (small version n fit_n) same
+
+    by_test : (old p q : Bool) → is_process m ≡ p → is_process n ≡ q
+        → cond old (decimal m) (cond p (codes "p" ++ decimal m) (codes "k" ++ decimal (keyboard_number m)))
+        ≡ cond old (decimal n) (cond q (codes "p" ++ decimal n) (codes "k" ++ decimal (keyboard_number n)))
+        → m ≡ n
+    by_test true p q is_m is_n same = numbers same
+    by_test false true true is_m is_n same =
+        let digits : decimal m ≡ decimal n = cc in
+        numbers digits
+    by_test false false false is_m is_n same =
+        let digits : decimal (keyboard_number m) ≡ decimal (keyboard_number n) = cc in
+        same_keyboard m n is_m is_n
+        (decimal_injective (keyboard_number m) (keyboard_number n) (keyboard_small version m fit_m)
+        (keyboard_small version n fit_n) digits)
+    by_test false true false is_m is_n same =
+        let letters : ◌≡◌ {A = ℕ} 0x70 0x6B = cc in
+        absurd (omega (arith, letters))
+    by_test false false true is_m is_n same =
+        let letters : ◌≡◌ {A = ℕ} 0x6B 0x70 = cc in
+        absurd (omega (arith, letters))
+
+-- the first keyboard is no process
+pub no_process : (n p : ℕ) (digits : List ℕ) → n ≡ 0 → decimal n ≡ digits → is_process p ≡ true
+    → decimal p ≢ digits
+no_process n p digits zero is process same =
+    let within : (1 ≤ p) × (p ≤ 64) = grind arith in
+    let both : p ≡ n =
+    decimal_injective p n (omega (arith, within.1)) (omega (arith, zero)) (same ∙ sym is) in
+    omega (arith, within.0, both, zero)
+
+-- past the last caller there is none
+past : (high n : ℕ) → None ≡ in_range 0 high n → high < n
+past high n is =
+    ⊎_elim (λ after. after)
+    (λ within.
+    absurd (by_test (ltb n 0) (ltb high n) (le-ltb n 0 (omega arith)) (le-ltb high n within) is))
+    (cases_lt high n)
+  where
+    by_test : (a b : Bool) → a ≡ false → b ≡ false → None ≡ cond (a || b) None (Some n) → ⊥
+    by_test true b low small none = true≢false low
+    by_test false true low small none = true≢false small
+    by_test false false low small none = cc
+
+pub no_keyboard : (high n : ℕ) (digits : List ℕ) (r : Option ℕ) → r ≡ in_range 0 high (64 + n)
+    → callers ≤ high + 1 → n ≢ 0 → n ≤ 3 → decimal n ≡ digits
+    → IfNone r ((p : ℕ) → p < callers → is_process p ≡ false → decimal (keyboard_number p) ≢ digits)
+no_keyboard high n digits (Some q) is all some few same = tt
+no_keyboard high n digits None is all some few same =
+    λ p within other word.
+    let numbers : keyboard_number p ≡ n =
+    decimal_injective (keyboard_number p) n (omega (arith, within)) (omega (arith, few)) (word ∙ sym same) in
+    let above : high < 64 + n = past high (64 + n) is in
+    ⊎_elim
+    (λ zero. some (sym numbers ∙ ap keyboard_number zero))
+    (λ more. omega (arith, numbers, above, all, within, more))
+    (keyboards p other)
+
+-- the bytes of a caller's word are digits or letters, and no last line begins so
+abbrev pub is_high : List ℕ → Bool
+is_high word = list_all (λ b. ltb 0x2F b) word
+
+is_high-decimal : (n : ℕ) → n < 2 ^ 64 → is_high (decimal n) ≡ true
+is_high-decimal =
+    decimal_by_steps (λ _ digits. is_high digits ≡ true) (λ n below. digit n)
+    (λ n digits above others.
+    list_all-append (λ b. ltb 0x2F b) digits ((48 + n % 10) ∷ [])
+    ∙ (λ j. others j && digit (n % 10) j))
+  where
+    digit : (n : ℕ) → is_high ((48 + n) ∷ []) ≡ true
+    digit n = ap (λ b. b && true) (lt-ltb 0x2F (48 + n) (omega arith))
+
+pub is_high-caller : (version n : ℕ) → HasWord version n → is_high (caller_word version n) ≡ true
+is_high-caller version n fit = by_test (eqb version 1) (is_process n)
+  where
+    by_test : (old p : Bool)
+        → is_high
+        (cond old (decimal n) (cond p (codes "p" ++ decimal n) (codes "k" ++ decimal (keyboard_number n))))
+        ≡ true
+    by_test true p = is_high-decimal n (small version n fit)
+    by_test false true = is_high-decimal n (small version n fit)
+    by_test false false = is_high-decimal (keyboard_number n) (keyboard_small version n fit)
+
+-- it is clear of blanks
+pub is_clear-caller : (version n : ℕ) → HasWord version n → is_clear (caller_word version n) ≡ true
+is_clear-caller version n fit = by_test (eqb version 1) (is_process n)
+  where
+    by_test : (old p : Bool)
+        → is_clear
+        (cond old (decimal n) (cond p (codes "p" ++ decimal n) (codes "k" ++ decimal (keyboard_number n))))
+        ≡ true
+    by_test true p = is_clear-decimal n (small version n fit)
+    by_test false true = is_clear-decimal n (small version n fit)
+    by_test false false = is_clear-decimal (keyboard_number n) (keyboard_small version n fit)

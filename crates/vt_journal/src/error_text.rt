@@ -1,0 +1,26 @@
+//! The errors as texts, as the program `vt` tells them on err.
+use crate::{JError, JFault};
+use std::error::Error;
+use std::fmt;
+
+impl fmt::Display for JFault {
+    fn fmt<W: fmt::Write>(&self, f: &mut fmt::Formatter<W>) -> fmt::Result {
+        let kind = self.kind;
+        let line = self.line;
+        let column = line.min(1);
+        write!(f, "refused {kind} at {line}:{column}")
+    }
+}
+
+impl Error for JFault {}
+
+impl fmt::Display for JError {
+    fn fmt<W: fmt::Write>(&self, f: &mut fmt::Formatter<W>) -> fmt::Result {
+        match self {
+            JError::Fault(fault) => write!(f, "{fault}"),
+            JError::NoMemory => f.write_str("no memory"),
+        }
+    }
+}
+
+impl Error for JError {}
