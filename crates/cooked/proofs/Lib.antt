@@ -1,0 +1,9 @@
+pub mod FreshLaws
+pub mod KeptLaws
+pub mod KindLaws
+pub mod Pushes
+pub mod ReadLaws
+pub mod ReadingLaws
+pub mod SizeLaws
+pub mod StandLaws
+pub mod TurnLaws

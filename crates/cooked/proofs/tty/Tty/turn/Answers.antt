@@ -1,0 +1,17 @@
+use Rattle.std.proofs.Common.{subst}
+use Rattle.cooked.proofs.TurnLaws.{typed-turn}
+use Rattle.cooked.proofs.tty.Tty.turn.Goals as goal
+use Rattle.cooked.specs.Cooked.{Typing}
+use Rattle.cooked.specs.Turn.{Turns}
+
+pub returns-in-Ok-clause-ok : goal.returns-in-Ok-clause-ok
+returns-in-Ok-clause-ok g c =
+    subst
+    (λ (v : Typing). Turns g.J.Opening.start c.args.fd v c.push-given.new.self
+    (record { given = c.push-given.result; stop = c.write_echo-stop.result }) c.args.pass.now c.write_echo-stop.new.pass)
+    c.self.view_is
+    (typed-turn g.J.Opening.start c.args.fd c.self.inside.cooked c.push-given.new.self
+    (record { given = c.push-given.result; stop = c.write_echo-stop.result })
+    c.args.pass.now c.read_byte.new.pass c.write_echo-stop.new.pass c.in-Ok.b c.push-given.new.echo
+    c.in-Ok.ensures c.push-given.ensures.termios c.push-given.ensures.fresh c.push-given.ensures.line
+    c.push-given.ensures.given c.push-given.ensures.echo c.write_echo-stop.ensures)

@@ -1,0 +1,39 @@
+-- A line discipline as contracts see it.
+use Rattle.std.specs.Prelude.{◌≡◌, ◌≤◌, ◌+◌, ℕ, Bool, false, not, ◌==◌, List, [], ◌∷◌, ◌++◌, length, if◌then◌else◌}
+use Rattle.std.specs.List.{concat}
+use Rattle.vt_base.specs.Bytes.{Text}
+use Rattle.cooked.specs.Fresh.{fresh, most}
+use Rattle.cooked.specs.Kept.{kept, kept_bytes}
+use Rattle.cooked.specs.Termios.{IsValid}
+use Rattle.cooked.specs.declared.termios.Termios.{Termios}
+
+-- the settings, the fresh bytes, and the line that the last push gave. The kept bytes are those of the
+-- fresh ones
+pub record Typing : Type 0 where
+  pub termios : Termios
+  pub fresh : List ℕ
+  pub line : List ℕ
+
+abbrev pub typing : Termios → List ℕ → List ℕ → Typing
+typing t fresh line = record { termios = t; fresh = fresh; line = line }
+
+-- what is held stands for the fresh bytes, and there is room for a full line
+pub record Stands (t : Termios) (typed : Text) (held : List (List ℕ)) (line : Text) : Type 0 where
+  pub valid : IsValid t
+  pub stays : fresh t typed.bytes ≡ typed.bytes
+  pub held_are : held ≡ kept t typed.bytes
+  pub bytes : length (concat held) ≤ length typed.bytes
+  pub characters : length held ≤ length typed.bytes
+  pub typed_room : length typed.bytes + typed.room ≡ most
+  pub line_room : length line.bytes + line.room ≡ 4096
+
+-- the last byte is there, and isn't the erase byte: a byte after it may go on with it
+abbrev pub ends_open : ℕ → List ℕ → Bool
+ends_open erase [] = false
+ends_open erase (b ∷ []) = not (b == erase)
+ends_open erase (b ∷ c ∷ more) = ends_open erase (c ∷ more)
+
+-- the line of a typing that ends: its kept bytes, and 0A where the end belongs to it
+abbrev pub finished : Typing → Bool → List ℕ
+finished v with_end =
+    if with_end then kept_bytes v.termios v.fresh ++ 0x0A ∷ [] else kept_bytes v.termios v.fresh

@@ -1,0 +1,13 @@
+pub mod Cooked
+pub mod Echo
+pub mod Fresh
+pub mod Given
+pub mod Kept
+pub mod Kinds
+pub mod Laws
+pub mod Reading
+pub mod Rows
+pub mod Sizes
+pub mod Termios
+pub mod Turn
+pub mod Whole

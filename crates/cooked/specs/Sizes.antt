@@ -1,0 +1,34 @@
+-- Characters as their bytes and the sizes of each.
+use Rattle.std.specs.Prelude.{◌≡◌, ◌+◌, ℕ, Bool, List, [], ◌∷◌, ◌++◌, length, take, drop, if◌then◌else◌}
+use Rattle.cooked.specs.Kept.{but_last, last_of}
+use Rattle.vt_base.specs.Bytes.{Text}
+
+-- the bytes cut into parts of these sizes
+abbrev pub parts : List ℕ → List ℕ → List (List ℕ)
+parts [] bytes = []
+parts (n ∷ sizes) bytes = take n bytes ∷ parts sizes (drop n bytes)
+
+-- how many bytes these parts have
+abbrev pub total : List ℕ → ℕ
+total [] = 0
+total (n ∷ sizes) = n + total sizes
+
+-- the sizes are of all the bytes; and there is room for a full line
+pub record AreSizes (sizes bytes : Text) : Type 0 where
+  pub whole : total sizes.bytes ≡ length bytes.bytes
+  pub bytes_room : length bytes.bytes + bytes.room ≡ 4096
+  pub sizes_room : length sizes.bytes + sizes.room ≡ 4096
+
+-- the last of these sizes, and how many are before it
+pub record IsLastSize (sizes : List ℕ) (size count : ℕ) : Type 0 where
+  pub before : List ℕ
+  pub whole : sizes ≡ before ++ size ∷ []
+  pub counted : count ≡ length before
+
+-- the last character goes on with the byte
+abbrev pub with_joined : List (List ℕ) → ℕ → List (List ℕ)
+with_joined cs b = but_last cs ++ (last_of cs ++ b ∷ []) ∷ []
+
+-- the byte goes on with the last character, or is one of its own
+abbrev pub with_put : Bool → List (List ℕ) → ℕ → List (List ℕ)
+with_put joins cs b = if joins then with_joined cs b else cs ++ (b ∷ []) ∷ []

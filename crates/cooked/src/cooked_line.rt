@@ -1,0 +1,259 @@
+ghost use Rattle.std.specs.Prelude.{◌≡◌, ◌<◌, ◌≤◌, [], ◌∷◌, ◌++◌, ◌&&◌, true, length, IfOk, if◌then◌else◌};
+ghost use Rattle.std.specs.Bool.{OnFalse, OnTrue};
+ghost use Rattle.cooked.specs.Cooked.{ends_open, finished, typing};
+ghost use Rattle.cooked.specs.Echo.{echo_by, echoed};
+ghost use Rattle.cooked.specs.Fresh.{fresh, is_full};
+ghost use Rattle.cooked.specs.Given.{given, items_of, line_in};
+ghost use Rattle.cooked.specs.Kept.{kept, kept_bytes, last_of};
+ghost use Rattle.cooked.specs.Kinds.{kind};
+ghost use Rattle.cooked.specs.Termios.{IsValid, heard};
+ghost use Rattle.vt_chars.specs.Characters.{is_part};
+ghost use Rattle.cooked.specs.declared.given.Given.TheVariants.{Nothing, Line, Byte, Sig};
+ghost use Rattle.cooked.specs.declared.kind.Kind.TheVariants.{Erase, Data};
+
+use crate::echo::{BELL, caret, columns_of, newline, shown, wiped};
+use crate::echo_bytes::EchoBytes;
+use crate::given::Given;
+use crate::kept::{Kept, LINE_BYTES};
+use crate::kind::Kind;
+use crate::termios::Termios;
+use std::alloc::Global;
+use std::marker::Model;
+use vt_base::{Bytes, NoMemory, Signal};
+use vt_chars::{ascii_cuts, byte_more};
+
+/// How many bytes may be fresh.
+const MOST: usize = 4_095;
+
+/// A line discipline: bytes as they are typed become lines, signals and an echo. Contracts see the
+/// settings, the bytes that are fresh and the line that was given last.
+#[derive(Debug, Drop)]
+pub struct Cooked {
+    termios: Termios,
+    fresh: Bytes,
+    kept: Kept,
+    line: Bytes,
+}
+
+impl Model for Cooked {
+    ghost use Rattle.cooked.specs.Cooked.{Stands, Typing, typing};
+
+    ghost Value = { Typing };
+
+    ghost view = { λ c. typing c.termios c.fresh.bytes c.line.bytes };
+
+    ghost invariant = { λ c. Stands c.termios c.fresh c.kept c.line };
+}
+
+impl Cooked {
+    /// Nothing typed yet. All its memory is taken here.
+    pub fn start(alloc: Global, t: Termios) -> Result<Cooked, NoMemory>
+        requires { IsValid t }
+        ensures { IfOk result (λ c. c ≡ typing t [] []) }
+    {
+        let fresh = Bytes::with_room(alloc, MOST)?;
+        let kept = Kept::new(alloc)?;
+        let line = Bytes::with_room(alloc, LINE_BYTES)?;
+        Ok(Cooked {
+            termios: t,
+            fresh,
+            kept,
+            line,
+        })
+    }
+
+    /// Types a byte, and puts what is echoed of it into `echo`.
+    pub fn push(&mut self, b: u8, echo: &mut EchoBytes) -> Given
+        requires { echo.old ≡ [] }
+        ensures termios { self.new.termios ≡ self.old.termios }
+        ensures fresh { self.new.fresh ≡ fresh self.old.termios (self.old.fresh ++ b ∷ []) }
+        ensures given { items_of result self.new.line ≡ given self.old.termios self.old.fresh b }
+        ensures line { self.new.line ≡ line_in (given self.old.termios self.old.fresh b) }
+        ensures echo { echo.new ≡ echoed self.old.termios self.old.fresh b }
+    {
+        let heard = self.termios.heard(b);
+        let kind = self.termios.kind_of(heard);
+        self.show(heard, kind, echo);
+        match kind {
+            Kind::Interrupt => self.signal(Signal::numbered(2)),
+            Kind::Quit => self.signal(Signal::numbered(3)),
+            Kind::Kill => self.kill(),
+            Kind::Erase => self.erase(b),
+            Kind::Eof => self.finish(false),
+            Kind::End => self.finish(true),
+            Kind::Data => self.data(b, heard),
+        }
+    }
+
+    /// The line that the last push gave: empty, where it gave none.
+    pub fn line(&self) -> &[u8]
+        ensures { result.now ≡ self.now.line }
+    {
+        self.line.as_slice()
+    }
+
+    /// What is kept of the bytes that are fresh.
+    pub fn rest(&self) -> &[u8]
+        ensures { result.now ≡ kept_bytes self.now.termios self.now.fresh }
+    {
+        self.kept.as_slice()
+    }
+
+    // Whether no byte more can be fresh.
+    fn is_full(&self) -> bool
+        ensures value { result ≡ is_full self.now.fresh }
+        ensures full { OnTrue result (4095 ≤ length self.now.fresh) }
+        ensures room { OnFalse result (length self.now.fresh < 4095) }
+    {
+        self.fresh.room() == 0
+    }
+
+    // Echoes a byte that counts as `heard`.
+    fn show(&self, heard: u8, kind: Kind, echo: &mut EchoBytes)
+        requires { echo.old ≡ [] }
+        ensures { echo.new ≡ if self.now.termios.echo
+            then echo_by self.now.termios self.now.fresh heard kind else [] }
+    {
+        if !self.termios.echo {
+            return;
+        }
+        match kind {
+            Kind::Interrupt => caret(heard, echo),
+            Kind::Quit => caret(heard, echo),
+            Kind::Kill => newline(&self.termios, echo),
+            Kind::Erase => {
+                if self.is_full() {
+                    echo.push(BELL);
+                } else {
+                    wiped(columns_of(self.kept.last()), echo);
+                }
+            }
+            Kind::Eof => {}
+            Kind::End => newline(&self.termios, echo),
+            Kind::Data => {
+                if self.is_full() {
+                    echo.push(BELL);
+                } else {
+                    shown(&self.termios, heard, echo);
+                }
+            }
+        }
+    }
+
+    // A signal: what was typed is forgotten.
+    fn signal(&mut self, s: Signal) -> Given
+        ensures state { self.new ≡ typing self.old.termios [] [] }
+        ensures given { result ≡ Sig s }
+    {
+        self.restart();
+        Given::Sig(s)
+    }
+
+    // A kill: what was typed is forgotten.
+    fn kill(&mut self) -> Given
+        ensures state { self.new ≡ typing self.old.termios [] [] }
+        ensures given { result ≡ Nothing }
+    {
+        self.restart();
+        Given::Nothing
+    }
+
+    // Nothing is fresh any more, and no line was given.
+    fn restart(&mut self)
+        ensures { self.new ≡ typing self.old.termios [] [] }
+    {
+        self.end();
+        self.line.truncate(0);
+    }
+
+    // What is kept becomes the line, and nothing is fresh any more.
+    fn end(&mut self)
+        ensures state { self.new
+            ≡ typing self.old.termios [] (kept_bytes self.old.termios self.old.fresh) }
+        ensures few { length self.new.line ≤ 4095 }
+    {
+        self.kept.give(&mut self.line);
+        self.fresh.truncate(0);
+    }
+
+    // The end of a line, which gives what is kept, and 0A where that belongs to it.
+    fn finish(&mut self, with_end: bool) -> Given
+        ensures state { self.new ≡ typing self.old.termios [] (finished self.old with_end) }
+        ensures given { result ≡ Line }
+    {
+        self.end();
+        if with_end {
+            self.line.push(0x0A);
+        }
+        Given::Line
+    }
+
+    // An erase, which drops the last character that is kept.
+    fn erase(&mut self, b: u8) -> Given
+        requires kind { kind self.old.termios b ≡ Erase }
+        ensures state { self.new ≡ typing self.old.termios
+            (fresh self.old.termios (self.old.fresh ++ b ∷ [])) [] }
+        ensures given { result ≡ Nothing }
+    {
+        self.line.truncate(0);
+        if self.is_full() {
+            return Given::Nothing;
+        }
+        ascii_cuts();
+        self.fresh.push(b);
+        self.kept.drop_last();
+        Given::Nothing
+    }
+
+    // Data, which is given at once where lines aren't.
+    fn data(&mut self, b: u8, heard: u8) -> Given
+        requires kind { kind self.old.termios b ≡ Data }
+        ensures state { self.new ≡ typing self.old.termios
+            (fresh self.old.termios (self.old.fresh ++ b ∷ [])) [] }
+        ensures given { result ≡ if self.old.termios.icanon then Nothing else Byte heard }
+    {
+        self.line.truncate(0);
+        if self.termios.icanon {
+            self.add(b);
+            Given::Nothing
+        } else {
+            Given::Byte(heard)
+        }
+    }
+
+    // Data of a line.
+    fn add(&mut self, b: u8)
+        requires canonical { self.old.termios.icanon ≡ true }
+        requires kind { kind self.old.termios b ≡ Data }
+        ensures { self.new ≡ typing self.old.termios
+            (fresh self.old.termios (self.old.fresh ++ b ∷ [])) self.old.line }
+    {
+        if self.is_full() {
+            return;
+        }
+        byte_more();
+        ascii_cuts();
+        let joins = self.goes_on(b);
+        self.kept.put(joins, b);
+        self.fresh.push(b);
+    }
+
+    // Whether the byte goes on with the last character that is kept: the byte before it wasn't erased,
+    // nor is it an erase.
+    fn goes_on(&self, b: u8) -> bool
+        ensures { result ≡ (ends_open self.now.termios.erase self.now.fresh
+            && is_part (last_of (kept self.now.termios self.now.fresh) ++ b ∷ [])) }
+    {
+        ends_open(self.termios.erase, self.fresh.as_slice()) && self.kept.joins(b)
+    }
+}
+
+// Whether there is a last byte, which isn't the erase byte.
+fn ends_open(erase: u8, fresh: &[u8]) -> bool
+    ensures { result ≡ ends_open erase fresh.now }
+{
+    match fresh.split_last() {
+        Some((b, _)) => *b != erase,
+        None => false,
+    }
+}

@@ -1,0 +1,93 @@
+//! What is echoed of a byte.
+ghost use Rattle.std.specs.Prelude.{◌≡◌, ◌≤◌, [], ◌++◌, length};
+ghost use Rattle.cooked.specs.Echo.{caret, columns_of, columns_shown, newline, shown, wiped};
+
+use crate::echo_bytes::EchoBytes;
+use crate::termios::{Termios, is_control};
+use vt_cells::columns;
+use vt_chars::{Decoded, decode_all};
+
+/// BEL: nothing comes of the byte.
+pub const BELL: u8 = 0x07;
+
+pub fn newline(t: &Termios, echo: &mut EchoBytes)
+    requires { echo.old ≡ [] }
+    ensures { echo.new ≡ newline t.now }
+{
+    if t.onlcr {
+        echo.push(0x0D);
+    }
+    echo.push(0x0A);
+}
+
+/// A control character is shown as `^` and a sign.
+pub fn caret(b: u8, echo: &mut EchoBytes)
+    requires { echo.old ≡ [] }
+    ensures { echo.new ≡ caret b }
+{
+    echo.push(b'^');
+    echo.push(b ^ 0x40);
+}
+
+/// Data as it is shown.
+pub fn shown(t: &Termios, b: u8, echo: &mut EchoBytes)
+    requires { echo.old ≡ [] }
+    ensures { echo.new ≡ shown t.now b }
+{
+    if b == 0x0A {
+        newline(t, echo);
+    } else if is_control(b) {
+        caret(b, echo);
+    } else {
+        echo.push(b);
+    }
+}
+
+/// Goes back over columns and wipes them.
+pub fn wiped(columns: u8, echo: &mut EchoBytes)
+    requires empty { echo.old ≡ [] }
+    requires few { columns ≤ 2 }
+    ensures { echo.new ≡ wiped columns }
+{
+    if 1 <= columns {
+        wipe_one(echo);
+    }
+    if 2 <= columns {
+        wipe_one(echo);
+    }
+}
+
+fn wipe_one(echo: &mut EchoBytes)
+    requires { length echo.old ≤ 3 }
+    ensures { echo.new ≡ echo.old ++ wiped 1 }
+{
+    echo.push(0x08);
+    echo.push(0x20);
+    echo.push(0x08);
+}
+
+/// The columns that an erase of this character takes.
+pub fn columns_of(character: &[u8]) -> u8
+    ensures value { result ≡ columns_of character.now }
+    ensures bound { result ≤ 2 }
+{
+    if character.is_empty() {
+        return 0;
+    }
+    match decode_all(character) {
+        Decoded::Character(code) => columns_shown(code),
+        Decoded::Unfinished => 1,
+        Decoded::Malformed => 1,
+    }
+}
+
+fn columns_shown(code: u32) -> u8
+    ensures value { result ≡ columns_shown code }
+    ensures bound { result ≤ 2 }
+{
+    if code < 0x20 || code == 0x7F {
+        2
+    } else {
+        columns(code)
+    }
+}

@@ -1,0 +1,11 @@
+use vt_base::Errno;
+use vt_journal::Full;
+
+/// Why a turn stopped.
+#[derive(Clone, Copy, Debug, PartialEq, Eq)]
+pub enum Stop {
+    /// Its read or its write was refused.
+    Err(Errno),
+    /// The hub has stopped.
+    Full(Full),
+}

@@ -1,0 +1,23 @@
+//! Why a turn stopped, as a text.
+use crate::Stop;
+use std::error::Error;
+use std::fmt;
+
+impl fmt::Display for Stop {
+    fn fmt<W: fmt::Write>(&self, f: &mut fmt::Formatter<W>) -> fmt::Result {
+        match self {
+            Stop::Err(errno) => {
+                let number = errno.number();
+                write!(f, "error {number}")
+            }
+            Stop::Full(full) => {
+                let events = full.events;
+                let bytes = full.bytes;
+                let charge = full.charge;
+                write!(f, "journal full {events} {bytes} {charge}")
+            }
+        }
+    }
+}
+
+impl Error for Stop {}

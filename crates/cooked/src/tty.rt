@@ -1,0 +1,161 @@
+ghost use Rattle.std.specs.Prelude.{◌≡◌, ◌≤◌, [], ℕ, false, None, IfOk, OnErr};
+ghost use Rattle.cooked.specs.Cooked.{typing};
+ghost use Rattle.cooked.specs.Termios.{IsValid};
+ghost use Rattle.cooked.specs.Turn.{ReadAnswer, ReadResult, Reads, Turns, Writes, stop_of};
+ghost use Rattle.vt_events.specs.declared.event.Event.TheVariants as event;
+ghost use Rattle.vt_hub.specs.Histories.{awaits};
+ghost use Rattle.vt_world.specs.Spare.{Fits};
+
+use crate::cooked_line::Cooked;
+use crate::echo_bytes::EchoBytes;
+use crate::given::Given;
+use crate::stop::Stop;
+use crate::termios::Termios;
+use crate::turn::Turn;
+use std::alloc::Global;
+use std::marker::Model;
+use std::sync::Wait;
+use vt_base::{Bytes, NoMemory, Size};
+use vt_events::{Event, Reply};
+use vt_hub::{Answer, Hub, Opening, Pass};
+use vt_world::{Spare, spare_for};
+
+/// The most bytes that one byte echoes.
+const ECHO_BYTES: usize = 8;
+
+/// A line discipline of a process, over a descriptor of its. Contracts see what [`Cooked`] sees.
+#[derive(Debug, Drop)]
+pub struct Tty {
+    cooked: Cooked,
+}
+
+impl Model for Tty {
+    ghost use Rattle.cooked.specs.Cooked.{Typing};
+
+    ghost Value = { Typing };
+
+    ghost view = { λ t. t.cooked };
+}
+
+impl Tty {
+    /// Nothing typed yet. All its memory is taken here.
+    pub fn start(alloc: Global, t: Termios) -> Result<Tty, NoMemory>
+        requires { IsValid t }
+        ensures { IfOk result (λ tty. tty ≡ typing t [] []) }
+    {
+        let cooked = Cooked::start(alloc, t)?;
+        Ok(Tty { cooked })
+    }
+
+    /// What was typed.
+    pub fn cooked(&self) -> &Cooked
+        ensures { result.now ≡ self.now }
+    {
+        &self.cooked
+    }
+
+    /// Reads one byte, types it, and writes its echo. The memory is taken before any call.
+    pub fn turn<J: Opening, R: Wait>(
+        &mut self,
+        rt: &R,
+        alloc: Global,
+        hub: &Hub<J>,
+        pass: &mut Pass<J>,
+        fd: u16,
+    ) -> Result<Turn, NoMemory>
+        requires own { pass.old.hub ≡ hub.now }
+        requires free { pass.old.stop ≡ None → awaits pass.old.mine ≡ false }
+        ensures ok { IfOk result (λ turn. Turns J.start fd self.old self.new turn pass.old pass.new) }
+        ensures err { OnErr result ((self.new ≡ self.old) × (pass.new ≡ pass.old)) }
+    {
+        let spare = read_spare(alloc, fd)?;
+        let room = Bytes::with_room(alloc, ECHO_BYTES)?;
+        match read_byte(rt, hub, pass, fd, spare) {
+            Ok(b) => {
+                let mut echo = EchoBytes::new();
+                let given = self.cooked.push(b, &mut echo);
+                let stop = write_echo(rt, alloc, hub, pass, fd, &echo, room);
+                Ok(Turn { given, stop })
+            }
+            Err(stop) => Ok(Turn {
+                given: Given::Nothing,
+                stop: Some(stop),
+            }),
+        }
+    }
+}
+
+fn read_spare(alloc: Global, fd: u16) -> Result<Spare, NoMemory>
+    ensures { IfOk result (λ spare. (rows cols : ℕ) → Fits rows cols (event.ReadIn fd 1) spare) }
+{
+    Ok(spare_for(alloc, &Event::ReadIn(fd, 1), Size { rows: 1, cols: 1 })?)
+}
+
+// Reads one byte.
+fn read_byte<J: Opening, R: Wait>(
+    rt: &R,
+    hub: &Hub<J>,
+    pass: &mut Pass<J>,
+    fd: u16,
+    spare: Spare,
+) -> Result<u8, Stop>
+    requires own { pass.old.hub ≡ hub.now }
+    requires free { pass.old.stop ≡ None → awaits pass.old.mine ≡ false }
+    requires fits { (rows cols : ℕ) → Fits rows cols (event.ReadIn fd 1) spare }
+    ensures { Reads J.start fd pass.old pass.new result }
+{
+    match hub.call(rt, pass, Event::ReadIn(fd, 1), spare) {
+        Answer::Done { at: _, reply } => byte_of(reply),
+        Answer::Full(full) => Err(Stop::Full(full)),
+    }
+}
+
+// The byte that a read of one was answered.
+fn byte_of(reply: Reply) -> Result<u8, Stop>
+    requires { ReadAnswer 1 reply }
+    ensures { ReadResult reply result }
+{
+    match reply {
+        Reply::Text(b) => Ok(b.as_slice()[0]),
+        Reply::Err(errno) => Err(Stop::Err(errno)),
+        _ => unreachable!(),
+    }
+}
+
+// Writes the echo, unless it is empty, and says what stopped that.
+fn write_echo<J: Opening, R: Wait>(
+    rt: &R,
+    alloc: Global,
+    hub: &Hub<J>,
+    pass: &mut Pass<J>,
+    fd: u16,
+    echo: &EchoBytes,
+    room: Bytes,
+) -> Option<Stop>
+    requires own { pass.old.hub ≡ hub.now }
+    requires met { pass.old.stop ≡ None }
+    requires free { awaits pass.old.mine ≡ false }
+    requires empty { room.bytes ≡ [] }
+    requires room { 8 ≤ room.room }
+    ensures { Writes J.start fd echo.now pass.old pass.new result }
+{
+    let bytes = echo.as_slice();
+    if bytes.is_empty() {
+        return None;
+    }
+    let mut room = room;
+    room.append(bytes);
+    match hub.call(rt, pass, Event::Write(fd, room), Spare::none(alloc)) {
+        Answer::Done { at: _, reply } => stop_of(&reply),
+        Answer::Full(full) => Some(Stop::Full(full)),
+    }
+}
+
+fn stop_of(reply: &Reply) -> Option<Stop>
+    ensures { result ≡ stop_of reply.now }
+{
+    match reply {
+        Reply::Err(errno) => Some(Stop::Err(*errno)),
+        _ => None,
+    }
+}

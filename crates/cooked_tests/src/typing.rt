@@ -1,0 +1,241 @@
+//! A shared console: one thread types on its keyboard, and a process in another reads a line by turns.
+ghost use Rattle.std.specs.Prelude.{◌≡◌, false, None, IfOk};
+ghost use Rattle.cooked_tests.specs.Ready.{IsReady, is_told_to_wait};
+ghost use Rattle.session_order.specs.Sessions.{start_of};
+ghost use Rattle.vt_hub.specs.Histories.{awaits};
+ghost use Rattle.vt_world.specs.Refusals.{ends_wait};
+
+use cooked::{Given, Stop, Termios, Tty};
+use session_text::{Session, read};
+use std::alloc::Global;
+use std::marker::Brand;
+use std::process::Abort;
+use std::sync::Wait;
+use std::test::Fail;
+use std::thread;
+use std::thread::Threads;
+use vt_base::{CallerNo, Errno, NoMemory, Size};
+use vt_events::{Event, Reply};
+use vt_hub::{Answer, Hub, Opening, Pass, Run, Steward};
+use vt_world::{Spare, World, nobody_waits_at_start, spare_for};
+
+const SESSION: &str = "rows = 2
+cols = 10
+consoles = [1]
+keymap = '''
+keymaps 0
+keycode 14 = Delete
+keycode 28 = Return
+keycode 30 = a
+keycode 48 = b
+'''
+[[process]]
+home = 1
+script = []
+";
+
+// `a`, `b`, an erase and Return, each pressed and released.
+const SCANS: [u8; 8] = [0x1E, 0x9E, 0x30, 0xB0, 0x0E, 0x8E, 0x1C, 0x9C];
+
+fn was_wait(answer: &Answer) -> bool
+    ensures { result ≡ is_told_to_wait answer.now }
+{
+    match answer {
+        Answer::Done {
+            reply: Reply::Wait,
+            ..
+        } => true,
+        _ => false,
+    }
+}
+
+// Makes a call that isn't WaitEnd, and says whether it was answered "wait".
+#[tactic(auto, using(crate::proofs::Ready::ready_after))]
+fn make<J: Opening, R: Wait>(
+    rt: &R,
+    alloc: Global,
+    hub: &Hub<J>,
+    pass: &mut Pass<J>,
+    size: Size,
+    event: Event,
+) -> Result<bool, NoMemory>
+    requires ready { IsReady hub.now false pass.old }
+    requires call { ends_wait event ≡ false }
+    requires size { (size.rows ≡ J.start.rows) × (size.cols ≡ J.start.cols) }
+    ensures { IfOk result (λ waits. IsReady hub.now waits pass.new) }
+{
+    let spare = spare_for(alloc, &event, size)?;
+    let answer = hub.call(rt, pass, event, spare);
+    Ok(was_wait(&answer))
+}
+
+// Types all keys.
+fn press<J: Opening, R: Wait>(
+    rt: &R,
+    alloc: Global,
+    hub: &Hub<J>,
+    pass: Pass<J>,
+    size: Size,
+) -> Result<Pass<J>, NoMemory>
+    requires ready { IsReady hub.now false pass }
+    requires size { (size.rows ≡ J.start.rows) × (size.cols ≡ J.start.cols) }
+    ensures { IfOk result (λ pass. pass.hub ≡ hub.now) }
+{
+    let mut pass = pass;
+    for b in SCANS {
+        if make(rt, alloc, hub, &mut pass, size, Event::Scan(b))? {
+            return Ok(pass);
+        }
+    }
+    Ok(pass)
+}
+
+// A process with its discipline, and whether it was given a line.
+#[derive(Drop)]
+struct Reader<J: Opening> {
+    pass: Pass<J>,
+    tty: Tty,
+    found: bool,
+}
+
+// Nothing stopped the turn but that nothing was typed.
+fn may_go_on(stop: Option<Stop>) -> bool {
+    match stop {
+        None => true,
+        Some(stop) => stop == Stop::Err(Errno::Again),
+    }
+}
+
+// Turns until a line is given.
+#[tactic(auto, using(crate::proofs::Ready::ready_turned))]
+fn read_line<J: Opening, R: Wait>(
+    rt: &R,
+    alloc: Global,
+    hub: &Hub<J>,
+    reader: Reader<J>,
+    size: Size,
+) -> Result<Reader<J>, NoMemory>
+    requires ready { IsReady hub.now false reader.pass }
+    requires size { (size.rows ≡ J.start.rows) × (size.cols ≡ J.start.cols) }
+    ensures { IfOk result (λ reader. reader.pass.hub ≡ hub.now) }
+{
+    let Reader {
+        mut pass,
+        mut tty,
+        ..
+    } = reader;
+    if make(rt, alloc, hub, &mut pass, size, Event::OpenCon(1))? {
+        return Ok(Reader {
+            pass,
+            tty,
+            found: false,
+        });
+    }
+    for _ in 0..1_000_000 {
+        let turn = tty.turn(rt, alloc, hub, &mut pass, 0)?;
+        let found = turn.given == Given::Line;
+        if found || !may_go_on(turn.stop) {
+            return Ok(Reader { pass, tty, found });
+        }
+        thread::yield_now();
+    }
+    Ok(Reader {
+        pass,
+        tty,
+        found: false,
+    })
+}
+
+// A new pass of this caller.
+fn split<J: Opening>(hub: &Hub<J>, steward: &mut Steward<J>, c: u16) -> Result<Pass<J>, Fail>
+    requires { steward.old.hub ≡ hub.now }
+    ensures steward { steward.new.hub ≡ hub.now }
+    ensures pass { IfOk result (λ pass. IsReady hub.now false pass) }
+{
+    let c = CallerNo::new(c).ok_or("no caller")?;
+    if steward.made(c) {
+        return Err("made twice".into());
+    }
+    Ok(hub.split(steward, c))
+}
+
+// Whether a line was given, the discipline, and the run.
+#[derive(Drop)]
+struct Outcome {
+    found: bool,
+    tty: Tty,
+    run: Run,
+}
+
+fn type_beside<J: Opening + Send + Sync, R: Threads + Wait + Sync>(
+    rt: &R,
+    alloc: Global,
+    s: &Session,
+    world: World,
+    tty: Tty,
+) -> Result<Outcome, Fail>
+    requires world { world ≡ start_of s.now }
+    requires start { J.start ≡ start_of s.now }
+    requires limits { J.limits ≡ s.now.limits }
+{
+    nobody_waits_at_start();
+    let size = s.config().size;
+    let (hub, mut steward) = Hub::<J>::open(alloc, world, s.limits())?;
+    let keyboard = split(&hub, &mut steward, 0)?;
+    let pass = split(&hub, &mut steward, 1)?;
+    let reader = Reader {
+        pass,
+        tty,
+        found: false,
+    };
+    let (keyboard, reader) = thread::join(
+        rt,
+        || -> Result<Pass<J>, NoMemory>
+            requires { IsReady hub false keyboard
+                × (size.rows ≡ J.start.rows) × (size.cols ≡ J.start.cols) }
+            ensures { IfOk result (λ pass. pass.hub ≡ hub) }
+        { press(rt, alloc, &hub, keyboard, size) },
+        || -> Result<Reader<J>, NoMemory>
+            requires { IsReady hub false reader.pass
+                × (size.rows ≡ J.start.rows) × (size.cols ≡ J.start.cols) }
+            ensures { IfOk result (λ reader. reader.pass.hub ≡ hub) }
+        { read_line(rt, alloc, &hub, reader, size) },
+    );
+    let keyboard = keyboard?;
+    let Reader { pass, tty, found } = reader?;
+    hub.join(&mut steward, keyboard);
+    hub.join(&mut steward, pass);
+    if steward.out() != 0 {
+        return Err("a pass is out".into());
+    }
+    let run = hub.close(steward);
+    Ok(Outcome { found, tty, run })
+}
+
+fn type_session<R: Threads + Wait + Sync>(
+    rt: &R,
+    alloc: Global,
+    s: &Session,
+    tty: Tty,
+) -> Result<Outcome, Fail> {
+    let world = World::start(alloc, s.config(), s.key_tables())?;
+    type_beside::<Brand, R>(rt, alloc, s, world, tty)
+}
+
+#[test]
+fn a_line_is_read_by_turns(rt: HostRuntime) -> Result<(), Fail> {
+    let session = read(rt.alloc(), SESSION.as_bytes())?;
+    let t = Termios::usual();
+    if !t.valid() {
+        return Err("no settings".into());
+    }
+    let tty = Tty::start(rt.alloc(), t)?;
+    let outcome = type_session(&rt, rt.alloc(), &session, tty)?;
+    assert!(rt; outcome.found, "a line was given");
+    assert!(rt;
+        outcome.tty.cooked().line() == b"a\n".as_slice(),
+        "the line"
+    );
+    assert!(rt; outcome.run.stop.is_none(), "there was room");
+    Ok(())
+}
