@@ -1,0 +1,5 @@
+//! Tests of reviews: what ears are told of a journal.
+#![tactic(auto)]
+
+#[cfg(test)]
+mod tests;

@@ -1,0 +1,105 @@
+-- What is known after a history: an item for each hop.
+use Rattle.std.proofs.Common.{◌≡◌, ◌≤◌, ⊎_elim, ℕ, ◌+◌, cond, List, [], ◌∷◌, ◌++◌, length, take, map, flat_map, Some, refl, sym, ap, subst, ◌∙◌, arith, append-nil, length-append}
+use Rattle.std.specs.Prelude.{◌==◌, count_by, slice_get}
+use Rattle.vt_explain.proofs.Places.{at_either, count_more, get_last, get_left, take_left, take_seam}
+use Rattle.vt_explain.specs.Finding.{hear_all, is_at, item_of, known}
+use Rattle.vt_explain.specs.Hops.{TimedHop, at_time, is_in, timed_hops}
+use Rattle.vt_explain.specs.declared.hop_why.HopWhy.{HopWhy}
+use Rattle.vt_switch.specs.Moments.{Moment, hops, trace}
+use Rattle.vt_switch.specs.News.{News, Asking, Going, OneNewsIsTold, news}
+use Rattle.vt_switch.specs.declared.hop.Hop.{Hop}
+use Rattle.vt_switch.specs.declared.mark.Mark.{Mark}
+use Rattle.vt_switch.specs.declared.mark.Mark.TheVariants as mark
+
+-- the hops of what is told
+abbrev pub going : News → List Hop
+going (Asking ask) = []
+going (Going hop) = hop ∷ []
+
+request_hops : (n : ℕ) (told : List Mark) → hops told ≡ flat_map going (news told)
+    → hops told ≡ flat_map going (news (mark.Asked n ∷ told))
+request_hops n [] same = same
+request_hops n (mark.Asked m ∷ told) same = same
+request_hops n (mark.Raised p signal ∷ told) same = same
+request_hops n (mark.Hopped hop ∷ told) same = same
+request_hops n (mark.Ended p ∷ told) same = same
+
+hops_of_news : (told : List Mark) → hops told ≡ flat_map going (news told)
+hops_of_news [] = refl
+hops_of_news (mark.Asked n ∷ told) = request_hops n told (hops_of_news told)
+hops_of_news (mark.Raised p signal ∷ told) = hops_of_news told
+hops_of_news (mark.Hopped hop ∷ told) =
+    ap (λ (list : List Hop). hop ∷ list) (hops_of_news told)
+hops_of_news (mark.Ended p ∷ told) = hops_of_news told
+
+-- the item of a hop after these
+abbrev pub item : List TimedHop → TimedHop → HopWhy
+item before h =
+    item_of h.moment.entry (count_by (is_in h.moment.entry) before) h.hop (known h.earlier).last
+
+-- these are the items of these hops
+pub record Finds (timed : List TimedHop) (items : List HopWhy) : Type 0 where
+  pub many : length items ≡ length timed
+  pub counted : (n : ℕ) → count_by (is_at n) items ≡ count_by (is_in n) timed
+  pub each :
+      (k : ℕ) (h : TimedHop) → slice_get timed k ≡ Some h
+      → slice_get items k ≡ Some (item (take k timed) h)
+
+finds_one : (timed : List TimedHop) (items : List HopWhy) (h : TimedHop) → Finds timed items
+    → Finds (timed ++ h ∷ []) (items ++ item timed h ∷ [])
+finds_one timed items h finds = record {
+  many = omega (arith, finds.many, length-append items (item timed h ∷ []), length-append timed (h ∷ []));
+  counted = λ n.
+      count_more (is_at n) items (item timed h)
+      ∙ ap (λ count. count + cond (h.moment.entry == n) 1 0) (finds.counted n)
+      ∙ sym (count_more (is_in n) timed h);
+  each = λ k g is. ⊎_elim
+      (λ old.
+      get_left items (item timed h ∷ []) k (item (take k timed) g) (finds.each k g old)
+      ∙ ap (λ (before : List TimedHop). Some (item before g)) (sym (take_left timed h k g old)))
+      (λ new.
+      let place : k ≡ length items = omega (arith, new.0, finds.many) in
+      ap (λ n. slice_get (items ++ item timed h ∷ []) n) place
+      ∙ get_last items (item timed h)
+      ∙ ap (λ (before : List TimedHop). Some (item before h)) (sym (take_seam timed h))
+      ∙ (λ i. Some (item (take (sym new.0 i) (timed ++ h ∷ [])) (new.1 i))))
+      (at_either timed h k g is);
+}
+
+finds_told : (m : Moment) (earlier : List Moment) (told : List News) → length told ≤ 1
+    → Finds (timed_hops earlier) (known earlier).items
+    → Finds (timed_hops earlier ++ map (at_time earlier m) (flat_map going told))
+    (hear_all m.entry told (known earlier)).items
+finds_told m earlier [] few finds =
+    subst (λ (timed : List TimedHop). Finds timed (known earlier).items)
+    (sym (append-nil (timed_hops earlier))) finds
+finds_told m earlier (Asking ask ∷ []) few finds =
+    subst (λ (timed : List TimedHop). Finds timed (known earlier).items)
+    (sym (append-nil (timed_hops earlier))) finds
+finds_told m earlier (Going hop ∷ []) few finds =
+    let timed : List TimedHop = timed_hops earlier in
+    let h : TimedHop = at_time earlier m hop in
+    subst
+    (λ n.
+    Finds (timed ++ h ∷ [])
+    ((known earlier).items ++ item_of m.entry n hop (known earlier).last ∷ []))
+    (sym (finds.counted m.entry)) (finds_one timed (known earlier).items h finds)
+finds_told m earlier (one ∷ (other ∷ told)) few finds =
+    absurd (let no : ⊥ = omega (arith, few) in no)
+
+-- of every history the items of its hops are known
+pub finds_all : OneNewsIsTold → (h : List Moment) → Finds (timed_hops h) (known h).items
+finds_all law [] = record {
+  many = refl;
+  counted = λ n. refl;
+  each = λ k h is. absurd (nothing k h is);
+}
+  where
+    nothing : (k : ℕ) (h : TimedHop) → slice_get {X = TimedHop} [] k ≡ Some h → ⊥
+    nothing k h is = cc
+finds_all law (m ∷ earlier) =
+    subst
+    (λ (list : List Hop).
+    Finds (timed_hops earlier ++ map (at_time earlier m) list) (known (m ∷ earlier)).items)
+    (sym (hops_of_news (trace m)))
+    (finds_told m earlier (news (trace m)) (law m.before m.act) (finds_all law earlier))

@@ -1,0 +1,11 @@
+mod Answered
+mod Causes
+mod Certified
+mod Certs
+mod Clear
+mod Cuts
+mod Items
+mod Knowing
+mod Listening
+mod Places
+mod Printed

@@ -1,0 +1,6 @@
+pub mod Accepting
+pub mod CertText
+pub mod Certificates
+pub mod Finding
+pub mod Hops
+pub mod Reading

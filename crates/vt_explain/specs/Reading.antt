@@ -1,0 +1,21 @@
+-- What the reading of a certificate's text returns. This project's own.
+use Rattle.std.specs.Prelude.{◌≡◌, ⊤, ℕ, List, Result, Ok, Err}
+use Rattle.std.specs.declared.vec.Vec.{Vec}
+use Rattle.vt_explain.specs.declared.cert_error.CertError.{CertError}
+use Rattle.vt_explain.specs.declared.cert_error.CertError.TheVariants as errors
+use Rattle.vt_explain.specs.declared.hop_why.HopWhy.{HopWhy}
+
+-- the fault is what is said, unless memory ran out
+abbrev pub IsSaid : CertError → (Result (List HopWhy) ℕ → Type 0) → Type 0
+IsSaid (errors.Fault line) says = says (Err line)
+IsSaid errors.NoMemory says = ⊤
+
+-- what a call returned is what is said, unless memory ran out
+abbrev pub Reads : {A : Type 0} → Result (Vec HopWhy A) CertError → (Result (List HopWhy) ℕ → Type 0) → Type 0
+Reads (Ok c) says = says (Ok c.items)
+Reads (Err e) says = IsSaid e says
+
+-- the error names that line, unless memory ran out
+abbrev pub IsFaultAt : ℕ → CertError → Type 0
+IsFaultAt line (errors.Fault at) = at ≡ line
+IsFaultAt line errors.NoMemory = ⊤

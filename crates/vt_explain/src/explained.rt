@@ -1,0 +1,15 @@
+use crate::HopWhy;
+
+/// Why the display changed hands in a journal (docs/EXPLAIN.md). This project's own.
+#[derive(Debug, Drop)]
+pub enum Explained {
+    /// The journal is legal: the certificate of its hops.
+    Cert(Vec<HopWhy>),
+    /// It isn't.
+    Illegal {
+        /// The first entry that fails, as the verdict says it.
+        index: u32,
+        /// The number of the first reason there.
+        why: u8,
+    },
+}

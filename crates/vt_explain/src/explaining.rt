@@ -1,0 +1,92 @@
+//! The certificate of a journal, found and judged.
+ghost use Rattle.std.specs.Prelude.{◌≡◌, ◌≤◌, ℕ, List, Some, IfOk, slice_get};
+ghost use Rattle.session_order.specs.Sessions.{setup_of, start_of};
+ghost use Rattle.vt_check.specs.Verdicts.{Judges};
+ghost use Rattle.vt_check.specs.declared.verdict.Verdict.{Verdict};
+ghost use Rattle.vt_explain.specs.Accepting.{Accepts, IfCert, verdict_of};
+ghost use Rattle.vt_explain.specs.Certificates.{Good, IsCertificate};
+ghost use Rattle.vt_explain.specs.declared.hop_why.HopWhy.{HopWhy};
+ghost use Rattle.vt_explain.specs.declared.judged.Judged.{Judged};
+ghost use Rattle.vt_explain.specs.declared.judged.Judged.TheVariants as judged;
+ghost use Rattle.vt_switch.specs.Law.{IsLawful};
+ghost use Rattle.vt_world.specs.Laws.{moments};
+
+use crate::comparing::compare;
+use crate::entries::read_all;
+use crate::laws::{certificates_explain, one_acceptance};
+use crate::reader::Reader;
+use crate::{Explained, HopWhy, Judged};
+use session_text::Session;
+use std::alloc::Global;
+use vt_base::NoMemory;
+use vt_check::{Verdict, check};
+use vt_journal::Journal;
+use vt_switch::acts_tell_one_thing;
+use vt_world::{World, displays_are_lawful};
+
+/// Why the display changed hands in the journal, hop by hop, where it is legal: the one certificate of
+/// its hops.
+pub fn explain(alloc: Global, s: &Session, j: &Journal) -> Result<Explained, NoMemory>
+    ensures judges { IfOk result
+        (λ x. Judges (setup_of s.now) j.now.entries j.now.tail (verdict_of x)) }
+    ensures verdict { IfOk result (λ x. (v : Verdict)
+        → Judges (setup_of s.now) j.now.entries j.now.tail v → v ≡ verdict_of x) }
+    ensures cert { IfOk result
+        (λ x. IfCert x (IsCertificate (moments (start_of s.now) j.now.entries))) }
+    ensures only { IfOk result (λ x. IfCert x (λ c. (other : List HopWhy)
+        → IsCertificate (moments (start_of s.now) j.now.entries) other → other ≡ c)) }
+{
+    certificates_explain();
+    let verdict = check(alloc, s, j)?;
+    match verdict {
+        Verdict::Legal => {
+            let reader = read_session(alloc, s, j)?;
+            Ok(Explained::Cert(reader.into_items()))
+        }
+        Verdict::Illegal { index, why } => Ok(Explained::Illegal { index, why }),
+    }
+}
+
+/// Whether the items are the certificate of the journal, where that is legal. It finds the certificate
+/// anew, and trusts no item.
+pub fn accept(alloc: Global, s: &Session, j: &Journal, c: &[HopWhy]) -> Result<Judged, NoMemory>
+    ensures accepts { IfOk result
+        (Accepts (setup_of s.now) j.now.entries j.now.tail c.now) }
+    ensures one { IfOk result (λ r. (other : Judged)
+        → Accepts (setup_of s.now) j.now.entries j.now.tail c.now other → other ≡ r) }
+    ensures lawful { IfOk result (λ r. r ≡ judged.Yes
+        → IsLawful (moments (start_of s.now) j.now.entries)) }
+{
+    certificates_explain();
+    one_acceptance();
+    let judged = judge_items(alloc, s, j, c)?;
+    Ok(judged)
+}
+
+fn judge_items(alloc: Global, s: &Session, j: &Journal, c: &[HopWhy]) -> Result<Judged, NoMemory>
+    ensures { IfOk result (Accepts (setup_of s.now) j.now.entries j.now.tail c.now) }
+{
+    let verdict = check(alloc, s, j)?;
+    match verdict {
+        Verdict::Legal => {
+            let reader = read_session(alloc, s, j)?;
+            let judged = compare(reader.items(), c)?;
+            Ok(judged)
+        }
+        Verdict::Illegal { index, why } => Ok(Judged::Illegal { index, why }),
+    }
+}
+
+// Reads the journal's entries, from the console that the session begins with.
+fn read_session(alloc: Global, s: &Session, j: &Journal) -> Result<Reader, NoMemory>
+    ensures cert { IfOk result
+        (λ r. IsCertificate (moments (start_of s.now) j.now.entries) r.items) }
+    ensures good { IfOk result (λ r. (k : ℕ) (w : HopWhy)
+        → Good (moments (start_of s.now) j.now.entries) k w → slice_get r.items k ≡ Some w) }
+{
+    acts_tell_one_thing();
+    displays_are_lawful();
+    let world = World::start(alloc, s.config(), s.key_tables())?;
+    let reader = read_all(alloc, world, j.entries.as_slice())?;
+    Ok(reader)
+}

@@ -1,0 +1,14 @@
+use crate::HopCause;
+use vt_base::ConsoleNo;
+
+/// An item of a certificate: a hop with its cause.
+#[derive(Clone, Copy, Debug, PartialEq, Eq)]
+pub struct HopWhy {
+    /// The index of the entry that made the hop.
+    pub at: u32,
+    /// How many hops that entry made before.
+    pub nth: u32,
+    pub from: ConsoleNo,
+    pub to: ConsoleNo,
+    pub cause: HopCause,
+}

@@ -1,0 +1,31 @@
+//! The laws of certificates.
+ghost use Rattle.vt_explain.specs.Accepting.{OneAcceptance};
+ghost use Rattle.vt_explain.specs.CertText.{OneCert, PrintedIsRead, ReadIsPrinted};
+ghost use Rattle.vt_explain.specs.Certificates.{CertificatesAreGood, CertificatesExplain, OneCertificate, OneFirstBad};
+
+use vt_check::one_verdict;
+use vt_switch::acts_tell_one_thing;
+
+/// A certificate proves the display law of its history, and is the only one.
+pub fn certificates_explain()
+    ensures explain { CertificatesExplain }
+    ensures one { OneCertificate }
+    ensures bad { OneFirstBad }
+    ensures apart { CertificatesAreGood }
+{
+    acts_tell_one_thing();
+}
+
+/// There is one answer on a list of items.
+pub fn one_acceptance()
+    ensures { OneAcceptance }
+{
+    one_verdict();
+}
+
+/// A text says one thing as a certificate; what is printed is read again, and nothing else is.
+pub fn one_cert()
+    ensures one { OneCert }
+    ensures printed { PrintedIsRead }
+    ensures read { ReadIsPrinted }
+{}

@@ -1,0 +1,96 @@
+//! The text of a certificate.
+ghost use Rattle.std.specs.Prelude.{◌≡◌, ◌++◌, decimal, IfOk, OnErr, OnOk};
+ghost use Rattle.std.specs.List.{All};
+ghost use Rattle.vt_explain.specs.CertText.{IsFit, IsFitAsk, IsFitCause, asked_words, cause_words, cert_text, item_words};
+ghost use Rattle.vt_journal.specs.Journal.{line_text};
+ghost use Rattle.vt_journal.specs.Text.{spaced};
+
+use crate::{HopCause, HopWhy};
+use itoa::Buffer;
+use std::alloc::Global;
+use vt_base::{Bytes, CallerNo, NoMemory, Signal};
+use vt_journal::{add, add_next};
+
+/// The certificate's text (docs/EXPLAIN.md). What is printed is fit to be read again.
+pub fn print_cert(alloc: Global, c: &[HopWhy]) -> Result<Bytes, NoMemory>
+    ensures text { IfOk result (λ text. text.bytes ≡ cert_text c.now) }
+    ensures fit { OnOk result (All IsFit c.now) }
+{
+    let mut text = Bytes::new(alloc);
+    add(alloc, &mut text, b"%explain")?;
+    add_next(alloc, &mut text, c.len() as u64)?;
+    add(alloc, &mut text, b"\n")?;
+    for w in c {
+        add_item(alloc, &mut text, w)?;
+    }
+    Ok(text)
+}
+
+// Adds the line of an item.
+fn add_item(alloc: Global, text: &mut Bytes, w: &HopWhy) -> Result<(), NoMemory>
+    ensures ok { OnOk result (text.new.bytes ≡ text.old.bytes ++ line_text (item_words w.now)) }
+    ensures fit { OnOk result (IsFit w.now) }
+{
+    add_number(alloc, text, w.at)?;
+    add_next(alloc, text, u64::from(w.nth))?;
+    add_next(alloc, text, u64::from(w.from.get()))?;
+    add_next(alloc, text, u64::from(w.to.get()))?;
+    add_cause(alloc, text, &w.cause)?;
+    add(alloc, text, b"\n")?;
+    Ok(())
+}
+
+// Adds the number.
+fn add_number(alloc: Global, text: &mut Bytes, n: u32) -> Result<(), NoMemory>
+    ensures ok { OnOk result (text.new.bytes ≡ text.old.bytes ++ decimal n) }
+    ensures err { OnErr result (text.new.bytes ≡ text.old.bytes) }
+{
+    let mut buffer = Buffer::new();
+    add(alloc, text, buffer.format(n).as_bytes())
+}
+
+// Adds the words of a cause, each after a blank.
+fn add_cause(alloc: Global, text: &mut Bytes, cause: &HopCause) -> Result<(), NoMemory>
+    ensures ok { OnOk result (text.new.bytes ≡ text.old.bytes ++ spaced (cause_words cause.now)) }
+    ensures fit { OnOk result (IsFitCause cause.now) }
+{
+    match cause {
+        HopCause::Free => add(alloc, text, b" free"),
+        HopCause::Released {
+            owner,
+            asked,
+            signal,
+        } => {
+            add(alloc, text, b" released")?;
+            add_ask(alloc, text, *owner, *asked, *signal)
+        }
+        HopCause::Died {
+            owner,
+            asked,
+            signal,
+        } => {
+            add(alloc, text, b" died")?;
+            add_ask(alloc, text, *owner, *asked, *signal)
+        }
+    }
+}
+
+// Adds the owner, the entry that asked it, and the signal.
+fn add_ask(
+    alloc: Global,
+    text: &mut Bytes,
+    owner: CallerNo,
+    asked: u32,
+    signal: Signal,
+) -> Result<(), NoMemory>
+    ensures ok { OnOk result
+        (text.new.bytes ≡ text.old.bytes ++ spaced (asked_words owner asked signal)) }
+    ensures fit { IsFitAsk owner asked signal }
+{
+    add_next(alloc, text, u64::from(owner.get()))?;
+    add(alloc, text, b" asked")?;
+    add_next(alloc, text, u64::from(asked))?;
+    add(alloc, text, b" signal")?;
+    add_next(alloc, text, u64::from(signal.get()))?;
+    Ok(())
+}

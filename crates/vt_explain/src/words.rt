@@ -1,0 +1,65 @@
+ghost use Rattle.std.specs.Bool.{OnFalse, OnTrue};
+ghost use Rattle.std.specs.Prelude.{◌≡◌, ◌≢◌, ◌==◌, ℕ, List, [], ◌∷◌, MatchOption, position};
+ghost use Rattle.vt_journal.specs.Cut.{cut};
+
+use std::marker::Model;
+
+/// The words of a line that are still to be read: it is cut at each blank.
+#[derive(Drop)]
+pub(crate) struct Words<'a> {
+    rest: Option<&'a [u8]>,
+}
+
+impl<'a> Model for Words<'a> {
+    ghost use Rattle.std.specs.Prelude.{ℕ, List};
+    ghost use Rattle.vt_journal.specs.Cut.{cut_of};
+
+    ghost Value = { List (List ℕ) };
+
+    ghost view = { λ words. cut_of words.rest };
+}
+
+impl<'a> Words<'a> {
+    /// All words of the line.
+    pub(crate) fn of(line: &'a [u8]) -> Words<'a>
+        ensures { result ≡ cut line.now }
+    {
+        Words { rest: Some(line) }
+    }
+
+    /// The next word, where there is one.
+    pub(crate) fn next(&mut self) -> Option<&'a [u8]>
+        ensures { MatchOption result ((self.old ≡ []) × (self.new ≡ []))
+            (λ word. self.old ≡ word.now ∷ self.new) }
+    {
+        let rest = self.rest?;
+        match first_blank(rest) {
+            Some(i) => {
+                self.rest = Some(&rest[i + 1..]);
+                Some(&rest[..i])
+            }
+            None => {
+                self.rest = None;
+                Some(rest)
+            }
+        }
+    }
+}
+
+/// Whether the next word is this one.
+pub(crate) fn take_word(words: &mut Words, word: &[u8]) -> bool
+    ensures found { OnTrue result (words.old ≡ word.now ∷ words.new) }
+    ensures none { OnFalse result ((rest : List (List ℕ)) → words.old ≢ word.now ∷ rest) }
+{
+    match words.next() {
+        Some(next) => next == word,
+        None => false,
+    }
+}
+
+// Where the first blank is.
+fn first_blank(text: &[u8]) -> Option<usize>
+    ensures { result ≡ position (λ b. b == 0x20) text.now }
+{
+    text.iter().position(|&b| b == b' ')
+}

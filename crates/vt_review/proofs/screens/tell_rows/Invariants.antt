@@ -1,0 +1,16 @@
+use Rattle.std.proofs.Common.{◌≡◌, ◌++◌, drop, flat_map, map}
+use Rattle.std.specs.Prelude.{option_copied}
+use Rattle.vt_dump.specs.Rows.{row_text}
+use Rattle.vt_review.specs.Announcements.{new_rows}
+use Rattle.vt_review.specs.Lines.{ear_lines}
+use Rattle.vt_review.specs.Screens.{texts_of}
+use Rattle.vt_review.proofs.screens.tell_rows.Given as goal
+
+abbrev pub invariant-loop-y : goal.invariant-loop-y
+invariant-loop-y g l =
+    l.text.bytes
+    ++ flat_map (ear_lines 0 l.e l.ears)
+    (new_rows l.console (texts_of (option_copied l.before)) l.y (map row_text (drop l.y l.after.cells)))
+    ≡ l.fn.text.bytes
+    ++ flat_map (ear_lines 0 l.e l.ears)
+    (new_rows l.console (texts_of (option_copied l.before)) 0 (map row_text l.after.cells))

@@ -1,0 +1,6 @@
+pub mod Announcements
+pub mod Ears
+pub mod Lines
+pub mod Reviews
+pub mod Screens
+pub mod Seen

@@ -1,0 +1,33 @@
+-- The lines of a review. This project's own: docs/REVIEW.md.
+use Rattle.std.specs.Prelude.{ℕ, ◌+◌, ◌==◌, List, [], ◌∷◌, ◌++◌, codes, decimal, if◌then◌else◌}
+use Rattle.vt_journal.specs.Text.{spaced}
+use Rattle.vt_review.specs.Ears.{says}
+use Rattle.vt_review.specs.declared.ear_table.EarTable.{EarTable}
+use Rattle.vt_review.specs.declared.notice.Notice.{Notice}
+
+-- what is told: a notice, and how its line ends behind the console's number
+pub record Told : Type 0 where
+  pub notice : Notice
+  pub end : List ℕ
+
+abbrev pub told : ℕ → ℕ → List ℕ → Told
+told kind console end = record {
+  notice = record { kind = kind; console = console };
+  end = end;
+}
+
+abbrev pub kind_word : ℕ → List ℕ
+kind_word kind =
+    if kind == 0 then codes "display" else if kind == 1 then codes "bell" else codes "row"
+
+-- the line of the ear at place a, for entry e
+abbrev pub ear_line : ℕ → ℕ → Told → List ℕ
+ear_line a e t =
+    decimal a
+    ++ (spaced (decimal e ∷ kind_word t.notice.kind ∷ decimal t.notice.console ∷ []) ++ t.end)
+
+-- of the ears from place a on, whose tables are these, each that hears the notice has a line
+abbrev pub ear_lines : ℕ → ℕ → List EarTable → Told → List ℕ
+ear_lines a e [] t = []
+ear_lines a e (table ∷ tables) t =
+    (if says table t.notice then ear_line a e t else []) ++ ear_lines (a + 1) e tables t

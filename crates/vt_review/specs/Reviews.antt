@@ -1,0 +1,22 @@
+-- What a review of a journal gives. This project's own.
+use Rattle.std.specs.Prelude.{◌≡◌, ⊤, List}
+use Rattle.session_order.specs.Sessions.{start_of}
+use Rattle.session_text.specs.Sessions.{SessionView}
+use Rattle.vt_check.specs.declared.verdict.Verdict.{Verdict}
+use Rattle.vt_check.specs.declared.verdict.Verdict.TheVariants as verdict
+use Rattle.vt_journal.specs.declared.journal.Journal.{Journal}
+use Rattle.vt_review.specs.Announcements.{review_text}
+use Rattle.vt_review.specs.declared.ear_table.EarTable.{EarTable}
+use Rattle.vt_review.specs.declared.reviewed.Reviewed.{Reviewed}
+use Rattle.vt_review.specs.declared.reviewed.Reviewed.TheVariants as reviewed
+
+-- the verdict that it stands on
+abbrev pub verdict_of : Reviewed → Verdict
+verdict_of (reviewed.Text text) = verdict.Legal
+verdict_of (reviewed.Illegal index why) = verdict.Illegal index why
+
+-- a text is what these ears are told of the session's history
+abbrev pub TellsHistory : SessionView → Journal → List EarTable → Reviewed → Type 0
+TellsHistory s j tables (reviewed.Text text) =
+    text.bytes ≡ review_text tables 0 (start_of s) j.entries
+TellsHistory s j tables (reviewed.Illegal index why) = ⊤

@@ -1,0 +1,21 @@
+//! The review of a journal: what stored listeners are told of its switches, bells and new rows.
+#![tactic(auto)]
+
+mod ear;
+mod ear_table;
+mod lines;
+mod listener;
+mod notice;
+mod notices;
+mod reviewed;
+mod reviewer;
+mod reviewing;
+mod screens;
+mod touching;
+
+pub use ear::Ear;
+pub use ear_table::EarTable;
+pub use listener::Listener;
+pub use notice::Notice;
+pub use reviewed::Reviewed;
+pub use reviewing::review;

@@ -1,0 +1,83 @@
+//! What an entry tells of switches, and of one console's bell and rows.
+ghost use Rattle.std.specs.Prelude.{◌≡◌, [], ◌∷◌, ◌++◌, OnOk, map, nat_lt, if◌then◌else◌};
+ghost use Rattle.std.specs.List.{flat_map};
+ghost use Rattle.vt_review.specs.Announcements.{bell_told, display_told, row_told};
+ghost use Rattle.vt_review.specs.Lines.{ear_lines};
+ghost use Rattle.vt_switch.specs.Moments.{hops};
+
+use crate::lines::add_lines;
+use crate::{Ear, Listener};
+use std::alloc::Global;
+use vt_base::{Bytes, ConsoleNo, NoMemory};
+use vt_journal::{add, add_next};
+use vt_world::Mark;
+
+/// The kind of a notice that the display came to a console.
+const DISPLAY: u8 = 0;
+
+/// That a bell rang.
+const BELL: u8 = 1;
+
+/// That a row is new.
+const ROW: u8 = 2;
+
+/// Tells each switch of a trace.
+pub(crate) fn tell_hops<F: Listener>(
+    alloc: Global,
+    text: &mut Bytes,
+    ears: &[Ear<F>],
+    e: u32,
+    trace: &[Mark],
+) -> Result<(), NoMemory>
+    ensures { OnOk result (text.new.bytes
+        ≡ text.old.bytes ++ flat_map (ear_lines 0 e ears.now) (map display_told (hops trace.now))) }
+{
+    for mark in trace {
+        if let Mark::Hopped(hop) = mark {
+            add_lines(alloc, text, ears, e, DISPLAY, hop.to, b"\n")?;
+        }
+    }
+    Ok(())
+}
+
+/// Tells that the console's bell rang, if its count rose.
+pub(crate) fn tell_bell<F: Listener>(
+    alloc: Global,
+    text: &mut Bytes,
+    ears: &[Ear<F>],
+    e: u32,
+    console: ConsoleNo,
+    before: u32,
+    after: u32,
+) -> Result<(), NoMemory>
+    ensures { OnOk result (text.new.bytes
+        ≡ text.old.bytes
+        ++ flat_map (ear_lines 0 e ears.now)
+        (if nat_lt before after then bell_told console ∷ [] else [])) }
+{
+    if before < after {
+        add_lines(alloc, text, ears, e, BELL, console, b"\n")?;
+    }
+    Ok(())
+}
+
+/// Tells a row of the console, from its text.
+pub(crate) fn tell_row<F: Listener>(
+    alloc: Global,
+    text: &mut Bytes,
+    ears: &[Ear<F>],
+    e: u32,
+    console: ConsoleNo,
+    y: u8,
+    row: &[u8],
+) -> Result<(), NoMemory>
+    ensures { OnOk result (text.new.bytes
+        ≡ text.old.bytes ++ ear_lines 0 e ears.now (row_told console y row.now)) }
+{
+    let mut end = Bytes::new(alloc);
+    add_next(alloc, &mut end, u64::from(y))?;
+    add(alloc, &mut end, b" ")?;
+    add(alloc, &mut end, row)?;
+    add_lines(alloc, text, ears, e, ROW, console, end.as_slice())?;
+    Ok(())
+}

@@ -1,0 +1,104 @@
+//! The rows of a screen, compared with those of one before.
+ghost use Rattle.std.specs.Prelude.{◌≡◌, ◌<◌, ◌++◌, true, false, bytes_eq, IfOk, IfSome, IfNone, IsTrue, OnOk, map, option_copied, slice_get};
+ghost use Rattle.std.specs.List.{flat_map};
+ghost use Rattle.vt_dump.specs.Rows.{row_text};
+ghost use Rattle.vt_grid.specs.Grid.{row_at};
+ghost use Rattle.vt_review.specs.Announcements.{is_text, new_rows};
+ghost use Rattle.vt_review.specs.Lines.{ear_lines};
+ghost use Rattle.vt_review.specs.Screens.{texts_of};
+
+use crate::notices::tell_row;
+use crate::{Ear, Listener};
+use std::alloc::Global;
+use vt_base::{Bytes, ConsoleNo, NoMemory};
+use vt_cells::Cell;
+use vt_dump::text_row;
+use vt_grid::Grid;
+
+/// Tells the rows of the console's screen that are new since it was as before.
+pub(crate) fn tell_rows<F: Listener>(
+    alloc: Global,
+    text: &mut Bytes,
+    ears: &[Ear<F>],
+    e: u32,
+    console: ConsoleNo,
+    before: Option<&Grid>,
+    after: &Grid,
+) -> Result<(), NoMemory>
+    ensures { OnOk result (text.new.bytes
+        ≡ text.old.bytes
+        ++ flat_map (ear_lines 0 e ears.now)
+        (new_rows console (texts_of (option_copied before.entry)) 0 (map row_text after.now.cells))) }
+{
+    for y in 0..after.size().rows {
+        if let Some(row) = new_row(alloc, before, after, y)? {
+            tell_row(alloc, text, ears, e, console, y, row.as_slice())?;
+        }
+    }
+    Ok(())
+}
+
+// The text of the row at `y`, if it is new.
+fn new_row(
+    alloc: Global,
+    before: Option<&Grid>,
+    after: &Grid,
+    y: u8,
+) -> Result<Option<Bytes>, NoMemory>
+    requires { y < after.now.rows }
+    ensures new { IfOk result (λ row. IfSome row (λ text.
+        (text.bytes ≡ row_text (row_at after.now y))
+        × (is_text (slice_get (texts_of (option_copied before.entry)) y) text.bytes ≡ false))) }
+    ensures old { IfOk result (λ row. IfNone row
+        (is_text (slice_get (texts_of (option_copied before.entry)) y) (row_text (row_at after.now y)) ≡ true)) }
+{
+    match before {
+        Some(before) if y < before.size().rows => changed_row(alloc, before, after, y),
+        _ => Ok(Some(text_row(alloc, after, y)?)),
+    }
+}
+
+// The text of the row at `y`, if it isn't that of the row there before.
+fn changed_row(alloc: Global, before: &Grid, after: &Grid, y: u8) -> Result<Option<Bytes>, NoMemory>
+    requires was { y < before.now.rows }
+    requires is { y < after.now.rows }
+    ensures new { IfOk result (λ row. IfSome row (λ text.
+        (text.bytes ≡ row_text (row_at after.now y))
+        × (bytes_eq (row_text (row_at before.now y)) text.bytes ≡ false))) }
+    ensures old { IfOk result (λ row. IfNone row
+        (bytes_eq (row_text (row_at before.now y)) (row_text (row_at after.now y)) ≡ true)) }
+{
+    if has_same_cells(before, after, y) {
+        return Ok(None);
+    }
+    let old = text_row(alloc, before, y)?;
+    let new = text_row(alloc, after, y)?;
+    if old.as_slice() == new.as_slice() {
+        return Ok(None);
+    }
+    Ok(Some(new))
+}
+
+// Whether the cells of the row at `y` are the same in both.
+fn has_same_cells(before: &Grid, after: &Grid, y: u8) -> bool
+    requires was { y < before.now.rows }
+    requires is { y < after.now.rows }
+    ensures { IsTrue result → row_at before.now y ≡ row_at after.now y }
+{
+    let cols = after.size().cols;
+    if before.size().cols != cols {
+        return false;
+    }
+    for x in 0..cols {
+        if !is_same(before.at(y, x), after.at(y, x)) {
+            return false;
+        }
+    }
+    true
+}
+
+fn is_same(a: Cell, b: Cell) -> bool
+    ensures { IsTrue result → a ≡ b }
+{
+    a.code == b.code && a.attr == b.attr
+}
