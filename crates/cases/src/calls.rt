@@ -1,7 +1,7 @@
 //! Calls of a console of the library, which no command makes one by one.
 use crate::spelling::{add_words, put, put_number};
 use session_text::{SError, read};
-use std::alloc::Global;
+use std::alloc::{AllocError, Global};
 use vt_base::{Bytes, CallerNo, NoMemory};
 use vt_events::{Entry, Event};
 use vt_journal::{Tail, print, read_event};
@@ -37,7 +37,7 @@ pub fn add_reply(
     add_words(alloc, line, &mut words)?;
     let journal = journal_of(alloc, world, p, words.as_slice())?;
     let mut caller = Vec::new(alloc);
-    put_number(&mut caller, u64::from(p))?;
+    put_caller(&mut caller, p)?;
     match reply_in(journal.as_slice(), caller.as_slice(), words.as_slice()) {
         Some(reply) => put(text, reply)?,
         None => put(text, b" isn't the one spelling of a call")?,
@@ -45,9 +45,18 @@ pub fn add_reply(
     Ok(())
 }
 
+// The word of a caller in a journal of version 2: a case calls a caller by its number.
+fn put_caller(text: &mut Vec<u8>, p: u16) -> Result<(), AllocError> {
+    if p == 0 {
+        return put(text, b"k0");
+    }
+    put(text, b"p")?;
+    put_number(text, u64::from(p))
+}
+
 // What stands in the journal of one call past its words.
 fn reply_in<'a>(journal: &'a [u8], caller: &[u8], words: &[u8]) -> Option<&'a [u8]> {
-    let entry = journal.strip_prefix(b"%journal 1\n")?;
+    let entry = journal.strip_prefix(b"%journal 2\n")?;
     let call = entry.strip_prefix(caller)?.strip_prefix(b" 0 ")?;
     call.strip_prefix(words)?.strip_suffix(b"\n%end 0 0\n")
 }
@@ -62,7 +71,7 @@ fn journal_of(alloc: Global, world: &mut World, p: u16, words: &[u8]) -> Result<
         return Ok(text);
     };
     let entry = made(alloc, world, caller, event)?;
-    print(alloc, &[entry], &END, &mut text)?;
+    print(alloc, &[entry], 2, &END, &mut text)?;
     Ok(text)
 }
 

@@ -36,7 +36,7 @@ fn journal(alloc: Global, caller: CallerNo, event: Event, reply: Reply) -> Resul
         reply,
     };
     let mut text = Bytes::new(alloc);
-    print(alloc, &[entry], &END, &mut text)?;
+    print(alloc, &[entry], 2, &END, &mut text)?;
     Ok(text)
 }
 

@@ -1,5 +1,6 @@
 //! What the tests share. Rows are texts and numbers alone.
 mod hub;
+mod printing;
 mod race;
 
 use std::alloc::Global;
@@ -24,7 +25,7 @@ script = ['open 2', 'activate 0 2']
 
 fn journal_of(alloc: Global, run: &Run) -> Result<Bytes, NoMemory> {
     let mut text = Bytes::new(alloc);
-    print(alloc, run.log.entries(), &run.tail(), &mut text)?;
+    print(alloc, run.log.entries(), 2, &run.tail(), &mut text)?;
     Ok(text)
 }
 

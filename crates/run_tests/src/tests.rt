@@ -1,6 +1,7 @@
 //! What the tests share. Rows are texts and numbers alone.
 mod ends;
 mod meeting;
+mod pieces;
 mod printed;
 
 // Process 1 handles switches by signals, and lets the display go at signal 10; process 2 asks for its own

@@ -3,9 +3,9 @@ use Rattle.std.proofs.Common.{◌≡◌, ℕ, ◌+◌, ◌<◌, true, false, ◌
 use Rattle.std.proofs.lemmas.Bool.{cases_Bool, or_left}
 use Rattle.std.specs.Prelude.{is_some}
 use Rattle.session_order.specs.Calls.{all_over}
-use Rattle.session_order.specs.Ends.{Stage}
+use Rattle.session_order.specs.Ends.{Setup}
 use Rattle.session_order.specs.Laws.{FinishedStays, IsFromStart, RoundsAddUp, RoundsGoOn}
-use Rattle.session_order.specs.Meant.{ReplayIsMeant, meant}
+use Rattle.session_order.specs.Meant.{ReplayIsMeant, plain_history}
 use Rattle.session_order.specs.Serial.{IsSerial, Played, is_finished, nothing_played, round, rounds, turns}
 use Rattle.session_run.specs.Playing.{IsAt, PlayerView}
 use Rattle.session_run.specs.Runs.{played}
@@ -18,11 +18,11 @@ not_longer : (m n : ℕ) → m < n → n ≡ m → ⊥
 not_longer m n more same = omega (arith, more, same)
 
 -- the end of a play
-abbrev pub IsEnd : Stage → List ℕ → PlayerView → Type 0
+abbrev pub IsEnd : Setup → List ℕ → PlayerView → Type 0
 IsEnd o first view = (t : Played) × IsSerial o first t × IsAt o t view
 
 -- a round in which the play stopped is its last one
-pub round-stops : RoundsAddUp → (o : Stage) (first : List ℕ) (k : ℕ) (u : Played) (view : PlayerView)
+pub round-stops : RoundsAddUp → (o : Setup) (first : List ℕ) (k : ℕ) (u : Played) (view : PlayerView)
     → u ≡ round o (rounds o k (turns o first nothing_played)) → IsAt o u view
     → is_some view.stop ≡ true → IsEnd o first view
 round-stops sum o first k u view is at stopped =
@@ -34,7 +34,7 @@ round-stops sum o first k u view is at stopped =
     (u, serial, at)
 
 -- and so is one that made no entry
-pub round-stays : FinishedStays → RoundsAddUp → RoundsGoOn → (o : Stage) (first : List ℕ) (k : ℕ) (t u : Played) (before view : PlayerView)
+pub round-stays : FinishedStays → RoundsAddUp → RoundsGoOn → (o : Setup) (first : List ℕ) (k : ℕ) (t u : Played) (before view : PlayerView)
     → IsFromStart o → t ≡ rounds o k (turns o first nothing_played) → u ≡ round o t
     → IsAt o t before → IsAt o u view → length view.log.entries ≡ length before.log.entries
     → IsEnd o first view
@@ -57,22 +57,22 @@ round-stays stays sum goes_on o first k t u before view start is_t is_u old at l
     ⊎_elim over (λ going. ⊎_elim longer stops (moved going)) (cases_Bool (is_finished o t))
 
 -- what came of a play at its end
-pub run-serial : (o : Stage) (first : List ℕ) (t : Played) (view : PlayerView) (run : Run)
+pub run-serial : (o : Setup) (first : List ℕ) (t : Played) (view : PlayerView) (run : Run)
     → IsSerial o first t → IsAt o t view → run.log ≡ view.log → run.stop ≡ view.stop
     → IsSerial o first (played run)
 run-serial o first t view run serial at log stop =
     let same : t ≡ played run =
     λ i. record {
-      history = (sym at.history ∙ ap (λ (l : Logged). meant l.entries) (sym log)) i;
+      history = (sym at.history ∙ ap (λ (l : Logged). plain_history l.entries) (sym log)) i;
       stop = (sym at.stop ∙ sym stop) i;
     } in
     subst (IsSerial o first) same serial
 
-pub run-world : ReplayIsMeant → (o : Stage) (t : Played) (view : PlayerView) (run : Run)
+pub run-world : ReplayIsMeant → (o : Setup) (t : Played) (view : PlayerView) (run : Run)
     → IsAt o t view → run.world ≡ view.world → run.log ≡ view.log
     → run.world ≡ replay o.start run.log.entries
 run-world is_meant o t view run at world log =
     world
     ∙ at.replayed
-    ∙ ap (replay o.start) (sym at.history ∙ ap (λ (l : Logged). meant l.entries) (sym log))
+    ∙ ap (replay o.start) (sym at.history ∙ ap (λ (l : Logged). plain_history l.entries) (sym log))
     ∙ is_meant o.start run.log.entries

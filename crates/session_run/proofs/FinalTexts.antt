@@ -61,14 +61,17 @@ numbers_line name ns t0 t1 t2 t3 is1 is2 is3 =
     let whole = spelled-cons name (map decimal ns) in
     rw whole (simp (is3, is2, is1, spaced_numbers, append_assoc))
 
--- the final text, made of its pieces
-pub final_pieces : (front consoles t0 t1 t2 t3 t4 t5 : List ℕ)
+-- the line of the display, made of its pieces
+pub display_pieces : (front t0 t1 t2 t3 : List ℕ)
     → t1 ≡ t0 ++ codes "%display" → t2 ≡ t1 ++ 0x20 ∷ front → t3 ≡ t2 ++ codes "\n"
-    → t4 ≡ t3 ++ consoles → t5 ≡ t4 ++ codes "%done\n"
-    → t5
-    ≡ t0 ++ (line_text (codes "%display" ∷ front ∷ []) ++ (consoles ++ line_text (codes "%done" ∷ [])))
-final_pieces front consoles t0 t1 t2 t3 t4 t5 is1 is2 is3 is4 is5 =
-    simp (is5, is4, is3, is2, is1, append_assoc)
+    → t3 ≡ t0 ++ line_text (codes "%display" ∷ front ∷ [])
+display_pieces front t0 t1 t2 t3 is1 is2 is3 = simp (is3, is2, is1, append_assoc)
+
+-- the final text, made of its pieces
+pub final_pieces : (display consoles t0 t1 t2 t3 : List ℕ)
+    → t1 ≡ t0 ++ display → t2 ≡ t1 ++ consoles → t3 ≡ t2 ++ codes "%done\n"
+    → t3 ≡ t0 ++ (display ++ (consoles ++ line_text (codes "%done" ∷ [])))
+final_pieces display consoles t0 t1 t2 t3 is1 is2 is3 = simp (is3, is2, is1, append_assoc)
 
 last_word : (d b : List ℕ) → ((d ++ 0x20 ∷ []) ++ b) ++ 0x0A ∷ [] ≡ (d ++ 0x20 ∷ b) ++ 0x0A ∷ []
 last_word [] b = refl

@@ -24,8 +24,8 @@ pub split-start : (start : WorldState) (here : TableId) (s : StewardView) → s 
     → IsSplit here 0 s
 split-start start here s is = subst (IsSplit here 0) (sym is) (record {
   own = refl;
-  size = length-replicate {A = Stand} 65 Unmade;
-  rest = λ k _. unmade 65 k;
+  size = length-replicate {A = Stand} 68 Unmade;
+  rest = λ k _. unmade 68 k;
   none_home = refl;
 })
 

@@ -8,9 +8,9 @@ use Rattle.std.proofs.lemmas.List.Sums.{count_by-le-length, sum_by-append}
 use Rattle.std.proofs.lemmas.Option.{none-some, same_Some}
 use Rattle.std.specs.Prelude.{◌==◌, count_by, slice_get, if◌then◌else◌}
 use Rattle.session_order.specs.Calls.{as_meant, call_of, calls_by, next_by, next_of}
-use Rattle.session_order.specs.Ends.{Stage}
+use Rattle.session_order.specs.Ends.{Setup}
 use Rattle.session_order.specs.Follows.{is_waiting}
-use Rattle.session_order.specs.Meant.{NextIsMeant, NextIsPlain, meant}
+use Rattle.session_order.specs.Meant.{NextIsMeant, NextIsPlain, plain_history}
 use Rattle.session_order.specs.Serial.{Played, call_now, entry_at}
 use Rattle.session_run.specs.Playing.{IsAt, PlayerView, StandsAfter}
 use Rattle.session_text.specs.Programs.{Call, call, next}
@@ -35,7 +35,7 @@ next_now true next e is = absurd (none-some e is)
 next_now false next e is = is
 
 -- a call that p can make is its next one
-pub now-next : (o : Stage) (h : List Entry) (p : ℕ) (e : Event) (program : Program)
+pub now-next : (o : Setup) (h : List Entry) (p : ℕ) (e : Event) (program : Program)
     → slice_get o.programs p ≡ Some program → call_now o h p ≡ Some e
     → next program (calls_by p h) ≡ Some e
 now-next o h p e program is now =
@@ -70,9 +70,9 @@ count_more q h entry =
     omega (arith, added)
 
 -- the counts, where p's has risen
-counted : (counts : List ℕ) (h : List Entry) (entry : Entry) (q : ℕ) → q ≤ 64 → entry.caller ≤ 64
-    → length counts ≡ 65 → length h ≤ 1_000_000
-    → ((q : ℕ) → q ≤ 64 → get_or counts q 0 ≡ count_by (is_by q) h)
+counted : (counts : List ℕ) (h : List Entry) (entry : Entry) (q : ℕ) → q ≤ 67 → entry.caller ≤ 67
+    → length counts ≡ 68 → length h ≤ 1_000_000
+    → ((q : ℕ) → q ≤ 67 → get_or counts q 0 ≡ count_by (is_by q) h)
     → get_or (set counts entry.caller (min (get_or counts entry.caller 0 + 1) (2 ^ 32 - 1))) q 0
     ≡ count_by (is_by q) (h ++ entry ∷ [])
 counted counts h entry q within known places few old =
@@ -120,7 +120,7 @@ pub record Enters (p : ℕ) (e : Event) (program : Program) (before after : Play
   pub reply : Reply
   pub walk : Place
   pub moved : Place
-  pub known : p ≤ 64
+  pub known : p ≤ 67
   pub few : length before.log.entries ≤ 1_000_000
   pub stepped :
       step before.world p e ≡ record { world = after.world; reply = plain_reply reply }
@@ -134,7 +134,7 @@ pub record Enters (p : ℕ) (e : Event) (program : Program) (before after : Play
   pub took : Walks program walk moved reply
   pub stop : after.stop ≡ before.stop
 
-pub entered : NextIsMeant → NextIsPlain → ReplayGrows → (o : Stage) (t : Played) (p : ℕ) (e : Event) (program : Program) (before after : PlayerView)
+pub entered : NextIsMeant → NextIsPlain → ReplayGrows → (o : Setup) (t : Played) (p : ℕ) (e : Event) (program : Program) (before after : PlayerView)
     → Enters p e program before after → slice_get o.programs p ≡ Some program → t.stop ≡ None
     → call_now o t.history p ≡ Some e → IsAt o t before
     → IsAt o (record { history = t.history ++ entry_at o.start t.history p e ∷ []; stop = None }) after
@@ -157,7 +157,7 @@ entered is_meant is_plain grows o t p e program before after enters is going now
     omega (arith, enters.few, ap length at.history, length-map before.log.entries plain_entry) in
     record {
       history =
-          ap (λ (log : Logged). meant log.entries) enters.logged
+          ap (λ (log : Logged). plain_history log.entries) enters.logged
           ∙ map-append plain_entry before.log.entries (entry ∷ [])
           ∙ (λ i. at.history i ++ same i ∷ []);
       stop = enters.stop ∙ at.stop ∙ going;

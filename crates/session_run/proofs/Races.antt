@@ -5,10 +5,10 @@ use Rattle.std.proofs.lemmas.Option.{get_or_from_slice_get, none-some, same_Some
 use Rattle.std.specs.Prelude.{count_by, slice_get}
 use Rattle.atomic_table.specs.Seated.{TableId}
 use Rattle.session_order.specs.Calls.{call_of, made_by}
-use Rattle.session_order.specs.Ends.{Ends, Stage}
+use Rattle.session_order.specs.Ends.{Ends, Setup}
 use Rattle.session_order.specs.Follows.{Follows, is_waiting}
 use Rattle.session_order.specs.Races.{HasEnded, HasNext, IsClosed, IsRun, RaceIsRight}
-use Rattle.session_order.specs.Sessions.{stage_of, start_of}
+use Rattle.session_order.specs.Sessions.{setup_of, start_of}
 use Rattle.session_run.specs.Racing.{AreHome, IsRunOf, Works}
 use Rattle.session_text.specs.Programs.{next}
 use Rattle.session_text.specs.Sessions.{SessionView}
@@ -45,7 +45,7 @@ all-home programs here s home = none_out s.stands (λ k. ⊎_elim
     (cases_lt k (length programs)))
 
 -- what is known of a pass that was taken in
-module _ (o : Stage) (here : TableId) (s : StewardView) (world : WorldState) (log : Logged) (stop : Option Full) (whole : IsWhole o.start o.limits s world log stop) (home : AreHome o.programs here (length o.programs) s) where
+module _ (o : Setup) (here : TableId) (s : StewardView) (world : WorldState) (log : Logged) (stop : Option Full) (whole : IsWhole o.start o.limits s world log stop) (home : AreHome o.programs here (length o.programs) s) where
   part : (place : ℕ) (x : PassView) → slice_get s.joined place ≡ Some x
       → IsPart o.start log.entries stop x
   part place x is =
@@ -138,5 +138,5 @@ race-raced right s start most programs here steward run is_start is_most same gi
     (subst (λ m. IsWhole start m steward run.world run.log run.stop) is_most given) in
     let home : AreHome s.programs here (length s.programs) steward =
     subst (λ ps. AreHome ps here (length ps) steward) same taken in
-    let holds = race-holds (stage_of s) here steward run.world run.log run.stop whole home right in
+    let holds = race-holds (setup_of s) here steward run.world run.log run.stop whole home right in
     record { world = whole.replayed; legal = whole.legal; follows = holds.0; ends = holds.1 }

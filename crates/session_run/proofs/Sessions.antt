@@ -5,7 +5,7 @@ use Rattle.std.specs.List.{All}
 use Rattle.std.specs.Prelude.{slice_get}
 use Rattle.session_order.specs.Laws.{IsFromStart}
 use Rattle.session_run.specs.Runs.{HasScripts, IsScript}
-use Rattle.session_order.specs.Sessions.{stage_of, start_of}
+use Rattle.session_order.specs.Sessions.{setup_of, start_of}
 use Rattle.session_text.specs.Sessions.{ArePrograms, IsScriptProgram, SessionView}
 use Rattle.session_text.specs.declared.program.Program.{Program}
 use Rattle.session_text.specs.declared.program.Program.TheVariants as program
@@ -34,7 +34,7 @@ scripts-follow n (program.Keys bytes ∷ scripts) are = λ i p is.
 scripts-follow n (program.Script items acts ∷ scripts) are = absurd are
 scripts-follow n [] are = absurd are
 
-pub from-start : (s : SessionView) → ArePrograms (length s.config.procs) s.programs → IsFromStart (stage_of s)
+pub from-start : (s : SessionView) → ArePrograms (length s.config.procs) s.programs → IsFromStart (setup_of s)
 from-start s are = record {
   rows = s.config.size.rows;
   cols = s.config.size.cols;
@@ -52,6 +52,7 @@ is-start s fit = record {
   cols = s.config.size.cols;
   consoles = s.config.consoles;
   front = s.config.front;
+  keyboards = 1;
   processes = s.config.procs;
   tables = s.tables;
   fit = fit;

@@ -7,10 +7,10 @@ use Rattle.std.proofs.lemmas.Option.{slice_get_within}
 use Rattle.std.specs.List.{All, sum_by}
 use Rattle.std.specs.Prelude.{is_some, nat_le, nat_lt, slice_get, if◌then◌else◌}
 use Rattle.session_order.specs.Calls.{calls_by, next_by, next_of}
-use Rattle.session_order.specs.Ends.{Stage}
+use Rattle.session_order.specs.Ends.{Setup}
 use Rattle.vt_journal.specs.Room.{full_at, has_room}
 use Rattle.session_order.specs.Follows.{is_waiting}
-use Rattle.session_order.specs.Meant.{NextIsMeant, meant}
+use Rattle.session_order.specs.Meant.{NextIsMeant, plain_history}
 use Rattle.session_order.specs.Serial.{Played, call_now, calls, entry_at, nothing_played, turn}
 use Rattle.session_run.specs.Playing.{IsAt, PlayerView, StandsAfter}
 use Rattle.session_text.specs.Programs.{Call, next}
@@ -29,7 +29,7 @@ use Rattle.vt_procs.specs.Tickets.{is_open}
 use Rattle.vt_world.specs.History.{replay}
 
 -- a walk that stands says which call p can make
-pub now-is : NextIsMeant → (o : Stage) (t : Played) (view : PlayerView) (programs : List Program) (p : ℕ) (program : Program) (walk : Place) (e : Option Event)
+pub now-is : NextIsMeant → (o : Setup) (t : Played) (view : PlayerView) (programs : List Program) (p : ℕ) (program : Program) (walk : Place) (e : Option Event)
     → ((made : List Call) → Stands program walk made → e ≡ next program made)
     → o.programs ≡ programs → slice_get programs p ≡ Some program
     → walk ≡ get_or view.walks p walk → is_open (caller_at view.world.callers p).waiting ≡ false
@@ -47,7 +47,7 @@ now-is is_meant o t view programs p program walk e calls same here read shut at 
     next_is ∙ ap (λ b. if b then None else next_by o.programs p t.history) (sym waits)
 
 -- a waiting caller can make none
-pub none-now : (o : Stage) (t : Played) (view : PlayerView) (p : ℕ)
+pub none-now : (o : Setup) (t : Played) (view : PlayerView) (p : ℕ)
     → is_open (caller_at view.world.callers p).waiting ≡ true → IsAt o t view
     → None ≡ call_now o t.history p
 none-now o t view p open_one at =
@@ -55,7 +55,7 @@ none-now o t view p open_one at =
     (sym (sym (ap (λ w. is_waiting w p) at.replayed) ∙ open_one))
 
 -- the entries as they are meant are as many, and count for as much
-pub lengths : (o : Stage) (t : Played) (view : PlayerView) → IsAt o t view
+pub lengths : (o : Setup) (t : Played) (view : PlayerView) → IsAt o t view
     → length view.log.entries ≡ length t.history
 lengths o t view at = sym (length-map view.log.entries plain_entry) ∙ ap length at.history
 
@@ -67,7 +67,7 @@ charge_meant (event.SetMap fd b) = refl
 charge_meant (event.SetPal fd b) = refl
 charge_meant e = refl
 
-charges : (o : Stage) (t : Played) (view : PlayerView) → IsAt o t view
+charges : (o : Setup) (t : Played) (view : PlayerView) → IsAt o t view
     → charge_of_all view.log.entries ≡ charge_of_all t.history
 charges o t view at =
     sym
@@ -76,7 +76,7 @@ charges o t view at =
     ∙ ap charge_of_all at.history
 
 -- room in the log is room in the play
-room_is : (o : Stage) (t : Played) (view : PlayerView) (charge : ℕ) → IsAt o t view
+room_is : (o : Setup) (t : Played) (view : PlayerView) (charge : ℕ) → IsAt o t view
     → HasRoom view.log charge → has_room o.limits t.history charge ≡ true
 room_is o t view charge at room =
     let events : view.log.limits.events ≡ o.limits.events = ap (λ (l : Limits). l.events) at.limits in
@@ -85,7 +85,7 @@ room_is o t view charge at room =
     (lt-ltb (length t.history) o.limits.events (omega (arith, room.entries, lengths o t view at, events)))
     (le-leb (charge_of_all t.history + charge) o.limits.bytes (omega (arith, room.bytes, charges o t view at, bytes)))
 
-room_from : (o : Stage) (t : Played) (view : PlayerView) (charge : ℕ) → IsAt o t view
+room_from : (o : Setup) (t : Played) (view : PlayerView) (charge : ℕ) → IsAt o t view
     → has_room o.limits t.history charge ≡ true → HasRoom view.log charge
 room_from o t view charge at is =
     let events : view.log.limits.events ≡ o.limits.events = ap (λ (l : Limits). l.events) at.limits in
@@ -98,14 +98,14 @@ room_from o t view charge at is =
     }
 
 -- the turn of p, which makes this call
-pub turn-calls : (o : Stage) (t : Played) (p : ℕ) (now : Option Event) → t.stop ≡ None
+pub turn-calls : (o : Setup) (t : Played) (p : ℕ) (now : Option Event) → t.stop ≡ None
     → call_now o t.history p ≡ now → turn o p t ≡ calls o p now t.history
 turn-calls o t p now going is =
     ap (λ stop. if is_some stop then t else calls o p (call_now o t.history p) t.history) going
     ∙ ap (λ e. calls o p e t.history) is
 
 -- where nothing is called, nothing changes
-pub turn-skips : (o : Stage) (t : Played) (p : ℕ) (view : PlayerView) → view.stop ≡ None
+pub turn-skips : (o : Setup) (t : Played) (p : ℕ) (view : PlayerView) → view.stop ≡ None
     → None ≡ call_now o t.history p → IsAt o t view → IsAt o (turn o p t) view
 turn-skips o t p view going none at =
     let stop : t.stop ≡ None = sym at.stop ∙ going in
@@ -113,7 +113,7 @@ turn-skips o t p view going none at =
     (λ i. record { history = t.history; stop = stop i }) ∙ sym (turn-calls o t p None stop (sym none)) in
     subst (λ x. IsAt o x view) same at
 
-pub turn-stopped : (o : Stage) (t : Played) (p : ℕ) (view : PlayerView) → is_some view.stop ≡ true
+pub turn-stopped : (o : Setup) (t : Played) (p : ℕ) (view : PlayerView) → is_some view.stop ≡ true
     → IsAt o t view → IsAt o (turn o p t) view
 turn-stopped o t p view stopped at =
     let same : t ≡ turn o p t =
@@ -122,7 +122,7 @@ turn-stopped o t p view stopped at =
     subst (λ x. IsAt o x view) same at
 
 -- where there is room, the call is entered
-pub turn-enters : (o : Stage) (t : Played) (p : ℕ) (e : Event) (before view : PlayerView)
+pub turn-enters : (o : Setup) (t : Played) (p : ℕ) (e : Event) (before view : PlayerView)
     → HasRoom before.log (charge_of e) → IsAt o t before → t.stop ≡ None
     → call_now o t.history p ≡ Some e
     → IsAt o (record { history = t.history ++ entry_at o.start t.history p e ∷ []; stop = None }) view
@@ -136,7 +136,7 @@ turn-enters o t p e before view room at going now entered =
     subst (λ x. IsAt o x view) (sym same) entered
 
 -- where there is none, the play stops
-pub turn-fills : (o : Stage) (t : Played) (p : ℕ) (e : Event) (before : PlayerView) (full : Full)
+pub turn-fills : (o : Setup) (t : Played) (p : ℕ) (e : Event) (before : PlayerView) (full : Full)
     → (HasRoom before.log (charge_of e) → ⊥) → IsAt o t before → t.stop ≡ None
     → call_now o t.history p ≡ Some e
     → full ≡ full_at before.log.entries (charge_of e)
@@ -163,12 +163,12 @@ turn-fills o t p e before full none at going now is =
     })
 
 -- a player before its first call
-pub first-at : (o : Stage) (view : PlayerView) → view.world ≡ o.start → view.log.entries ≡ []
-    → view.log.limits ≡ o.limits → view.counts ≡ replicate 65 0 → view.stop ≡ None
+pub first-at : (o : Setup) (view : PlayerView) → view.world ≡ o.start → view.log.entries ≡ []
+    → view.log.limits ≡ o.limits → view.counts ≡ replicate 68 0 → view.stop ≡ None
     → length view.walks ≡ length o.programs
     → All (λ walk. (p : Program) → Stands p walk []) view.walks → IsAt o nothing_played view
 first-at o view opened empty limits zero going many stand = record {
-  history = ap meant empty;
+  history = ap plain_history empty;
   stop = going;
   limits = limits;
   replayed = opened;
@@ -180,6 +180,6 @@ first-at o view opened empty limits zero going many stand = record {
         stands = subst (λ w. Stands program w []) (sym read) (stand q walk within program);
         meant = refl;
       };
-  places = ap length zero ∙ length-replicate {A = ℕ} 65 0;
-  counted = λ q within. ap (λ counts. get_or counts q 0) zero ∙ get_or-replicate 65 q 0 0 (omega (arith, within));
+  places = ap length zero ∙ length-replicate {A = ℕ} 68 0;
+  counted = λ q within. ap (λ counts. get_or counts q 0) zero ∙ get_or-replicate 68 q 0 0 (omega (arith, within));
 }

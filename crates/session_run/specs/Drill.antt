@@ -3,7 +3,7 @@ use Rattle.std.specs.Prelude.{◌≡◌, ℕ, zero, suc, ◌+◌, ◌-◌, ◌*�
 use Rattle.std.specs.List.{range_with_len}
 use Rattle.key_compile.specs.Compiled.{AreTablesOf}
 use Rattle.key_tables.specs.Tables.{Tables}
-use Rattle.key_text.specs.Told.{Told}
+use Rattle.key_text.specs.KeymapLine.{KeymapLine}
 use Rattle.session_text.specs.Scripts.{listed}
 use Rattle.session_text.specs.Sessions.{SessionView}
 use Rattle.session_text.specs.declared.program.Program.{Program}
@@ -129,7 +129,7 @@ keys (suc n) = 0x1E ∷ 0x9E ∷ keys n
 
 -- the tables of a keymap with one key
 pub record HasDrillKeymap (tables : Tables) : Type 0 where
-  pub lines : List Told
+  pub lines : List KeymapLine
   pub keymap : keymap_of [] (codes "keycode 30 = a") ≡ Ok lines
   pub are : AreTablesOf lines tables
 

@@ -14,7 +14,7 @@ use Rattle.vt_world.specs.Terminals.{TerminalState, terminal_at}
 -- rang
 abbrev pub screen_words : ℕ → Screen → ℕ → List (List ℕ)
 screen_words n s bells =
-    codes "%screen" ∷ map decimal (n ∷ s.sheet.rows ∷ s.sheet.cols ∷ s.state.x ∷ s.state.y ∷ bells ∷ [])
+    codes "%screen" ∷ map decimal (n ∷ s.grid.rows ∷ s.grid.cols ∷ s.state.x ∷ s.state.y ∷ bells ∷ [])
 
 -- its queue: the number of the console, how many pieces were dropped, and the bytes that it has
 abbrev pub queue_words : ℕ → Queue → List (List ℕ)
@@ -25,16 +25,19 @@ queue_words n queue =
 abbrev pub console_text : ℕ → Screen → ℕ → Queue → List ℕ
 console_text n s bells queue =
     line_text (screen_words n s bells)
-    ++ (rows_text s.sheet.cells ++ line_text (queue_words n queue))
+    ++ (rows_text s.grid.cells ++ line_text (queue_words n queue))
 
 abbrev pub place_text : ℕ → Option TerminalState → Queue → List ℕ
 place_text n None queue = []
 place_text n (Some t) queue = console_text n t.machine.state t.bells queue
 
+-- console n, where it is allocated
+abbrev pub text_at : WorldState → ℕ → List ℕ
+text_at w n = place_text n (terminal_at w.terminals n) (input_at w.inputs n).queue
+
 -- the allocated consoles in rising order
 abbrev pub consoles_text : WorldState → ℕ → ℕ → List ℕ
-consoles_text w from len =
-    flat_map (λ n. place_text n (terminal_at w.terminals n) (input_at w.inputs n).queue) (range_with_len from len)
+consoles_text w from len = flat_map (text_at w) (range_with_len from len)
 
 abbrev pub final_text : WorldState → List ℕ
 final_text w =

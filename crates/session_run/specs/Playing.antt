@@ -1,8 +1,8 @@
 -- A play on its way. No public clause names this.
 use Rattle.std.specs.Prelude.{◌≡◌, ℕ, ◌≤◌, ◌==◌, List, length, count_by, map, Option, Some, slice_get, slice_index, slice_index_or}
 use Rattle.session_order.specs.Calls.{as_meant, calls_by}
-use Rattle.session_order.specs.Ends.{Stage}
-use Rattle.session_order.specs.Meant.{meant}
+use Rattle.session_order.specs.Ends.{Setup}
+use Rattle.session_order.specs.Meant.{plain_history}
 use Rattle.session_order.specs.Serial.{Played}
 use Rattle.session_text.specs.Programs.{Call}
 use Rattle.session_text.specs.Walks.{Place, Stands}
@@ -28,8 +28,8 @@ pub record StandsAfter (program : Program) (walk : Place) (made : List Call) : T
   pub meant : map as_meant calls ≡ made
 
 -- the player is at this point of a play
-pub record IsAt (o : Stage) (t : Played) (p : PlayerView) : Type 0 where
-  pub history : meant p.log.entries ≡ t.history
+pub record IsAt (o : Setup) (t : Played) (p : PlayerView) : Type 0 where
+  pub history : plain_history p.log.entries ≡ t.history
   pub stop : p.stop ≡ t.stop
   pub limits : p.log.limits ≡ o.limits
   pub replayed : p.world ≡ replay o.start t.history
@@ -37,7 +37,7 @@ pub record IsAt (o : Stage) (t : Played) (p : PlayerView) : Type 0 where
   pub stand :
       (q : ℕ) (program : Program) (walk : Place) → slice_get o.programs q ≡ Some program
       → walk ≡ slice_index_or p.walks q walk → StandsAfter program walk (calls_by q t.history)
-  pub places : length p.counts ≡ 65
+  pub places : length p.counts ≡ 68
   pub counted :
-      (q : ℕ) → q ≤ 64
+      (q : ℕ) → q ≤ 67
       → slice_index p.counts q ≡ count_by (λ entry. entry.caller == q) t.history

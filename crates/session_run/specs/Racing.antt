@@ -5,7 +5,7 @@ use Rattle.session_order.specs.Calls.{call_of}
 use Rattle.session_order.specs.Ends.{Ends}
 use Rattle.session_order.specs.Follows.{Follows}
 use Rattle.session_order.specs.Races.{HasNext, IsRun}
-use Rattle.session_order.specs.Sessions.{ShowsTapes, stage_of, start_of}
+use Rattle.session_order.specs.Sessions.{ShowsTapes, setup_of, start_of}
 use Rattle.session_text.specs.Programs.{next}
 use Rattle.session_text.specs.Sessions.{SessionView}
 use Rattle.session_text.specs.declared.program.Program.{Program}
@@ -43,7 +43,7 @@ AreFresh here passes =
 -- passes were made for the callers below n alone, and none was taken in
 pub record IsSplit (here : TableId) (n : ℕ) (s : StewardView) : Type 0 where
   pub own : s.hub ≡ here
-  pub size : length s.stands ≡ 65
+  pub size : length s.stands ≡ 68
   pub rest : (k : ℕ) → n ≤ k → stand_at s.stands k ≡ Unmade
   pub none_home : s.joined ≡ []
 
@@ -56,7 +56,7 @@ pub record HasRun (programs : List Program) (here : TableId) (n : ℕ) (q : Pass
 -- the passes below n were taken in, each as its worker left it
 pub record AreHome (programs : List Program) (here : TableId) (n : ℕ) (s : StewardView) : Type 0 where
   pub own : s.hub ≡ here
-  pub size : length s.stands ≡ 65
+  pub size : length s.stands ≡ 68
   pub home : (k : ℕ) → k < n → stand_at s.stands k ≡ Home
   pub rest : (k : ℕ) → length programs ≤ k → stand_at s.stands k ≡ Unmade
   pub ran :
@@ -71,7 +71,7 @@ pub record IsRunOf (s : SessionView) (run : Run) : Type 0 where
   pub world : run.world ≡ replay (start_of s) run.log.entries
   pub legal : IsLegal (start_of s) run.log.entries
   pub follows : Follows (start_of s) s.programs run.log.entries
-  pub ends : Ends (stage_of s) run.log.entries (tail_at run.log.entries run.stop)
+  pub ends : Ends (setup_of s) run.log.entries (tail_at run.log.entries run.stop)
 
 -- what comes of the race of a session: such a run, and what the laws of every history say of it
 pub record IsRaced (s : SessionView) (run : Run) : Type 0 where

@@ -1,6 +1,6 @@
 -- What plays a session, and what comes of it. This project's own.
 use Rattle.std.specs.Prelude.{◌≡◌, ⊤, ℕ, ◌+◌, List, [], length, Some, slice_get, slice_index_or}
-use Rattle.session_order.specs.Meant.{meant}
+use Rattle.session_order.specs.Meant.{plain_history}
 use Rattle.session_order.specs.Serial.{Played}
 use Rattle.vt_hub.specs.declared.run.Run.{Run}
 use Rattle.session_text.specs.Walks.{HasActs}
@@ -26,4 +26,4 @@ pub record HasHooks (programs : List Program) (tables : List (List Act)) : Type 
 
 -- the history of a run, as it is meant, and where it stopped
 abbrev pub played : Run → Played
-played run = record { history = meant run.log.entries; stop = run.stop }
+played run = record { history = plain_history run.log.entries; stop = run.stop }

@@ -4,7 +4,7 @@ use std::marker::Model;
 use vt_base::CallerNo;
 
 /// The places for callers by their numbers.
-const PLACES: usize = 65;
+const PLACES: usize = 68;
 
 /// How many calls each caller made.
 #[derive(Debug, Drop)]
@@ -23,7 +23,7 @@ impl Model for Counts {
 impl Counts {
     /// No calls yet.
     pub fn new() -> Counts
-        ensures { result ≡ replicate 65 0 }
+        ensures { result ≡ replicate 68 0 }
     {
         Counts {
             places: [0; PLACES],

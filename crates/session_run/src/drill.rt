@@ -39,6 +39,7 @@ pub fn drill_session(alloc: Global, n: u32, seed: u64) -> Result<Session, NoMemo
         size: Size { rows: 25, cols: 80 },
         consoles: CONSOLES,
         front: ConsoleNo::numbered(1),
+        keyboards: 1,
         procs: starts(),
     };
     let limits = Limits {

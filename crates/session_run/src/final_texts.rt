@@ -1,6 +1,6 @@
-ghost use Rattle.std.specs.Prelude.{◌≡◌, ◌≤◌, ◌∷◌, ◌++◌, codes, decimal, map, IfOk, OnOk};
+ghost use Rattle.std.specs.Prelude.{◌≡◌, ◌≤◌, [], ◌∷◌, ◌++◌, codes, decimal, map, IfOk, OnOk};
 ghost use Rattle.vt_journal.specs.Journal.{line_text};
-ghost use Rattle.session_run.specs.Final.{console_text, consoles_text, final_text, place_text, queue_words};
+ghost use Rattle.session_run.specs.Final.{console_text, consoles_text, final_text, queue_words, text_at};
 ghost use Rattle.vt_world.specs.Inputs.{input_at};
 ghost use Rattle.vt_world.specs.Terminals.{bells_of, machine_of, terminal_at};
 
@@ -26,11 +26,20 @@ pub fn final_text(alloc: Global, r: &Run) -> Result<Bytes, NoMemory>
 fn add_final_text(alloc: Global, text: &mut Bytes, world: &World) -> Result<(), NoMemory>
     ensures { OnOk result (text.new.bytes ≡ text.old.bytes ++ final_text world.now) }
 {
+    add_display(alloc, text, world)?;
+    add_consoles(alloc, text, world)?;
+    add(alloc, text, b"%done\n")?;
+    Ok(())
+}
+
+/// Adds the line of the display.
+pub(crate) fn add_display(alloc: Global, text: &mut Bytes, world: &World) -> Result<(), NoMemory>
+    ensures { OnOk result (text.new.bytes
+        ≡ text.old.bytes ++ line_text (codes "%display" ∷ decimal world.now.display.front ∷ [])) }
+{
     add(alloc, text, b"%display")?;
     add_next(alloc, text, u64::from(world.display().get()))?;
     add(alloc, text, b"\n")?;
-    add_consoles(alloc, text, world)?;
-    add(alloc, text, b"%done\n")?;
     Ok(())
 }
 
@@ -43,13 +52,16 @@ fn add_consoles(alloc: Global, text: &mut Bytes, world: &World) -> Result<(), No
     Ok(())
 }
 
-// Adds the text of console `n`, if it is allocated.
-fn add_place(alloc: Global, text: &mut Bytes, world: &World, n: u16) -> Result<(), NoMemory>
+/// Adds the text of console `n`, if it is allocated.
+pub(crate) fn add_place(
+    alloc: Global,
+    text: &mut Bytes,
+    world: &World,
+    n: u16,
+) -> Result<(), NoMemory>
     requires low { 1 ≤ n }
     requires high { n ≤ 63 }
-    ensures { OnOk result (text.new.bytes
-        ≡ text.old.bytes ++ place_text n (terminal_at world.now.terminals n)
-        (input_at world.now.inputs n).queue) }
+    ensures { OnOk result (text.new.bytes ≡ text.old.bytes ++ text_at world.now n) }
 {
     let Some(c) = ConsoleNo::new(n) else {
         unreachable!()

@@ -6,6 +6,7 @@ mod counts;
 mod drill;
 mod drill_draws;
 mod drill_items;
+mod final_map;
 mod final_texts;
 mod handlers;
 mod passes;
@@ -17,6 +18,7 @@ mod turn;
 mod worker;
 
 pub use drill::drill_session;
+pub use final_map::final_text_map;
 pub use final_texts::final_text;
 pub use racing::{race, race_tables};
 pub use serial::play;

@@ -1,8 +1,8 @@
 ghost use Rattle.std.specs.Prelude.{◌≡◌, ◌≤◌, ◌<◌, List, ◌∷◌, ◌++◌, [], None, Some, length, All, IfOk, OnOk, slice_get};
-ghost use Rattle.session_order.specs.Ends.{Stage};
+ghost use Rattle.session_order.specs.Ends.{Setup};
 ghost use Rattle.session_order.specs.Serial.{Played, call_now, entry_at, nothing_played, turn};
 ghost use Rattle.session_run.specs.Playing.{IsAt};
-ghost use Rattle.session_order.specs.Sessions.{stage_of};
+ghost use Rattle.session_order.specs.Sessions.{setup_of};
 ghost use Rattle.session_text.specs.Walks.{Stands};
 ghost use Rattle.session_text.specs.declared.program.Program.{Program};
 ghost use Rattle.vt_events.specs.Charge.{charge_of};
@@ -47,7 +47,7 @@ impl Model for Player {
 impl Player {
     /// Nothing is called yet.
     pub(crate) fn open(alloc: Global, s: &Session) -> Result<Player, NoMemory>
-        ensures at { IfOk result (λ player. IsAt (stage_of s.now) nothing_played player) }
+        ensures at { IfOk result (λ player. IsAt (setup_of s.now) nothing_played player) }
         ensures walks { IfOk result (λ player. length player.walks ≡ length s.now.programs) }
     {
         let limits = s.limits();
@@ -72,7 +72,7 @@ impl Player {
         event: Event,
     ) -> Result<(), NoMemory>
         requires { p < length self.old.walks }
-        ensures at { OnOk result ((o : Stage) (t : Played)
+        ensures at { OnOk result ((o : Setup) (t : Played)
             → slice_get o.programs p ≡ Some program.now → t.stop ≡ None
             → call_now o t.history p ≡ Some event
             → IsAt o t self.old → IsAt o (turn o p t) self.new) }
@@ -116,7 +116,7 @@ impl Player {
     ) -> Result<(), NoMemory>
         requires walk { p < length self.old.walks }
         requires room { HasRoom self.old.log (charge_of event) }
-        ensures at { OnOk result ((o : Stage) (t : Played)
+        ensures at { OnOk result ((o : Setup) (t : Played)
             → slice_get o.programs p ≡ Some program.now → t.stop ≡ None
             → call_now o t.history p ≡ Some event → IsAt o t self.old
             → IsAt o (record { history = t.history ++ entry_at o.start t.history p event ∷ []; stop = None })

@@ -2,7 +2,7 @@
 ghost use Rattle.std.specs.Prelude.{◌≡◌, ℕ, ◌<◌, [], length, IfOk, slice_index_or, vec_len};
 ghost use Rattle.session_order.specs.Ends.{Ends};
 ghost use Rattle.session_order.specs.Follows.{Follows};
-ghost use Rattle.session_order.specs.Sessions.{ShowsTapes, stage_of, start_of};
+ghost use Rattle.session_order.specs.Sessions.{ShowsTapes, setup_of, start_of};
 ghost use Rattle.session_run.specs.Racing.{IsRaced, IsRunOf};
 ghost use Rattle.session_run.specs.Runs.{HasHooks};
 ghost use Rattle.vt_journal.specs.Room.{tail_at};
@@ -41,7 +41,7 @@ pub fn race<H: Handler + Send + Sync, G: Gate + Sync, R: Threads + Wait + Sync>(
     ensures follows { IfOk result (λ run.
         Follows (start_of s.now) s.now.programs run.log.entries) }
     ensures ends { IfOk result (λ run.
-        Ends (stage_of s.now) run.log.entries (tail_at run.log.entries run.stop)) }
+        Ends (setup_of s.now) run.log.entries (tail_at run.log.entries run.stop)) }
     ensures lawful { IfOk result (λ run. IsLawful (moments (start_of s.now) run.log.entries)) }
     ensures explained { IfOk result (λ run. IsExplained (length run.log.entries) (core run.world)
         (moments (start_of s.now) run.log.entries)) }
@@ -63,7 +63,7 @@ pub fn race_tables<G: Gate + Sync, R: Threads + Wait + Sync>(
     ensures follows { IfOk result (λ run.
         Follows (start_of s.now) s.now.programs run.log.entries) }
     ensures ends { IfOk result (λ run.
-        Ends (stage_of s.now) run.log.entries (tail_at run.log.entries run.stop)) }
+        Ends (setup_of s.now) run.log.entries (tail_at run.log.entries run.stop)) }
     ensures lawful { IfOk result (λ run. IsLawful (moments (start_of s.now) run.log.entries)) }
     ensures explained { IfOk result (λ run. IsExplained (length run.log.entries) (core run.world)
         (moments (start_of s.now) run.log.entries)) }

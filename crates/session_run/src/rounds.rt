@@ -1,5 +1,5 @@
 ghost use Rattle.std.specs.Prelude.{◌≡◌, ◌≤◌, ◌<◌, ℕ, List, length, All, OnOk};
-ghost use Rattle.session_order.specs.Ends.{Stage};
+ghost use Rattle.session_order.specs.Ends.{Setup};
 ghost use Rattle.session_order.specs.Laws.{IsFromStart};
 ghost use Rattle.session_order.specs.Serial.{IsSerial, Played, nothing_played, round, turns};
 ghost use Rattle.session_run.specs.Playing.{IsAt};
@@ -25,7 +25,7 @@ impl Player {
         requires most { length programs.now ≤ 65 }
         requires known { All (λ p. p < length programs.now) callers.now }
         requires walks { length self.old.walks ≡ length programs.now }
-        ensures at { OnOk result ((o : Stage) (t : Played) → o.programs ≡ programs.now
+        ensures at { OnOk result ((o : Setup) (t : Played) → o.programs ≡ programs.now
             → IsAt o t self.old → IsAt o (turns o callers.now t) self.new) }
         ensures walks { OnOk result (length self.new.walks ≡ length programs.now) }
     {
@@ -48,7 +48,7 @@ impl Player {
         requires hooks { HasHooks programs.now hooks.now }
         requires most { length programs.now ≤ 65 }
         requires walks { length self.old.walks ≡ length programs.now }
-        ensures at { OnOk result ((o : Stage) (t : Played) → o.programs ≡ programs.now
+        ensures at { OnOk result ((o : Setup) (t : Played) → o.programs ≡ programs.now
             → IsAt o t self.old → IsAt o (round o t) self.new) }
         ensures walks { OnOk result (length self.new.walks ≡ length programs.now) }
     {
@@ -74,7 +74,7 @@ impl Player {
         requires most { length programs.now ≤ 65 }
         requires walks { length self.old.walks ≡ length programs.now }
         requires events { events ≤ 1_000_000 }
-        ensures { OnOk result ((o : Stage) (first : List ℕ) → IsFromStart o
+        ensures { OnOk result ((o : Setup) (first : List ℕ) → IsFromStart o
             → o.programs ≡ programs.now → o.limits.events ≡ events
             → IsAt o (turns o first nothing_played) self.old
             → (t : Played) × IsSerial o first t × IsAt o t self.new) }

@@ -4,7 +4,7 @@ ghost use Rattle.vt_journal.specs.Room.{tail_at};
 ghost use Rattle.session_order.specs.Follows.{Follows};
 ghost use Rattle.session_order.specs.Serial.{IsSerial};
 ghost use Rattle.session_run.specs.Runs.{HasHooks, played};
-ghost use Rattle.session_order.specs.Sessions.{ShowsTapes, stage_of, start_of};
+ghost use Rattle.session_order.specs.Sessions.{ShowsTapes, setup_of, start_of};
 ghost use Rattle.vt_switch.specs.Law.{IsExplained, IsLawful};
 ghost use Rattle.vt_world.specs.History.{IsLegal, replay};
 ghost use Rattle.vt_world.specs.Laws.{moments};
@@ -23,13 +23,13 @@ use vt_world::{displays_are_lawful, screens_are_tapes};
 /// Plays the session on one thread: the turns that it gives, and then rounds of rising callers, until
 /// every program is over or a call finds no room.
 pub fn play(alloc: Global, s: &Session) -> Result<Run, NoMemory>
-    ensures serial { IfOk result (λ run. IsSerial (stage_of s.now) s.now.turns (played run)) }
+    ensures serial { IfOk result (λ run. IsSerial (setup_of s.now) s.now.turns (played run)) }
     ensures world { IfOk result (λ run. run.world ≡ replay (start_of s.now) run.log.entries) }
     ensures legal { IfOk result (λ run. IsLegal (start_of s.now) run.log.entries) }
     ensures follows { IfOk result (λ run.
         Follows (start_of s.now) s.now.programs run.log.entries) }
     ensures ends { IfOk result (λ run.
-        Ends (stage_of s.now) run.log.entries (tail_at run.log.entries run.stop)) }
+        Ends (setup_of s.now) run.log.entries (tail_at run.log.entries run.stop)) }
     ensures lawful { IfOk result (λ run. IsLawful (moments (start_of s.now) run.log.entries)) }
     ensures explained { IfOk result (λ run. IsExplained (length run.log.entries) (core run.world)
         (moments (start_of s.now) run.log.entries)) }
@@ -48,7 +48,7 @@ pub fn play(alloc: Global, s: &Session) -> Result<Run, NoMemory>
 // Plays it with hooks that read these tables.
 fn play_with(alloc: Global, s: &Session, acts: &[HookTable]) -> Result<Run, NoMemory>
     requires { HasHooks s.now.programs acts.now }
-    ensures serial { IfOk result (λ run. IsSerial (stage_of s.now) s.now.turns (played run)) }
+    ensures serial { IfOk result (λ run. IsSerial (setup_of s.now) s.now.turns (played run)) }
     ensures world { IfOk result (λ run. run.world ≡ replay (start_of s.now) run.log.entries) }
 {
     let mut handlers = Vec::new(alloc);
@@ -70,7 +70,7 @@ fn play_by<H: Handler>(
     requires len { vec_len handlers ≡ length acts.now }
     requires each { (i : ℕ) (h : H) → i < vec_len handlers → h ≡ slice_index_or handlers.items i h
         → H.answers h (slice_index_or acts.now i []) }
-    ensures serial { IfOk result (λ run. IsSerial (stage_of s.now) s.now.turns (played run)) }
+    ensures serial { IfOk result (λ run. IsSerial (setup_of s.now) s.now.turns (played run)) }
     ensures world { IfOk result (λ run. run.world ≡ replay (start_of s.now) run.log.entries) }
 {
     meant_laws();

@@ -1,5 +1,5 @@
 ghost use Rattle.std.specs.Prelude.{◌≡◌, ◌<◌, length, IfOk, OnOk};
-ghost use Rattle.session_order.specs.Ends.{Stage};
+ghost use Rattle.session_order.specs.Ends.{Setup};
 ghost use Rattle.session_order.specs.Serial.{Played, call_now, turn};
 ghost use Rattle.session_run.specs.Playing.{IsAt};
 ghost use Rattle.session_run.specs.Runs.{HasHooks};
@@ -24,7 +24,7 @@ impl Player {
         requires hooks { HasHooks programs.now hooks.now }
         requires known { p < length programs.now }
         requires walks { length self.old.walks ≡ length programs.now }
-        ensures at { OnOk result ((o : Stage) (t : Played) → o.programs ≡ programs.now
+        ensures at { OnOk result ((o : Setup) (t : Played) → o.programs ≡ programs.now
             → IsAt o t self.old → IsAt o (turn o p t) self.new) }
         ensures walks { OnOk result (length self.new.walks ≡ length programs.now) }
     {
@@ -52,7 +52,7 @@ impl Player {
         requires hooks { HasHooks programs.now hooks.now }
         requires known { p < length programs.now }
         requires walks { length self.now.walks ≡ length programs.now }
-        ensures { IfOk result (λ e. (o : Stage) (t : Played) → o.programs ≡ programs.now
+        ensures { IfOk result (λ e. (o : Setup) (t : Played) → o.programs ≡ programs.now
             → IsAt o t self.now → e ≡ call_now o t.history p) }
     {
         meant_laws();

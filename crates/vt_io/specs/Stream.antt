@@ -1,5 +1,5 @@
 -- What the layers above know of a source or a sink.
-use Rattle.std.specs.Prelude.{ℕ, ◌<◌, ◌≤◌, List, length, take, Option, Result, IfOk}
+use Rattle.std.specs.Prelude.{◌≡◌, ℕ, ◌<◌, ◌≤◌, List, length, take, drop, Option, Result, IfOk, MatchResult}
 use Rattle.std.specs.Io.KnownBytes.{Appends}
 
 -- the bytes that are left or held, where the stream tells them, and its count of faults
@@ -10,6 +10,12 @@ pub record Stream : Type 0 where
 -- the bytes held have grown by a prefix of the text
 abbrev pub GrowsByPrefix : Option (List ℕ) → Option (List ℕ) → List ℕ → Type 0
 GrowsByPrefix old new text = (n : ℕ) × Appends old new (take n text)
+
+-- of a buffer nothing changes past the bytes that a read tells, and nothing at all where it fails
+abbrev pub FillsFront : {E : Type 0} → Result ℕ E → List ℕ → List ℕ → Type 0
+FillsFront result before after = MatchResult result
+    (λ n. drop n after ≡ drop n before)
+    (λ _. after ≡ before)
 
 -- a write of a piece that isn't empty takes at least one byte of it
 abbrev pub MovesOn : {E : Type 0} → Result ℕ E → List ℕ → Type 0

@@ -51,7 +51,7 @@ impl Cursor {
 }
 
 // Copies as many bytes as both have from the front of `from` to the front of `to`.
-fn move_front(from: &[u8], to: &mut [u8]) -> usize
+pub fn move_front(from: &[u8], to: &mut [u8]) -> usize
     ensures count { result ≡ min (length to.old) (length from.now) }
     ensures moved { to.new ≡ take result from.now ++ drop result to.old }
 {

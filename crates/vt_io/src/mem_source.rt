@@ -3,6 +3,7 @@ ghost use Rattle.std.specs.Io.{ReadsAtMost};
 ghost use Rattle.std.specs.Io.KnownBytes.{ReadConsumes};
 ghost use Rattle.vt_io.specs.Faults.{HasCause};
 ghost use Rattle.vt_io.specs.Memory.{Reads};
+ghost use Rattle.vt_io.specs.Stream.{FillsFront};
 
 use crate::cursor::Cursor;
 use crate::{Failed, Source};
@@ -49,6 +50,7 @@ impl Source for MemSource {
     fn read(&mut self, buf: &mut [u8]) -> Result<usize, Failed>
         ensures bound { ReadsAtMost result buf.new }
         ensures bytes { ReadConsumes (Some self.old.left) (Some self.new.left) result buf.new }
+        ensures buffer { FillsFront result buf.old buf.new }
         ensures cause { HasCause self.old.faults self.new.faults result }
         ensures exact { Reads self.old self.new buf.old buf.new result }
     {

@@ -2,6 +2,7 @@ ghost use Rattle.std.specs.Prelude.{Some, ◌≡◌, ◌++◌, length, take, dro
 ghost use Rattle.std.specs.Io.{ReadsAtMost};
 ghost use Rattle.std.specs.Io.KnownBytes.{ReadConsumes};
 ghost use Rattle.vt_io.specs.Faults.{HasCause};
+ghost use Rattle.vt_io.specs.Stream.{FillsFront};
 
 use crate::cursor::Cursor;
 use crate::{Failed, Source};
@@ -41,6 +42,7 @@ impl Source for NoFaultSource {
     fn read(&mut self, buf: &mut [u8]) -> Result<usize, Failed>
         ensures bound { ReadsAtMost result buf.new }
         ensures bytes { ReadConsumes (Some self.old) (Some self.new) result buf.new }
+        ensures buffer { FillsFront result buf.old buf.new }
         ensures cause { HasCause 0 0 result }
         ensures exact { IsOkAnd result (λ n. (n ≡ min (length buf.old) (length self.old))
             × (buf.new ≡ take n self.old ++ drop n buf.old)

@@ -2,6 +2,7 @@ ghost use Rattle.std.specs.Prelude.{ℕ, List, Option};
 ghost use Rattle.std.specs.Io.{ReadsAtMost};
 ghost use Rattle.std.specs.Io.KnownBytes.{ReadConsumes};
 ghost use Rattle.vt_io.specs.Faults.{HasCause};
+ghost use Rattle.vt_io.specs.Stream.{FillsFront};
 
 use crate::Failed;
 
@@ -17,5 +18,6 @@ pub trait Source {
     fn read(&mut self, buf: &mut [u8]) -> Result<usize, Failed>
         ensures bound { ReadsAtMost result buf.new }
         ensures bytes { ReadConsumes (left self.old) (left self.new) result buf.new }
+        ensures buffer { FillsFront result buf.old buf.new }
         ensures cause { HasCause (faults self.old) (faults self.new) result };
 }

@@ -2,15 +2,21 @@ ghost use Rattle.std.specs.Prelude.{None, ◌≡◌, MatchResult};
 ghost use Rattle.std.specs.Io.{ReadsAtMost};
 ghost use Rattle.std.specs.Io.KnownBytes.{ReadConsumes};
 ghost use Rattle.vt_io.specs.Faults.{HasCause, one_more};
+ghost use Rattle.vt_io.specs.Stream.{FillsFront};
 
+use crate::cursor::move_front;
 use crate::retries::RETRIES;
 use crate::{Failed, Source};
 use std::io::{ErrorKind, Read};
 use std::marker::Model;
 
+/// The most bytes that one read gives.
+const PIECE_BYTES: usize = 4_096;
+
 /// A source over a reader of std, which tells nothing of its bytes. A read that was interrupted is
 /// tried again, at most [`RETRIES`] times in a call; one more interruption, and every other error,
-/// is a fault.
+/// is a fault. The reader fills a piece of the source's own, since nothing tells what it leaves in one
+/// where it fails.
 #[derive(Drop)]
 pub struct StdSource<R> {
     reader: R,
@@ -46,14 +52,17 @@ impl<R: Read> Source for StdSource<R> {
     fn read(&mut self, buf: &mut [u8]) -> Result<usize, Failed>
         ensures bound { ReadsAtMost result buf.new }
         ensures bytes { ReadConsumes None None result buf.new }
+        ensures buffer { FillsFront result buf.old buf.new }
         ensures cause { HasCause self.old self.new result }
         ensures count { MatchResult result
             (λ _. self.new ≡ self.old)
             (λ _. self.new ≡ one_more self.old) }
     {
+        let mut piece = [0; PIECE_BYTES];
+        let most = buf.len().min(PIECE_BYTES);
         for _ in 0..=RETRIES {
-            match self.reader.read(buf) {
-                Ok(count) => return Ok(count),
+            match self.reader.read(&mut piece[..most]) {
+                Ok(count) => return Ok(move_front(&piece[..count], buf)),
                 Err(error) if error.kind() == ErrorKind::Interrupted => {}
                 Err(_) => break,
             }

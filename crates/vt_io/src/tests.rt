@@ -30,9 +30,9 @@ impl Stream {
 
 impl Read for Stream {
     fn read(&mut self, buf: &mut [u8]) -> io::Result<usize> {
-        let count = self.next()?.min(buf.len());
-        buf[..count].fill(b'x');
-        Ok(count)
+        // It leaves what it likes in the buffer, also where it fails.
+        buf.fill(b'x');
+        Ok(self.next()?.min(buf.len()))
     }
 }
 
@@ -79,6 +79,7 @@ fn tries_again_after_an_interruption(rt: HostRuntime) -> Result<(), Fail> {
         let mut src = StdSource::new(stream);
         assert_eq!(rt; src.read(&mut buf), read, "{interruptions}");
         assert_eq!(rt; buf[0] == b'x', read == Ok(1), "{interruptions}");
+        assert_eq!(rt; buf[1], b' ', "{interruptions}");
         let mut sink = StdSink::new(&mut stream);
         assert_eq!(rt; sink.write(b"yz"), write, "{interruptions}");
         assert_eq!(rt; stream.taken == b'y', write == Ok(1), "{interruptions}");

@@ -1,6 +1,6 @@
 -- A run is complete: where a known command's input is there and no fault comes, the run has its
 -- outcome.
-use Rattle.std.proofs.Common.{◌≡◌, ℕ, ◌⊎◌, inl, inr, List, ◌++◌, length, Option, Some, None, sym, ap, ◌∙◌, subst, append-nil, arith, length-append, ⊎_elim}
+use Rattle.std.proofs.Common.{◌≡◌, ℕ, ◌⊎◌, inl, inr, List, ◌++◌, ◌<◌, ◌≤◌, length, Option, Some, None, sym, ap, ◌∙◌, subst, append-nil, arith, length-append, ⊎_elim}
 use Rattle.std.specs.Io.KnownBytes.{Appends, Consumes, IsAtEnd}
 use Rattle.vt_io.specs.Faults.{Rose}
 use Rattle.vt_io.specs.Stream.{Stream}
@@ -11,7 +11,7 @@ use Rattle.vt_tool.specs.Run.{Answers, Begins, Completes, ProgramRun, Streams, T
 use Rattle.vt_tool.specs.Words.{Form, command_of}
 use Rattle.vt_tool.specs.declared.command.Command.{Command}
 use Rattle.vt_tool.specs.declared.intake.Intake.{Intake}
-use Rattle.vt_tool.specs.declared.intake.Intake.TheVariants.{NoInput, ToEnd}
+use Rattle.vt_tool.specs.declared.intake.Intake.TheVariants.{InPieces, NoInput, ToEnd}
 use Rattle.vt_tool.specs.declared.status.Status.{Status}
 use Rattle.vt_tool.specs.declared.status.Status.TheVariants.{Fine, Usage, ReadFault, WriteFault, NoMemory, Refused, TooLong, JournalFull, Illegal}
 
@@ -23,6 +23,7 @@ one_command known words a b first second = cc
 -- a source that stopped at a fault has counted it
 stop-rose : (i : Intake) (src src' : Stream) → StopsAtFault i src src' → Rose src.faults src'.faults
 stop-rose (ToEnd limit) src src' stops = stops.0
+stop-rose (InPieces limit) src src' stops = stops.0
 stop-rose NoInput src src' stops = absurd stops
 
 -- the bytes taken of known ones are a prefix of these
@@ -36,11 +37,18 @@ taken-prefix known (Some xs) None taken is gave = absurd gave
 taken-prefix known (Some xs) (Some ys) taken is gave = (ys, (let e : known ≡ xs = cc in e) ∙ gave)
 
 -- no more bytes than offered are taken
+within-limit : (limit : ℕ) (src src' : Stream) (input taken : List ℕ) → src.told ≡ Some input
+    → length input ≤ limit → Consumes src.told src'.told taken → limit < length taken → ⊥
+within-limit limit src src' input taken told fits gave past =
+    let (rest, whole) = taken-prefix input src.told src'.told taken told gave in
+    omega (arith, length-append taken rest, ap length whole, past, fits)
+
 not-past : (i : Intake) (src src' : Stream) (input : List ℕ) → Offers i src input
     → PassesLimit i src src' → ⊥
 not-past (ToEnd limit) src src' input offered (taken, gave, past) =
-    let (rest, whole) = taken-prefix input src.told src'.told taken offered.0 gave in
-    omega (arith, length-append taken rest, ap length whole, past, offered.1)
+    within-limit limit src src' input taken offered.0 offered.1 gave past
+not-past (InPieces limit) src src' input offered (taken, gave, past) =
+    within-limit limit src src' input taken offered.0 offered.1 gave past
 not-past NoInput src src' input offered past = past
 
 -- what was read to the end is what was offered
@@ -56,6 +64,8 @@ whole-input known input (Some xs) (Some ys) is gave end =
 read-offered : (i : Intake) (src src' : Stream) (known input : List ℕ) → Offers i src known
     → ReadsAll i src src' input → input ≡ known
 read-offered (ToEnd limit) src src' known input offered read =
+    whole-input known input src.told src'.told offered.0 read.0 read.1
+read-offered (InPieces limit) src src' known input offered read =
     whole-input known input src.told src'.told offered.0 read.0 read.1
 read-offered NoInput src src' known input offered read = read.1 ∙ sym offered
 

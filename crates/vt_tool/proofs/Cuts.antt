@@ -1,79 +1,109 @@
--- Where an input of `check` is cut.
-use Rattle.std.proofs.Common.{refl, ◌≡◌, ℕ, ◌<◌, ◌≤◌, ◌-◌, inl, inr, List, [], length, take, drop, sym, ap, ◌∙◌, subst, arith, length-append, length-drop, length-take, take_all, ⊎_elim}
+-- Where an input is cut.
+use Rattle.std.proofs.Common.{refl, ◌≡◌, ℕ, ◌+◌, ◌<◌, ◌≤◌, ◌-◌, ◌++◌, inl, inr, List, [], length, take, drop, sym, ap, ◌∙◌, subst, arith, length-append, length-drop, length-take, take_all, ⊎_elim}
 use Rattle.std.proofs.Math.Seq.{take-append_seam, drop-append_seam}
 use Rattle.std.proofs.lemmas.Bool.{cases_lt}
+use Rattle.std.proofs.lemmas.List.{take-append-drop}
 use Rattle.vt_journal.specs.Journal.{first_words, line_text}
-use Rattle.vt_tool.specs.Commands.Check.{HasJournal, IsCut, IsCutFirst}
+use Rattle.vt_tool.specs.Commands.Cut.{BeginsLine, HasMark, IsCut, IsCutFirst, IsMarked, cert_mark}
+use Rattle.vt_tool.specs.declared.commands.cut.Mark.{Mark}
+use Rattle.vt_tool.specs.declared.commands.cut.Mark.TheVariants as mark
 
--- the place where a journal stands decides what is before it and behind it
-taken : (input text journal : List ℕ) → HasJournal input text journal
-    → text ≡ take (length text) input
-taken input text journal has =
-    sym (ap (take (length text)) has.parts ∙ take-append_seam text journal)
+-- a text that begins with a mark is not empty
+some : (what : Mark) (text : List ℕ) → HasMark what text → 0 < length text
+some mark.Journal text (version, has) =
+    omega (arith, ap length has.parts, length-append (line_text (first_words version)) has.rest, first version)
+  where
+    first : (version : ℕ) → 0 < length (line_text (first_words version))
+    first version = grind arith
+some mark.Certificate text (rest, is) = omega (arith, ap length is, length-append cert_mark rest)
 
-left : (input text journal : List ℕ) → HasJournal input text journal
-    → journal ≡ drop (length text) input
-left input text journal has =
-    sym (ap (drop (length text)) has.parts ∙ drop-append_seam text journal)
+-- no mark stands at a place before this one
+abbrev pub NoneBefore : Mark → List ℕ → ℕ → Type 0
+NoneBefore what input at =
+    (k : ℕ) → k < at → ¬ IsMarked what input (take k input) (drop k input)
 
--- no journal stands at a place before this one
-abbrev pub NoneBefore : List ℕ → ℕ → Type 0
-NoneBefore input at = (k : ℕ) → k < at → ¬ HasJournal input (take k input) (drop k input)
+module _ (what : Mark)
+  where
+    -- the place where the mark stands decides what is before it and after it
+    taken : (input text after : List ℕ) → IsMarked what input text after
+        → text ≡ take (length text) input
+    taken input text after has =
+        sym (ap (take (length text)) has.parts ∙ take-append_seam text after)
 
--- so one that stands somewhere stands there or behind
-pub behind : (input : List ℕ) (at : ℕ) → NoneBefore input at → (text journal : List ℕ)
-    → HasJournal input text journal → at ≤ length text
-behind input at none text journal has = ⊎_elim
-    (λ before.
-    absurd (none (length text) before
-    (subst (λ (t : List ℕ). HasJournal input t (drop (length text) input)) (taken input text journal has)
-    (subst (λ (j : List ℕ). HasJournal input text j) (left input text journal has) has))))
-    (λ not. not)
-    (cases_lt (length text) at)
+    left : (input text after : List ℕ) → IsMarked what input text after
+        → after ≡ drop (length text) input
+    left input text after has =
+        sym (ap (drop (length text)) has.parts ∙ drop-append_seam text after)
 
--- and none stands at the end
-within : (input text journal : List ℕ) → HasJournal input text journal → length text < length input
-within input text journal has =
-    omega (arith, ap length has.parts, length-append text journal, ap length has.first, length-append (line_text first_words) has.rest)
+    -- so one that stands somewhere stands there or behind
+    pub at-least : (input : List ℕ) (at : ℕ) → NoneBefore what input at → (text after : List ℕ)
+        → IsMarked what input text after → at ≤ length text
+    at-least input at none text after has = ⊎_elim
+        (λ before.
+        absurd (none (length text) before
+        (subst (λ (t : List ℕ). IsMarked what input t (drop (length text) input)) (taken input text after has)
+        (subst (λ (j : List ℕ). IsMarked what input text j) (left input text after has) has))))
+        (λ not. not)
+        (cases_lt (length text) at)
 
-pub nowhere : (input : List ℕ) → NoneBefore input (length input) → (text journal : List ℕ)
-    → ¬ HasJournal input text journal
-nowhere input none text journal has =
-    omega (arith, behind input (length input) none text journal has, within input text journal has)
+    -- and none stands at the end
+    within : (input text after : List ℕ) → IsMarked what input text after → length text < length input
+    within input text after has =
+        omega (arith, ap length has.parts, length-append text after, some what after has.first)
 
--- an input is cut at one place
-one-first : (input a b c d : List ℕ) → IsCutFirst input a b → IsCutFirst input c d
-    → (a ≡ c) × (b ≡ d)
-one-first input a b c d x y =
-    let same : length a ≡ length c = omega (arith, x.first c d y.has, y.first a b x.has) in (
-      taken input a b x.has ∙ ap (λ n. take n input) same ∙ sym (taken input c d y.has),
-      left input a b x.has ∙ ap (λ n. drop n input) same ∙ sym (left input c d y.has),
-    )
+    pub nowhere : (input : List ℕ) → NoneBefore what input (length input) → (text after : List ℕ)
+        → ¬ IsMarked what input text after
+    nowhere input none text after has =
+        omega (arith, at-least input (length input) none text after has, within input text after has)
 
-pub one-cut : (input a b c d : List ℕ) → IsCut input a b → IsCut input c d → (a ≡ c) × (b ≡ d)
-one-cut input a b c d (inl x) (inl y) = one-first input a b c d x y
-one-cut input a b c d (inl x) (inr y) = absurd (y.none a b x.has)
-one-cut input a b c d (inr x) (inl y) = absurd (x.none c d y.has)
-one-cut input a b c d (inr x) (inr y) = (x.all ∙ sym y.all, x.nothing ∙ sym y.nothing)
+    -- an input is cut at one place
+    one-first : (input a b c d : List ℕ) → IsCutFirst what input a b → IsCutFirst what input c d
+        → (a ≡ c) × (b ≡ d)
+    one-first input a b c d x y =
+        let same : length a ≡ length c = omega (arith, x.first c d y.has, y.first a b x.has) in (
+          taken input a b x.has ∙ ap (λ n. take n input) same ∙ sym (taken input c d y.has),
+          left input a b x.has ∙ ap (λ n. drop n input) same ∙ sym (left input c d y.has),
+        )
 
--- what the code finds is where the input is cut
-pub cut-here : (input : List ℕ) (at : ℕ) → at < length input → NoneBefore input at
-    → HasJournal input (take at input) (drop at input)
-    → IsCut input (take at input) (take (length input - at) (drop at input))
-cut-here input at inside none has =
-    let whole : take (length input - at) (drop at input) ≡ drop at input =
-    take_all (length input - at) (drop at input) (omega (arith, length-drop at input)) in
-    subst (λ (journal : List ℕ). IsCut input (take at input) journal) (sym whole)
-    (inl (record {
-      has = has;
-      first = λ before rest other.
-          omega (arith, length-take at input, behind input at none before rest other);
-    }))
+    pub one-cut : (input a b c d : List ℕ) → IsCut what input a b → IsCut what input c d → (a ≡ c) × (b ≡ d)
+    one-cut input a b c d (inl x) (inl y) = one-first input a b c d x y
+    one-cut input a b c d (inl x) (inr y) = absurd (y.none a b x.has)
+    one-cut input a b c d (inr x) (inl y) = absurd (x.none c d y.has)
+    one-cut input a b c d (inr x) (inr y) = (x.all ∙ sym y.all, x.nothing ∙ sym y.nothing)
 
-pub cut-nowhere : (input : List ℕ) (at : ℕ) → length input ≤ at → NoneBefore input at
-    → IsCut input input []
-cut-nowhere input at past none = inr (record {
-  none = nowhere input (λ k before. none k (omega (arith, before, past)));
-  all = refl;
-  nothing = refl;
-})
+    -- what the code finds is where the input is cut
+    pub cut-here : (input : List ℕ) (at : ℕ) → at < length input → NoneBefore what input at
+        → IsMarked what input (take at input) (drop at input)
+        → IsCut what input (take at input) (take (length input - at) (drop at input))
+    cut-here input at inside none has =
+        let whole : take (length input - at) (drop at input) ≡ drop at input =
+        take_all (length input - at) (drop at input) (omega (arith, length-drop at input)) in
+        subst (λ (after : List ℕ). IsCut what input (take at input) after) (sym whole)
+        (inl (record {
+          has = has;
+          first = λ before rest other.
+              omega (arith, length-take at input, at-least input at none before rest other);
+        }))
+
+    pub cut-nowhere : (input : List ℕ) (at : ℕ) → length input ≤ at → NoneBefore what input at
+        → IsCut what input input []
+    cut-nowhere input at past none = inr (record {
+      none = nowhere input (λ k before. none k (omega (arith, before, past)));
+      all = refl;
+      nothing = refl;
+    })
+
+    -- a mark stands at a place where a line begins and the text goes on with it
+    pub mark-here : (input front after : List ℕ) (at : ℕ) → front ≡ take at input
+        → after ≡ drop at input → BeginsLine front → HasMark what after
+        → IsMarked what input (take at input) (drop at input)
+    mark-here input front after at fronts backs begins is = record {
+      parts = sym (take-append-drop at input);
+      line = subst BeginsLine fronts begins;
+      first = subst (HasMark what) backs is;
+    }
+
+    -- and it doesn't where the text doesn't go on with it
+    pub no-mark : (input after : List ℕ) (at : ℕ) → after ≡ drop at input → ¬ HasMark what after
+        → ¬ IsMarked what input (take at input) (drop at input)
+    no-mark input after at backs none has = none (subst (HasMark what) (sym backs) has.first)

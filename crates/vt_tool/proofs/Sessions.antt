@@ -2,7 +2,7 @@
 use Rattle.std.proofs.Common.{refl, ◌≡◌, ℕ, List, ◌++◌, length, Option, ap, ◌∙◌, subst}
 use Rattle.session_order.specs.Ends.{Ends}
 use Rattle.session_order.specs.Follows.{Follows}
-use Rattle.session_order.specs.Sessions.{ShowsTapes, stage_of, start_of}
+use Rattle.session_order.specs.Sessions.{ShowsTapes, setup_of, start_of}
 use Rattle.session_run.specs.Final.{final_text}
 use Rattle.session_text.specs.Sessions.{SessionView}
 use Rattle.vt_base.specs.ConsoleSet.{IsFitSet}
@@ -24,6 +24,7 @@ is-start s fit = record {
   cols = s.config.size.cols;
   consoles = s.config.consoles;
   front = s.config.front;
+  keyboards = 1;
   processes = s.config.procs;
   tables = s.tables;
   fit = fit;
@@ -36,7 +37,7 @@ module _ (s : SessionView) (world : WorldState) (history : List Entry) (stop : O
     -- what is known of a run makes it a right one
     pub right-run : IsLegal (start_of s) history
         → Follows (start_of s) s.programs history
-        → Ends (stage_of s) history (tail_at history stop)
+        → Ends (setup_of s) history (tail_at history stop)
         → IsLawful (moments (start_of s) history)
         → IsExplained (length history) (core world) (moments (start_of s) history)
         → ShowsTapes s world history → IsRightRun s history (tail_at history stop)
@@ -52,10 +53,10 @@ module _ (s : SessionView) (world : WorldState) (history : List Entry) (stop : O
     }
 
     pub run-printed : (status : Status) (written : List ℕ) → status ≡ status_of (tail_at history stop)
-        → written ≡ journal_text history (tail_at history stop) ++ final_text world
+        → written ≡ journal_text 2 history (tail_at history stop) ++ final_text world
         → IsPrinted s history (tail_at history stop) status written
     run-printed status written is text = record {
       status_is = is;
       text = text
-          ∙ ap (λ (w : WorldState). journal_text history (tail_at history stop) ++ final_text w) replayed;
+          ∙ ap (λ (w : WorldState). journal_text 2 history (tail_at history stop) ++ final_text w) replayed;
     }

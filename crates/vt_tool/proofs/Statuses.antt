@@ -10,7 +10,7 @@ use Rattle.vt_tool.specs.Writing.{EndsGiving}
 use Rattle.vt_tool.specs.declared.answer.Answer.{Answer}
 use Rattle.vt_tool.specs.declared.command.Command.{Command}
 use Rattle.vt_tool.specs.declared.intake.Intake.{Intake}
-use Rattle.vt_tool.specs.declared.intake.Intake.TheVariants.{NoInput, ToEnd}
+use Rattle.vt_tool.specs.declared.intake.Intake.TheVariants.{InPieces, NoInput, ToEnd}
 use Rattle.vt_tool.specs.declared.status.Status.{Status}
 use Rattle.vt_tool.specs.declared.status.Status.TheVariants.{Usage, ReadFault, WriteFault, NoMemory, TooLong}
 
@@ -28,6 +28,7 @@ answers-hold command src src' out out' other own answers = answers
 reads-some : (i : Intake) (src src' : Stream) (input : List ℕ) → ReadsAll i src src' input
     → ReadsSome i src src'
 reads-some (ToEnd limit) src src' input read = (input, read.0)
+reads-some (InPieces limit) src src' input read = (input, read.0)
 reads-some NoInput src src' input read = read.0
 
 -- what a command gives for the whole input makes a run of it

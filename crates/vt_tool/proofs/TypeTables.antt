@@ -1,13 +1,13 @@
 -- The table of `type`, read field by field.
 use Rattle.std.proofs.Common.{◌≡◌, ℕ, true, List, Option, Ok, codes, refl, sym, ap, ◌∙◌}
 use Rattle.key_text.specs.Included.{Named}
-use Rattle.key_text.specs.Told.{Told}
+use Rattle.key_text.specs.KeymapLine.{KeymapLine}
 use Rattle.toml.specs.Data.{Data, Members, get_member}
 use Rattle.table_fields.specs.Fields.{keymap_of, keys_pass, number_of, scan_bytes_of, text_of, texts_of}
 use Rattle.vt_tool.specs.Commands.Typing.{is_type_key, type_table_at}
 
 pub type_table-read : (members : Members) (m t k s : Option Data) (mode : ℕ) (texts : List Named)
-    (keymap : List ℕ) (lines : List Told) (text keys : List ℕ)
+    (keymap : List ℕ) (lines : List KeymapLine) (text keys : List ℕ)
     → keys_pass is_type_key members ≡ true
     → m ≡ get_member (codes "mode") members → number_of 0 1 3 0 4 m ≡ Ok mode
     → t ≡ get_member (codes "include") members → texts_of 0 2 t ≡ Ok texts

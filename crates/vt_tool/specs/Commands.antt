@@ -7,26 +7,38 @@ use Rattle.vt_tool.specs.Words.{Form, alone, form, with_two}
 use Rattle.vt_tool.specs.declared.command.Command.{Command}
 use Rattle.vt_tool.specs.declared.command.Command.TheVariants as command
 use Rattle.vt_tool.specs.declared.intake.Intake.{Intake}
-use Rattle.vt_tool.specs.declared.intake.Intake.TheVariants.{NoInput, ToEnd}
+use Rattle.vt_tool.specs.declared.intake.Intake.TheVariants.{InPieces, NoInput, ToEnd}
 use Rattle.vt_tool.specs.Commands.Screen.{GivesRows, IsScreenSize, screen_limit, side}
-use Rattle.vt_tool.specs.Commands.Check.{GivesChecked}
+use Rattle.vt_tool.specs.Commands.Cook.{GivesCooked}
 use Rattle.vt_tool.specs.Commands.Drill.{GivesDrill, IsDrillSize, items_each, seeds}
 use Rattle.vt_tool.specs.Commands.Dump.{GivesDump}
+use Rattle.vt_tool.specs.Commands.Judging.{GivesAsked}
 use Rattle.vt_tool.specs.Commands.Keys.{GivesKeyFault, GivesListing}
 use Rattle.vt_tool.specs.Commands.Play.{GivesPlayed}
 use Rattle.vt_tool.specs.Commands.Race.{GivesRaced}
+use Rattle.vt_tool.specs.Commands.Review.{IsEar, consoles_heard, kinds_heard}
 use Rattle.vt_tool.specs.Commands.Session.{GivesSessionFault}
 use Rattle.vt_tool.specs.Commands.Typing.{GivesTableFault, GivesTyped}
+use Rattle.vt_tool.specs.Commands.Upgrade.{GivesUpgraded}
+use Rattle.vt_tool.specs.declared.commands.asked.Asked.TheVariants as asked
+pub mod Accept
 pub mod Check
+pub mod Cook
+pub mod Cut
 pub mod Drill
 pub mod Dump
+pub mod Explain
+pub mod Judging
 pub mod Keys
 pub mod Play
 pub mod Race
+pub mod Review
 pub mod Screen
 pub mod Session
+pub mod Judged
 pub mod Typed
 pub mod Typing
+pub mod Upgrade
 
 -- the names of the commands that need no threads
 abbrev pub serial_forms : List Form
@@ -38,6 +50,11 @@ serial_forms =
     ∷ form (codes "check") (alone command.Check)
     ∷ form (codes "drill") (with_two items_each seeds command.Drill)
     ∷ form (codes "dumpkeys") (alone command.DumpKeys)
+    ∷ form (codes "cook") (alone command.Cook)
+    ∷ form (codes "review") (with_two kinds_heard consoles_heard command.Review)
+    ∷ form (codes "explain") (alone command.Explain)
+    ∷ form (codes "accept") (alone command.Accept)
+    ∷ form (codes "upgrade") (alone command.Upgrade)
     ∷ []
 
 -- all commands: `race` needs threads
@@ -49,10 +66,16 @@ abbrev pub IsSerial : Command → Type 0
 IsSerial command.Race = ⊥
 IsSerial other = ⊤
 
+-- the command takes its input as one text, or takes none
+abbrev pub TakesText : Command → Type 0
+TakesText (command.Screen rows cols) = ⊥
+TakesText other = ⊤
+
 -- the command's numbers are in their ranges
 abbrev pub IsFit : Command → Type 0
 IsFit (command.Screen rows cols) = IsScreenSize rows cols
 IsFit (command.Drill n seed) = IsDrillSize n
+IsFit (command.Review kinds console) = IsEar kinds console
 IsFit other = ⊤
 
 -- the most bytes of input that a command reads, where it has no limit of its own; this project's own
@@ -61,7 +84,7 @@ text_limit = 16777216
 
 -- how much of the source a command reads
 abbrev pub intake_of : Command → Intake
-intake_of (command.Screen rows cols) = ToEnd screen_limit
+intake_of (command.Screen rows cols) = InPieces screen_limit
 intake_of (command.Drill n seed) = NoInput
 intake_of other = ToEnd text_limit
 
@@ -71,7 +94,13 @@ Gives (command.Screen rows cols) input outcome = GivesRows rows cols input outco
 Gives command.Keys input outcome = GivesListing input outcome ⊎ GivesKeyFault input outcome
 Gives command.DumpKeys input outcome = GivesDump input outcome ⊎ GivesKeyFault input outcome
 Gives command.Play input outcome = GivesPlayed input outcome ⊎ GivesSessionFault input outcome
-Gives command.Check input outcome = GivesChecked input outcome
+Gives command.Check input outcome = GivesAsked asked.Verdict input outcome
+Gives (command.Review kinds console) input outcome =
+    GivesAsked (asked.Review kinds console) input outcome
+Gives command.Explain input outcome = GivesAsked asked.Explanation input outcome
+Gives command.Accept input outcome = GivesAsked asked.Acceptance input outcome
+Gives command.Upgrade input outcome = GivesUpgraded input outcome
+Gives command.Cook input outcome = GivesCooked input outcome
 Gives command.Race input outcome = GivesRaced input outcome ⊎ GivesSessionFault input outcome
 Gives (command.Drill n seed) input outcome = GivesDrill n seed outcome
 Gives command.Typing input outcome = GivesTyped input outcome ⊎ GivesTableFault input outcome

@@ -5,11 +5,12 @@ use Rattle.std.specs.Io.KnownBytes.{Consumes, IsAtEnd}
 use Rattle.vt_io.specs.Faults.{Rose}
 use Rattle.vt_io.specs.Stream.{Stream}
 use Rattle.vt_tool.specs.declared.intake.Intake.{Intake}
-use Rattle.vt_tool.specs.declared.intake.Intake.TheVariants.{NoInput, ToEnd}
+use Rattle.vt_tool.specs.declared.intake.Intake.TheVariants.{InPieces, NoInput, ToEnd}
 
 -- the input isn't longer than the command takes
 abbrev pub IsWithin : Intake → List ℕ → Type 0
 IsWithin (ToEnd limit) input = length input ≤ limit
+IsWithin (InPieces limit) input = length input ≤ limit
 IsWithin NoInput input = input ≡ []
 
 -- the source has given these bytes, and they stay read
@@ -20,16 +21,21 @@ Takes src src' bytes = Consumes src.told src'.told bytes
 abbrev pub ReadsAll : Intake → Stream → Stream → List ℕ → Type 0
 ReadsAll (ToEnd limit) src src' input =
     Takes src src' input × IsAtEnd src'.told × IsWithin (ToEnd limit) input
+ReadsAll (InPieces limit) src src' input =
+    Takes src src' input × IsAtEnd src'.told × IsWithin (InPieces limit) input
 ReadsAll NoInput src src' input = (src' ≡ src) × (input ≡ [])
 
 -- some of the input was read
 abbrev pub ReadsSome : Intake → Stream → Stream → Type 0
 ReadsSome (ToEnd limit) src src' = (taken : List ℕ) × Takes src src' taken
+ReadsSome (InPieces limit) src src' = (taken : List ℕ) × Takes src src' taken
 ReadsSome NoInput src src' = src' ≡ src
 
 -- the count of faults rose, and no more bytes than the limit were taken
 abbrev pub StopsAtFault : Intake → Stream → Stream → Type 0
 StopsAtFault (ToEnd limit) src src' =
+    Rose src.faults src'.faults × (taken : List ℕ) × Takes src src' taken × (length taken ≤ limit)
+StopsAtFault (InPieces limit) src src' =
     Rose src.faults src'.faults × (taken : List ℕ) × Takes src src' taken × (length taken ≤ limit)
 StopsAtFault NoInput src src' = ⊥
 
@@ -37,9 +43,12 @@ StopsAtFault NoInput src src' = ⊥
 abbrev pub PassesLimit : Intake → Stream → Stream → Type 0
 PassesLimit (ToEnd limit) src src' =
     (taken : List ℕ) × Takes src src' taken × (limit < length taken)
+PassesLimit (InPieces limit) src src' =
+    (taken : List ℕ) × Takes src src' taken × (limit < length taken)
 PassesLimit NoInput src src' = ⊥
 
 -- the source has this input to give, and no more than the command takes
 abbrev pub Offers : Intake → Stream → List ℕ → Type 0
 Offers (ToEnd limit) src input = (src.told ≡ Some input) × IsWithin (ToEnd limit) input
+Offers (InPieces limit) src input = (src.told ≡ Some input) × IsWithin (InPieces limit) input
 Offers NoInput src input = IsWithin NoInput input

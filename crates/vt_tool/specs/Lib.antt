@@ -4,5 +4,6 @@ pub mod Outcome
 pub mod Reading
 pub mod Run
 pub mod Status
+pub mod Streaming
 pub mod Words
 pub mod Writing

@@ -1,5 +1,5 @@
 -- How the reading of an input ends: docs/PROGRAM.md, "Order".
-use Rattle.std.specs.Prelude.{Result, Ok, Err}
+use Rattle.std.specs.Prelude.{Result, Ok, Err, ⊤}
 use Rattle.vt_base.specs.Bytes.{Text}
 use Rattle.vt_io.specs.Stream.{Stream}
 use Rattle.vt_tool.specs.Input.{ReadsAll, ReadsSome, StopsAtFault, PassesLimit}
@@ -7,9 +7,15 @@ use Rattle.vt_tool.specs.Commands.{intake_of}
 use Rattle.vt_tool.specs.Run.{Holds}
 use Rattle.vt_tool.specs.declared.command.Command.{Command}
 use Rattle.vt_tool.specs.declared.intake.Intake.{Intake}
+use Rattle.vt_tool.specs.declared.intake.Intake.TheVariants.{InPieces}
 use Rattle.vt_tool.specs.declared.read_end.ReadEnd.{ReadEnd}
 use Rattle.vt_tool.specs.declared.read_end.ReadEnd.TheVariants.{Fault, TooLong, NoMemory}
 use Rattle.vt_tool.specs.declared.status.Status.{Status}
+
+-- the input is taken as one text, or there is none
+abbrev pub IsWhole : Intake → Type 0
+IsWhole (InPieces limit) = ⊥
+IsWhole other = ⊤
 
 -- the whole input, or why it isn't there
 abbrev pub EndsReading : Intake → Stream → Stream → Result Text ReadEnd → Type 0

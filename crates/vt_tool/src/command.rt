@@ -9,12 +9,23 @@ pub enum Command {
     DumpKeys,
     /// The journal of the calls of the input, and the console after them.
     Play,
-    /// The verdict on the journal behind the session of the input.
+    /// The verdict on the journal after the session of the input.
     Check,
+    /// What an ear is told of the journal after the session of the input: of these kinds of notices, a
+    /// bit for each, and of this console, or of all where it is 0.
+    Review { kinds: u8, console: u8 },
+    /// Why the display changed in the journal after the session of the input.
+    Explain,
+    /// Whether the text after session and journal of the input is the journal's certificate.
+    Accept,
+    /// The journal of version 1 that is the input, in version 2.
+    Upgrade,
     /// The journal of the calls of the input, made by threads, and the console after them.
     Race,
     /// Five numbers of a session of eight processes that is made from a seed, with `n` items each.
     Drill { n: u32, seed: u64 },
+    /// The lines and signals that the input types, what is left of it, and its echo.
+    Cook,
     /// A line for each scan byte of the input's table, by the tables of its keymap.
     Typing,
 }

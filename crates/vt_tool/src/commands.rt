@@ -1,27 +1,37 @@
 //! The commands: one file for each.
 ghost use Rattle.std.specs.Prelude.{IfOk, IsTrue};
-ghost use Rattle.vt_tool.specs.Commands.{Gives, IsFit, IsSerial, intake_of};
+ghost use Rattle.vt_tool.specs.Commands.{Gives, IsFit, IsSerial, TakesText, intake_of};
 ghost use Rattle.vt_tool.specs.Input.{IsWithin};
 ghost use Rattle.vt_tool.specs.Status.{is_own};
 
+mod accept;
+mod asked;
 mod check;
+mod cook;
+mod cut;
 pub mod drill;
 mod dumpkeys;
+mod explain;
+mod judging;
 mod keys;
 mod play;
 pub mod race;
+pub mod review;
 pub mod screen;
 mod session;
 mod typing;
+mod upgrade;
 
 use crate::answer::Answer;
 use crate::command::Command;
+use crate::commands::asked::Asked;
 use std::alloc::Global;
-use vt_base::{NoMemory, Size};
+use vt_base::NoMemory;
 
-/// What the command gives for the input, if it needs no threads.
+/// What the command gives for the input that it takes as one text, if it needs no threads.
 pub fn answer_to(alloc: Global, command: Command, input: &[u8]) -> Result<Answer, NoMemory>
     requires serial { IsSerial command }
+    requires text { TakesText command }
     requires fit { IsFit command }
     requires within { IsWithin (intake_of command) input.now }
     ensures gives { IfOk result (λ answer. Gives command input.now
@@ -29,13 +39,19 @@ pub fn answer_to(alloc: Global, command: Command, input: &[u8]) -> Result<Answer
     ensures own { IfOk result (λ answer. IsTrue (is_own answer.status)) }
 {
     match command {
-        Command::Screen { rows, cols } => screen::answer(alloc, Size { rows, cols }, input),
         Command::Keys => keys::answer(alloc, input),
         Command::DumpKeys => dumpkeys::answer(alloc, input),
         Command::Play => play::answer(alloc, input),
-        Command::Check => check::answer(alloc, input),
+        Command::Check => judging::answer(alloc, Asked::Verdict, input),
+        Command::Review { kinds, console } => {
+            judging::answer(alloc, Asked::Review { kinds, console }, input)
+        }
+        Command::Explain => judging::answer(alloc, Asked::Explanation, input),
+        Command::Accept => judging::answer(alloc, Asked::Acceptance, input),
+        Command::Upgrade => upgrade::answer(alloc, input),
+        Command::Cook => cook::answer(alloc, input),
         Command::Drill { n, seed } => drill::answer(alloc, n, seed),
         Command::Typing => typing::answer(alloc, input),
-        Command::Race => unreachable!(),
+        Command::Screen { .. } | Command::Race => unreachable!(),
     }
 }

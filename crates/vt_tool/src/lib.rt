@@ -10,12 +10,16 @@ mod read_end;
 mod reading;
 mod run;
 mod status;
+mod streamed;
+mod streaming;
 mod telling;
 mod tool;
 mod words;
 mod writing;
 
-pub use laws::one_check;
+pub use laws::{one_accept, one_check, one_explain, one_review};
 pub use run::vt_run;
 pub use status::Status;
+pub use streamed::Streamed;
+pub use streaming::screen_stream;
 pub use tool::vt_command;

@@ -1,4 +1,5 @@
-ghost use Rattle.vt_tool.specs.Reading.{EndsReading, GivesInput};
+ghost use Rattle.vt_tool.specs.Commands.{TakesText};
+ghost use Rattle.vt_tool.specs.Reading.{EndsReading, GivesInput, IsWhole};
 
 use crate::command::Command;
 use crate::intake::{Intake, intake_for};
@@ -13,6 +14,7 @@ const READ_BYTES: usize = 65_536;
 
 /// The input of the command, or the status that comes in its place.
 pub fn input_of<S: Source>(alloc: Global, command: Command, src: &mut S) -> Result<Bytes, Status>
+    requires { TakesText command }
     ensures { GivesInput command
         (record { told = S.left src.old; faults = S.faults src.old })
         (record { told = S.left src.new; faults = S.faults src.new }) result }
@@ -25,8 +27,9 @@ pub fn input_of<S: Source>(alloc: Global, command: Command, src: &mut S) -> Resu
     }
 }
 
-/// Reads what a command takes of the source.
-pub fn read_input<S: Source>(alloc: Global, src: &mut S, intake: Intake) -> Result<Bytes, ReadEnd>
+// Reads what a command takes of the source as one text.
+fn read_input<S: Source>(alloc: Global, src: &mut S, intake: Intake) -> Result<Bytes, ReadEnd>
+    requires { IsWhole intake }
     ensures { EndsReading intake
         (record { told = S.left src.old; faults = S.faults src.old })
         (record { told = S.left src.new; faults = S.faults src.new }) result }
@@ -34,6 +37,7 @@ pub fn read_input<S: Source>(alloc: Global, src: &mut S, intake: Intake) -> Resu
     match intake {
         Intake::ToEnd(limit) => read_to_end(alloc, src, limit),
         Intake::NoInput => Ok(Bytes::new(alloc)),
+        Intake::InPieces(_) => unreachable!(),
     }
 }
 

@@ -23,7 +23,7 @@ pub fn tell<E: Sink>(err: &mut E, first: Status) -> Status
         Status::Usage => say(
             err,
             first,
-            b"vt: usage: screen R C | keys | type | play | race | check | drill N SEED | dumpkeys\n",
+            b"vt: usage: screen R C | keys | type | play | race | check | drill N SEED | dumpkeys | cook | review K N | explain | accept | upgrade\n",
         ),
         Status::ReadFault => say(err, first, b"vt: read failed\n"),
         Status::WriteFault => say(err, first, b"vt: write failed\n"),

@@ -1,15 +1,16 @@
 ghost use Rattle.std.specs.Prelude.{map, string_bytes};
-ghost use Rattle.vt_tool.specs.Commands.{IsFit, IsSerial, serial_forms};
+ghost use Rattle.vt_tool.specs.Commands.{IsFit, IsSerial, TakesText, serial_forms};
 ghost use Rattle.vt_tool.specs.Run.{Begins, Completes, Holds, ProgramRun};
 
 use crate::command::Command;
-use crate::commands::answer_to;
+use crate::commands::{answer_to, screen};
 use crate::reading::input_of;
 use crate::status::Status;
 use crate::telling::tell;
 use crate::words::parse_words;
 use crate::writing::give;
 use std::alloc::Global;
+use vt_base::Size;
 use vt_io::{Sink, Source};
 
 /// Runs the command that the words spell, over the source and the sinks: its text goes to `out`,
@@ -71,6 +72,37 @@ fn do_command<S: Source, O: Sink>(
     out: &mut O,
 ) -> Status
     requires serial { IsSerial command }
+    requires fit { IsFit command }
+    ensures { Holds command
+        (record { told = S.left src.old; faults = S.faults src.old })
+        (record { told = S.left src.new; faults = S.faults src.new })
+        (record { told = O.held out.old; faults = O.faults out.old })
+        (record { told = O.held out.new; faults = O.faults out.new }) result }
+{
+    match command {
+        Command::Screen { rows, cols } => do_screen(alloc, Size { rows, cols }, src, out),
+        _ => do_text(alloc, command, src, out),
+    }
+}
+
+// Does `screen`.
+fn do_screen<S: Source, O: Sink>(alloc: Global, size: Size, src: &mut S, out: &mut O) -> Status
+    ensures { Holds (Command.Screen size.rows size.cols)
+        (record { told = S.left src.old; faults = S.faults src.old })
+        (record { told = S.left src.new; faults = S.faults src.new })
+        (record { told = O.held out.old; faults = O.faults out.old })
+        (record { told = O.held out.new; faults = O.faults out.new }) result }
+{
+    match screen::draw(alloc, size, src) {
+        Ok(emu) => give(out, screen::answer(alloc, &emu)),
+        Err(status) => status,
+    }
+}
+
+// Does a command that takes its input as one text.
+fn do_text<S: Source, O: Sink>(alloc: Global, command: Command, src: &mut S, out: &mut O) -> Status
+    requires serial { IsSerial command }
+    requires text { TakesText command }
     requires fit { IsFit command }
     ensures { Holds command
         (record { told = S.left src.old; faults = S.faults src.old })

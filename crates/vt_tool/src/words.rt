@@ -3,7 +3,7 @@ ghost use Rattle.vt_tool.specs.Commands.{IsFit, IsSerial, all_forms, serial_form
 ghost use Rattle.vt_tool.specs.Words.{command_of, if_no_words, number_in};
 
 use crate::command::Command;
-use crate::commands::{drill, screen};
+use crate::commands::{drill, review, screen};
 use vt_base::parse_decimal;
 
 /// The command that the words spell, if it needs no threads.
@@ -20,6 +20,11 @@ pub fn parse_words(words: &[String]) -> Option<Command>
         "type" => alone(Command::Typing, others),
         "play" => alone(Command::Play, others),
         "check" => alone(Command::Check, others),
+        "cook" => alone(Command::Cook, others),
+        "review" => review::parse(others),
+        "explain" => alone(Command::Explain, others),
+        "accept" => alone(Command::Accept, others),
+        "upgrade" => alone(Command::Upgrade, others),
         "drill" => drill::parse(others),
         _ => None,
     }

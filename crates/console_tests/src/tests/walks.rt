@@ -102,7 +102,7 @@ fn next_by_hook(
 
 // Whether the journal is that of this call, or empty where there is none.
 fn is_call(journal: &[u8], words: &str) -> bool {
-    match journal.strip_prefix(b"%journal 1\n2 0 ") {
+    match journal.strip_prefix(b"%journal 2\np2 0 ") {
         Some(entry) => match entry.strip_suffix(b" = ok\n%end 0 0\n") {
             Some(call) => call == words.as_bytes(),
             None => false,

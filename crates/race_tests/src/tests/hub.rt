@@ -40,22 +40,22 @@ const CALLS: &[(u16, &str)] = &[
     (1, "exit"),
 ];
 
-const JOURNAL: &str = "%journal 1
-0 0 exit = ok
-1 0 open 1 = num 0
-2 0 open 2 = num 0
-1 1 signals = sigs 0
-2 1 signals = sigs 0
-1 2 setmode 0 1 0 10 12 0 = ok
-2 2 activate 0 2 = ok
-1 3 signals = sigs 512
-2 3 signals = sigs 0
-1 4 reldisp 0 1 = ok
-2 4 exit = ok
-1 5 waitsignal = wait
-1 6 waitend = err 4
-1 7 signals = sigs 0
-1 8 exit = ok
+const JOURNAL: &str = "%journal 2
+k0 0 exit = ok
+p1 0 open 1 = num 0
+p2 0 open 2 = num 0
+p1 1 signals = sigs 0
+p2 1 signals = sigs 0
+p1 2 setmode 0 1 0 10 12 0 = ok
+p2 2 activate 0 2 = ok
+p1 3 signals = sigs 512
+p2 3 signals = sigs 0
+p1 4 reldisp 0 1 = ok
+p2 4 exit = ok
+p1 5 waitsignal = wait
+p1 6 waitend = err 4
+p1 7 signals = sigs 0
+p1 8 exit = ok
 %end 15 960
 ";
 

@@ -3,9 +3,9 @@
 use Rattle.std.specs.Prelude.{◌≡◌, ℕ, ◌≤◌, List, [], ◌∷◌, ◌++◌, codes, decimal, length, map, sum_by, Option}
 use Rattle.std.specs.List.{range_with_len}
 use Rattle.in_queue.specs.Queue.{Queue}
-use Rattle.session_order.specs.Meant.{meant}
+use Rattle.session_order.specs.Meant.{plain_history}
 use Rattle.session_order.specs.Serial.{IsSerial}
-use Rattle.session_order.specs.Sessions.{stage_of, start_of}
+use Rattle.session_order.specs.Sessions.{setup_of, start_of}
 use Rattle.session_run.specs.Drill.{IsDrill}
 use Rattle.session_text.specs.Sessions.{SessionView}
 use Rattle.vt_events.specs.declared.entry.Entry.{Entry}
@@ -59,7 +59,7 @@ pub record GivesDrill (n seed : ℕ) (outcome : Outcome) : Type 0 where
   pub history : List Entry
   pub stop : Option Full
   pub serial :
-      IsSerial (stage_of session) session.turns (record { history = meant history; stop = stop })
+      IsSerial (setup_of session) session.turns (record { history = plain_history history; stop = stop })
   pub right : IsRightRun session history (tail_at history stop)
   pub status_is : outcome.status ≡ status_of (tail_at history stop)
   pub text : outcome.text ≡ drill_text history (replay (start_of session) history)

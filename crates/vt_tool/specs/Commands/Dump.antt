@@ -6,13 +6,13 @@ use Rattle.key_dump.specs.Dump.{dump_of}
 use Rattle.key_dump.specs.ReadsBack.{ReadsAs}
 use Rattle.key_tables.specs.Tables.{Tables}
 use Rattle.key_text.specs.Reading.{lines_of}
-use Rattle.key_text.specs.Told.{Told}
+use Rattle.key_text.specs.KeymapLine.{KeymapLine}
 use Rattle.vt_tool.specs.Outcome.{Outcome}
 use Rattle.vt_tool.specs.declared.status.Status.TheVariants.{Fine}
 
 -- the dump of the tables of a keymap text, which is read as these tables again; no text is included
 pub record GivesDump (input : List ℕ) (outcome : Outcome) : Type 0 where
-  pub lines : List Told
+  pub lines : List KeymapLine
   pub tables : Tables
   pub read : lines_of [] input ≡ Ok lines
   pub fine : compile_fault lines ≡ None

@@ -5,7 +5,7 @@ use Rattle.key_compile.specs.Faults.{compile_fault}
 use Rattle.key_tables.specs.Listing.{listing_of}
 use Rattle.key_tables.specs.Tables.{Tables}
 use Rattle.key_text.specs.Reading.{lines_of}
-use Rattle.key_text.specs.Told.{Told}
+use Rattle.key_text.specs.KeymapLine.{KeymapLine}
 use Rattle.key_text.specs.declared.fault.KeyFault.{KeyFault}
 use Rattle.vt_tool.specs.Outcome.{Outcome}
 use Rattle.vt_tool.specs.declared.status.Status.TheVariants.{Fine, Refused}
@@ -14,11 +14,11 @@ use Rattle.vt_tool.specs.declared.status.Status.TheVariants.{Fine, Refused}
 abbrev pub HasKeyFault : List ℕ → KeyFault → Type 0
 HasKeyFault input fault =
     (lines_of [] input ≡ Err fault)
-    ⊎ ((lines : List Told) × (lines_of [] input ≡ Ok lines) × (compile_fault lines ≡ Some fault))
+    ⊎ ((lines : List KeymapLine) × (lines_of [] input ≡ Ok lines) × (compile_fault lines ≡ Some fault))
 
 -- the listing of the tables of a keymap text; no text is included
 pub record GivesListing (input : List ℕ) (outcome : Outcome) : Type 0 where
-  pub lines : List Told
+  pub lines : List KeymapLine
   pub tables : Tables
   pub read : lines_of [] input ≡ Ok lines
   pub fine : compile_fault lines ≡ None

@@ -1,9 +1,9 @@
 -- What `play` gives: the serial play of a session, and the console after it. This project's own:
 -- docs/SESSIONS.md.
 use Rattle.std.specs.Prelude.{ℕ, List, Ok, Option}
-use Rattle.session_order.specs.Meant.{meant}
+use Rattle.session_order.specs.Meant.{plain_history}
 use Rattle.session_order.specs.Serial.{IsSerial}
-use Rattle.session_order.specs.Sessions.{stage_of}
+use Rattle.session_order.specs.Sessions.{setup_of}
 use Rattle.session_text.specs.Sessions.{IsSessionOf, SessionValue, SessionView, session_says}
 use Rattle.vt_events.specs.declared.entry.Entry.{Entry}
 use Rattle.vt_journal.specs.Room.{tail_at}
@@ -16,7 +16,7 @@ use Rattle.vt_tool.specs.declared.status.Status.{Status}
 pub record IsPlayed (s : SessionView) (status : Status) (written : List ℕ) : Type 0 where
   pub history : List Entry
   pub stop : Option Full
-  pub serial : IsSerial (stage_of s) s.turns (record { history = meant history; stop = stop })
+  pub serial : IsSerial (setup_of s) s.turns (record { history = plain_history history; stop = stop })
   pub right : IsRightRun s history (tail_at history stop)
   pub printed : IsPrinted s history (tail_at history stop) status written
 

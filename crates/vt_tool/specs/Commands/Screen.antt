@@ -25,5 +25,5 @@ abbrev pub GivesRows : ℕ → ℕ → List ℕ → Outcome → Type 0
 GivesRows rows cols input outcome =
     outcome ≡ record {
       status = Fine;
-      text = rows_text (after (start rows cols) input).state.sheet.cells;
+      text = rows_text (after (start rows cols) input).state.grid.cells;
     }

@@ -3,7 +3,7 @@
 use Rattle.std.specs.Prelude.{◌≡◌, ℕ, List, [], ◌++◌, length, Err}
 use Rattle.session_order.specs.Ends.{Ends}
 use Rattle.session_order.specs.Follows.{Follows}
-use Rattle.session_order.specs.Sessions.{ShowsTapes, stage_of, start_of}
+use Rattle.session_order.specs.Sessions.{ShowsTapes, setup_of, start_of}
 use Rattle.session_run.specs.Final.{final_text}
 use Rattle.session_text.specs.Sessions.{SessionView, session_says}
 use Rattle.table_fields.specs.declared.fault.TableFault.{TableFault}
@@ -30,7 +30,7 @@ status_of (tail.Full full) = status.JournalFull full
 pub record IsRightRun (s : SessionView) (history : List Entry) (end : Tail) : Type 0 where
   pub legal : IsLegal (start_of s) history
   pub follows : Follows (start_of s) s.programs history
-  pub ends : Ends (stage_of s) history end
+  pub ends : Ends (setup_of s) history end
   pub lawful : IsLawful (moments (start_of s) history)
   pub explained :
       IsExplained (length history) (core (replay (start_of s) history)) (moments (start_of s) history)
@@ -40,7 +40,7 @@ pub record IsRightRun (s : SessionView) (history : List Entry) (end : Tail) : Ty
 pub record IsPrinted (s : SessionView) (history : List Entry) (end : Tail) (status : Status)
     (written : List ℕ) : Type 0 where
   pub status_is : status ≡ status_of end
-  pub text : written ≡ journal_text history end ++ final_text (replay (start_of s) history)
+  pub text : written ≡ journal_text 2 history end ++ final_text (replay (start_of s) history)
 
 -- the session is refused at its first fault
 pub record GivesSessionFault (input : List ℕ) (outcome : Outcome) : Type 0 where

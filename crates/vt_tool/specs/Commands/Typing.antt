@@ -10,7 +10,7 @@ use Rattle.key_machine.specs.declared.key_modes.KeyModes.{KeyModes}
 use Rattle.key_machine.specs.declared.key_out.KeyOut.{KeyOut}
 use Rattle.key_machine.specs.declared.key_out.KeyOut.TheVariants.{Attention, Bytes, Last, Next, Nothing, Prev, Spawn, Switch}
 use Rattle.key_tables.specs.Tables.{Tables}
-use Rattle.key_text.specs.Told.{Told}
+use Rattle.key_text.specs.KeymapLine.{KeymapLine}
 use Rattle.scan_codes.specs.Laws.{events, rest}
 use Rattle.scan_codes.specs.Scan.{event_after, start_codes}
 use Rattle.scan_codes.specs.declared.key_event.KeyEvent.{KeyEvent}
@@ -27,7 +27,7 @@ use Rattle.vt_tool.specs.declared.status.Status.TheVariants.{Fine, Refused}
 -- what a table says: the keyboard mode, the lines of the keymap, and the scan bytes
 pub record TypeTable : Type 0 where
   pub mode : ℕ
-  pub lines : List Told
+  pub lines : List KeymapLine
   pub keys : List ℕ
 
 -- the keys of the table, counted from 1 in faults
@@ -70,7 +70,7 @@ start_typing mode = typing start_keys (record start_state { mode = mode })
 
 -- a key event
 abbrev pub typed : Tables → Typing → KeyEvent → Step
-typed tables t e = key_step tables start_modes e t.keys t.state
+typed tables t e = key_step tables start_modes 0 e t.keys t.state
 
 abbrev pub typed_on : Step → Typing
 typed_on s = typing s.keys s.state

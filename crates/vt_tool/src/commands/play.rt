@@ -6,7 +6,7 @@ ghost use Rattle.vt_tool.specs.Status.{is_own};
 
 use crate::answer::{Answer, refused};
 use crate::commands::session::answer_run;
-use session_run::play;
+use session_run::{final_text, play};
 use session_text::{Session, read};
 use std::alloc::Global;
 use table_fields::TableError;
@@ -32,6 +32,7 @@ fn answer_played(alloc: Global, session: &Session) -> Result<Answer, NoMemory>
     ensures own { IfOk result (λ answer. IsTrue (is_own answer.status)) }
 {
     let run = play(alloc, session)?;
-    let answer = answer_run(alloc, &run)?;
+    let last = final_text(alloc, &run)?;
+    let answer = answer_run(alloc, &run, last.as_slice())?;
     Ok(answer)
 }

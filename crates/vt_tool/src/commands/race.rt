@@ -6,7 +6,7 @@ ghost use Rattle.vt_tool.specs.Status.{is_own};
 
 use crate::answer::{Answer, refused};
 use crate::commands::session::answer_run;
-use session_run::race_tables;
+use session_run::{final_text_map, race_tables};
 use session_text::{Session, read};
 use std::alloc::Global;
 use std::sync::Wait;
@@ -46,6 +46,7 @@ fn answer_raced<G: Gate + Sync, R: Threads + Wait + Sync>(
     ensures own { IfOk result (λ answer. IsTrue (is_own answer.status)) }
 {
     let run = race_tables(rt, alloc, session, gate)?;
-    let answer = answer_run(alloc, &run)?;
+    let last = final_text_map(rt, alloc, &run)?;
+    let answer = answer_run(alloc, &run, last.as_slice())?;
     Ok(answer)
 }

@@ -1,21 +1,28 @@
 //! `screen R C`: the rows of a screen after the input.
-ghost use Rattle.std.specs.Prelude.{◌≡◌, ◌≤◌, length, map, string_bytes, IfOk, IfSome, IsTrue};
-ghost use Rattle.vt_screen.specs.Run.{after, start};
+ghost use Rattle.std.specs.Prelude.{◌≡◌, map, string_bytes, IfOk, IfSome, IsTrue};
+ghost use Rattle.vt_dump.specs.Rows.{rows_text};
 ghost use Rattle.vt_tool.specs.Commands.{IsFit, IsSerial};
-ghost use Rattle.vt_tool.specs.Commands.Screen.{GivesRows, screen_limit, side};
+ghost use Rattle.vt_tool.specs.Commands.Screen.{side};
 ghost use Rattle.vt_tool.specs.Status.{is_own};
+ghost use Rattle.vt_tool.specs.Streaming.{GivesScreen};
 ghost use Rattle.vt_tool.specs.Words.{if_two_numbers};
 ghost use Rattle.vt_tool.specs.declared.command.Command.TheVariants as command;
 
 use crate::answer::Answer;
 use crate::command::Command;
 use crate::status::Status;
+use crate::streamed::Streamed;
+use crate::streaming::screen_stream;
 use crate::words::parse_number;
 use std::alloc::Global;
 use vt_base::{NoMemory, Size};
 use vt_dump::text_rows;
 use vt_grid::Grid;
+use vt_io::Source;
 use vt_screen::{BLANK, Emu};
+
+/// The bytes that one read asks for at most.
+const PIECE_BYTES: usize = 4_096;
 
 /// The words after `screen`.
 pub fn parse(words: &[String]) -> Option<Command>
@@ -33,26 +40,33 @@ pub fn parse(words: &[String]) -> Option<Command>
     })
 }
 
-/// The rows of a screen of this size after the input. What the input says beside the screen is
-/// dropped.
-pub fn answer(alloc: Global, size: Size, input: &[u8]) -> Result<Answer, NoMemory>
-    requires { length input.now ≤ screen_limit }
-    ensures gives { IfOk result (λ answer. GivesRows size.rows size.cols input.now
-        (record { status = answer.status; text = answer.text.bytes })) }
-    ensures own { IfOk result (λ answer. IsTrue (is_own answer.status)) }
+/// Draws what the source gives on a blank screen of this size, or gives the status that comes in its
+/// place.
+pub fn draw<S: Source>(alloc: Global, size: Size, src: &mut S) -> Result<Emu, Status>
+    ensures { GivesScreen size.rows size.cols
+        (record { told = S.left src.old; faults = S.faults src.old })
+        (record { told = S.left src.new; faults = S.faults src.new }) result }
 {
-    let emu = draw(alloc, size, input)?;
-    let text = text_rows(alloc, emu.grid())?;
-    Ok(Answer {
-        status: Status::Fine,
-        text,
-    })
+    let Ok(grid) = Grid::blank(alloc, size, BLANK) else {
+        return Err(Status::NoMemory);
+    };
+    let mut emu = Emu::new(grid);
+    let mut piece = [0; PIECE_BYTES];
+    match screen_stream(src, &mut emu, &mut piece) {
+        Streamed::End => Ok(emu),
+        Streamed::Fault => Err(Status::ReadFault),
+        Streamed::TooLong => Err(Status::TooLong),
+    }
 }
 
-fn draw(alloc: Global, size: Size, input: &[u8]) -> Result<Emu, NoMemory>
-    ensures { IfOk result (λ emu. emu ≡ after (start size.rows size.cols) input.now) }
+/// The rows of the screen.
+pub fn answer(alloc: Global, emu: &Emu) -> Result<Answer, NoMemory>
+    ensures status { IfOk result (λ answer. answer.status ≡ Status.Fine) }
+    ensures text { IfOk result (λ answer. answer.text.bytes ≡ rows_text emu.now.state.grid.cells) }
+    ensures own { IfOk result (λ answer. IsTrue (is_own answer.status)) }
 {
-    let mut emu = Emu::new(Grid::blank(alloc, size, BLANK)?);
-    emu.write(input);
-    Ok(emu)
+    Ok(Answer {
+        status: Status::Fine,
+        text: text_rows(alloc, emu.grid())?,
+    })
 }

@@ -1,6 +1,5 @@
 //! What the commands over sessions print alike.
 ghost use Rattle.std.specs.Prelude.{◌≡◌, ◌++◌, IfOk, IsTrue};
-ghost use Rattle.session_run.specs.Final.{final_text};
 ghost use Rattle.vt_journal.specs.Journal.{journal_text};
 ghost use Rattle.vt_journal.specs.Room.{tail_at};
 ghost use Rattle.vt_tool.specs.Commands.Session.{status_of};
@@ -8,25 +7,24 @@ ghost use Rattle.vt_tool.specs.Status.{is_own};
 
 use crate::answer::Answer;
 use crate::status::Status;
-use session_run::{Run, final_text};
+use session_run::Run;
 use std::alloc::Global;
 use vt_base::{Bytes, NoMemory};
 use vt_journal::{Tail, add, print};
 
-/// The journal of the run, and the console after it.
-pub fn answer_run(alloc: Global, run: &Run) -> Result<Answer, NoMemory>
+/// The journal of the run, and the text of the console after it.
+pub fn answer_run(alloc: Global, run: &Run, last: &[u8]) -> Result<Answer, NoMemory>
     ensures status { IfOk result (λ answer. answer.status
         ≡ status_of (tail_at run.now.log.entries run.now.stop)) }
     ensures text { IfOk result (λ answer. answer.text.bytes
-        ≡ journal_text run.now.log.entries (tail_at run.now.log.entries run.now.stop)
-        ++ final_text run.now.world) }
+        ≡ journal_text 2 run.now.log.entries (tail_at run.now.log.entries run.now.stop)
+        ++ last.now) }
     ensures own { IfOk result (λ answer. IsTrue (is_own answer.status)) }
 {
     let end = run.tail();
     let mut text = Bytes::new(alloc);
-    print(alloc, run.log.entries(), &end, &mut text)?;
-    let last = final_text(alloc, run)?;
-    add(alloc, &mut text, last.as_slice())?;
+    print(alloc, run.log.entries(), 2, &end, &mut text)?;
+    add(alloc, &mut text, last)?;
     Ok(Answer {
         status: status_of(&end),
         text,

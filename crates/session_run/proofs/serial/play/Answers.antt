@@ -2,7 +2,7 @@ use Rattle.std.proofs.Common.{length, sym, ap, ◌∙◌, subst}
 use Rattle.session_order.specs.Laws.{IsRight}
 use Rattle.session_run.proofs.Sessions.{is-start}
 use Rattle.session_run.specs.Runs.{played}
-use Rattle.session_order.specs.Sessions.{stage_of, start_of}
+use Rattle.session_order.specs.Sessions.{setup_of, start_of}
 use Rattle.vt_base.specs.ConsoleSet.{IsFitSet}
 use Rattle.vt_procs.specs.declared.config.Config.{Config}
 use Rattle.vt_switch.specs.Law.{IsExplained}
@@ -13,21 +13,21 @@ use Rattle.session_run.proofs.serial.play.Goals as goal
 
 pub returns-clause-legal : goal.returns-clause-legal
 returns-clause-legal c =
-    let right : IsRight (stage_of c.args.s.now) (played c.in_ok-ran.ran) =
-    c.serial_laws.ensures.right (stage_of c.args.s.now) c.args.s.now.turns (played c.in_ok-ran.ran) c.in_ok-ran.ensures.serial in
+    let right : IsRight (setup_of c.args.s.now) (played c.in_ok-ran.ran) =
+    c.serial_laws.ensures.right (setup_of c.args.s.now) c.args.s.now.turns (played c.in_ok-ran.ran) c.in_ok-ran.ensures.serial in
     c.meant_laws.ensures.legal (start_of c.args.s.now) c.in_ok-ran.ran.log.entries right.legal
 
 pub returns-clause-follows : goal.returns-clause-follows
 returns-clause-follows c =
-    let right : IsRight (stage_of c.args.s.now) (played c.in_ok-ran.ran) =
-    c.serial_laws.ensures.right (stage_of c.args.s.now) c.args.s.now.turns (played c.in_ok-ran.ran) c.in_ok-ran.ensures.serial in
+    let right : IsRight (setup_of c.args.s.now) (played c.in_ok-ran.ran) =
+    c.serial_laws.ensures.right (setup_of c.args.s.now) c.args.s.now.turns (played c.in_ok-ran.ran) c.in_ok-ran.ensures.serial in
     c.meant_laws.ensures.follows (start_of c.args.s.now) c.args.s.now.programs c.in_ok-ran.ran.log.entries right.follows
 
 pub returns-clause-ends : goal.returns-clause-ends
 returns-clause-ends c =
-    let right : IsRight (stage_of c.args.s.now) (played c.in_ok-ran.ran) =
-    c.serial_laws.ensures.right (stage_of c.args.s.now) c.args.s.now.turns (played c.in_ok-ran.ran) c.in_ok-ran.ensures.serial in
-    c.meant_laws.ensures.ends (stage_of c.args.s.now) c.in_ok-ran.ran.log.entries c.in_ok-ran.ran.stop right.ends
+    let right : IsRight (setup_of c.args.s.now) (played c.in_ok-ran.ran) =
+    c.serial_laws.ensures.right (setup_of c.args.s.now) c.args.s.now.turns (played c.in_ok-ran.ran) c.in_ok-ran.ensures.serial in
+    c.meant_laws.ensures.ends (setup_of c.args.s.now) c.in_ok-ran.ran.log.entries c.in_ok-ran.ran.stop right.ends
 
 pub returns-clause-lawful : goal.returns-clause-lawful
 returns-clause-lawful c =

@@ -1,12 +1,12 @@
 use Rattle.std.proofs.Common.{◌≡◌, ℕ, ◌+◌, ◌<◌, ◌≤◌, arith, List, length, sym, ap, ◌∙◌, subst}
 use Rattle.std.proofs.lemmas.List.Elements.{All-weaker}
-use Rattle.session_order.specs.Ends.{Stage}
+use Rattle.session_order.specs.Ends.{Setup}
 use Rattle.session_order.specs.Serial.{IsSerial, nothing_played, turns}
 use Rattle.session_run.proofs.Ends.{IsEnd, run-serial, run-world}
 use Rattle.session_run.proofs.Sessions.{from-start, program-count}
 use Rattle.session_run.specs.Playing.{IsAt}
 use Rattle.session_run.specs.Runs.{played}
-use Rattle.session_order.specs.Sessions.{stage_of}
+use Rattle.session_order.specs.Sessions.{setup_of}
 use Rattle.session_text.specs.Sessions.{ArePrograms}
 use Rattle.vt_journal.specs.declared.limits.Limits.{Limits}
 use Rattle.vt_procs.specs.declared.config.Config.{Config}
@@ -41,7 +41,7 @@ turns-requires-clause-known g c =
 
 pub returns-clause-serial : goal.returns-clause-serial
 returns-clause-serial g c =
-    let o : Stage = stage_of c.args.s.now in
+    let o : Setup = setup_of c.args.s.now in
     let first : List ℕ = c.turns-first.result.now in
     let same : o.programs ≡ c.programs-programs.result.now = sym c.programs-programs.ensures.same in
     let are : ArePrograms (length c.args.s.now.config.procs) c.args.s.now.programs =
@@ -57,7 +57,7 @@ returns-clause-serial g c =
 
 pub returns-clause-world : goal.returns-clause-world
 returns-clause-world g c =
-    let o : Stage = stage_of c.args.s.now in
+    let o : Setup = setup_of c.args.s.now in
     let first : List ℕ = c.turns-first.result.now in
     let same : o.programs ≡ c.programs-programs.result.now = sym c.programs-programs.ensures.same in
     let are : ArePrograms (length c.args.s.now.config.procs) c.args.s.now.programs =

@@ -55,7 +55,9 @@ impl Typist {
             → result ≡ said_after tables.now mode before b }
     {
         match self.scanner.push(b) {
-            Some(e) => self.keyboard.key(e, tables, &mut self.state, START_MODES),
+            Some(e) => self
+                .keyboard
+                .key(0, e, tables, &mut self.state, START_MODES),
             None => KeyOut::Nothing,
         }
     }

@@ -14,6 +14,7 @@ open-requires-clause-free g c = λ p.
       cols = s.config.size.cols;
       consoles = s.config.consoles;
       front = s.config.front;
+      keyboards = 1;
       processes = s.config.procs;
       tables = s.tables;
       fit = subst (λ (config : Config). IsFitSet config.consoles config.front) c.config.ensures.same

@@ -12,7 +12,7 @@ loop-i-preserved g c = record {
       let i : ℕ = c.loop-i.i in
       let n : ℕ = length c.args.programs.now in
       let now : Played = (c.loop-i.invariant.at o t same at).0 in
-      let p : i ≡ c.in-Some.p = in_range_same 0 64 i c.in-Some.p (sym c.in-Some.ensures) in
+      let p : i ≡ c.in-Some.p = in_range_same 0 67 i c.in-Some.p (sym c.in-Some.ensures) in
       let left : n - i ≡ suc (n - (i + 1)) = omega (arith, c.loop-i-test.true) in
       let more : turns o (range_with_len (i + 1) (n - (i + 1))) (turn o i now) ≡ round o t =
       ap (λ k. turns o (range_with_len i k) now) (sym left) ∙ (c.loop-i.invariant.at o t same at).2 in (

@@ -1,5 +1,5 @@
 use Rattle.std.proofs.Common.{◌≡◌, length}
-use Rattle.session_order.specs.Ends.{Stage}
+use Rattle.session_order.specs.Ends.{Setup}
 use Rattle.session_order.specs.Serial.{Played, rounds}
 use Rattle.session_run.specs.Playing.{IsAt}
 use Rattle.session_run.proofs.player.Player.rounds.Given as goal
@@ -7,6 +7,6 @@ use Rattle.session_run.proofs.player.Player.rounds.Given as goal
 abbrev pub invariant-loop-round : goal.invariant-loop-round
 invariant-loop-round g l = record {
   walks : length l.self.walks ≡ length l.programs;
-  at : (o : Stage) (t : Played) → o.programs ≡ l.programs → IsAt o t l.initial.self
+  at : (o : Setup) (t : Played) → o.programs ≡ l.programs → IsAt o t l.initial.self
       → IsAt o (rounds o l._round t) l.self;
 }

@@ -1,5 +1,5 @@
 use Rattle.std.proofs.Common.{◌≡◌, drop, length}
-use Rattle.session_order.specs.Ends.{Stage}
+use Rattle.session_order.specs.Ends.{Setup}
 use Rattle.session_order.specs.Serial.{Played, turns}
 use Rattle.session_run.specs.Playing.{IsAt}
 use Rattle.session_run.proofs.player.Player.turns.Given as goal
@@ -7,6 +7,6 @@ use Rattle.session_run.proofs.player.Player.turns.Given as goal
 abbrev pub invariant-loop-caller : goal.invariant-loop-caller
 invariant-loop-caller g l = record {
   walks : length l.self.walks ≡ length l.programs;
-  at : (o : Stage) (t : Played) → o.programs ≡ l.programs → IsAt o t l.initial.self
+  at : (o : Setup) (t : Played) → o.programs ≡ l.programs → IsAt o t l.initial.self
       → (now : Played) × IsAt o now l.self × (turns o (drop l.caller-index l.callers) now ≡ turns o l.callers t);
 }

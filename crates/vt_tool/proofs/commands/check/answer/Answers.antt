@@ -1,18 +1,30 @@
-use Rattle.std.proofs.Common.{inl}
+use Rattle.std.proofs.Common.{List, length, ap, ◌∙◌, subst}
+use Rattle.session_text.specs.Sessions.{SessionView}
+use Rattle.vt_base.specs.ConsoleSet.{IsFitSet}
+use Rattle.vt_events.specs.declared.entry.Entry.{Entry}
+use Rattle.vt_journal.specs.declared.tail.Tail.{Tail}
+use Rattle.vt_procs.specs.declared.config.Config.{Config}
+use Rattle.vt_tool.proofs.Checks.{right-if-legal}
 use Rattle.vt_tool.proofs.Oks.{ok_more}
+use Rattle.vt_tool.specs.Commands.Check.{legal_text}
+use Rattle.vt_tool.specs.Commands.Judged.{judged_text}
 use Rattle.vt_tool.proofs.commands.check.answer.Goals as goal
 
-pub returns-in-Ok-clause-gives : goal.returns-in-Ok-clause-gives
-returns-in-Ok-clause-gives c =
-    let (value, said, is) = c.in-Ok.ensures in
-    ok_more _ _ c.answer_read.result
-    (λ answer comes. inl (record {
-      text = c.cut-parts.result.session.now;
-      journal = c.cut-parts.result.journal.now;
-      cut = c.cut-parts.ensures;
-      value = value;
-      session = c.in-Ok.session;
-      said = said;
-      is = is;
-      read = comes;
-    })) c.answer_read.ensures.comes
+pub returns-clause-judged : goal.returns-clause-judged
+returns-clause-judged c =
+    let s : SessionView = c.args.session.now in
+    let entries : List Entry = c.args.journal.now.entries in
+    let end : Tail = c.args.journal.now.tail in
+    let facts = c.in_ok-verdict.ensures in
+    ok_more _ _ c.answer_told.result
+    (λ answer is. record {
+      verdict = c.in_ok-verdict.verdict;
+      judged = facts.judges;
+      right =
+          right-if-legal s entries end c.in_ok-verdict.verdict c.displays_are_lawful.ensures.waiting
+          (subst (λ (config : Config). IsFitSet config.consoles config.front) c.config-config.ensures.same
+          c.config-config.ensures.fit)
+          facts.legal facts.lawful facts.screens;
+      is = is
+          ∙ ap (λ n. judged_text (legal_text n) c.in_ok-verdict.verdict) (ap length c.as_slice.ensures.same);
+    }) c.answer_told.ensures.told

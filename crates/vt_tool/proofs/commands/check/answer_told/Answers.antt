@@ -1,17 +1,17 @@
-use Rattle.std.proofs.Common.{refl}
 use Rattle.vt_tool.proofs.Checks.{told-illegal, told-legal}
 use Rattle.vt_tool.proofs.Oks.{ok_both}
+use Rattle.vt_tool.specs.Commands.Check.{legal_text}
 use Rattle.vt_tool.proofs.commands.check.answer_told.Goals as goal
 
 pub returns-in-Legal-clause-told : goal.returns-in-Legal-clause-told
 returns-in-Legal-clause-told c =
     ok_both _ _ _ c.answer_legal.result
     (λ answer status text.
-    told-legal answer.status answer.text.bytes c.args.entries c.args.entries c.args.verdict status text
-    refl c.in-Legal.is) c.answer_legal.ensures.status c.answer_legal.ensures.text
+    told-legal answer.status answer.text.bytes (legal_text c.args.entries) c.args.verdict status text
+    c.in-Legal.is) c.answer_legal.ensures.status c.answer_legal.ensures.text
 
 pub returns-in-Illegal-clause-told : goal.returns-in-Illegal-clause-told
 returns-in-Illegal-clause-told c =
-    told-illegal c.answer_illegal.result.status c.answer_illegal.result.text.bytes c.args.entries
-    c.in-Illegal.index c.in-Illegal.why c.args.verdict c.answer_illegal.ensures.status
-    c.answer_illegal.ensures.text c.in-Illegal.is
+    told-illegal c.without_text.result.status c.without_text.result.text.bytes (legal_text c.args.entries)
+    c.in-Illegal.index c.in-Illegal.why c.args.verdict c.without_text.ensures.status
+    c.without_text.ensures.text c.in-Illegal.is

@@ -1,6 +1,8 @@
-use Rattle.std.proofs.Common.{List, Option}
+use Rattle.std.proofs.Common.{ℕ, List, ◌++◌, Option, ap, ◌∙◌}
 use Rattle.session_text.specs.Sessions.{SessionView}
 use Rattle.vt_events.specs.declared.entry.Entry.{Entry}
+use Rattle.vt_journal.specs.Journal.{journal_text}
+use Rattle.vt_journal.specs.Room.{tail_at}
 use Rattle.vt_journal.specs.declared.full.Full.{Full}
 use Rattle.vt_tool.proofs.Sessions.{right-run, run-printed}
 use Rattle.vt_world.specs.State.{WorldState}
@@ -22,5 +24,8 @@ returns-clause-raced g c =
           facts.explained facts.screens;
       printed =
           run-printed s world entries stop facts.world c.in_ok-answer.answer.status
-          c.in_ok-answer.answer.text.bytes printed.status printed.text;
+          c.in_ok-answer.answer.text.bytes printed.status
+          (printed.text
+          ∙ ap (λ (last : List ℕ). journal_text 2 entries (tail_at entries stop) ++ last)
+          (c.as_slice.ensures ∙ c.in_ok-last.ensures));
     }

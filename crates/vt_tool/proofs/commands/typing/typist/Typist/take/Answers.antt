@@ -18,10 +18,10 @@ returns-in-Some-clause-typed c =
     ∙ ap (λ (t : TypistView). record t.scanner { bytes = bytes_after t.scanner.bytes b })
     c.self.view_is)
     (c.key.ensures.keys
-    ∙ ap (λ (t : TypistView). (key_step c.args.tables.now start_modes c.in-Some.e t.keys t.state).keys)
+    ∙ ap (λ (t : TypistView). (key_step c.args.tables.now start_modes 0 c.in-Some.e t.keys t.state).keys)
     c.self.view_is)
     (c.key.ensures.state
-    ∙ ap (λ (t : TypistView). (key_step c.args.tables.now start_modes c.in-Some.e t.keys t.state).state)
+    ∙ ap (λ (t : TypistView). (key_step c.args.tables.now start_modes 0 c.in-Some.e t.keys t.state).state)
     c.self.view_is)
 
 pub returns-in-None-clause-typed : goal.returns-in-None-clause-typed

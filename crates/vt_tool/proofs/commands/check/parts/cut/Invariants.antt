@@ -1,5 +1,0 @@
-use Rattle.vt_tool.proofs.Cuts.{NoneBefore}
-use Rattle.vt_tool.proofs.commands.check.parts.cut.Given as goal
-
-abbrev pub invariant-loop-at : goal.invariant-loop-at
-invariant-loop-at l = NoneBefore l.input l.at

@@ -1,0 +1,8 @@
+use Rattle.vt_tool.proofs.Outcomes.{one-accepted, one-outcome}
+use Rattle.vt_tool.specs.declared.commands.asked.Asked.TheVariants as asked
+use Rattle.vt_tool.proofs.laws.one_accept.Goals as goal
+
+pub returns : goal.returns
+returns c =
+    one-outcome c.one_session.ensures c.one_value.ensures c.one_journal.ensures.one asked.Acceptance
+    (one-accepted c.one_acceptance.ensures c.one_cert.ensures.one)

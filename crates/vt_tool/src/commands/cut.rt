@@ -1,0 +1,71 @@
+ghost use Rattle.std.specs.Prelude.{◌≡◌, ◌≤◌, true, false, drop, length, take};
+ghost use Rattle.vt_tool.specs.Commands.Cut.{BeginsLine, HasMark, IsCut, IsMarked};
+
+use vt_journal::version_of;
+
+/// How the first line of a certificate begins (docs/EXPLAIN.md).
+const CERT_MARK: &[u8] = b"%explain ";
+
+/// What a line begins with before which an input is cut.
+#[derive(Clone, Copy)]
+pub enum Mark {
+    /// The first line of a journal (docs/JOURNAL.md).
+    Journal,
+    /// The word of a certificate.
+    Certificate,
+}
+
+/// An input, cut before the first of its lines that begins with a mark.
+#[derive(Clone, Copy)]
+pub struct Parts<'a> {
+    /// The text before that line.
+    pub text: &'a [u8],
+    /// The text from there on; empty where the input has no such line.
+    pub after: &'a [u8],
+}
+
+/// The input, cut before the first of its lines that begins with the mark.
+pub fn cut(mark: Mark, input: &[u8]) -> Parts<'_>
+    ensures { IsCut mark input.now result.text.now result.after.now }
+{
+    for at in 0..input.len() {
+        if has_mark_at(mark, input, at) {
+            return Parts {
+                text: &input[..at],
+                after: &input[at..],
+            };
+        }
+    }
+    Parts {
+        text: input,
+        after: &[],
+    }
+}
+
+// A line that begins with the mark begins at this place.
+fn has_mark_at(mark: Mark, input: &[u8], at: usize) -> bool
+    requires { at ≤ length input.now }
+    ensures yes { result ≡ true → IsMarked mark input.now (take at input.now) (drop at input.now) }
+    ensures no { result ≡ false
+        → ¬ IsMarked mark input.now (take at input.now) (drop at input.now) }
+{
+    let (text, after) = input.split_at(at);
+    begins_line(text) && has_mark(mark, after)
+}
+
+fn begins_line(text: &[u8]) -> bool
+    ensures yes { result ≡ true → BeginsLine text.now }
+    ensures no { result ≡ false → ¬ BeginsLine text.now }
+{
+    text.is_empty() || text.ends_with(b"\n".as_slice())
+}
+
+fn has_mark(mark: Mark, text: &[u8]) -> bool
+    ensures yes { result ≡ true → HasMark mark text.now }
+    ensures no { result ≡ false → ¬ HasMark mark text.now }
+{
+    match mark {
+        Mark::Journal => version_of(text).is_some(),
+        Mark::Certificate => text.starts_with(CERT_MARK),
+    }
+}

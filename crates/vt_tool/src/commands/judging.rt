@@ -1,0 +1,115 @@
+//! What the commands do alike that read a session and a journal after it.
+ghost use Rattle.std.specs.Prelude.{◌≡◌, [], IfOk, IsTrue};
+ghost use Rattle.vt_tool.specs.Commands.Judging.{GivesAsked, IsFitAsked, IsParted, IsReadAs, MakesOf, column_of};
+ghost use Rattle.vt_tool.specs.Status.{is_own};
+
+use crate::answer::{Answer, refused};
+use crate::commands::asked::Asked;
+use crate::commands::cut::{Mark, Parts, cut};
+use crate::commands::{accept, check, explain, review};
+use crate::status::Status;
+use session_text::{Session, read};
+use std::alloc::Global;
+use table_fields::TableError;
+use vt_base::{Bytes, NoMemory};
+use vt_journal::{JError, JFault, Journal, parse};
+
+/// What is made of the session and the text after it; or the first fault of the session, or else of
+/// that text.
+pub fn answer(alloc: Global, asked: Asked, input: &[u8]) -> Result<Answer, NoMemory>
+    requires { IsFitAsked asked }
+    ensures gives { IfOk result (λ answer. GivesAsked asked input.now
+        (record { status = answer.status; text = answer.text.bytes })) }
+    ensures own { IfOk result (λ answer. IsTrue (is_own answer.status)) }
+{
+    let parts = cut(Mark::Journal, input);
+    match read(alloc, parts.text) {
+        Ok(session) => answer_read(alloc, asked, &session, parts.after),
+        Err(TableError::Fault(fault)) => Ok(refused(alloc, fault)),
+        Err(TableError::NoMemory) => Err(NoMemory),
+    }
+}
+
+// What comes of the text after a session.
+fn answer_read(
+    alloc: Global,
+    asked: Asked,
+    session: &Session,
+    after: &[u8],
+) -> Result<Answer, NoMemory>
+    requires { IsFitAsked asked }
+    ensures read { IfOk result (λ answer. IsReadAs asked session.now after.now
+        (record { status = answer.status; text = answer.text.bytes })) }
+    ensures own { IfOk result (λ answer. IsTrue (is_own answer.status)) }
+{
+    let parts = parts_for(asked, after);
+    match parse(alloc, parts.text) {
+        Ok(journal) => {
+            let answer = make_of(alloc, asked, session, &journal, parts.after)?;
+            Ok(answer)
+        }
+        Err(JError::Fault(fault)) => Ok(answer_refused(alloc, fault)),
+        Err(JError::NoMemory) => Err(NoMemory),
+    }
+}
+
+// The journal, and the certificate after it where that is asked about.
+fn parts_for(asked: Asked, after: &[u8]) -> Parts<'_>
+    ensures { IsParted asked after.now result.text.now result.after.now }
+{
+    match asked {
+        Asked::Acceptance => cut(Mark::Certificate, after),
+        _ => Parts {
+            text: after,
+            after: &[],
+        },
+    }
+}
+
+// What is made of a journal, and of the text of a certificate.
+fn make_of(
+    alloc: Global,
+    asked: Asked,
+    session: &Session,
+    journal: &Journal,
+    cert: &[u8],
+) -> Result<Answer, NoMemory>
+    requires { IsFitAsked asked }
+    ensures makes { IfOk result (λ answer. MakesOf asked cert.now session.now journal.now
+        (record { status = answer.status; text = answer.text.bytes })) }
+    ensures own { IfOk result (λ answer. IsTrue (is_own answer.status)) }
+{
+    match asked {
+        Asked::Verdict => check::answer(alloc, session, journal),
+        Asked::Review { kinds, console } => review::answer(alloc, kinds, console, session, journal),
+        Asked::Explanation => explain::answer(alloc, session, journal),
+        Asked::Acceptance => accept::answer(alloc, session, journal, cert),
+    }
+}
+
+/// The answer with this status, and no text.
+pub fn without_text(alloc: Global, status: Status) -> Answer
+    ensures status { result.status ≡ status }
+    ensures text { result.text.bytes ≡ [] }
+{
+    Answer {
+        status,
+        text: Bytes::new(alloc),
+    }
+}
+
+/// The answer to a journal that is refused at this fault.
+pub fn answer_refused(alloc: Global, fault: JFault) -> Answer
+    ensures status { result.status
+        ≡ Status.Refused fault.kind fault.line (column_of fault.line) }
+    ensures text { result.text.bytes ≡ [] }
+{
+    without_text(
+        alloc,
+        Status::Refused {
+            code: fault.kind,
+            a: fault.line,
+            b: if fault.line == 0 { 0 } else { 1 },
+        },
+    )
+}

@@ -1,0 +1,104 @@
+//! `review K N`: what one ear is told of the journal after a session.
+ghost use Rattle.std.specs.Prelude.{◌≡◌, ◌≤◌, ◌-◌, ◌^◌, ◌==◌, [], ◌∷◌, map, string_bytes, if◌then◌else◌, IfOk, IfSome, IsTrue};
+ghost use Rattle.vt_tool.specs.Commands.{IsFit, IsSerial};
+ghost use Rattle.vt_tool.specs.Commands.Review.{IsReviewed, consoles_heard, ear_of, kinds_heard};
+ghost use Rattle.vt_tool.specs.Status.{is_own};
+ghost use Rattle.vt_tool.specs.Words.{if_two_numbers};
+ghost use Rattle.vt_tool.specs.declared.command.Command.TheVariants as command;
+
+use crate::answer::Answer;
+use crate::command::Command;
+use crate::commands::judging::without_text;
+use crate::status::Status;
+use crate::words::parse_number;
+use session_text::Session;
+use std::alloc::Global;
+use vt_base::NoMemory;
+use vt_journal::Journal;
+use vt_review::{Ear, EarTable, Listener, Notice, Reviewed, review};
+
+/// The words after `review`: the kinds of notices, and the console.
+pub fn parse(words: &[String]) -> Option<Command>
+    ensures command { result
+        ≡ if_two_numbers kinds_heard consoles_heard command.Review (map string_bytes words.now) }
+    ensures serial { IfSome result (λ command. IsSerial command) }
+    ensures fit { IfSome result (λ command. IsFit command) }
+{
+    let [kinds, console] = words else { return None };
+    let kinds = parse_number(kinds.as_str(), 0, 7)?;
+    let console = parse_number(console.as_str(), 0, 63)?;
+    Some(Command::Review {
+        kinds: kinds as u8,
+        console: console as u8,
+    })
+}
+
+/// What an ear of these kinds and this console is told of the journal.
+pub fn answer(
+    alloc: Global,
+    kinds: u8,
+    console: u8,
+    session: &Session,
+    journal: &Journal,
+) -> Result<Answer, NoMemory>
+    requires { console ≤ 63 }
+    ensures reviewed { IfOk result (λ answer.
+        IsReviewed (ear_of kinds console) session.now journal.now
+        (record { status = answer.status; text = answer.text.bytes })) }
+    ensures own { IfOk result (λ answer. IsTrue (is_own answer.status)) }
+{
+    let table = EarTable {
+        kinds,
+        consoles: consoles_heard(console),
+    };
+    answer_by(
+        alloc,
+        move |n: Notice| table.says(n),
+        table,
+        session,
+        journal,
+    )
+}
+
+// What an ear over this listener is told of the journal.
+fn answer_by<F: Listener>(
+    alloc: Global,
+    f: F,
+    table: EarTable,
+    session: &Session,
+    journal: &Journal,
+) -> Result<Answer, NoMemory>
+    requires { F.hears f table }
+    ensures reviewed { IfOk result (λ answer. IsReviewed table session.now journal.now
+        (record { status = answer.status; text = answer.text.bytes })) }
+    ensures own { IfOk result (λ answer. IsTrue (is_own answer.status)) }
+{
+    let ears = one_ear(alloc, f, table)?;
+    match review(alloc, session, journal, ears.as_slice())? {
+        Reviewed::Text(text) => Ok(Answer {
+            status: Status::Fine,
+            text,
+        }),
+        Reviewed::Illegal { index, why } => {
+            Ok(without_text(alloc, Status::Illegal { index, why }))
+        }
+    }
+}
+
+// An ear over this listener.
+fn one_ear<F: Listener>(alloc: Global, f: F, table: EarTable) -> Result<Vec<Ear<F>>, NoMemory>
+    requires { F.hears f table }
+    ensures { IfOk result (λ ears. ears.items ≡ table ∷ []) }
+{
+    let mut ears = Vec::new(alloc);
+    ears.push(Ear::new(f, table))?;
+    Ok(ears)
+}
+
+// The consoles that are heard: this one, or all for 0.
+fn consoles_heard(console: u8) -> u64
+    requires { console ≤ 63 }
+    ensures { result ≡ if console == 0 then 2 ^ 64 - 1 else 2 ^ console }
+{
+    if console == 0 { u64::MAX } else { 1 << console }
+}

@@ -1,0 +1,66 @@
+//! `upgrade`: a journal of version 1 in version 2.
+ghost use Rattle.std.specs.Prelude.{◌≡◌, true, false, IfOk, IsTrue};
+ghost use Rattle.vt_journal.specs.Journal.{journal_text};
+ghost use Rattle.vt_journal.specs.Says.{HasFirst};
+ghost use Rattle.vt_tool.specs.Commands.Upgrade.{GivesUpgraded};
+ghost use Rattle.vt_tool.specs.Status.{is_own};
+
+use crate::answer::Answer;
+use crate::commands::judging::{answer_refused, without_text};
+use crate::status::Status;
+use std::alloc::Global;
+use vt_base::{Bytes, NoMemory};
+use vt_journal::{JError, Journal, parse, print, version_of};
+
+/// The refusal of a text that begins as a journal of version 2.
+const NO_FIRST: Status = Status::Refused {
+    code: 40,
+    a: 0,
+    b: 0,
+};
+
+/// The journal in version 2, or its first fault: a journal of version 2 has no first line here.
+pub fn answer(alloc: Global, input: &[u8]) -> Result<Answer, NoMemory>
+    ensures gives { IfOk result (λ answer. GivesUpgraded input.now
+        (record { status = answer.status; text = answer.text.bytes })) }
+    ensures own { IfOk result (λ answer. IsTrue (is_own answer.status)) }
+{
+    if is_newer(input) {
+        return Ok(without_text(alloc, NO_FIRST));
+    }
+    match parse(alloc, input) {
+        Ok(journal) => answer_printed(alloc, &journal),
+        Err(JError::Fault(fault)) => Ok(answer_refused(alloc, fault)),
+        Err(JError::NoMemory) => Err(NoMemory),
+    }
+}
+
+// The text begins with the first line of version 2.
+fn is_newer(input: &[u8]) -> bool
+    ensures yes { result ≡ true → HasFirst 2 input.now }
+    ensures no { result ≡ false → ¬ HasFirst 2 input.now }
+{
+    match version_of(input) {
+        Some(version) => version == 2,
+        None => false,
+    }
+}
+
+fn answer_printed(alloc: Global, journal: &Journal) -> Result<Answer, NoMemory>
+    ensures status { IfOk result (λ answer. answer.status ≡ Status.Fine) }
+    ensures text { IfOk result
+        (λ answer. answer.text.bytes ≡ journal_text 2 journal.now.entries journal.now.tail) }
+{
+    let mut text = Bytes::new(alloc);
+    print(
+        alloc,
+        journal.entries.as_slice(),
+        2,
+        &journal.tail,
+        &mut text,
+    )?;
+    Ok(Answer {
+        status: Status::Fine,
+        text,
+    })
+}

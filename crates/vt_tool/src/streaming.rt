@@ -1,0 +1,37 @@
+ghost use Rattle.std.specs.Prelude.{◌≡◌, ◌≤◌, length};
+ghost use Rattle.vt_tool.specs.Streaming.{EndsByLength, EndsStreaming};
+
+use crate::intake::SCREEN_LIMIT;
+use crate::streamed::Streamed;
+use vt_io::Source;
+use vt_screen::{Emu, any_cut};
+
+/// Draws what the source gives on the screen, piece by piece through `buf`. What the bytes say beside
+/// the screen is dropped.
+pub fn screen_stream<S: Source>(src: &mut S, emu: &mut Emu, buf: &mut [u8]) -> Streamed
+    requires some { 1 ≤ length buf.old }
+    requires few { length buf.old ≤ 4_096 }
+    ensures ends { EndsStreaming
+        (record { told = S.left src.old; faults = S.faults src.old })
+        (record { told = S.left src.new; faults = S.faults src.new }) emu.old emu.new result }
+    ensures exact { EndsByLength
+        (record { told = S.left src.old; faults = S.faults src.old })
+        (record { told = S.left src.new; faults = S.faults src.new }) result }
+{
+    any_cut();
+    let mut left = SCREEN_LIMIT;
+    'reads: loop {
+        let Ok(count) = src.read(buf) else {
+            return Streamed::Fault;
+        };
+        if count == 0 {
+            return Streamed::End;
+        }
+        if count > left {
+            emu.write(&buf[..left]);
+            return Streamed::TooLong;
+        }
+        emu.write(&buf[..count]);
+        left -= count;
+    }
+}
