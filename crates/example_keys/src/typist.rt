@@ -32,7 +32,7 @@ impl Typist {
     /// What a scan byte comes to: nothing where no key ends with it.
     pub fn take(&mut self, tables: &KeyTables, scan: u8) -> KeyOut {
         match self.scanner.push(scan) {
-            Some(event) => self.keyboard.key(event, tables, &mut self.state, MODES),
+            Some(event) => self.keyboard.key(0, event, tables, &mut self.state, MODES),
             None => KeyOut::Nothing,
         }
     }

@@ -1,0 +1,23 @@
+//! An example of the library: a console of two processes, of which one handles the switches of its own console. Each digit
+//! of the input is a console that the other one asks for; out come their calls, the answers, and who has the display.
+#![tactic(auto)]
+
+mod asking;
+mod calling;
+mod opening;
+mod telling;
+
+use asking::ask_for_each;
+use std::io;
+use std::io::{ErrorKind, Read, Write};
+use vt_base::NoMemory;
+
+fn main(rt: HostRuntime) -> io::Result<()> {
+    let alloc = rt.alloc();
+    let mut text = Vec::new(alloc);
+    rt.reader().read_to_end(&mut text)?;
+    match ask_for_each(alloc, text.as_slice()) {
+        Ok(lines) => io::writer(&rt).write_all(lines.as_slice()),
+        Err(NoMemory) => Err(io::Error::from(ErrorKind::OutOfMemory)),
+    }
+}

@@ -1,0 +1,51 @@
+//! The console at the start, with what both processes do first.
+use crate::calling::{asker, call, server};
+use key_tables::KeyTables;
+use std::alloc::Global;
+use vt_base::{ConsoleNo, NoMemory, Size};
+use vt_events::Event;
+use vt_procs::{Config, ProcList, ProcStart};
+use vt_world::World;
+
+/// Consoles 1 and 2: bit n is console n.
+const CONSOLES: u64 = 0b110;
+
+/// Signal 10 tells process 1 to let the display go, and 12 that it came back.
+const BY_SIGNALS: Event = Event::SetMode(0, 1, 0, 10, 12, 0);
+
+/// A console on which each process has its own console open as descriptor 0.
+pub fn opened(alloc: Global) -> Result<World, NoMemory> {
+    let mut world = started(alloc)?;
+    call(alloc, &mut world, server(), &Event::OpenCon(1))?;
+    call(alloc, &mut world, server(), &BY_SIGNALS)?;
+    call(alloc, &mut world, asker(), &Event::OpenCon(2))?;
+    Ok(world)
+}
+
+// Console 1 is in front, and no key types anything.
+fn started(alloc: Global) -> Result<World, NoMemory> {
+    let tables = KeyTables::empty(alloc, &[0])?;
+    let config = Config {
+        size: Size { rows: 25, cols: 80 },
+        consoles: CONSOLES,
+        front: ConsoleNo::numbered(1),
+        procs: processes(),
+        keyboards: 1,
+    };
+    World::start(alloc, &config, &tables)
+}
+
+// Each is at home on the console of its number, whose switches it may handle.
+fn processes() -> ProcList {
+    let mut list = ProcList::new();
+    list.push(at_home(1));
+    list.push(at_home(2));
+    list
+}
+
+fn at_home(home: u8) -> ProcStart {
+    ProcStart {
+        home,
+        privileged: false,
+    }
+}
