@@ -35,7 +35,8 @@ PIECES = [
     b"events = 3\n", b"bytes = 64\n", b"turns = [1, 0, 2]\n", b"consoles = [1, 63]\n", b"rows = 255\n", b"cols = 1\n",
     b"hooks = [\"10 leave\"]\n", b"keys = \"e1 1d 45 e1 9d c5\"\n", b"keymaps 0-255\n", b"keycode 255 = U+FFFF\n",
     b"string F1 = \"\\377\"\n", b"compose as usual\n", b"include \"a\"\n", b"alt_is_meta\n", b"plain keycode 1 = Escape\n",
-    b"%journal 1\n", b"%end 0 0\n", b"%full 1 64 64\n", b"1 0 open 1 = num 0\n", b"0 0 exit = ok\n", b"= err 3\n",
+    b"%journal 1\n", b"%journal 2\n", b"%end 0 0\n", b"%full 1 64 64\n", b"1 0 open 1 = num 0\n", b"0 0 exit = ok\n", b"= err 3\n",
+    b"p1 0 open 1 = num 0\n", b"k0 0 exit = ok\n", b"p", b"k",
     b"\x1b[", b"\x1b]P", b"\x1bc", b"\x1b#8", b"\x9b", b"\x1b[?7l", b"\x1b[99999;99999H", b"\xf0\x9f\x92\xa9", b"\xed\xa0\x80",
     b"\xff", b"\0", b"\r\n", b"\\\n", b"'''", b"\"", b"]", b"-", b"18446744073709551616", b"4294967296", b"65536", b"00",
 ]  # fmt: skip
@@ -162,6 +163,18 @@ def cuts(count):
         yield (f"cut {i}: {why}" if why else None)
 
 
+def upgrades(played, count):
+    """A journal written in version 1 upgrades to what it was, and a damaged one ends as it may."""
+    new = played[: played.index(b"\n", played.index(b"\n%end ") + 1) + 1]
+    old = re.sub(rb"^(?:k(?=0 )|p(?=\d))", b"", new.replace(b"%journal 2", b"%journal 1", 1), flags=re.M)
+    ran = run(["upgrade"], old)
+    why = fault_of(ran)
+    if not why and ran.stdout != new:
+        why = "it isn't the journal of version 2"
+    yield (f"upgrade: {why}" if why else None)
+    yield from many(["upgrade"], [old], count, "upgrade")
+
+
 def cut_journals(session, played):
     """A journal cut after each byte from its first line on, but the last: 41 inside a line, 42 after a whole one."""
     journal = played[: played.index(b"\n", played.index(b"\n%end ") + 1) + 1]
@@ -192,6 +205,7 @@ def main():
         "keymaps dumped": many(["dumpkeys"], keymaps, 2 * count, "dumpkeys"),
         "type tables": many(["type"], tables, 4 * count, "type"),
         "journals": many(["check"], journals, 4 * count, "check"),
+        "journals upgraded": upgrades(read("session.journal")[0], 2 * count),
         "played twice": plays(sessions, count),
         "streams": screens(4 * count),
         "cut writes": cuts(4 * count),

@@ -76,7 +76,7 @@ def tour_faults():
         return
     left = journal.read_text(encoding="utf-8").splitlines()
     for line in page.read_text(encoding="utf-8").splitlines():
-        quoted = re.fullmatch(r"    (\d+ \d+ .* = .*)", line)
+        quoted = re.fullmatch(r"    ([kp]\d+ \d+ .* = .*)", line)
         if not quoted:
             continue
         if quoted[1] not in left:
