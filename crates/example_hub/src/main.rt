@@ -1,6 +1,7 @@
 //! An example of the library: one console for two processes, each in a thread of its own. Process 1 handles the switches
 //! of console 1, and process 2 asks for console 2 and writes the input there. Out come the calls of each with their
-//! answers, who has the display at the end, and what console 2 shows. That is the same whatever turns the threads take.
+//! answers, who has the display at the end, and what console 2 shows. Where the journal has room for each call, that is the
+//! same whatever turns the threads take.
 #![tactic(auto)]
 
 mod asker;
