@@ -1,0 +1,42 @@
+//! An example of the library: one console for two processes, each in a thread of its own. Process 1 handles the switches
+//! of console 1, and process 2 asks for console 2 and writes the input there. Out come the calls of each with their
+//! answers, who has the display at the end, and what console 2 shows. Where the journal has room for each call, that is the
+//! same whatever turns the threads take.
+#![tactic(auto)]
+
+mod asker;
+mod calling;
+mod opening;
+mod server;
+mod sharing;
+mod telling;
+
+use opening::started;
+use sharing::shared;
+use std::alloc::Global;
+use std::io;
+use std::io::{ErrorKind, Read, Write};
+use std::sync::Wait;
+use std::thread::Threads;
+use telling::told;
+use vt_base::{Bytes, NoMemory};
+
+fn main(rt: HostRuntime) -> io::Result<()> {
+    let alloc = rt.alloc();
+    let mut text = Vec::new(alloc);
+    rt.reader().read_to_end(&mut text)?;
+    match lines_of(&rt, alloc, text.as_slice()) {
+        Ok(lines) => io::writer(&rt).write_all(lines.as_slice()),
+        Err(NoMemory) => Err(io::Error::from(ErrorKind::OutOfMemory)),
+    }
+}
+
+fn lines_of<R: Threads + Wait + Sync>(
+    rt: &R,
+    alloc: Global,
+    text: &[u8],
+) -> Result<Bytes, NoMemory> {
+    let world = started(alloc)?;
+    let run = shared(rt, alloc, world, text)?;
+    told(alloc, &run)
+}
