@@ -1,4 +1,4 @@
-use std::process::Abort;
+use crate::checks::{check_name, check_number, check_text};
 use vt_cells::Intensity::{Bold, Dim, Normal};
 use vt_cells::{
     Attr, Intensity, Look, Palette, attr_byte, columns, erase_byte, fold_bg, fold_fg, is_plain,
@@ -48,23 +48,20 @@ fn attr_of(fg: u8, bg: u8, intensity: Intensity, on: [bool; 4]) -> Attr {
     }
 }
 
-// The first row of the table that is shown otherwise.
-fn first_misshown(cases: &[Shown]) -> Option<usize> {
+fn is_shown(case: &Shown) -> bool {
+    let (fg, bg, intensity, on, byte) = *case;
     let look = Look { ul: 15, dim: 8 };
-    for (number, (fg, bg, intensity, on, byte)) in cases.iter().enumerate() {
-        if attr_byte(&attr_of(*fg, *bg, *intensity, *on), &look) != *byte {
-            return Some(number);
-        }
-    }
-    None
+    attr_byte(&attr_of(fg, bg, intensity, on), &look) == byte
 }
 
 #[test]
 fn shows_attributes(rt: HostRuntime) {
-    assert_eq!(rt; first_misshown(SHOWN), None);
+    for case in SHOWN {
+        check_number(&rt, is_shown(case), u32::from(case.4));
+    }
     let shown = attr_of(1, 4, Normal, [true, false, true, true]);
-    assert_eq!(rt; erase_byte(&shown), 0x14, "the colours alone");
-    assert_eq!(rt; swapped(0xAC), 0xCA, "blink and bright stay");
+    check_name(&rt, erase_byte(&shown) == 0x14, "the colours alone");
+    check_name(&rt, swapped(0xAC) == 0xCA, "blink and bright stay");
 }
 
 // An index of the 256 colours, and its red, green and blue.
@@ -105,32 +102,35 @@ const FOLDED: &[Folded] = &[
     ((0xAB, 0x56, 0), (3, true)),
 ];
 
-fn check_indexed(rt: &impl Abort, palette: &Palette, case: &Indexed) {
+fn is_indexed(palette: &Palette, case: &Indexed) -> bool {
     let (index, rgb) = *case;
-    assert_eq!(rt; rgb_of(index), rgb, "{index}");
-    if index < 16 {
-        assert_eq!(rt; palette.get(index), rgb, "palette {index}");
-    }
+    rgb_of(index) == rgb && (index >= 16 || palette.get(index) == rgb)
 }
 
-fn check_folded(rt: &impl Abort, case: &Folded) {
+fn is_folded(case: &Folded) -> bool {
     let ((r, g, b), hue) = *case;
-    assert_eq!(rt; fold_fg(r, g, b), hue, "{r} {g} {b}");
+    fold_fg(r, g, b) == hue
+}
+
+fn is_set() -> bool {
+    let mut palette = Palette::start();
+    palette.set(12, (1, 2, 3));
+    palette.get(12) == (1, 2, 3)
 }
 
 #[test]
 fn folds_colours(rt: HostRuntime) {
-    let mut palette = Palette::start();
+    let palette = Palette::start();
     for case in INDEXED {
-        check_indexed(&rt, &palette, case);
+        check_number(&rt, is_indexed(&palette, case), u32::from(case.0));
     }
-    palette.set(12, (1, 2, 3));
-    assert_eq!(rt; palette.get(12), (1, 2, 3));
+    check_name(&rt, is_set(), "a colour of the palette");
     for case in FOLDED {
-        check_folded(&rt, case);
+        let (r, g, b) = case.0;
+        check_text(&rt, is_folded(case), &[r, g, b]);
     }
-    assert_eq!(rt; fold_bg(128, 0, 127), 1);
-    assert_eq!(rt; fold_bg(127, 128, 255), 6);
+    check_name(&rt, fold_bg(128, 0, 127) == 1, "blue");
+    check_name(&rt, fold_bg(127, 128, 255) == 6, "cyan");
 }
 
 // A code, and how many columns it takes: the widths of Unicode 18.0 (Unicode Standard Annex 11), with
@@ -174,18 +174,19 @@ const TAKEN: &[(u32, u8)] = &[
     (0xFFFF_FFFF, 1),
 ];
 
-// The first code that takes other columns, or is called plain and doesn't take one.
-fn first_mistaken(cases: &[(u32, u8)]) -> Option<u32> {
-    for (code, width) in cases {
-        if columns(*code) != *width || is_plain(*code) && *width != 1 {
-            return Some(*code);
-        }
-    }
-    None
+// Whether the code takes so many columns, and is called plain only where it takes one.
+fn takes(code: u32, width: u8) -> bool {
+    columns(code) == width && (width == 1 || !is_plain(code))
 }
 
 #[test]
 fn characters_have_columns(rt: HostRuntime) {
-    assert_eq!(rt; first_mistaken(TAKEN), None);
-    assert!(rt; is_plain(0x20) && is_plain(0x2500) && !is_plain(0x4E00));
+    for (code, width) in TAKEN {
+        check_number(&rt, takes(*code, *width), *code);
+    }
+    check_name(
+        &rt,
+        is_plain(0x20) && is_plain(0x2500) && !is_plain(0x4E00),
+        "plain characters",
+    );
 }

@@ -1,70 +1,78 @@
-ghost use Rattle.std.specs.Prelude.{◌≡◌, ◌≤◌, IfOk};
-ghost use Rattle.vt_dump.specs.Dumps.{cell_count};
-
+use crate::checks::{check_made, check_row};
 use std::alloc::Global;
-use std::test::Fail;
 use vt_base::{Bytes, NoMemory, Size};
 use vt_cells::Cell;
 use vt_dump::{add_rows, codes, text_rows, vcs, vcsa};
 use vt_grid::Grid;
 
 // A row of blanks that begins with one character.
-fn row(alloc: Global, cols: u8, code: u32) -> Result<Grid, NoMemory>
-    requires { 1 ≤ cols }
-    ensures { IfOk result (λ grid. cell_count grid ≡ cols) }
-{
-    let size = Size { rows: 1, cols };
-    let mut grid = Grid::blank(
-        alloc,
-        size,
-        Cell {
-            code: 0x20,
-            attr: 0x07,
-        },
-    )?;
+fn row(alloc: Global, cols: u8, code: u32) -> Result<Grid, NoMemory> {
+    let size = Size {
+        rows: 1,
+        cols: cols.max(1),
+    };
+    let blank = Cell {
+        code: 0x20,
+        attr: 0x07,
+    };
+    let mut grid = Grid::blank(alloc, size, blank)?;
     grid.put(0, 0, Cell { code, attr: 0x07 });
     Ok(grid)
 }
 
-fn has_characters(alloc: Global, grid: &Grid, wanted: &[u8]) -> Result<bool, NoMemory>
-    requires { cell_count grid.now ≡ 2 }
-{
-    let mut out = Bytes::with_room(alloc, 2)?;
+fn characters(alloc: Global, grid: &Grid) -> Result<Bytes, NoMemory> {
+    let size = grid.size();
+    let cells = usize::from(size.rows) * usize::from(size.cols);
+    let mut out = Bytes::with_room(alloc, cells)?;
     vcs(grid, &mut out);
-    Ok(out.as_slice() == wanted)
+    Ok(out)
 }
 
-fn has_pairs(alloc: Global, grid: &Grid, reversed: bool, wanted: &[u8]) -> Result<bool, NoMemory>
-    requires { cell_count grid.now ≡ 2 }
-{
-    let mut out = Bytes::with_room(alloc, 8)?;
+fn has_characters(alloc: Global, grid: &Grid, wanted: &[u8]) -> Result<bool, NoMemory> {
+    Ok(characters(alloc, grid)?.as_slice() == wanted)
+}
+
+fn has_pairs(alloc: Global, grid: &Grid, reversed: bool, wanted: &[u8]) -> Result<bool, NoMemory> {
+    let size = grid.size();
+    let cells = usize::from(size.rows) * usize::from(size.cols);
+    let mut out = Bytes::with_room(alloc, 4 + 2 * cells)?;
     vcsa(grid, 1, 0, reversed, &mut out);
     Ok(out.as_slice() == wanted)
 }
 
-fn has_codes(alloc: Global, grid: &Grid, wanted: &[u8]) -> Result<bool, NoMemory>
-    requires { cell_count grid.now ≡ 2 }
-{
-    let mut out = Bytes::with_room(alloc, 8)?;
+fn has_codes(alloc: Global, grid: &Grid, wanted: &[u8]) -> Result<bool, NoMemory> {
+    let size = grid.size();
+    let cells = usize::from(size.rows) * usize::from(size.cols);
+    let mut out = Bytes::with_room(alloc, 4 * cells)?;
     codes(grid, &mut out);
     Ok(out.as_slice() == wanted)
 }
 
+const CHARACTERS: &[u8] = &[0x41, 0x20];
+
+const PAIRS: &[u8] = &[1, 2, 1, 0, 0x41, 7, 0x20, 7];
+
+const REVERSED: &[u8] = &[1, 2, 1, 0, 0x41, 0x70, 0x20, 0x70];
+
+const CODES: &[u8] = &[0x41, 0, 0, 0, 0x20, 0, 0, 0];
+
+fn are_dumped(alloc: Global, grid: &Grid) -> Result<bool, NoMemory> {
+    Ok(
+        has_characters(alloc, grid, CHARACTERS)?
+            && has_pairs(alloc, grid, false, PAIRS)?
+            && has_pairs(alloc, grid, true, REVERSED)?
+            && has_codes(alloc, grid, CODES)?,
+    )
+}
+
+fn dumps_two(alloc: Global) -> Result<bool, NoMemory> {
+    let grid = row(alloc, 2, 0x41)?;
+    are_dumped(alloc, &grid)
+}
+
 #[test]
-fn dumps_a_row_of_two(rt: HostRuntime) -> Result<(), Fail> {
-    let grid = row(rt.alloc(), 2, 0x41)?;
-    assert!(rt; has_characters(rt.alloc(), &grid, &[0x41, 0x20])?);
-    assert!(rt; has_pairs(rt.alloc(), &grid, false, &[1, 2, 1, 0, 0x41, 7, 0x20, 7])?);
-    assert!(rt;
-        has_pairs(
-            rt.alloc(),
-            &grid,
-            true,
-            &[1, 2, 1, 0, 0x41, 0x70, 0x20, 0x70]
-        )?
-    );
-    assert!(rt; has_codes(rt.alloc(), &grid, &[0x41, 0, 0, 0, 0x20, 0, 0, 0])?);
-    Ok(())
+fn dumps_a_row_of_two(rt: HostRuntime) {
+    check_made(&rt, dumps_two(rt.alloc()), "characters, pairs and codes");
 }
 
 // A code point, the byte that stands for it, and the row that shows it: UTF-8 of the first and last
@@ -93,40 +101,29 @@ const SHOWN: &[Shown] = &[
     (0xFFFF_FFFF, 0x3F, b"|?|\n"),
 ];
 
-// The bytes that stand for the code point: the character, and behind it the row.
-fn shown_bytes(alloc: Global, code: u32) -> Result<Bytes, NoMemory> {
-    let grid = row(alloc, 1, code)?;
-    let mut out = Bytes::with_room(alloc, 1)?;
-    vcs(&grid, &mut out);
-    add_rows(alloc, &mut out, &grid)?;
-    Ok(out)
-}
-
-fn row_text(alloc: Global, code: u32) -> Result<Bytes, NoMemory> {
-    let grid = row(alloc, 1, code)?;
-    text_rows(alloc, &grid)
-}
-
-// The first code point that is shown otherwise.
-fn first_misshown(alloc: Global, cases: &[Shown]) -> Result<Option<u32>, NoMemory> {
-    for (code, byte, text) in cases {
-        if row_text(alloc, *code)?.as_slice() != *text {
-            return Ok(Some(*code));
-        }
-        let both = shown_bytes(alloc, *code)?;
-        let is_right = match both.as_slice() {
-            [first, rest @ ..] => first == byte && rest == *text,
-            [] => false,
-        };
-        if !is_right {
-            return Ok(Some(*code));
-        }
+// Whether the character's byte is this one, and the row behind it this text.
+fn begins(alloc: Global, grid: &Grid, byte: u8, text: &[u8]) -> Result<bool, NoMemory> {
+    let mut out = characters(alloc, grid)?;
+    add_rows(alloc, &mut out, grid)?;
+    match out.as_slice() {
+        [first, rest @ ..] => Ok(*first == byte && rest == text),
+        [] => Ok(false),
     }
-    Ok(None)
+}
+
+fn has_text(alloc: Global, grid: &Grid, text: &[u8]) -> Result<bool, NoMemory> {
+    Ok(text_rows(alloc, grid)?.as_slice() == text)
+}
+
+fn is_shown(alloc: Global, case: &Shown) -> Result<bool, NoMemory> {
+    let (code, byte, text) = *case;
+    let grid = row(alloc, 1, code)?;
+    Ok(has_text(alloc, &grid, text)? && begins(alloc, &grid, byte, text)?)
 }
 
 #[test]
-fn shows_characters(rt: HostRuntime) -> Result<(), Fail> {
-    assert_eq!(rt; first_misshown(rt.alloc(), SHOWN)?, None);
-    Ok(())
+fn shows_characters(rt: HostRuntime) {
+    for case in SHOWN {
+        check_row(&rt, is_shown(rt.alloc(), case), case.2);
+    }
 }

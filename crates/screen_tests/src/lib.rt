@@ -6,6 +6,8 @@ mod cells;
 #[cfg(test)]
 mod chars;
 #[cfg(test)]
+mod checks;
+#[cfg(test)]
 mod dumps;
 #[cfg(test)]
 mod grids;

@@ -7,12 +7,13 @@ mod cuts;
 mod sayings;
 mod sizes;
 
+use crate::checks::{check_made, check_name, check_row, check_text};
 use std::alloc::Global;
-use std::test::Fail;
+use std::process::Abort;
 use vt_base::{NoMemory, Size};
 use vt_cells::Cell;
 use vt_grid::Grid;
-use vt_screen::{Emu, Out, Outs, ReportText};
+use vt_screen::{BLANK, Emu, Out, Outs, ReportText};
 
 const SIZE: Size = Size { rows: 3, cols: 10 };
 
@@ -24,29 +25,67 @@ fn start(alloc: Global, size: Size) -> Result<Emu, NoMemory> {
     Ok(Emu::new(Grid::blank(alloc, size, mark)?))
 }
 
+// The screen of this size after a text.
+fn written(alloc: Global, size: Size, text: &[u8]) -> Result<Emu, NoMemory> {
+    let mut emu = start(alloc, size)?;
+    emu.write(text);
+    Ok(emu)
+}
+
+// Gives the screen another size, and the old grid.
+fn resize(alloc: Global, emu: &mut Emu, size: Size) -> Result<Grid, NoMemory> {
+    Ok(emu.resize(Grid::blank(alloc, size, BLANK)?))
+}
+
+// The cell at a place; outside the grid no cell is this one.
+fn cell_at(grid: &Grid, y: u8, x: u8) -> Cell {
+    let size = grid.size();
+    if y < size.rows && x < size.cols {
+        return grid.at(y, x);
+    }
+    Cell {
+        code: 0xFFFF_FFFF,
+        attr: 0xFF,
+    }
+}
+
 // Whether a row holds these characters, and blanks behind them, all in the start colours.
 fn has_row(grid: &Grid, y: u8, text: &str) -> bool {
     let mut characters = text.chars();
     for x in 0..grid.size().cols {
-        if y >= grid.size().rows {
-            return false;
-        }
-        let code = characters.next().map_or(0x20, |c| c as u32);
-        if grid.at(y, x) != (Cell { code, attr: 0x07 }) {
+        let code = match characters.next() {
+            Some(c) => c as u32,
+            None => 0x20,
+        };
+        if cell_at(grid, y, x) != (Cell { code, attr: 0x07 }) {
             return false;
         }
     }
     characters.next().is_none()
 }
 
-// The attribute bytes of the first cell and of the last one of its row.
-fn attributes(grid: &Grid) -> (u8, u8) {
+// Whether the rows that the grid has hold these texts.
+fn has_rows(grid: &Grid, rows: &[&str; 3]) -> bool {
     let size = grid.size();
-    (grid.at(0, 0).attr, grid.at(0, size.cols - 1).attr)
+    has_row(grid, 0, rows[0])
+        && (size.rows < 2 || has_row(grid, 1, rows[1]))
+        && (size.rows < 3 || has_row(grid, 2, rows[2]))
+}
+
+// Whether these are the attribute bytes of the first cell and of the last one of its row.
+fn has_attributes(grid: &Grid, first: u8, last: u8) -> bool {
+    let size = grid.size();
+    cell_at(grid, 0, 0).attr == first && cell_at(grid, 0, size.cols - 1).attr == last
+}
+
+// Whether the cursor is in this column and row, and a wrap is pending or not.
+fn has_cursor(emu: &Emu, x: u8, y: u8, wrap: bool) -> bool {
+    let state = emu.state();
+    state.x == x && state.y == y && state.wrap == wrap
 }
 
 // How the parts of a text are fed: as they are, or plainly, byte by byte.
-#[derive(Clone, Copy, Debug, PartialEq)]
+#[derive(Clone, Copy)]
 enum Way {
     Quickly,
     Plainly,
@@ -115,33 +154,24 @@ fn is_drawn(
     let mut emu = start(alloc, SIZE)?;
     let first = fed(&mut emu, way, parts.0);
     let second = fed(&mut emu, way, parts.1);
-    let is_alike = has_row(emu.grid(), 0, rows[0])
-        && has_row(emu.grid(), 1, rows[1])
-        && has_row(emu.grid(), 2, rows[2]);
-    Ok(is_alike && first.saturating_add(second) == bells)
+    Ok(has_rows(emu.grid(), rows) && first.saturating_add(second) == bells)
 }
 
-// The first text that makes something else when it is fed in two parts, and how.
-fn first_misdrawn(
-    alloc: Global,
-    cases: &[Case],
-) -> Result<Option<(&'static [u8], usize, Way)>, NoMemory> {
-    for (text, rows, bells) in cases {
-        for cut in 0..text.len() {
-            for way in [Way::Quickly, Way::Plainly] {
-                if !is_drawn(alloc, way, text.split_at(cut), rows, *bells)? {
-                    return Ok(Some((text, cut, way)));
-                }
-            }
+fn check_cuts(by: &impl Abort, alloc: Global, case: &Case) {
+    let (text, rows, bells) = *case;
+    for cut in 0..text.len() {
+        for way in [Way::Quickly, Way::Plainly] {
+            let made = is_drawn(alloc, way, text.split_at(cut), &rows, bells);
+            check_row(by, made, text);
         }
     }
-    Ok(None)
 }
 
 #[test]
-fn no_cut_matters(rt: HostRuntime) -> Result<(), Fail> {
-    assert_eq!(rt; first_misdrawn(rt.alloc(), CASES)?, None);
-    Ok(())
+fn no_cut_matters(rt: HostRuntime) {
+    for case in CASES {
+        check_cuts(&rt, rt.alloc(), case);
+    }
 }
 
 // A text, and after it: the cursor's column and row, whether a wrap is pending, the table in use, and
@@ -159,25 +189,18 @@ const LEFT: &[Left] = &[
     (&[b'x'; 130], 9, 2, true, 0, false),
 ];
 
-// The first text that leaves another state.
-fn first_left(alloc: Global, cases: &[Left]) -> Result<Option<&'static [u8]>, NoMemory> {
-    for (text, x, y, wrap, shift, display) in cases {
-        let mut emu = start(alloc, SIZE)?;
-        emu.write(text);
-        let state = emu.state();
-        let is_left = (state.x, state.y, state.wrap) == (*x, *y, *wrap)
-            && (state.shift, state.pen.display) == (*shift, *display);
-        if !is_left {
-            return Ok(Some(text));
-        }
-    }
-    Ok(None)
+fn is_left(alloc: Global, case: &Left) -> Result<bool, NoMemory> {
+    let (text, x, y, wrap, shift, display) = *case;
+    let emu = written(alloc, SIZE, text)?;
+    let state = emu.state();
+    Ok(has_cursor(&emu, x, y, wrap) && state.shift == shift && state.pen.display == display)
 }
 
 #[test]
-fn a_text_leaves_a_state(rt: HostRuntime) -> Result<(), Fail> {
-    assert_eq!(rt; first_left(rt.alloc(), LEFT)?, None);
-    Ok(())
+fn a_text_leaves_a_state(rt: HostRuntime) {
+    for case in LEFT {
+        check_row(&rt, is_left(rt.alloc(), case), case.0);
+    }
 }
 
 // Draws by a user's table, and then by another.
@@ -188,28 +211,44 @@ fn draw_by_tables(emu: &mut Emu) {
     emu.write(b"ab");
 }
 
-#[test]
-fn the_users_table_is_the_last_one(rt: HostRuntime) -> Result<(), Fail> {
-    let mut emu = start(rt.alloc(), SIZE)?;
-    draw_by_tables(&mut emu);
-    assert!(rt; has_row(emu.grid(), 0, "\u{2604}\u{2604}"));
+fn has_tables(emu: &Emu) -> bool {
     let state = emu.state();
-    assert!(rt; (state.g0, state.g1) == (3, 1));
-    assert!(rt; !state.utf8 && !state.pen.alt && !state.pen.toggle);
-    Ok(())
+    state.g0 == 3 && state.g1 == 1 && !state.utf8 && !state.pen.alt && !state.pen.toggle
+}
+
+fn shows_last_table(alloc: Global) -> Result<bool, NoMemory> {
+    let mut emu = start(alloc, SIZE)?;
+    draw_by_tables(&mut emu);
+    Ok(has_row(emu.grid(), 0, "\u{2604}\u{2604}") && has_tables(&emu))
+}
+
+#[test]
+fn the_users_table_is_the_last_one(rt: HostRuntime) {
+    check_made(&rt, shows_last_table(rt.alloc()), "the row and the tables");
+}
+
+fn report() -> ReportText {
+    let mut text = ReportText::new();
+    text.push(0x1B);
+    text.push(b'c');
+    text
+}
+
+fn keeps_two() -> bool {
+    let mut outs = Outs::new();
+    outs.push(Out::Bell);
+    outs.push(Out::Report(report()));
+    outs.as_slice().len() == 2 && matches!(outs.as_slice().first(), Some(Out::Bell))
 }
 
 #[test]
 fn keeps_what_is_said(rt: HostRuntime) {
-    let mut text = ReportText::new();
-    text.push(0x1B);
-    text.push(b'c');
-    assert_eq!(rt; text.as_slice(), b"\x1Bc".as_slice());
-    let mut outs = Outs::new();
-    outs.push(Out::Bell);
-    outs.push(Out::Report(text));
-    assert_eq!(rt; outs.as_slice().len(), 2);
-    assert!(rt; matches!(&outs.as_slice()[0], Out::Bell));
-    assert!(rt; ReportText::default().as_slice().is_empty());
-    assert!(rt; Outs::default().as_slice().is_empty());
+    check_text(&rt, report().as_slice() == b"\x1Bc".as_slice(), b"\x1Bc");
+    check_name(&rt, keeps_two(), "a bell and a report");
+    check_name(
+        &rt,
+        ReportText::default().as_slice().is_empty(),
+        "no report",
+    );
+    check_name(&rt, Outs::default().as_slice().is_empty(), "nothing said");
 }

@@ -1,3 +1,4 @@
+use crate::checks::{check_name, check_text};
 use std::process::Abort;
 use vt_units::Ahead::{Csi, Esc, Nothing};
 use vt_units::{Ahead, Mode, Params, Pending, Then};
@@ -73,37 +74,38 @@ const NOTHINGS: &[&[u8]] = &[
     b"\x9B4m",
 ];
 
-fn check(rt: &impl Abort, mode: Mode, text: &[u8], ahead: Ahead, numbers: &[u16]) {
+// Whether this is read of the text at once, and these parameters with it.
+fn is_taken(mode: Mode, text: &[u8], ahead: Ahead, numbers: &[u16]) -> bool {
     let mut pending = Pending::new();
     let mut params = Params::new();
     params.push(7);
-    assert_eq!(rt;
-        pending.take_sequence(mode, text, &mut params),
-        ahead,
-        "{text:?}"
-    );
-    assert_eq!(rt; params.as_slice(), numbers, "{text:?}");
+    pending.take_sequence(mode, text, &mut params) == ahead && params.as_slice() == numbers
 }
 
-fn check_all(rt: &impl Abort, mode: Mode) {
-    for (text, private, last, count, numbers) in CONTROLS {
-        let ahead = Csi {
-            private: *private,
-            last: *last,
-            count: *count,
-        };
-        check(rt, mode, text, ahead, numbers);
+fn is_control(mode: Mode, case: &Control) -> bool {
+    let (text, private, last, count, numbers) = *case;
+    let ahead = Csi {
+        private,
+        last,
+        count,
+    };
+    is_taken(mode, text, ahead, numbers)
+}
+
+fn is_escape(mode: Mode, case: &Escape) -> bool {
+    let (text, mid, last, count) = *case;
+    is_taken(mode, text, Esc { mid, last, count }, &[])
+}
+
+fn check_all(by: &impl Abort, mode: Mode) {
+    for case in CONTROLS {
+        check_text(by, is_control(mode, case), case.0);
     }
-    for (text, mid, last, count) in ESCAPES {
-        let ahead = Esc {
-            mid: *mid,
-            last: *last,
-            count: *count,
-        };
-        check(rt, mode, text, ahead, &[]);
+    for case in ESCAPES {
+        check_text(by, is_escape(mode, case), case.0);
     }
     for text in NOTHINGS {
-        check(rt, mode, text, Nothing, &[]);
+        check_text(by, is_taken(mode, text, Nothing, &[]), text);
     }
 }
 
@@ -113,27 +115,46 @@ fn takes_whole_sequences(rt: HostRuntime) {
     check_all(&rt, BYTES);
 }
 
-#[test]
-fn takes_sequences_of_256_bytes(rt: HostRuntime) {
+// Whether this is read at once of a sequence whose last byte stands at this place.
+fn is_taken_of_zeros(place: usize, ahead: Ahead, numbers: &[u16]) -> bool {
     let mut text = [b'0'; 257];
     text[0] = 0x1B;
     text[1] = b'[';
-    text[255] = b'A';
+    if place < 257 {
+        text[place] = b'A';
+    }
+    is_taken(UTF8, &text, ahead, numbers)
+}
+
+#[test]
+fn takes_sequences_of_256_bytes(rt: HostRuntime) {
     let whole = Csi {
         private: false,
         last: b'A',
         count: 256,
     };
-    check(&rt, UTF8, &text, whole, &[0]);
-    text[255] = b'0';
-    text[256] = b'A';
-    check(&rt, UTF8, &text, Nothing, &[]);
+    check_name(&rt, is_taken_of_zeros(255, whole, &[0]), "256 bytes");
+    check_name(&rt, is_taken_of_zeros(256, Nothing, &[]), "257 bytes");
 }
 
-// What is read at once of ESC [ m.
-fn first_ahead(pending: &mut Pending) -> Ahead {
+// Whether ESC [ m is read at once.
+fn takes_reset(pending: &mut Pending) -> bool {
     let mut params = Params::default();
-    pending.take_sequence(UTF8, b"\x1B[m", &mut params)
+    let ahead = pending.take_sequence(UTF8, b"\x1B[m", &mut params);
+    matches!(
+        ahead,
+        Csi {
+            last: b'm',
+            count: 3,
+            ..
+        }
+    )
+}
+
+// Whether nothing is read at once of it.
+fn takes_nothing(pending: &mut Pending) -> bool {
+    let mut params = Params::default();
+    matches!(pending.take_sequence(UTF8, b"\x1B[m", &mut params), Nothing)
 }
 
 // Whether the byte ends a unit.
@@ -144,19 +165,10 @@ fn ends(pending: &mut Pending, b: u8) -> bool {
 #[test]
 fn takes_no_sequence_behind_a_text(rt: HostRuntime) {
     let mut pending = Pending::default();
-    assert!(rt; pending.is_empty());
-    assert!(rt; !ends(&mut pending, 0x1B));
-    assert!(rt; !pending.is_empty());
-    assert!(rt; matches!(first_ahead(&mut pending), Nothing));
-    assert!(rt; ends(&mut pending, b'c'), "ESC c");
-    assert!(rt;
-        matches!(
-            first_ahead(&mut pending),
-            Csi {
-                last: b'm',
-                count: 3,
-                ..
-            }
-        )
-    );
+    check_name(&rt, pending.is_empty(), "at the start");
+    check_name(&rt, !ends(&mut pending, 0x1B), "ESC");
+    check_name(&rt, !pending.is_empty(), "behind ESC");
+    check_name(&rt, takes_nothing(&mut pending), "ESC [ m behind ESC");
+    check_name(&rt, ends(&mut pending, b'c'), "ESC c");
+    check_name(&rt, takes_reset(&mut pending), "ESC [ m");
 }

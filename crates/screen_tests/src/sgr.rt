@@ -1,4 +1,4 @@
-use std::process::Abort;
+use crate::checks::check_params;
 use vt_cells::Intensity::{Bold, Dim, Normal};
 use vt_cells::{Attr, Intensity, Look};
 use vt_sgr::{Pen, apply};
@@ -21,15 +21,9 @@ const PEN: Pen = Pen {
     toggle: false,
 };
 
-// A pen of white on black after some parameters: its colours, and whether italic, underline, blink
-// and reverse are on.
-#[derive(Clone, Copy)]
-struct Case {
-    params: &'static [u16],
-    colours: (u8, u8),
-    intensity: Intensity,
-    on: [bool; 4],
-}
+// Parameters, and a pen of white on black after them: its colours, its intensity, and whether italic,
+// underline, blink and reverse are on.
+type Case = (&'static [u16], (u8, u8), Intensity, [bool; 4]);
 
 const OFF: [bool; 4] = [false; 4];
 
@@ -37,9 +31,10 @@ const ON: [bool; 4] = [true; 4];
 
 const UNDERLINED: [bool; 4] = [false, true, false, false];
 
-fn check(rt: &impl Abort, case: &Case) {
+fn is_drawn(case: &Case) -> bool {
+    let (params, colours, wanted, on) = *case;
     let mut pen = PEN;
-    apply(&mut pen, case.params);
+    apply(&mut pen, params);
     let Attr {
         fg,
         bg,
@@ -49,187 +44,55 @@ fn check(rt: &impl Abort, case: &Case) {
         blink,
         reverse,
     } = pen.attr;
-    assert_eq!(rt; (fg, bg), case.colours, "{:?}", case.params);
-    assert_eq!(rt; intensity, case.intensity, "{:?}", case.params);
-    assert_eq!(rt;
-        [italic, underline, blink, reverse],
-        case.on,
-        "{:?}",
-        case.params
-    );
+    (fg, bg) == colours && intensity == wanted && [italic, underline, blink, reverse] == on
 }
 
 const DRAWN: &[Case] = &[
-    Case {
-        params: &[],
-        colours: (2, 4),
-        intensity: Normal,
-        on: OFF,
-    },
-    Case {
-        params: &[1, 3, 4, 5, 7, 0],
-        colours: (2, 4),
-        intensity: Normal,
-        on: OFF,
-    },
-    Case {
-        params: &[1],
-        colours: (7, 0),
-        intensity: Bold,
-        on: OFF,
-    },
-    Case {
-        params: &[1, 2],
-        colours: (7, 0),
-        intensity: Dim,
-        on: OFF,
-    },
-    Case {
-        params: &[1, 22],
-        colours: (7, 0),
-        intensity: Normal,
-        on: OFF,
-    },
-    Case {
-        params: &[3, 4, 5, 7],
-        colours: (7, 0),
-        intensity: Normal,
-        on: ON,
-    },
-    Case {
-        params: &[3, 4, 5, 7, 23, 24, 25, 27],
-        colours: (7, 0),
-        intensity: Normal,
-        on: OFF,
-    },
-    Case {
-        params: &[21],
-        colours: (7, 0),
-        intensity: Normal,
-        on: UNDERLINED,
-    },
-    Case {
-        params: &[33, 45],
-        colours: (3, 5),
-        intensity: Normal,
-        on: OFF,
-    },
-    Case {
-        params: &[91, 103],
-        colours: (1, 3),
-        intensity: Bold,
-        on: OFF,
-    },
-    Case {
-        params: &[31, 41, 39],
-        colours: (2, 1),
-        intensity: Normal,
-        on: OFF,
-    },
-    Case {
-        params: &[31, 41, 49],
-        colours: (1, 4),
-        intensity: Normal,
-        on: OFF,
-    },
-    Case {
-        params: &[6, 28, 50, 98, 108, 65_535],
-        colours: (7, 0),
-        intensity: Normal,
-        on: OFF,
-    },
+    (&[], (2, 4), Normal, OFF),
+    (&[1, 3, 4, 5, 7, 0], (2, 4), Normal, OFF),
+    (&[1], (7, 0), Bold, OFF),
+    (&[1, 2], (7, 0), Dim, OFF),
+    (&[1, 22], (7, 0), Normal, OFF),
+    (&[3, 4, 5, 7], (7, 0), Normal, ON),
+    (&[3, 4, 5, 7, 23, 24, 25, 27], (7, 0), Normal, OFF),
+    (&[21], (7, 0), Normal, UNDERLINED),
+    (&[33, 45], (3, 5), Normal, OFF),
+    (&[91, 103], (1, 3), Bold, OFF),
+    (&[31, 41, 39], (2, 1), Normal, OFF),
+    (&[31, 41, 49], (1, 4), Normal, OFF),
+    (&[6, 28, 50, 98, 108, 65_535], (7, 0), Normal, OFF),
 ];
 
 #[test]
 fn draws_by_parameters(rt: HostRuntime) {
     for case in DRAWN {
-        check(&rt, case);
+        check_params(&rt, is_drawn(case), case.0);
     }
 }
 
 const FOLDED: &[Case] = &[
     // Index 196, and more than 255 in a part.
-    Case {
-        params: &[38, 5, 196],
-        colours: (1, 0),
-        intensity: Bold,
-        on: OFF,
-    },
-    Case {
-        params: &[38, 2, 999, 0, 0],
-        colours: (1, 0),
-        intensity: Bold,
-        on: OFF,
-    },
+    (&[38, 5, 196], (1, 0), Bold, OFF),
+    (&[38, 2, 999, 0, 0], (1, 0), Bold, OFF),
     // The intensity is the colour's, and a ground has none.
-    Case {
-        params: &[1, 38, 5, 244],
-        colours: (7, 0),
-        intensity: Normal,
-        on: OFF,
-    },
-    Case {
-        params: &[38, 5, 8],
-        colours: (0, 0),
-        intensity: Bold,
-        on: OFF,
-    },
-    Case {
-        params: &[48, 5, 12],
-        colours: (7, 4),
-        intensity: Normal,
-        on: OFF,
-    },
+    (&[1, 38, 5, 244], (7, 0), Normal, OFF),
+    (&[38, 5, 8], (0, 0), Bold, OFF),
+    (&[48, 5, 12], (7, 4), Normal, OFF),
     // What follows a whole form acts, also where the form does nothing.
-    Case {
-        params: &[48, 2, 128, 0, 127, 4],
-        colours: (7, 1),
-        intensity: Normal,
-        on: UNDERLINED,
-    },
-    Case {
-        params: &[38, 5, 1, 48, 5, 2],
-        colours: (1, 2),
-        intensity: Normal,
-        on: OFF,
-    },
-    Case {
-        params: &[38, 5, 256, 4],
-        colours: (7, 0),
-        intensity: Normal,
-        on: UNDERLINED,
-    },
+    (&[48, 2, 128, 0, 127, 4], (7, 1), Normal, UNDERLINED),
+    (&[38, 5, 1, 48, 5, 2], (1, 2), Normal, OFF),
+    (&[38, 5, 256, 4], (7, 0), Normal, UNDERLINED),
     // A form that isn't whole ends the sequence.
-    Case {
-        params: &[38, 4],
-        colours: (7, 0),
-        intensity: Normal,
-        on: OFF,
-    },
-    Case {
-        params: &[4, 38, 5],
-        colours: (7, 0),
-        intensity: Normal,
-        on: UNDERLINED,
-    },
-    Case {
-        params: &[48, 2, 1, 4],
-        colours: (7, 0),
-        intensity: Normal,
-        on: OFF,
-    },
-    Case {
-        params: &[38, 0, 4, 4, 4, 4],
-        colours: (7, 0),
-        intensity: Normal,
-        on: OFF,
-    },
+    (&[38, 4], (7, 0), Normal, OFF),
+    (&[4, 38, 5], (7, 0), Normal, UNDERLINED),
+    (&[48, 2, 1, 4], (7, 0), Normal, OFF),
+    (&[38, 0, 4, 4, 4, 4], (7, 0), Normal, OFF),
 ];
 
 #[test]
 fn folds_colours(rt: HostRuntime) {
     for case in FOLDED {
-        check(&rt, case);
+        check_params(&rt, is_drawn(case), case.0);
     }
 }
 
@@ -244,16 +107,16 @@ const MAPPED: &[Mapping] = &[
     (&[12, 0], (true, true, true)),
 ];
 
-fn check_mapping(rt: &impl Abort, case: &Mapping) {
+fn is_mapped(case: &Mapping) -> bool {
     let (params, flags) = *case;
     let mut pen = PEN;
     apply(&mut pen, params);
-    assert_eq!(rt; (pen.alt, pen.display, pen.toggle), flags, "{params:?}");
+    (pen.alt, pen.display, pen.toggle) == flags
 }
 
 #[test]
 fn maps_by_parameters(rt: HostRuntime) {
     for case in MAPPED {
-        check_mapping(&rt, case);
+        check_params(&rt, is_mapped(case), case.0);
     }
 }

@@ -1,7 +1,7 @@
+use crate::checks::{check_name, check_text};
 use Told::{
     Act, Bad, Byte, Char, Colour, ColourReset, Control, Csi, Dropped, Esc, Ignored, Private,
 };
-use std::process::Abort;
 use vt_units::{Codes, Mode, Pending, Then, Unit};
 
 // What a byte came to. A control sequence is told by its parameters and its last byte.
@@ -21,12 +21,8 @@ enum Told {
     Dropped,
 }
 
-#[derive(Clone, Copy)]
-struct Case {
-    mode: Mode,
-    text: &'static [u8],
-    told: &'static [Told],
-}
+// How a text is read, the text, and what its bytes come to, but for those that come to nothing yet.
+type Case = (Mode, &'static [u8], &'static [Told]);
 
 const UTF8: Mode = Mode {
     utf8: true,
@@ -85,194 +81,98 @@ fn is_told(then: &Then, told: &Told) -> bool {
     }
 }
 
-fn check(rt: &impl Abort, case: &Case) {
+// Whether what the byte comes to is wanted next.
+fn is_next(then: &Then, wanted: Option<&Told>) -> bool {
+    match wanted {
+        Some(told) => is_told(then, told),
+        None => false,
+    }
+}
+
+fn is_read(case: &Case) -> bool {
+    let (mode, text, told) = *case;
     let mut pending = Pending::new();
-    let mut wanted = case.told.iter();
-    for b in case.text {
-        let read = pending.take(case.mode, *b);
-        if read.bad {
-            assert!(rt; matches!(wanted.next(), Some(Bad)), "{:?}", case.text);
+    let mut wanted = told.iter();
+    for b in text {
+        let read = pending.take(mode, *b);
+        if read.bad && !matches!(wanted.next(), Some(Bad)) {
+            return false;
         }
-        if !matches!(read.got, Then::More) {
-            let is_next = wanted.next().is_some_and(|told| is_told(&read.got, told));
-            assert!(rt; is_next, "{:?} of {:?}", read.got, case.text);
+        if !matches!(read.got, Then::More) && !is_next(&read.got, wanted.next()) {
+            return false;
         }
     }
-    assert!(rt; wanted.next().is_none(), "behind {:?}", case.text);
+    wanted.next().is_none()
 }
 
 const CHARACTERS: &[Case] = &[
-    Case {
-        mode: UTF8,
-        text: b"\xC3\x28",
-        told: &[Bad, Char(0x28)],
-    },
-    Case {
-        mode: UTF8,
-        text: b"\xC3\n",
-        told: &[Bad, Control(0x0A)],
-    },
-    Case {
-        mode: UTF8,
-        text: b"\xE2\xFF",
-        told: &[Bad, Char(0xFFFD)],
-    },
-    Case {
-        mode: UTF8,
-        text: b"\xE2\x94\x80\x7F",
-        told: &[Char(0x2500), Ignored],
-    },
-    Case {
-        mode: UTF8,
-        text: b"\xC2\x85\xC2\xA0",
-        told: &[Ignored, Char(0xA0)],
-    },
-    Case {
-        mode: UTF8,
-        text: b"\xC2\x9B3m",
-        told: &[Csi(&[3], b'm')],
-    },
-    Case {
-        mode: UTF8,
-        text: b"\x9B3",
-        told: &[Char(0xFFFD), Char(0x33)],
-    },
-    Case {
-        mode: UTF8,
-        text: b"\xE1\x1B[m",
-        told: &[Bad, Csi(&[0], b'm')],
-    },
-    Case {
-        mode: BYTES,
-        text: b"A\xFF\x7F\x01",
-        told: &[Byte(0x41), Byte(0xFF), Ignored, Control(1)],
-    },
-    Case {
-        mode: BYTES,
-        text: b"\x9B?25h",
-        told: &[Private(&[25], b'h')],
-    },
-    Case {
-        mode: SHOWN,
-        text: b"q\x01\x7F\x08",
-        told: &[Byte(0x71), Byte(1), Byte(0x7F), Control(8)],
-    },
-    Case {
-        mode: SHOWN,
-        text: b"\xC3\x9B4m",
-        told: &[Byte(0xC3), Csi(&[4], b'm')],
-    },
+    (UTF8, b"\xC3\x28", &[Bad, Char(0x28)]),
+    (UTF8, b"\xC3\n", &[Bad, Control(0x0A)]),
+    (UTF8, b"\xE2\xFF", &[Bad, Char(0xFFFD)]),
+    (UTF8, b"\xE2\x94\x80\x7F", &[Char(0x2500), Ignored]),
+    (UTF8, b"\xC2\x85\xC2\xA0", &[Ignored, Char(0xA0)]),
+    (UTF8, b"\xC2\x9B3m", &[Csi(&[3], b'm')]),
+    (UTF8, b"\x9B3", &[Char(0xFFFD), Char(0x33)]),
+    (UTF8, b"\xE1\x1B[m", &[Bad, Csi(&[0], b'm')]),
+    (
+        BYTES,
+        b"A\xFF\x7F\x01",
+        &[Byte(0x41), Byte(0xFF), Ignored, Control(1)],
+    ),
+    (BYTES, b"\x9B?25h", &[Private(&[25], b'h')]),
+    (
+        SHOWN,
+        b"q\x01\x7F\x08",
+        &[Byte(0x71), Byte(1), Byte(0x7F), Control(8)],
+    ),
+    (SHOWN, b"\xC3\x9B4m", &[Byte(0xC3), Csi(&[4], b'm')]),
 ];
 
 #[test]
 fn reads_characters(rt: HostRuntime) {
     for case in CHARACTERS {
-        check(&rt, case);
+        check_text(&rt, is_read(case), case.1);
     }
 }
 
 const SEQUENCES: &[Case] = &[
-    Case {
-        mode: UTF8,
-        text: b"\x1B[2;2HX",
-        told: &[Csi(&[2, 2], b'H'), Char(0x58)],
-    },
-    Case {
-        mode: UTF8,
-        text: b"\x1B[\x083C",
-        told: &[Act(8), Csi(&[3], b'C')],
-    },
-    Case {
-        mode: UTF8,
-        text: b"\x1B[3\x7F1m",
-        told: &[Csi(&[31], b'm')],
-    },
-    Case {
-        mode: UTF8,
-        text: b"\x1B[;70000m",
-        told: &[Csi(&[0, 65_535], b'm')],
-    },
-    Case {
-        mode: UTF8,
-        text: b"\x1B[1;1;1;1;1;1;1;1;1;1;1;1;1;1;1;1;31m",
-        told: &[Csi(&[1, 1, 1, 1, 1, 1, 1, 1, 1, 1, 1, 1, 1, 1, 1, 1], b'm')],
-    },
-    Case {
-        mode: UTF8,
-        text: b"\x1B[>c\x1B[1 q",
-        told: &[Ignored, Ignored],
-    },
-    Case {
-        mode: UTF8,
-        text: b"\x1B[[AB",
-        told: &[Ignored, Char(0x42)],
-    },
-    Case {
-        mode: UTF8,
-        text: b"\x1B[3\x18A",
-        told: &[Dropped, Char(0x41)],
-    },
-    Case {
-        mode: UTF8,
-        text: b"\x1B[3\x9BA",
-        told: &[Dropped, Char(0x41)],
-    },
-    Case {
-        mode: BYTES,
-        text: b"\x1B[3\x9B4m",
-        told: &[Csi(&[4], b'm')],
-    },
-    Case {
-        mode: UTF8,
-        text: b"\x1B[3\x1B[4m",
-        told: &[Csi(&[4], b'm')],
-    },
-    Case {
-        mode: UTF8,
-        text: b"\x1BD\x1B(0\x1B  F",
-        told: &[Esc(0, b'D'), Esc(b'(', b'0'), Ignored],
-    },
-    Case {
-        mode: UTF8,
-        text: b"\x1B]P1aF0c33\x1B]R",
-        told: &[Colour(1, 0xAF, 0x0C, 0x33), ColourReset],
-    },
-    Case {
-        mode: UTF8,
-        text: b"\x1B]P1g\x1B]\x7F",
-        told: &[Dropped, Dropped],
-    },
-    Case {
-        mode: UTF8,
-        text: b"\x1B]\x070;t\x07",
-        told: &[Act(7), Ignored],
-    },
-    Case {
-        mode: UTF8,
-        text: b"\x1B]0;t\x07ok",
-        told: &[Ignored, Char(0x6F), Char(0x6B)],
-    },
-    Case {
-        mode: UTF8,
-        text: b"\x1BPa\n\x1B\\\x1B_\x18",
-        told: &[Ignored, Ignored],
-    },
-    Case {
-        mode: UTF8,
-        text: b"\x1B^a\x1B\x7F[4m",
-        told: &[Csi(&[4], b'm')],
-    },
-    Case {
-        mode: UTF8,
-        text: b"\x1BXa\x1B\x07\x18",
-        told: &[Act(7), Dropped],
-    },
+    (UTF8, b"\x1B[2;2HX", &[Csi(&[2, 2], b'H'), Char(0x58)]),
+    (UTF8, b"\x1B[\x083C", &[Act(8), Csi(&[3], b'C')]),
+    (UTF8, b"\x1B[3\x7F1m", &[Csi(&[31], b'm')]),
+    (UTF8, b"\x1B[;70000m", &[Csi(&[0, 65_535], b'm')]),
+    (
+        UTF8,
+        b"\x1B[1;1;1;1;1;1;1;1;1;1;1;1;1;1;1;1;31m",
+        &[Csi(&[1, 1, 1, 1, 1, 1, 1, 1, 1, 1, 1, 1, 1, 1, 1, 1], b'm')],
+    ),
+    (UTF8, b"\x1B[>c\x1B[1 q", &[Ignored, Ignored]),
+    (UTF8, b"\x1B[[AB", &[Ignored, Char(0x42)]),
+    (UTF8, b"\x1B[3\x18A", &[Dropped, Char(0x41)]),
+    (UTF8, b"\x1B[3\x9BA", &[Dropped, Char(0x41)]),
+    (BYTES, b"\x1B[3\x9B4m", &[Csi(&[4], b'm')]),
+    (UTF8, b"\x1B[3\x1B[4m", &[Csi(&[4], b'm')]),
+    (
+        UTF8,
+        b"\x1BD\x1B(0\x1B  F",
+        &[Esc(0, b'D'), Esc(b'(', b'0'), Ignored],
+    ),
+    (
+        UTF8,
+        b"\x1B]P1aF0c33\x1B]R",
+        &[Colour(1, 0xAF, 0x0C, 0x33), ColourReset],
+    ),
+    (UTF8, b"\x1B]P1g\x1B]\x7F", &[Dropped, Dropped]),
+    (UTF8, b"\x1B]\x070;t\x07", &[Act(7), Ignored]),
+    (UTF8, b"\x1B]0;t\x07ok", &[Ignored, Char(0x6F), Char(0x6B)]),
+    (UTF8, b"\x1BPa\n\x1B\\\x1B_\x18", &[Ignored, Ignored]),
+    (UTF8, b"\x1B^a\x1B\x7F[4m", &[Csi(&[4], b'm')]),
+    (UTF8, b"\x1BXa\x1B\x07\x18", &[Act(7), Dropped]),
 ];
 
 #[test]
 fn reads_sequences(rt: HostRuntime) {
     for case in SEQUENCES {
-        check(&rt, case);
+        check_text(&rt, is_read(case), case.1);
     }
 }
 
@@ -294,56 +194,86 @@ fn swallowed(pending: &mut Pending, opening: u8, b: u8, count: u32) -> u32 {
     quiet
 }
 
+// A byte behind ESC, a byte that comes so many times behind it and to nothing yet, and then bytes and what they come to.
+type Long = (u8, u8, u32, &'static [(u8, Told)]);
+
+const LONG: &[Long] = &[
+    // 256 bytes
+    (b'[', b'0', 253, &[(b'A', Csi(&[0], b'A'))]),
+    // 257 bytes: a control character isn't counted
+    (
+        b'[',
+        b'0',
+        254,
+        &[(0x08, Act(8)), (b'0', Dropped), (b'A', Char(0x41))],
+    ),
+    // a string of any length
+    (b'P', b'x', 1_000_000, &[(0x07, Ignored)]),
+];
+
+fn are_swallowed(pending: &mut Pending, case: &Long) -> bool {
+    let (opening, b, count, behind) = *case;
+    if swallowed(pending, opening, b, count) != count {
+        return false;
+    }
+    for (b, told) in behind {
+        if !comes_to(pending, *b, *told) {
+            return false;
+        }
+    }
+    true
+}
+
 #[test]
 fn ends_long_texts(rt: HostRuntime) {
     let mut pending = Pending::new();
-    assert_eq!(rt; swallowed(&mut pending, b'[', b'0', 253), 253);
-    assert!(rt; comes_to(&mut pending, b'A', Csi(&[0], b'A')), "256 bytes");
-    assert_eq!(rt; swallowed(&mut pending, b'[', b'0', 254), 254);
-    assert!(rt;
-        comes_to(&mut pending, 0x08, Act(8)),
-        "a control character isn't counted"
-    );
-    assert!(rt; comes_to(&mut pending, b'0', Dropped), "257 bytes");
-    assert!(rt; comes_to(&mut pending, b'A', Char(0x41)), "behind them");
-    assert_eq!(rt; swallowed(&mut pending, b'P', b'x', 1_000_000), 1_000_000);
-    assert!(rt;
-        comes_to(&mut pending, 0x07, Ignored),
-        "a string of any length"
-    );
+    for case in LONG {
+        check_text(&rt, are_swallowed(&mut pending, case), &[case.0, case.1]);
+    }
+}
+
+// Whether so many of the bytes are taken at once.
+fn takes(pending: &mut Pending, mode: Mode, text: &[u8], count: usize) -> bool {
+    pending.take_printable(mode, text) == count
 }
 
 #[test]
 fn takes_printables(rt: HostRuntime) {
     let mut pending = Pending::default();
-    assert_eq!(rt; pending.take_printable(UTF8, b"ab ~\x1Bc"), 4);
-    assert_eq!(rt;
-        pending.take_printable(BYTES, b"ab"),
-        0,
-        "bytes have their tables"
+    check_name(&rt, takes(&mut pending, UTF8, b"ab ~\x1Bc", 4), "up to ESC");
+    check_name(
+        &rt,
+        takes(&mut pending, BYTES, b"ab", 0),
+        "bytes have their tables",
     );
     let _ = pending.take(UTF8, 0x1B);
-    assert_eq!(rt; pending.take_printable(UTF8, b"ab"), 0, "behind ESC");
-    assert!(rt; comes_to(&mut pending, b'c', Esc(0, b'c')), "ESC c");
-    assert_eq!(rt;
-        pending.take_printable(UTF8, b"ab\n"),
-        2,
-        "behind the sequence"
+    check_name(&rt, takes(&mut pending, UTF8, b"ab", 0), "behind ESC");
+    check_name(&rt, comes_to(&mut pending, b'c', Esc(0, b'c')), "ESC c");
+    check_name(
+        &rt,
+        takes(&mut pending, UTF8, b"ab\n", 2),
+        "behind the sequence",
     );
 }
+
+// A mode, a control character or another byte, and whether it is taken at once.
+const CONTROLS: &[(Mode, u8, bool)] = &[
+    (UTF8, b'\n', true),
+    (BYTES, 0x07, true),
+    (UTF8, 0x1B, false),
+    (UTF8, b'a', false),
+    (SHOWN, b'\n', true),
+    (SHOWN, 0x07, false),
+];
 
 #[test]
 fn takes_controls(rt: HostRuntime) {
     let mut pending = Pending::new();
-    assert!(rt; pending.take_control(UTF8, b'\n') && pending.take_control(BYTES, 0x07));
-    assert!(rt; !pending.take_control(UTF8, 0x1B) && !pending.take_control(UTF8, b'a'));
-    let shows = Mode {
-        utf8: true,
-        display: true,
-    };
-    assert!(rt; pending.take_control(shows, b'\n') && !pending.take_control(shows, 0x07));
+    for (mode, b, is_taken) in CONTROLS {
+        check_text(&rt, pending.take_control(*mode, *b) == *is_taken, &[*b]);
+    }
     let _ = pending.take(UTF8, 0x1B);
-    assert!(rt; !pending.take_control(UTF8, b'\n'), "behind ESC");
+    check_name(&rt, !pending.take_control(UTF8, b'\n'), "behind ESC");
 }
 
 // A text, how many characters are wanted, the bytes that are taken, and the characters.
@@ -367,31 +297,31 @@ const RUNS: &[Run] = &[
     (b"\x1B[", 64, 0, &[]),
 ];
 
-fn check_run(rt: &impl Abort, case: &Run) {
+fn is_taken(case: &Run) -> bool {
     let (text, most, count, characters) = *case;
     let mut pending = Pending::new();
     let mut codes = Codes::new();
     let taken = pending.take_characters(UTF8, text, most.min(64), &mut codes);
-    assert_eq!(rt; taken, count, "{text:?}");
-    assert_eq!(rt; codes.as_slice(), characters, "{text:?}");
+    taken == count && codes.as_slice() == characters
 }
 
 #[test]
 fn takes_characters(rt: HostRuntime) {
     for case in RUNS {
-        check_run(&rt, case);
+        check_text(&rt, is_taken(case), case.0);
     }
+}
+
+// Whether no character of the text is taken at once.
+fn takes_none(pending: &mut Pending, mode: Mode) -> bool {
+    let mut codes = Codes::new();
+    pending.take_characters(mode, b"a", 64, &mut codes) == 0
 }
 
 #[test]
 fn takes_no_character_of_bytes_or_a_sequence(rt: HostRuntime) {
     let mut pending = Pending::new();
-    let mut codes = Codes::new();
-    assert_eq!(rt; pending.take_characters(BYTES, b"a", 64, &mut codes), 0);
+    check_name(&rt, takes_none(&mut pending, BYTES), "bytes");
     let _ = pending.take(UTF8, 0x1B);
-    assert_eq!(rt;
-        pending.take_characters(UTF8, b"a", 64, &mut codes),
-        0,
-        "behind ESC"
-    );
+    check_name(&rt, takes_none(&mut pending, UTF8), "behind ESC");
 }

@@ -1,5 +1,6 @@
+use super::calls;
+use crate::checks::check_made;
 use std::alloc::Global;
-use std::test::Fail;
 use vt_base::{NoMemory, Size};
 use vt_cells::{Cell, HALF};
 use vt_dump::text_row;
@@ -12,9 +13,9 @@ fn of(code: u32, attr: u8) -> Cell {
 // A row that begins with a Han character, its halves in two colours, and a letter.
 fn row(alloc: Global) -> Result<Grid, NoMemory> {
     let mut grid = Grid::blank(alloc, Size { rows: 2, cols: 4 }, of(0x20, 0x07))?;
-    grid.put(0, 0, of(0x4E2D, 0x01));
-    grid.put(0, 1, of(HALF, 0x02));
-    grid.put(0, 2, of(0x61, 0x03));
+    let _ = calls::put(&mut grid, 0, 0, of(0x4E2D, 0x01));
+    let _ = calls::put(&mut grid, 0, 1, of(HALF, 0x02));
+    let _ = calls::put(&mut grid, 0, 2, of(0x61, 0x03));
     Ok(grid)
 }
 
@@ -23,70 +24,70 @@ fn shows(alloc: Global, grid: &Grid, wanted: &str) -> Result<bool, NoMemory> {
     Ok(text_row(alloc, grid, 0)?.as_slice() == wanted.as_bytes())
 }
 
-fn part(grid: &mut Grid, x: u8) {
-    if x <= grid.size().cols {
-        grid.part(0, x);
-    }
+// The columns at which the row is parted, one after another, and the row after each.
+const PARTED: &[(u8, &str)] = &[
+    (0, "|\u{4E2D}a |\n"),
+    (2, "|\u{4E2D}a |\n"),
+    (4, "|\u{4E2D}a |\n"),
+    (1, "|  a |\n"),
+];
+
+fn is_parted(alloc: Global, grid: &mut Grid, x: u8, wanted: &str) -> Result<bool, NoMemory> {
+    Ok(calls::part(grid, 0, x) && shows(alloc, grid, wanted)?)
 }
 
-fn draw(grid: &mut Grid, x: u8, text: &[u8]) {
-    if usize::from(x) + text.len() <= usize::from(grid.size().cols) {
-        grid.draw_bytes(0, x, text, 0x07);
+// Whether the halves have their colours still when all is done.
+fn are_parted(alloc: Global) -> Result<bool, NoMemory> {
+    let mut grid = row(alloc)?;
+    for (x, wanted) in PARTED {
+        if !is_parted(alloc, &mut grid, *x, wanted)? {
+            return Ok(false);
+        }
     }
+    Ok(calls::cell(&grid, 0, 0).attr == 0x01 && calls::cell(&grid, 0, 1).attr == 0x02)
 }
 
-fn draw_codes(grid: &mut Grid, x: u8, codes: &[u32]) {
-    if usize::from(x) + codes.len() <= usize::from(grid.size().cols) {
-        grid.draw_codes(0, x, codes, 0x07);
-    }
+#[test]
+fn parts_at_a_half_alone(rt: HostRuntime) {
+    check_made(&rt, are_parted(rt.alloc()), "parts");
 }
 
-fn attribute(grid: &Grid, x: u8) -> u8 {
-    if x < grid.size().cols {
-        grid.at(0, x).attr
+fn draws_a_byte(alloc: Global) -> Result<bool, NoMemory> {
+    let mut grid = row(alloc)?;
+    Ok(calls::draw_bytes(&mut grid, 0, 1, b"x") && shows(alloc, &grid, "| xa |\n")?)
+}
+
+fn draws_a_character(alloc: Global) -> Result<bool, NoMemory> {
+    let mut grid = row(alloc)?;
+    Ok(calls::draw_codes(&mut grid, 0, 0, &[0xE9]) && shows(alloc, &grid, "|\u{E9} a |\n")?)
+}
+
+#[test]
+fn draws_over_a_half(rt: HostRuntime) {
+    check_made(&rt, draws_a_byte(rt.alloc()), "a byte");
+    check_made(&rt, draws_a_character(rt.alloc()), "a character");
+}
+
+const SMALL: Size = Size { rows: 1, cols: 1 };
+
+// Whether the row's first column alone shows so, and the old row comes back.
+fn is_resized(alloc: Global, is_parted: bool, wanted: &str) -> Result<bool, NoMemory> {
+    let mut grid = row(alloc)?;
+    let old = resized(alloc, &mut grid, is_parted)?;
+    Ok(shows(alloc, &grid, wanted)? && shows(alloc, &old, "|\u{4E2D}a |\n")?)
+}
+
+fn resized(alloc: Global, grid: &mut Grid, is_parted: bool) -> Result<Grid, NoMemory> {
+    let fresh = Grid::blank(alloc, SMALL, of(0x20, 0x07))?;
+    if is_parted {
+        Ok(grid.resized_parted_into(fresh, 0))
     } else {
-        0
+        Ok(grid.resized_into(fresh, 0))
     }
 }
 
 #[test]
-fn parts_at_a_half_alone(rt: HostRuntime) -> Result<(), Fail> {
-    let mut grid = row(rt.alloc())?;
-    part(&mut grid, 0);
-    part(&mut grid, 2);
-    part(&mut grid, 4);
-    assert!(rt; shows(rt.alloc(), &grid, "|\u{4E2D}a |\n")?);
-    part(&mut grid, 1);
-    assert!(rt; shows(rt.alloc(), &grid, "|  a |\n")?);
-    assert!(rt; attribute(&grid, 0) == 0x01 && attribute(&grid, 1) == 0x02);
-    Ok(())
-}
-
-#[test]
-fn draws_over_a_half(rt: HostRuntime) -> Result<(), Fail> {
-    let mut grid = row(rt.alloc())?;
-    draw(&mut grid, 1, b"x");
-    assert!(rt; shows(rt.alloc(), &grid, "| xa |\n")?);
-    Ok(())
-}
-
-#[test]
-fn draws_a_character_over_a_half(rt: HostRuntime) -> Result<(), Fail> {
-    let mut grid = row(rt.alloc())?;
-    draw_codes(&mut grid, 0, &[0xE9]);
-    assert!(rt; shows(rt.alloc(), &grid, "|\u{E9} a |\n")?);
-    Ok(())
-}
-
-#[test]
-fn a_resize_parts_where_it_is_asked_to(rt: HostRuntime) -> Result<(), Fail> {
-    let size = Size { rows: 1, cols: 1 };
-    let mut grid = row(rt.alloc())?;
-    let old = grid.resized_parted_into(Grid::blank(rt.alloc(), size, of(0x20, 0x07))?, 0);
-    assert!(rt; shows(rt.alloc(), &grid, "| |\n")?);
-    assert!(rt; shows(rt.alloc(), &old, "|\u{4E2D}a |\n")?);
-    let mut grid = old;
-    let _ = grid.resized_into(Grid::blank(rt.alloc(), size, of(0x20, 0x07))?, 0);
-    assert!(rt; shows(rt.alloc(), &grid, "|\u{4E2D}|\n")?);
-    Ok(())
+fn a_resize_parts_where_it_is_asked_to(rt: HostRuntime) {
+    check_made(&rt, is_resized(rt.alloc(), true, "| |\n"), "parted");
+    check_made(&rt, is_resized(rt.alloc(), false, "|\u{4E2D}|\n"), "whole");
 }

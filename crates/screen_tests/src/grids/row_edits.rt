@@ -1,5 +1,6 @@
+use super::calls;
+use crate::checks::check_row;
 use std::alloc::Global;
-use std::test::Fail;
 use vt_base::{NoMemory, Size};
 use vt_cells::Cell;
 use vt_grid::Grid;
@@ -18,35 +19,39 @@ fn letter(code: u8) -> Cell {
     }
 }
 
-// The bytes of row y, where each cell has one; 0 is a place outside the grid.
-fn row(grid: &Grid, y: u8) -> [u8; 6] {
+// Whether row y has these bytes; 0 is a place outside the grid.
+fn has_row(grid: &Grid, y: u8, bytes: &[u8; 6]) -> bool {
     let size = grid.size();
-    let mut codes = [0; 6];
     for x in 0..6 {
-        if y < size.rows && x < size.cols {
-            let code = grid.at(y, x).code;
-            codes[usize::from(x)] = if code < 0x80 { code as u8 } else { b'?' };
+        let is_inside = y < size.rows && x < size.cols;
+        let byte = bytes[usize::from(x)];
+        if is_inside && calls::code(grid, y, x) != u32::from(byte) || !is_inside && byte != 0 {
+            return false;
         }
     }
-    codes
+    true
 }
 
-// Both rows of a grid whose first row began with these bytes, after the call on it.
-fn called(alloc: Global, text: &[u8], call: Call) -> Result<[[u8; 6]; 2], NoMemory> {
-    let size = Size { rows: 2, cols: 6 };
+// Makes the call on the first row, and tells whether it stays in it.
+fn make(grid: &mut Grid, call: Call) -> bool {
     let fill = letter(b'-');
-    let mut grid = Grid::blank(alloc, size, letter(b' '))?;
-    grid.put_bytes(1, 0, b"ghijkl", 0x07);
-    if text.len() <= 6 {
-        grid.put_bytes(0, 0, text, 0x07);
-    }
     match call {
-        Call::Erase(x0, x1) if x0 <= x1 && x1 < 6 => grid.erase(0, x0, x1, fill),
-        Call::Insert(x, n) if x < 6 => grid.insert(0, x, n, fill),
-        Call::Delete(x, n) if x < 6 => grid.delete(0, x, n, fill),
-        _ => {}
+        Call::Erase(x0, x1) => calls::erase(grid, 0, x0, x1, fill),
+        Call::Insert(x, n) => calls::insert(grid, 0, x, n, fill),
+        Call::Delete(x, n) => calls::delete(grid, 0, x, n, fill),
     }
-    Ok([row(&grid, 0), row(&grid, 1)])
+}
+
+// A grid of these two rows; cells past a row's text are blank.
+fn of_rows(alloc: Global, cols: u8, first: &[u8], second: &[u8]) -> Result<Grid, NoMemory> {
+    let size = Size {
+        rows: 2,
+        cols: cols.max(1),
+    };
+    let mut grid = Grid::blank(alloc, size, letter(b' '))?;
+    let _ = calls::put_bytes(&mut grid, 0, 0, first);
+    let _ = calls::put_bytes(&mut grid, 1, 0, second);
+    Ok(grid)
 }
 
 const WHOLE: &[u8] = b"abcdef";
@@ -77,37 +82,18 @@ const EDITED: &[Edited] = &[
     (SHORT, Call::Erase(4, 5), *b"ab  --"),
 ];
 
-// The first row of the table that comes out otherwise.
-fn first_wrong(alloc: Global, cases: &[Edited]) -> Result<Option<usize>, NoMemory> {
-    for (number, (text, call, wanted)) in cases.iter().enumerate() {
-        if called(alloc, text, *call)? != [*wanted, *b"ghijkl"] {
-            return Ok(Some(number));
-        }
-    }
-    Ok(None)
+fn is_edited(alloc: Global, case: &Edited) -> Result<bool, NoMemory> {
+    let (text, call, wanted) = *case;
+    let mut grid = of_rows(alloc, 6, text, b"ghijkl")?;
+    let stays = make(&mut grid, call);
+    Ok(stays && has_row(&grid, 0, &wanted) && has_row(&grid, 1, b"ghijkl"))
 }
 
 #[test]
-fn edits_one_row(rt: HostRuntime) -> Result<(), Fail> {
-    assert_eq!(rt; first_wrong(rt.alloc(), EDITED)?, None);
-    Ok(())
-}
-
-// The rows of a new grid, and then those of the old one, two by five, that became it.
-fn resized(alloc: Global, size: Size, skip: u8) -> Result<[[u8; 6]; 5], NoMemory> {
-    let old = Size { rows: 2, cols: 5 };
-    let mut grid = Grid::blank(alloc, old, letter(b' '))?;
-    grid.put_bytes(0, 0, b"abcde", 0x07);
-    grid.put_bytes(1, 0, b"fghij", 0x07);
-    let fresh = Grid::blank(alloc, size, letter(b'-'))?;
-    let was = grid.resized_into(fresh, skip);
-    Ok([
-        row(&grid, 0),
-        row(&grid, 1),
-        row(&grid, 2),
-        row(&was, 0),
-        row(&was, 1),
-    ])
+fn edits_one_row(rt: HostRuntime) {
+    for case in EDITED {
+        check_row(&rt, is_edited(rt.alloc(), case), &case.2);
+    }
 }
 
 const NONE: [u8; 6] = [0; 6];
@@ -122,24 +108,31 @@ const RESIZES: &[Resize] = &[
     (2, 5, 9, [*b"-----\0", *b"-----\0", NONE]),
 ];
 
-// The first row of the table that comes out otherwise, or whose old grid doesn't come back.
-fn first_misfit(alloc: Global, cases: &[Resize]) -> Result<Option<usize>, NoMemory> {
-    for (number, (rows, cols, skip, wanted)) in cases.iter().enumerate() {
-        let size = Size {
-            rows: (*rows).max(1),
-            cols: (*cols).max(1),
-        };
-        let [first, second, third] = *wanted;
-        let all = [first, second, third, *b"abcde\0", *b"fghij\0"];
-        if resized(alloc, size, *skip)? != all {
-            return Ok(Some(number));
-        }
-    }
-    Ok(None)
+// Makes the grid of this size, and gives the old one.
+fn resized(alloc: Global, grid: &mut Grid, size: Size, skip: u8) -> Result<Grid, NoMemory> {
+    let fresh = Grid::blank(alloc, size, letter(b'-'))?;
+    Ok(grid.resized_into(fresh, skip))
+}
+
+fn has_rows(grid: &Grid, rows: &[[u8; 6]; 3]) -> bool {
+    has_row(grid, 0, &rows[0]) && has_row(grid, 1, &rows[1]) && has_row(grid, 2, &rows[2])
+}
+
+// Whether the rows are these, and the old grid comes back.
+fn is_resized(alloc: Global, case: &Resize) -> Result<bool, NoMemory> {
+    let (rows, cols, skip, wanted) = *case;
+    let size = Size {
+        rows: rows.max(1),
+        cols: cols.max(1),
+    };
+    let mut grid = of_rows(alloc, 5, b"abcde", b"fghij")?;
+    let was = resized(alloc, &mut grid, size, skip)?;
+    Ok(has_rows(&grid, &wanted) && has_row(&was, 0, b"abcde\0") && has_row(&was, 1, b"fghij\0"))
 }
 
 #[test]
-fn keeps_what_fits_the_new_size(rt: HostRuntime) -> Result<(), Fail> {
-    assert_eq!(rt; first_misfit(rt.alloc(), RESIZES)?, None);
-    Ok(())
+fn keeps_what_fits_the_new_size(rt: HostRuntime) {
+    for case in RESIZES {
+        check_row(&rt, is_resized(rt.alloc(), case), &case.3[0]);
+    }
 }

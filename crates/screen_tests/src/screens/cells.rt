@@ -1,7 +1,8 @@
 //! What each row of the table makes of the cells. The cells are reckoned by hand.
-use super::{attributes, has_row, start};
+use super::{has_attributes, has_rows, written};
+use crate::checks::check_row;
 use std::alloc::Global;
-use std::test::Fail;
+use std::process::Abort;
 use vt_base::{NoMemory, Size};
 
 const SIZE: Size = Size { rows: 3, cols: 10 };
@@ -17,7 +18,7 @@ const BOTTOM: &str = "uvwxyzABCD";
 // A text behind the full screen, and the rows after it.
 type Case = (&'static [u8], [&'static str; 3]);
 
-const CASES: [Case; 46] = [
+const CHANGED: &[Case] = &[
     (b"", [TOP, MIDDLE, BOTTOM]),
     (b"\x1B[2;5H\x1B[J", [TOP, "klmn", ""]),
     (b"\x1B[3;1H\x1B[0J", [TOP, MIDDLE, ""]),
@@ -45,7 +46,10 @@ const CASES: [Case; 46] = [
     (b"\x1B[2;5H\x1B[M", [TOP, BOTTOM, ""]),
     (b"\x1B[1;5H\x1B[2M", [BOTTOM, "", ""]),
     (b"\x1B[2;5H\x1B[99M", [TOP, "", ""]),
-    // the region
+];
+
+// The region.
+const IN_REGION: &[Case] = &[
     (b"\x1B[1;2r\x1B[1;5H\x1B[L", ["", TOP, BOTTOM]),
     (b"\x1B[1;2r\x1B[1;5H\x1B[M", [MIDDLE, "", BOTTOM]),
     (b"\x1B[1;2r\x1B[3;5H\x1B[L\x1B[M", [TOP, MIDDLE, BOTTOM]),
@@ -55,7 +59,10 @@ const CASES: [Case; 46] = [
     (b"\x1B[2;3r\x1B[2;5H\x1BM", [TOP, "", MIDDLE]),
     (b"\x1B[2;3r\x1B[1;5H\x1BM", [TOP, MIDDLE, BOTTOM]),
     (b"\x1B[1;2r\x1B[2;10HXY", ["klmnopqrsX", "Y", BOTTOM]),
-    // printing
+];
+
+// Printing.
+const PRINTED: &[Case] = &[
     (b"\x1B[1;5H\x1B[4hXY", ["abcdXYefgh", MIDDLE, BOTTOM]),
     (b"\x1B[1;10H\x1B[4hXY", ["abcdefghiX", "Yklmnopqrs", BOTTOM]),
     (b"\x1B[1;5H\x1B[4h\x1B[4lX", ["abcdXfghij", MIDDLE, BOTTOM]),
@@ -65,7 +72,10 @@ const CASES: [Case; 46] = [
         b"\x1B[1;9H\x1B[?7l\x1B[?7hXYZ",
         ["abcdefghXY", "Zlmnopqrst", BOTTOM],
     ),
-    // the whole screen
+];
+
+// The whole screen.
+const WHOLE: &[Case] = &[
     (b"\x1B#8", ["EEEEEEEEEE", "EEEEEEEEEE", "EEEEEEEEEE"]),
     (b"\x1B#7\x1B$8", [TOP, MIDDLE, BOTTOM]),
     (b"\x1Bc", ["", "", ""]),
@@ -75,7 +85,7 @@ const CASES: [Case; 46] = [
 // A text, and the attribute bytes of the first cell and of the last one of its row after it.
 type Coloured = (&'static [u8], u8, u8);
 
-const COLOURED: [Coloured; 24] = [
+const COLOURED: &[Coloured] = &[
     (b"A", 0x07, 0x07),
     (b"\x1B[31mA", 0x04, 0x07),
     (b"\x1B[1;1;1;1;1;1;1;1;1;1;1;1;1;1;1;1;31mA", 0x0F, 0x07),
@@ -102,43 +112,36 @@ const COLOURED: [Coloured; 24] = [
     (b"\x1B[31mA\x1BcA", 0x07, 0x07),
 ];
 
-// The first text that makes other rows.
-fn first_wrong(alloc: Global, cases: &[Case]) -> Result<Option<&'static [u8]>, NoMemory> {
-    for (text, [top, middle, bottom]) in cases {
-        let mut emu = start(alloc, SIZE)?;
-        emu.write(FULL);
-        emu.write(text);
-        let grid = emu.grid();
-        let is_right = has_row(grid, 0, top)
-            && has_row(grid, 1, middle)
-            && has_row(grid, 2, bottom);
-        if !is_right {
-            return Ok(Some(text));
-        }
-    }
-    Ok(None)
+fn is_changed(alloc: Global, case: &Case) -> Result<bool, NoMemory> {
+    let (text, rows) = *case;
+    let mut emu = written(alloc, SIZE, FULL)?;
+    emu.write(text);
+    Ok(has_rows(emu.grid(), &rows))
 }
 
-// The first text that makes other attributes.
-fn first_miscoloured(alloc: Global, cases: &[Coloured]) -> Result<Option<&'static [u8]>, NoMemory> {
-    for (text, first, last) in cases {
-        let mut emu = start(alloc, SIZE)?;
-        emu.write(text);
-        if attributes(emu.grid()) != (*first, *last) {
-            return Ok(Some(text));
-        }
+fn check(by: &impl Abort, alloc: Global, cases: &[Case]) {
+    for case in cases {
+        check_row(by, is_changed(alloc, case), case.0);
     }
-    Ok(None)
 }
 
 #[test]
-fn cells_change(rt: HostRuntime) -> Result<(), Fail> {
-    assert_eq!(rt; first_wrong(rt.alloc(), &CASES)?, None);
-    Ok(())
+fn cells_change(rt: HostRuntime) {
+    check(&rt, rt.alloc(), CHANGED);
+    check(&rt, rt.alloc(), IN_REGION);
+    check(&rt, rt.alloc(), PRINTED);
+    check(&rt, rt.alloc(), WHOLE);
+}
+
+fn is_coloured(alloc: Global, case: &Coloured) -> Result<bool, NoMemory> {
+    let (text, first, last) = *case;
+    let emu = written(alloc, SIZE, text)?;
+    Ok(has_attributes(emu.grid(), first, last))
 }
 
 #[test]
-fn cells_have_the_pens_colours(rt: HostRuntime) -> Result<(), Fail> {
-    assert_eq!(rt; first_miscoloured(rt.alloc(), &COLOURED)?, None);
-    Ok(())
+fn cells_have_the_pens_colours(rt: HostRuntime) {
+    for case in COLOURED {
+        check_row(&rt, is_coloured(rt.alloc(), case), case.0);
+    }
 }

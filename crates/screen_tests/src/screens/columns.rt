@@ -1,12 +1,12 @@
 //! Characters of two columns and of none. The cells are reckoned by hand.
-use super::{Way, fed, start};
+use super::{Way, cell_at, fed, has_cursor, resize, start, written};
+use crate::checks::{check_made, check_row};
 use std::alloc::Global;
-use std::test::Fail;
 use vt_base::{Bytes, NoMemory, Size};
 use vt_cells::HALF;
 use vt_dump::{codes, vcsa};
 use vt_grid::Grid;
-use vt_screen::{BLANK, Emu};
+use vt_screen::Emu;
 
 // The code of a Han character.
 const HAN: u32 = 0x4E2D;
@@ -14,10 +14,12 @@ const HAN: u32 = 0x4E2D;
 // A space.
 const S: u32 = 0x20;
 
+const ROW: Size = Size { rows: 1, cols: 4 };
+
 // Whether the first row has the cells of these codes.
 fn has_codes(grid: &Grid, wanted: &[u32; 4]) -> bool {
     for x in 0..grid.size().cols {
-        if usize::from(x) < wanted.len() && grid.at(0, x).code != wanted[usize::from(x)] {
+        if x < 4 && cell_at(grid, 0, x).code != wanted[usize::from(x)] {
             return false;
         }
     }
@@ -81,25 +83,19 @@ const CASES: &[Case] = &[
     ),
 ];
 
-// The first text that leaves something else, and how it was fed.
-fn first_wrong(alloc: Global, cases: &[Case]) -> Result<Option<(&'static [u8], Way)>, NoMemory> {
-    for (text, wanted, x, wrap) in cases {
-        for way in [Way::Quickly, Way::Plainly] {
-            let mut emu = start(alloc, Size { rows: 1, cols: 4 })?;
-            let _ = fed(&mut emu, way, text);
-            let state = emu.state();
-            if !has_codes(emu.grid(), wanted) || state.x != *x || state.wrap != *wrap {
-                return Ok(Some((text, way)));
-            }
-        }
-    }
-    Ok(None)
+fn is_left(alloc: Global, way: Way, case: &Case) -> Result<bool, NoMemory> {
+    let (text, codes, x, wrap) = *case;
+    let mut emu = start(alloc, ROW)?;
+    let _ = fed(&mut emu, way, text);
+    Ok(has_codes(emu.grid(), &codes) && has_cursor(&emu, x, 0, wrap))
 }
 
 #[test]
-fn characters_take_their_columns(rt: HostRuntime) -> Result<(), Fail> {
-    assert_eq!(rt; first_wrong(rt.alloc(), CASES)?, None);
-    Ok(())
+fn characters_take_their_columns(rt: HostRuntime) {
+    for case in CASES {
+        check_row(&rt, is_left(rt.alloc(), Way::Quickly, case), case.0);
+        check_row(&rt, is_left(rt.alloc(), Way::Plainly, case), case.0);
+    }
 }
 
 // The pairs of a screen, and then its codes.
@@ -114,31 +110,38 @@ fn dumped(alloc: Global, emu: &Emu) -> Result<Bytes, NoMemory> {
     Ok(out)
 }
 
-#[test]
-fn dumps_show_both_halves(rt: HostRuntime) -> Result<(), Fail> {
-    let mut emu = start(rt.alloc(), Size { rows: 1, cols: 2 })?;
-    emu.write(b"\xE4\xB8\xAD");
-    let wanted = b"\x01\x02\x01\x00\x3F\x07\x3F\x07\x2D\x4E\0\0\0\0\x11\0";
-    assert_eq!(rt; dumped(rt.alloc(), &emu)?.as_slice(), wanted.as_slice());
-    Ok(())
+const DUMPED: &[u8] = b"\x01\x02\x01\x00\x3F\x07\x3F\x07\x2D\x4E\0\0\0\0\x11\0";
+
+fn has_dumps(alloc: Global) -> Result<bool, NoMemory> {
+    let emu = written(alloc, Size { rows: 1, cols: 2 }, b"\xE4\xB8\xAD")?;
+    Ok(dumped(alloc, &emu)?.as_slice() == DUMPED)
 }
 
 #[test]
-fn a_byte_of_a_table_takes_one_column(rt: HostRuntime) -> Result<(), Fail> {
-    let mut emu = start(rt.alloc(), Size { rows: 1, cols: 4 })?;
+fn dumps_show_both_halves(rt: HostRuntime) {
+    check_row(&rt, has_dumps(rt.alloc()), DUMPED);
+}
+
+fn draws_a_byte(alloc: Global) -> Result<bool, NoMemory> {
+    let mut emu = start(alloc, ROW)?;
     emu.set_user(&[0x4E2D; 256]);
     emu.write(b"\x1B%@\x1B(Kab");
-    assert!(rt; has_codes(emu.grid(), &[HAN, HAN, S, S]));
-    Ok(())
+    Ok(has_codes(emu.grid(), &[HAN, HAN, S, S]))
 }
 
 #[test]
-fn a_smaller_screen_cuts_no_pair(rt: HostRuntime) -> Result<(), Fail> {
-    let mut emu = start(rt.alloc(), Size { rows: 1, cols: 4 })?;
-    emu.write(b"a\xE4\xB8\xADb");
-    let fresh = Grid::blank(rt.alloc(), Size { rows: 1, cols: 2 }, BLANK)?;
-    let old = emu.resize(fresh);
-    assert!(rt; has_codes(emu.grid(), &[0x61, S, S, S]));
-    assert!(rt; has_codes(&old, &[0x61, HAN, HALF, 0x62]));
-    Ok(())
+fn a_byte_of_a_table_takes_one_column(rt: HostRuntime) {
+    check_made(&rt, draws_a_byte(rt.alloc()), "the row");
+}
+
+// Whether the pair is whole on the old screen, and gone on a smaller one.
+fn cuts_no_pair(alloc: Global) -> Result<bool, NoMemory> {
+    let mut emu = written(alloc, ROW, b"a\xE4\xB8\xADb")?;
+    let old = resize(alloc, &mut emu, Size { rows: 1, cols: 2 })?;
+    Ok(has_codes(emu.grid(), &[0x61, S, S, S]) && has_codes(&old, &[0x61, HAN, HALF, 0x62]))
+}
+
+#[test]
+fn a_smaller_screen_cuts_no_pair(rt: HostRuntime) {
+    check_made(&rt, cuts_no_pair(rt.alloc()), "both rows");
 }

@@ -1,7 +1,8 @@
 //! Where each row of the table leaves the cursor. The places are reckoned by hand.
-use super::start;
+use super::{has_cursor, written};
+use crate::checks::check_row;
 use std::alloc::Global;
-use std::test::Fail;
+use std::process::Abort;
 use vt_base::{NoMemory, Size};
 
 const SIZE: Size = Size { rows: 3, cols: 10 };
@@ -9,7 +10,7 @@ const SIZE: Size = Size { rows: 3, cols: 10 };
 // A text, the cursor's column and row after it, and whether a wrap is pending.
 type Case = (&'static [u8], u8, u8, bool);
 
-const CASES: [Case; 77] = [
+const MOVED: &[Case] = &[
     (b"\x1B[2;5H\x1B[A", 4, 0, false),
     (b"\x1B[3;5H\x1B[0A", 4, 1, false),
     (b"\x1B[2;5H\x1B[9A", 4, 0, false),
@@ -40,7 +41,10 @@ const CASES: [Case; 77] = [
     (b"\x1B[2;3f", 2, 1, false),
     (b"\x1B[5G\x1B[7`", 6, 0, false),
     (b"\x1B[5G\x1B[?2A\x1B[?5H", 4, 0, false),
-    // origin mode and the region
+];
+
+// Origin mode and the region.
+const IN_REGION: &[Case] = &[
     (b"\x1B[3;5H\x1B[2;3r", 0, 0, false),
     (b"\x1B[3;5H\x1B[2r", 0, 0, false),
     (b"\x1B[2;5H\x1B[3;2r", 4, 1, false),
@@ -54,7 +58,10 @@ const CASES: [Case; 77] = [
     (b"\x1B[1;2r\x1B[?6h\x1B[9B", 0, 1, false),
     (b"\x1B[1;2r\x1B[9B", 0, 2, false),
     (b"\x1B[2;3r\x1B[?6h\x1B[?6l", 0, 0, false),
-    // line feeds
+];
+
+// Line feeds.
+const FED: &[Case] = &[
     (b"ab\n", 2, 1, false),
     (b"ab\x1B[20h\n", 0, 1, false),
     (b"ab\x1B[20h\x1B[20l\x0C", 2, 1, false),
@@ -66,20 +73,29 @@ const CASES: [Case; 77] = [
     (b"\x1B[2;3r\x1B[2;5H\x1BM", 4, 1, false),
     (b"\x1B[2;3r\x1B[1;5H\x1BM", 4, 0, false),
     (b"\x1B[3;5H\x1BM", 4, 1, false),
-    // tab stops
+];
+
+// Tab stops.
+const TABBED: &[Case] = &[
     (b"\x1B[1;5H\x1BH\r\t", 4, 0, false),
     (b"\x1B[1;5H\x1BH\t", 8, 0, false),
     (b"\x1B[1;9H\x1B[g\r\t", 9, 0, false),
     (b"\x1B[1;9H\x1B[2g\r\t", 8, 0, false),
     (b"\x1B[3g\t", 9, 0, false),
-    // what is saved
+];
+
+// What is saved.
+const SAVED: &[Case] = &[
     (b"\x1B[2;5H\x1B7\x1B[H\x1B8", 4, 1, false),
     (b"\x1B[2;5H\x1B[s\x1B[H\x1B[u", 4, 1, false),
     (b"\x1B[2;5H\x1B8", 0, 0, false),
     (b"1234567890\x1B7\x1B8", 9, 0, false),
     (b"\x1B[3;5H\x1B7\x1B[1;2r\x1B[?6h\x1B8", 4, 1, false),
     (b"\x1B[2;5H\x1B7\x1Bc\x1B8", 0, 0, false),
-    // the pending wrap
+];
+
+// The pending wrap.
+const WRAPPED: &[Case] = &[
     (b"1234567890", 9, 0, true),
     (b"1234567890\x1B[31m\x1B[?25l\x1BH\x1B(0\x1B#8", 9, 0, true),
     (b"1234567890\x1B[4J\x1B[3K\x1B[?J", 9, 0, true),
@@ -94,21 +110,24 @@ const CASES: [Case; 77] = [
     (b"1234567890\x1Bc", 0, 0, false),
 ];
 
-// The first text that leaves the cursor elsewhere.
-fn first_wrong(alloc: Global, cases: &[Case]) -> Result<Option<&'static [u8]>, NoMemory> {
-    for (text, x, y, wrap) in cases {
-        let mut emu = start(alloc, SIZE)?;
-        emu.write(text);
-        let state = emu.state();
-        if (state.x, state.y, state.wrap) != (*x, *y, *wrap) {
-            return Ok(Some(text));
-        }
+fn is_left(alloc: Global, case: &Case) -> Result<bool, NoMemory> {
+    let (text, x, y, wrap) = *case;
+    let emu = written(alloc, SIZE, text)?;
+    Ok(has_cursor(&emu, x, y, wrap))
+}
+
+fn check(by: &impl Abort, alloc: Global, cases: &[Case]) {
+    for case in cases {
+        check_row(by, is_left(alloc, case), case.0);
     }
-    Ok(None)
 }
 
 #[test]
-fn the_cursor_goes(rt: HostRuntime) -> Result<(), Fail> {
-    assert_eq!(rt; first_wrong(rt.alloc(), &CASES)?, None);
-    Ok(())
+fn the_cursor_goes(rt: HostRuntime) {
+    check(&rt, rt.alloc(), MOVED);
+    check(&rt, rt.alloc(), IN_REGION);
+    check(&rt, rt.alloc(), FED);
+    check(&rt, rt.alloc(), TABBED);
+    check(&rt, rt.alloc(), SAVED);
+    check(&rt, rt.alloc(), WRAPPED);
 }

@@ -1,7 +1,7 @@
 //! Short sequences that are cut at each of their bytes, beside the same text read byte by byte.
-use super::{SIZE, Way, fed, start};
+use super::{SIZE, Way, cell_at, fed, has_cursor, start};
+use crate::checks::check_row;
 use std::alloc::Global;
-use std::test::Fail;
 use vt_base::NoMemory;
 use vt_grid::Grid;
 use vt_screen::Emu;
@@ -62,69 +62,56 @@ const TEXTS: &[&[u8]] = &[
     b"abcdef\x1B[1;2H\x1B[P\x1B[2P\x1B[@\x1B[3@\x1B[X\x1B[2Xx",
 ];
 
-// What shows of a screen, and how much it said.
-#[derive(Clone, Copy, PartialEq)]
-struct Picture {
-    codes: [[u32; 10]; 3],
-    attrs: [[u8; 10]; 3],
-    cursor: (u8, u8, bool),
-    region: (u8, u8),
-    said: usize,
-}
-
-fn codes(grid: &Grid) -> ([[u32; 10]; 3], [[u8; 10]; 3]) {
-    let size = grid.size();
-    let mut codes = [[0; 10]; 3];
-    let mut attrs = [[0; 10]; 3];
+// Whether the cells are the same.
+fn are_alike(grid: &Grid, other: &Grid) -> bool {
     for y in 0..3 {
         for x in 0..10 {
-            if y < size.rows && x < size.cols {
-                let cell = grid.at(y, x);
-                codes[usize::from(y)][usize::from(x)] = cell.code;
-                attrs[usize::from(y)][usize::from(x)] = cell.attr;
+            if cell_at(grid, y, x) != cell_at(other, y, x) {
+                return false;
             }
         }
     }
-    (codes, attrs)
+    true
 }
 
-fn seen(emu: &Emu, said: usize) -> Picture {
-    let (codes, attrs) = codes(emu.grid());
-    let state = emu.state();
-    Picture {
-        codes,
-        attrs,
-        cursor: (state.x, state.y, state.wrap),
-        region: (state.top, state.bottom),
-        said,
-    }
+// Whether the same shows of both: the cells, the cursor and the region.
+fn shows_alike(emu: &Emu, other: &Emu) -> bool {
+    let state = other.state();
+    let region = emu.state();
+    are_alike(emu.grid(), other.grid())
+        && has_cursor(emu, state.x, state.y, state.wrap)
+        && region.top == state.top
+        && region.bottom == state.bottom
 }
 
-fn drawn(alloc: Global, way: Way, parts: (&[u8], &[u8])) -> Result<Picture, NoMemory> {
-    let mut emu = start(alloc, SIZE)?;
-    let first = fed(&mut emu, way, parts.0);
-    let second = fed(&mut emu, way, parts.1);
-    Ok(seen(&emu, first.saturating_add(second)))
-}
-
-// The first text of which some cut draws something else than its bytes one by one, and that cut.
-fn first_unlike(
+// Whether the two parts, fed as they are, draw what the plain screen shows, and say so much.
+fn is_alike(
     alloc: Global,
-    texts: &[&'static [u8]],
-) -> Result<Option<(&'static [u8], usize)>, NoMemory> {
-    for text in texts {
-        let plain = drawn(alloc, Way::Plainly, (*text, b""))?;
-        for cut in 0..text.len() {
-            if drawn(alloc, Way::Quickly, text.split_at(cut))? != plain {
-                return Ok(Some((text, cut)));
-            }
+    plain: &Emu,
+    said: usize,
+    parts: (&[u8], &[u8]),
+) -> Result<bool, NoMemory> {
+    let mut emu = start(alloc, SIZE)?;
+    let first = fed(&mut emu, Way::Quickly, parts.0);
+    let second = fed(&mut emu, Way::Quickly, parts.1);
+    Ok(shows_alike(&emu, plain) && first.saturating_add(second) == said)
+}
+
+// Whether each cut draws what the bytes of the text draw one by one.
+fn is_read(alloc: Global, text: &[u8]) -> Result<bool, NoMemory> {
+    let mut plain = start(alloc, SIZE)?;
+    let said = fed(&mut plain, Way::Plainly, text);
+    for cut in 0..text.len() {
+        if !is_alike(alloc, &plain, said, text.split_at(cut))? {
+            return Ok(false);
         }
     }
-    Ok(None)
+    Ok(true)
 }
 
 #[test]
-fn short_sequences_are_read_as_their_bytes(rt: HostRuntime) -> Result<(), Fail> {
-    assert_eq!(rt; first_unlike(rt.alloc(), TEXTS)?, None);
-    Ok(())
+fn short_sequences_are_read_as_their_bytes(rt: HostRuntime) {
+    for text in TEXTS {
+        check_row(&rt, is_read(rt.alloc(), text), text);
+    }
 }

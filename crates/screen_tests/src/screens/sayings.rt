@@ -1,14 +1,14 @@
 //! What each row of the table says beside the screen, and what it sets. The answers are those of
 //! console_codes(4) and of this project's own rules.
-use super::start;
+use super::{start, written};
+use crate::checks::{check_made, check_row};
 use std::alloc::Global;
-use std::test::Fail;
 use vt_base::{NoMemory, Size};
 use vt_screen::{Out, Outs, ScreenState};
 
 const SIZE: Size = Size { rows: 3, cols: 10 };
 
-#[derive(Clone, Copy, Debug)]
+#[derive(Clone, Copy)]
 enum Said {
     Nothing,
     Report(&'static [u8]),
@@ -21,7 +21,7 @@ enum Said {
 // A text of at most 64 bytes, and what it says.
 type Case = (&'static [u8], Said);
 
-const CASES: [Case; 26] = [
+const CASES: &[Case] = &[
     (b"\x07", Said::Bell),
     (b"\x1B[6n", Said::Report(b"\x1B[1;1R")),
     (b"\x1B[3;10H\x1B[6n", Said::Report(b"\x1B[3;10R")),
@@ -57,7 +57,7 @@ const CASES: [Case; 26] = [
 // shown.
 type Setting = (&'static [u8], [bool; 7]);
 
-const SETTINGS: [Setting; 15] = [
+const SETTINGS: &[Setting] = &[
     (b"", [false, false, true, true, true, false, false]),
     (b"\x1B[?1h", [true, false, true, true, true, false, false]),
     (b"\x1B[?5h", [false, true, true, true, true, false, false]),
@@ -108,21 +108,24 @@ fn is_said(out: Option<&Out>, said: Said) -> bool {
     }
 }
 
-// The first text that says something else, or something more.
-fn first_wrong(alloc: Global, cases: &[Case]) -> Result<Option<&'static [u8]>, NoMemory> {
-    for (text, said) in cases {
-        let mut emu = start(alloc, SIZE)?;
-        let mut outs = Outs::new();
-        if text.len() > 64 {
-            return Ok(Some(text));
-        }
-        emu.feed(text, &mut outs);
-        let heard = outs.as_slice();
-        if heard.len() > 1 || !is_said(heard.first(), *said) {
-            return Ok(Some(text));
-        }
+// Whether the text says this, and nothing more.
+fn says(alloc: Global, case: &Case) -> Result<bool, NoMemory> {
+    let (text, said) = *case;
+    let mut emu = start(alloc, SIZE)?;
+    let mut outs = Outs::new();
+    if text.len() > 64 {
+        return Ok(false);
     }
-    Ok(None)
+    emu.feed(text, &mut outs);
+    let heard = outs.as_slice();
+    Ok(heard.len() <= 1 && is_said(heard.first(), said))
+}
+
+#[test]
+fn texts_say(rt: HostRuntime) {
+    for case in CASES {
+        check_row(&rt, says(rt.alloc(), case), case.0);
+    }
 }
 
 fn flags(state: &ScreenState) -> [bool; 7] {
@@ -137,57 +140,77 @@ fn flags(state: &ScreenState) -> [bool; 7] {
     ]
 }
 
-// The first text that sets something else.
-fn first_misset(alloc: Global, cases: &[Setting]) -> Result<Option<&'static [u8]>, NoMemory> {
-    for (text, expected) in cases {
-        let mut emu = start(alloc, SIZE)?;
-        emu.write(text);
-        if flags(emu.state()) != *expected {
-            return Ok(Some(text));
-        }
+fn sets(alloc: Global, case: &Setting) -> Result<bool, NoMemory> {
+    let (text, wanted) = *case;
+    let emu = written(alloc, SIZE, text)?;
+    Ok(flags(emu.state()) == wanted)
+}
+
+#[test]
+fn texts_set(rt: HostRuntime) {
+    for case in SETTINGS {
+        check_row(&rt, sets(rt.alloc(), case), case.0);
     }
-    Ok(None)
-}
-
-#[test]
-fn texts_say(rt: HostRuntime) -> Result<(), Fail> {
-    assert_eq!(rt; first_wrong(rt.alloc(), &CASES)?, None);
-    Ok(())
-}
-
-#[test]
-fn texts_set(rt: HostRuntime) -> Result<(), Fail> {
-    assert_eq!(rt; first_misset(rt.alloc(), &SETTINGS)?, None);
-    Ok(())
 }
 
 // Whether tab stops stand in these columns, and in none of the others.
 fn has_stops(state: &ScreenState, columns: &[u8], others: &[u8]) -> bool {
-    columns.iter().all(|x| state.stops.has(*x)) && !others.iter().any(|x| state.stops.has(*x))
+    for x in columns {
+        if !state.stops.has(*x) {
+            return false;
+        }
+    }
+    for x in others {
+        if state.stops.has(*x) {
+            return false;
+        }
+    }
+    true
 }
 
-// The tables that are G0 and G1, and which of them is in use.
-fn tables(state: &ScreenState) -> (u8, u8, u8) {
-    (state.g0, state.g1, state.shift)
+// A text behind those above it, and then columns that have tab stops and columns that have none, the
+// tables that are G0 and G1 and which of them is in use, and the second colour of the palette.
+type Kept = (
+    &'static [u8],
+    &'static [u8],
+    &'static [u8],
+    (u8, u8, u8),
+    (u8, u8, u8),
+);
+
+const KEPT: &[Kept] = &[
+    (
+        b"\x1B[1;5H\x1BH\x1B(0\x1B)U\x0E\x1B7\x1B(B\x1B)B\x0F\x1B]P1A0b0C0",
+        &[4, 8, 248],
+        &[0, 5, 255],
+        (0, 0, 0),
+        (0xA0, 0xB0, 0xC0),
+    ),
+    (b"\x1B8", &[4, 8], &[0, 5], (1, 2, 1), (0xA0, 0xB0, 0xC0)),
+    (b"\x1Bc", &[8], &[4], (0, 1, 0), (0xA0, 0xB0, 0xC0)),
+    (b"\x1B]R\x1B[3g", &[], &[8], (0, 1, 0), (0xAA, 0, 0)),
+];
+
+fn is_kept(state: &ScreenState, case: &Kept) -> bool {
+    let (_text, columns, others, tables, colour) = *case;
+    has_stops(state, columns, others)
+        && (state.g0, state.g1, state.shift) == tables
+        && state.palette.get(1) == colour
+}
+
+fn are_kept(alloc: Global) -> Result<bool, NoMemory> {
+    let mut emu = start(alloc, SIZE)?;
+    for case in KEPT {
+        emu.write(case.0);
+        if !is_kept(emu.state(), case) {
+            return Ok(false);
+        }
+    }
+    emu.palette_mut().set(2, (1, 2, 3));
+    Ok(emu.state().palette.get(2) == (1, 2, 3))
 }
 
 #[test]
-fn stops_tables_and_colours_are_kept(rt: HostRuntime) -> Result<(), Fail> {
-    let mut emu = start(rt.alloc(), SIZE)?;
-    emu.write(b"\x1B[1;5H\x1BH\x1B(0\x1B)U\x0E\x1B7\x1B(B\x1B)B\x0F\x1B]P1A0b0C0");
-    assert!(rt; has_stops(emu.state(), &[4, 8, 248], &[0, 5, 255]));
-    assert!(rt; tables(emu.state()) == (0, 0, 0));
-    assert!(rt; emu.state().palette.get(1) == (0xA0, 0xB0, 0xC0));
-    emu.write(b"\x1B8");
-    assert!(rt; tables(emu.state()) == (1, 2, 1));
-    emu.write(b"\x1Bc");
-    assert!(rt; tables(emu.state()) == (0, 1, 0));
-    assert!(rt; has_stops(emu.state(), &[8], &[4]));
-    assert!(rt; emu.state().palette.get(1) == (0xA0, 0xB0, 0xC0));
-    emu.write(b"\x1B]R\x1B[3g");
-    assert!(rt; has_stops(emu.state(), &[], &[8]));
-    assert!(rt; emu.state().palette.get(1) == (0xAA, 0, 0));
-    emu.palette_mut().set(2, (1, 2, 3));
-    assert!(rt; emu.state().palette.get(2) == (1, 2, 3));
-    Ok(())
+fn stops_tables_and_colours_are_kept(rt: HostRuntime) {
+    check_made(&rt, are_kept(rt.alloc()), "stops, tables and colours");
 }

@@ -1,17 +1,15 @@
 //! Screens of other sizes, and a screen that gets another size. The cells are reckoned by hand.
-use super::{attributes, has_row, start};
+use super::{has_attributes, has_cursor, has_row, has_rows, resize, start, written};
+use crate::checks::{check_made, check_row};
 use std::alloc::Global;
-use std::test::Fail;
 use vt_base::{NoMemory, Size};
-use vt_grid::Grid;
-use vt_screen::{BLANK, Emu};
+use vt_screen::Emu;
 
-// Whether the rows that the grid has hold these texts.
-fn has_rows(grid: &Grid, rows: &[&str; 3]) -> bool {
-    let size = grid.size();
-    has_row(grid, 0, rows[0])
-        && (size.rows < 2 || has_row(grid, 1, rows[1]))
-        && (size.rows < 3 || has_row(grid, 2, rows[2]))
+fn size(rows: u8, cols: u8) -> Size {
+    Size {
+        rows: rows.max(1),
+        cols: cols.max(1),
+    }
 }
 
 fn write_bytewise(emu: &mut Emu, text: &[u8]) {
@@ -33,36 +31,31 @@ const WORKED: &[Worked] = &[
     (2, 1, b"\x1B[4ha\x1B[Pbc", ["b", "c", ""]),
 ];
 
-// The first text that makes other rows, read byte by byte.
-fn first_wrong(alloc: Global, cases: &[Worked]) -> Result<Option<&'static [u8]>, NoMemory> {
-    for (rows, cols, text, expected) in cases {
-        let size = Size {
-            rows: (*rows).max(1),
-            cols: (*cols).max(1),
-        };
-        let mut emu = start(alloc, size)?;
-        write_bytewise(&mut emu, text);
-        if !has_rows(emu.grid(), expected) {
-            return Ok(Some(text));
-        }
+// Whether the text makes these rows, read byte by byte.
+fn is_worked(alloc: Global, case: &Worked) -> Result<bool, NoMemory> {
+    let (rows, cols, text, expected) = *case;
+    let mut emu = start(alloc, size(rows, cols))?;
+    write_bytewise(&mut emu, text);
+    Ok(has_rows(emu.grid(), &expected))
+}
+
+#[test]
+fn worked_rows(rt: HostRuntime) {
+    for case in WORKED {
+        check_row(&rt, is_worked(rt.alloc(), case), case.2);
     }
-    Ok(None)
 }
 
-#[test]
-fn worked_rows(rt: HostRuntime) -> Result<(), Fail> {
-    assert_eq!(rt; first_wrong(rt.alloc(), WORKED)?, None);
-    Ok(())
-}
-
-#[test]
-fn a_sequence_goes_over_three_writes(rt: HostRuntime) -> Result<(), Fail> {
-    let mut emu = start(rt.alloc(), Size { rows: 2, cols: 5 })?;
-    emu.write(b"\x1B");
+fn goes_over(alloc: Global) -> Result<bool, NoMemory> {
+    let mut emu = written(alloc, size(2, 5), b"\x1B")?;
     emu.write(b"[");
     emu.write(b"2;2HX");
-    assert!(rt; has_row(emu.grid(), 1, " X"));
-    Ok(())
+    Ok(has_row(emu.grid(), 1, " X"))
+}
+
+#[test]
+fn a_sequence_goes_over_three_writes(rt: HostRuntime) {
+    check_made(&rt, goes_over(rt.alloc()), "the second row");
 }
 
 // A text on a screen of two rows and five columns, another size, and then the rows, and the cursor's
@@ -81,58 +74,59 @@ const RESIZED: &[Resized] = &[
 
 // The screen of two rows and five columns after a text, at another size.
 fn resized(alloc: Global, text: &[u8], rows: u8, cols: u8) -> Result<Emu, NoMemory> {
-    let mut emu = start(alloc, Size { rows: 2, cols: 5 })?;
-    emu.write(text);
-    let size = Size {
-        rows: rows.max(1),
-        cols: cols.max(1),
-    };
-    let _old = emu.resize(Grid::blank(alloc, size, BLANK)?);
+    let mut emu = written(alloc, Size { rows: 2, cols: 5 }, text)?;
+    let _old = resize(alloc, &mut emu, size(rows, cols))?;
     Ok(emu)
 }
 
-// The first row of the table that shows otherwise.
-fn first_misfit(alloc: Global, cases: &[Resized]) -> Result<Option<usize>, NoMemory> {
-    for (number, (text, rows, cols, expected, x, y)) in cases.iter().enumerate() {
-        let emu = resized(alloc, text, *rows, *cols)?;
-        let state = emu.state();
-        let is_right = has_rows(emu.grid(), expected)
-            && (state.x, state.y, state.wrap) == (*x, *y, false)
-            && (state.top, state.bottom.saturating_add(1)) == (0, *rows);
-        if !is_right {
-            return Ok(Some(number));
-        }
+// Whether the region is the whole screen of so many rows.
+fn has_whole_region(emu: &Emu, rows: u8) -> bool {
+    let state = emu.state();
+    state.top == 0 && state.bottom.saturating_add(1) == rows
+}
+
+fn is_resized(alloc: Global, case: &Resized) -> Result<bool, NoMemory> {
+    let (text, rows, cols, expected, x, y) = *case;
+    let emu = resized(alloc, text, rows, cols)?;
+    Ok(
+        has_rows(emu.grid(), &expected)
+            && has_cursor(&emu, x, y, false)
+            && has_whole_region(&emu, rows),
+    )
+}
+
+#[test]
+fn a_screen_gets_another_size(rt: HostRuntime) {
+    for case in RESIZED {
+        check_row(&rt, is_resized(rt.alloc(), case), case.0);
     }
-    Ok(None)
 }
 
-#[test]
-fn a_screen_gets_another_size(rt: HostRuntime) -> Result<(), Fail> {
-    assert_eq!(rt; first_misfit(rt.alloc(), RESIZED)?, None);
-    Ok(())
-}
-
-// What is pending stays: the sequence goes on.
-#[test]
-fn a_sequence_goes_on_at_another_size(rt: HostRuntime) -> Result<(), Fail> {
-    let mut emu = resized(rt.alloc(), b"\x1B[44m\x1B[2;2r\x1B[1;1H\x1B[3", 2, 9)?;
+// Whether what is pending stays, so that the sequence goes on.
+fn goes_on(alloc: Global) -> Result<bool, NoMemory> {
+    let mut emu = resized(alloc, b"\x1B[44m\x1B[2;2r\x1B[1;1H\x1B[3", 2, 9)?;
     emu.write(b"Cx");
-    assert!(rt; emu.state().x == 4);
-    let size = emu.grid().size();
-    assert!(rt; (size.rows, size.cols) == (2, 9));
-    assert!(rt; attributes(emu.grid()) == (0x07, 0x17));
-    Ok(())
-}
-
-// The size of the grid that comes back.
-fn old_size(alloc: Global) -> Result<Size, NoMemory> {
-    let mut emu = start(alloc, Size { rows: 2, cols: 5 })?;
-    let old = emu.resize(Grid::blank(alloc, Size { rows: 3, cols: 7 }, BLANK)?);
-    Ok(old.size())
+    let grid = emu.grid();
+    Ok(emu.state().x == 4 && grid.size() == size(2, 9) && has_attributes(grid, 0x07, 0x17))
 }
 
 #[test]
-fn the_old_grid_comes_back(rt: HostRuntime) -> Result<(), Fail> {
-    assert_eq!(rt; old_size(rt.alloc())?, Size { rows: 2, cols: 5 });
-    Ok(())
+fn a_sequence_goes_on_at_another_size(rt: HostRuntime) {
+    check_made(
+        &rt,
+        goes_on(rt.alloc()),
+        "the cursor, the size and the colours",
+    );
+}
+
+// Whether the grid that comes back has its old size.
+fn gives_back(alloc: Global) -> Result<bool, NoMemory> {
+    let mut emu = start(alloc, size(2, 5))?;
+    let old = resize(alloc, &mut emu, size(3, 7))?;
+    Ok(old.size() == size(2, 5))
+}
+
+#[test]
+fn the_old_grid_comes_back(rt: HostRuntime) {
+    check_made(&rt, gives_back(rt.alloc()), "the old grid");
 }
