@@ -2,15 +2,20 @@
 mod deaths;
 mod hooks;
 mod marks;
-mod plays;
+mod row;
+mod seen;
+mod sessions;
 mod typing;
 mod walks;
 
+use row::Row;
+use seen::is_seen;
 use session_text::read;
 use std::alloc::Global;
 use std::process::Abort;
+use std::slice::from_ref;
 use std::test::Fail;
-use vt_base::{Bytes, CallerNo, ConsoleNo, NoMemory};
+use vt_base::{Bytes, CallerNo, NoMemory};
 use vt_events::{Entry, Event, Reply};
 use vt_journal::{Tail, print, read_event};
 use vt_world::{World, spare_for};
@@ -36,7 +41,7 @@ fn journal(alloc: Global, caller: CallerNo, event: Event, reply: Reply) -> Resul
         reply,
     };
     let mut text = Bytes::new(alloc);
-    print(alloc, &[entry], 2, &END, &mut text)?;
+    print(alloc, from_ref(&entry), 2, &END, &mut text)?;
     Ok(text)
 }
 
@@ -73,36 +78,46 @@ fn answers(journal: &[u8], reply: &str) -> bool {
     }
 }
 
-// Makes these calls one after another, each of a caller, and compares the answers.
-fn check(
-    by: &impl Abort,
-    alloc: Global,
-    world: &mut World,
-    calls: &[(u16, &str, &str)],
-) -> Result<(), NoMemory> {
-    for &(p, words, reply) in calls {
-        check_one(by, alloc, world, p, words, reply)?;
-    }
-    Ok(())
-}
-
-fn check_one(
-    by: &impl Abort,
+// Makes the call, and says whether it is answered so.
+fn is_answered(
     alloc: Global,
     world: &mut World,
     p: u16,
     words: &str,
     reply: &str,
-) -> Result<(), NoMemory> {
+) -> Result<bool, NoMemory> {
     let journal = made(alloc, world, p, words.as_bytes())?;
-    assert!(by; answers(journal.as_slice(), reply), "{p} {words} = {reply}");
+    Ok(answers(journal.as_slice(), reply))
+}
+
+fn is_so(alloc: Global, world: &mut World, row: Row) -> Result<bool, NoMemory> {
+    match row {
+        Row::Call(p, words, reply) => is_answered(alloc, world, p, words, reply),
+        seen => Ok(is_seen(world, seen)),
+    }
+}
+
+fn check_row(by: &impl Abort, alloc: Global, world: &mut World, row: Row) -> Result<(), NoMemory> {
+    let so = is_so(alloc, world, row)?;
+    assert!(by; so, "{}", row.words());
     Ok(())
 }
 
-fn same(by: &impl Abort, a: u64, b: u64) {
-    assert_eq!(by; a, b);
+fn check_all(
+    by: &impl Abort,
+    alloc: Global,
+    world: &mut World,
+    rows: &[Row],
+) -> Result<(), NoMemory> {
+    for row in rows {
+        check_row(by, alloc, world, *row)?;
+    }
+    Ok(())
 }
 
-fn console(by: &impl Abort, n: u16) -> ConsoleNo {
-    ConsoleNo::new(n).expect(by, "a console")
+// Makes the calls of these rows one after another, on a console that the session opens, and looks at what they tell.
+fn check(by: &impl Abort, alloc: Global, session: &str, rows: &[Row]) -> Result<(), Fail> {
+    let mut world = open(alloc, session)?;
+    check_all(by, alloc, &mut world, rows)?;
+    Ok(())
 }

@@ -2,8 +2,8 @@
 ghost use Rattle.session_text.specs.Walks.{HasActs};
 
 use super::journal;
-use super::plays::ordinary;
-use session_text::{Items, Program, Walk};
+use super::sessions::ORDINARY;
+use session_text::{Program, Walk, read};
 use sig_hooks::{Handler, Hook, HookTable};
 use std::alloc::Global;
 use std::cell::Cell;
@@ -27,6 +27,9 @@ const SERVER: &[(&str, &str)] = &[
     ("exit", "ok"),
     ("", "ok"),
 ];
+
+// A process that sends another one a signal.
+const KILLER: &str = "process = [{script = ['kill 2 10']}, {}]\n";
 
 // The calls of a process that is ended by its first one.
 const ENDED: &[(&str, &str)] = &[("kill 2 10", "gone"), ("signals", "gone"), ("", "ok")];
@@ -52,9 +55,16 @@ fn twelve() -> SigSet {
 
 // The journal of the call, answered; nothing where there is none.
 fn spelled(alloc: Global, next: Option<Event>) -> Result<Bytes, NoMemory> {
-    match (next, CallerNo::new(2)) {
-        (Some(event), Some(caller)) => journal(alloc, caller, event, Reply::Done),
-        _ => Ok(Bytes::new(alloc)),
+    match next {
+        Some(event) => spelled_call(alloc, event),
+        None => Ok(Bytes::new(alloc)),
+    }
+}
+
+fn spelled_call(alloc: Global, event: Event) -> Result<Bytes, NoMemory> {
+    match CallerNo::new(2) {
+        Some(caller) => journal(alloc, caller, event, Reply::Done),
+        None => Ok(Bytes::new(alloc)),
     }
 }
 
@@ -153,26 +163,31 @@ fn check_walk(
     Ok(asked.get())
 }
 
+// The same of a session's program.
+fn check_program(
+    by: &impl Abort,
+    alloc: Global,
+    session: &str,
+    p: usize,
+    calls: &[(&str, &str)],
+) -> Result<u32, Fail> {
+    let session = read(alloc, session.as_bytes())?;
+    match session.programs().get(p) {
+        Some(program) => Ok(check_walk(by, alloc, program, calls)?),
+        None => Err("no such process".into()),
+    }
+}
+
 #[test]
 fn walks_an_ordinary_process(rt: HostRuntime) -> Result<(), Fail> {
-    let session = ordinary(rt.alloc())?;
-    let program = session.programs().get(2).ok_or("no process 2")?;
-    let asked = check_walk(&rt, rt.alloc(), program, SERVER)?;
+    let asked = check_program(&rt, rt.alloc(), ORDINARY, 2, SERVER)?;
     assert!(rt; asked == 1, "signal 12 was asked for once");
     Ok(())
 }
 
-fn killer(alloc: Global) -> Result<Program, NoMemory> {
-    let mut items = Items::with_room(alloc, 1)?;
-    items.push(Event::Kill(2, 10));
-    let hooks = HookTable::empty();
-    Ok(Program::Script { items, hooks })
-}
-
 #[test]
 fn a_kill_without_target_ends_no_program(rt: HostRuntime) -> Result<(), Fail> {
-    let program = killer(rt.alloc())?;
-    let asked = check_walk(&rt, rt.alloc(), &program, ENDED)?;
+    let asked = check_program(&rt, rt.alloc(), KILLER, 1, ENDED)?;
     assert!(rt; asked == 0, "no signal came");
     Ok(())
 }

@@ -63,7 +63,7 @@ fn meeting(rt: HostRuntime) -> Result<(), Fail> {
     assert!(rt; !gate.failed.load(SeqCst), "each hold ended");
     assert_eq!(rt; printed.status, 0);
     assert!(rt;
-        in_order(printed.out.held(), &["\n2 0 ", "\n1 0 ", "\n2 1 "]),
+        in_order(printed.out.held(), &["\np2 0 ", "\np1 0 ", "\np2 1 "]),
         "the order that the gate forces"
     );
     Ok(())

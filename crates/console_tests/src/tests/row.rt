@@ -1,0 +1,38 @@
+/// What is done to a console, or seen of it.
+#[derive(Clone, Copy)]
+pub enum Row {
+    /// A caller makes this call, and is answered so.
+    Call(u16, &'static str, &'static str),
+    /// The marks of the last event: hundreds for its kind, and a console or a caller.
+    Marks(&'static [u16]),
+    /// The console in front.
+    Front(u16),
+    /// The hops since the start.
+    Hops(u64),
+    /// Whether a caller waits.
+    Waits(u16, bool),
+    /// A console's queue: its bytes, and how many pieces it dropped.
+    Queue(u16, &'static [u8], u32),
+    /// The same, by the number of its bytes.
+    Queued(u16, usize, u32),
+    /// Whether a console has a screen.
+    Drawn(u16, bool),
+    /// The rows and columns of a new screen.
+    Sized(u8, u8),
+}
+
+impl Row {
+    /// What a message calls the row: the words of a call, or what is seen.
+    pub fn words(self) -> &'static str {
+        match self {
+            Row::Call(_, words, _) => words,
+            Row::Marks(_) => "the marks",
+            Row::Front(_) => "the console in front",
+            Row::Hops(_) => "the hops",
+            Row::Waits(..) => "who waits",
+            Row::Queue(..) | Row::Queued(..) => "a queue",
+            Row::Drawn(..) => "a screen",
+            Row::Sized(..) => "the size",
+        }
+    }
+}
