@@ -1,6 +1,6 @@
 -- How many values an array has, and how many keyboards there are.
-use Rattle.std.proofs.Common.{◌≡◌, ℕ, ◌+◌, ◌≤◌, nat_le, Bool, true, false, cond, map, min, arith, suc, List, [], ◌∷◌, Option, Some, None, Result, Ok, Err, length, ok_or, refl, ap, ◌∙◌}
-use Rattle.std.proofs.lemmas.Bool.{cases_Bool, leb-true}
+use Rattle.std.proofs.Common.{◌≡◌, ℕ, ◌+◌, ◌≤◌, nat_le, Bool, true, false, map, arith, suc, List, [], ◌∷◌, Option, Some, None, Result, Ok, Err, length, ok_or, refl, ap, ◌∙◌}
+use Rattle.std.proofs.lemmas.Bool.{leb-true}
 use Rattle.std.proofs.lemmas.List.{length-map}
 use Rattle.table_fields.specs.FaultCodes.{FURTHER_SCAN_BYTE, OUT_OF_RANGE, WRONG_KIND}
 use Rattle.table_fields.specs.Fields.{bytes_of, few_items_of}

@@ -1,4 +1,4 @@
-use Rattle.std.proofs.Common.{◌≡◌, ◌≤◌, drop, filter}
+use Rattle.std.proofs.Common.{◌≡◌, drop, filter}
 use Rattle.std.specs.Prelude.{slice_get}
 use Rattle.session_text.specs.Programs.{is_keys}
 use Rattle.session_text.proofs.callers.keys_at.Given as goal

@@ -1,9 +1,9 @@
-use Rattle.std.proofs.Common.{◌≡◌, ◌+◌, ◌≤◌, List, length, map, refl, subst, sym, ap, ◌∙◌, true, arith}
+use Rattle.std.proofs.Common.{◌≡◌, ◌+◌, List, length, map, subst, sym, ap, ◌∙◌, true, arith}
 use Rattle.std.proofs.lemmas.List.{length-map}
 use Rattle.std.proofs.lemmas.List.Elements.{All-cons, All-map}
 use Rattle.std.specs.List.{All}
 use Rattle.vt_base.specs.Bytes.{Text}
-use Rattle.session_text.specs.Sessions.{ArePrograms, IsKeysProgram, IsScriptProgram, script_of}
+use Rattle.session_text.specs.Sessions.{IsKeysProgram, IsScriptProgram, script_of}
 use Rattle.session_text.specs.Turns.{is_there}
 use Rattle.session_text.specs.declared.process.Process.{Process}
 use Rattle.session_text.specs.declared.program.Program.TheVariants as programs
