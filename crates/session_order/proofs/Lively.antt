@@ -128,6 +128,12 @@ wait_goes_on w p e wait =
     or_from (is_exit e) (not (is_kill e) && is_gone (step w p e).reply) exit
     (and_right (not (is_kill e)) (is_gone (step w p e).reply) (wait_not_gone (step w p e).reply wait))
 
+-- what holds of p and of the others holds of all
+of_each : (Holds : ℕ → Type 0) (p : ℕ) → Holds p → ((q : ℕ) → (q ≡ p → ⊥) → Holds q)
+    → (q : ℕ) → Holds q
+of_each Holds p own others q =
+    ⊎_elim (λ same. subst Holds (sym same) own) (others q) (cases_eq q p)
+
 -- one entry more
 pub lively-more : (programs : List Program) (h : List Entry) (w : WorldState) (p : ℕ) (e : Event) (entry : Entry)
     → IsLively programs h w.callers → Now programs h w p e → entry.caller ≡ p
@@ -135,6 +141,7 @@ pub lively-more : (programs : List Program) (h : List Entry) (w : WorldState) (p
     → IsLively programs (h ++ entry ∷ []) (step w p e).world.callers
 lively-more programs h w p e entry lively now by is =
     let r : Reply = (step w p e).reply in
+    let more : List Entry = h ++ entry ∷ [] in
     let d : Callers = (step w p e).world.callers in
     let s : Stepped p w.callers (is_wait r) d = stepped w p e in
     let mine : (q : ℕ) → q ≡ p → calls_by q (h ++ entry ∷ []) ≡ calls_by q h ++ call e r ∷ [] =
@@ -162,18 +169,15 @@ lively-more programs h w p e entry lively now by is =
       sound = s.sound lively.sound;
       awake = s.awake lively.awake;
       known = λ q live. lively.known q (s.live q live);
-      over = λ q none. ⊎_elim
-          (λ same. subst (λ k. is_live d k ≡ false) (sym same) (over_mine (subst (λ k. next_by programs k (h ++ entry ∷ []) ≡ None) same none)))
-          (λ apart. dead q (lively.over q (ap (next_of (program_of programs q)) (sym (others q apart)) ∙ none)))
-          (cases_eq q p);
-      waits = λ q held. ⊎_elim
-          (λ same. subst (λ k. HasWaitEnd k (next_by programs k (h ++ entry ∷ []))) (sym same) (waits_mine (subst (λ k. holds (caller_at d k).waiting ≡ true) same held)))
-          (λ apart. subst (λ made. HasWaitEnd q (next_of (program_of programs q) made)) (sym (others q apart)) (lively.waits q (s.others q apart held)))
-          (cases_eq q p);
-      walked = λ q other is_other. ⊎_elim
-          (λ same. subst (Walked (next other)) (sym (mine q same))
-          (walked-more (next other) (calls_by q h) e r (lively.walked q other is_other)
-          (ap (λ o. next_of o (calls_by q h)) (sym is_other) ∙ ap (λ k. next_by programs k h) same ∙ now.next)))
-          (λ apart. subst (Walked (next other)) (sym (others q apart)) (lively.walked q other is_other))
-          (cases_eq q p);
+      over = of_each (λ k. next_by programs k more ≡ None → is_live d k ≡ false) p over_mine
+          (λ q apart none. dead q (lively.over q (ap (next_of (program_of programs q)) (sym (others q apart)) ∙ none)));
+      waits = of_each (λ k. holds (caller_at d k).waiting ≡ true → HasWaitEnd k (next_by programs k more)) p waits_mine
+          (λ q apart held. subst (λ made. HasWaitEnd q (next_of (program_of programs q) made)) (sym (others q apart)) (lively.waits q (s.others q apart held)));
+      walked = of_each
+          (λ k. (other : Program) → program_of programs k ≡ Some other → Walked (next other) (calls_by k more))
+          p
+          (λ other is_other. subst (Walked (next other)) (sym (mine p refl))
+          (walked-more (next other) (calls_by p h) e r (lively.walked p other is_other)
+          (ap (λ o. next_of o (calls_by p h)) (sym is_other) ∙ now.next)))
+          (λ q apart other is_other. subst (Walked (next other)) (sym (others q apart)) (lively.walked q other is_other));
     }

@@ -11,13 +11,13 @@ use Rattle.session_order.proofs.Alive.{next-alive}
 use Rattle.session_order.proofs.Lively.{IsLively, Now, lively-more}
 use Rattle.session_order.proofs.Rounds.{finished-stays, is_none_none}
 use Rattle.session_order.proofs.Turns.{Enters, FindsFull, Goes, Skips, TurnDoes, event-plain, goes-nothing, reply-plain, turn-does, turns-go}
-use Rattle.session_order.specs.Calls.{all_over, calls_by, is_none, next_by, next_of}
+use Rattle.session_order.specs.Calls.{all_over, is_none, next_by, next_of}
 use Rattle.session_order.specs.Ends.{Setup}
 use Rattle.session_order.specs.Follows.{is_waiting}
 use Rattle.session_order.specs.Laws.{IsFromStart, RoundsGoOn, SerialEnds}
 use Rattle.session_order.specs.Serial.{Played, call_now, entry_at, is_finished, nothing_played, round, rounds, turn, turns}
 use Rattle.session_text.proofs.WhosePrograms.{some-first, some-keyboard, some-process}
-use Rattle.session_text.specs.Programs.{Call, call, next, program_of}
+use Rattle.session_text.specs.Programs.{call, next, program_of}
 use Rattle.session_text.specs.Sessions.{ArePrograms}
 use Rattle.session_text.specs.declared.program.Program.{Program}
 use Rattle.vt_base.specs.Limits.{callers as every_caller}
@@ -25,9 +25,10 @@ use Rattle.vt_events.specs.declared.entry.Entry.{Entry}
 use Rattle.vt_events.specs.declared.event.Event.{Event}
 use Rattle.vt_journal.specs.declared.full.Full.{Full}
 use Rattle.vt_procs.specs.Callers.{Callers, caller_at, caller_of, callers_of, is_live, keyboard, no_caller, starting}
-use Rattle.vt_procs.specs.Tickets.{can_go}
+use Rattle.vt_procs.specs.Tickets.{can_go, is_open}
 use Rattle.vt_procs.specs.declared.proc_start.ProcStart.{ProcStart}
 use Rattle.vt_procs.specs.declared.process.Process.{Process}
+use Rattle.vt_procs.specs.declared.waiting.Waiting.TheVariants.{Nothing}
 use Rattle.vt_world.specs.History.{replay}
 use Rattle.vt_world.specs.State.{WorldState}
 use Rattle.vt_world.specs.Step.{step}
@@ -44,7 +45,7 @@ start_at keyboards starts q = ⊎_elim
     (cases_lt q 68)
 
 starting_free : (keyboards q : ℕ) (first further : Bool) (start : Option ProcStart)
-    → holds (if first then keyboard keyboards 0 else if further then keyboard keyboards (q - 64) else caller_of start).waiting ≡ false
+    → (if first then keyboard keyboards 0 else if further then keyboard keyboards (q - 64) else caller_of start).waiting ≡ Nothing
 starting_free keyboards q true further start = refl
 starting_free keyboards q false true start = refl
 starting_free keyboards q false false None = refl
@@ -67,11 +68,11 @@ starting_lives keyboards starts programs q false false (Some start) are first lo
     ∙ lt-ltb (q - 1) (length starts) (slice_get_within starts (q - 1) start here)
 
 start_free : (keyboards : ℕ) (starts : List ProcStart) (q : ℕ)
-    → holds (caller_at (callers_of keyboards starts) q).waiting ≡ false
+    → (caller_at (callers_of keyboards starts) q).waiting ≡ Nothing
 start_free keyboards starts q = ⊎_elim
-    (λ here. ap (λ (a : Process). holds a.waiting) here.1
+    (λ here. ap (λ (a : Process). a.waiting) here.1
     ∙ starting_free keyboards q (q == 0) (nat_lt 64 q) (slice_get starts (q - 1)))
-    (λ none. ap (λ (a : Process). holds a.waiting) none) (start_at keyboards starts q)
+    (λ none. ap (λ (a : Process). a.waiting) none) (start_at keyboards starts q)
 
 -- who lives at the start is a caller, and has a program
 start_known : (keyboards : ℕ) (starts : List ProcStart) (programs : List Program) (q : ℕ)
@@ -95,16 +96,18 @@ lively_start : (programs : List Program) (keyboards : ℕ) (starts : List ProcSt
     → ArePrograms (length starts) keyboards programs → IsLively programs [] (callers_of keyboards starts)
 lively_start programs keyboards starts are =
     let c : Callers = callers_of keyboards starts in
+    let none_holds : (q : ℕ) → holds (caller_at c q).waiting ≡ true → ⊥ =
+    λ q held. both_ways (holds (caller_at c q).waiting) (ap holds (start_free keyboards starts q)) held in
     record {
-      sound = λ q held. absurd (both_ways (holds (caller_at c q).waiting) (start_free keyboards starts q) held);
-      awake = inl refl;
+      sound = λ q held. absurd (none_holds q held);
+      awake = inr (λ q. ap is_open (start_free keyboards starts q));
       known = λ q live. (start_known keyboards starts programs q are live).0;
       over = λ q none. false_from_ne_true (is_live c q)
           (λ live.
           let missing : program_of programs q ≡ None = has_next (program_of programs q) none in
           both_ways (is_some (program_of programs q)) (ap is_some missing)
           (start_known keyboards starts programs q are live).1);
-      waits = λ q held. absurd (both_ways (holds (caller_at c q).waiting) (start_free keyboards starts q) held);
+      waits = λ q held. absurd (none_holds q held);
       walked = λ q program is. tt;
     }
 

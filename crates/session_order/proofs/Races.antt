@@ -1,20 +1,19 @@
 -- A race whose callers have all ended follows the programs and ends.
-use Rattle.std.proofs.Common.{◌≡◌, ◌⊎◌, ℕ, ◌+◌, ◌<◌, ◌≤◌, zero, suc, Bool, true, false, ⊎_elim, arith, List, [], ◌∷◌, cond, filter, length, take, map, Option, Some, None, refl, sym, ap, ◌∙◌, subst}
+use Rattle.std.proofs.Common.{◌≡◌, ℕ, ◌+◌, ◌<◌, zero, suc, Bool, true, ⊎_elim, arith, List, [], ◌∷◌, cond, filter, take, map, Option, Some, None, refl, sym, ap, ◌∙◌}
 use Rattle.std.proofs.lemmas.Bool.{and_from, cases_Bool, eq-eqb, false≢true}
 use Rattle.std.proofs.lemmas.Option.{none-some, same_Some}
 use Rattle.std.specs.List.{list_all, range_with_len}
 use Rattle.std.specs.Prelude.{◌==◌, is_some, slice_get}
 use Rattle.session_order.proofs.Turns.{each-more}
-use Rattle.session_order.specs.Calls.{all_over, call_of, calls_by, is_none, made_by, next_by, next_of}
-use Rattle.session_order.specs.Ends.{Ends, EndsBy, Finishes, Setup, Stops}
-use Rattle.session_order.specs.Follows.{Follows, IsNextCall}
+use Rattle.session_order.specs.Calls.{call_of, calls_by, is_none, made_by, next_by, next_of}
+use Rattle.session_order.specs.Ends.{EndsBy, Setup}
+use Rattle.session_order.specs.Follows.{Follows}
 use Rattle.session_order.specs.Races.{HasEnded, HasNext, IsClosed, RaceIsRight, RunsGrow, StopsAt}
 use Rattle.session_text.specs.Programs.{next, program_of}
 use Rattle.session_text.specs.declared.program.Program.{Program}
 use Rattle.vt_base.specs.Limits.{callers as every_caller}
 use Rattle.vt_events.specs.Plain.{plain_event}
 use Rattle.vt_events.specs.declared.entry.Entry.{Entry}
-use Rattle.vt_events.specs.declared.event.Event.{Event}
 use Rattle.vt_journal.specs.Room.{full_at, has_room, tail_at}
 use Rattle.vt_journal.specs.declared.full.Full.{Full}
 
