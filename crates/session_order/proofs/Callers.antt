@@ -4,7 +4,7 @@ use Rattle.std.proofs.lemmas.Bool.{and_right, both_ways, cases_Bool, cases_lt, f
 use Rattle.std.proofs.lemmas.List.{get_or-set_other, get_or-set_same, get_or_past, set_past}
 use Rattle.std.proofs.lemmas.Option.{none-some}
 use Rattle.std.specs.List.{list_any}
-use Rattle.std.specs.Prelude.{not, ◌==◌, ◌&&◌, if◌then◌else◌}
+use Rattle.std.specs.Prelude.{not, ◌&&◌, if◌then◌else◌}
 use Rattle.session_order.proofs.Ages.{AllAge, all-stay, at-map, at-set, breaks, holds, settled-age, then_all, with_all}
 use Rattle.session_order.proofs.Deeds.{NoWait, OneWait, RowDoes, all-done-age, row-does, tell-age}
 use Rattle.session_order.proofs.Steps.{Accepted, RefusedByAll, RefusedByOwn, StepDoes, accepted, common-none, none-common, step-does}

@@ -1,19 +1,20 @@
 -- What every play from a start keeps of its callers: whose program is over is dead, who holds a ticket
 -- has waitend next, and where somebody waits, somebody else can go on.
-use Rattle.std.proofs.Common.{◌≡◌, ℕ, ◌<◌, true, false, cond, ⊎_elim, List, [], ◌∷◌, ◌++◌, length, map, filter, Option, Some, None, refl, sym, ap, ◌∙◌, subst}
+use Rattle.std.proofs.Common.{◌≡◌, ℕ, ◌<◌, true, false, cond, ⊎_elim, List, [], ◌∷◌, ◌++◌, map, filter, Option, Some, None, refl, sym, ap, ◌∙◌, subst}
 use Rattle.std.proofs.lemmas.Bool.{and_parts, both_ways, cases_Bool, cases_eq, eq-eqb, false_from_ne_true, false≢true, ne_eqb, not-true, or_cases, or_from, and_right}
 use Rattle.std.proofs.lemmas.List.{append-nil, map-append}
 use Rattle.std.proofs.lemmas.List.Elements.{filter-append}
 use Rattle.std.proofs.lemmas.Option.{none-some, same_Some}
-use Rattle.std.specs.Prelude.{◌==◌, ◌&&◌, not, slice_get}
+use Rattle.std.specs.Prelude.{◌==◌, ◌&&◌, not}
 use Rattle.session_order.proofs.Ages.{holds}
 use Rattle.session_order.proofs.Alive.{Walked, next-alive, walked-more}
 use Rattle.session_order.proofs.Callers.{Awake, Sound, Stepped, exit-kills, stepped, waitend-collects}
 use Rattle.session_order.proofs.Programs.{next-fine}
 use Rattle.session_order.proofs.Steps.{exit-never-waits, gone-dead, keyboard-never-waits}
 use Rattle.session_order.specs.Calls.{call_of, calls_by, next_by, next_of}
-use Rattle.session_text.specs.Programs.{Call, call, ends, is_exit, is_gone, is_kill, next}
+use Rattle.session_text.specs.Programs.{Call, call, ends, is_exit, is_gone, is_kill, next, program_of}
 use Rattle.vt_base.specs.Keyboards.{is_keyboard}
+use Rattle.vt_base.specs.Limits.{callers as every_caller}
 use Rattle.vt_events.specs.Waits.{is_wait}
 use Rattle.session_text.specs.declared.program.Program.{Program}
 use Rattle.vt_events.specs.declared.entry.Entry.{Entry}
@@ -36,12 +37,12 @@ pub record HasWaitEnd (p : ℕ) (next : Option Event) : Type 0 where
 pub record IsLively (programs : List Program) (h : List Entry) (c : Callers) : Type 0 where
   pub sound : Sound c
   pub awake : Awake c
-  pub known : (q : ℕ) → is_live c q ≡ true → q < length programs
+  pub known : (q : ℕ) → is_live c q ≡ true → q < every_caller
   pub over : (q : ℕ) → next_by programs q h ≡ None → is_live c q ≡ false
   pub waits :
       (q : ℕ) → holds (caller_at c q).waiting ≡ true → HasWaitEnd q (next_by programs q h)
   pub walked :
-      (q : ℕ) (program : Program) → slice_get programs q ≡ Some program
+      (q : ℕ) (program : Program) → program_of programs q ≡ Some program
       → Walked (next program) (calls_by q h)
 
 -- the calls of p behind an entry of its own, and of another
@@ -127,6 +128,12 @@ wait_goes_on w p e wait =
     or_from (is_exit e) (not (is_kill e) && is_gone (step w p e).reply) exit
     (and_right (not (is_kill e)) (is_gone (step w p e).reply) (wait_not_gone (step w p e).reply wait))
 
+-- what holds of p and of the others holds of all
+of_each : (Holds : ℕ → Type 0) (p : ℕ) → Holds p → ((q : ℕ) → (q ≡ p → ⊥) → Holds q)
+    → (q : ℕ) → Holds q
+of_each Holds p own others q =
+    ⊎_elim (λ same. subst Holds (sym same) own) (others q) (cases_eq q p)
+
 -- one entry more
 pub lively-more : (programs : List Program) (h : List Entry) (w : WorldState) (p : ℕ) (e : Event) (entry : Entry)
     → IsLively programs h w.callers → Now programs h w p e → entry.caller ≡ p
@@ -134,6 +141,7 @@ pub lively-more : (programs : List Program) (h : List Entry) (w : WorldState) (p
     → IsLively programs (h ++ entry ∷ []) (step w p e).world.callers
 lively-more programs h w p e entry lively now by is =
     let r : Reply = (step w p e).reply in
+    let more : List Entry = h ++ entry ∷ [] in
     let d : Callers = (step w p e).world.callers in
     let s : Stepped p w.callers (is_wait r) d = stepped w p e in
     let mine : (q : ℕ) → q ≡ p → calls_by q (h ++ entry ∷ []) ≡ calls_by q h ++ call e r ∷ [] =
@@ -142,8 +150,8 @@ lively-more programs h w p e entry lively now by is =
     λ q apart. calls_others h entry q (ne_eqb entry.caller q (λ same. apart (sym same ∙ by))) in
     let dead : (q : ℕ) → is_live w.callers q ≡ false → is_live d q ≡ false =
     λ q gone. false_from_ne_true (is_live d q) (λ live. both_ways (is_live w.callers q) gone (s.live q live)) in
-    let found : (program : Program) × (slice_get programs p ≡ Some program) × (next program (calls_by p h) ≡ Some e) =
-    has_program (slice_get programs p) (calls_by p h) e now.next in
+    let found : (program : Program) × (program_of programs p ≡ Some program) × (next program (calls_by p h) ≡ Some e) =
+    has_program (program_of programs p) (calls_by p h) e now.next in
     let program : Program = found.0 in
     let next_mine : next_by programs p (h ++ entry ∷ []) ≡ next program (calls_by p h ++ call e r ∷ []) =
     λ i. next_of (found.1 i) (mine p refl i) in
@@ -161,18 +169,15 @@ lively-more programs h w p e entry lively now by is =
       sound = s.sound lively.sound;
       awake = s.awake lively.awake;
       known = λ q live. lively.known q (s.live q live);
-      over = λ q none. ⊎_elim
-          (λ same. subst (λ k. is_live d k ≡ false) (sym same) (over_mine (subst (λ k. next_by programs k (h ++ entry ∷ []) ≡ None) same none)))
-          (λ apart. dead q (lively.over q (ap (next_of (slice_get programs q)) (sym (others q apart)) ∙ none)))
-          (cases_eq q p);
-      waits = λ q held. ⊎_elim
-          (λ same. subst (λ k. HasWaitEnd k (next_by programs k (h ++ entry ∷ []))) (sym same) (waits_mine (subst (λ k. holds (caller_at d k).waiting ≡ true) same held)))
-          (λ apart. subst (λ made. HasWaitEnd q (next_of (slice_get programs q) made)) (sym (others q apart)) (lively.waits q (s.others q apart held)))
-          (cases_eq q p);
-      walked = λ q other is_other. ⊎_elim
-          (λ same. subst (Walked (next other)) (sym (mine q same))
-          (walked-more (next other) (calls_by q h) e r (lively.walked q other is_other)
-          (ap (λ o. next_of o (calls_by q h)) (sym is_other) ∙ ap (λ k. next_by programs k h) same ∙ now.next)))
-          (λ apart. subst (Walked (next other)) (sym (others q apart)) (lively.walked q other is_other))
-          (cases_eq q p);
+      over = of_each (λ k. next_by programs k more ≡ None → is_live d k ≡ false) p over_mine
+          (λ q apart none. dead q (lively.over q (ap (next_of (program_of programs q)) (sym (others q apart)) ∙ none)));
+      waits = of_each (λ k. holds (caller_at d k).waiting ≡ true → HasWaitEnd k (next_by programs k more)) p waits_mine
+          (λ q apart held. subst (λ made. HasWaitEnd q (next_of (program_of programs q) made)) (sym (others q apart)) (lively.waits q (s.others q apart held)));
+      walked = of_each
+          (λ k. (other : Program) → program_of programs k ≡ Some other → Walked (next other) (calls_by k more))
+          p
+          (λ other is_other. subst (Walked (next other)) (sym (mine p refl))
+          (walked-more (next other) (calls_by p h) e r (lively.walked p other is_other)
+          (ap (λ o. next_of o (calls_by p h)) (sym is_other) ∙ now.next)))
+          (λ q apart other is_other. subst (Walked (next other)) (sym (others q apart)) (lively.walked q other is_other));
     }

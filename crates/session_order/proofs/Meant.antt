@@ -1,5 +1,5 @@
 -- Histories and their entries as they are meant.
-use Rattle.std.proofs.Common.{◌≡◌, ℕ, ◌+◌, ◌≤◌, true, false, cond, List, [], ◌∷◌, length, filter, map, take, Some, None, option_map, refl, sym, ap, ◌∙◌, subst}
+use Rattle.std.proofs.Common.{◌≡◌, ℕ, ◌+◌, ◌≤◌, true, false, cond, List, [], ◌∷◌, filter, map, take, Some, None, option_map, refl, sym, ap, ◌∙◌, subst}
 use Rattle.std.proofs.lemmas.List.{length-map, take-map}
 use Rattle.std.proofs.lemmas.List.Folds.{fold-map}
 use Rattle.std.proofs.lemmas.Option.{slice_get-map}
@@ -11,8 +11,9 @@ use Rattle.session_order.specs.Ends.{Setup}
 use Rattle.vt_journal.specs.Room.{IsWithin, has_room}
 use Rattle.session_order.specs.Follows.{IsNextCall, is_waiting}
 use Rattle.session_order.specs.Meant.{EndsIsMeant, FollowsIsMeant, LegalIsMeant, NextIsMeant, NextIsPlain, ReplayIsMeant, plain_history}
-use Rattle.session_text.specs.Programs.{call}
+use Rattle.session_text.specs.Programs.{call, program_of}
 use Rattle.session_text.specs.declared.program.Program.{Program}
+use Rattle.vt_base.specs.Limits.{callers as every_caller}
 use Rattle.vt_events.specs.Charge.{charge_of}
 use Rattle.vt_events.specs.Plain.{plain_entry, plain_event, plain_reply}
 use Rattle.vt_events.specs.declared.entry.Entry.{Entry}
@@ -88,7 +89,7 @@ counts_meant p entries =
 
 next_meant : (programs : List Program) (p : ℕ) (entries : List Entry)
     → next_by programs p (plain_history entries) ≡ next_by programs p entries
-next_meant programs p entries = ap (next_of (slice_get programs p)) (calls-meant p entries)
+next_meant programs p entries = ap (next_of (program_of programs p)) (calls-meant p entries)
 
 waiting_meant : (start : WorldState) (p : ℕ) (entries : List Entry)
     → is_waiting (replay start (plain_history entries)) p ≡ is_waiting (replay start entries) p
@@ -149,7 +150,7 @@ pub ends-meant : EndsIsMeant
 ends-meant o entries None ends = record {
   within = within_meant o entries ends.within;
   rightly = record {
-    over = sym (over_meant o.programs entries (range_with_len 0 (length o.programs))) ∙ ends.rightly.over;
+    over = sym (over_meant o.programs entries (range_with_len 0 every_caller)) ∙ ends.rightly.over;
     entries = refl;
     charge = refl;
   };

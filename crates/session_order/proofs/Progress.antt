@@ -1,9 +1,9 @@
 -- A play from a start goes on until it is finished.
 use Rattle.std.proofs.Common.{◌≡◌, ◌⊎◌, ℕ, ◌+◌, ◌-◌, ◌<◌, ◌≤◌, zero, suc, Bool, true, false, ⊎_elim, inl, inr, arith, List, [], ◌∷◌, ◌++◌, length, get_or, map, Option, Some, None, refl, sym, ap, ◌∙◌, subst, length-append}
-use Rattle.std.proofs.lemmas.Bool.{and_cases, and_parts, both_ways, cases_Bool, cases_lt, eqb-false, eqb-true, false_from_ne_true, false≢true, ltb-true, not-true, or_cases, or_left, true≢false}
+use Rattle.std.proofs.lemmas.Bool.{and_cases, and_parts, both_ways, cases_Bool, cases_lt, eqb-false, eqb-true, false_from_ne_true, false≢true, lt-ltb, not-true, or_cases, or_left, true≢false}
 use Rattle.std.proofs.lemmas.List.{get_or_past}
 use Rattle.std.proofs.lemmas.List.FromFn.{get_or-map-range_with_len, length-map-range_with_len}
-use Rattle.std.proofs.lemmas.Option.{none-some, slice_get_cases, slice_get_within}
+use Rattle.std.proofs.lemmas.Option.{none-some, slice_get_within}
 use Rattle.std.specs.List.{list_all, list_any, range_with_len}
 use Rattle.std.specs.Prelude.{◌==◌, nat_lt, not, is_some, slice_get, if◌then◌else◌}
 use Rattle.session_order.proofs.Ages.{holds}
@@ -11,91 +11,103 @@ use Rattle.session_order.proofs.Alive.{next-alive}
 use Rattle.session_order.proofs.Lively.{IsLively, Now, lively-more}
 use Rattle.session_order.proofs.Rounds.{finished-stays, is_none_none}
 use Rattle.session_order.proofs.Turns.{Enters, FindsFull, Goes, Skips, TurnDoes, event-plain, goes-nothing, reply-plain, turn-does, turns-go}
-use Rattle.session_order.specs.Calls.{all_over, calls_by, is_none, next_by, next_of}
+use Rattle.session_order.specs.Calls.{all_over, is_none, next_by, next_of}
 use Rattle.session_order.specs.Ends.{Setup}
 use Rattle.session_order.specs.Follows.{is_waiting}
 use Rattle.session_order.specs.Laws.{IsFromStart, RoundsGoOn, SerialEnds}
 use Rattle.session_order.specs.Serial.{Played, call_now, entry_at, is_finished, nothing_played, round, rounds, turn, turns}
-use Rattle.session_text.specs.Programs.{Call, call, next}
+use Rattle.session_text.proofs.WhosePrograms.{some-first, some-keyboard, some-process}
+use Rattle.session_text.specs.Programs.{call, next, program_of}
+use Rattle.session_text.specs.Sessions.{ArePrograms}
 use Rattle.session_text.specs.declared.program.Program.{Program}
+use Rattle.vt_base.specs.Limits.{callers as every_caller}
 use Rattle.vt_events.specs.declared.entry.Entry.{Entry}
 use Rattle.vt_events.specs.declared.event.Event.{Event}
 use Rattle.vt_journal.specs.declared.full.Full.{Full}
 use Rattle.vt_procs.specs.Callers.{Callers, caller_at, caller_of, callers_of, is_live, keyboard, no_caller, starting}
-use Rattle.vt_procs.specs.Tickets.{can_go}
+use Rattle.vt_procs.specs.Tickets.{can_go, is_open}
 use Rattle.vt_procs.specs.declared.proc_start.ProcStart.{ProcStart}
 use Rattle.vt_procs.specs.declared.process.Process.{Process}
+use Rattle.vt_procs.specs.declared.waiting.Waiting.TheVariants.{Nothing}
 use Rattle.vt_world.specs.History.{replay}
 use Rattle.vt_world.specs.State.{WorldState}
 use Rattle.vt_world.specs.Step.{step}
 
 -- a caller at the start
-start_at : (starts : List ProcStart) (q : ℕ)
-    → (caller_at (callers_of 1 starts) q ≡ starting 1 starts q) ⊎ (caller_at (callers_of 1 starts) q ≡ no_caller)
-start_at starts q = ⊎_elim
-    (λ within. inl (get_or-map-range_with_len (starting 1 starts) 0 68 q q no_caller within (omega arith)))
-    (λ past. inr (get_or_past (map (starting 1 starts) (range_with_len 0 68)) q no_caller
-    (omega (arith, past, length-map-range_with_len (starting 1 starts) 0 68))))
+start_at : (keyboards : ℕ) (starts : List ProcStart) (q : ℕ)
+    → ((q < every_caller) × (caller_at (callers_of keyboards starts) q ≡ starting keyboards starts q))
+    ⊎ (caller_at (callers_of keyboards starts) q ≡ no_caller)
+start_at keyboards starts q = ⊎_elim
+    (λ within. inl
+    (within, get_or-map-range_with_len (starting keyboards starts) 0 68 q q no_caller within (omega arith)))
+    (λ past. inr (get_or_past (map (starting keyboards starts) (range_with_len 0 68)) q no_caller
+    (omega (arith, past, length-map-range_with_len (starting keyboards starts) 0 68))))
     (cases_lt q 68)
 
-starting_free : (q : ℕ) (first further : Bool) (start : Option ProcStart)
-    → holds (if first then keyboard 1 0 else if further then keyboard 1 (q - 64) else caller_of start).waiting ≡ false
-starting_free q true further start = refl
-starting_free q false true start = refl
-starting_free q false false None = refl
-starting_free q false false (Some start) = refl
+starting_free : (keyboards q : ℕ) (first further : Bool) (start : Option ProcStart)
+    → (if first then keyboard keyboards 0 else if further then keyboard keyboards (q - 64) else caller_of start).waiting ≡ Nothing
+starting_free keyboards q true further start = refl
+starting_free keyboards q false true start = refl
+starting_free keyboards q false false None = refl
+starting_free keyboards q false false (Some start) = refl
 
--- of one keyboard and the processes, no other caller lives
-starting_lives : (starts : List ProcStart) (q : ℕ) (first further : Bool) (start : Option ProcStart)
+-- who lives at the start has a program
+starting_lives : (keyboards : ℕ) (starts : List ProcStart) (programs : List Program) (q : ℕ)
+    (first further : Bool) (start : Option ProcStart) → ArePrograms (length starts) keyboards programs
     → (q == 0) ≡ first → nat_lt 64 q ≡ further → slice_get starts (q - 1) ≡ start
-    → (if first then keyboard 1 0 else if further then keyboard 1 (q - 64) else caller_of start).live ≡ true
-    → q < length starts + 1
-starting_lives starts q true further start first high here live = omega (arith, eqb-true q 0 first)
-starting_lives starts q false true start first high here live =
-    absurd (omega (arith, ltb-true 64 q high, ltb-true (q - 64) 1 live))
-starting_lives starts q false false None first high here live = absurd (false≢true live)
-starting_lives starts q false false (Some start) first high here live =
-    let apart : q ≡ 0 → ⊥ = eqb-false q 0 first in
-    omega (arith, slice_get_within starts (q - 1) start here, apart)
+    → (if first then keyboard keyboards 0 else if further then keyboard keyboards (q - 64) else caller_of start).live ≡ true
+    → is_some (program_of programs q) ≡ true
+starting_lives keyboards starts programs q true further start are first high here live =
+    ap (λ p. is_some (program_of programs p)) (eqb-true q 0 first)
+    ∙ some-first (length starts) keyboards programs are
+starting_lives keyboards starts programs q false true start are first high here live =
+    some-keyboard (length starts) keyboards programs are q high ∙ live
+starting_lives keyboards starts programs q false false None are first low here live = absurd (false≢true live)
+starting_lives keyboards starts programs q false false (Some start) are first low here live =
+    some-process (length starts) keyboards programs are q (eqb-false q 0 first) low
+    ∙ lt-ltb (q - 1) (length starts) (slice_get_within starts (q - 1) start here)
 
-start_free : (starts : List ProcStart) (q : ℕ)
-    → holds (caller_at (callers_of 1 starts) q).waiting ≡ false
-start_free starts q = ⊎_elim
-    (λ here. ap (λ (a : Process). holds a.waiting) here ∙ starting_free q (q == 0) (nat_lt 64 q) (slice_get starts (q - 1)))
-    (λ none. ap (λ (a : Process). holds a.waiting) none) (start_at starts q)
+start_free : (keyboards : ℕ) (starts : List ProcStart) (q : ℕ)
+    → (caller_at (callers_of keyboards starts) q).waiting ≡ Nothing
+start_free keyboards starts q = ⊎_elim
+    (λ here. ap (λ (a : Process). a.waiting) here.1
+    ∙ starting_free keyboards q (q == 0) (nat_lt 64 q) (slice_get starts (q - 1)))
+    (λ none. ap (λ (a : Process). a.waiting) none) (start_at keyboards starts q)
 
-start_known : (starts : List ProcStart) (q : ℕ) → is_live (callers_of 1 starts) q ≡ true
-    → q < length starts + 1
-start_known starts q live = ⊎_elim
-    (λ here. starting_lives starts q (q == 0) (nat_lt 64 q) (slice_get starts (q - 1)) refl refl refl
-    (subst (λ (a : Process). a.live ≡ true) here live))
+-- who lives at the start is a caller, and has a program
+start_known : (keyboards : ℕ) (starts : List ProcStart) (programs : List Program) (q : ℕ)
+    → ArePrograms (length starts) keyboards programs → is_live (callers_of keyboards starts) q ≡ true
+    → (q < every_caller) × (is_some (program_of programs q) ≡ true)
+start_known keyboards starts programs q are live = ⊎_elim
+    (λ here. (
+      here.0,
+      starting_lives keyboards starts programs q (q == 0) (nat_lt 64 q) (slice_get starts (q - 1)) are refl refl refl
+          (subst (λ (a : Process). a.live ≡ true) here.1 live),
+    ))
     (λ none. absurd (false≢true (subst (λ (a : Process). a.live ≡ true) none live)))
-    (start_at starts q)
+    (start_at keyboards starts q)
 
 -- a program has a first call
 has_next : (program : Option Program) → (next_of program [] ≡ None) → program ≡ None
 has_next None none = refl
 has_next (Some program) none = absurd ((next-alive program).starts none)
 
-none_past : {A : Type 0} (xs : List A) (q : ℕ) → slice_get xs q ≡ None → length xs ≤ q
-none_past xs q none = ⊎_elim
-    (λ some. absurd (none-some some.0 (sym none ∙ some.2))) (λ past. past.0)
-    (slice_get_cases xs q).1
-
-lively_start : (programs : List Program) (starts : List ProcStart)
-    → length programs ≡ length starts + 1 → IsLively programs [] (callers_of 1 starts)
-lively_start programs starts len =
-    let known : (q : ℕ) → is_live (callers_of 1 starts) q ≡ true → q < length programs =
-    λ q live. omega (arith, start_known starts q live, len) in
+lively_start : (programs : List Program) (keyboards : ℕ) (starts : List ProcStart)
+    → ArePrograms (length starts) keyboards programs → IsLively programs [] (callers_of keyboards starts)
+lively_start programs keyboards starts are =
+    let c : Callers = callers_of keyboards starts in
+    let none_holds : (q : ℕ) → holds (caller_at c q).waiting ≡ true → ⊥ =
+    λ q held. both_ways (holds (caller_at c q).waiting) (ap holds (start_free keyboards starts q)) held in
     record {
-      sound = λ q held. absurd (both_ways (holds (caller_at (callers_of 1 starts) q).waiting) (start_free starts q) held);
-      awake = inl refl;
-      known = known;
-      over = λ q none. false_from_ne_true (is_live (callers_of 1 starts) q)
+      sound = λ q held. absurd (none_holds q held);
+      awake = inr (λ q. ap is_open (start_free keyboards starts q));
+      known = λ q live. (start_known keyboards starts programs q are live).0;
+      over = λ q none. false_from_ne_true (is_live c q)
           (λ live.
-          let past : length programs ≤ q = none_past programs q (has_next (slice_get programs q) none) in
-          let no : ⊥ = omega (arith, past, known q live) in no);
-      waits = λ q held. absurd (both_ways (holds (caller_at (callers_of 1 starts) q).waiting) (start_free starts q) held);
+          let missing : program_of programs q ≡ None = has_next (program_of programs q) none in
+          both_ways (is_some (program_of programs q)) (ap is_some missing)
+          (start_known keyboards starts programs q are live).1);
+      waits = λ q held. absurd (none_holds q held);
       walked = λ q program is. tt;
     }
 
@@ -139,8 +151,8 @@ pub record OnWay (o : Setup) (t : Played) : Type 0 where
 
 round_goes_on : (o : Setup) (t : Played) → OnWay o t → OnWay o (round o t)
 round_goes_on o t way = record {
-  goes = turns-go o (range_with_len 0 (length o.programs)) t way.goes;
-  lives = turns_live o (range_with_len 0 (length o.programs)) t way.lives;
+  goes = turns-go o (range_with_len 0 every_caller) t way.goes;
+  lives = turns_live o (range_with_len 0 every_caller) t way.lives;
 }
 
 rounds_go_on : (o : Setup) (n : ℕ) (t : Played) → OnWay o t → OnWay o (rounds o n t)
@@ -152,15 +164,18 @@ first_goes_on o first is = record {
   goes = turns-go o first nothing_played (goes-nothing o);
   lives = turns_live o first nothing_played
       (subst (λ (w : WorldState). IsLively o.programs [] w.callers) (sym is.start)
-      (lively_start o.programs is.processes is.programs));
+      (lively_start o.programs is.keyboards is.processes is.programs));
 }
 
 -- a test that fails somewhere in a range
 fails_at : (test : ℕ → Bool) (a n : ℕ) → list_all test (range_with_len a n) ≡ false
-    → (x : ℕ) × (test x ≡ false)
+    → (x : ℕ) × (x < a + n) × (test x ≡ false)
 fails_at test a zero none = absurd (true≢false none)
 fails_at test a (suc n) none = ⊎_elim
-    (λ here. (a, here)) (λ later. fails_at test (a + 1) n later)
+    (λ here. (a, omega arith, here))
+    (λ later.
+    let found : (x : ℕ) × (x < a + 1 + n) × (test x ≡ false) = fails_at test (a + 1) n later in
+    (found.0, omega (arith, found.1), found.2))
     (and_cases (test a) (list_all test (range_with_len (a + 1) n)) none)
 
 passes_at : (test : Process → Bool) (list : List Process) → list_any test list ≡ true
@@ -182,24 +197,18 @@ living_next programs h c q lively live =
     false_from_ne_true (is_none (next_by programs q h))
     (λ none. both_ways (is_live c q) (lively.over q (is_none_none (next_by programs q h) none)) live)
 
--- who has a next call has a program
-known_program : (programs : List Program) (q : ℕ) (program : Option Program) (made : List Call) (e : Event)
-    → slice_get programs q ≡ program → next_of program made ≡ Some e → q < length programs
-known_program programs q None made e here is = absurd (none-some e is)
-known_program programs q (Some program) made e here is = slice_get_within programs q program here
-
 -- a caller that can make a call now
 pub record CanCall (o : Setup) (h : List Entry) : Type 0 where
   pub caller : ℕ
-  pub known : caller < length o.programs
+  pub known : caller < every_caller
   pub call : Event
   pub now : call_now o h caller ≡ Some call
 
-can_call : (o : Setup) (h : List Entry) (q : ℕ) (e : Event) → next_by o.programs q h ≡ Some e
-    → is_waiting (replay o.start h) q ≡ false → CanCall o h
-can_call o h q e next shut = record {
+can_call : (o : Setup) (h : List Entry) (q : ℕ) (e : Event) → q < every_caller
+    → next_by o.programs q h ≡ Some e → is_waiting (replay o.start h) q ≡ false → CanCall o h
+can_call o h q e known next shut = record {
   caller = q;
-  known = known_program o.programs q (slice_get o.programs q) (calls_by q h) e refl next;
+  known = known;
   call = e;
   now = ap (λ b. if b then None else next_by o.programs q h) shut ∙ next;
 }
@@ -207,10 +216,10 @@ can_call o h q e next shut = record {
 somebody : (o : Setup) (h : List Entry) → Lives o h → all_over o.programs h ≡ false → CanCall o h
 somebody o h lives going =
     let w : WorldState = replay o.start h in
-    let open_one : (p : ℕ) × (is_none (next_by o.programs p h) ≡ false) =
-    fails_at (λ p. is_none (next_by o.programs p h)) 0 (length o.programs) going in
+    let open_one : (p : ℕ) × (p < every_caller) × (is_none (next_by o.programs p h) ≡ false) =
+    fails_at (λ p. is_none (next_by o.programs p h)) 0 every_caller going in
     let p : ℕ = open_one.0 in
-    let his : (e : Event) × (next_by o.programs p h ≡ Some e) = some_next (next_by o.programs p h) open_one.1 in
+    let his : (e : Event) × (next_by o.programs p h ≡ Some e) = some_next (next_by o.programs p h) open_one.2 in
     ⊎_elim
     (λ waits. ⊎_elim
     (λ some.
@@ -220,10 +229,10 @@ somebody o h lives going =
     and_parts (is_live w.callers q) (not (is_waiting w q)) other.1 in
     let call : (e : Event) × (next_by o.programs q h ≡ Some e) =
     some_next (next_by o.programs q h) (living_next o.programs h w.callers q lives parts.0) in
-    can_call o h q call.0 call.1 (not-true (is_waiting w q) parts.1))
+    can_call o h q call.0 (lives.known q parts.0) call.1 (not-true (is_waiting w q) parts.1))
     (λ nobody. absurd (both_ways (is_waiting w p) (nobody p) waits))
     lives.awake)
-    (λ shut. can_call o h p his.0 his.1 shut)
+    (λ shut. can_call o h p his.0 open_one.1 his.1 shut)
     (cases_Bool (is_waiting w p))
 
 -- the play has an entry more than h, or it stops
@@ -295,7 +304,7 @@ round_moves : (o : Setup) (h : List Entry) (stop : Option Full) → Lives o h
 round_moves o h (Some full) lives going = absurd (true≢false going)
 round_moves o h None lives going =
     let can : CanCall o h = somebody o h lives going in
-    range_moves o h can.caller can.call can.now 0 (length o.programs) (omega arith)
+    range_moves o h can.caller can.call can.now 0 every_caller (omega arith)
     (omega (arith, can.known))
 
 pub rounds-go-on : RoundsGoOn

@@ -1,19 +1,19 @@
 -- A race whose callers have all ended follows the programs and ends.
-use Rattle.std.proofs.Common.{◌≡◌, ◌⊎◌, ℕ, ◌+◌, ◌<◌, ◌≤◌, zero, suc, Bool, true, false, ⊎_elim, arith, List, [], ◌∷◌, cond, filter, length, take, map, Option, Some, None, refl, sym, ap, ◌∙◌, subst}
-use Rattle.std.proofs.lemmas.Bool.{and_from, cases_Bool, eq-eqb}
-use Rattle.std.proofs.lemmas.Option.{none-some, same_Some, slice_get_cases, slice_get_within}
+use Rattle.std.proofs.Common.{◌≡◌, ℕ, ◌+◌, ◌<◌, zero, suc, Bool, true, ⊎_elim, arith, List, [], ◌∷◌, cond, filter, take, map, Option, Some, None, refl, sym, ap, ◌∙◌}
+use Rattle.std.proofs.lemmas.Bool.{and_from, cases_Bool, eq-eqb, false≢true}
+use Rattle.std.proofs.lemmas.Option.{none-some, same_Some}
 use Rattle.std.specs.List.{list_all, range_with_len}
-use Rattle.std.specs.Prelude.{◌==◌, slice_get}
+use Rattle.std.specs.Prelude.{◌==◌, is_some, slice_get}
 use Rattle.session_order.proofs.Turns.{each-more}
-use Rattle.session_order.specs.Calls.{all_over, call_of, calls_by, is_none, made_by, next_by, next_of}
-use Rattle.session_order.specs.Ends.{Ends, EndsBy, Finishes, Setup, Stops}
-use Rattle.session_order.specs.Follows.{Follows, IsNextCall}
+use Rattle.session_order.specs.Calls.{call_of, calls_by, is_none, made_by, next_by, next_of}
+use Rattle.session_order.specs.Ends.{EndsBy, Setup}
+use Rattle.session_order.specs.Follows.{Follows}
 use Rattle.session_order.specs.Races.{HasEnded, HasNext, IsClosed, RaceIsRight, RunsGrow, StopsAt}
-use Rattle.session_text.specs.Programs.{next}
+use Rattle.session_text.specs.Programs.{next, program_of}
 use Rattle.session_text.specs.declared.program.Program.{Program}
+use Rattle.vt_base.specs.Limits.{callers as every_caller}
 use Rattle.vt_events.specs.Plain.{plain_event}
 use Rattle.vt_events.specs.declared.entry.Entry.{Entry}
-use Rattle.vt_events.specs.declared.event.Event.{Event}
 use Rattle.vt_journal.specs.Room.{full_at, has_room, tail_at}
 use Rattle.vt_journal.specs.declared.full.Full.{Full}
 
@@ -63,19 +63,22 @@ pub runs-grow : RunsGrow
 runs-grow program made entry run is =
     each-more (λ before e. next program (map call_of before) ≡ Some (plain_event e.event)) made entry run is
 
+-- a program that isn't none is one
+found_or : (program : Option Program) → (program ≡ None → ⊥) → (found : Program) × (program ≡ Some found)
+found_or None some = absurd (some refl)
+found_or (Some found) some = (found, refl)
+
 -- a caller that made an entry has a program
 has_program : (o : Setup) (history : List Entry) (stop : Option Full) (caller p place : ℕ) (entry : Entry)
     → IsClosed o history stop caller → slice_get (made_by p history) place ≡ Some entry
-    → (program : Program) × (slice_get o.programs p ≡ Some program)
+    → (program : Program) × (program_of o.programs p ≡ Some program)
 has_program o history stop caller p place entry closed there =
-    ⊎_elim
-    (λ found. (found.0, found.2))
-    (λ past. absurd (none-some entry (sym (ap (λ made. slice_get made place) (closed.known p past.0)) ∙ there)))
-    (slice_get_cases o.programs p).1
+    found_or (program_of o.programs p)
+    (λ none. none-some entry (sym (ap (λ made. slice_get made place) (closed.known p none)) ∙ there))
 
 follows : (o : Setup) (history : List Entry) (stop : Option Full) (caller : ℕ)
     → IsClosed o history stop caller
-    → ((p : ℕ) (program : Program) → slice_get o.programs p ≡ Some program → HasEnded program (made_by p history) stop (p ≡ caller))
+    → ((p : ℕ) (program : Program) → program_of o.programs p ≡ Some program → HasEnded program (made_by p history) stop (p ≡ caller))
     → Follows o.start o.programs history
 follows o history stop caller closed ended k entry is =
     let p : ℕ = entry.caller in
@@ -101,44 +104,42 @@ over_from test a (suc n) each =
     (over_from test (a + 1) n (λ p low. each p (omega (arith, low))))
 
 is_over : (o : Setup) (history : List Entry) (caller p : ℕ)
-    → ((p : ℕ) (program : Program) → slice_get o.programs p ≡ Some program → HasEnded program (made_by p history) None (p ≡ caller))
+    → ((p : ℕ) (program : Program) → program_of o.programs p ≡ Some program → HasEnded program (made_by p history) None (p ≡ caller))
     → is_none (next_by o.programs p history) ≡ true
 is_over o history caller p ended =
-    ⊎_elim
-    (λ found.
-    ap (λ known. is_none (next_of known (calls_by p history))) found.2
-    ∙ ap is_none ((ended p found.0 found.2).over refl))
-    (λ past. ap (λ known. is_none (next_of known (calls_by p history))) past.1)
-    (slice_get_cases o.programs p).1
+    over_by (program_of o.programs p) refl
+  where
+    over_by : (program : Option Program) → program_of o.programs p ≡ program
+        → is_none (next_by o.programs p history) ≡ true
+    over_by None none = ap (λ known. is_none (next_of known (calls_by p history))) none
+    over_by (Some program) here =
+        ap (λ known. is_none (next_of known (calls_by p history))) here
+        ∙ ap is_none ((ended p program here).over refl)
 
 ends_by : (o : Setup) (history : List Entry) (stop : Option Full) (caller : ℕ)
     → IsClosed o history stop caller
-    → ((p : ℕ) (program : Program) → slice_get o.programs p ≡ Some program → HasEnded program (made_by p history) stop (p ≡ caller))
+    → ((p : ℕ) (program : Program) → program_of o.programs p ≡ Some program → HasEnded program (made_by p history) stop (p ≡ caller))
     → EndsBy o history (tail_at history stop)
 ends_by o history None caller closed ended = record {
-  over = over_from (λ p. is_none (next_by o.programs p history)) 0 (length o.programs) (λ p _. is_over o history caller p ended);
+  over = over_from (λ p. is_none (next_by o.programs p history)) 0 every_caller (λ p _. is_over o history caller p ended);
   entries = refl;
   charge = refl;
 }
 ends_by o history (Some full) caller closed ended =
     let at : StopsAt o history full caller = closed.stops full refl in
-    ⊎_elim
-    (λ found.
+    let found : (program : Program) × (program_of o.programs caller ≡ Some program) =
+    found_or (program_of o.programs caller)
+    (λ none. false≢true (sym (ap is_some none) ∙ at.known)) in
     let call : HasNext found.0 (made_by caller history) full.charge =
-    (ended caller found.0 found.2).left full refl refl in
+    (ended caller found.0 found.1).left full refl refl in
     record {
       caller = caller;
       call = call.call;
-      next = ap (λ known. next_of known (calls_by caller history)) found.2 ∙ call.next;
+      next = ap (λ known. next_of known (calls_by caller history)) found.1 ∙ call.next;
       goes = at.goes;
       no_room = ap (has_room o.limits history) call.charge_is ∙ at.no_room;
       numbers = at.numbers ∙ ap (full_at history) (sym call.charge_is);
-    })
-    (λ past. absurd (none-past caller (length o.programs) at.known past.0))
-    (slice_get_cases o.programs caller).1
-  where
-    none-past : (m n : ℕ) → m < n → n ≤ m → ⊥
-    none-past m n low high = omega (arith, low, high)
+    }
 
 pub race-right : RaceIsRight
 race-right o history stop caller closed ended = (

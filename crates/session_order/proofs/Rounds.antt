@@ -1,16 +1,16 @@
 -- Rounds of a play that is finished.
-use Rattle.std.proofs.Common.{◌≡◌, ℕ, ◌+◌, zero, suc, ◌<◌, Bool, true, false, cond, ⊎_elim, arith, List, [], ◌∷◌, length, get_or, Option, Some, None, refl, sym, ap, ◌∙◌, subst}
-use Rattle.std.proofs.lemmas.Bool.{cases_Bool, cases_lt, both_ways}
+use Rattle.std.proofs.Common.{◌≡◌, ℕ, ◌+◌, ◌<◌, ◌≤◌, zero, suc, Bool, true, false, cond, ⊎_elim, arith, List, length, get_or, Option, Some, None, refl, sym, ap, ◌∙◌, subst}
+use Rattle.std.proofs.lemmas.Bool.{cases_Bool, both_ways}
 use Rattle.std.proofs.lemmas.List.Folds.{list_all_at}
 use Rattle.std.proofs.lemmas.List.FromFn.{get_or-range_with_len, length-range_with_len}
-use Rattle.std.proofs.lemmas.Option.{slice_get_past}
 use Rattle.std.specs.List.{range_with_len}
-use Rattle.session_order.specs.Calls.{all_over, calls_by, is_none, next_by, next_of}
+use Rattle.session_order.specs.Calls.{all_over, is_none, next_by}
 use Rattle.session_order.specs.Ends.{Setup}
 use Rattle.session_order.specs.Follows.{is_waiting}
 use Rattle.session_order.specs.Laws.{FinishedStays, SerialIsOne}
 use Rattle.session_order.specs.Serial.{Played, call_now, calls, is_finished, nothing_played, round, rounds, turn, turns}
 use Rattle.session_text.specs.declared.program.Program.{Program}
+use Rattle.vt_base.specs.Limits.{callers as every_caller}
 use Rattle.vt_events.specs.declared.entry.Entry.{Entry}
 use Rattle.vt_events.specs.declared.event.Event.{Event}
 use Rattle.vt_journal.specs.declared.full.Full.{Full}
@@ -21,13 +21,12 @@ is_none_none None is = refl
 is_none_none (Some e) is = absurd (both_ways false refl is)
 
 -- where every program is over, nobody has a next call
-pub none-next : (programs : List Program) (history : List Entry) (p : ℕ)
+pub none-next : (programs : List Program) (history : List Entry) (p : ℕ) → p < every_caller
     → all_over programs history ≡ true → next_by programs p history ≡ None
-none-next programs history p over =
-    let n : ℕ = length programs in
+none-next programs history p within over =
+    let n : ℕ = every_caller in
     let test : ℕ → Bool = λ q. is_none (next_by programs q history) in
     ⊎_elim
-    (λ within. ⊎_elim
     (λ is. is_none_none (next_by programs p history) is)
     (λ isnt.
     let here : get_or (range_with_len 0 n) p 0 ≡ p =
@@ -36,9 +35,7 @@ none-next programs history p over =
     omega (arith, within, length-range_with_len 0 n) in
     absurd (both_ways (all_over programs history)
     (list_all_at test (range_with_len 0 n) p 0 inside (ap test here ∙ isnt)) over))
-    (cases_Bool (test p)))
-    (λ past. ap (λ program. next_of program (calls_by p history)) (slice_get_past programs p past))
-    (cases_lt p n)
+    (cases_Bool (test p))
 
 -- who has no next call is skipped
 skipped : (o : Setup) (p : ℕ) (history : List Entry) → next_by o.programs p history ≡ None
@@ -50,23 +47,25 @@ skipped o p history none =
     ∙ elim waits as (λ b. ◌≡◌ {A = Option Event} (cond b None None) None) [ true ↦ refl | false ↦ refl ] in
     ap (λ e. calls o p e history) now
 
-pub turn-stays : (o : Setup) (p : ℕ) (history : List Entry) (stop : Option Full)
+pub turn-stays : (o : Setup) (p : ℕ) (history : List Entry) (stop : Option Full) → p < every_caller
     → is_finished o (record { history = history; stop = stop }) ≡ true
     → turn o p (record { history = history; stop = stop })
     ≡ record { history = history; stop = stop }
-turn-stays o p history (Some full) over = refl
-turn-stays o p history None over = skipped o p history (none-next o.programs history p over)
+turn-stays o p history (Some full) within over = refl
+turn-stays o p history None within over =
+    skipped o p history (none-next o.programs history p within over)
 
-pub turns-stay : (o : Setup) (callers : List ℕ) (t : Played) → is_finished o t ≡ true
-    → turns o callers t ≡ t
-turns-stay o [] t over = refl
-turns-stay o (p ∷ callers) t over =
-    ap (turns o callers) (turn-stays o p t.history t.stop over) ∙ turns-stay o callers t over
+pub turns-stay : (o : Setup) (p n : ℕ) (t : Played) → p + n ≤ every_caller → is_finished o t ≡ true
+    → turns o (range_with_len p n) t ≡ t
+turns-stay o p zero t within over = refl
+turns-stay o p (suc n) t within over =
+    ap (turns o (range_with_len (p + 1) n)) (turn-stays o p t.history t.stop (omega (arith, within)) over)
+    ∙ turns-stay o (p + 1) n t (omega (arith, within)) over
 
 pub finished-stays : FinishedStays
 finished-stays o zero t over = refl
 finished-stays o (suc n) t over =
-    ap (rounds o n) (turns-stay o (range_with_len 0 (length o.programs)) t over)
+    ap (rounds o n) (turns-stay o 0 every_caller t (omega arith) over)
     ∙ finished-stays o n t over
 
 -- rounds and more rounds

@@ -16,7 +16,9 @@ use Rattle.vt_journal.specs.Room.{IsWithin, full_at, has_room}
 use Rattle.session_order.specs.Follows.{Follows, IsNextCall, is_waiting}
 use Rattle.session_order.specs.Laws.{SerialIsRight}
 use Rattle.session_order.specs.Serial.{Played, call_now, calls, entry_at, is_finished, nothing_played, round, rounds, tail_of, turn, turns}
+use Rattle.session_text.specs.Programs.{program_of}
 use Rattle.session_text.specs.declared.program.Program.{Program}
+use Rattle.vt_base.specs.Limits.{callers as every_caller}
 use Rattle.vt_events.specs.Charge.{charge_of}
 use Rattle.vt_events.specs.Plain.{plain_event, plain_reply}
 use Rattle.vt_events.specs.declared.entry.Entry.{Entry}
@@ -74,7 +76,7 @@ next_plain (Some program) made e is = (next-fine program).plain made e is
 pub event-plain : (programs : List Program) (p : ℕ) (history : List Entry) (e : Event)
     → next_by programs p history ≡ Some e → plain_event e ≡ e
 event-plain programs p history e is =
-    next_plain (slice_get programs p) (calls_by p history) e is
+    next_plain (program_of programs p) (calls_by p history) e is
 
 -- what stands in a list with one more element: an element of the list, or that one behind it
 at_either : {A : Type 0} (xs : List A) (x : A) (k : ℕ) (y : A) → slice_get (xs ++ x ∷ []) k ≡ Some y
@@ -219,7 +221,7 @@ turns-go o (p ∷ callers) t goes = turns-go o callers (turn o p t) (turn-goes o
 pub rounds-go : (o : Setup) (n : ℕ) (t : Played) → Goes o t → Goes o (rounds o n t)
 rounds-go o zero t goes = goes
 rounds-go o (suc n) t goes =
-    rounds-go o n (round o t) (turns-go o (range_with_len 0 (length o.programs)) t goes)
+    rounds-go o n (round o t) (turns-go o (range_with_len 0 every_caller) t goes)
 
 -- a play that is finished ends
 ends : (o : Setup) (h : List Entry) (stop : Option Full)

@@ -1,9 +1,10 @@
--- The calls of a session's callers in a history. Programs are given by the numbers of their callers:
--- the first is the keyboard's. This project's own.
-use Rattle.std.specs.Prelude.{ℕ, ◌==◌, Bool, true, false, List, filter, length, map, Option, Some, None, slice_get}
+-- The calls of a session's callers in a history. Programs are those of a session, in its order. This
+-- project's own.
+use Rattle.std.specs.Prelude.{ℕ, ◌==◌, Bool, true, false, List, filter, map, Option, Some, None}
 use Rattle.std.specs.List.{list_all, range_with_len}
-use Rattle.session_text.specs.Programs.{Call, call, next}
+use Rattle.session_text.specs.Programs.{Call, call, next, program_of}
 use Rattle.session_text.specs.declared.program.Program.{Program}
+use Rattle.vt_base.specs.Limits.{callers}
 use Rattle.vt_events.specs.Plain.{plain_event, plain_reply}
 use Rattle.vt_events.specs.declared.entry.Entry.{Entry}
 use Rattle.vt_events.specs.declared.event.Event.{Event}
@@ -31,7 +32,7 @@ next_of (Some program) made = next program made
 
 -- the next call of caller p after a history, None where its program is over
 abbrev pub next_by : List Program → ℕ → List Entry → Option Event
-next_by programs p history = next_of (slice_get programs p) (calls_by p history)
+next_by programs p history = next_of (program_of programs p) (calls_by p history)
 
 abbrev pub is_none : Option Event → Bool
 is_none None = true
@@ -40,4 +41,4 @@ is_none (Some e) = false
 -- every program is over
 abbrev pub all_over : List Program → List Entry → Bool
 all_over programs history =
-    list_all (λ p. is_none (next_by programs p history)) (range_with_len 0 (length programs))
+    list_all (λ p. is_none (next_by programs p history)) (range_with_len 0 callers)

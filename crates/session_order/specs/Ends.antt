@@ -15,8 +15,8 @@ use Rattle.vt_journal.specs.declared.tail.Tail.TheVariants as tail
 use Rattle.vt_world.specs.History.{replay}
 use Rattle.vt_world.specs.State.{WorldState}
 
--- where a session begins: the console at the start, the programs of its callers, of which the first
--- is the keyboard's, and the limits of its journal
+-- where a session begins: the console at the start, the programs of its callers, and the limits of its
+-- journal
 pub record Setup : Type 0 where
   pub start : WorldState
   pub programs : List Program

@@ -4,21 +4,22 @@ use Rattle.key_tables.specs.Tables.{Tables}
 use Rattle.session_order.specs.Ends.{Ends, Setup}
 use Rattle.session_order.specs.Follows.{Follows}
 use Rattle.session_order.specs.Serial.{IsSerial, Played, is_finished, nothing_played, round, rounds, tail_of, turns}
+use Rattle.session_text.specs.Sessions.{ArePrograms}
 use Rattle.vt_procs.specs.declared.proc_start.ProcStart.{ProcStart}
 use Rattle.vt_world.specs.History.{IsLegal}
 use Rattle.vt_world.specs.Start.{opening}
 
--- a session begins at a start of the console, with one program for the keyboard and one for each
--- process
+-- a session begins at a start of the console, with a program for each keyboard and each process
 pub record IsFromStart (o : Setup) : Type 0 where
   pub rows : ℕ
   pub cols : ℕ
   pub consoles : ℕ
   pub front : ℕ
+  pub keyboards : ℕ
   pub processes : List ProcStart
   pub tables : Tables
-  pub start : o.start ≡ opening rows cols consoles front 1 processes tables
-  pub programs : length o.programs ≡ length processes + 1
+  pub start : o.start ≡ opening rows cols consoles front keyboards processes tables
+  pub programs : ArePrograms (length processes) keyboards o.programs
 
 -- further rounds change nothing
 abbrev pub FinishedStays : Type 0

@@ -1,10 +1,10 @@
 -- What is known of a race of all callers once each of them has ended, and that it makes the history
 -- right. This project's own.
-use Rattle.std.specs.Prelude.{◌≡◌, ℕ, ◌<◌, ◌≤◌, false, List, [], ◌∷◌, ◌++◌, length, map, take, Option, Some, None, slice_get}
+use Rattle.std.specs.Prelude.{◌≡◌, ℕ, true, false, List, [], ◌∷◌, ◌++◌, is_some, map, take, Option, Some, None, slice_get}
 use Rattle.session_order.specs.Calls.{call_of, made_by}
 use Rattle.session_order.specs.Ends.{Ends, Setup}
 use Rattle.session_order.specs.Follows.{Follows, is_waiting}
-use Rattle.session_text.specs.Programs.{next}
+use Rattle.session_text.specs.Programs.{next, program_of}
 use Rattle.session_text.specs.declared.program.Program.{Program}
 use Rattle.vt_events.specs.Charge.{charge_of}
 use Rattle.vt_events.specs.Plain.{plain_event}
@@ -42,7 +42,7 @@ pub record HasNext (program : Program) (made : List Entry) (charge : ℕ) : Type
 
 -- the history stops where a call of this caller finds no room
 pub record StopsAt (o : Setup) (history : List Entry) (full : Full) (caller : ℕ) : Type 0 where
-  pub known : caller < length o.programs
+  pub known : is_some (program_of o.programs caller) ≡ true
   pub goes : is_waiting (replay o.start history) caller ≡ false
   pub no_room : has_room o.limits history full.charge ≡ false
   pub numbers : full ≡ full_at history full.charge
@@ -51,7 +51,7 @@ pub record StopsAt (o : Setup) (history : List Entry) (full : Full) (caller : �
 pub record IsClosed (o : Setup) (history : List Entry) (stop : Option Full) (caller : ℕ) : Type 0 where
   pub within : IsWithin o.limits history
   pub free : IsFree o.start history
-  pub known : (p : ℕ) → length o.programs ≤ p → made_by p history ≡ []
+  pub known : (p : ℕ) → program_of o.programs p ≡ None → made_by p history ≡ []
   pub stops : (full : Full) → stop ≡ Some full → StopsAt o history full caller
 
 -- what one caller has done by then: it ran its program, to the end or to the call that found no room
@@ -65,6 +65,6 @@ abbrev pub RaceIsRight : Type 0
 RaceIsRight =
     (o : Setup) (history : List Entry) (stop : Option Full) (caller : ℕ)
     → IsClosed o history stop caller
-    → ((p : ℕ) (program : Program) → slice_get o.programs p ≡ Some program
+    → ((p : ℕ) (program : Program) → program_of o.programs p ≡ Some program
     → HasEnded program (made_by p history) stop (p ≡ caller))
     → Follows o.start o.programs history × Ends o history (tail_at history stop)

@@ -1,11 +1,12 @@
 -- The serial schedule: the turns, and then rounds of all callers, one call after another. This
 -- project's own.
-use Rattle.std.specs.Prelude.{◌≡◌, ℕ, zero, suc, ◌==◌, ◌||◌, Bool, true, List, [], ◌∷◌, ◌++◌, count_by, length, Option, Some, None, is_some, if◌then◌else◌}
+use Rattle.std.specs.Prelude.{◌≡◌, ℕ, zero, suc, ◌==◌, ◌||◌, Bool, true, List, [], ◌∷◌, ◌++◌, count_by, Option, Some, None, is_some, if◌then◌else◌}
 use Rattle.std.specs.List.{range_with_len}
 use Rattle.session_order.specs.Calls.{all_over, next_by}
 use Rattle.session_order.specs.Ends.{Setup}
 use Rattle.vt_journal.specs.Room.{full_at, has_room, tail_at}
 use Rattle.session_order.specs.Follows.{is_waiting}
+use Rattle.vt_base.specs.Limits.{callers as every_caller}
 use Rattle.vt_events.specs.Charge.{charge_of}
 use Rattle.vt_events.specs.declared.entry.Entry.{Entry}
 use Rattle.vt_events.specs.declared.event.Event.{Event}
@@ -54,9 +55,9 @@ abbrev pub turns : Setup → List ℕ → Played → Played
 turns o [] t = t
 turns o (p ∷ callers) t = turns o callers (turn o p t)
 
--- a round: a turn of each caller, rising
+-- a round: a turn of each caller, rising; who has no program is skipped
 abbrev pub round : Setup → Played → Played
-round o t = turns o (range_with_len 0 (length o.programs)) t
+round o t = turns o (range_with_len 0 every_caller) t
 
 abbrev pub rounds : Setup → ℕ → Played → Played
 rounds o zero t = t

@@ -8,11 +8,11 @@ use Rattle.vt_world.specs.State.{WorldState}
 use Rattle.vt_world.specs.Tapes.{screen_of, tape_of}
 use Rattle.vt_world.specs.Terminals.{machine_of, terminal_at}
 
--- the console that a session begins with: it has one keyboard
+-- the console that a session begins with
 abbrev pub start_of : SessionView → WorldState
 start_of s =
-    opening s.config.size.rows s.config.size.cols s.config.consoles s.config.front 1 s.config.procs
-    s.tables
+    opening s.config.size.rows s.config.size.cols s.config.consoles s.config.front s.config.keyboards
+    s.config.procs s.tables
 
 -- with its programs and limits
 abbrev pub setup_of : SessionView → Setup

@@ -1,10 +1,16 @@
--- How many values an array has.
-use Rattle.std.proofs.Common.{◌≡◌, ℕ, ◌+◌, suc, List, [], ◌∷◌, Option, Some, None, Result, Ok, Err, length, ok_or, refl, ap, ◌∙◌}
-use Rattle.table_fields.specs.FaultCodes.{WRONG_KIND}
+-- How many values an array has, and how many keyboards there are.
+use Rattle.std.proofs.Common.{◌≡◌, ℕ, ◌+◌, ◌≤◌, nat_le, Bool, true, false, map, arith, suc, List, [], ◌∷◌, Option, Some, None, Result, Ok, Err, length, ok_or, refl, ap, ◌∙◌}
+use Rattle.std.proofs.lemmas.Bool.{leb-true}
+use Rattle.std.proofs.lemmas.List.{length-map}
+use Rattle.table_fields.specs.FaultCodes.{FURTHER_SCAN_BYTE, OUT_OF_RANGE, WRONG_KIND}
+use Rattle.table_fields.specs.Fields.{bytes_of, few_items_of}
 use Rattle.table_fields.specs.Arrays.{array_in, array_of, count_in, count_of, values_of}
-use Rattle.table_fields.specs.Checked.{collect, fault, ◌>>=◌}
+use Rattle.table_fields.specs.Checked.{check, collect, fault, ◌>>=◌}
 use Rattle.table_fields.specs.declared.fault.TableFault.{TableFault}
-use Rattle.toml.specs.Data.{Data, Items, as_array}
+use Rattle.toml.specs.Data.{Data, Items, as_array, as_str}
+use Rattle.vt_base.specs.Bytes.{Text}
+use Rattle.vt_events.specs.Plain.{text}
+use Rattle.session_text.specs.Keyboards.{further_items_of, further_of, keyboards_of}
 
 one_more : {B : Type 0} (r : Result B TableFault) (more : Result (List B) TableFault) (n : ℕ) (ys : List B)
     → ((zs : List B) → more ≡ Ok zs → length zs ≡ n)
@@ -31,3 +37,38 @@ array-count as_kind part key (Some d) xs is = in_array (as_array d) is
     in_array None is = cc
     in_array (Some items) is =
         length-collect (λ n d. ok_or (as_kind d) (fault WRONG_KIND part key)) 1 (values_of items) xs is
+
+-- few texts were read, of as many items as there are texts
+checked_items : (texts : List (List ℕ)) (few : Bool) (items : List (List (List ℕ))) → nat_le (length texts) 3 ≡ few
+    → (check few (fault OUT_OF_RANGE 0 12) >>= (λ _. collect (λ k text. few_items_of 0 12 text) 1 texts)) ≡ Ok items
+    → (length items ≡ length texts) × (length texts ≤ 3)
+checked_items texts true items few is =
+    (length-collect (λ k text. few_items_of 0 12 text) 1 texts items is, leb-true (length texts) 3 few)
+checked_items texts false items few is = cc
+
+items_count : (d : Option Data) (texts : Result (List (List ℕ)) TableFault) (items : List (List (List ℕ)))
+    → array_of as_str 0 12 d ≡ texts
+    → (texts >>= (λ ts. check (nat_le (length ts) 3) (fault OUT_OF_RANGE 0 12) >>= (λ _. collect (λ k text. few_items_of 0 12 text) 1 ts)))
+    ≡ Ok items
+    → (length items ≡ count_of d) × (count_of d ≤ 3)
+items_count d (Ok ts) items read is =
+    let checked = checked_items ts (nat_le (length ts) 3) items refl is in
+    let many = array-count as_str 0 12 d ts read in
+    (checked.0 ∙ many, omega (arith, checked.1, many))
+items_count d (Err e) items read is = cc
+
+further_items : (d : Option Data) (items : Result (List (List (List ℕ))) TableFault) (further : List (List ℕ))
+    → further_items_of d ≡ items → (items >>= collect (bytes_of FURTHER_SCAN_BYTE) 1) ≡ Ok further
+    → (length further ≡ count_of d) × (count_of d ≤ 3)
+further_items d (Ok items) further read is =
+    let counted = items_count d (array_of as_str 0 12 d) items refl read in
+    (length-collect (bytes_of FURTHER_SCAN_BYTE) 1 items further is ∙ counted.0, counted.1)
+further_items d (Err e) further read is = cc
+
+-- there are as many keyboards as the first and the further ones that were read
+pub further-count : (d : Option Data) (further : List (List ℕ)) (read : List Text) → further_of d ≡ Ok further
+    → read ≡ map text further → keyboards_of d ≡ length read + 1
+further-count d further read is are =
+    let counted = further_items d (further_items_of d) further refl is in
+    let long : length read ≡ length further = ap length are ∙ length-map further text in
+    omega (arith, long, counted.0, counted.1)

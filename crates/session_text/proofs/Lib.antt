@@ -1,10 +1,12 @@
 pub mod Acts
 pub mod Consoles
 pub mod Counting
+pub mod FurtherReading
 pub mod HookWords
 pub mod Hooking
 pub mod ItemWords
 pub mod KeyTyping
+pub mod MadeSession
 pub mod OneHook
 pub mod OneItem
 pub mod OneResult
@@ -14,3 +16,4 @@ pub mod TopReading
 pub mod Turning
 pub mod Waits
 pub mod Walks
+pub mod WhosePrograms

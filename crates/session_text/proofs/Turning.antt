@@ -1,10 +1,38 @@
 -- Turns, one after another.
-use Rattle.std.proofs.Common.{◌≡◌, ℕ, ℤ, ◌+◌, ◌≤◌, ◌<◌, List, [], ◌∷◌, ◌++◌, Result, Ok, Err, drop, get_or, length, min, refl, sym, ap, ◌∙◌, arith}
+use Rattle.std.proofs.Common.{◌≡◌, ℕ, ℤ, ◌+◌, ◌≤◌, ◌<◌, true, ◌&&◌, nat_le, nat_lt, ⊎_elim, List, [], ◌∷◌, ◌++◌, Result, Ok, Err, drop, get_or, length, min, refl, sym, ap, ◌∙◌, arith}
+use Rattle.std.proofs.lemmas.Bool.{and_parts, cases_lt, le-leb, leb-true, ltb-true, or_cases, or_left}
 use Rattle.std.proofs.lemmas.List.{append_assoc, append-nil, at_drop_more, drop_all}
 use Rattle.table_fields.specs.Checked.{collect, ◌>>=◌}
 use Rattle.table_fields.specs.Collecting.{behind}
 use Rattle.table_fields.specs.declared.fault.TableFault.{TableFault}
 use Rattle.session_text.specs.Collected.{TurnsSoFar}
+use Rattle.session_text.specs.Turns.{is_there}
+
+-- of few processes, and four keyboards at most, no turn is past 67
+pub turn-low : (processes keyboards n : ℕ) → keyboards ≤ 4 → is_there processes keyboards n ≡ true
+    → processes ≤ 64 → n ≤ 67
+turn-low processes keyboards n some there few = ⊎_elim
+    (λ low. omega (arith, leb-true n processes low, few))
+    (λ both. omega (arith, ltb-true n (64 + keyboards) (and_parts (nat_lt 64 n) (nat_lt n (64 + keyboards)) both).1, some))
+    (or_cases (nat_le n processes) (nat_lt 64 n && nat_lt n (64 + keyboards)) there)
+
+-- a turn that is kept is one of somebody who is there
+pub turn-there : (processes keyboards n : ℕ) → keyboards ≤ 4 → is_there processes keyboards n ≡ true
+    → is_there processes keyboards (min n 67) ≡ true
+turn-there processes keyboards n some there = ⊎_elim
+    (λ high.
+    let last : min n 67 ≡ 67 = omega (arith, high) in
+    let within : 67 ≤ processes = ⊎_elim
+    (λ low. omega (arith, leb-true n processes low, high))
+    (λ both.
+    absurd (let no : ⊥ = omega (arith, ltb-true n (64 + keyboards) (and_parts (nat_lt 64 n) (nat_lt n (64 + keyboards)) both).1, some, high) in no))
+    (or_cases (nat_le n processes) (nat_lt 64 n && nat_lt n (64 + keyboards)) there) in
+    ap (is_there processes keyboards) last
+    ∙ or_left (nat_le 67 processes) (nat_lt 64 67 && nat_lt 67 (64 + keyboards)) (le-leb 67 processes within))
+    (λ low.
+    let same : min n 67 ≡ n = omega (arith, low) in
+    ap (is_there processes keyboards) same ∙ there)
+    (cases_lt 67 n)
 
 -- behind those that were found and one more
 behind_one : (found : List ℕ) (n : ℕ) (more : Result (List ℕ) TableFault)
@@ -19,12 +47,12 @@ collect_one f k n x xs is = ap (λ r. r >>= (λ y. collect f (k + 1) xs >>= (λ 
 pub turns_more : (processes i : ℕ) (bytes : List ℕ) (f : ℕ → ℤ → Result ℕ TableFault) (xs : List ℤ)
     (whole : Result (List ℕ) TableFault) (d : ℤ) (n : ℕ) → i < length xs
     → TurnsSoFar processes bytes (collect f (i + 1) (drop i xs)) whole
-    → f (i + 1) (get_or xs i d) ≡ Ok n → n ≤ processes
-    → TurnsSoFar processes (bytes ++ min n 64 ∷ []) (collect f (i + 1 + 1) (drop (i + 1) xs)) whole
+    → f (i + 1) (get_or xs i d) ≡ Ok n → (processes ≤ 64 → n ≤ 67)
+    → TurnsSoFar processes (bytes ++ min n 67 ∷ []) (collect f (i + 1 + 1) (drop (i + 1) xs)) whole
 turns_more processes i bytes f xs whole d n within so_far is low = record {
   found = so_far.found ++ n ∷ [];
   bytes_are = λ few.
-      let same : min n 64 ≡ n = omega arith in
+      let same : min n 67 ≡ n = omega (arith, low few) in
       (λ j. so_far.bytes_are few j ++ same j ∷ []);
   whole_is =
       behind_one so_far.found n (collect f (i + 1 + 1) (drop (i + 1) xs))

@@ -1,10 +1,9 @@
 -- Behind a call that was answered wait, a program has only waitend.
-use Rattle.std.proofs.Common.{◌≡◌, ℕ, Bool, true, false, List, [], ◌∷◌, ◌++◌, Option, Some, None, refl, sym}
+use Rattle.std.proofs.Common.{◌≡◌, ℕ, Bool, true, false, List, [], ◌∷◌, ◌++◌, Option, Some, None, sym}
 use Rattle.std.proofs.lemmas.Option.{none-some, same_Some}
 use Rattle.std.specs.Prelude.{if◌then◌else◌}
 use Rattle.sig_hooks.specs.declared.act.Act.{Act}
 use Rattle.session_text.specs.Programs.{Call, WaitsAreEnded, all_calls, calls, calls_from, ends, exits, next, nothing, scans, script, signals_in, takes}
-use Rattle.session_text.specs.declared.program.Program.{Program}
 use Rattle.session_text.specs.declared.program.Program.TheVariants as program
 use Rattle.vt_events.specs.Plain.{plain_event}
 use Rattle.vt_events.specs.Waits.{is_wait}

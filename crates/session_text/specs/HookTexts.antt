@@ -1,5 +1,5 @@
 -- The texts of hooks. This project's own.
-use Rattle.std.specs.Prelude.{◌≡◌, ◌≢◌, ℕ, ◌+◌, ◌-◌, ◌<◌, ◌≤◌, ◌^◌, ◌==◌, true, false, ◌&&◌, nat_le, min, Option, Some, None, Result, Ok, Err, List, [], ◌∷◌, codes, decimal, replicate, if◌then◌else◌}
+use Rattle.std.specs.Prelude.{◌≡◌, ◌≢◌, ℕ, ◌+◌, ◌-◌, ◌<◌, ◌≤◌, ◌^◌, ◌==◌, true, false, min, Option, Some, None, Result, Ok, Err, List, [], ◌∷◌, codes, decimal, replicate}
 use Rattle.std.specs.List.{slice_split}
 use Rattle.sig_hooks.specs.Hooks.{with_act}
 use Rattle.sig_hooks.specs.declared.act.Act.{Act}

@@ -1,15 +1,17 @@
--- The keyboard of a session: its keymap and its scan bytes. This project's own.
-use Rattle.std.specs.Prelude.{◌≡◌, ℕ, Result, Ok, List, codes}
+-- The keyboards of a session: the keymap, and the scan bytes of each. This project's own.
+use Rattle.std.specs.Prelude.{◌≡◌, ℕ, ◌+◌, nat_le, min, Option, Result, Ok, List, length, codes}
 use Rattle.key_compile.specs.Compiled.{AreTablesOf}
 use Rattle.key_text.specs.KeymapLine.{KeymapLine}
-use Rattle.table_fields.specs.Checked.{◌>>=◌}
-use Rattle.table_fields.specs.Fields.{keymap_of, scan_bytes_of, text_of, texts_of}
+use Rattle.table_fields.specs.Arrays.{array_of, count_of}
+use Rattle.table_fields.specs.Checked.{check, collect, fault, ◌>>=◌}
+use Rattle.table_fields.specs.FaultCodes.{FURTHER_SCAN_BYTE, OUT_OF_RANGE}
+use Rattle.table_fields.specs.Fields.{bytes_of, few_items_of, keymap_of, scan_bytes_of, text_of, texts_of}
 use Rattle.table_fields.specs.declared.fault.TableFault.{TableFault}
-use Rattle.toml.specs.Data.{Members, get_member}
+use Rattle.toml.specs.Data.{Data, Members, as_str, get_member}
 use Rattle.vt_events.specs.Plain.{text}
 use Rattle.session_text.specs.declared.keyboard.Keyboard.{Keyboard}
 
--- the lines of the keymap, and the scan bytes
+-- the lines of the keymap, and the scan bytes of the first keyboard
 pub record Typed : Type 0 where
   pub lines : List KeymapLine
   pub keys : List ℕ
@@ -28,3 +30,20 @@ typed_of members = do
 abbrev pub IsKeyboardOf : Keyboard → Typed → Type 0
 IsKeyboardOf keyboard typed =
     AreTablesOf typed.lines keyboard.tables × (keyboard.keys ≡ text typed.keys)
+
+-- how many keyboards there are, with the first one: the array at a key has a text for each further one,
+-- and there are at most four
+abbrev pub keyboards_of : Option Data → ℕ
+keyboards_of d = min 4 (count_of d + 1)
+
+-- the items of the texts at a key: 23 where there are more than three texts, 29 where one of them has
+-- too many items
+abbrev pub further_items_of : Option Data → Result (List (List (List ℕ))) TableFault
+further_items_of d = do
+  texts ← array_of as_str 0 12 d
+  few ← check (nat_le (length texts) 3) (fault OUT_OF_RANGE 0 12)
+  collect (λ k text. few_items_of 0 12 text) 1 texts
+
+-- the scan bytes of the further keyboards, which are counted from 1: 30 at the first item that is none
+abbrev pub further_of : Option Data → Result (List (List ℕ)) TableFault
+further_of d = further_items_of d >>= collect (bytes_of FURTHER_SCAN_BYTE) 1

@@ -1,10 +1,11 @@
 -- Programs: the next call of a caller, by the calls that it made and their answers. This project's
 -- own.
-use Rattle.std.specs.Prelude.{◌≡◌, ℕ, ◌-◌, Bool, true, false, not, ◌&&◌, ◌||◌, Option, Some, None, List, [], ◌∷◌, ◌++◌, filter_map, if◌then◌else◌}
+use Rattle.std.specs.Prelude.{◌≡◌, ℕ, ◌-◌, Bool, true, false, not, ◌&&◌, ◌||◌, Option, Some, None, List, [], ◌∷◌, ◌++◌, filter, filter_map, slice_get, if◌then◌else◌}
 use Rattle.std.specs.List.{range_with_len}
 use Rattle.sig_hooks.specs.Hooks.{act_of}
 use Rattle.sig_hooks.specs.declared.act.Act.{Act}
 use Rattle.sig_hooks.specs.declared.act.Act.TheVariants as acts
+use Rattle.vt_base.specs.Keyboards.{keyboard_of}
 use Rattle.vt_base.specs.Signals.{has_signal}
 use Rattle.vt_base.specs.declared.errno.Errno.{Errno}
 use Rattle.vt_base.specs.declared.errno.Errno.TheVariants as errno
@@ -106,6 +107,25 @@ scans (b ∷ bytes) = calls (event.Scan b) (scans bytes)
 abbrev pub next : Program → List Call → Option Event
 next (program.Keys bytes) = scans bytes.bytes
 next (program.Script items table) = script table items.events
+
+abbrev pub is_keys : Program → Bool
+is_keys (program.Keys bytes) = true
+is_keys (program.Script items table) = false
+
+-- what stands there, where it is a script
+abbrev pub script_in : Option Program → Option Program
+script_in None = None
+script_in (Some (program.Keys bytes)) = None
+script_in (Some (program.Script items table)) = Some (program.Script items table)
+
+abbrev pub program_by : List Program → ℕ → Option ℕ → Option Program
+program_by programs p None = script_in (slice_get programs p)
+program_by programs p (Some k) = slice_get (filter is_keys programs) k
+
+-- the program of caller p: a process has the script at the place of its number, and keyboard k the
+-- k-th program of scan bytes, counted from 0
+abbrev pub program_of : List Program → ℕ → Option Program
+program_of programs p = program_by programs p (keyboard_of p)
 
 -- a program that was walked so has no next call
 abbrev pub IsOver : Program → List Call → Type 0

@@ -1,5 +1,5 @@
 -- Sessions: what the callers of a console have and do, and the text that says it. This project's own.
-use Rattle.std.specs.Prelude.{◌≡◌, ℕ, ◌≤◌, Option, Some, None, Result, Ok, List, [], ◌∷◌, length, map, slice_get}
+use Rattle.std.specs.Prelude.{◌≡◌, ℕ, ◌+◌, ◌≤◌, true, Option, Some, None, Result, Ok, List, [], ◌∷◌, ◌++◌, is_some, length, map, slice_get}
 use Rattle.std.specs.List.{All}
 use Rattle.key_compile.specs.Compiled.{AreTablesOf}
 use Rattle.key_tables.specs.Tables.{Tables}
@@ -10,12 +10,14 @@ use Rattle.toml.specs.Data.{Members}
 use Rattle.vt_base.specs.ConsoleSet.{IsFitSet}
 use Rattle.vt_events.specs.Plain.{text}
 use Rattle.vt_journal.specs.declared.limits.Limits.{Limits}
+use Rattle.vt_procs.specs.Callers.{IsFitCount}
 use Rattle.vt_procs.specs.declared.config.Config.{Config}
 use Rattle.session_text.specs.Keyboards.{Typed}
+use Rattle.session_text.specs.Programs.{program_of}
 use Rattle.session_text.specs.Says.{each_says, is, ◌>>=◌}
 use Rattle.session_text.specs.Scripts.{IsScript, process_says}
 use Rattle.session_text.specs.Tops.{top_of}
-use Rattle.session_text.specs.Turns.{most_turns}
+use Rattle.session_text.specs.Turns.{is_there, most_turns}
 use Rattle.session_text.specs.declared.opening.Opening.{Opening}
 use Rattle.session_text.specs.declared.process.Process.{Process}
 use Rattle.session_text.specs.declared.program.Program.{Program}
@@ -33,22 +35,37 @@ abbrev pub IsScriptProgram : Program → Type 0
 IsScriptProgram (programs.Keys bytes) = ⊥
 IsScriptProgram (programs.Script items acts) = IsScript items
 
--- the keyboard's scan bytes, and then a script for each of so many processes
-abbrev pub ArePrograms : ℕ → List Program → Type 0
-ArePrograms processes [] = ⊥
-ArePrograms processes (programs.Keys bytes ∷ scripts) =
-    (length bytes.bytes ≤ most_scan_bytes) × (length scripts ≡ processes) × All IsScriptProgram scripts
-ArePrograms processes (programs.Script items acts ∷ scripts) = ⊥
+abbrev pub IsKeysProgram : Program → Type 0
+IsKeysProgram (programs.Keys bytes) = length bytes.bytes ≤ most_scan_bytes
+IsKeysProgram (programs.Script items acts) = ⊥
+
+-- the first keyboard's scan bytes, then a script for each of so many processes, and then the scan bytes
+-- of the further ones of so many keyboards
+pub record ArePrograms (processes keyboards : ℕ) (list : List Program) : Type 0 where
+  pub first : Program
+  pub scripts : List Program
+  pub further : List Program
+  pub are : list ≡ first ∷ scripts ++ further
+  pub many_scripts : length scripts ≡ processes
+  pub many_keys : length further + 1 ≡ keyboards
+  pub each_script : All IsScriptProgram scripts
+  pub each_keys : All IsKeysProgram (first ∷ further)
+
+-- who is there has a program, and nobody else
+abbrev pub CallersHavePrograms : Type 0
+CallersHavePrograms =
+    (processes keyboards : ℕ) (list : List Program) → processes ≤ 64 → ArePrograms processes keyboards list
+    → (p : ℕ) → is_some (program_of list p) ≡ is_there processes keyboards p
 
 -- what a session keeps to
 pub record IsSession (s : SessionView) : Type 0 where
   pub fit : IsFitSet s.config.consoles s.config.front
-  pub keyboards : s.config.keyboards ≡ 1
+  pub keyboards : IsFitCount s.config.keyboards
   pub events : s.limits.events ≤ 1000000
   pub bytes : s.limits.bytes ≤ 1073741824
-  pub turns : All (λ t. t ≤ length s.config.procs) s.turns
+  pub turns : All (λ t. is_there (length s.config.procs) s.config.keyboards t ≡ true) s.turns
   pub few_turns : length s.turns ≤ most_turns
-  pub programs : ArePrograms (length s.config.procs) s.programs
+  pub programs : ArePrograms (length s.config.procs) s.config.keyboards s.programs
 
 abbrev pub acts_in : Option Program → List Act
 acts_in None = []
@@ -65,6 +82,7 @@ pub record SessionValue : Type 0 where
   pub typed : Typed
   pub turns : List ℕ
   pub processes : List Process
+  pub further : List (List ℕ)
 
 -- a session's table: all but its processes, and then these, in the order of the checks
 abbrev pub session_at : Members → Result SessionValue TableFault → Type 0
@@ -76,6 +94,7 @@ session_at members = do
     typed = top.typed;
     turns = top.turns;
     processes = processes;
+    further = top.further;
   }))
 
 -- what a session text says: its session, or its first fault
@@ -93,6 +112,9 @@ OneSession =
 abbrev pub script_of : Process → Program
 script_of process = programs.Script process.items process.hooks
 
+abbrev pub keys_of : List ℕ → Program
+keys_of bytes = programs.Keys (text bytes)
+
 -- a session is the one of this value
 pub record IsSessionOf (s : SessionView) (value : SessionValue) : Type 0 where
   pub rows : s.config.size.rows ≡ value.opening.rows
@@ -104,4 +126,7 @@ pub record IsSessionOf (s : SessionView) (value : SessionValue) : Type 0 where
   pub tables : AreTablesOf value.typed.lines s.tables
   pub turns : s.turns ≡ value.turns
   pub starts : s.config.procs ≡ map (λ process. process.start) value.processes
-  pub programs : s.programs ≡ programs.Keys (text value.typed.keys) ∷ map script_of value.processes
+  pub keyboards : s.config.keyboards ≡ length value.further + 1
+  pub programs :
+      s.programs
+      ≡ keys_of value.typed.keys ∷ map script_of value.processes ++ map keys_of value.further

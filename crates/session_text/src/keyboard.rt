@@ -1,7 +1,7 @@
 use key_tables::KeyTables;
 use vt_base::Bytes;
 
-/// The keyboard of a session: the tables of its keymap, and its scan bytes.
+/// The first keyboard of a session: the tables of its keymap, and its scan bytes.
 #[derive(Debug, Drop)]
 pub struct Keyboard {
     pub tables: KeyTables,

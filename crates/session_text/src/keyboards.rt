@@ -1,4 +1,4 @@
-//! The keyboard of a session, read from its table.
+//! The first keyboard of a session, read from its table.
 ghost use Rattle.std.specs.Prelude.{◌≤◌, length, IfOk};
 ghost use Rattle.table_fields.specs.Checked.{GivesBy};
 ghost use Rattle.table_fields.specs.Fields.{most_scan_bytes};

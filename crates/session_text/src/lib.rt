@@ -4,6 +4,8 @@
 mod acting;
 mod answers;
 mod asks;
+mod callers;
+mod further;
 mod hook_texts;
 mod hooked;
 mod hooks;
@@ -27,8 +29,9 @@ mod tops;
 mod turns;
 mod walk;
 
+pub use callers::program_of;
 pub use items::Items;
-pub use laws::{one_session, waits_are_ended};
+pub use laws::{callers_have_programs, one_session, waits_are_ended};
 pub use program::Program;
 pub use reading::read;
 pub use session::Session;

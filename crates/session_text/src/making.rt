@@ -20,6 +20,7 @@ pub fn session(alloc: Global, parts: Parts) -> Result<Session, NoMemory>
         keyboard,
         turns,
         processes,
+        further,
     } = parts;
     let config = Config {
         size: Size {
@@ -28,13 +29,13 @@ pub fn session(alloc: Global, parts: Parts) -> Result<Session, NoMemory>
         },
         consoles: opening.consoles,
         front: opening.front,
-        keyboards: 1,
+        keyboards: further.len() as u8 + 1,
         procs: starts(processes.as_slice()),
     };
     let limits = Limits {
         events: opening.events,
         bytes: opening.bytes,
     };
-    let programs = programs(alloc, keyboard.keys, processes)?;
+    let programs = programs(alloc, keyboard.keys, processes, further)?;
     Ok(Session::make(config, keyboard.tables, limits, turns, programs))
 }

@@ -10,4 +10,6 @@ pub struct Parts {
     pub keyboard: Keyboard,
     pub turns: Bytes,
     pub processes: Vec<Process>,
+    /// The scan bytes of the further keyboards.
+    pub further: Vec<Bytes>,
 }

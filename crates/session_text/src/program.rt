@@ -5,7 +5,7 @@ use vt_base::Bytes;
 /// What a caller calls, one call after another.
 #[derive(Debug, Drop)]
 pub enum Program {
-    /// The keyboard's scan bytes, and then exit.
+    /// A keyboard's scan bytes, and then exit.
     Keys(Bytes),
     /// A process's items, each with the signals taken behind it, and then exit.
     Script {

@@ -40,6 +40,7 @@ fn read_parts(alloc: Global, table: &Table) -> Result<Parts, TableError>
             keyboard: top.keyboard,
             turns: top.turns,
             processes,
+            further: top.further,
         }),
         Err(e) => Err(e),
     }

@@ -1,8 +1,9 @@
-ghost use Rattle.std.specs.Prelude.{◌≡◌, ◌≤◌, length};
+ghost use Rattle.std.specs.Prelude.{◌≡◌, ◌≤◌, true, length};
 ghost use Rattle.std.specs.List.{All};
 ghost use Rattle.vt_base.specs.ConsoleSet.{IsFitSet};
 ghost use Rattle.vt_procs.specs.Callers.{IsFitCount};
 ghost use Rattle.session_text.specs.Sessions.{ArePrograms, IsSession, acts_of};
+ghost use Rattle.session_text.specs.Turns.{is_there};
 
 use crate::Program;
 use key_tables::KeyTables;
@@ -45,7 +46,8 @@ impl Model for Session {
 }
 
 impl Session {
-    /// A session of these parts: there is a program for each caller, the keyboard's first.
+    /// A session of these parts: there is a program for each caller, the first keyboard's, then the
+    /// processes' in their order, and then the further keyboards'.
     pub fn make(
         config: Config,
         tables: KeyTables,
@@ -81,7 +83,6 @@ impl Session {
     pub fn config(&self) -> &Config
         ensures same { result.now ≡ self.now.config }
         ensures fit { IsFitSet result.now.consoles result.now.front }
-        ensures one { result.now.keyboards ≡ 1 }
         ensures keyboards { IsFitCount result.now.keyboards }
     {
         &self.config
@@ -106,15 +107,18 @@ impl Session {
     /// Who makes the first calls, one after another: each number is that of a caller.
     pub fn turns(&self) -> &[u8]
         ensures same { result.now ≡ self.now.turns }
-        ensures callers { All (λ t. t ≤ length self.now.config.procs) result.now }
+        ensures callers { All
+            (λ t. is_there (length self.now.config.procs) self.now.config.keyboards t ≡ true)
+            result.now }
     {
         self.turns.as_slice()
     }
 
-    /// The programs of the callers, the keyboard's first.
+    /// The programs of the callers: the first keyboard's, then the processes' in their order, and then
+    /// the further keyboards'. `program_of` finds the one of a caller.
     pub fn programs(&self) -> &[Program]
         ensures same { result.now ≡ self.now.programs }
-        ensures are { ArePrograms (length self.now.config.procs) result.now }
+        ensures are { ArePrograms (length self.now.config.procs) self.now.config.keyboards result.now }
     {
         self.programs.as_slice()
     }

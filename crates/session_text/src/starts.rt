@@ -1,5 +1,5 @@
 //! What processes begin with, and their programs.
-ghost use Rattle.std.specs.Prelude.{◌≡◌, ◌≤◌, ◌∷◌, length, map, IfOk};
+ghost use Rattle.std.specs.Prelude.{◌≡◌, ◌≤◌, ◌∷◌, ◌++◌, length, map, IfOk};
 ghost use Rattle.session_text.specs.Sessions.{script_of};
 ghost use Rattle.session_text.specs.declared.program.Program.TheVariants as programs;
 
@@ -21,12 +21,27 @@ pub fn starts(processes: &[Process]) -> ProcList
     starts
 }
 
-/// The programs of the callers: the keyboard's, and then one for each process.
+/// The programs of the callers: the first keyboard's, then one for each process, and then those of the
+/// further keyboards.
 pub fn programs(
     alloc: Global,
     keys: Bytes,
     processes: Vec<Process>,
+    further: Vec<Bytes>,
 ) -> Result<Vec<Program>, NoMemory>
+    ensures { IfOk result (λ list. list.items
+        ≡ programs.Keys keys ∷ map script_of processes.items
+        ++ map (λ keys. programs.Keys keys) further.items) }
+{
+    let mut list = scripts(alloc, keys, processes)?;
+    for keys in further {
+        list.push(Program::Keys(keys))?;
+    }
+    Ok(list)
+}
+
+// The first keyboard's program, and the processes'.
+fn scripts(alloc: Global, keys: Bytes, processes: Vec<Process>) -> Result<Vec<Program>, NoMemory>
     ensures { IfOk result
         (λ list. list.items ≡ programs.Keys keys ∷ map script_of processes.items) }
 {

@@ -8,6 +8,7 @@ ghost use Rattle.toml.specs.View.{table_view};
 ghost use Rattle.session_text.specs.Parts.{IsFitTop, IsTop};
 ghost use Rattle.session_text.specs.Tops.{is_screen_key, is_top_key, top_of};
 
+use crate::further::{further, keyboard_count};
 use crate::keyboard::Keyboard;
 use crate::keyboards::keyboard;
 use crate::opening::Opening;
@@ -34,6 +35,8 @@ pub struct Top<'a> {
     pub keyboard: Keyboard,
     pub turns: Bytes,
     pub tables: Vec<&'a Table>,
+    /// The scan bytes of the further keyboards.
+    pub further: Vec<Bytes>,
 }
 
 /// The keys in the order of the checks.
@@ -47,16 +50,20 @@ pub fn read_top<'a>(alloc: Global, table: &'a Table) -> Result<Top<'a>, TableErr
     let opening = opening(alloc, table)?;
     let keyboard = keyboard(alloc, table)?;
     let list = at(table, "process");
-    let turns = turns(alloc, count(list), at(table, "turns"))?;
+    let more = at(table, "more_keys");
+    let keyboards = keyboard_count(more);
+    let turns = turns(alloc, count(list), keyboards, at(table, "turns"))?;
     let tables = tables(alloc, list, 0, 11)?;
     if tables.len() > PROCESSES {
         return Err(refused(RANGE, 0, 11));
     }
+    let further = further(alloc, more)?;
     Ok(Top {
         opening,
         keyboard,
         turns,
         tables,
+        further,
     })
 }
 
@@ -83,6 +90,7 @@ fn is_top_key(key: &str) -> bool
         || key == "keys"
         || key == "turns"
         || key == "process"
+        || key == "more_keys"
 }
 
 fn is_screen_key(key: &str) -> bool

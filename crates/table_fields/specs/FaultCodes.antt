@@ -30,3 +30,6 @@ TURN = 28
 
 abbrev pub TOO_MANY : ℕ
 TOO_MANY = 29
+
+abbrev pub FURTHER_SCAN_BYTE : ℕ
+FURTHER_SCAN_BYTE = 30

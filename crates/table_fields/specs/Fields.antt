@@ -107,8 +107,16 @@ items_of (c ∷ text) = slice_split (λ b. b == 0x20) (c ∷ text)
 abbrev pub most_scan_bytes : ℕ
 most_scan_bytes = 100000
 
+-- the items of a text of scan bytes: 29 where there are too many, at its key
+abbrev pub few_items_of : ℕ → ℕ → List ℕ → Result (List (List ℕ)) TableFault
+few_items_of part key text = do
+  few ← check (nat_le (length (items_of text)) most_scan_bytes) (fault TOO_MANY part key)
+  Ok (items_of text)
+
+-- the bytes of items: a fault of this kind at the first that is none
+abbrev pub bytes_of : ℕ → ℕ → List (List ℕ) → Result (List ℕ) TableFault
+bytes_of kind part items = collect (λ n item. byte_in (fault kind part n) (byte_of item)) 1 items
+
 -- the scan bytes of a text: 29 where there are too many, at its key; 27 at the first item that is none
 abbrev pub scan_bytes_of : ℕ → ℕ → List ℕ → Result (List ℕ) TableFault
-scan_bytes_of part key text = do
-  few ← check (nat_le (length (items_of text)) most_scan_bytes) (fault TOO_MANY part key)
-  collect (λ n item. byte_in (fault SCAN_BYTE part n) (byte_of item)) 1 (items_of text)
+scan_bytes_of part key text = few_items_of part key text >>= bytes_of SCAN_BYTE part

@@ -29,3 +29,6 @@ pub const TURN: u16 = 28;
 
 /// More items than there may be.
 pub const TOO_MANY: u16 = 29;
+
+/// A scan byte of a further keyboard.
+pub const FURTHER_SCAN_BYTE: u16 = 30;

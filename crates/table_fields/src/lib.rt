@@ -18,4 +18,4 @@ pub use fault::{TableError, TableFault, refused};
 pub use fields::{Numbers, at, flag, number, text, within};
 pub use included::texts;
 pub use keymaps::keymap;
-pub use scans::scan_bytes;
+pub use scans::{item_bytes, scan_bytes, scan_items};

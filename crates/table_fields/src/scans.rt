@@ -1,6 +1,6 @@
 ghost use Rattle.std.specs.Prelude.{◌≡◌, ◌≤◌, length, map, IfOk};
-ghost use Rattle.table_fields.specs.Checked.{Gives, collect, fault};
-ghost use Rattle.table_fields.specs.Fields.{byte_in, byte_of, items_of, most_scan_bytes, scan_bytes_of};
+ghost use Rattle.table_fields.specs.Checked.{Gives};
+ghost use Rattle.table_fields.specs.Fields.{byte_of, bytes_of, few_items_of, items_of, most_scan_bytes, scan_bytes_of};
 
 use crate::fault::{TableError, refused};
 use crate::fault_code::{SCAN_BYTE, TOO_MANY};
@@ -17,11 +17,22 @@ pub fn scan_bytes(alloc: Global, text: &str, part: u32, key: u32) -> Result<Byte
     ensures room { IfOk result (λ b. b.room ≡ 0) }
     ensures most { IfOk result (λ b. length b.bytes ≤ most_scan_bytes) }
 {
+    let items = scan_items(alloc, text, part, key)?;
+    item_bytes(alloc, SCAN_BYTE, part, items.as_slice())
+}
+
+/// The items of a text of scan bytes, the parts between its single blanks: 29 where there are more than
+/// 100,000.
+pub fn scan_items(alloc: Global, text: &str, part: u32, key: u32) -> Result<Vec<&str>, TableError>
+    ensures items { Gives (λ items. map (λ item. item.now) items.items) result
+        (few_items_of part key text.now) }
+    ensures few { IfOk result (λ items. length items.items ≤ most_scan_bytes) }
+{
     let items = cut_items(alloc, text)?;
     if items.len() > MOST {
         return Err(refused(TOO_MANY, part, key));
     }
-    read_bytes(alloc, part, items.as_slice())
+    Ok(items)
 }
 
 // The parts between single blanks, of which the empty text has none.
@@ -34,18 +45,18 @@ fn cut_items(alloc: Global, text: &str) -> Result<Vec<&str>, AllocError>
     Ok(text.split(' ').collect(alloc)?)
 }
 
-// The bytes of the items.
-fn read_bytes(alloc: Global, part: u32, items: &[&str]) -> Result<Bytes, TableError>
+/// The bytes of items, each two hexadecimal digits: a fault of this kind at the first that is none.
+pub fn item_bytes(alloc: Global, kind: u16, part: u32, items: &[&str]) -> Result<Bytes, TableError>
     requires { length items.now ≤ most_scan_bytes }
     ensures bytes { Gives (λ b. b.bytes) result
-        (collect (λ n item. byte_in (fault 27 part n) (byte_of item)) 1 (map (λ item. item.now) items.now)) }
+        (bytes_of kind part (map (λ item. item.now) items.now)) }
     ensures room { IfOk result (λ b. b.room ≡ 0) }
     ensures many { IfOk result (λ b. length b.bytes ≡ length items.now) }
 {
     let mut bytes = Bytes::with_room(alloc, items.len())?;
     for (i, item) in items.iter().enumerate() {
         let Some(b) = byte_of(item.as_bytes()) else {
-            return Err(refused(SCAN_BYTE, part, i as u32 + 1));
+            return Err(refused(kind, part, i as u32 + 1));
         };
         bytes.append(&[b]);
     }

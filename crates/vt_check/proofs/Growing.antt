@@ -1,20 +1,21 @@
 -- A judge that takes one entry more.
-use Rattle.std.proofs.Common.{◌≡◌, ℕ, ◌+◌, ◌-◌, ◌^◌, ◌≤◌, ◌<◌, min, Bool, ⊎_elim, arith, cond, List, [], ◌∷◌, ◌++◌, length, get_or, set, map, filter, replicate, Option, Some, None, refl, sym, ap, ◌∙◌, subst, append-nil}
+use Rattle.std.proofs.Common.{◌≡◌, ℕ, ◌+◌, ◌-◌, ◌^◌, ◌≤◌, ◌<◌, min, Bool, ⊎_elim, arith, cond, List, [], ◌∷◌, ◌++◌, length, get_or, set, map, filter, replicate, Option, Some, refl, sym, ap, ◌∙◌, subst, append-nil}
 use Rattle.std.proofs.lemmas.Bool.{cases_eq, eq-eqb, ne_eqb}
 use Rattle.std.proofs.lemmas.Bool.Decides.{eqb_tells}
 use Rattle.std.proofs.lemmas.List.{get_or-replicate, get_or-set_same, get_or-set_other, length-replicate, length-set, length_push, map-append}
 use Rattle.std.proofs.lemmas.List.Elements.{filter-append}
 use Rattle.std.proofs.lemmas.List.Sums.{count_by-le-length, sum_by-append}
-use Rattle.std.proofs.lemmas.Option.{same_Some, slice_get_within}
+use Rattle.std.proofs.lemmas.Option.{same_Some}
 use Rattle.std.specs.List.{All}
-use Rattle.std.specs.Prelude.{◌==◌, count_by, slice_get}
+use Rattle.std.specs.Prelude.{◌==◌, count_by}
 use Rattle.session_order.specs.Calls.{as_meant, call_of, calls_by, next_by, next_of}
 use Rattle.session_order.specs.Ends.{Setup}
 use Rattle.session_order.specs.Follows.{IsNextCall}
 use Rattle.session_order.specs.Meant.{NextIsMeant}
-use Rattle.session_text.specs.Programs.{Call, call, next}
+use Rattle.session_text.specs.Programs.{Call, call, next, program_of}
 use Rattle.session_text.specs.Walks.{Place, Stands}
 use Rattle.session_text.specs.declared.program.Program.{Program}
+use Rattle.vt_base.specs.Limits.{callers, greatest_caller}
 use Rattle.vt_check.specs.Judging.{IsAfter, JudgeView, StandsAfter}
 use Rattle.vt_events.specs.Charge.{charge_of}
 use Rattle.vt_events.specs.Plain.{plain_event, plain_reply}
@@ -22,9 +23,8 @@ use Rattle.vt_events.specs.declared.entry.Entry.{Entry}
 use Rattle.vt_events.specs.declared.event.Event.{Event}
 use Rattle.vt_events.specs.declared.event.Event.TheVariants as event
 use Rattle.vt_events.specs.declared.reply.Reply.{Reply}
-use Rattle.vt_journal.specs.Log.{charge_of_all}
-use Rattle.vt_world.specs.History.{ReplayGrows, replay}
-use Rattle.vt_world.specs.Step.{Outcome, step}
+use Rattle.vt_world.specs.History.{ReplayGrows}
+use Rattle.vt_world.specs.Step.{step}
 
 pub event_twice : (e : Event) → plain_event (plain_event e) ≡ plain_event e
 event_twice (event.Write fd b) = refl
@@ -126,7 +126,7 @@ pub record Takes (entry : Entry) (program : Program) (before after : JudgeView) 
 
 pub taken : NextIsMeant → ReplayGrows → (o : Setup) (h : List Entry) (entry : Entry) (program : Program)
     (before after : JudgeView) → Takes entry program before after
-    → slice_get o.programs entry.caller ≡ Some program
+    → program_of o.programs entry.caller ≡ Some program
     → IsNextCall o.start o.programs h entry → IsAfter o h before
     → IsAfter o (h ++ entry ∷ []) after
 taken is_meant grows o h entry program before after takes is follows at =
@@ -144,10 +144,10 @@ taken is_meant grows o h entry program before after takes is follows at =
           ∙ ap (λ w. (step w p entry.event).world) at.replayed
           ∙ sym (grows o.start h entry);
       walks = ap length takes.walks ∙ length-set before.walks p takes.moved ∙ at.walks;
-      stand = λ q other walk is_other read_other. ⊎_elim
+      stand = λ q other walk known is_other read_other. ⊎_elim
           (λ mine.
           let same_program : program ≡ other =
-          same_Some program other (sym is ∙ ap (slice_get o.programs) mine ∙ is_other) in
+          same_Some program other (sym is ∙ ap (program_of o.programs) mine ∙ is_other) in
           let same_walk : walk ≡ takes.moved =
           read_other
           ∙ (λ i. get_or (takes.walks i) (sym mine i) walk)
@@ -156,7 +156,7 @@ taken is_meant grows o h entry program before after takes is follows at =
           ap (λ c. calls_by p h ++ c ∷ []) call_is ∙ sym (calls_mine h entry p refl) ∙ ap (λ k. calls_by k (h ++ entry ∷ [])) mine in
           let stands : StandsAfter program takes.moved (calls_by p h ++ as_meant (call e entry.reply) ∷ []) =
           stands_more is_meant program takes.walk takes.moved (calls_by p h) e entry.reply
-          (at.stand p program takes.walk is takes.read) takes.took next_is in
+          (at.stand p program takes.walk takes.known is takes.read) takes.took next_is in
           subst (λ m. StandsAfter other walk m) made
           (subst (λ w. StandsAfter other w (calls_by p h ++ as_meant (call e entry.reply) ∷ [])) (sym same_walk)
           (subst (λ x. StandsAfter x takes.moved (calls_by p h ++ as_meant (call e entry.reply) ∷ [])) same_program stands)))
@@ -165,7 +165,7 @@ taken is_meant grows o h entry program before after takes is follows at =
           read_other
           ∙ ap (λ ws. get_or ws q walk) takes.walks
           ∙ get_or-set_other before.walks p q takes.moved walk (λ same. apart (sym same)) in
-          subst (StandsAfter other walk) (sym (calls_others h entry q apart)) (at.stand q other walk is_other read))
+          subst (StandsAfter other walk) (sym (calls_others h entry q apart)) (at.stand q other walk known is_other read))
           (cases_eq p q);
       places = ap length takes.counts ∙ length-set before.counts p _ ∙ at.places;
       counted = λ q within.
@@ -177,14 +177,14 @@ taken is_meant grows o h entry program before after takes is follows at =
 
 -- a judge before its first entry
 pub first-after : (o : Setup) (view : JudgeView) → view.world ≡ o.start
-    → length view.walks ≡ length o.programs
+    → length view.walks ≡ callers
     → All (λ walk. (p : Program) → Stands p walk []) view.walks → view.counts ≡ replicate 68 0
     → view.events ≡ 0 → view.bytes ≡ 0 → IsAfter o [] view
 first-after o view opened many stand zero events bytes = record {
   replayed = opened;
   walks = many;
-  stand = λ q program walk is read.
-      let within : q < length view.walks = omega (arith, slice_get_within o.programs q program is, many) in
+  stand = λ q program walk known is read.
+      let within : q < length view.walks = omega (arith, known, many) in
       record {
         calls = [];
         stands = subst (λ w. Stands program w []) (sym read) (stand q walk within program);
@@ -200,10 +200,11 @@ first-after o view opened many stand zero events bytes = record {
 pub next_after : NextIsMeant → (o : Setup) (h : List Entry) (view : JudgeView) (q : ℕ) (program : Program)
     (walk : Place) (e : Option Event)
     → ((made : List Call) → Stands program walk made → e ≡ next program made)
-    → slice_get o.programs q ≡ Some program → walk ≡ get_or view.walks q walk → IsAfter o h view
+    → q ≤ greatest_caller → program_of o.programs q ≡ Some program → walk ≡ get_or view.walks q walk
+    → IsAfter o h view
     → e ≡ next_by o.programs q h
-next_after is_meant o h view q program walk e gives is read at =
-    let stands = at.stand q program walk is read in
+next_after is_meant o h view q program walk e gives known is read at =
+    let stands = at.stand q program walk known is read in
     gives stands.calls stands.stands
     ∙ sym (is_meant program stands.calls)
     ∙ ap (next program) stands.meant

@@ -1,39 +1,41 @@
 -- How a judge tells the end of a journal.
-use Rattle.std.proofs.Common.{◌≡◌, ◌≢◌, ◌↔◌, ℕ, ◌+◌, ◌<◌, ◌≤◌, ⊎_elim, Bool, true, false, ◌&&◌, ltb, leb, List, length, get_or, Option, Some, None, is_some, Result, Ok, Err, refl, sym, ap, subst, ◌∙◌, arith}
-use Rattle.std.specs.List.{list_all, range_with_len}
+use Rattle.std.proofs.Common.{◌≡◌, ◌≢◌, ◌↔◌, ℕ, ◌+◌, ◌<◌, ◌≤◌, ⊎_elim, Bool, true, false, ◌&&◌, nat_le, nat_lt, List, length, get_or, Option, Some, None, is_some, Result, Ok, Err, refl, sym, ap, subst, ◌∙◌, arith}
+use Rattle.std.specs.List.{range_with_len}
 use Rattle.std.specs.Bool.{OnFalse, OnTrue}
 use Rattle.std.specs.Prelude.{IfOk, IsTrue}
-use Rattle.std.proofs.lemmas.Bool.{both_ways, cases_lt, false≢true}
+use Rattle.std.proofs.lemmas.Bool.{and_parts, both_ways, false≢true, leb-true, ltb-true, or_cases}
 use Rattle.std.proofs.lemmas.List.Folds.{list_all_at}
 use Rattle.std.proofs.lemmas.List.Sums.{list_all-from_AllPass}
 use Rattle.std.proofs.lemmas.List.Elements.{All-from_get_or}
 use Rattle.std.proofs.lemmas.List.FromFn.{get_or-range_with_len, length-range_with_len}
-use Rattle.std.proofs.lemmas.Option.{none-some, same_Some, slice_get_past}
-use Rattle.session_order.specs.Calls.{all_over, calls_by, is_none, next_by, next_of}
+use Rattle.std.proofs.lemmas.Option.{none-some, same_Some}
+use Rattle.session_order.specs.Calls.{all_over, is_none, next_by}
 use Rattle.session_order.specs.Ends.{Setup, Stops}
 use Rattle.session_order.specs.Follows.{is_waiting}
+use Rattle.session_text.specs.Programs.{program_of}
+use Rattle.session_text.specs.Sessions.{ArePrograms, CallersHavePrograms}
 use Rattle.session_text.specs.declared.program.Program.{Program}
-use Rattle.vt_check.specs.Judging.{HasCall, IsAfter, JudgeView}
+use Rattle.vt_base.specs.Limits.{callers}
+use Rattle.vt_check.proofs.VerdictLaws.{caller_known}
+use Rattle.vt_check.specs.Judging.{AreOfCallers, HasCall, IsAfter, JudgeView}
 use Rattle.vt_events.specs.Charge.{charge_of}
 use Rattle.vt_events.specs.declared.entry.Entry.{Entry}
 use Rattle.vt_events.specs.declared.event.Event.{Event}
 use Rattle.vt_journal.specs.Log.{charge_of_all}
-use Rattle.vt_journal.specs.Room.{full_at, has_room}
+use Rattle.vt_journal.specs.Room.{has_room}
 use Rattle.vt_journal.specs.declared.full.Full.{Full}
-use Rattle.vt_journal.specs.declared.limits.Limits.{Limits}
 use Rattle.vt_world.specs.History.{replay}
 
 -- all programs are over where none has a next call
 pub all_are_over : (programs : List Program) (h : List Entry)
-    → ((p : ℕ) → p < length programs → next_by programs p h ≡ None) → all_over programs h ≡ true
+    → ((p : ℕ) → p < callers → next_by programs p h ≡ None) → all_over programs h ≡ true
 all_are_over programs h over =
-    list_all-from_AllPass (λ p. is_none (next_by programs p h)) (range_with_len 0 (length programs))
-    (All-from_get_or (λ p. is_none (next_by programs p h) ≡ true) (range_with_len 0 (length programs)) 0
+    list_all-from_AllPass (λ p. is_none (next_by programs p h)) (range_with_len 0 callers)
+    (All-from_get_or (λ p. is_none (next_by programs p h) ≡ true) (range_with_len 0 callers) 0
     (λ i within.
-    let inside : i < length programs =
-    omega (arith, within, length-range_with_len 0 (length programs)) in
-    let here : i ≡ get_or (range_with_len 0 (length programs)) i 0 =
-    sym (get_or-range_with_len 0 (length programs) i 0 inside ∙ plus i) in
+    let inside : i < callers = omega (arith, within, length-range_with_len 0 callers) in
+    let here : i ≡ get_or (range_with_len 0 callers) i 0 =
+    sym (get_or-range_with_len 0 callers i 0 inside ∙ plus i) in
     subst (λ p. is_none (next_by programs p h) ≡ true) here (ap is_none (over i inside))))
   where
     plus : (i : ℕ) → 0 + i ≡ i
@@ -44,27 +46,27 @@ not_none : (found : Option Event) → is_some found ≡ true → is_none found �
 not_none (Some e) is = refl
 not_none None is = absurd (false≢true is)
 
-pub one_goes_on : (programs : List Program) (h : List Entry) (p : ℕ) → p < length programs
+pub one_goes_on : (programs : List Program) (h : List Entry) (p : ℕ) → p < callers
     → is_some (next_by programs p h) ≡ true → all_over programs h ≡ false
 one_goes_on programs h p within is =
-    let here : get_or (range_with_len 0 (length programs)) p 0 ≡ p =
-    get_or-range_with_len 0 (length programs) p 0 within ∙ plus p in
-    list_all_at (λ p. is_none (next_by programs p h)) (range_with_len 0 (length programs)) p 0
-    (omega (arith, within, length-range_with_len 0 (length programs)))
+    let here : get_or (range_with_len 0 callers) p 0 ≡ p =
+    get_or-range_with_len 0 callers p 0 within ∙ plus p in
+    list_all_at (λ p. is_none (next_by programs p h)) (range_with_len 0 callers) p 0
+    (omega (arith, within, length-range_with_len 0 callers))
     (ap (λ q. is_none (next_by programs q h)) here ∙ not_none (next_by programs p h) is)
   where
     plus : (i : ℕ) → 0 + i ≡ i
     plus i = omega arith
 
--- a caller that has a next call is one of the session's
-pub call_known : (programs : List Program) (p : ℕ) (h : List Entry) (e : Event)
-    → next_by programs p h ≡ Some e → p < length programs
-call_known programs p h e is =
-    ⊎_elim (λ within. within)
-    (λ past.
-    absurd (none-some e
-    (sym (ap (λ found. next_of found (calls_by p h)) (slice_get_past programs p past)) ∙ is)))
-    (cases_lt p (length programs))
+-- in a session nobody but a caller has a program
+pub of_callers : CallersHavePrograms → (processes keyboards : ℕ) (list : List Program) → processes ≤ 64
+    → keyboards ≤ 4 → ArePrograms processes keyboards list → AreOfCallers list
+of_callers have processes keyboards list few four are = λ p is.
+    ⊎_elim (λ low. omega (arith, leb-true p processes low, few))
+    (λ both.
+    omega (arith, ltb-true p (64 + keyboards) (and_parts (nat_lt 64 p) (nat_lt p (64 + keyboards)) both).1, four))
+    (or_cases (nat_le p processes) (nat_lt 64 p && nat_lt p (64 + keyboards))
+    (sym (have processes keyboards list few are p) ∙ is))
 
 -- the history stops at the call that was found
 pub stops_here : (o : Setup) (h : List Entry) (view : JudgeView) (full : Full) (caller : ℕ)
@@ -132,20 +134,20 @@ over_calls o h p wanted none = (
 
 -- whether the history stops, where the numbers are right and there is no room
 pub stop_tested : (o : Setup) (h : List Entry) (view : JudgeView) (full : Full) (programs : List Program) (is : Bool)
-    → IsAfter o h view → o.programs ≡ programs → (full.events ≡ view.events) × (full.bytes ≡ view.bytes)
+    → AreOfCallers programs → IsAfter o h view → o.programs ≡ programs → (full.events ≡ view.events) × (full.bytes ≡ view.bytes)
     → has_room o.limits h full.charge ≡ false
     → OnTrue is ((caller : ℕ) × HasCall o h caller full.charge)
-    → OnFalse is ((caller : ℕ) → caller < length programs → ¬ HasCall o h caller full.charge)
+    → OnFalse is ((caller : ℕ) → caller < callers → ¬ HasCall o h caller full.charge)
     → IsTrue is ↔ Stops o h full
-stop_tested o h view full programs true at same numbers none found nobody =
+stop_tested o h view full programs true of_callers at same numbers none found nobody =
     (λ yes. stops_here o h view full found.0 at numbers.0 numbers.1 none found.1, λ stops. refl)
-stop_tested o h view full programs false at same numbers none found nobody = (
+stop_tested o h view full programs false of_callers at same numbers none found nobody = (
   λ no_way. absurd (false≢true no_way),
   λ stops.
-      absurd (nobody stops.caller
-      (subst (λ list. stops.caller < length list) same
-      (call_known o.programs stops.caller h stops.call stops.next))
-      (call_of_stop o h full stops)),
+      let known : is_some (program_of programs stops.caller) ≡ true =
+      subst (λ list. is_some (program_of list stops.caller) ≡ true) same
+      (caller_known o.programs stops.caller h stops.call stops.next) in
+      absurd (nobody stops.caller (of_callers stops.caller known) (call_of_stop o h full stops)),
 )
 
 -- two facts of an answer together

@@ -1,17 +1,17 @@
 -- What a judge's tests say.
-use Rattle.std.proofs.Common.{◌≡◌, ◌↔◌, ℕ, ◌<◌, Bool, true, false, ◌&&◌, List, get_or, length, Option, Some, None, refl, sym, ap, subst, ◌∙◌}
-use Rattle.std.specs.Prelude.{IsTrue, slice_get}
+use Rattle.std.proofs.Common.{◌≡◌, ◌↔◌, ◌≤◌, Bool, true, false, ◌&&◌, List, get_or, Option, Some, None, refl, sym, ap, ◌∙◌}
+use Rattle.std.specs.Prelude.{IsTrue, is_some, option_map}
 use Rattle.std.proofs.lemmas.Bool.{and_from, both_ways, false_from_ne_true, false≢true}
-use Rattle.std.proofs.lemmas.Option.{none-some, same_Some, slice_get_read}
+use Rattle.std.proofs.lemmas.Option.{none-some, same_Some}
 use Rattle.session_order.specs.Calls.{next_by}
 use Rattle.session_order.specs.Ends.{Setup}
 use Rattle.session_order.specs.Follows.{IsNextCall, is_waiting}
-use Rattle.session_order.specs.Meant.{NextIsMeant, NextIsPlain}
+use Rattle.session_order.specs.Meant.{NextIsPlain}
 use Rattle.session_order.specs.Calls.{calls_by, next_of}
-use Rattle.session_text.specs.Programs.{next}
+use Rattle.session_text.specs.Programs.{next, program_of}
 use Rattle.session_text.specs.declared.program.Program.{Program}
 use Rattle.vt_check.specs.Judging.{IsAfter, JudgeView}
-use Rattle.vt_check.specs.Verdicts.{IsAnswered}
+use Rattle.vt_check.specs.Verdicts.{IsAnswered, IsCounted}
 use Rattle.vt_events.specs.Plain.{plain_event, plain_reply}
 use Rattle.vt_events.specs.declared.entry.Entry.{Entry}
 use Rattle.vt_events.specs.declared.event.Event.{Event}
@@ -56,7 +56,7 @@ waits_on o h view entry goes at is test = (
 pub next_is : NextIsPlain → (o : Setup) (h : List Entry) (view : JudgeView) (entry : Entry) (goes same : Bool)
     (call : Event) (program : Program) → IsAfter o h view → goes ≡ false
     → goes ≡ (ends_wait entry.event && is_waiting view.world entry.caller)
-    → slice_get o.programs entry.caller ≡ Some program
+    → program_of o.programs entry.caller ≡ Some program
     → Some call ≡ next_by o.programs entry.caller h
     → (IsTrue same ↔ (plain_event call ≡ plain_event entry.event))
     → IsTrue same ↔ IsNextCall o.start o.programs h entry
@@ -88,14 +88,31 @@ none_next o h entry none = (
   λ next. absurd (none-some (plain_event entry.event) (none ∙ next.next)),
 )
 
--- the program of a caller
-pub program_at : (o : Setup) (programs : List Program) (i p : ℕ) (program : Program)
-    → o.programs ≡ programs → i ≡ p → p < length programs → program ≡ get_or programs i program
-    → slice_get o.programs p ≡ Some program
-program_at o programs i p program same is within read =
-    ap (λ list. slice_get list p) same
-    ∙ slice_get_read programs (length programs) p program refl within
-    (subst (λ k. program ≡ get_or programs k program) is read)
+-- an entry whose number doesn't count its caller's calls, and one whose number does
+pub not_counted : (o : Setup) (h : List Entry) (view : JudgeView) (entry : Entry) → entry.caller ≤ 67
+    → (entry.seq ≡ get_or view.counts entry.caller 0 → ⊥) → IsAfter o h view
+    → IsTrue false ↔ IsCounted o h entry
+not_counted o h view entry known other at = (
+  λ no_way. absurd (false≢true no_way),
+  λ is. absurd (other (is.number ∙ sym (at.counted entry.caller known))),
+)
+
+pub counted_is : {A : Type 0} (read : A → Program) (o : Setup) (h : List Entry) (view : JudgeView) (entry : Entry)
+    (programs : List Program) (found : Option A) → entry.caller ≤ 67
+    → entry.seq ≡ get_or view.counts entry.caller 0 → o.programs ≡ programs
+    → option_map read found ≡ program_of programs entry.caller → IsAfter o h view
+    → IsTrue (is_some found) ↔ IsCounted o h entry
+counted_is {A = A} read o h view entry programs found known number same finds at =
+    let has : is_some found ≡ is_some (program_of o.programs entry.caller) =
+    some_map found ∙ (λ i. is_some (finds i))
+    ∙ (λ i. is_some (program_of (sym same i) entry.caller)) in (
+      λ is. record { caller = sym has ∙ is; number = number ∙ at.counted entry.caller known },
+      λ is. has ∙ is.caller,
+    )
+  where
+    some_map : (found : Option A) → is_some found ≡ is_some (option_map read found)
+    some_map (Some x) = refl
+    some_map None = refl
 
 -- what a test that failed says
 pub fails : {P : Type 0} (b : Bool) → (IsTrue b ↔ P) → b ≡ false → ¬ P

@@ -1,15 +1,13 @@
 -- There is one verdict, and it is legal exactly where the journal is right.
-use Rattle.std.proofs.Common.{◌≡◌, ◌↔◌, ℕ, ◌+◌, ◌-◌, ◌<◌, ◌≤◌, ◌⊎◌, ⊎_elim, true, false, zero, suc, List, [], ◌∷◌, ◌++◌, length, take, drop, get_or, Option, Some, None, refl, sym, ap, subst, ◌∙◌, arith, true≢false}
-use Rattle.std.specs.Prelude.{slice_get}
-use Rattle.std.specs.List.{sum_by}
-use Rattle.std.proofs.lemmas.Bool.{cases_eq, cases_lt, cases_order}
+use Rattle.std.proofs.Common.{◌≡◌, ◌↔◌, ℕ, ◌+◌, ◌-◌, ◌<◌, ◌≤◌, ◌⊎◌, ⊎_elim, true, false, zero, suc, List, [], ◌∷◌, ◌++◌, length, take, get_or, Option, Some, None, refl, sym, ap, subst, ◌∙◌, arith, true≢false}
+use Rattle.std.specs.Prelude.{is_some, slice_get}
+use Rattle.std.proofs.lemmas.Bool.{cases_lt, cases_order}
 use Rattle.std.proofs.lemmas.List.{length-take, take-take, take_all, take_more}
 use Rattle.std.proofs.lemmas.List.Sums.{sum_by-take-drop}
-use Rattle.std.proofs.lemmas.Option.{get_or_from_slice_get, none-some, same_Some, slice_get-get_or, slice_get_past, slice_get_within}
+use Rattle.std.proofs.lemmas.Option.{get_or_from_slice_get, none-some, same_Some, slice_get-get_or, slice_get_within}
 use Rattle.session_order.specs.Calls.{calls_by, next_by, next_of}
-use Rattle.session_order.specs.Ends.{Ends, EndsBy, Setup}
-use Rattle.session_order.specs.Follows.{IsNextCall}
-use Rattle.session_text.specs.Programs.{Call}
+use Rattle.session_order.specs.Ends.{EndsBy, Setup}
+use Rattle.session_text.specs.Programs.{Call, program_of}
 use Rattle.session_text.specs.declared.program.Program.{Program}
 use Rattle.vt_check.specs.Verdicts.{AllPass, EndFails, FailsAt, IsRightJournal, Judges, Passes}
 use Rattle.vt_check.specs.Verdicts.FailsAt.{NoAnswer, NoCall, NoCaller, NoRoom}
@@ -20,7 +18,6 @@ use Rattle.vt_check.specs.declared.verdict.Verdict.TheVariants as verdict
 use Rattle.vt_events.specs.Charge.{charge_of}
 use Rattle.vt_events.specs.declared.entry.Entry.{Entry}
 use Rattle.vt_events.specs.declared.event.Event.{Event}
-use Rattle.vt_journal.specs.Log.{charge_of_all}
 use Rattle.vt_journal.specs.Room.{IsWithin}
 use Rattle.vt_journal.specs.declared.limits.Limits.{Limits}
 use Rattle.vt_journal.specs.declared.tail.Tail.{Tail}
@@ -163,14 +160,14 @@ front_within limits entries n is =
     }
 
 -- a next call is that of a program
-caller_known : (programs : List Program) (p : ℕ) (h : List Entry) (e : Event)
-    → next_by programs p h ≡ Some e → p < length programs
-caller_known programs p h e is =
-    ⊎_elim (λ within. within)
-    (λ past.
-    absurd (none-some e
-    (sym (ap (λ found. next_of found (calls_by p h)) (slice_get_past programs p past)) ∙ is)))
-    (cases_lt p (length programs))
+has_program : (found : Option Program) (made : List Call) (e : Event) → next_of found made ≡ Some e
+    → is_some found ≡ true
+has_program None made e is = absurd (none-some e is)
+has_program (Some program) made e is = refl
+
+pub caller_known : (programs : List Program) (p : ℕ) (h : List Entry) (e : Event)
+    → next_by programs p h ≡ Some e → is_some (program_of programs p) ≡ true
+caller_known programs p h e is = has_program (program_of programs p) (calls_by p h) e is
 
 pub legal_is_right : (o : Setup) (entries : List Entry) (end : Tail)
     → Judges o entries end verdict.Legal ↔ IsRightJournal o entries end

@@ -1,11 +1,12 @@
 -- A judge on its way through a journal. No public clause names this.
-use Rattle.std.specs.Prelude.{◌≡◌, ℕ, ◌≤◌, ◌==◌, false, List, length, count_by, map, Some, slice_get, slice_index, slice_index_or}
+use Rattle.std.specs.Prelude.{◌≡◌, ℕ, ◌<◌, ◌≤◌, ◌==◌, true, false, List, length, count_by, map, Some, is_some, slice_index, slice_index_or}
 use Rattle.session_order.specs.Calls.{as_meant, calls_by, next_by}
 use Rattle.session_order.specs.Ends.{Setup}
 use Rattle.session_order.specs.Follows.{is_waiting}
-use Rattle.session_text.specs.Programs.{Call}
+use Rattle.session_text.specs.Programs.{Call, program_of}
 use Rattle.session_text.specs.Walks.{Place, Stands}
 use Rattle.session_text.specs.declared.program.Program.{Program}
+use Rattle.vt_base.specs.Limits.{callers, greatest_caller}
 use Rattle.vt_events.specs.Charge.{charge_of}
 use Rattle.vt_events.specs.declared.entry.Entry.{Entry}
 use Rattle.vt_events.specs.declared.event.Event.{Event}
@@ -14,7 +15,7 @@ use Rattle.vt_world.specs.History.{replay}
 use Rattle.vt_world.specs.State.{WorldState}
 
 -- what contracts see of `Judge`: the console, where each caller's walk stands, how many calls each made,
--- and how many entries there were and what they count for
+-- by the callers' numbers, and how many entries there were and what they count for
 pub record JudgeView : Type 0 where
   pub world : WorldState
   pub walks : List Place
@@ -31,14 +32,21 @@ pub record StandsAfter (program : Program) (walk : Place) (made : List Call) : T
 -- the judge is behind this history
 pub record IsAfter (o : Setup) (h : List Entry) (j : JudgeView) : Type 0 where
   pub replayed : j.world ≡ replay o.start h
-  pub walks : length j.walks ≡ length o.programs
+  pub walks : length j.walks ≡ callers
   pub stand :
-      (q : ℕ) (program : Program) (walk : Place) → slice_get o.programs q ≡ Some program
-      → walk ≡ slice_index_or j.walks q walk → StandsAfter program walk (calls_by q h)
-  pub places : length j.counts ≡ 68
-  pub counted : (q : ℕ) → q ≤ 67 → slice_index j.counts q ≡ count_by (λ entry. entry.caller == q) h
+      (q : ℕ) (program : Program) (walk : Place) → q ≤ greatest_caller
+      → program_of o.programs q ≡ Some program → walk ≡ slice_index_or j.walks q walk
+      → StandsAfter program walk (calls_by q h)
+  pub places : length j.counts ≡ callers
+  pub counted :
+      (q : ℕ) → q ≤ greatest_caller
+      → slice_index j.counts q ≡ count_by (λ entry. entry.caller == q) h
   pub events : j.events ≡ length h
   pub bytes : j.bytes ≡ charge_of_all h
+
+-- nobody but a caller has a program
+abbrev pub AreOfCallers : List Program → Type 0
+AreOfCallers programs = (p : ℕ) → is_some (program_of programs p) ≡ true → p < callers
 
 -- a caller that doesn't wait has a next call of this charge
 pub record HasCall (o : Setup) (h : List Entry) (caller charge : ℕ) : Type 0 where

@@ -1,8 +1,9 @@
 -- What a journal of a session is: right, or where it fails first and why. This project's own.
-use Rattle.std.specs.Prelude.{◌≡◌, ◌↔◌, ℕ, ◌==◌, ◌<◌, true, false, List, [], ◌∷◌, ◌++◌, count_by, length, take, Some, slice_get}
+use Rattle.std.specs.Prelude.{◌≡◌, ◌↔◌, ℕ, ◌==◌, true, false, List, [], ◌∷◌, ◌++◌, count_by, is_some, length, take, Some, slice_get}
 use Rattle.session_order.specs.Calls.{all_over}
 use Rattle.session_order.specs.Ends.{Ends, EndsBy, Setup}
 use Rattle.session_order.specs.Follows.{Follows, IsNextCall}
+use Rattle.session_text.specs.Programs.{program_of}
 use Rattle.vt_check.specs.declared.verdict.Verdict.{Verdict}
 use Rattle.vt_check.specs.declared.verdict.Verdict.TheVariants as verdict
 use Rattle.vt_events.specs.Plain.{plain_reply}
@@ -14,9 +15,10 @@ use Rattle.vt_journal.specs.declared.tail.Tail.TheVariants as tail
 use Rattle.vt_world.specs.History.{IsLegal, replay}
 use Rattle.vt_world.specs.Step.{step}
 
--- the entry's caller is one of the session's, and its number counts the caller's calls before
+-- the entry's caller is one of the session's, so it has a program, and its number counts the caller's
+-- calls before
 pub record IsCounted (o : Setup) (before : List Entry) (entry : Entry) : Type 0 where
-  pub caller : entry.caller < length o.programs
+  pub caller : is_some (program_of o.programs entry.caller) ≡ true
   pub number : entry.seq ≡ count_by (λ earlier. earlier.caller == entry.caller) before
 
 -- its answer is the console's

@@ -13,7 +13,7 @@ ghost use Rattle.vt_world.specs.Laws.{moments};
 use crate::Verdict;
 use crate::judge::Judge;
 use crate::laws::one_verdict;
-use session_text::{Program, Session};
+use session_text::{Program, Session, callers_have_programs};
 use std::alloc::Global;
 use vt_base::NoMemory;
 use vt_events::Entry;
@@ -44,6 +44,7 @@ pub fn check(alloc: Global, s: &Session, j: &Journal) -> Result<Verdict, NoMemor
 fn judge_journal(alloc: Global, s: &Session, j: &Journal) -> Result<Verdict, NoMemory>
     ensures { IfOk result (Judges (setup_of s.now) j.now.entries j.now.tail) }
 {
+    callers_have_programs();
     let _starts = s.config().procs.as_slice();
     let limits = s.limits();
     let programs = s.programs();

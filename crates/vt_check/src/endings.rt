@@ -3,16 +3,17 @@ ghost use Rattle.std.specs.Prelude.{◌≡◌, ◌≤◌, ◌<◌, ◌↔◌, �
 ghost use Rattle.std.specs.Bool.{OnFalse, OnTrue};
 ghost use Rattle.session_order.specs.Calls.{all_over, next_by};
 ghost use Rattle.session_order.specs.Ends.{EndsBy, Setup, Stops};
-ghost use Rattle.vt_check.specs.Judging.{HasCall, IsAfter};
+ghost use Rattle.vt_base.specs.Limits.{callers};
+ghost use Rattle.vt_check.specs.Judging.{AreOfCallers, HasCall, IsAfter};
 ghost use Rattle.vt_check.specs.Verdicts.{EndFails};
 ghost use Rattle.vt_events.specs.declared.entry.Entry.{Entry};
 ghost use Rattle.vt_journal.specs.Room.{has_room};
 
 use crate::judge::Judge;
 use session_order::meant_laws;
-use session_text::Program;
+use session_text::{Program, program_of};
 use std::alloc::Global;
-use vt_base::{CallerNo, NoMemory};
+use vt_base::{CALLERS, CallerNo, NoMemory};
 use vt_events::{Event, charge};
 use vt_journal::{Full, Limits, Tail};
 
@@ -31,8 +32,8 @@ impl Judge {
         programs: &[Program],
         end: &Tail,
     ) -> Result<Option<u8>, NoMemory>
-        requires walks { length self.now.walks ≡ length programs.now }
-        requires callers { length programs.now ≤ 65 }
+        requires walks { length self.now.walks ≡ callers }
+        requires programs { AreOfCallers programs.now }
         requires bytes { self.now.bytes ≤ 1_073_741_824 }
         ensures fails { IfOk result (λ why. IfSome why (λ n. (o : Setup) (h : List Entry)
             → o.programs ≡ programs.now → o.limits ≡ limits → IsAfter o h self.now
@@ -70,12 +71,15 @@ impl Judge {
 
     // Whether every program is over.
     fn are_over(&self, alloc: Global, programs: &[Program]) -> Result<bool, NoMemory>
-        requires walks { length self.now.walks ≡ length programs.now }
+        requires walks { length self.now.walks ≡ callers }
         ensures { IfOk result (λ are. (o : Setup) (h : List Entry) → o.programs ≡ programs.now
             → IsAfter o h self.now → all_over o.programs h ≡ are) }
     {
-        for i in 0..programs.len() {
-            if self.next(alloc, programs, i)?.is_some() {
+        for i in 0..CALLERS {
+            if self
+                .next(alloc, programs, CallerNo::numbered(i as u16))?
+                .is_some()
+            {
                 return Ok(false);
             }
         }
@@ -90,8 +94,8 @@ impl Judge {
         programs: &[Program],
         full: &Full,
     ) -> Result<bool, NoMemory>
-        requires walks { length self.now.walks ≡ length programs.now }
-        requires callers { length programs.now ≤ 65 }
+        requires walks { length self.now.walks ≡ callers }
+        requires programs { AreOfCallers programs.now }
         requires bytes { self.now.bytes ≤ 1_073_741_824 }
         ensures { IfOk result (λ is. (o : Setup) (h : List Entry) → o.programs ≡ programs.now
             → o.limits ≡ limits → IsAfter o h self.now → IsTrue is ↔ Stops o h full.now) }
@@ -121,17 +125,16 @@ impl Judge {
         programs: &[Program],
         charge: u32,
     ) -> Result<bool, NoMemory>
-        requires walks { length self.now.walks ≡ length programs.now }
-        requires callers { length programs.now ≤ 65 }
+        requires walks { length self.now.walks ≡ callers }
         ensures found { IfOk result (λ is. OnTrue is ((o : Setup) (h : List Entry)
             → o.programs ≡ programs.now → IsAfter o h self.now
             → (caller : ℕ) × HasCall o h caller charge)) }
         ensures none { IfOk result (λ is. OnFalse is ((o : Setup) (h : List Entry)
             → o.programs ≡ programs.now → IsAfter o h self.now
-            → (caller : ℕ) → caller < length programs.now → ¬ HasCall o h caller charge)) }
+            → (caller : ℕ) → caller < callers → ¬ HasCall o h caller charge)) }
     {
-        for i in 0..programs.len() {
-            if self.calls(alloc, programs, i, charge)? {
+        for i in 0..CALLERS {
+            if self.calls(alloc, programs, CallerNo::numbered(i as u16), charge)? {
                 return Ok(true);
             }
         }
@@ -143,32 +146,37 @@ impl Judge {
         &self,
         alloc: Global,
         programs: &[Program],
-        i: usize,
+        p: CallerNo,
         wanted: u32,
     ) -> Result<bool, NoMemory>
-        requires walks { length self.now.walks ≡ length programs.now }
-        requires known { i < length programs.now }
-        requires callers { length programs.now ≤ 65 }
+        requires walks { length self.now.walks ≡ callers }
         ensures { IfOk result (λ is. (o : Setup) (h : List Entry) → o.programs ≡ programs.now
-            → IsAfter o h self.now → IsTrue is ↔ HasCall o h i wanted) }
+            → IsAfter o h self.now → IsTrue is ↔ HasCall o h p wanted) }
     {
-        if self.world.waiting(CallerNo::numbered(i as u16)) {
+        if self.world.waiting(p) {
             return Ok(false);
         }
-        match self.next(alloc, programs, i)? {
+        match self.next(alloc, programs, p)? {
             Some(call) => Ok(charge(&call) == wanted),
             None => Ok(false),
         }
     }
 
-    // The next call of the caller, where its program isn't over.
-    fn next(&self, alloc: Global, programs: &[Program], i: usize) -> Result<Option<Event>, NoMemory>
-        requires walks { length self.now.walks ≡ length programs.now }
-        requires known { i < length programs.now }
+    // The next call of the caller, where it has a program that isn't over.
+    fn next(
+        &self,
+        alloc: Global,
+        programs: &[Program],
+        p: CallerNo,
+    ) -> Result<Option<Event>, NoMemory>
+        requires walks { length self.now.walks ≡ callers }
         ensures { IfOk result (λ e. (o : Setup) (h : List Entry) → o.programs ≡ programs.now
-            → IsAfter o h self.now → e ≡ next_by o.programs i h) }
+            → IsAfter o h self.now → e ≡ next_by o.programs p h) }
     {
         meant_laws();
-        self.walks[i].next(alloc, &programs[i])
+        match program_of(programs, p) {
+            Some(program) => self.walks[usize::from(p.get())].next(alloc, program),
+            None => Ok(None),
+        }
     }
 }

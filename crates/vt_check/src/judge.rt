@@ -1,9 +1,11 @@
-ghost use Rattle.std.specs.Prelude.{◌≡◌, ◌≤◌, ◌<◌, ◌↔◌, ◌&&◌, List, [], ◌∷◌, ◌++◌, Some, length, All, IfOk, IfSome, IfNone, IsTrue, slice_get};
+ghost use Rattle.std.specs.Prelude.{◌≡◌, ◌≤◌, ◌↔◌, ◌&&◌, List, [], ◌∷◌, ◌++◌, Some, is_some, length, All, IfOk, IfSome, IfNone, IsTrue};
 ghost use Rattle.session_order.specs.Ends.{Setup};
 ghost use Rattle.session_order.specs.Follows.{IsNextCall, is_waiting};
 ghost use Rattle.session_order.specs.Sessions.{setup_of};
+ghost use Rattle.session_text.specs.Programs.{program_of};
 ghost use Rattle.session_text.specs.Walks.{Stands};
 ghost use Rattle.session_text.specs.declared.program.Program.{Program};
+ghost use Rattle.vt_base.specs.Limits.{callers};
 ghost use Rattle.vt_check.specs.Judging.{IsAfter};
 ghost use Rattle.vt_check.specs.Verdicts.{FailsAt, IsAnswered, IsCounted, Passes};
 ghost use Rattle.vt_events.specs.declared.entry.Entry.{Entry};
@@ -12,10 +14,10 @@ ghost use Rattle.vt_world.specs.Refusals.{ends_wait};
 
 use crate::counts::Counts;
 use session_order::meant_laws;
-use session_text::{Program, Session, Walk};
+use session_text::{Program, Session, Walk, program_of};
 use std::alloc::Global;
 use std::marker::Model;
-use vt_base::NoMemory;
+use vt_base::{CALLERS, NoMemory};
 use vt_events::{Entry, Event, charge};
 use vt_journal::{Limits, same_event, same_reply};
 use vt_world::{World, legal_grows, spare_for};
@@ -65,7 +67,7 @@ impl Judge {
         ensures bytes { IfOk result (λ judge. judge.bytes ≡ 0) }
     {
         let world = World::start(alloc, s.config(), s.key_tables())?;
-        let walks = first_walks(alloc, s.programs().len())?;
+        let walks = first_walks(alloc)?;
         Ok(Judge {
             world,
             walks,
@@ -83,7 +85,7 @@ impl Judge {
         programs: &[Program],
         entry: &Entry,
     ) -> Result<Option<u8>, NoMemory>
-        requires walks { length self.old.walks ≡ length programs.now }
+        requires walks { length self.old.walks ≡ callers }
         requires events { self.old.events ≤ 1_000_000 }
         requires bytes { self.old.bytes ≤ 1_073_741_824 }
         ensures fails { IfOk result (λ why. IfSome why (λ n. (o : Setup) (h : List Entry)
@@ -95,14 +97,13 @@ impl Judge {
         ensures after { IfOk result (λ why. IfNone why ((o : Setup) (h : List Entry)
             → o.programs ≡ programs.now → IsAfter o h self.old
             → IsAfter o (h ++ entry.now ∷ []) self.new)) }
-        ensures walks { IfOk result (λ why. length self.new.walks ≡ length programs.now) }
+        ensures walks { IfOk result (λ why. length self.new.walks ≡ callers) }
         ensures events { IfOk result (λ why. IfNone why (self.new.events ≤ limits.events)) }
         ensures bytes { IfOk result (λ why. IfNone why (self.new.bytes ≤ limits.bytes)) }
     {
-        if !self.is_counted(programs.len(), entry) {
+        let Some(program) = self.counted(programs, entry) else {
             return Ok(Some(NOT_COUNTED));
-        }
-        let program = &programs[usize::from(entry.caller.get())];
+        };
         if !self.is_next(alloc, program, entry)? {
             return Ok(Some(NOT_NEXT));
         }
@@ -115,20 +116,25 @@ impl Judge {
         Ok(None)
     }
 
-    // Whether the caller is one of so many, and the number counts its calls.
-    fn is_counted(&self, callers: usize, entry: &Entry) -> bool
-        ensures counted { (o : Setup) (h : List Entry) → length o.programs ≡ callers
-            → IsAfter o h self.now → IsTrue result ↔ IsCounted o h entry.now }
-        ensures known { IsTrue result → entry.now.caller < callers }
+    // The program of the entry's caller, where it has one and the number counts its calls.
+    fn counted<'a>(&self, programs: &'a [Program], entry: &Entry) -> Option<&'a Program>
+        ensures counted { (o : Setup) (h : List Entry) → o.programs ≡ programs.now
+            → IsAfter o h self.now → IsTrue (is_some result) ↔ IsCounted o h entry.now }
+        ensures program { IfSome result
+            (λ program. program_of programs.now entry.now.caller ≡ Some program.now) }
     {
-        usize::from(entry.caller.get()) < callers && entry.seq == self.counts.of(entry.caller)
+        entry.caller.stays_in_range();
+        if entry.seq != self.counts.of(entry.caller) {
+            return None;
+        }
+        program_of(programs, entry.caller)
     }
 
     // Whether the call is the next of its caller's program, and ends no wait that goes on.
     fn is_next(&self, alloc: Global, program: &Program, entry: &Entry) -> Result<bool, NoMemory>
-        requires { entry.now.caller < length self.now.walks }
+        requires { length self.now.walks ≡ callers }
         ensures { IfOk result (λ is. (o : Setup) (h : List Entry)
-            → slice_get o.programs entry.now.caller ≡ Some program.now → IsAfter o h self.now
+            → program_of o.programs entry.now.caller ≡ Some program.now → IsAfter o h self.now
             → IsTrue is ↔ IsNextCall o.start o.programs h entry.now) }
     {
         meant_laws();
@@ -157,13 +163,13 @@ impl Judge {
         program: &Program,
         entry: &Entry,
     ) -> Result<bool, NoMemory>
-        requires walk { entry.now.caller < length self.old.walks }
+        requires walks { length self.old.walks ≡ callers }
         requires events { self.old.events ≤ 1_000_000 }
         requires bytes { self.old.bytes ≤ 1_073_741_824 }
         ensures answered { IfOk result (λ is. (o : Setup) (h : List Entry) → IsAfter o h self.old
             → IsTrue is ↔ IsAnswered o h entry.now) }
         ensures after { IfOk result (λ is. (o : Setup) (h : List Entry) → IsTrue is
-            → slice_get o.programs entry.now.caller ≡ Some program.now → IsAfter o h self.old
+            → program_of o.programs entry.now.caller ≡ Some program.now → IsAfter o h self.old
             → IsNextCall o.start o.programs h entry.now
             → IsAfter o (h ++ entry.now ∷ []) self.new) }
         ensures walks { IfOk result (λ is. length self.new.walks ≡ length self.old.walks) }
@@ -195,13 +201,13 @@ impl Judge {
 }
 
 // A walk for each caller, of which nothing was called.
-fn first_walks(alloc: Global, callers: usize) -> Result<Vec<Walk>, NoMemory>
-    ensures callers { IfOk result (λ walks. length walks.items ≡ callers) }
+fn first_walks(alloc: Global) -> Result<Vec<Walk>, NoMemory>
+    ensures many { IfOk result (λ walks. length walks.items ≡ callers) }
     ensures stand { IfOk result (λ walks.
         All (λ walk. (p : Program) → Stands p walk []) walks.items) }
 {
-    let mut walks = Vec::with_capacity(alloc, callers)?;
-    for _caller in 0..callers {
+    let mut walks = Vec::with_capacity(alloc, CALLERS)?;
+    for _caller in 0..CALLERS {
         walks.push(Walk::start())?;
     }
     Ok(walks)

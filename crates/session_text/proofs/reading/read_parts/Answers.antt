@@ -19,7 +19,19 @@ returns-in-Ok-clause-parts c =
     let said =
     subst (λ tables. each_says process_says 1 tables (Ok found))
     (ap views c.as_slice.ensures.value ∙ is.tables) c.in-Ok.ensures.says in (
-      record { opening = top.opening; typed = top.typed; turns = top.turns; processes = found },
+      record {
+        opening = top.opening;
+        typed = top.typed;
+        turns = top.turns;
+        processes = found;
+        further = top.further;
+      },
       (Ok top, sym top_is, (Ok found, said, refl)),
-      record { opening = is.opening; keyboard = is.keyboard; turns = is.turns; processes = refl },
+      record {
+        opening = is.opening;
+        keyboard = is.keyboard;
+        turns = is.turns;
+        processes = refl;
+        further = is.further;
+      },
     )

@@ -1,15 +1,17 @@
-use Rattle.std.proofs.Common.{◌≡◌, ◌∷◌, [], ◌+◌, ◌++◌, ◌≤◌, List, Some, length, take, refl, sym, subst, arith}
+use Rattle.std.proofs.Common.{◌≡◌, List, Some, length, take, refl, sym, ap, subst, arith}
 use Rattle.std.specs.Prelude.{slice_get}
 use Rattle.std.proofs.lemmas.List.{take_all}
 use Rattle.std.proofs.lemmas.Option.{slice_get_read}
 use Rattle.session_order.specs.Ends.{Setup}
 use Rattle.session_order.specs.Sessions.{setup_of}
+use Rattle.vt_check.proofs.Overs.{of_callers}
 use Rattle.vt_check.proofs.VerdictLaws.{next_take, pass_more}
 use Rattle.vt_check.specs.Judging.{IsAfter}
 use Rattle.vt_check.specs.Verdicts.{AllPass, Judges}
 use Rattle.vt_check.specs.Verdicts.Judges.{AtEnd, EntryFails, Right}
 use Rattle.vt_check.specs.declared.verdict.Verdict.TheVariants as verdict
 use Rattle.vt_events.specs.declared.entry.Entry.{Entry}
+use Rattle.vt_procs.specs.declared.config.Config.{Config}
 use Rattle.vt_check.proofs.checking.judge_journal.Goals as goal
 
 pub returns-in-Some : goal.returns-in-Some
@@ -75,3 +77,12 @@ returns c =
     (Right (subst (AllPass o) whole c.loop-i.invariant.pass)
     (passes o entries (sym c.programs-programs.ensures.same) (sym c.limits-limits.ensures.same)
     (subst (λ h. IsAfter o h c.loop-i.judge) whole c.loop-i.invariant.after)))
+
+pub judge_end-requires-clause-programs : goal.judge_end-requires-clause-programs
+judge_end-requires-clause-programs c =
+    of_callers c.callers_have_programs.ensures (length c.args.s.now.config.procs)
+    c.args.s.now.config.keyboards c.programs-programs.result.now
+    (omega
+    (arith, c.as_slice-starts.ensures.bound, ap length c.as_slice-starts.ensures.list, ap (λ (config : Config). length config.procs) c.config.ensures.same))
+    (omega (arith, c.config.ensures.keyboards.four, ap (λ (config : Config). config.keyboards) c.config.ensures.same))
+    c.programs-programs.ensures.are

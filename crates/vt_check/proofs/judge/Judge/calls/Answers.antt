@@ -9,22 +9,20 @@ use Rattle.vt_check.proofs.judge.Judge.calls.Goals as goal
 pub returns-then-waiting : goal.returns-then-waiting
 returns-then-waiting c = λ o h same at.
     let here = subst (IsAfter o h) (sym c.self.view_is) at in
-    let waits : is_waiting (replay o.start h) c.args.i ≡ true =
-    ap (λ w. is_waiting w c.args.i) (sym here.replayed)
-    ∙ ap (λ k. is_waiting c.self.inside.world k) (sym c.numbered.ensures)
+    let waits : is_waiting (replay o.start h) c.args.p ≡ true =
+    ap (λ w. is_waiting w c.args.p) (sym here.replayed)
     ∙ sym c.waiting.ensures
     ∙ c.if-waiting.true in
-    waiting_calls o h c.args.i c.args.wanted waits
+    waiting_calls o h c.args.p c.args.wanted waits
 
 pub returns-in-Some : goal.returns-in-Some
 returns-in-Some c = λ o h same at.
     let here = subst (IsAfter o h) (sym c.self.view_is) at in
-    let goes : is_waiting (replay o.start h) c.args.i ≡ false =
-    ap (λ w. is_waiting w c.args.i) (sym here.replayed)
-    ∙ ap (λ k. is_waiting c.self.inside.world k) (sym c.numbered.ensures)
+    let goes : is_waiting (replay o.start h) c.args.p ≡ false =
+    ap (λ w. is_waiting w c.args.p) (sym here.replayed)
     ∙ sym c.waiting.ensures
     ∙ c.if-waiting.false in
-    call_tested o h c.args.i c.args.wanted c.in-Some.call _
+    call_tested o h c.args.p c.args.wanted c.in-Some.call _
     (sym c.in-Some.is ∙ c.in_ok-call.ensures o h same at) goes (
       λ is. sym c.charge.ensures ∙ eqb-true c.charge.result c.args.wanted is,
       λ are. eq-eqb c.charge.result c.args.wanted (c.charge.ensures ∙ are),
@@ -32,4 +30,4 @@ returns-in-Some c = λ o h same at.
 
 pub returns-in-None : goal.returns-in-None
 returns-in-None c = λ o h same at.
-    over_calls o h c.args.i c.args.wanted (sym c.in-None.is ∙ c.in_ok-call.ensures o h same at)
+    over_calls o h c.args.p c.args.wanted (sym c.in-None.is ∙ c.in_ok-call.ensures o h same at)

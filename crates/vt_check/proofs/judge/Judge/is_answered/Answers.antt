@@ -5,7 +5,6 @@ use Rattle.vt_check.proofs.Growing.{Takes, taken}
 use Rattle.vt_check.proofs.Tested.{answered_is}
 use Rattle.vt_check.specs.Judging.{IsAfter, JudgeView}
 use Rattle.vt_check.specs.Verdicts.{IsAnswered}
-use Rattle.vt_world.specs.History.{replay}
 use Rattle.vt_world.specs.Step.{Outcome}
 use Rattle.vt_check.proofs.judge.Judge.is_answered.Goals as goal
 
@@ -64,7 +63,7 @@ returns-clause-after c = λ o h is program at next.
       counts = c.add.ensures;
       within =
           subst (λ (v : JudgeView). c.args.entry.now.caller < length v.walks) (sym c.self.view_is)
-          c.requires.walk;
+          (omega (arith, c.get.ensures.same, c.get.ensures.high, c.requires.walks));
       read = subst (λ k. walk ≡ get_or items k walk) p c.index_mut-walk.ensures.value;
       walks = ap (λ k. set items k moved) p;
       took = record { took = c.took.ensures };

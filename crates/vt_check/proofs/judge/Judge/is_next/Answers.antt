@@ -1,12 +1,9 @@
-use Rattle.std.proofs.Common.{◌≡◌, List, Option, Some, get_or, sym, ◌∙◌, subst}
-use Rattle.std.specs.Prelude.{slice_get}
+use Rattle.std.proofs.Common.{◌≡◌, ◌≤◌, List, get_or, sym, ◌∙◌, subst, arith}
 use Rattle.session_order.specs.Calls.{next_by}
-use Rattle.session_order.specs.Ends.{Setup}
 use Rattle.session_text.specs.Walks.{Place}
 use Rattle.vt_check.proofs.Growing.{next_after}
 use Rattle.vt_check.proofs.Tested.{next_is, none_next, waits_on}
 use Rattle.vt_check.specs.Judging.{IsAfter, JudgeView}
-use Rattle.vt_events.specs.declared.entry.Entry.{Entry}
 use Rattle.vt_check.proofs.judge.Judge.is_next.Goals as goal
 
 pub returns-then-goes_on_waiting : goal.returns-then-goes_on_waiting
@@ -26,9 +23,10 @@ returns-in-Some c = λ o h program at.
       events = c.self.inside.events;
       bytes = c.self.inside.bytes;
     } in
+    let known : c.args.entry.now.caller ≤ 67 = omega (arith, c.get.ensures.same, c.get.ensures.high) in
     let found : c.in_ok-call.field-0 ≡ next_by o.programs c.args.entry.now.caller h =
     next_after c.meant_laws.ensures.next o h view c.args.entry.now.caller c.args.program.now walk
-    c.in_ok-call.field-0 c.in_ok-call.ensures program
+    c.in_ok-call.field-0 c.in_ok-call.ensures known program
     (subst (λ k. walk ≡ get_or items k walk) p c.index-walk.ensures)
     (subst (IsAfter o h) (sym c.self.view_is) at) in
     next_is c.meant_laws.ensures.plain o h c.args.self.now c.args.entry.now c.goes_on_waiting.result
@@ -47,9 +45,10 @@ returns-in-None c = λ o h program at.
       events = c.self.inside.events;
       bytes = c.self.inside.bytes;
     } in
+    let known : c.args.entry.now.caller ≤ 67 = omega (arith, c.get.ensures.same, c.get.ensures.high) in
     let found : c.in_ok-call.field-0 ≡ next_by o.programs c.args.entry.now.caller h =
     next_after c.meant_laws.ensures.next o h view c.args.entry.now.caller c.args.program.now walk
-    c.in_ok-call.field-0 c.in_ok-call.ensures program
+    c.in_ok-call.field-0 c.in_ok-call.ensures known program
     (subst (λ k. walk ≡ get_or items k walk) p c.index-walk.ensures)
     (subst (IsAfter o h) (sym c.self.view_is) at) in
     none_next o h c.args.entry.now (sym c.in-None.is ∙ found)

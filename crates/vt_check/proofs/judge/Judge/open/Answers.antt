@@ -1,4 +1,4 @@
-use Rattle.std.proofs.Common.{◌≡◌, refl, ap, ◌∙◌, length}
+use Rattle.std.proofs.Common.{◌≡◌, refl, ◌∙◌}
 use Rattle.session_order.specs.Sessions.{setup_of, start_of}
 use Rattle.vt_check.proofs.Growing.{first-after}
 use Rattle.vt_check.specs.Judging.{JudgeView}
@@ -16,7 +16,6 @@ returns-clause-at c =
     } in
     let world : c.in_ok-world.world ≡ start_of c.args.s.now =
     c.in_ok-world.ensures
-    ∙ (λ i. opening (c.config.ensures.same i).size.rows (c.config.ensures.same i).size.cols (c.config.ensures.same i).consoles (c.config.ensures.same i).front (c.config.ensures.one i) (c.config.ensures.same i).procs (c.key_tables.ensures i)) in
-    first-after (setup_of c.args.s.now) view world
-    (c.in_ok-walks.ensures.callers ∙ ap length c.programs.ensures.same) c.in_ok-walks.ensures.stand
-    c.new.ensures refl refl
+    ∙ (λ i. opening (c.config.ensures.same i).size.rows (c.config.ensures.same i).size.cols (c.config.ensures.same i).consoles (c.config.ensures.same i).front (c.config.ensures.same i).keyboards (c.config.ensures.same i).procs (c.key_tables.ensures i)) in
+    first-after (setup_of c.args.s.now) view world c.in_ok-walks.ensures.many
+    c.in_ok-walks.ensures.stand c.new.ensures refl refl

@@ -6,7 +6,7 @@ pub returns : goal.returns
 returns c =
     ok_both c.someone_calls.result
     (λ is found nobody o h same limits at.
-    stop_tested o h c.args.self.now c.args.full.now c.args.programs.now is at same
+    stop_tested o h c.args.self.now c.args.full.now c.args.programs.now is c.requires.programs at same
     (c.has_numbers.ensures.0 c.if-not-has_numbers.false)
     (c.has_room.ensures o h limits at ∙ c.if-has_room.false)
     (on_true is (λ has. has o h same at) found) (on_false is (λ has. has o h same at) nobody))
