@@ -1,4 +1,5 @@
-//! What the tests share. Rows are texts and numbers alone, and helpers have no clauses: so a test is proved in seconds.
+//! What the tests share. Rows are texts and numbers alone, helpers have no clauses, and no `?` stands where a console or
+//! a session lives, since each would have to drop it: so a test is proved in seconds.
 mod deaths;
 mod hooks;
 mod marks;
@@ -10,7 +11,7 @@ mod walks;
 
 use row::Row;
 use seen::is_seen;
-use session_text::read;
+use session_text::{Session, read};
 use std::alloc::Global;
 use std::process::Abort;
 use std::slice::from_ref;
@@ -29,6 +30,10 @@ const END: Tail = Tail::End {
 // The console that the session opens.
 fn open(alloc: Global, session: &str) -> Result<World, Fail> {
     let session = read(alloc, session.as_bytes())?;
+    start(alloc, &session)
+}
+
+fn start(alloc: Global, session: &Session) -> Result<World, Fail> {
     Ok(World::start(alloc, session.config(), session.key_tables())?)
 }
 
@@ -40,8 +45,12 @@ fn journal(alloc: Global, caller: CallerNo, event: Event, reply: Reply) -> Resul
         event,
         reply,
     };
+    printed(alloc, &entry)
+}
+
+fn printed(alloc: Global, entry: &Entry) -> Result<Bytes, NoMemory> {
     let mut text = Bytes::new(alloc);
-    print(alloc, from_ref(&entry), 2, &END, &mut text)?;
+    print(alloc, from_ref(entry), 2, &END, &mut text)?;
     Ok(text)
 }
 
@@ -103,12 +112,7 @@ fn check_row(by: &impl Abort, alloc: Global, world: &mut World, row: Row) -> Res
     Ok(())
 }
 
-fn check_all(
-    by: &impl Abort,
-    alloc: Global,
-    world: &mut World,
-    rows: &[Row],
-) -> Result<(), NoMemory> {
+fn check_all(by: &impl Abort, alloc: Global, world: &mut World, rows: &[Row]) -> Result<(), Fail> {
     for row in rows {
         check_row(by, alloc, world, *row)?;
     }
@@ -118,6 +122,5 @@ fn check_all(
 // Makes the calls of these rows one after another, on a console that the session opens, and looks at what they tell.
 fn check(by: &impl Abort, alloc: Global, session: &str, rows: &[Row]) -> Result<(), Fail> {
     let mut world = open(alloc, session)?;
-    check_all(by, alloc, &mut world, rows)?;
-    Ok(())
+    check_all(by, alloc, &mut world, rows)
 }

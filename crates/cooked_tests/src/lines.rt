@@ -35,22 +35,46 @@ fn is_signal(number: u16, wanted: Gives) -> bool {
     matches!(wanted, Gives::Signal(n) if n == number)
 }
 
-fn check(rt: &impl Abort, alloc: Global, t: Termios, case: &Case) -> Result<(), Fail> {
-    if !t.valid() {
-        return Err("no settings".into());
+// Which of the four isn't what the case says; empty where all are.
+fn wrong(cooked: &Cooked, given: Given, echo: &[u8], case: &Case) -> &'static str {
+    let (_, gives, line, rest, shown) = *case;
+    if !is_given(given, gives) {
+        "what it gives"
+    } else if cooked.line() != line {
+        "the line"
+    } else if cooked.rest() != rest {
+        "the rest"
+    } else if echo != shown {
+        "the echo"
+    } else {
+        ""
     }
-    let mut cooked = Cooked::start(alloc, t)?;
+}
+
+// Types the bytes of the case, and says what is wrong then.
+fn wrong_after(cooked: &mut Cooked, case: &Case) -> &'static str {
     let mut echo = EchoBytes::new();
     let mut given = Given::Nothing;
-    let (typed, gives, line, rest, shown) = *case;
+    let (typed, ..) = *case;
     for b in typed {
         echo.clear();
         given = cooked.push(*b, &mut echo);
     }
-    assert!(rt; is_given(given, gives), "what {typed:?} gives");
-    assert!(rt; cooked.line() == line, "the line of {typed:?}");
-    assert!(rt; cooked.rest() == rest, "the rest of {typed:?}");
-    assert!(rt; echo.as_slice() == shown, "the echo of {typed:?}");
+    wrong(cooked, given, echo.as_slice(), case)
+}
+
+fn started(alloc: Global, t: Termios) -> Result<Cooked, Fail> {
+    if !t.valid() {
+        return Err("no settings".into());
+    }
+    Ok(Cooked::start(alloc, t)?)
+}
+
+fn check(by: &impl Abort, alloc: Global, t: Termios, case: &Case) -> Result<(), Fail> {
+    let mut cooked = started(alloc, t)?;
+    let found = wrong_after(&mut cooked, case);
+    let (typed, ..) = *case;
+    assert!(by; found.is_empty(), "{found} of {typed:?}");
     Ok(())
 }
 
@@ -115,99 +139,115 @@ const SILENT: &[Case] = &[
     (b"a\x03", Gives::Signal(2), b"", b"", b""),
 ];
 
-fn check_all(rt: &impl Abort, alloc: Global, t: Termios, cases: &[Case]) -> Result<(), Fail> {
+// The settings of each list of cases.
+const SETTINGS: &[(&str, &[Case])] = &[
+    ("usual", USUAL),
+    ("raw", RAW),
+    ("bare", BARE),
+    ("silent", SILENT),
+];
+
+fn settings(word: &str) -> Termios {
+    let usual = Termios::usual();
+    match word {
+        "raw" => Termios {
+            icanon: false,
+            ..usual
+        },
+        "bare" => Termios {
+            isig: false,
+            icrnl: false,
+            onlcr: false,
+            ..usual
+        },
+        "silent" => Termios {
+            echo: false,
+            ..usual
+        },
+        _ => usual,
+    }
+}
+
+fn check_all(by: &impl Abort, alloc: Global, t: Termios, cases: &[Case]) -> Result<(), Fail> {
     for case in cases {
-        check(rt, alloc, t, case)?;
+        check(by, alloc, t, case)?;
     }
     Ok(())
 }
 
 #[test]
 fn bytes_become_lines(rt: HostRuntime) -> Result<(), Fail> {
-    let usual = Termios::usual();
-    check_all(&rt, rt.alloc(), usual, USUAL)?;
-    check_all(
-        &rt,
-        rt.alloc(),
-        Termios {
-            icanon: false,
-            ..usual
-        },
-        RAW,
-    )?;
-    let bare = Termios {
-        isig: false,
-        icrnl: false,
-        onlcr: false,
-        ..usual
-    };
-    check_all(&rt, rt.alloc(), bare, BARE)?;
-    check_all(
-        &rt,
-        rt.alloc(),
-        Termios {
-            echo: false,
-            ..usual
-        },
-        SILENT,
-    )
+    for &(word, cases) in SETTINGS {
+        check_all(&rt, rt.alloc(), settings(word), cases)?;
+    }
+    Ok(())
 }
 
-// The settings with another erase byte.
-fn erasing(erase: u8) -> Termios {
-    Termios {
+// Erase bytes, and whether the usual settings with each are valid. termios(3) names no such rule; it is this project's
+// own.
+const ERASES: &[(u8, bool)] = &[
+    (0x7F, true),
+    (0x08, true),
+    (0x00, true),
+    (0x15, false),
+    (0x03, false),
+    (0x0A, false),
+    (0x0D, false),
+    (0x20, false),
+    (0x80, false),
+];
+
+// Whether the usual settings with another erase byte are valid.
+fn is_valid(erase: u8) -> bool {
+    let t = Termios {
         erase,
         ..Termios::usual()
-    }
+    };
+    t.valid()
 }
 
-// termios(3) names no such rule; it is this project's own.
 #[test]
 fn settings_are_valid(rt: HostRuntime) {
-    let cases = [
-        (0x7F, true),
-        (0x08, true),
-        (0x00, true),
-        (0x15, false),
-        (0x03, false),
-        (0x0A, false),
-        (0x0D, false),
-        (0x20, false),
-        (0x80, false),
-    ];
-    for (erase, valid) in cases {
-        assert_eq!(rt; erasing(erase).valid(), valid, "{erase}");
+    for &(erase, valid) in ERASES {
+        assert!(rt; is_valid(erase) == valid, "{erase}");
     }
 }
 
-// Types the byte so many times.
-fn type_many(cooked: &mut Cooked, echo: &mut EchoBytes, b: u8, times: u16) {
+// Types the byte so many times, and says whether the last is echoed so.
+fn echoes(cooked: &mut Cooked, b: u8, times: u16, shown: &[u8]) -> bool {
+    let mut echo = EchoBytes::new();
     for _ in 0..times {
         echo.clear();
-        cooked.push(b, echo);
+        cooked.push(b, &mut echo);
     }
+    echo.as_slice() == shown
+}
+
+fn is_full(cooked: &Cooked) -> bool {
+    cooked.rest().len() == 4_095
+}
+
+// Whether the end gives so many bytes, and keeps none.
+fn gives_all(cooked: &mut Cooked, len: usize) -> bool {
+    let mut echo = EchoBytes::new();
+    let given = cooked.push(b'\n', &mut echo);
+    given == Given::Line && cooked.line().len() == len && cooked.rest().is_empty()
 }
 
 // A line is full with 4,095 bytes: an erase counts for nothing, and the end gives them and 0A.
 #[test]
 fn a_full_line_takes_its_end_alone(rt: HostRuntime) -> Result<(), Fail> {
-    let t = Termios::usual();
-    if !t.valid() {
-        return Err("no settings".into());
-    }
-    let mut cooked = Cooked::start(rt.alloc(), t)?;
-    let mut echo = EchoBytes::new();
-    type_many(&mut cooked, &mut echo, b'a', 4_095);
-    assert!(rt; echo.as_slice() == b"a".as_slice(), "the last that fits");
+    let mut cooked = started(rt.alloc(), Termios::usual())?;
+    assert!(rt;
+        echoes(&mut cooked, b'a', 4_095, b"a"),
+        "the last that fits"
+    );
     for b in *b"b\x7F" {
-        type_many(&mut cooked, &mut echo, b, 1);
-        assert!(rt; echo.as_slice() == b"\x07".as_slice(), "past a full line");
-        assert_eq!(rt; cooked.rest().len(), 4_095);
+        assert!(rt;
+            echoes(&mut cooked, b, 1, b"\x07") && is_full(&cooked),
+            "past a full line"
+        );
     }
-    echo.clear();
-    let given = cooked.push(b'\n', &mut echo);
-    assert_eq!(rt; given, Given::Line);
-    assert_eq!(rt; cooked.line().len(), 4_096);
-    assert_eq!(rt; cooked.rest().len(), 0);
+    assert!(rt; gives_all(&mut cooked, 4_096), "the end");
     Ok(())
 }

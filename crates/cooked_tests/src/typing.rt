@@ -167,6 +167,61 @@ struct Outcome {
     run: Run,
 }
 
+// The keys in one thread, and the line in another.
+fn both<J: Opening + Send + Sync, R: Threads + Wait + Sync>(
+    rt: &R,
+    alloc: Global,
+    hub: &Hub<J>,
+    keyboard: Pass<J>,
+    reader: Reader<J>,
+    size: Size,
+) -> Result<(Pass<J>, Reader<J>), NoMemory>
+    requires keyboard { IsReady hub.now false keyboard }
+    requires reader { IsReady hub.now false reader.pass }
+    requires size { (size.rows ≡ J.start.rows) × (size.cols ≡ J.start.cols) }
+    ensures keyboard { IfOk result (λ both. both.0.hub ≡ hub.now) }
+    ensures reader { IfOk result (λ both. both.1.pass.hub ≡ hub.now) }
+{
+    let (keyboard, reader) = thread::join(
+        rt,
+        || -> Result<Pass<J>, NoMemory>
+            requires { IsReady hub.now false keyboard
+                × (size.rows ≡ J.start.rows) × (size.cols ≡ J.start.cols) }
+            ensures { IfOk result (λ pass. pass.hub ≡ hub.entry.now) }
+        { press(rt, alloc, hub, keyboard, size) },
+        || -> Result<Reader<J>, NoMemory>
+            requires { IsReady hub.now false reader.pass
+                × (size.rows ≡ J.start.rows) × (size.cols ≡ J.start.cols) }
+            ensures { IfOk result (λ reader. reader.pass.hub ≡ hub.entry.now) }
+        { read_line(rt, alloc, hub, reader, size) },
+    );
+    let keyboard = keyboard?;
+    let reader = reader?;
+    Ok((keyboard, reader))
+}
+
+// The run, once both are through.
+fn closed<J: Opening>(
+    hub: Hub<J>,
+    steward: Steward<J>,
+    keyboard: Pass<J>,
+    reader: Reader<J>,
+) -> Result<Outcome, Fail>
+    requires steward { steward.hub ≡ hub }
+    requires keyboard { keyboard.hub ≡ hub }
+    requires reader { reader.pass.hub ≡ hub }
+{
+    let mut steward = steward;
+    let Reader { pass, tty, found } = reader;
+    hub.join(&mut steward, keyboard);
+    hub.join(&mut steward, pass);
+    if steward.out() != 0 {
+        return Err("a pass is out".into());
+    }
+    let run = hub.close(steward);
+    Ok(Outcome { found, tty, run })
+}
+
 fn type_beside<J: Opening + Send + Sync, R: Threads + Wait + Sync>(
     rt: &R,
     alloc: Global,
@@ -188,28 +243,8 @@ fn type_beside<J: Opening + Send + Sync, R: Threads + Wait + Sync>(
         tty,
         found: false,
     };
-    let (keyboard, reader) = thread::join(
-        rt,
-        || -> Result<Pass<J>, NoMemory>
-            requires { IsReady hub false keyboard
-                × (size.rows ≡ J.start.rows) × (size.cols ≡ J.start.cols) }
-            ensures { IfOk result (λ pass. pass.hub ≡ hub) }
-        { press(rt, alloc, &hub, keyboard, size) },
-        || -> Result<Reader<J>, NoMemory>
-            requires { IsReady hub false reader.pass
-                × (size.rows ≡ J.start.rows) × (size.cols ≡ J.start.cols) }
-            ensures { IfOk result (λ reader. reader.pass.hub ≡ hub) }
-        { read_line(rt, alloc, &hub, reader, size) },
-    );
-    let keyboard = keyboard?;
-    let Reader { pass, tty, found } = reader?;
-    hub.join(&mut steward, keyboard);
-    hub.join(&mut steward, pass);
-    if steward.out() != 0 {
-        return Err("a pass is out".into());
-    }
-    let run = hub.close(steward);
-    Ok(Outcome { found, tty, run })
+    let (keyboard, reader) = both(rt, alloc, &hub, keyboard, reader, size)?;
+    closed(hub, steward, keyboard, reader)
 }
 
 fn type_session<R: Threads + Wait + Sync>(
@@ -222,15 +257,31 @@ fn type_session<R: Threads + Wait + Sync>(
     type_beside::<Brand, R>(rt, alloc, s, world, tty)
 }
 
-#[test]
-fn a_line_is_read_by_turns(rt: HostRuntime) -> Result<(), Fail> {
-    let session = read(rt.alloc(), SESSION.as_bytes())?;
+fn typed<R: Threads + Wait + Sync>(rt: &R, alloc: Global) -> Result<Outcome, Fail> {
+    let session = read(alloc, SESSION.as_bytes())?;
+    type_with(rt, alloc, &session)
+}
+
+fn type_with<R: Threads + Wait + Sync>(
+    rt: &R,
+    alloc: Global,
+    s: &Session,
+) -> Result<Outcome, Fail> {
+    let tty = started(alloc)?;
+    type_session(rt, alloc, s, tty)
+}
+
+fn started(alloc: Global) -> Result<Tty, Fail> {
     let t = Termios::usual();
     if !t.valid() {
         return Err("no settings".into());
     }
-    let tty = Tty::start(rt.alloc(), t)?;
-    let outcome = type_session(&rt, rt.alloc(), &session, tty)?;
+    Ok(Tty::start(alloc, t)?)
+}
+
+#[test]
+fn a_line_is_read_by_turns(rt: HostRuntime) -> Result<(), Fail> {
+    let outcome = typed(&rt, rt.alloc())?;
     assert!(rt; outcome.found, "a line was given");
     assert!(rt;
         outcome.tty.cooked().line() == b"a\n".as_slice(),

@@ -1,4 +1,4 @@
-//! Tests of certificates: of played sessions, of a raced one, and of texts.
+//! Tests of certificates: of a raced session, and of texts.
 #![tactic(auto)]
 
 #[cfg(test)]

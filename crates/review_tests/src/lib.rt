@@ -1,4 +1,4 @@
-//! Tests of reviews: what ears are told of a journal.
+//! Tests of reviews: how often ears are asked.
 #![tactic(auto)]
 
 #[cfg(test)]

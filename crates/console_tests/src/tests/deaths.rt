@@ -6,7 +6,6 @@ use super::{check_row, is_answered, open};
 use std::alloc::Global;
 use std::process::Abort;
 use std::test::Fail;
-use vt_base::NoMemory;
 use vt_world::World;
 
 // Two processes, each at home at a console of its own.
@@ -59,7 +58,7 @@ fn check_end(
     after: usize,
     reply: &str,
     front: u16,
-) -> Result<(), NoMemory> {
+) -> Result<(), Fail> {
     for k in 0..HANDOVER.len() {
         if k < after {
             check_row(by, alloc, world, HANDOVER[k])?;
@@ -72,8 +71,7 @@ fn check_end(
 
 fn end(by: &impl Abort, alloc: Global, after: usize, reply: &str, front: u16) -> Result<(), Fail> {
     let mut world = open(alloc, SESSION)?;
-    check_end(by, alloc, &mut world, after, reply, front)?;
-    Ok(())
+    check_end(by, alloc, &mut world, after, reply, front)
 }
 
 #[test]

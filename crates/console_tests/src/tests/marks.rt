@@ -4,6 +4,7 @@ use super::row::Row;
 use super::row::Row::{Call, Drawn, Front, Hops, Marks, Sized, Waits};
 use super::{answers, check, journal, open};
 use std::alloc::Global;
+use std::process::Abort;
 use std::test::Fail;
 use vt_base::{Bytes, CallerNo, NoMemory};
 use vt_events::Event;
@@ -110,11 +111,15 @@ fn written(alloc: Global, world: &mut World, caller: CallerNo) -> Result<Bytes, 
     journal(alloc, caller, event, reply)
 }
 
+fn check_written(by: &impl Abort, alloc: Global, world: &mut World) -> Result<(), Fail> {
+    let caller = CallerNo::new(1).ok_or("no caller")?;
+    let journal = written(alloc, world, caller)?;
+    assert!(by; answers(journal.as_slice(), "err 9"));
+    Ok(())
+}
+
 #[test]
 fn none_is_a_spare(rt: HostRuntime) -> Result<(), Fail> {
-    let caller = CallerNo::new(1).ok_or("no caller")?;
     let mut world = open(rt.alloc(), TWO)?;
-    let journal = written(rt.alloc(), &mut world, caller)?;
-    assert!(rt; answers(journal.as_slice(), "err 9"));
-    Ok(())
+    check_written(&rt, rt.alloc(), &mut world)
 }

@@ -103,12 +103,20 @@ fn fill(alloc: Global, world: &mut World) -> Result<(), NoMemory> {
 }
 
 // The same, and these rows.
+fn fill_and_check(
+    by: &impl Abort,
+    alloc: Global,
+    world: &mut World,
+    rows: &[Row],
+) -> Result<(), Fail> {
+    check_all(by, alloc, world, FRONT)?;
+    fill(alloc, world)?;
+    check_all(by, alloc, world, rows)
+}
+
 fn check_filled(by: &impl Abort, alloc: Global, rows: &[Row]) -> Result<(), Fail> {
     let mut world = open(alloc, TYPED)?;
-    check_all(by, alloc, &mut world, FRONT)?;
-    fill(alloc, &mut world)?;
-    check_all(by, alloc, &mut world, rows)?;
-    Ok(())
+    fill_and_check(by, alloc, &mut world, rows)
 }
 
 // Console 1 comes to the front.

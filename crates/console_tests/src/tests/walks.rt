@@ -163,7 +163,20 @@ fn check_walk(
     Ok(asked.get())
 }
 
-// The same of a session's program.
+// The same of one of these programs.
+fn check_nth(
+    by: &impl Abort,
+    alloc: Global,
+    programs: &[Program],
+    p: usize,
+    calls: &[(&str, &str)],
+) -> Result<u32, Fail> {
+    match programs.get(p) {
+        Some(program) => Ok(check_walk(by, alloc, program, calls)?),
+        None => Err("no such process".into()),
+    }
+}
+
 fn check_program(
     by: &impl Abort,
     alloc: Global,
@@ -172,10 +185,7 @@ fn check_program(
     calls: &[(&str, &str)],
 ) -> Result<u32, Fail> {
     let session = read(alloc, session.as_bytes())?;
-    match session.programs().get(p) {
-        Some(program) => Ok(check_walk(by, alloc, program, calls)?),
-        None => Err("no such process".into()),
-    }
+    check_nth(by, alloc, session.programs(), p, calls)
 }
 
 #[test]

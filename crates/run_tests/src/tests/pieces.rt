@@ -65,8 +65,8 @@ fn check_pieces<R: Abort>(
 fn pieces_are_counted_as_bytes(rt: HostRuntime) -> Result<(), Fail> {
     check_pieces(&rt, rt.alloc(), 67_108_864, 65_537, 0, "|a  |\n")?;
     check_pieces(&rt, rt.alloc(), 67_108_865, 65_537, 6, "")?;
-    check_pieces(&rt, rt.alloc(), 67_108_864, 1, 0, "|a  |\n")?;
-    check_pieces(&rt, rt.alloc(), 67_108_865, 1, 6, "")?;
+    check_pieces(&rt, rt.alloc(), 67_108_864, 16, 0, "|a  |\n")?;
+    check_pieces(&rt, rt.alloc(), 67_108_865, 16, 6, "")?;
     check_pieces(&rt, rt.alloc(), 4, 1, 0, "|a  |\n")?;
     Ok(())
 }
