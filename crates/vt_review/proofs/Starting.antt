@@ -7,7 +7,7 @@ use Rattle.vt_procs.specs.declared.config.Config.{Config}
 use Rattle.vt_world.specs.Start.{opening}
 use Rattle.vt_world.specs.State.{WorldState}
 
-pub begins : (s : SessionView) (w : WorldState) (c : Config) (t : Tables) → c ≡ s.config → c.keyboards ≡ 1 → t ≡ s.tables
+pub begins : (s : SessionView) (w : WorldState) (c : Config) (t : Tables) → c ≡ s.config → t ≡ s.tables
     → w ≡ opening c.size.rows c.size.cols c.consoles c.front c.keyboards c.procs t → w ≡ start_of s
-begins s w c t config one tables is =
-    is ∙ (λ i. opening (config i).size.rows (config i).size.cols (config i).consoles (config i).front (one i) (config i).procs (tables i))
+begins s w c t config tables is =
+    is ∙ (λ i. opening (config i).size.rows (config i).size.cols (config i).consoles (config i).front (config i).keyboards (config i).procs (tables i))

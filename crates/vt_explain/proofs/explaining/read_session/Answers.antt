@@ -19,7 +19,7 @@ history c = moments (start_of c.args.s.now) c.args.j.now.entries
 world_is : (c : goal.In_ok-reader) → c.in_ok-world.world ≡ start_of c.args.s.now
 world_is c =
     c.in_ok-world.ensures
-    ∙ (λ i. opening (c.config.ensures.same i).size.rows (c.config.ensures.same i).size.cols (c.config.ensures.same i).consoles (c.config.ensures.same i).front (c.config.ensures.one i) (c.config.ensures.same i).procs (c.key_tables.ensures i))
+    ∙ (λ i. opening (c.config.ensures.same i).size.rows (c.config.ensures.same i).size.cols (c.config.ensures.same i).consoles (c.config.ensures.same i).front (c.config.ensures.same i).keyboards (c.config.ensures.same i).procs (c.key_tables.ensures i))
 
 reader_is : (c : goal.In_ok-reader) → c.in_ok-reader.reader ≡ known (history c)
 reader_is c =
