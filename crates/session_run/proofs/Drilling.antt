@@ -2,12 +2,14 @@
 use Rattle.std.proofs.Common.{◌≡◌, ℕ, suc, zero, ◌+◌, ◌-◌, ◌*◌, ◌<◌, ◌≤◌, true, map, List, [], ◌∷◌, ◌++◌, length, refl, sym, ap, subst, ◌∙◌, append-nil, append_assoc, arith}
 use Rattle.std.proofs.lemmas.List.{length_push}
 use Rattle.std.proofs.lemmas.List.FromFn.{map-range_with_len_more}
-use Rattle.std.proofs.lemmas.List.Elements.{All-push}
+use Rattle.std.proofs.lemmas.List.Elements.{All-cons, All-nil, All-push}
 use Rattle.std.specs.List.{All, range_with_len}
 use Rattle.session_run.specs.Drill.{Draws, each, keys}
-use Rattle.session_text.specs.Sessions.{ArePrograms, IsScriptProgram}
+use Rattle.session_text.specs.Sessions.{ArePrograms, IsKeysProgram, IsScriptProgram}
 use Rattle.session_text.specs.declared.program.Program.{Program}
 use Rattle.session_text.specs.declared.program.Program.TheVariants as program
+use Rattle.table_fields.specs.Fields.{most_scan_bytes}
+use Rattle.vt_base.specs.Bytes.{Text}
 use Rattle.vt_procs.specs.declared.proc_start.ProcStart.{ProcStart}
 
 -- i of n were drawn from p on: with the others they are all
@@ -107,10 +109,22 @@ scripts_more n (program.Keys bytes ∷ scripts) list_new made have fit pushed =
     (have.0, omega (arith, length_push scripts made, have.1), All-push IsScriptProgram scripts made have.2 fit)
 scripts_more n (program.Script items acts ∷ scripts) list_new made have fit pushed = absurd have
 
-pub are_programs : (n : ℕ) (list : List Program) → HaveScripts n list → ArePrograms n list
-are_programs n [] have = have
-are_programs n (program.Keys bytes ∷ scripts) have = (omega (arith, have.0), have.1, have.2)
-are_programs n (program.Script items acts ∷ scripts) have = have
+pub are_programs : (n : ℕ) (list : List Program) → HaveScripts n list → ArePrograms n 1 list
+are_programs n [] have = absurd have
+are_programs n (program.Keys bytes ∷ scripts) have = record {
+  first = program.Keys bytes;
+  scripts = scripts;
+  further = [];
+  are = ap (λ list. program.Keys bytes ∷ list) (sym (append-nil scripts));
+  many_scripts = have.1;
+  many_keys = refl;
+  each_script = have.2;
+  each_keys = All-cons IsKeysProgram (program.Keys bytes) [] (few bytes have.0) (All-nil IsKeysProgram);
+}
+  where
+    few : (bytes : Text) → length bytes.bytes ≤ 20_000 → length bytes.bytes ≤ most_scan_bytes
+    few bytes low = omega (arith, low)
+are_programs n (program.Script items acts ∷ scripts) have = absurd have
 
 abbrev pub start_at : ℕ → ProcStart
 start_at p = record { home = p; privileged = true }

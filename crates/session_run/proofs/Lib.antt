@@ -1,8 +1,8 @@
 pub mod Drilling
 pub mod Ends
 pub mod FinalTexts
+pub mod HavePrograms
 pub mod Joins
-pub mod Numbers
 pub mod Plays
 pub mod Races
 pub mod Sessions

@@ -6,14 +6,14 @@ use Rattle.std.proofs.lemmas.List.{get_or-set_same, get_or-set_other, length-map
 use Rattle.std.proofs.lemmas.List.Elements.{filter-append}
 use Rattle.std.proofs.lemmas.List.Sums.{count_by-le-length, sum_by-append}
 use Rattle.std.proofs.lemmas.Option.{none-some, same_Some}
-use Rattle.std.specs.Prelude.{◌==◌, count_by, slice_get, if◌then◌else◌}
+use Rattle.std.specs.Prelude.{◌==◌, count_by, if◌then◌else◌}
 use Rattle.session_order.specs.Calls.{as_meant, call_of, calls_by, next_by, next_of}
 use Rattle.session_order.specs.Ends.{Setup}
 use Rattle.session_order.specs.Follows.{is_waiting}
 use Rattle.session_order.specs.Meant.{NextIsMeant, NextIsPlain, plain_history}
 use Rattle.session_order.specs.Serial.{Played, call_now, entry_at}
 use Rattle.session_run.specs.Playing.{IsAt, PlayerView, StandsAfter}
-use Rattle.session_text.specs.Programs.{Call, call, next}
+use Rattle.session_text.specs.Programs.{Call, call, next, program_of}
 use Rattle.session_text.specs.Walks.{Place, Stands}
 use Rattle.session_text.specs.declared.program.Program.{Program}
 use Rattle.vt_events.specs.Plain.{plain_entry, plain_event, plain_reply}
@@ -36,7 +36,7 @@ next_now false next e is = is
 
 -- a call that p can make is its next one
 pub now-next : (o : Setup) (h : List Entry) (p : ℕ) (e : Event) (program : Program)
-    → slice_get o.programs p ≡ Some program → call_now o h p ≡ Some e
+    → program_of o.programs p ≡ Some program → call_now o h p ≡ Some e
     → next program (calls_by p h) ≡ Some e
 now-next o h p e program is now =
     ap (λ found. next_of found (calls_by p h)) (sym is)
@@ -135,7 +135,7 @@ pub record Enters (p : ℕ) (e : Event) (program : Program) (before after : Play
   pub stop : after.stop ≡ before.stop
 
 pub entered : NextIsMeant → NextIsPlain → ReplayGrows → (o : Setup) (t : Played) (p : ℕ) (e : Event) (program : Program) (before after : PlayerView)
-    → Enters p e program before after → slice_get o.programs p ≡ Some program → t.stop ≡ None
+    → Enters p e program before after → program_of o.programs p ≡ Some program → t.stop ≡ None
     → call_now o t.history p ≡ Some e → IsAt o t before
     → IsAt o (record { history = t.history ++ entry_at o.start t.history p e ∷ []; stop = None }) after
 entered is_meant is_plain grows o t p e program before after enters is going now at =
@@ -164,10 +164,10 @@ entered is_meant is_plain grows o t p e program before after enters is going now
       limits = ap (λ (log : Logged). log.limits) enters.logged ∙ at.limits;
       replayed = sym (grows o.start h new ∙ ap (λ (x : Outcome). x.world) stepped);
       walks = ap length enters.walks ∙ length-set before.walks p enters.moved ∙ at.walks;
-      stand = λ q other walk is_other read_other. ⊎_elim
+      stand = λ q other walk low is_other read_other. ⊎_elim
           (λ mine.
           let same_program : program ≡ other =
-          same_Some program other (sym is ∙ ap (slice_get o.programs) mine ∙ is_other) in
+          same_Some program other (sym is ∙ ap (program_of o.programs) mine ∙ is_other) in
           let same_walk : walk ≡ enters.moved =
           read_other
           ∙ (λ i. get_or (enters.walks i) (sym mine i) walk)
@@ -176,7 +176,7 @@ entered is_meant is_plain grows o t p e program before after enters is going now
           ap (λ c. calls_by p h ++ c ∷ []) call_is ∙ sym (calls_mine h new p refl) ∙ ap (λ k. calls_by k (h ++ new ∷ [])) mine in
           let stands : StandsAfter program enters.moved (calls_by p h ++ as_meant (call e enters.reply) ∷ []) =
           stands_more is_meant program enters.walk enters.moved (calls_by p h) e enters.reply
-          (at.stand p program enters.walk is enters.read) enters.took next_is in
+          (at.stand p program enters.walk enters.known is enters.read) enters.took next_is in
           subst (λ m. StandsAfter other walk m) made
           (subst (λ w. StandsAfter other w (calls_by p h ++ as_meant (call e enters.reply) ∷ [])) (sym same_walk)
           (subst (λ x. StandsAfter x enters.moved (calls_by p h ++ as_meant (call e enters.reply) ∷ [])) same_program stands)))
@@ -185,7 +185,7 @@ entered is_meant is_plain grows o t p e program before after enters is going now
           read_other
           ∙ ap (λ ws. get_or ws q walk) enters.walks
           ∙ get_or-set_other before.walks p q enters.moved walk (λ same. apart (sym same)) in
-          subst (StandsAfter other walk) (sym (calls_others h new q apart)) (at.stand q other walk is_other read))
+          subst (StandsAfter other walk) (sym (calls_others h new q apart)) (at.stand q other walk low is_other read))
           (cases_eq p q);
       places = ap length enters.counts ∙ length-set before.counts p _ ∙ at.places;
       counted = λ q within.

@@ -1,16 +1,18 @@
 -- A race whose passes are all taken in makes the history right.
-use Rattle.std.proofs.Common.{◌≡◌, ℕ, ◌<◌, suc, false, ⊎_elim, arith, List, [], ◌∷◌, get_or, length, map, cond, Option, Some, None, refl, sym, ap, ◌∙◌, subst}
-use Rattle.std.proofs.lemmas.Bool.{cases_lt}
+use Rattle.std.proofs.Common.{◌≡◌, ℕ, ◌≤◌, suc, true, false, ⊎_elim, arith, List, [], ◌∷◌, get_or, length, map, cond, Option, Some, None, refl, sym, ap, ◌∙◌, subst}
+use Rattle.std.proofs.lemmas.Bool.{both_ways, cases_Bool, cases_lt}
 use Rattle.std.proofs.lemmas.Option.{get_or_from_slice_get, none-some, same_Some, slice_get_within}
-use Rattle.std.specs.Prelude.{count_by, slice_get}
+use Rattle.std.specs.Prelude.{count_by, is_some, slice_get}
 use Rattle.atomic_table.specs.Seated.{TableId}
 use Rattle.session_order.specs.Calls.{call_of, made_by}
 use Rattle.session_order.specs.Ends.{Ends, Setup}
 use Rattle.session_order.specs.Follows.{Follows, is_waiting}
 use Rattle.session_order.specs.Races.{HasEnded, HasNext, IsClosed, IsRun, RaceIsRight}
 use Rattle.session_order.specs.Sessions.{setup_of, start_of}
-use Rattle.session_run.specs.Racing.{AreHome, IsRunOf, Works}
-use Rattle.session_text.specs.Programs.{next}
+use Rattle.session_run.proofs.HavePrograms.{caller-at, caller-known}
+use Rattle.session_run.specs.Callers.{callers_in, has_program}
+use Rattle.session_run.specs.Racing.{AreHome, IsNone, IsRunOf, Works}
+use Rattle.session_text.specs.Programs.{next, program_of}
 use Rattle.session_text.specs.Sessions.{SessionView}
 use Rattle.session_text.specs.declared.program.Program.{Program}
 use Rattle.turn_lock.specs.declared.seal.Seal.{Seal}
@@ -18,7 +20,7 @@ use Rattle.vt_hub.specs.Closed.{IsPart, IsStopped, IsWhole}
 use Rattle.vt_hub.specs.Views.{PassView, StewardView, is_out}
 use Rattle.vt_hub.specs.declared.run.Run.{Run}
 use Rattle.vt_hub.specs.declared.stand.Stand.{Stand}
-use Rattle.vt_hub.specs.declared.stand.Stand.TheVariants.{Unmade}
+use Rattle.vt_hub.specs.declared.stand.Stand.TheVariants.{Unmade, Home}
 use Rattle.vt_journal.specs.Log.{Logged}
 use Rattle.vt_journal.specs.Room.{tail_at}
 use Rattle.vt_journal.specs.declared.full.Full.{Full}
@@ -37,15 +39,31 @@ none_out (s ∷ stands) each =
     count_by-cons : ◌≡◌ {A = ℕ} (cond (is_out s) 1 0) 0 → count_by is_out stands ≡ 0 → count_by is_out (s ∷ stands) ≡ 0
     count_by-cons first others = grind (arith, first, others)
 
+-- all passes of these callers were taken in
+abbrev pub AllHome : List Program → TableId → StewardView → Type 0
+AllHome programs here s = AreHome programs here (length (callers_in programs)) s
+
+-- who has no program has no pass
+no_pass : (programs : List Program) (k : ℕ) → ((has_program programs k ≡ true) → k ≤ 67 → ⊥)
+    → IsNone (callers_in programs) (length (callers_in programs)) k
+no_pass programs k none i within is =
+    let known = caller-known programs i within in
+    none (ap (has_program programs) (sym is) ∙ known.0) (omega (arith, known.1, is))
+
 pub all-home : (programs : List Program) (here : TableId) (s : StewardView)
-    → AreHome programs here (length programs) s → count_by is_out s.stands ≡ 0
+    → AllHome programs here s → count_by is_out s.stands ≡ 0
 all-home programs here s home = none_out s.stands (λ k. ⊎_elim
-    (λ low. ap is_out (home.home k low))
-    (λ past. ap is_out (home.rest k past))
-    (cases_lt k (length programs)))
+    (λ has. ⊎_elim
+    (λ past. ap is_out (home.rest k (no_pass programs k (λ _ low. let no : ⊥ = omega (arith, past, low) in no))))
+    (λ low.
+    let at = caller-at programs k (omega (arith, low)) has in
+    ap is_out (subst (λ p. get_or s.stands p Unmade ≡ Home) at.2 (home.home at.0 at.1)))
+    (cases_lt 67 k))
+    (λ hasnt. ap is_out (home.rest k (no_pass programs k (λ has _. both_ways (has_program programs k) hasnt has))))
+    (cases_Bool (has_program programs k)))
 
 -- what is known of a pass that was taken in
-module _ (o : Setup) (here : TableId) (s : StewardView) (world : WorldState) (log : Logged) (stop : Option Full) (whole : IsWhole o.start o.limits s world log stop) (home : AreHome o.programs here (length o.programs) s) where
+module _ (o : Setup) (here : TableId) (s : StewardView) (world : WorldState) (log : Logged) (stop : Option Full) (whole : IsWhole o.start o.limits s world log stop) (home : AllHome o.programs here s) (low : (p : ℕ) → has_program o.programs p ≡ true → p ≤ 67) where
   part : (place : ℕ) (x : PassView) → slice_get s.joined place ≡ Some x
       → IsPart o.start log.entries stop x
   part place x is =
@@ -53,7 +71,7 @@ module _ (o : Setup) (here : TableId) (s : StewardView) (world : WorldState) (lo
       (whole.parts place x (slice_get_within s.joined place x is))
 
   works : (place : ℕ) (x : PassView) (program : Program) → slice_get s.joined place ≡ Some x
-      → slice_get o.programs x.number ≡ Some program → Works program x
+      → program_of o.programs x.number ≡ Some program → Works program x
   works place x program is known = (home.ran place x is).1.works program known
 
   -- a pass that met no stop, where there is none
@@ -84,12 +102,12 @@ module _ (o : Setup) (here : TableId) (s : StewardView) (world : WorldState) (lo
   closed caller names = record {
     within = whole.within;
     free = whole.free;
-    known = λ p past. whole.unmade p (home.rest p past);
+    known = λ p none. whole.unmade p (home.rest p (no_pass o.programs p (λ has _. both_ways (has_program o.programs p) (ap is_some none) has)));
     stops = λ full is.
         let found = names.by full is in
         let it : IsStopped o.limits world log.entries s.joined full = found.0 in
         record {
-          known = subst (λ p. p < length o.programs) found.1 (home.ran it.place it.pass it.here).0;
+          known = subst (λ p. has_program o.programs p ≡ true) found.1 (home.ran it.place it.pass it.here).0;
           goes = ap (λ w. is_waiting w caller) (sym whole.replayed) ∙ ap (is_waiting world) (sym found.1) ∙ it.goes;
           no_room = it.no_room;
           numbers = it.numbers;
@@ -97,14 +115,17 @@ module _ (o : Setup) (here : TableId) (s : StewardView) (world : WorldState) (lo
   }
 
   ended : (caller : ℕ) → Names caller → (p : ℕ) (program : Program)
-      → slice_get o.programs p ≡ Some program
+      → program_of o.programs p ≡ Some program
       → HasEnded program (made_by p log.entries) stop (p ≡ caller)
   ended caller names p program known =
-      let mine = home.each p (slice_get_within o.programs p program known) in
+      let has : has_program o.programs p ≡ true = ap is_some known in
+      let at = caller-at o.programs p (low p has) has in
+      let mine = home.each at.0 at.1 in
+      let same : mine.1.number ≡ p = mine.3 ∙ at.2 in
       let x : PassView = mine.1 in
       let is : IsPart o.start log.entries stop x = part mine.0 x mine.2 in
-      let work : Works program x = works mine.0 x program mine.2 (ap (slice_get o.programs) mine.3 ∙ known) in
-      let made : x.mine ≡ made_by p log.entries = is.mine ∙ ap (λ n. made_by n log.entries) mine.3 in
+      let work : Works program x = works mine.0 x program mine.2 (ap (program_of o.programs) same ∙ known) in
+      let made : x.mine ≡ made_by p log.entries = is.mine ∙ ap (λ n. made_by n log.entries) same in
       record {
         run = subst (IsRun program) made work.run;
         over = λ none.
@@ -116,7 +137,7 @@ module _ (o : Setup) (here : TableId) (s : StewardView) (world : WorldState) (lo
             let his : it.pass.mine ≡ made_by p log.entries =
             (part it.place it.pass it.here).mine ∙ ap (λ n. made_by n log.entries) number in
             let does : Works program it.pass =
-            works it.place it.pass program it.here (ap (slice_get o.programs) number ∙ known) in
+            works it.place it.pass program it.here (ap (program_of o.programs) number ∙ known) in
             subst (λ es. HasNext program es full.charge) his
             (does.left (record { by = it.pass.number; what = full }) it.met refl);
       }
@@ -131,12 +152,13 @@ module _ (o : Setup) (here : TableId) (s : StewardView) (world : WorldState) (lo
 pub race-raced : RaceIsRight → (s : SessionView) (start : WorldState) (most : Limits) (programs : List Program) (here : TableId) (steward : StewardView) (run : Run)
     → start ≡ start_of s → most ≡ s.limits → programs ≡ s.programs
     → IsWhole start most steward run.world run.log run.stop
-    → AreHome programs here (length programs) steward → IsRunOf s run
-race-raced right s start most programs here steward run is_start is_most same given taken =
+    → AllHome programs here steward → ((p : ℕ) → has_program programs p ≡ true → p ≤ 67) → IsRunOf s run
+race-raced right s start most programs here steward run is_start is_most same given taken low =
     let whole : IsWhole (start_of s) s.limits steward run.world run.log run.stop =
     subst (λ st. IsWhole st s.limits steward run.world run.log run.stop) is_start
     (subst (λ m. IsWhole start m steward run.world run.log run.stop) is_most given) in
-    let home : AreHome s.programs here (length s.programs) steward =
-    subst (λ ps. AreHome ps here (length ps) steward) same taken in
-    let holds = race-holds (setup_of s) here steward run.world run.log run.stop whole home right in
+    let home : AllHome s.programs here steward = subst (λ ps. AllHome ps here steward) same taken in
+    let few : (p : ℕ) → has_program s.programs p ≡ true → p ≤ 67 =
+    subst (λ ps. (p : ℕ) → has_program ps p ≡ true → p ≤ 67) same low in
+    let holds = race-holds (setup_of s) here steward run.world run.log run.stop whole home few right in
     record { world = whole.replayed; legal = whole.legal; follows = holds.0; ends = holds.1 }

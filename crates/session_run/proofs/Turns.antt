@@ -1,19 +1,19 @@
 -- A turn of a play: its call is entered, finds no room, or isn't there.
-use Rattle.std.proofs.Common.{◌≡◌, ℕ, ◌+◌, ◌<◌, true, false, arith, List, [], ◌∷◌, ◌++◌, length, get_or, replicate, Option, Some, None, refl, sym, ap, ◌∙◌, subst}
+use Rattle.std.proofs.Common.{◌≡◌, ℕ, ◌+◌, ◌<◌, ◌≤◌, Bool, true, false, true≢false, cond, arith, List, [], ◌∷◌, ◌++◌, filter, length, get_or, replicate, Option, Some, None, refl, sym, ap, ◌∙◌, subst}
 use Rattle.std.proofs.lemmas.Bool.{and_from, and_parts, false_from_ne_true, le-leb, leb-true, lt-ltb, ltb-true}
 use Rattle.std.proofs.lemmas.List.{get_or-replicate, length-map, length-replicate}
 use Rattle.std.proofs.lemmas.List.Folds.{fold-map}
-use Rattle.std.proofs.lemmas.Option.{slice_get_within}
-use Rattle.std.specs.List.{All, sum_by}
-use Rattle.std.specs.Prelude.{is_some, nat_le, nat_lt, slice_get, if◌then◌else◌}
+use Rattle.std.specs.List.{All, range_with_len, sum_by}
+use Rattle.std.specs.Prelude.{is_some, nat_le, nat_lt, if◌then◌else◌}
 use Rattle.session_order.specs.Calls.{calls_by, next_by, next_of}
 use Rattle.session_order.specs.Ends.{Setup}
 use Rattle.vt_journal.specs.Room.{full_at, has_room}
 use Rattle.session_order.specs.Follows.{is_waiting}
 use Rattle.session_order.specs.Meant.{NextIsMeant, plain_history}
-use Rattle.session_order.specs.Serial.{Played, call_now, calls, entry_at, nothing_played, turn}
+use Rattle.session_order.specs.Serial.{Played, call_now, calls, entry_at, nothing_played, round, turn, turns}
+use Rattle.session_run.specs.Callers.{callers_in, has_program}
 use Rattle.session_run.specs.Playing.{IsAt, PlayerView, StandsAfter}
-use Rattle.session_text.specs.Programs.{Call, next}
+use Rattle.session_text.specs.Programs.{Call, next, program_of}
 use Rattle.session_text.specs.Walks.{Place, Stands}
 use Rattle.session_text.specs.declared.program.Program.{Program}
 use Rattle.vt_events.specs.Charge.{charge_of}
@@ -29,14 +29,13 @@ use Rattle.vt_procs.specs.Tickets.{is_open}
 use Rattle.vt_world.specs.History.{replay}
 
 -- a walk that stands says which call p can make
-pub now-is : NextIsMeant → (o : Setup) (t : Played) (view : PlayerView) (programs : List Program) (p : ℕ) (program : Program) (walk : Place) (e : Option Event)
+pub now-is : NextIsMeant → (o : Setup) (t : Played) (view : PlayerView) (p : ℕ) (program : Program) (walk : Place) (e : Option Event)
     → ((made : List Call) → Stands program walk made → e ≡ next program made)
-    → o.programs ≡ programs → slice_get programs p ≡ Some program
+    → p ≤ 67 → program_of o.programs p ≡ Some program
     → walk ≡ get_or view.walks p walk → is_open (caller_at view.world.callers p).waiting ≡ false
     → IsAt o t view → e ≡ call_now o t.history p
-now-is is_meant o t view programs p program walk e calls same here read shut at =
-    let there : slice_get o.programs p ≡ Some program = ap (λ ps. slice_get ps p) same ∙ here in
-    let after : StandsAfter program walk (calls_by p t.history) = at.stand p program walk there read in
+now-is is_meant o t view p program walk e calls low there read shut at =
+    let after : StandsAfter program walk (calls_by p t.history) = at.stand p program walk low there read in
     let waits : is_waiting (replay o.start t.history) p ≡ false =
     sym (ap (λ w. is_waiting w p) at.replayed) ∙ shut in
     let next_is : e ≡ next_by o.programs p t.history =
@@ -53,6 +52,56 @@ pub none-now : (o : Setup) (t : Played) (view : PlayerView) (p : ℕ)
 none-now o t view p open_one at =
     ap (λ b. if b then None else next_by o.programs p t.history)
     (sym (sym (ap (λ w. is_waiting w p) at.replayed) ∙ open_one))
+
+-- and who has no program
+none_of : (waits : Bool) → ◌≡◌ {A = Option Event} (if waits then None else None) None
+none_of true = refl
+none_of false = refl
+
+turn_nobody : (o : Setup) (p : ℕ) (history : List Entry) (stop : Option Full) → program_of o.programs p ≡ None
+    → turn o p (record { history = history; stop = stop }) ≡ record { history = history; stop = stop }
+turn_nobody o p history (Some full) none = refl
+turn_nobody o p history None none =
+    ap (λ e. calls o p e history)
+    (ap (λ found. if is_waiting (replay o.start history) p then None else next_of found (calls_by p history)) none
+    ∙ none_of (is_waiting (replay o.start history) p))
+
+pub turn-nobody : (o : Setup) (t : Played) (p : ℕ) (view : PlayerView) → program_of o.programs p ≡ None
+    → IsAt o t view → IsAt o (turn o p t) view
+turn-nobody o t p view none at =
+    subst (λ x. IsAt o x view) (sym (turn_nobody o p t.history t.stop none)) at
+
+-- so a round is as good without them
+found_none : (found : Option Program) → is_some found ≡ false → found ≡ None
+found_none None is = refl
+found_none (Some p) is = absurd (true≢false is)
+
+-- turns of those that are left, as of all
+abbrev Skips : Setup → List ℕ → Type 0
+Skips o callers = (t : Played) → turns o (filter (has_program o.programs) callers) t ≡ turns o callers t
+
+skip_one : (o : Setup) (has : Bool) (p : ℕ) (callers : List ℕ) (t : Played) → has_program o.programs p ≡ has
+    → Skips o callers
+    → turns o (cond has (p ∷ filter (has_program o.programs) callers) (filter (has_program o.programs) callers)) t
+    ≡ turns o (p ∷ callers) t
+skip_one o true p callers t is more = more (turn o p t)
+skip_one o false p callers t is more =
+    more t
+    ∙ ap (turns o callers) (sym (turn_nobody o p t.history t.stop (found_none (program_of o.programs p) is)))
+
+turns_skip : (o : Setup) (callers : List ℕ) → Skips o callers
+turns_skip o [] t = refl
+turns_skip o (p ∷ callers) t =
+    skip_one o (has_program o.programs p) p callers t refl (turns_skip o callers)
+
+pub round-is : (o : Setup) (t : Played) → turns o (callers_in o.programs) t ≡ round o t
+unfolding callers_in
+round-is o t = turns_skip o (range_with_len 0 68) t
+
+-- a play that goes on has not stopped
+pub not-stopped : (stop : Option Full) → is_some stop ≡ false → stop ≡ None
+not-stopped None is = refl
+not-stopped (Some full) is = absurd (true≢false is)
 
 -- the entries as they are meant are as many, and count for as much
 pub lengths : (o : Setup) (t : Played) (view : PlayerView) → IsAt o t view
@@ -165,7 +214,7 @@ turn-fills o t p e before full none at going now is =
 -- a player before its first call
 pub first-at : (o : Setup) (view : PlayerView) → view.world ≡ o.start → view.log.entries ≡ []
     → view.log.limits ≡ o.limits → view.counts ≡ replicate 68 0 → view.stop ≡ None
-    → length view.walks ≡ length o.programs
+    → length view.walks ≡ 68
     → All (λ walk. (p : Program) → Stands p walk []) view.walks → IsAt o nothing_played view
 first-at o view opened empty limits zero going many stand = record {
   history = ap plain_history empty;
@@ -173,8 +222,8 @@ first-at o view opened empty limits zero going many stand = record {
   limits = limits;
   replayed = opened;
   walks = many;
-  stand = λ q program walk is read.
-      let within : q < length view.walks = omega (arith, slice_get_within o.programs q program is, many) in
+  stand = λ q program walk low is read.
+      let within : q < length view.walks = omega (arith, low, many) in
       record {
         calls = [];
         stands = subst (λ w. Stands program w []) (sym read) (stand q walk within program);

@@ -1,5 +1,5 @@
 -- A session that is made from a number, draw by draw. This project's own.
-use Rattle.std.specs.Prelude.{◌≡◌, ℕ, zero, suc, ◌+◌, ◌-◌, ◌*◌, ◌/◌, ◌%◌, ◌^◌, ◌==◌, true, Bool, List, [], ◌∷◌, ◌++◌, Result, Ok, codes, decimal, map, replicate, if◌then◌else◌}
+use Rattle.std.specs.Prelude.{◌≡◌, ℕ, zero, suc, ◌+◌, ◌-◌, ◌*◌, ◌/◌, ◌%◌, ◌^◌, ◌==◌, true, List, [], ◌∷◌, ◌++◌, Ok, codes, decimal, map, replicate, if◌then◌else◌}
 use Rattle.std.specs.List.{range_with_len}
 use Rattle.key_compile.specs.Compiled.{AreTablesOf}
 use Rattle.key_tables.specs.Tables.{Tables}
@@ -15,7 +15,6 @@ use Rattle.table_fields.specs.Fields.{keymap_of}
 use Rattle.vt_events.specs.Plain.{text}
 use Rattle.vt_events.specs.declared.event.Event.{Event}
 use Rattle.vt_events.specs.declared.event.Event.TheVariants as event
-use Rattle.vt_procs.specs.declared.proc_start.ProcStart.{ProcStart}
 
 -- what a draw makes of the number that was drawn last
 abbrev pub drawn : ℕ → ℕ
@@ -141,6 +140,7 @@ pub record IsDrill (n seed : ℕ) (s : SessionView) : Type 0 where
   -- consoles 1 to 8
   pub consoles : s.config.consoles ≡ 2 ^ 9 - 2
   pub front : s.config.front ≡ 1
+  pub keyboards : s.config.keyboards ≡ 1
   pub starts :
       s.config.procs ≡ map (λ p. record { home = p; privileged = true }) (range_with_len 1 8)
   pub events : s.limits.events ≡ 1000000

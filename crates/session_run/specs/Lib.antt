@@ -1,3 +1,4 @@
+pub mod Callers
 pub mod Drill
 pub mod Final
 pub mod Playing

@@ -1,10 +1,10 @@
 -- A play on its way. No public clause names this.
-use Rattle.std.specs.Prelude.{◌≡◌, ℕ, ◌≤◌, ◌==◌, List, length, count_by, map, Option, Some, slice_get, slice_index, slice_index_or}
+use Rattle.std.specs.Prelude.{◌≡◌, ℕ, ◌≤◌, ◌==◌, List, length, count_by, map, Option, Some, slice_index, slice_index_or}
 use Rattle.session_order.specs.Calls.{as_meant, calls_by}
 use Rattle.session_order.specs.Ends.{Setup}
 use Rattle.session_order.specs.Meant.{plain_history}
 use Rattle.session_order.specs.Serial.{Played}
-use Rattle.session_text.specs.Programs.{Call}
+use Rattle.session_text.specs.Programs.{Call, program_of}
 use Rattle.session_text.specs.Walks.{Place, Stands}
 use Rattle.session_text.specs.declared.program.Program.{Program}
 use Rattle.vt_journal.specs.Log.{Logged}
@@ -33,9 +33,9 @@ pub record IsAt (o : Setup) (t : Played) (p : PlayerView) : Type 0 where
   pub stop : p.stop ≡ t.stop
   pub limits : p.log.limits ≡ o.limits
   pub replayed : p.world ≡ replay o.start t.history
-  pub walks : length p.walks ≡ length o.programs
+  pub walks : length p.walks ≡ 68
   pub stand :
-      (q : ℕ) (program : Program) (walk : Place) → slice_get o.programs q ≡ Some program
+      (q : ℕ) (program : Program) (walk : Place) → q ≤ 67 → program_of o.programs q ≡ Some program
       → walk ≡ slice_index_or p.walks q walk → StandsAfter program walk (calls_by q t.history)
   pub places : length p.counts ≡ 68
   pub counted :

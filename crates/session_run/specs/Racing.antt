@@ -1,12 +1,13 @@
 -- A race on its way. No public clause names this.
-use Rattle.std.specs.Prelude.{◌≡◌, ℕ, ◌<◌, ◌≤◌, List, [], length, map, Some, None, slice_get, slice_index_or}
+use Rattle.std.specs.Prelude.{◌≡◌, ℕ, ◌<◌, true, List, [], length, map, Some, None, slice_get, slice_index_or}
 use Rattle.atomic_table.specs.Seated.{TableId}
 use Rattle.session_order.specs.Calls.{call_of}
 use Rattle.session_order.specs.Ends.{Ends}
 use Rattle.session_order.specs.Follows.{Follows}
 use Rattle.session_order.specs.Races.{HasNext, IsRun}
 use Rattle.session_order.specs.Sessions.{ShowsTapes, setup_of, start_of}
-use Rattle.session_text.specs.Programs.{next}
+use Rattle.session_run.specs.Callers.{callers_in, has_program}
+use Rattle.session_text.specs.Programs.{next, program_of}
 use Rattle.session_text.specs.Sessions.{SessionView}
 use Rattle.session_text.specs.declared.program.Program.{Program}
 use Rattle.turn_lock.specs.declared.seal.Seal.{Seal}
@@ -35,36 +36,45 @@ pub record IsFresh (here : TableId) (n : ℕ) (x : PassView) : Type 0 where
   pub empty : x.mine ≡ []
   pub goes : x.stop ≡ None
 
--- passes for callers from 0 on
-abbrev pub AreFresh : TableId → List PassView → Type 0
-AreFresh here passes =
-    (i : ℕ) (x : PassView) → i < length passes → x ≡ slice_index_or passes i x → IsFresh here i x
+-- a pass for each of these callers, in their order
+abbrev pub AreFresh : TableId → List ℕ → List PassView → Type 0
+AreFresh here callers passes =
+    (i : ℕ) (x : PassView) → i < length passes → x ≡ slice_index_or passes i x
+    → IsFresh here (slice_index_or callers i 0) x
 
--- passes were made for the callers below n alone, and none was taken in
-pub record IsSplit (here : TableId) (n : ℕ) (s : StewardView) : Type 0 where
+-- k is none of the first n of these callers
+abbrev pub IsNone : List ℕ → ℕ → ℕ → Type 0
+IsNone callers n k = (i : ℕ) → i < n → slice_index_or callers i 0 ≡ k → ⊥
+
+-- passes were made for the first n of these callers alone, and none was taken in
+pub record IsSplit (here : TableId) (callers : List ℕ) (n : ℕ) (s : StewardView) : Type 0 where
   pub own : s.hub ≡ here
   pub size : length s.stands ≡ 68
-  pub rest : (k : ℕ) → n ≤ k → stand_at s.stands k ≡ Unmade
+  pub rest : (k : ℕ) → IsNone callers n k → stand_at s.stands k ≡ Unmade
   pub none_home : s.joined ≡ []
 
--- the pass of caller n, as it comes back from the worker of the program with this number
+-- the pass of caller n, as it comes back from the worker of that caller's program
 pub record HasRun (programs : List Program) (here : TableId) (n : ℕ) (q : PassView) : Type 0 where
   pub own : q.hub ≡ here
   pub numbered : q.number ≡ n
-  pub works : (program : Program) → slice_get programs n ≡ Some program → Works program q
+  pub works : (program : Program) → program_of programs n ≡ Some program → Works program q
 
--- the passes below n were taken in, each as its worker left it
+-- of the callers that have a program, the passes of the first n were taken in, each as its worker left
+-- it
 pub record AreHome (programs : List Program) (here : TableId) (n : ℕ) (s : StewardView) : Type 0 where
   pub own : s.hub ≡ here
   pub size : length s.stands ≡ 68
-  pub home : (k : ℕ) → k < n → stand_at s.stands k ≡ Home
-  pub rest : (k : ℕ) → length programs ≤ k → stand_at s.stands k ≡ Unmade
+  pub home : (i : ℕ) → i < n → stand_at s.stands (slice_index_or (callers_in programs) i 0) ≡ Home
+  pub rest :
+      (k : ℕ) → IsNone (callers_in programs) (length (callers_in programs)) k
+      → stand_at s.stands k ≡ Unmade
   pub ran :
       (place : ℕ) (x : PassView) → slice_get s.joined place ≡ Some x
-      → (x.number < n) × HasRun programs here x.number x
+      → (has_program programs x.number ≡ true) × HasRun programs here x.number x
   pub each :
-      (k : ℕ) → k < n
-      → (place : ℕ) × (x : PassView) × (slice_get s.joined place ≡ Some x) × (x.number ≡ k)
+      (i : ℕ) → i < n
+      → (place : ℕ) × (x : PassView) × (slice_get s.joined place ≡ Some x)
+      × (x.number ≡ slice_index_or (callers_in programs) i 0)
 
 -- a legal run of a session, to its end
 pub record IsRunOf (s : SessionView) (run : Run) : Type 0 where

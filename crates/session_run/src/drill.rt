@@ -78,7 +78,7 @@ fn programs(alloc: Global, n: usize, seed: u64) -> Result<Vec<Program>, NoMemory
     requires { n ≤ 10_000 }
     ensures programs { IfOk result (λ list. list.items
         ≡ programs.Keys (text (keys n)) ∷ (each (script n) 8 1 seed).0) }
-    ensures are { IfOk result (λ list. ArePrograms 8 list.items) }
+    ensures are { IfOk result (λ list. ArePrograms 8 1 list.items) }
 {
     let mut draws = Draws::new(seed);
     let mut list = Vec::new(alloc);

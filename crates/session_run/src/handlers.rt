@@ -1,6 +1,6 @@
 //! The hooks of a session's processes.
-ghost use Rattle.std.specs.Prelude.{◌≡◌, ℕ, ◌<◌, ◌≤◌, [], length, IfOk, slice_index_or, vec_len};
-ghost use Rattle.session_run.specs.Runs.{HasHooks, HasScripts};
+ghost use Rattle.std.specs.Prelude.{◌≡◌, ℕ, ◌<◌, [], length, IfOk, slice_index_or, vec_len};
+ghost use Rattle.session_run.specs.Runs.{HasHooks};
 
 use session_text::{Program, Session};
 use sig_hooks::{Handler, Hook, HookTable};
@@ -14,17 +14,15 @@ pub(crate) fn tables_of(alloc: Global, s: &Session) -> Result<Vec<HookTable>, No
     tables_in(alloc, s.programs())
 }
 
-// The tables of scripts, which follow the keyboard's program.
+// The tables of those that are scripts, in their order.
 fn tables_in(alloc: Global, programs: &[Program]) -> Result<Vec<HookTable>, NoMemory>
-    requires keyboard { 1 ≤ length programs.now }
-    requires scripts { HasScripts programs.now }
     ensures { IfOk result (λ tables. HasHooks programs.now tables.items) }
 {
     let mut tables = Vec::new(alloc);
-    for i in 1..programs.len() {
-        match &programs[i] {
+    for program in programs {
+        match program {
             Program::Script { hooks, .. } => tables.push(*hooks)?,
-            Program::Keys(_) => unreachable!(),
+            Program::Keys(_) => {}
         }
     }
     Ok(tables)

@@ -2,6 +2,7 @@
 //! in which each caller has a thread of its own.
 #![tactic(auto)]
 
+mod callers;
 mod counts;
 mod drill;
 mod drill_draws;

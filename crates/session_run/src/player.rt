@@ -1,8 +1,9 @@
-ghost use Rattle.std.specs.Prelude.{◌≡◌, ◌≤◌, ◌<◌, List, ◌∷◌, ◌++◌, [], None, Some, length, All, IfOk, OnOk, slice_get};
+ghost use Rattle.std.specs.Prelude.{◌≡◌, List, ◌∷◌, ◌++◌, [], None, Some, length, All, IfOk, OnOk};
 ghost use Rattle.session_order.specs.Ends.{Setup};
 ghost use Rattle.session_order.specs.Serial.{Played, call_now, entry_at, nothing_played, turn};
 ghost use Rattle.session_run.specs.Playing.{IsAt};
 ghost use Rattle.session_order.specs.Sessions.{setup_of};
+ghost use Rattle.session_text.specs.Programs.{program_of};
 ghost use Rattle.session_text.specs.Walks.{Stands};
 ghost use Rattle.session_text.specs.declared.program.Program.{Program};
 ghost use Rattle.vt_events.specs.Charge.{charge_of};
@@ -13,7 +14,7 @@ use session_order::meant_laws;
 use session_text::{Program, Session, Walk};
 use std::alloc::Global;
 use std::marker::Model;
-use vt_base::{CallerNo, NoMemory};
+use vt_base::{CALLERS, CallerNo, NoMemory};
 use vt_events::{Entry, Event, charge};
 use vt_hub::Run;
 use vt_journal::{Full, Log};
@@ -48,12 +49,12 @@ impl Player {
     /// Nothing is called yet.
     pub(crate) fn open(alloc: Global, s: &Session) -> Result<Player, NoMemory>
         ensures at { IfOk result (λ player. IsAt (setup_of s.now) nothing_played player) }
-        ensures walks { IfOk result (λ player. length player.walks ≡ length s.now.programs) }
+        ensures walks { IfOk result (λ player. length player.walks ≡ 68) }
     {
         let limits = s.limits();
         let world = World::start(alloc, s.config(), s.key_tables())?;
         let log = Log::with_room(alloc, limits.events, limits.bytes)?;
-        let walks = first_walks(alloc, s.programs().len())?;
+        let walks = first_walks(alloc, CALLERS)?;
         Ok(Player {
             world,
             log,
@@ -71,12 +72,12 @@ impl Player {
         p: CallerNo,
         event: Event,
     ) -> Result<(), NoMemory>
-        requires { p < length self.old.walks }
+        requires { length self.old.walks ≡ 68 }
         ensures at { OnOk result ((o : Setup) (t : Played)
-            → slice_get o.programs p ≡ Some program.now → t.stop ≡ None
+            → program_of o.programs p ≡ Some program.now → t.stop ≡ None
             → call_now o t.history p ≡ Some event
             → IsAt o t self.old → IsAt o (turn o p t) self.new) }
-        ensures walks { OnOk result (length self.new.walks ≡ length self.old.walks) }
+        ensures walks { OnOk result (length self.new.walks ≡ 68) }
     {
         let charge = charge(&event);
         if self.log.room(charge) {
@@ -114,14 +115,14 @@ impl Player {
         p: CallerNo,
         event: Event,
     ) -> Result<(), NoMemory>
-        requires walk { p < length self.old.walks }
+        requires walks { length self.old.walks ≡ 68 }
         requires room { HasRoom self.old.log (charge_of event) }
         ensures at { OnOk result ((o : Setup) (t : Played)
-            → slice_get o.programs p ≡ Some program.now → t.stop ≡ None
+            → program_of o.programs p ≡ Some program.now → t.stop ≡ None
             → call_now o t.history p ≡ Some event → IsAt o t self.old
             → IsAt o (record { history = t.history ++ entry_at o.start t.history p event ∷ []; stop = None })
             self.new) }
-        ensures walks { OnOk result (length self.new.walks ≡ length self.old.walks) }
+        ensures walks { OnOk result (length self.new.walks ≡ 68) }
     {
         legal_grows();
         meant_laws();

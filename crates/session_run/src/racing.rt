@@ -11,10 +11,11 @@ ghost use Rattle.vt_world.specs.History.{IsLegal, replay};
 ghost use Rattle.vt_world.specs.Laws.{moments};
 ghost use Rattle.vt_world.specs.State.{core};
 
+use crate::callers::callers_in;
 use crate::handlers::{hooks_of, tables_of};
 use crate::passes::{join_all, split_all, work_all};
 use session_order::race_laws;
-use session_text::Session;
+use session_text::{Session, callers_have_programs};
 use sig_hooks::{Handler, Hook, HookTable};
 use std::alloc::Global;
 use std::marker::Brand;
@@ -154,13 +155,18 @@ fn race_on<
 {
     race_laws();
     nobody_waits_at_start();
+    callers_have_programs();
     let config = s.config();
     let size = config.size;
     let _starts = config.procs.as_slice();
     let programs = s.programs();
     let (hub, mut steward) = Hub::<J>::open(alloc, world, s.limits())?;
-    let passes = split_all(alloc, &hub, &mut steward, programs.len())?;
-    let ran = work_all(rt, alloc, &hub, passes, programs, hooks, gate, size)?;
-    join_all(&hub, &mut steward, ran, programs)?;
+    let found = callers_in(alloc, programs)?;
+    let callers = found.as_slice();
+    let passes = split_all(alloc, &hub, &mut steward, callers)?;
+    let ran = work_all(
+        rt, alloc, &hub, callers, passes, programs, hooks, gate, size,
+    )?;
+    join_all(&hub, &mut steward, ran, programs, callers)?;
     Ok(hub.close(steward))
 }

@@ -1,9 +1,9 @@
-ghost use Rattle.std.specs.Prelude.{◌≡◌, ◌≤◌, ◌<◌, ℕ, List, length, All, OnOk};
+ghost use Rattle.std.specs.Prelude.{◌≡◌, ◌≤◌, ℕ, List, length, All, OnOk};
 ghost use Rattle.session_order.specs.Ends.{Setup};
 ghost use Rattle.session_order.specs.Laws.{IsFromStart};
 ghost use Rattle.session_order.specs.Serial.{IsSerial, Played, nothing_played, round, turns};
+ghost use Rattle.session_run.specs.Callers.{AreHooked, callers_in};
 ghost use Rattle.session_run.specs.Playing.{IsAt};
-ghost use Rattle.session_run.specs.Runs.{HasHooks};
 
 use crate::player::Player;
 use session_order::serial_laws;
@@ -21,42 +21,37 @@ impl Player {
         hooks: &[Hook<H>],
         callers: &[u8],
     ) -> Result<(), NoMemory>
-        requires hooks { HasHooks programs.now hooks.now }
-        requires most { length programs.now ≤ 65 }
-        requires known { All (λ p. p < length programs.now) callers.now }
-        requires walks { length self.old.walks ≡ length programs.now }
+        requires hooks { AreHooked programs.now hooks.now }
+        requires known { All (λ p. p ≤ 67) callers.now }
+        requires walks { length self.old.walks ≡ 68 }
         ensures at { OnOk result ((o : Setup) (t : Played) → o.programs ≡ programs.now
             → IsAt o t self.old → IsAt o (turns o callers.now t) self.new) }
-        ensures walks { OnOk result (length self.new.walks ≡ length programs.now) }
+        ensures walks { OnOk result (length self.new.walks ≡ 68) }
     {
         for caller in callers {
-            let Some(p) = CallerNo::new(u16::from(*caller)) else {
-                unreachable!()
-            };
+            let p = CallerNo::numbered(u16::from(*caller));
             self.turn(alloc, programs, hooks, p)?;
         }
         Ok(())
     }
 
-    /// A round: a turn of each caller, rising.
+    /// A round: a turn of each caller that has a program, rising.
     pub(crate) fn round<H: Handler>(
         &mut self,
         alloc: Global,
         programs: &[Program],
         hooks: &[Hook<H>],
+        callers: &[CallerNo],
     ) -> Result<(), NoMemory>
-        requires hooks { HasHooks programs.now hooks.now }
-        requires most { length programs.now ≤ 65 }
-        requires walks { length self.old.walks ≡ length programs.now }
+        requires hooks { AreHooked programs.now hooks.now }
+        requires callers { callers.now ≡ callers_in programs.now }
+        requires walks { length self.old.walks ≡ 68 }
         ensures at { OnOk result ((o : Setup) (t : Played) → o.programs ≡ programs.now
             → IsAt o t self.old → IsAt o (round o t) self.new) }
-        ensures walks { OnOk result (length self.new.walks ≡ length programs.now) }
+        ensures walks { OnOk result (length self.new.walks ≡ 68) }
     {
-        for i in 0..programs.len() {
-            let Some(p) = CallerNo::new(i as u16) else {
-                unreachable!()
-            };
-            self.turn(alloc, programs, hooks, p)?;
+        for p in callers {
+            self.turn(alloc, programs, hooks, *p)?;
         }
         Ok(())
     }
@@ -68,11 +63,12 @@ impl Player {
         alloc: Global,
         programs: &[Program],
         hooks: &[Hook<H>],
+        callers: &[CallerNo],
         events: u32,
     ) -> Result<(), NoMemory>
-        requires hooks { HasHooks programs.now hooks.now }
-        requires most { length programs.now ≤ 65 }
-        requires walks { length self.old.walks ≡ length programs.now }
+        requires hooks { AreHooked programs.now hooks.now }
+        requires callers { callers.now ≡ callers_in programs.now }
+        requires walks { length self.old.walks ≡ 68 }
         requires events { events ≤ 1_000_000 }
         ensures { OnOk result ((o : Setup) (first : List ℕ) → IsFromStart o
             → o.programs ≡ programs.now → o.limits.events ≡ events
@@ -82,7 +78,7 @@ impl Player {
         serial_laws();
         for _round in 0..events + 1 {
             let before = self.log.entries().len();
-            self.round(alloc, programs, hooks)?;
+            self.round(alloc, programs, hooks, callers)?;
             if self.stop.is_some() {
                 return Ok(());
             }

@@ -10,6 +10,7 @@ ghost use Rattle.vt_world.specs.History.{IsLegal, replay};
 ghost use Rattle.vt_world.specs.Laws.{moments};
 ghost use Rattle.vt_world.specs.State.{core};
 
+use crate::callers::callers_in;
 use crate::handlers::{hooks_of, tables_of};
 use crate::player::Player;
 use session_order::{meant_laws, serial_laws};
@@ -79,8 +80,9 @@ fn play_by<H: Handler>(
     let programs = s.programs();
     let first = s.turns();
     let limits = s.limits();
+    let callers = callers_in(alloc, programs)?;
     let mut player = Player::open(alloc, s)?;
     player.turns(alloc, programs, &hooks, first)?;
-    player.rounds(alloc, programs, &hooks, limits.events)?;
+    player.rounds(alloc, programs, &hooks, &callers, limits.events)?;
     Ok(player.end())
 }

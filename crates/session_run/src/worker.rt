@@ -1,12 +1,12 @@
 //! The worker of one caller of a race.
-ghost use Rattle.std.specs.Prelude.{◌≡◌, true, false, List, [], None, Some, IfOk, IfSome};
+ghost use Rattle.std.specs.Prelude.{◌≡◌, true, false, [], None, Some, IfOk};
+ghost use Rattle.session_run.specs.Callers.{HasHook};
 ghost use Rattle.session_run.specs.Racing.{Works};
-ghost use Rattle.session_text.specs.Programs.{Call, next};
-ghost use Rattle.session_text.specs.Walks.{HasActs, Stands};
 ghost use Rattle.vt_hub.specs.Answers.{Answers};
 ghost use Rattle.vt_hub.specs.Histories.{awaits};
 ghost use Rattle.vt_world.specs.Refusals.{ends_wait};
 
+use crate::callers::next_call;
 use session_order::{meant_laws, race_laws};
 use session_text::{Program, Walk, waits_are_ended};
 use sig_hooks::{Handler, Hook};
@@ -19,20 +19,20 @@ use vt_io::Gate;
 use vt_world::spare_for;
 
 /// Makes the calls of the program, one after another, until it is over or the hub has stopped. The
-/// gate is asked before each; the hook, where there is one, says what is done at signals.
+/// gate is asked before each; the hook of a process says what is done at signals.
 pub(crate) fn work<J: Opening, H: Handler, G: Gate, R: Wait>(
     rt: &R,
     alloc: Global,
     hub: &Hub<J>,
     pass: Pass<J>,
     program: &Program,
-    hook: Option<&Hook<H>>,
+    hooks: &[Hook<H>],
     gate: &G,
     size: Size,
 ) -> Result<Pass<J>, NoMemory>
     requires own { pass.hub ≡ hub.now }
     requires fresh { (pass.mine ≡ []) × (pass.stop ≡ None) }
-    requires hook { IfSome hook (λ h. HasActs program.now h.now) }
+    requires hook { HasHook hooks.now pass.number program.now }
     requires size { (size.rows ≡ J.start.rows) × (size.cols ≡ J.start.cols) }
     ensures own { IfOk result (λ q. q.hub ≡ hub.now) }
     ensures number { IfOk result (λ q. q.number ≡ pass.number) }
@@ -41,14 +41,15 @@ pub(crate) fn work<J: Opening, H: Handler, G: Gate, R: Wait>(
     meant_laws();
     race_laws();
     waits_are_ended();
+    let p = pass.number();
     let mut pass = pass;
     let mut walk = Walk::start();
     let mut seq = 0u32;
     for _ in rt.forever() {
-        let Some(event) = next_call(alloc, &walk, program, hook)? else {
+        let Some(event) = next_call(alloc, &walk, program, hooks, p)? else {
             return Ok(pass);
         };
-        gate.before(rt, pass.number(), seq);
+        gate.before(rt, p, seq);
         seq = seq.saturating_add(1);
         match make(rt, alloc, hub, &mut pass, event, size)? {
             Answer::Done { reply, .. } => walk.took(program, &reply),
@@ -56,23 +57,6 @@ pub(crate) fn work<J: Opening, H: Handler, G: Gate, R: Wait>(
         }
     }
     unreachable!()
-}
-
-// The next call, by the hook where there is one.
-fn next_call<H: Handler>(
-    alloc: Global,
-    walk: &Walk,
-    program: &Program,
-    hook: Option<&Hook<H>>,
-) -> Result<Option<Event>, NoMemory>
-    requires { IfSome hook (λ h. HasActs program.now h.now) }
-    ensures { IfOk result (λ e. (made : List Call) → Stands program.now walk.now made
-        → e ≡ next program.now made) }
-{
-    match hook {
-        Some(hook) => walk.next_by(alloc, program, hook),
-        None => walk.next(alloc, program),
-    }
 }
 
 // Makes this call of the hub, with what it needs.

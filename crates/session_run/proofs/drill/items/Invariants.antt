@@ -1,4 +1,4 @@
-use Rattle.std.proofs.Common.{◌≡◌, ◌+◌, ◌++◌, ◌≤◌, true, length}
+use Rattle.std.proofs.Common.{◌≡◌, ◌+◌, ◌≤◌, true, length}
 use Rattle.std.specs.List.{All}
 use Rattle.session_run.proofs.Drilling.{HasDrawn}
 use Rattle.session_run.specs.Drill.{item, opening_calls}

@@ -1,6 +1,6 @@
-use Rattle.std.proofs.Common.{◌≡◌, ℕ, ◌+◌, ap, subst, sym, arith}
+use Rattle.std.proofs.Common.{◌≡◌, ◌+◌, ap, subst, sym, arith}
 use Rattle.session_run.proofs.Drilling.{SoFar, all, begin, more}
-use Rattle.session_run.specs.Drill.{each, letter}
+use Rattle.session_run.specs.Drill.{letter}
 use Rattle.session_run.proofs.drill_items.letters.Goals as goal
 
 pub loop-i-init : goal.loop-i-init

@@ -16,7 +16,7 @@ race_on-requires-clause-world g c κs within =
     c.in_ok-world.ensures
     ∙ (λ i.
     let config : Config = c.config-config.ensures.same i in
-    opening config.size.rows config.size.cols config.consoles config.front (c.config-config.ensures.one i) config.procs (c.key_tables-tables.ensures i))
+    opening config.size.rows config.size.cols config.consoles config.front config.keyboards config.procs (c.key_tables-tables.ensures i))
 
 pub returns : goal.returns
 returns g c =

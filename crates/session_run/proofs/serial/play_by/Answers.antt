@@ -1,42 +1,43 @@
-use Rattle.std.proofs.Common.{◌≡◌, ℕ, ◌+◌, ◌<◌, ◌≤◌, arith, List, length, sym, ap, ◌∙◌, subst}
+use Rattle.std.proofs.Common.{◌≡◌, ℕ, ◌≤◌, true, arith, List, length, sym, ap, ◌∙◌, subst}
 use Rattle.std.proofs.lemmas.List.Elements.{All-weaker}
 use Rattle.session_order.specs.Ends.{Setup}
 use Rattle.session_order.specs.Serial.{IsSerial, nothing_played, turns}
 use Rattle.session_run.proofs.Ends.{IsEnd, run-serial, run-world}
-use Rattle.session_run.proofs.Sessions.{from-start, program-count}
+use Rattle.session_run.proofs.HavePrograms.{hooked}
+use Rattle.session_run.proofs.Sessions.{from-start}
+use Rattle.session_run.specs.Callers.{AreHooked}
 use Rattle.session_run.specs.Playing.{IsAt}
-use Rattle.session_run.specs.Runs.{played}
+use Rattle.session_run.specs.Runs.{HasHooks, played}
 use Rattle.session_order.specs.Sessions.{setup_of}
+use Rattle.session_text.proofs.Turning.{turn-low}
 use Rattle.session_text.specs.Sessions.{ArePrograms}
+use Rattle.session_text.specs.Turns.{is_there}
 use Rattle.vt_journal.specs.declared.limits.Limits.{Limits}
 use Rattle.vt_procs.specs.declared.config.Config.{Config}
 use Rattle.session_run.proofs.serial.play_by.Goals as goal
 
-pub turns-requires-clause-most : goal.turns-requires-clause-most
-turns-requires-clause-most g c =
-    let count : length c.programs-programs.result.now ≡ length c.args.s.now.config.procs + 1 =
-    program-count (length c.args.s.now.config.procs) c.programs-programs.result.now c.programs-programs.ensures.are in
-    let starts : length c.as_slice-starts.result.now ≡ length c.args.s.now.config.procs =
-    ap length c.as_slice-starts.ensures.list ∙ ap (λ (config : Config). length config.procs) c.config.ensures.same in
-    omega (arith, count, starts, c.as_slice-starts.ensures.bound)
+-- the hooks are those of the session's processes
+pub turns-requires-clause-hooks : goal.turns-requires-clause-hooks
+turns-requires-clause-hooks g c =
+    subst (AreHooked c.programs-programs.result.now) (sym (c.deref.ensures.value ∙ c.in_ok-hooks.ensures))
+    (hooked (length c.args.s.now.config.procs) c.args.s.now.config.keyboards c.programs-programs.result.now c.args.acts.now
+    c.programs-programs.ensures.are (subst (λ ps. HasHooks ps c.args.acts.now) (sym c.programs-programs.ensures.same) c.requires.hooks))
 
-pub rounds-requires-clause-most : goal.rounds-requires-clause-most
-rounds-requires-clause-most g c =
-    let count : length c.programs-programs.result.now ≡ length c.args.s.now.config.procs + 1 =
-    program-count (length c.args.s.now.config.procs) c.programs-programs.result.now c.programs-programs.ensures.are in
-    let starts : length c.as_slice-starts.result.now ≡ length c.args.s.now.config.procs =
-    ap length c.as_slice-starts.ensures.list ∙ ap (λ (config : Config). length config.procs) c.config.ensures.same in
-    omega (arith, count, starts, c.as_slice-starts.ensures.bound)
-
-one_below : (n m p : ℕ) → m ≡ n + 1 → p ≤ n → p < m
-one_below n m p same low = omega (arith, same, low)
+pub rounds-requires-clause-hooks : goal.rounds-requires-clause-hooks
+rounds-requires-clause-hooks g c =
+    subst (AreHooked c.programs-programs.result.now) (sym (c.deref-2.ensures.value ∙ c.in_ok-hooks.ensures))
+    (hooked (length c.args.s.now.config.procs) c.args.s.now.config.keyboards c.programs-programs.result.now c.args.acts.now
+    c.programs-programs.ensures.are (subst (λ ps. HasHooks ps c.args.acts.now) (sym c.programs-programs.ensures.same) c.requires.hooks))
 
 pub turns-requires-clause-known : goal.turns-requires-clause-known
 turns-requires-clause-known g c =
     let n : ℕ = length c.args.s.now.config.procs in
-    let m : ℕ = length c.programs-programs.result.now in
-    All-weaker (λ t. t ≤ n) (λ t. t < m)
-    (λ t low. one_below n m t (program-count n c.programs-programs.result.now c.programs-programs.ensures.are) low)
+    let k : ℕ = c.args.s.now.config.keyboards in
+    let starts : length c.as_slice-starts.result.now ≡ n =
+    ap length c.as_slice-starts.ensures.list ∙ ap (λ (config : Config). length config.procs) c.config.ensures.same in
+    let few : n ≤ 64 = omega (arith, starts, c.as_slice-starts.ensures.bound) in
+    let four : k ≤ 4 = subst (λ (config : Config). config.keyboards ≤ 4) c.config.ensures.same c.config.ensures.keyboards.four in
+    All-weaker (λ t. is_there n k t ≡ true) (λ t. t ≤ 67) (λ t there. turn-low n k t four there few)
     c.turns-first.result.now c.turns-first.ensures.callers
 
 pub returns-clause-serial : goal.returns-clause-serial
@@ -44,8 +45,8 @@ returns-clause-serial g c =
     let o : Setup = setup_of c.args.s.now in
     let first : List ℕ = c.turns-first.result.now in
     let same : o.programs ≡ c.programs-programs.result.now = sym c.programs-programs.ensures.same in
-    let are : ArePrograms (length c.args.s.now.config.procs) c.args.s.now.programs =
-    subst (ArePrograms (length c.args.s.now.config.procs)) c.programs-programs.ensures.same c.programs-programs.ensures.are in
+    let are : ArePrograms (length c.args.s.now.config.procs) c.args.s.now.config.keyboards c.args.s.now.programs =
+    subst (ArePrograms (length c.args.s.now.config.procs) c.args.s.now.config.keyboards) c.programs-programs.ensures.same c.programs-programs.ensures.are in
     let events : o.limits.events ≡ c.limits-limits.result.events =
     ap (λ (l : Limits). l.events) (sym c.limits-limits.ensures.same) in
     let turned : IsAt o (turns o first nothing_played) c.turns.new.self =
@@ -60,8 +61,8 @@ returns-clause-world g c =
     let o : Setup = setup_of c.args.s.now in
     let first : List ℕ = c.turns-first.result.now in
     let same : o.programs ≡ c.programs-programs.result.now = sym c.programs-programs.ensures.same in
-    let are : ArePrograms (length c.args.s.now.config.procs) c.args.s.now.programs =
-    subst (ArePrograms (length c.args.s.now.config.procs)) c.programs-programs.ensures.same c.programs-programs.ensures.are in
+    let are : ArePrograms (length c.args.s.now.config.procs) c.args.s.now.config.keyboards c.args.s.now.programs =
+    subst (ArePrograms (length c.args.s.now.config.procs) c.args.s.now.config.keyboards) c.programs-programs.ensures.same c.programs-programs.ensures.are in
     let events : o.limits.events ≡ c.limits-limits.result.events =
     ap (λ (l : Limits). l.events) (sym c.limits-limits.ensures.same) in
     let turned : IsAt o (turns o first nothing_played) c.turns.new.self =

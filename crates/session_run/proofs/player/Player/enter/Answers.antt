@@ -1,4 +1,4 @@
-use Rattle.std.proofs.Common.{◌≡◌, ◌<◌, arith, List, get_or, set, length, refl, sym, ap, ◌∙◌, subst}
+use Rattle.std.proofs.Common.{◌≡◌, arith, List, get_or, set, length, refl, sym, ap, ◌∙◌, subst}
 use Rattle.session_run.proofs.Plays.{Enters, entered}
 use Rattle.session_run.specs.Playing.{IsAt, PlayerView}
 use Rattle.session_text.specs.Walks.{Place}
@@ -35,7 +35,7 @@ returns-clause-at c = λ o t is going now at.
       logged = c.push.ensures;
       numbered = c.next-seq.ensures.count;
       counts = c.next-seq.ensures.more;
-      within = subst (λ (v : PlayerView). c.args.p < length v.walks) (sym c.self.view_is) c.requires.walk;
+      within = omega (arith, c.get-number.ensures.same, c.get-number.ensures.high, ap (λ (v : PlayerView). length v.walks) c.self.view_is, c.requires.walks);
       read = subst (λ k. walk ≡ get_or items k walk) p c.index_mut-walk.ensures.value;
       walks = ap (λ k. set items k moved) p;
       took = record { took = c.took.ensures };

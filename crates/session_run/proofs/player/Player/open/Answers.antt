@@ -1,4 +1,4 @@
-use Rattle.std.proofs.Common.{◌≡◌, None, length, refl, ap, ◌∙◌}
+use Rattle.std.proofs.Common.{◌≡◌, None, refl, ◌∙◌}
 use Rattle.session_run.proofs.Turns.{first-at}
 use Rattle.session_run.specs.Playing.{PlayerView}
 use Rattle.session_order.specs.Sessions.{setup_of, start_of}
@@ -16,7 +16,7 @@ returns-clause-at c =
     } in
     let world : c.in_ok-world.world ≡ start_of c.args.s.now =
     c.in_ok-world.ensures
-    ∙ (λ i. opening (c.config.ensures.same i).size.rows (c.config.ensures.same i).size.cols (c.config.ensures.same i).consoles (c.config.ensures.same i).front (c.config.ensures.one i) (c.config.ensures.same i).procs (c.key_tables.ensures i)) in
+    ∙ (λ i. opening (c.config.ensures.same i).size.rows (c.config.ensures.same i).size.cols (c.config.ensures.same i).consoles (c.config.ensures.same i).front (c.config.ensures.same i).keyboards (c.config.ensures.same i).procs (c.key_tables.ensures i)) in
     first-at (setup_of c.args.s.now) view world c.in_ok-log.ensures.entries
     (c.in_ok-log.ensures.limits ∙ c.limits-limits.ensures.same) c.new.ensures refl
-    (c.in_ok-walks.ensures.callers ∙ ap length c.programs.ensures.same) c.in_ok-walks.ensures.stand
+    c.in_ok-walks.ensures.callers c.in_ok-walks.ensures.stand

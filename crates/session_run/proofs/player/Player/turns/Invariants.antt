@@ -6,7 +6,7 @@ use Rattle.session_run.proofs.player.Player.turns.Given as goal
 
 abbrev pub invariant-loop-caller : goal.invariant-loop-caller
 invariant-loop-caller g l = record {
-  walks : length l.self.walks ≡ length l.programs;
+  walks : length l.self.walks ≡ 68;
   at : (o : Setup) (t : Played) → o.programs ≡ l.programs → IsAt o t l.initial.self
       → (now : Played) × IsAt o now l.self × (turns o (drop l.caller-index l.callers) now ≡ turns o l.callers t);
 }

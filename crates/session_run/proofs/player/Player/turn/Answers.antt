@@ -1,0 +1,28 @@
+use Rattle.std.proofs.Common.{◌≡◌, false, Some, sym, ap, ◌∙◌}
+use Rattle.std.specs.Prelude.{is_some}
+use Rattle.session_run.proofs.Turns.{not-stopped, turn-skips}
+use Rattle.session_run.specs.Playing.{PlayerView}
+use Rattle.session_text.specs.Programs.{program_of}
+use Rattle.session_run.proofs.player.Player.turn.Goals as goal
+
+pub next-requires-clause-hook : goal.next-requires-clause-hook
+next-requires-clause-hook g c =
+    c.requires.hooks.each c.args.p c.in-Some.program.now (sym c.in-Some.ensures)
+
+pub returns-in_ok-call-in-Some-2-clause-at : goal.returns-in_ok-call-in-Some-2-clause-at
+returns-in_ok-call-in-Some-2-clause-at g c = λ o t same at.
+    let goes : is_some c.args.self.now.stop ≡ false =
+    ap (λ (v : PlayerView). is_some v.stop) (sym c.self.view_is) ∙ sym c.is_some.ensures ∙ c.if-is_some.false in
+    let is : program_of o.programs c.args.p ≡ Some c.in-Some.program.now =
+    ap (λ programs. program_of programs c.args.p) same ∙ sym c.in-Some.ensures in
+    c.in_ok-call-in-Some-2.ensures.at o t is (sym at.stop ∙ not-stopped c.args.self.now.stop goes)
+    (sym (c.in_ok-event.ensures o t is at) ∙ c.in-Some-2.is) at
+
+pub returns-in-None-clause-at : goal.returns-in-None-clause-at
+returns-in-None-clause-at g c = λ o t same at.
+    let goes : is_some c.args.self.now.stop ≡ false =
+    ap (λ (v : PlayerView). is_some v.stop) (sym c.self.view_is) ∙ sym c.is_some.ensures ∙ c.if-is_some.false in
+    let is : program_of o.programs c.args.p ≡ Some c.in-Some.program.now =
+    ap (λ programs. program_of programs c.args.p) same ∙ sym c.in-Some.ensures in
+    turn-skips o t c.args.p c.args.self.now (not-stopped c.args.self.now.stop goes)
+    (sym c.in-None.is ∙ c.in_ok-event.ensures o t is at) at
