@@ -1,5 +1,6 @@
 //! What the tests share. Rows are texts and numbers alone.
 mod ends;
+mod keyboards;
 mod meeting;
 mod pieces;
 mod printed;

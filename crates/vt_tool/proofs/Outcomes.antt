@@ -35,11 +35,12 @@ use Rattle.vt_world.specs.Laws.{moments}
 use Rattle.vt_world.specs.Start.{opening}
 use Rattle.vt_world.specs.State.{WorldState}
 
--- a function gives one value for six arguments
-same6 : {A B C D E F G : Type 0} (f : A → B → C → D → E → F → G) (a a' : A) (b b' : B) (c c' : C)
-    (d d' : D) (e e' : E) (g g' : F)
-    → a ≡ a' → b ≡ b' → c ≡ c' → d ≡ d' → e ≡ e' → g ≡ g' → f a b c d e g ≡ f a' b' c' d' e' g'
-same6 f a a' b b' c c' d d' e e' g g' p q r s t u = cc
+-- a function gives one value for seven arguments
+same7 : {A B C D E F G H : Type 0} (f : A → B → C → D → E → F → G → H) (a a' : A) (b b' : B)
+    (c c' : C) (d d' : D) (e e' : E) (g g' : F) (h h' : G)
+    → a ≡ a' → b ≡ b' → c ≡ c' → d ≡ d' → e ≡ e' → g ≡ g' → h ≡ h'
+    → f a b c d e g h ≡ f a' b' c' d' e' g' h'
+same7 f a a' b b' c c' d d' e e' g g' h h' p q r s t u v = cc
 
 abbrev limits_of : ℕ → ℕ → Limits
 limits_of events bytes = record { events = events; bytes = bytes }
@@ -52,10 +53,11 @@ one-setup : OneValue → (value : SessionValue) (s t : SessionView) → IsSessio
     → IsSessionOf t value → setup_of s ≡ setup_of t
 one-setup one_value value s t x y =
     let starts : start_of s ≡ start_of t =
-    same6 (λ rows cols consoles front. opening rows cols consoles front 1) s.config.size.rows t.config.size.rows s.config.size.cols t.config.size.cols
-    s.config.consoles t.config.consoles s.config.front t.config.front s.config.procs t.config.procs
-    s.tables t.tables (x.rows ∙ sym y.rows) (x.cols ∙ sym y.cols) (x.consoles ∙ sym y.consoles)
-    (x.front ∙ sym y.front) (x.starts ∙ sym y.starts)
+    same7 opening s.config.size.rows t.config.size.rows s.config.size.cols t.config.size.cols
+    s.config.consoles t.config.consoles s.config.front t.config.front
+    s.config.keyboards t.config.keyboards s.config.procs t.config.procs s.tables t.tables
+    (x.rows ∙ sym y.rows) (x.cols ∙ sym y.cols) (x.consoles ∙ sym y.consoles)
+    (x.front ∙ sym y.front) (x.keyboards ∙ sym y.keyboards) (x.starts ∙ sym y.starts)
     (one_value value.typed.lines s.tables t.tables x.tables y.tables) in
     let limits : s.limits ≡ t.limits =
     ap (λ (n : ℕ). limits_of n s.limits.bytes) (x.events ∙ sym y.events)

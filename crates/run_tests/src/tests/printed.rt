@@ -1,4 +1,4 @@
-//! What the command prints of a race.
+//! What a command prints.
 use std::alloc::Global;
 use std::sync::Wait;
 use std::thread::Threads;
@@ -8,7 +8,7 @@ use vt_tool::vt_run;
 
 const ROOM: usize = 100_000;
 
-/// What a race prints, and how it ends.
+/// What a command prints, and how it ends.
 #[derive(Drop)]
 pub struct Printed {
     pub status: u8,
@@ -23,8 +23,19 @@ pub fn race_text<G: Gate + Sync, R: Threads + Wait + Sync>(
     text: &[u8],
     gate: &G,
 ) -> Result<Printed, NoMemory> {
+    run_text(rt, alloc, "race", text, gate)
+}
+
+/// Runs the command of this one word on the text.
+pub fn run_text<G: Gate + Sync, R: Threads + Wait + Sync>(
+    rt: &R,
+    alloc: Global,
+    word: &str,
+    text: &[u8],
+    gate: &G,
+) -> Result<Printed, NoMemory> {
     let mut words = Vec::new(alloc);
-    words.push(String::from_str(alloc, "race")?)?;
+    words.push(String::from_str(alloc, word)?)?;
     let mut src = MemSource::new(Bytes::from_slice(alloc, text)?, Bytes::new(alloc));
     let mut out = MemSink::new(Bytes::with_room(alloc, ROOM)?, Bytes::new(alloc));
     let mut err = MemSink::new(Bytes::with_room(alloc, ROOM)?, Bytes::new(alloc));

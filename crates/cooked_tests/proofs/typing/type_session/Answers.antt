@@ -8,5 +8,5 @@ type_beside-requires-clause-world g c κs within =
     c.in_ok-world.ensures
     ∙ (λ i.
     let config : Config = c.config.ensures.same i in
-    opening config.size.rows config.size.cols config.consoles config.front (c.config.ensures.one i) config.procs
+    opening config.size.rows config.size.cols config.consoles config.front config.keyboards config.procs
     (c.key_tables.ensures i))
