@@ -34,6 +34,6 @@ fn a_race_of_two_keyboards_is_legal(rt: HostRuntime) -> Result<(), Fail> {
     let journal = journal_in(raced.out.held());
     let both = format!(in rt.alloc(); "{SESSION}{journal}")?;
     let judged = run_text(&rt, rt.alloc(), "check", both.as_bytes(), &OpenGate)?;
-    assert!(rt; judged.out.held() == b"legal 5\n", "{journal}");
+    assert!(rt; judged.out.held() == b"legal 5\n".as_slice(), "{journal}");
     Ok(())
 }
