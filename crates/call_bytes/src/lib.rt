@@ -7,8 +7,6 @@ mod laws;
 mod numbers;
 mod pair_list;
 mod pairs;
-#[cfg(test)]
-mod tests;
 mod words;
 
 pub use colours::{add_colours, read_colours};

@@ -2,7 +2,5 @@
 #![tactic(auto)]
 
 mod in_queue;
-#[cfg(test)]
-mod tests;
 
 pub use in_queue::InQueue;

@@ -9,8 +9,6 @@ mod laws;
 mod metas;
 mod pairs;
 mod strings;
-#[cfg(test)]
-mod tests;
 mod union;
 mod usual;
 

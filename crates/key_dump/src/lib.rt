@@ -6,8 +6,6 @@ mod entries;
 mod laws;
 mod numerals;
 mod quoting;
-#[cfg(test)]
-mod tests;
 
 pub use dumping::{dump, dumpable};
 pub use laws::dump_reads_back;

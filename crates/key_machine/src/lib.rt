@@ -19,8 +19,6 @@ pub mod meta;
 pub mod mode;
 mod pad;
 mod special;
-#[cfg(test)]
-mod tests;
 mod waiting;
 
 pub use kb_state::KbState;

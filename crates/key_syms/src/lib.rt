@@ -11,8 +11,6 @@ mod pair;
 mod search;
 mod symbol;
 mod table;
-#[cfg(test)]
-mod tests;
 
 pub use action::Action;
 pub use laws::{families_are_named, names_are_their_own};

@@ -6,7 +6,5 @@ mod key_tables;
 mod listing;
 mod maps;
 mod table;
-#[cfg(test)]
-mod tests;
 
 pub use key_tables::KeyTables;

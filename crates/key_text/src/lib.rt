@@ -22,8 +22,6 @@ mod reading;
 mod saying;
 mod syms;
 mod table_set;
-#[cfg(test)]
-mod tests;
 mod words;
 
 pub use fault::{KeyError, KeyFault};

@@ -5,8 +5,6 @@ mod key_event;
 mod laws;
 mod scanner;
 mod start;
-#[cfg(test)]
-mod tests;
 
 pub use key_event::KeyEvent;
 pub use laws::{any_cut, groups_are_read};

@@ -5,8 +5,6 @@ mod act;
 mod handler;
 mod hook;
 mod hook_table;
-#[cfg(test)]
-mod tests;
 
 pub use act::Act;
 pub use handler::Handler;

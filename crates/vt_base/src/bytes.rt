@@ -114,23 +114,3 @@ impl Bytes {
         Ok(())
     }
 }
-
-#[cfg(test)]
-mod tests {
-    use super::*;
-    use std::test::Fail;
-
-    #[test]
-    fn grows_by_what_is_asked(rt: HostRuntime) -> Result<(), Fail> {
-        let mut text = Bytes::from_slice(rt.alloc(), b"ab")?;
-        assert_eq!(rt; text.room(), 0);
-        text.grow(rt.alloc(), 3)?;
-        text.append(b"c");
-        text.push(b'd');
-        assert_eq!(rt; text.as_slice(), b"abcd".as_slice());
-        assert_eq!(rt; text.room(), 1);
-        assert_eq!(rt; Bytes::with_room(rt.alloc(), 5)?.room(), 5);
-        assert_eq!(rt; NoMemory.to_string(rt.alloc())?.as_str(), "no memory");
-        Ok(())
-    }
-}

@@ -54,27 +54,3 @@ fn is_plain(word: &[u8]) -> bool
     }
     true
 }
-
-#[cfg(test)]
-mod tests {
-    use super::*;
-
-    #[test]
-    fn knows_one_spelling(rt: HostRuntime) {
-        let cases: [(&[u8], Option<u64>); 10] = [
-            (b"0", Some(0)),
-            (b"7", Some(7)),
-            (b"65535", Some(65_535)),
-            (b"65536", None),
-            (b"", None),
-            (b"07", None),
-            (b"+7", None),
-            (b"-7", None),
-            (b"7 ", None),
-            (b"\xC3", None),
-        ];
-        for (word, n) in cases {
-            assert_eq!(rt; parse_decimal(word, 65_535), n, "{word:?}");
-        }
-    }
-}

@@ -2,6 +2,9 @@ ghost use Rattle.std.specs.Prelude.{◌≡◌, ◌≢◌, IfSome, IfNone};
 ghost use Rattle.vt_base.specs.Errno.{number_of};
 ghost use Rattle.vt_base.specs.declared.errno.Errno.{Errno};
 
+use std::error::Error;
+use std::fmt;
+
 /// Why a call is refused. The numbers are those of Linux (errno(3)).
 #[derive(Clone, Copy, Debug, PartialEq, Eq)]
 pub enum Errno {
@@ -62,3 +65,22 @@ impl Errno {
         }
     }
 }
+
+/// The texts of errno(3).
+impl fmt::Display for Errno {
+    fn fmt<W: fmt::Write>(&self, f: &mut fmt::Formatter<W>) -> fmt::Result {
+        f.write_str(match self {
+            Errno::Srch => "No such process",
+            Errno::Intr => "Interrupted system call",
+            Errno::Nxio => "No such device or address",
+            Errno::Badf => "Bad file descriptor",
+            Errno::Again => "Resource temporarily unavailable",
+            Errno::Busy => "Device or resource busy",
+            Errno::Inval => "Invalid argument",
+            Errno::Notty => "Inappropriate ioctl for device",
+            Errno::Perm => "Operation not permitted",
+        })
+    }
+}
+
+impl Error for Errno {}

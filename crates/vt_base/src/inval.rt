@@ -1,3 +1,15 @@
+use crate::Errno;
+use std::error::Error;
+use std::fmt;
+
 /// A number or a state isn't one that the call takes; nothing was changed.
 #[derive(Clone, Copy, Debug, PartialEq, Eq)]
 pub struct Inval;
+
+impl fmt::Display for Inval {
+    fn fmt<W: fmt::Write>(&self, f: &mut fmt::Formatter<W>) -> fmt::Result {
+        write!(f, "{}", Errno::Inval)
+    }
+}
+
+impl Error for Inval {}

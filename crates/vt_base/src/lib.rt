@@ -35,6 +35,3 @@ pub use sig_set::SigSet;
 pub use signal::Signal;
 pub use size::Size;
 pub use vt_mode::VtMode;
-
-#[cfg(test)]
-mod tests;

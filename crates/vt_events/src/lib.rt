@@ -6,8 +6,6 @@ mod charges;
 mod entry;
 mod event;
 mod reply;
-#[cfg(test)]
-mod tests;
 
 pub use charges::{charge, reply_bytes};
 pub use entry::Entry;

@@ -31,8 +31,6 @@ mod rows;
 mod same;
 mod tail;
 mod tail_lines;
-#[cfg(test)]
-mod tests;
 mod words;
 
 pub use adding::{add, add_next};

@@ -9,8 +9,6 @@ mod proc_list;
 mod proc_start;
 mod process;
 mod procs;
-#[cfg(test)]
-mod tests;
 mod ticket;
 mod tickets;
 mod waited;

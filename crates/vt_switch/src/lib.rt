@@ -16,8 +16,6 @@ mod release;
 mod request;
 mod settings;
 mod state;
-#[cfg(test)]
-mod tests;
 mod words;
 
 pub use asked::Asked;

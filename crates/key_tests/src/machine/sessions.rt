@@ -1,6 +1,6 @@
 use super::Wanted::{Bytes, Nothing};
 use super::{MODES, Wanted, is_wanted, start};
-use crate::Keyboard;
+use key_machine::Keyboard;
 use key_syms::{Action, Pair};
 use key_tables::KeyTables;
 use scan_codes::Scanner;

@@ -1,4 +1,4 @@
-use crate::compile;
+use key_compile::compile;
 use key_tables::KeyTables;
 use key_text::{Includes, KeyError, KeyFault, parse};
 use std::alloc::Global;

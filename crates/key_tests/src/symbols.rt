@@ -1,4 +1,4 @@
-use crate::{Action, by_name, name_of, number};
+use key_syms::{Action, by_name, name_of, number};
 use std::process::Abort;
 
 // A name, the action that it stands for, and the first name of that action.

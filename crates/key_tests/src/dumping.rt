@@ -1,5 +1,5 @@
-use crate::{dump, dumpable};
 use key_compile::compile;
+use key_dump::{dump, dumpable};
 use key_tables::KeyTables;
 use key_text::{Includes, KeyError, parse};
 use std::alloc::Global;

@@ -2,7 +2,7 @@ ghost use Rattle.std.specs.Prelude.{◌≤◌};
 
 use super::Wanted::{Attention, Bytes, Last, Next, Nothing, Prev, Spawn, Switch};
 use super::{DOWN, HELD, MODES, UP, Wanted, is_wanted, start};
-use crate::{Keyboard, mode};
+use key_machine::{Keyboard, mode};
 use key_syms::Action;
 use key_tables::KeyTables;
 use std::process::Abort;

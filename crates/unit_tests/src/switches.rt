@@ -1,7 +1,7 @@
 //! Handshakes over the display. Expected answers were reckoned by hand from the rules of switching.
-use crate::{Asked, Switch};
 use std::test::Fail;
 use vt_base::{CallerNo, ConsoleNo, VtMode};
+use vt_switch::{Asked, Switch};
 
 const PROCESS: VtMode = VtMode {
     mode: 1,

@@ -1,5 +1,5 @@
-use crate::KeyTables;
 use key_syms::{Action, Pair};
+use key_tables::KeyTables;
 use std::alloc::Global;
 use std::test::Fail;
 use vt_base::NoMemory;

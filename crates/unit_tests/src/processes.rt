@@ -1,8 +1,8 @@
 //! Callers through opens, signals, waits and deaths. Expected answers were reckoned by hand from the
 //! rules of signals and waits.
-use crate::{ProcStart, Procs, Ticket, Waited};
 use std::test::Fail;
 use vt_base::{CallerNo, ConsoleNo, Fd, Signal};
+use vt_procs::{ProcStart, Procs, Ticket, Waited};
 
 fn two_processes() -> Procs {
     let start = ProcStart {

@@ -1,7 +1,7 @@
 //! What calls count for: 64, the bytes that they hold, and the most bytes of their answers.
-use crate::{Event, Reply, charge};
 use std::test::Fail;
 use vt_base::Bytes;
+use vt_events::{Event, Reply, charge};
 
 #[test]
 fn counts_the_greatest_answer(rt: HostRuntime) -> Result<(), Fail> {

@@ -1,5 +1,5 @@
 //! Hooks over closures. Expected acts are those that the tables were given.
-use crate::{Act, Handler, Hook, HookTable};
+use sig_hooks::{Act, Handler, Hook, HookTable};
 use std::cell::Cell;
 use std::test::Fail;
 use vt_base::Signal;

@@ -1,9 +1,9 @@
 //! The words of every call and every answer, by the table in docs/JOURNAL.md.
-use crate::{Tail, print, read_event};
 use std::alloc::Global;
 use std::test::Fail;
 use vt_base::{Bytes, CallerNo, Errno, NoMemory, SigSet, Signal, VtMode};
 use vt_events::{Entry, Event, Reply};
+use vt_journal::{Tail, print, read_event};
 
 // The words of each call, and how its event is printed for debugging, up to its bytes.
 const CALLS: [(&[u8], &str); 46] = [

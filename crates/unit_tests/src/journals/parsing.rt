@@ -1,8 +1,8 @@
 //! Journal texts and their faults, by the rules of docs/JOURNAL.md.
-use crate::{JError, JFault, parse, version_of};
 use std::alloc::Global;
 use std::test::Fail;
 use vt_base::NoMemory;
+use vt_journal::{JError, JFault, parse, version_of};
 
 // A text, and the kind and the line of its fault; 0 and the number of its entries, where it has none.
 type Row = (&'static [u8], u16, u32);

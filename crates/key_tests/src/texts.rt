@@ -1,4 +1,4 @@
-use crate::{Includes, KeyError, KeyFault, LineKind, parse};
+use key_text::{Includes, KeyError, KeyFault, LineKind, parse};
 use std::alloc::Global;
 use std::process::Abort;
 use std::test::Fail;

@@ -1,4 +1,4 @@
-use crate::InQueue;
+use in_queue::InQueue;
 use std::test::Fail;
 use vt_base::Bytes;
 

@@ -1,9 +1,9 @@
 //! The adapters over std's streams, which no proof ties to what a real stream does.
-use crate::{Failed, Gate, OpenGate, Sink, Source, StdSink, StdSource};
 use std::io;
 use std::io::{ErrorKind, Read, Write};
 use std::test::Fail;
 use vt_base::CallerNo;
+use vt_io::{Failed, Gate, OpenGate, Sink, Source, StdSink, StdSource};
 
 // A stream that is interrupted so often. Then it gives or takes one byte a call, or none where it
 // is full, or fails where it is broken. It keeps the last byte that it took.

@@ -4,8 +4,8 @@ mod actions;
 mod sent;
 mod sessions;
 
-use crate::{KbState, KeyModes, KeyOut};
 use Wanted::{Attention, Bytes, Last, Next, Nothing, Prev, Spawn, Switch};
+use key_machine::{KbState, KeyModes, KeyOut};
 use scan_codes::KeyEvent;
 
 // What a key event came to.

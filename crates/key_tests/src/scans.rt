@@ -1,4 +1,4 @@
-use crate::{KeyEvent, Scanner};
+use scan_codes::{KeyEvent, Scanner};
 use std::test::Fail;
 use vt_base::Inval;
 

@@ -1,4 +1,4 @@
-use crate::{add_colours, add_pairs, add_words, read_colours, read_pairs, read_words};
+use call_bytes::{add_colours, add_pairs, add_words, read_colours, read_pairs, read_words};
 use key_syms::Pair;
 use std::test::Fail;
 use vt_base::Bytes;

@@ -1,6 +1,6 @@
 use super::Wanted::Bytes;
 use super::{DOWN, is_wanted, start};
-use crate::{KbState, KeyBytes, KeyModes, Keyboard, meta, mode};
+use key_machine::{KbState, KeyBytes, KeyModes, Keyboard, meta, mode};
 use key_syms::Action;
 use key_tables::KeyTables;
 use std::test::Fail;

@@ -3,12 +3,12 @@
 mod all_words;
 mod parsing;
 
-use crate::{Full, Log, Tail, add_hex, are_numbered, print, read_event};
 use std::alloc::Global;
 use std::process::Abort;
 use std::test::Fail;
 use vt_base::{Bytes, CallerNo, Errno, NoMemory};
 use vt_events::{Entry, Reply, charge};
+use vt_journal::{Full, Log, Tail, add_hex, are_numbered, print, read_event};
 
 // An answer, with its bytes as a literal.
 #[derive(Clone, Copy)]

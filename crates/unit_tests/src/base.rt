@@ -1,5 +1,9 @@
-use super::*;
+//! Numbers, sets, decimal words, byte texts, and the errors as texts.
 use std::test::Fail;
+use vt_base::{
+    Bytes, CallerNo, ConsoleNo, Errno, Inval, NoMemory, SigSet, Signal, hex_value, lower_hex_value,
+    parse_decimal,
+};
 
 #[test]
 fn numbers_are_listed_rising(rt: HostRuntime) {
@@ -73,4 +77,58 @@ fn errors_are_found_by_number(rt: HostRuntime) {
     assert_eq!(rt; Errno::of(25), Some(Errno::Notty));
     assert_eq!(rt; Errno::of(2), None);
     assert_eq!(rt; Errno::of(0), None);
+}
+
+#[test]
+fn knows_one_spelling(rt: HostRuntime) {
+    let cases: [(&[u8], Option<u64>); 10] = [
+        (b"0", Some(0)),
+        (b"7", Some(7)),
+        (b"65535", Some(65_535)),
+        (b"65536", None),
+        (b"", None),
+        (b"07", None),
+        (b"+7", None),
+        (b"-7", None),
+        (b"7 ", None),
+        (b"\xC3", None),
+    ];
+    for (word, n) in cases {
+        assert_eq!(rt; parse_decimal(word, 65_535), n, "{word:?}");
+    }
+}
+
+#[test]
+fn grows_by_what_is_asked(rt: HostRuntime) -> Result<(), Fail> {
+    let mut text = Bytes::from_slice(rt.alloc(), b"ab")?;
+    assert_eq!(rt; text.room(), 0);
+    text.grow(rt.alloc(), 3)?;
+    text.append(b"c");
+    text.push(b'd');
+    assert_eq!(rt; text.as_slice(), b"abcd".as_slice());
+    assert_eq!(rt; text.room(), 1);
+    assert_eq!(rt; Bytes::with_room(rt.alloc(), 5)?.room(), 5);
+    Ok(())
+}
+
+// The texts of errno(3), as glibc's strerror(3) gives them.
+#[test]
+fn errors_have_texts(rt: HostRuntime) -> Result<(), Fail> {
+    let cases = [
+        (Errno::Perm, "Operation not permitted"),
+        (Errno::Srch, "No such process"),
+        (Errno::Intr, "Interrupted system call"),
+        (Errno::Nxio, "No such device or address"),
+        (Errno::Badf, "Bad file descriptor"),
+        (Errno::Again, "Resource temporarily unavailable"),
+        (Errno::Busy, "Device or resource busy"),
+        (Errno::Inval, "Invalid argument"),
+        (Errno::Notty, "Inappropriate ioctl for device"),
+    ];
+    for (errno, text) in cases {
+        assert_eq!(rt; errno.to_string(rt.alloc())?.as_str(), text);
+    }
+    assert_eq!(rt; Inval.to_string(rt.alloc())?.as_str(), "Invalid argument");
+    assert_eq!(rt; NoMemory.to_string(rt.alloc())?.as_str(), "no memory");
+    Ok(())
 }
