@@ -15,3 +15,5 @@ mod Start
 mod TapeHalves
 mod TapeInside
 mod Tapes
+mod TextRows
+mod TextSteps
