@@ -23,8 +23,8 @@ state_at rows cols y columns =
     record (start_state rows) { x = min columns (cols - 1); y = y; wrap = columns == cols }
 
 -- the screen shows the text alone: its cells, row after row, are those of the text and then blanks.
--- The cursor is after the text, in the row of its last character, and the state is else that of the
--- start
+-- The cursor is after the text, in row y, of which so many columns are written, and some where there
+-- is text at all. The state is else that of the start
 pub record ShowsText (rows cols : ℕ) (text : List ℕ) (s : Screen) : Type 0 where
   pub size : (s.grid.rows ≡ rows) × (s.grid.cols ≡ cols)
   pub full : IsFull s.grid
@@ -36,11 +36,29 @@ pub record ShowsText (rows cols : ℕ) (text : List ℕ) (s : Screen) : Type 0 w
   pub some : 0 < length text → 0 < columns
   pub state : s.state ≡ state_at rows cols y columns
 
+-- the screen shows the end of the text: whole rows of it are lost at the top, no more than have to
+-- be, and what is left is shown alone
+pub record ShowsEnd (rows cols : ℕ) (text : List ℕ) (s : Screen) : Type 0 where
+  pub lost : ℕ
+  pub above : List ℕ
+  pub left : List ℕ
+  pub parts : text ≡ above ++ left
+  pub whole_rows : length above ≡ lost * cols
+  pub few : 0 < lost → (rows - 1) * cols < length left
+  pub shown : ShowsText rows cols left s
+
 -- on the start screen a text of printable characters, no more than the screen has cells, shows
--- itself alone; it says nothing, and leaves nothing unfinished
+-- itself alone
 abbrev pub TextFillsRows : Type 0
 TextFillsRows =
     (rows cols : ℕ) (text : List ℕ) → 1 ≤ rows → 1 ≤ cols
     → All (λ byte. is_printable byte ≡ true) text → length text ≤ rows * cols
+    → ShowsText rows cols text (after (start rows cols) text).state
+
+-- a text of any length shows its end; it says nothing, and leaves nothing unfinished
+abbrev pub TextScrolls : Type 0
+TextScrolls =
+    (rows cols : ℕ) (text : List ℕ) → 1 ≤ rows → 1 ≤ cols
+    → All (λ byte. is_printable byte ≡ true) text
     → let end = after (start rows cols) text in
-    ShowsText rows cols text end.state × (end.rest.text ≡ []) × (said (start rows cols) text ≡ [])
+    ShowsEnd rows cols text end.state × (end.rest.text ≡ []) × (said (start rows cols) text ≡ [])
