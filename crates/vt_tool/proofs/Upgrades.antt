@@ -11,7 +11,7 @@ use Rattle.vt_journal.specs.declared.journal.Journal.{Journal}
 use Rattle.vt_journal.specs.declared.tail.Tail.{Tail}
 
 -- a journal's text begins with the first line of its version
-first_line : (text : List ℕ) (j : Journal) → JournalSays text (Ok j) → HasFirst j.version text
+pub first_line : (text : List ℕ) (j : Journal) → JournalSays text (Ok j) → HasFirst j.version text
 first_line text j (Whole version entries end known fit fit_e few is) = record {
   known = known;
   rest = flat_map line_text (map (entry_words version) entries ++ tail_words end ∷ []);
