@@ -1,5 +1,5 @@
 -- The commands over a session and a journal give one outcome for an input.
-use Rattle.std.proofs.Common.{refl, ◌≡◌, ℕ, ◌<◌, inl, inr, List, [], ◌∷◌, length, Result, Ok, Err, sym, ap, ◌∙◌, subst, arith}
+use Rattle.std.proofs.Common.{refl, ◌≡◌, ℕ, inl, inr, List, [], ◌∷◌, length, Result, Ok, Err, sym, ap, ◌∙◌, subst}
 use Rattle.key_compile.specs.Compiled.{OneValue}
 use Rattle.session_order.specs.Ends.{Setup}
 use Rattle.session_order.specs.Sessions.{setup_of, start_of}
@@ -10,21 +10,19 @@ use Rattle.vt_check.specs.declared.verdict.Verdict.{Verdict}
 use Rattle.vt_check.specs.declared.verdict.Verdict.TheVariants.{Legal, Illegal}
 use Rattle.vt_events.specs.declared.entry.Entry.{Entry}
 use Rattle.vt_explain.specs.Accepting.{Accepts, OneAcceptance}
-use Rattle.vt_explain.specs.CertText.{CertSays, OneCert, cert_text}
+use Rattle.vt_explain.specs.CertText.{OneCert, cert_text}
 use Rattle.vt_explain.specs.Certificates.{IsCertificate, OneCertificate}
 use Rattle.vt_explain.specs.declared.hop_why.HopWhy.{HopWhy}
-use Rattle.vt_explain.specs.declared.judged.Judged.{Judged}
 use Rattle.vt_journal.specs.Says.{JournalSays, OneJournal}
 use Rattle.vt_journal.specs.declared.j_fault.JFault.{JFault}
 use Rattle.vt_journal.specs.declared.journal.Journal.{Journal}
 use Rattle.vt_review.specs.Announcements.{review_text}
 use Rattle.vt_tool.proofs.Cuts.{one-cut}
 use Rattle.vt_tool.proofs.Setups.{one-setup, one-start}
-use Rattle.vt_tool.specs.Commands.Accept.{ComesOfCert, IsAccepted, IsAnswered, answered}
-use Rattle.vt_tool.specs.Commands.Check.{IsJudged, legal_text}
-use Rattle.vt_tool.specs.Commands.Explain.{IsExplained}
+use Rattle.vt_tool.specs.Commands.Accept.{ComesOfCert, IsAnswered, answered}
+use Rattle.vt_tool.specs.Commands.Check.{legal_text}
 use Rattle.vt_tool.specs.Commands.Judging.{ComesOf, GivesFaultBefore, GivesMade, IsParted, IsReadAs, MakesOf, OneOutcomeOf}
-use Rattle.vt_tool.specs.Commands.Review.{IsReviewed, ear_of}
+use Rattle.vt_tool.specs.Commands.Review.{ear_of}
 use Rattle.vt_tool.specs.Commands.Judged.{judged_text}
 use Rattle.vt_tool.specs.Outcome.{Outcome}
 use Rattle.vt_tool.specs.declared.commands.asked.Asked.{Asked}

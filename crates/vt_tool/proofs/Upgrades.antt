@@ -1,14 +1,10 @@
 -- A journal of version 1, by its first line.
-use Rattle.std.proofs.Common.{◌≡◌, ◌≢◌, ◌++◌, ℕ, List, ◌∷◌, [], Option, Some, Result, Ok, map, ap, subst, sym, ◌∙◌, arith}
+use Rattle.std.proofs.Common.{◌≡◌, ◌≢◌, ◌++◌, ℕ, List, ◌∷◌, [], Ok, map, subst, arith}
 use Rattle.std.specs.List.{flat_map}
-use Rattle.vt_events.specs.declared.entry.Entry.{Entry}
-use Rattle.vt_journal.specs.Callers.{IsVersion}
 use Rattle.vt_journal.specs.Journal.{entry_words, line_text, tail_words}
 use Rattle.vt_journal.specs.Says.{HasFirst, JournalSays}
 use Rattle.vt_journal.specs.Says.JournalSays.{Whole}
-use Rattle.vt_journal.specs.declared.j_fault.JFault.{JFault}
 use Rattle.vt_journal.specs.declared.journal.Journal.{Journal}
-use Rattle.vt_journal.specs.declared.tail.Tail.{Tail}
 
 -- a journal's text begins with the first line of its version
 pub first_line : (text : List ℕ) (j : Journal) → JournalSays text (Ok j) → HasFirst j.version text
