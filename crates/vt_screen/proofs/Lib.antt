@@ -16,3 +16,6 @@ mod Start
 mod TapeHalves
 mod TapeInside
 mod Tapes
+mod TextEnds
+mod TextRows
+mod TextSteps

@@ -15,6 +15,7 @@ mod saved;
 mod screen_state;
 mod stops;
 mod telling;
+mod text_laws;
 mod write;
 
 pub use emu::{BLANK, Emu, FEED_BYTES};
@@ -26,3 +27,4 @@ pub use report_text::ReportText;
 pub use saved::Saved;
 pub use screen_state::ScreenState;
 pub use stops::Stops;
+pub use text_laws::text_fills_rows;
