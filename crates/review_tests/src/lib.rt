@@ -1,4 +1,4 @@
-//! Tests of reviews: how often ears are asked.
+//! Tests of reviews: how often ears are asked; and of how far callers are.
 #![tactic(auto)]
 
 #[cfg(test)]

@@ -8,5 +8,6 @@ pub mod Programs
 pub mod Races
 pub mod Progress
 pub mod Rounds
+pub mod Standings
 pub mod Steps
 pub mod Turns

@@ -6,3 +6,4 @@ pub mod Meant
 pub mod Races
 pub mod Serial
 pub mod Sessions
+pub mod Standing

@@ -1,7 +1,10 @@
-//! The order of a session's calls: whose call is next, how a history ends, and the schedule that plays
-//! a session on one thread.
+//! The order of a session's calls: whose call is next, how far each caller is, how a history ends, and
+//! the schedule that plays a session on one thread.
 #![tactic(auto)]
 
+mod counts;
 mod laws;
+mod standing;
 
 pub use laws::{meant_laws, race_laws, serial_laws};
+pub use standing::Standing;

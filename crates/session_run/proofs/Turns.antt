@@ -1,20 +1,18 @@
 -- A turn of a play: its call is entered, finds no room, or isn't there.
-use Rattle.std.proofs.Common.{◌≡◌, ℕ, ◌+◌, ◌<◌, ◌≤◌, Bool, true, false, true≢false, cond, arith, List, [], ◌∷◌, ◌++◌, filter, length, get_or, replicate, Option, Some, None, refl, sym, ap, ◌∙◌, subst}
+use Rattle.std.proofs.Common.{◌≡◌, ℕ, ◌+◌, Bool, true, false, true≢false, cond, arith, List, [], ◌∷◌, ◌++◌, filter, length, Option, Some, None, refl, sym, ap, ◌∙◌, subst}
 use Rattle.std.proofs.lemmas.Bool.{and_from, and_parts, false_from_ne_true, le-leb, leb-true, lt-ltb, ltb-true}
-use Rattle.std.proofs.lemmas.List.{get_or-replicate, length-map, length-replicate}
+use Rattle.std.proofs.lemmas.List.{length-map}
 use Rattle.std.proofs.lemmas.List.Folds.{fold-map}
-use Rattle.std.specs.List.{All, range_with_len, sum_by}
+use Rattle.std.specs.List.{range_with_len, sum_by}
 use Rattle.std.specs.Prelude.{is_some, nat_le, nat_lt, if◌then◌else◌}
 use Rattle.session_order.specs.Calls.{calls_by, next_by, next_of}
 use Rattle.session_order.specs.Ends.{Setup}
 use Rattle.vt_journal.specs.Room.{full_at, has_room}
 use Rattle.session_order.specs.Follows.{is_waiting}
-use Rattle.session_order.specs.Meant.{NextIsMeant, plain_history}
-use Rattle.session_order.specs.Serial.{Played, call_now, calls, entry_at, nothing_played, round, turn, turns}
+use Rattle.session_order.specs.Serial.{Played, call_now, calls, entry_at, round, turn, turns}
 use Rattle.session_run.specs.Callers.{callers_in, has_program}
-use Rattle.session_run.specs.Playing.{IsAt, PlayerView, StandsAfter}
-use Rattle.session_text.specs.Programs.{Call, next, program_of}
-use Rattle.session_text.specs.Walks.{Place, Stands}
+use Rattle.session_run.specs.Playing.{IsAt, PlayerView}
+use Rattle.session_text.specs.Programs.{program_of}
 use Rattle.session_text.specs.declared.program.Program.{Program}
 use Rattle.vt_events.specs.Charge.{charge_of}
 use Rattle.vt_events.specs.Plain.{plain_entry, plain_event}
@@ -28,21 +26,14 @@ use Rattle.vt_procs.specs.Callers.{caller_at}
 use Rattle.vt_procs.specs.Tickets.{is_open}
 use Rattle.vt_world.specs.History.{replay}
 
--- a walk that stands says which call p can make
-pub now-is : NextIsMeant → (o : Setup) (t : Played) (view : PlayerView) (p : ℕ) (program : Program) (walk : Place) (e : Option Event)
-    → ((made : List Call) → Stands program walk made → e ≡ next program made)
-    → p ≤ 67 → program_of o.programs p ≡ Some program
-    → walk ≡ get_or view.walks p walk → is_open (caller_at view.world.callers p).waiting ≡ false
-    → IsAt o t view → e ≡ call_now o t.history p
-now-is is_meant o t view p program walk e calls low there read shut at =
-    let after : StandsAfter program walk (calls_by p t.history) = at.stand p program walk low there read in
+-- the next call of p is the one that it can make, unless it waits
+pub now-is : (o : Setup) (t : Played) (view : PlayerView) (p : ℕ) (e : Option Event)
+    → e ≡ next_by o.programs p t.history
+    → is_open (caller_at view.world.callers p).waiting ≡ false → IsAt o t view
+    → e ≡ call_now o t.history p
+now-is o t view p e next_is shut at =
     let waits : is_waiting (replay o.start t.history) p ≡ false =
     sym (ap (λ w. is_waiting w p) at.replayed) ∙ shut in
-    let next_is : e ≡ next_by o.programs p t.history =
-    calls after.calls after.stands
-    ∙ sym (is_meant program after.calls)
-    ∙ ap (next program) after.meant
-    ∙ ap (λ found. next_of found (calls_by p t.history)) (sym there) in
     next_is ∙ ap (λ b. if b then None else next_by o.programs p t.history) (sym waits)
 
 -- a waiting caller can make none
@@ -205,30 +196,5 @@ turn-fills o t p e before full none at going now is =
       stop = ap Some full_is;
       limits = at.limits;
       replayed = at.replayed;
-      walks = at.walks;
-      stand = at.stand;
-      places = at.places;
-      counted = at.counted;
+      standing = at.standing;
     })
-
--- a player before its first call
-pub first-at : (o : Setup) (view : PlayerView) → view.world ≡ o.start → view.log.entries ≡ []
-    → view.log.limits ≡ o.limits → view.counts ≡ replicate 68 0 → view.stop ≡ None
-    → length view.walks ≡ 68
-    → All (λ walk. (p : Program) → Stands p walk []) view.walks → IsAt o nothing_played view
-first-at o view opened empty limits zero going many stand = record {
-  history = ap plain_history empty;
-  stop = going;
-  limits = limits;
-  replayed = opened;
-  walks = many;
-  stand = λ q program walk low is read.
-      let within : q < length view.walks = omega (arith, low, many) in
-      record {
-        calls = [];
-        stands = subst (λ w. Stands program w []) (sym read) (stand q walk within program);
-        meant = refl;
-      };
-  places = ap length zero ∙ length-replicate {A = ℕ} 68 0;
-  counted = λ q within. ap (λ counts. get_or counts q 0) zero ∙ get_or-replicate 68 q 0 0 (omega (arith, within));
-}

@@ -5,9 +5,9 @@ use Rattle.std.proofs.lemmas.List.{map-append}
 use Rattle.atomic_table.specs.Seated.{TableId}
 use Rattle.session_order.specs.Calls.{as_meant, call_of}
 use Rattle.session_order.specs.Meant.{NextIsMeant, NextIsPlain}
+use Rattle.session_order.proofs.Standings.{Walks, next-after, stands-more}
 use Rattle.session_order.specs.Races.{IsRun, RunsGrow}
-use Rattle.session_run.proofs.Plays.{Walks, stands_more}
-use Rattle.session_run.specs.Playing.{StandsAfter}
+use Rattle.session_order.specs.Standing.{StandsAfter}
 use Rattle.session_text.specs.Programs.{Call, WaitsAreEnded, call, next}
 use Rattle.session_text.specs.Walks.{Place, Stands}
 use Rattle.session_text.specs.declared.program.Program.{Program}
@@ -39,13 +39,6 @@ pub record AtWork (program : Program) (walk : Place) (here : TableId) (number : 
 abbrev pub Gives : Program → Place → Option Event → Type 0
 Gives program walk e = (made : List Call) → Stands program walk made → e ≡ next program made
 
-next-after : NextIsMeant → (program : Program) (walk : Place) (made : List Call) (e : Option Event)
-    → StandsAfter program walk made → Gives program walk e → next program made ≡ e
-next-after is_meant program walk made e after gives =
-    sym (ap (next program) after.meant)
-    ∙ is_meant program after.calls
-    ∙ sym (gives after.calls after.stands)
-
 -- entries that end with an answer wait
 abbrev LastWaits : List Entry → Type 0
 LastWaits entries =
@@ -76,7 +69,7 @@ not-waiting is_meant ended program walk here number q e at gives goes = ⊎_elim
     let calls : map call_of q.mine ≡ map call_of made ++ call_of last ∷ [] =
     ap (map call_of) behind.2 ∙ map-append call_of made (last ∷ []) in
     let is : next program (map call_of made ++ call_of last ∷ []) ≡ Some e =
-    sym (ap (next program) calls) ∙ next-after is_meant program walk (map call_of q.mine) (Some e) at.stands gives in
+    sym (ap (next program) calls) ∙ sym (next-after is_meant program walk (map call_of q.mine) (Some e) at.stands gives) in
     let same : e ≡ event.WaitEnd =
     ended program (map call_of made) (call_of last) e (wait_plain last.reply ∙ behind.3) is in
     absurd (true≢false (sym (ap ends_wait same) ∙ goes)))
@@ -91,7 +84,7 @@ works_on : NextIsMeant → NextIsPlain → RunsGrow → (start : WorldState) (mo
     → AtWork program moved here number w
 works_on is_meant is_plain grows start most program walk moved here number e v w place r at gives called walks =
     let next_is : next program (map call_of v.mine) ≡ Some e =
-    next-after is_meant program walk (map call_of v.mine) (Some e) at.stands gives in
+    sym (next-after is_meant program walk (map call_of v.mine) (Some e) at.stands gives) in
     let plain : plain_event e ≡ e = is_plain program (map call_of v.mine) e next_is in
     let entry : Entry = called.entry in
     let event : plain_event entry.event ≡ e = ap plain_event called.event ∙ plain in
@@ -104,7 +97,7 @@ works_on is_meant is_plain grows start most program walk moved here number e v w
     ∙ sym (map-append call_of v.mine (entry ∷ []))
     ∙ sym (ap (map call_of) called.mine) in
     let stands : StandsAfter program moved (map call_of v.mine ++ as_meant (call e r) ∷ []) =
-    stands_more is_meant program walk moved (map call_of v.mine) e r at.stands walks next_is in
+    stands-more is_meant program walk moved (map call_of v.mine) e r at.stands walks next_is in
     record {
       own = called.hub ∙ at.own;
       numbered = called.number ∙ at.numbered;

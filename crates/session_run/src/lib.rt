@@ -3,7 +3,6 @@
 #![tactic(auto)]
 
 mod callers;
-mod counts;
 mod drill;
 mod drill_draws;
 mod drill_items;

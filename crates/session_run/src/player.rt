@@ -1,33 +1,28 @@
-ghost use Rattle.std.specs.Prelude.{◌≡◌, List, ◌∷◌, ◌++◌, [], None, Some, length, All, IfOk, OnOk};
+ghost use Rattle.std.specs.Prelude.{◌≡◌, ◌∷◌, ◌++◌, [], None, Some, IfOk, OnOk};
 ghost use Rattle.session_order.specs.Ends.{Setup};
 ghost use Rattle.session_order.specs.Serial.{Played, call_now, entry_at, nothing_played, turn};
 ghost use Rattle.session_run.specs.Playing.{IsAt};
 ghost use Rattle.session_order.specs.Sessions.{setup_of};
 ghost use Rattle.session_text.specs.Programs.{program_of};
-ghost use Rattle.session_text.specs.Walks.{Stands};
-ghost use Rattle.session_text.specs.declared.program.Program.{Program};
 ghost use Rattle.vt_events.specs.Charge.{charge_of};
 ghost use Rattle.vt_journal.specs.Log.{HasRoom};
 
-use crate::counts::Counts;
-use session_order::meant_laws;
-use session_text::{Program, Session, Walk};
+use session_order::{Standing, meant_laws};
+use session_text::{Program, Session};
 use std::alloc::Global;
 use std::marker::Model;
-use vt_base::{CALLERS, CallerNo, NoMemory};
+use vt_base::{CallerNo, NoMemory};
 use vt_events::{Entry, Event, charge};
 use vt_hub::Run;
 use vt_journal::{Full, Log};
 use vt_world::{World, legal_grows, spare_for};
 
-/// A console, its journal so far, where each caller's walk through its program stands, how many calls
-/// each made, and where the play stopped.
+/// A console, its journal so far, how far each caller is, and where the play stopped.
 #[derive(Debug, Drop)]
 pub(crate) struct Player {
     pub(crate) world: World,
     pub(crate) log: Log,
-    pub(crate) walks: Vec<Walk>,
-    counts: Counts,
+    pub(crate) standing: Standing,
     pub(crate) stop: Option<Full>,
 }
 
@@ -39,8 +34,7 @@ impl Model for Player {
     ghost view = { λ p. record {
       world = p.world;
       log = p.log;
-      walks = p.walks.items;
-      counts = p.counts;
+      standing = p.standing;
       stop = p.stop;
     } };
 }
@@ -48,18 +42,16 @@ impl Model for Player {
 impl Player {
     /// Nothing is called yet.
     pub(crate) fn open(alloc: Global, s: &Session) -> Result<Player, NoMemory>
-        ensures at { IfOk result (λ player. IsAt (setup_of s.now) nothing_played player) }
-        ensures walks { IfOk result (λ player. length player.walks ≡ 68) }
+        ensures { IfOk result (λ player. IsAt (setup_of s.now) nothing_played player) }
     {
         let limits = s.limits();
         let world = World::start(alloc, s.config(), s.key_tables())?;
         let log = Log::with_room(alloc, limits.events, limits.bytes)?;
-        let walks = first_walks(alloc, CALLERS)?;
+        let standing = Standing::start(alloc)?;
         Ok(Player {
             world,
             log,
-            walks,
-            counts: Counts::new(),
+            standing,
             stop: None,
         })
     }
@@ -72,12 +64,10 @@ impl Player {
         p: CallerNo,
         event: Event,
     ) -> Result<(), NoMemory>
-        requires { length self.old.walks ≡ 68 }
-        ensures at { OnOk result ((o : Setup) (t : Played)
+        ensures { OnOk result ((o : Setup) (t : Played)
             → program_of o.programs p ≡ Some program.now → t.stop ≡ None
             → call_now o t.history p ≡ Some event
             → IsAt o t self.old → IsAt o (turn o p t) self.new) }
-        ensures walks { OnOk result (length self.new.walks ≡ 68) }
     {
         let charge = charge(&event);
         if self.log.room(charge) {
@@ -115,24 +105,20 @@ impl Player {
         p: CallerNo,
         event: Event,
     ) -> Result<(), NoMemory>
-        requires walks { length self.old.walks ≡ 68 }
-        requires room { HasRoom self.old.log (charge_of event) }
-        ensures at { OnOk result ((o : Setup) (t : Played)
+        requires { HasRoom self.old.log (charge_of event) }
+        ensures { OnOk result ((o : Setup) (t : Played)
             → program_of o.programs p ≡ Some program.now → t.stop ≡ None
             → call_now o t.history p ≡ Some event → IsAt o t self.old
             → IsAt o (record { history = t.history ++ entry_at o.start t.history p event ∷ []; stop = None })
             self.new) }
-        ensures walks { OnOk result (length self.new.walks ≡ 68) }
     {
         legal_grows();
         meant_laws();
         let _entries = self.log.entries();
-        let number = p.get();
         let spare = spare_for(alloc, &event, self.world.size())?;
         let (reply, _unused) = self.world.step(p, &event, spare);
-        let seq = self.counts.next(p);
-        let walk = &mut self.walks[usize::from(number)];
-        walk.took(program, &reply);
+        let seq = self.standing.count(p);
+        self.standing.took(p, program, &reply);
         self.log.push(Entry {
             caller: p,
             seq,
@@ -141,17 +127,4 @@ impl Player {
         });
         Ok(())
     }
-}
-
-// A walk for each caller, of which nothing was called.
-fn first_walks(alloc: Global, callers: usize) -> Result<Vec<Walk>, NoMemory>
-    ensures callers { IfOk result (λ walks. length walks.items ≡ callers) }
-    ensures stand { IfOk result (λ walks.
-        All (λ walk. (p : Program) → Stands p walk []) walks.items) }
-{
-    let mut walks = Vec::with_capacity(alloc, callers)?;
-    for _caller in 0..callers {
-        walks.push(Walk::start())?;
-    }
-    Ok(walks)
 }

@@ -1,4 +1,4 @@
-ghost use Rattle.std.specs.Prelude.{◌≡◌, ◌≤◌, ℕ, List, length, All, OnOk};
+ghost use Rattle.std.specs.Prelude.{◌≡◌, ◌≤◌, ℕ, List, All, OnOk};
 ghost use Rattle.session_order.specs.Ends.{Setup};
 ghost use Rattle.session_order.specs.Laws.{IsFromStart};
 ghost use Rattle.session_order.specs.Serial.{IsSerial, Played, nothing_played, round, turns};
@@ -23,10 +23,8 @@ impl Player {
     ) -> Result<(), NoMemory>
         requires hooks { AreHooked programs.now hooks.now }
         requires known { All (λ p. p ≤ 67) callers.now }
-        requires walks { length self.old.walks ≡ 68 }
-        ensures at { OnOk result ((o : Setup) (t : Played) → o.programs ≡ programs.now
+        ensures { OnOk result ((o : Setup) (t : Played) → o.programs ≡ programs.now
             → IsAt o t self.old → IsAt o (turns o callers.now t) self.new) }
-        ensures walks { OnOk result (length self.new.walks ≡ 68) }
     {
         for caller in callers {
             let p = CallerNo::numbered(u16::from(*caller));
@@ -45,10 +43,8 @@ impl Player {
     ) -> Result<(), NoMemory>
         requires hooks { AreHooked programs.now hooks.now }
         requires callers { callers.now ≡ callers_in programs.now }
-        requires walks { length self.old.walks ≡ 68 }
-        ensures at { OnOk result ((o : Setup) (t : Played) → o.programs ≡ programs.now
+        ensures { OnOk result ((o : Setup) (t : Played) → o.programs ≡ programs.now
             → IsAt o t self.old → IsAt o (round o t) self.new) }
-        ensures walks { OnOk result (length self.new.walks ≡ 68) }
     {
         for p in callers {
             self.turn(alloc, programs, hooks, *p)?;
@@ -68,7 +64,6 @@ impl Player {
     ) -> Result<(), NoMemory>
         requires hooks { AreHooked programs.now hooks.now }
         requires callers { callers.now ≡ callers_in programs.now }
-        requires walks { length self.old.walks ≡ 68 }
         requires events { events ≤ 1_000_000 }
         ensures { OnOk result ((o : Setup) (first : List ℕ) → IsFromStart o
             → o.programs ≡ programs.now → o.limits.events ≡ events

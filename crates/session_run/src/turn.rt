@@ -1,4 +1,4 @@
-ghost use Rattle.std.specs.Prelude.{◌≡◌, Some, length, IfOk, OnOk};
+ghost use Rattle.std.specs.Prelude.{◌≡◌, Some, IfOk, OnOk};
 ghost use Rattle.session_order.specs.Ends.{Setup};
 ghost use Rattle.session_order.specs.Serial.{Played, call_now, turn};
 ghost use Rattle.session_run.specs.Callers.{AreHooked, HasHook};
@@ -7,7 +7,6 @@ ghost use Rattle.session_text.specs.Programs.{program_of};
 
 use crate::callers::next_call;
 use crate::player::Player;
-use session_order::meant_laws;
 use session_text::{Program, program_of};
 use sig_hooks::{Handler, Hook};
 use std::alloc::Global;
@@ -23,11 +22,9 @@ impl Player {
         hooks: &[Hook<H>],
         p: CallerNo,
     ) -> Result<(), NoMemory>
-        requires hooks { AreHooked programs.now hooks.now }
-        requires walks { length self.old.walks ≡ 68 }
-        ensures at { OnOk result ((o : Setup) (t : Played) → o.programs ≡ programs.now
+        requires { AreHooked programs.now hooks.now }
+        ensures { OnOk result ((o : Setup) (t : Played) → o.programs ≡ programs.now
             → IsAt o t self.old → IsAt o (turn o p t) self.new) }
-        ensures walks { OnOk result (length self.new.walks ≡ 68) }
     {
         if self.stop.is_some() {
             return Ok(());
@@ -52,16 +49,14 @@ impl Player {
         hooks: &[Hook<H>],
         p: CallerNo,
     ) -> Result<Option<Event>, NoMemory>
-        requires hook { HasHook hooks.now p program.now }
-        requires walks { length self.now.walks ≡ 68 }
+        requires { HasHook hooks.now p program.now }
         ensures { IfOk result (λ e. (o : Setup) (t : Played)
             → program_of o.programs p ≡ Some program.now
             → IsAt o t self.now → e ≡ call_now o t.history p) }
     {
-        meant_laws();
         if self.world.waiting(p) {
             return Ok(None);
         }
-        next_call(alloc, &self.walks[usize::from(p.get())], program, hooks, p)
+        next_call(alloc, self.standing.walk(p), program, hooks, p)
     }
 }

@@ -1,211 +1,33 @@
 -- A judge that takes one entry more.
-use Rattle.std.proofs.Common.{◌≡◌, ℕ, ◌+◌, ◌-◌, ◌^◌, ◌≤◌, ◌<◌, min, Bool, ⊎_elim, arith, cond, List, [], ◌∷◌, ◌++◌, length, get_or, set, map, filter, replicate, Option, Some, refl, sym, ap, ◌∙◌, subst, append-nil}
-use Rattle.std.proofs.lemmas.Bool.{cases_eq, eq-eqb, ne_eqb}
-use Rattle.std.proofs.lemmas.Bool.Decides.{eqb_tells}
-use Rattle.std.proofs.lemmas.List.{get_or-replicate, get_or-set_same, get_or-set_other, length-replicate, length-set, length_push, map-append}
-use Rattle.std.proofs.lemmas.List.Elements.{filter-append}
-use Rattle.std.proofs.lemmas.List.Sums.{count_by-le-length, sum_by-append}
-use Rattle.std.proofs.lemmas.Option.{same_Some}
-use Rattle.std.specs.List.{All}
-use Rattle.std.specs.Prelude.{◌==◌, count_by}
-use Rattle.session_order.specs.Calls.{as_meant, call_of, calls_by, next_by, next_of}
+use Rattle.std.proofs.Common.{◌≡◌, ◌+◌, arith, List, [], ◌∷◌, ◌++◌, sym, ap, ◌∙◌}
+use Rattle.std.proofs.lemmas.List.{length_push}
+use Rattle.std.proofs.lemmas.List.Sums.{sum_by-append}
 use Rattle.session_order.specs.Ends.{Setup}
-use Rattle.session_order.specs.Follows.{IsNextCall}
-use Rattle.session_order.specs.Meant.{NextIsMeant}
-use Rattle.session_text.specs.Programs.{Call, call, next, program_of}
-use Rattle.session_text.specs.Walks.{Place, Stands}
-use Rattle.session_text.specs.declared.program.Program.{Program}
-use Rattle.vt_base.specs.Limits.{callers, greatest_caller}
-use Rattle.vt_check.specs.Judging.{IsAfter, JudgeView, StandsAfter}
+use Rattle.session_order.specs.Standing.{AreAfter}
+use Rattle.vt_check.specs.Judging.{IsAfter, JudgeView}
 use Rattle.vt_events.specs.Charge.{charge_of}
-use Rattle.vt_events.specs.Plain.{plain_event, plain_reply}
 use Rattle.vt_events.specs.declared.entry.Entry.{Entry}
-use Rattle.vt_events.specs.declared.event.Event.{Event}
-use Rattle.vt_events.specs.declared.event.Event.TheVariants as event
-use Rattle.vt_events.specs.declared.reply.Reply.{Reply}
 use Rattle.vt_world.specs.History.{ReplayGrows}
 use Rattle.vt_world.specs.Step.{step}
 
-pub event_twice : (e : Event) → plain_event (plain_event e) ≡ plain_event e
-event_twice (event.Write fd b) = refl
-event_twice (event.SetFunc fd i b) = refl
-event_twice (event.SetDia fd b) = refl
-event_twice (event.SetMap fd b) = refl
-event_twice (event.SetPal fd b) = refl
-event_twice e = refl
-
--- an entry of p is one more call of it, and none of another
-calls_mine : (h : List Entry) (entry : Entry) (q : ℕ) → entry.caller ≡ q
-    → calls_by q (h ++ entry ∷ []) ≡ calls_by q h ++ call_of entry ∷ []
-calls_mine h entry q mine =
-    ap (map call_of) (filter-append (λ (x : Entry). x.caller == q) h (entry ∷ [])
-    ∙ ap (λ b. filter (λ (x : Entry). x.caller == q) h ++ cond b (entry ∷ []) []) (eq-eqb entry.caller q mine))
-    ∙ map-append call_of (filter (λ (x : Entry). x.caller == q) h) (entry ∷ [])
-
-calls_others : (h : List Entry) (entry : Entry) (q : ℕ) → (entry.caller ≡ q → ⊥)
-    → calls_by q (h ++ entry ∷ []) ≡ calls_by q h
-calls_others h entry q apart =
-    ap (map call_of) (filter-append (λ (x : Entry). x.caller == q) h (entry ∷ [])
-    ∙ ap (λ b. filter (λ (x : Entry). x.caller == q) h ++ cond b (entry ∷ []) []) (ne_eqb entry.caller q apart))
-    ∙ map-append call_of (filter (λ (x : Entry). x.caller == q) h) []
-    ∙ append-nil (calls_by q h)
-
--- whether an entry is a call of this caller
-abbrev is_by : ℕ → Entry → Bool
-is_by q entry = entry.caller == q
-
--- one entry more counts for its caller alone
-count_more : (q : ℕ) (h : List Entry) (entry : Entry)
-    → count_by (is_by q) (h ++ entry ∷ []) ≡ count_by (is_by q) h + cond (is_by q entry) 1 0
-count_more q h entry =
-    let added = sum_by-append (λ (e : Entry). cond (is_by q e) 1 0) h (entry ∷ []) in
-    omega (arith, added)
-
--- the counts, where p's has risen
-counted : (counts : List ℕ) (h : List Entry) (entry : Entry) (q : ℕ) → q ≤ 67 → entry.caller ≤ 67
-    → length counts ≡ 68 → length h ≤ 1_000_000
-    → ((q : ℕ) → q ≤ 67 → get_or counts q 0 ≡ count_by (is_by q) h)
-    → get_or (set counts entry.caller (min (get_or counts entry.caller 0 + 1) (2 ^ 32 - 1))) q 0
-    ≡ count_by (is_by q) (h ++ entry ∷ [])
-counted counts h entry q within known places few old =
-    let n : ℕ = get_or counts entry.caller 0 in
-    let new : ℕ = min (n + 1) (2 ^ 32 - 1) in
-    let number : n ≡ count_by (is_by entry.caller) h = old entry.caller known in
-    let fits : new ≡ n + 1 = omega (arith, number, count_by-le-length (is_by entry.caller) h, few) in
-    ⊎_elim
-    (λ same.
-    let read : get_or (set counts entry.caller new) q 0 ≡ new =
-    subst (λ k. get_or (set counts entry.caller new) k 0 ≡ new) same.1
-    (get_or-set_same counts entry.caller new 0 (omega (arith, known, places))) in
-    let before : n ≡ count_by (is_by q) h = subst (λ k. n ≡ count_by (is_by k) h) same.1 number in
-    let one : ◌≡◌ {A = ℕ} (cond (is_by q entry) 1 0) 1 = ap (λ b. cond b 1 0) same.0 in
-    read ∙ fits ∙ omega (arith, before, one, count_more q h entry))
-    (λ other.
-    let none : ◌≡◌ {A = ℕ} (cond (is_by q entry) 1 0) 0 = ap (λ b. cond b 1 0) other.0 in
-    get_or-set_other counts entry.caller q new 0 (λ same. other.1 (sym same))
-    ∙ old q within
-    ∙ omega (arith, none, count_more q h entry))
-    (eqb_tells entry.caller q)
-
--- what a walk says of the calls that it stands for, when one more was made
-pub record Walks (program : Program) (walk moved : Place) (r : Reply) : Type 0 where
-  pub took :
-      (made : List Call) (e : Event) → Stands program walk made → next program made ≡ Some e
-      → Stands program moved (made ++ call e r ∷ [])
-
--- the walk stands behind one call more
-stands_more : NextIsMeant → (program : Program) (walk moved : Place) (made : List Call) (e : Event) (r : Reply)
-    → StandsAfter program walk made → Walks program walk moved r → next program made ≡ Some e
-    → StandsAfter program moved (made ++ as_meant (call e r) ∷ [])
-stands_more is_meant program walk moved made e r after walks next_is =
-    let here : next program after.calls ≡ Some e =
-    sym (is_meant program after.calls) ∙ ap (next program) after.meant ∙ next_is in
-    record {
-      calls = after.calls ++ call e r ∷ [];
-      stands = walks.took after.calls e after.stands here;
-      meant = map-append as_meant after.calls (call e r ∷ []) ∙ ap (λ m. m ++ as_meant (call e r) ∷ []) after.meant;
-    }
-
 -- what an entry that passes changes
-pub record Takes (entry : Entry) (program : Program) (before after : JudgeView) : Type 0 where
-  pub walk : Place
-  pub moved : Place
-  pub known : entry.caller ≤ 67
-  pub few : before.events ≤ 1_000_000
+pub record Takes (entry : Entry) (before after : JudgeView) : Type 0 where
   pub stepped : (step before.world entry.caller entry.event).world ≡ after.world
-  pub counts :
-      after.counts
-      ≡ set before.counts entry.caller
-      (min (get_or before.counts entry.caller 0 + 1) (2 ^ 32 - 1))
-  pub within : entry.caller < length before.walks
-  pub read : walk ≡ get_or before.walks entry.caller walk
-  pub walks : after.walks ≡ set before.walks entry.caller moved
-  pub took : Walks program walk moved entry.reply
   pub events : after.events ≡ before.events + 1
   pub bytes : after.bytes ≡ before.bytes + charge_of entry.event
 
-pub taken : NextIsMeant → ReplayGrows → (o : Setup) (h : List Entry) (entry : Entry) (program : Program)
-    (before after : JudgeView) → Takes entry program before after
-    → program_of o.programs entry.caller ≡ Some program
-    → IsNextCall o.start o.programs h entry → IsAfter o h before
+pub taken : ReplayGrows → (o : Setup) (h : List Entry) (entry : Entry) (before after : JudgeView)
+    → Takes entry before after → AreAfter o.programs (h ++ entry ∷ []) after.standing
+    → IsAfter o h before
     → IsAfter o (h ++ entry ∷ []) after
-taken is_meant grows o h entry program before after takes is follows at =
-    let p : ℕ = entry.caller in
-    let e : Event = plain_event entry.event in
-    let next_is : next program (calls_by p h) ≡ Some e =
-    ap (λ found. next_of found (calls_by p h)) (sym is) ∙ follows.next in
-    let call_is : as_meant (call e entry.reply) ≡ call_of entry =
-    λ i. call (event_twice entry.event i) (plain_reply entry.reply) in
-    let few : length h ≤ 1_000_000 = omega (arith, takes.few, at.events) in
+taken grows o h entry before after takes standing at =
     let added = sum_by-append (λ (x : Entry). charge_of x.event) h (entry ∷ []) in
     record {
       replayed =
           sym takes.stepped
-          ∙ ap (λ w. (step w p entry.event).world) at.replayed
+          ∙ ap (λ w. (step w entry.caller entry.event).world) at.replayed
           ∙ sym (grows o.start h entry);
-      walks = ap length takes.walks ∙ length-set before.walks p takes.moved ∙ at.walks;
-      stand = λ q other walk known is_other read_other. ⊎_elim
-          (λ mine.
-          let same_program : program ≡ other =
-          same_Some program other (sym is ∙ ap (program_of o.programs) mine ∙ is_other) in
-          let same_walk : walk ≡ takes.moved =
-          read_other
-          ∙ (λ i. get_or (takes.walks i) (sym mine i) walk)
-          ∙ get_or-set_same before.walks p takes.moved walk takes.within in
-          let made : calls_by p h ++ as_meant (call e entry.reply) ∷ [] ≡ calls_by q (h ++ entry ∷ []) =
-          ap (λ c. calls_by p h ++ c ∷ []) call_is ∙ sym (calls_mine h entry p refl) ∙ ap (λ k. calls_by k (h ++ entry ∷ [])) mine in
-          let stands : StandsAfter program takes.moved (calls_by p h ++ as_meant (call e entry.reply) ∷ []) =
-          stands_more is_meant program takes.walk takes.moved (calls_by p h) e entry.reply
-          (at.stand p program takes.walk takes.known is takes.read) takes.took next_is in
-          subst (λ m. StandsAfter other walk m) made
-          (subst (λ w. StandsAfter other w (calls_by p h ++ as_meant (call e entry.reply) ∷ [])) (sym same_walk)
-          (subst (λ x. StandsAfter x takes.moved (calls_by p h ++ as_meant (call e entry.reply) ∷ [])) same_program stands)))
-          (λ apart.
-          let read : walk ≡ get_or before.walks q walk =
-          read_other
-          ∙ ap (λ ws. get_or ws q walk) takes.walks
-          ∙ get_or-set_other before.walks p q takes.moved walk (λ same. apart (sym same)) in
-          subst (StandsAfter other walk) (sym (calls_others h entry q apart)) (at.stand q other walk known is_other read))
-          (cases_eq p q);
-      places = ap length takes.counts ∙ length-set before.counts p _ ∙ at.places;
-      counted = λ q within.
-          ap (λ counts. get_or counts q 0) takes.counts
-          ∙ counted before.counts h entry q within takes.known at.places few at.counted;
+      standing = standing;
       events = omega (arith, takes.events, at.events, length_push h entry);
       bytes = omega (arith, takes.bytes, at.bytes, added);
     }
-
--- a judge before its first entry
-pub first-after : (o : Setup) (view : JudgeView) → view.world ≡ o.start
-    → length view.walks ≡ callers
-    → All (λ walk. (p : Program) → Stands p walk []) view.walks → view.counts ≡ replicate 68 0
-    → view.events ≡ 0 → view.bytes ≡ 0 → IsAfter o [] view
-first-after o view opened many stand zero events bytes = record {
-  replayed = opened;
-  walks = many;
-  stand = λ q program walk known is read.
-      let within : q < length view.walks = omega (arith, known, many) in
-      record {
-        calls = [];
-        stands = subst (λ w. Stands program w []) (sym read) (stand q walk within program);
-        meant = refl;
-      };
-  places = ap length zero ∙ length-replicate {A = ℕ} 68 0;
-  counted = λ q within. ap (λ counts. get_or counts q 0) zero ∙ get_or-replicate 68 q 0 0 (omega (arith, within));
-  events = events;
-  bytes = bytes;
-}
-
--- what the walk of a caller has next is the next call of its program
-pub next_after : NextIsMeant → (o : Setup) (h : List Entry) (view : JudgeView) (q : ℕ) (program : Program)
-    (walk : Place) (e : Option Event)
-    → ((made : List Call) → Stands program walk made → e ≡ next program made)
-    → q ≤ greatest_caller → program_of o.programs q ≡ Some program → walk ≡ get_or view.walks q walk
-    → IsAfter o h view
-    → e ≡ next_by o.programs q h
-next_after is_meant o h view q program walk e gives known is read at =
-    let stands = at.stand q program walk known is read in
-    gives stands.calls stands.stands
-    ∙ sym (is_meant program stands.calls)
-    ∙ ap (next program) stands.meant
-    ∙ ap (λ found. next_of found (calls_by q h)) (sym is)

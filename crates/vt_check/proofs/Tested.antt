@@ -1,8 +1,9 @@
 -- What a judge's tests say.
-use Rattle.std.proofs.Common.{◌≡◌, ◌↔◌, ◌≤◌, Bool, true, false, ◌&&◌, List, get_or, Option, Some, None, refl, sym, ap, ◌∙◌}
-use Rattle.std.specs.Prelude.{IsTrue, is_some, option_map}
+use Rattle.std.proofs.Common.{◌≡◌, ◌↔◌, ℕ, Bool, true, false, ◌&&◌, List, Option, Some, None, refl, sym, ap, ◌∙◌}
+use Rattle.std.specs.Prelude.{◌==◌, IsTrue, count_by, is_some, option_map}
 use Rattle.std.proofs.lemmas.Bool.{and_from, both_ways, false_from_ne_true, false≢true}
 use Rattle.std.proofs.lemmas.Option.{none-some, same_Some}
+use Rattle.session_order.proofs.Standings.{event-twice}
 use Rattle.session_order.specs.Calls.{next_by}
 use Rattle.session_order.specs.Ends.{Setup}
 use Rattle.session_order.specs.Follows.{IsNextCall, is_waiting}
@@ -20,7 +21,6 @@ use Rattle.vt_world.specs.History.{replay}
 use Rattle.vt_world.specs.State.{WorldState}
 use Rattle.vt_world.specs.Step.{Outcome, step}
 use Rattle.vt_world.specs.Refusals.{ends_wait}
-use Rattle.vt_check.proofs.Growing.{event_twice}
 
 -- the answer was compared with the console's
 pub answered_is : (o : Setup) (h : List Entry) (view : JudgeView) (entry : Entry) (after : WorldState) (reply : Reply) (same : Bool)
@@ -76,7 +76,7 @@ next_is is_plain o h view entry goes same call program at going test is found co
       λ next.
           let call_is : call ≡ plain_event entry.event =
           same_Some call (plain_event entry.event) (found ∙ next.next) in
-          compared.1 (ap plain_event call_is ∙ event_twice entry.event),
+          compared.1 (ap plain_event call_is ∙ event-twice entry.event),
     )
 
 -- a program that is over has no next call
@@ -89,24 +89,24 @@ none_next o h entry none = (
 )
 
 -- an entry whose number doesn't count its caller's calls, and one whose number does
-pub not_counted : (o : Setup) (h : List Entry) (view : JudgeView) (entry : Entry) → entry.caller ≤ 67
-    → (entry.seq ≡ get_or view.counts entry.caller 0 → ⊥) → IsAfter o h view
+pub not_counted : (o : Setup) (h : List Entry) (entry : Entry) (count : ℕ)
+    → (entry.seq ≡ count → ⊥) → count ≡ count_by (λ earlier. earlier.caller == entry.caller) h
     → IsTrue false ↔ IsCounted o h entry
-not_counted o h view entry known other at = (
+not_counted o h entry count other counted = (
   λ no_way. absurd (false≢true no_way),
-  λ is. absurd (other (is.number ∙ sym (at.counted entry.caller known))),
+  λ is. absurd (other (is.number ∙ sym counted)),
 )
 
-pub counted_is : {A : Type 0} (read : A → Program) (o : Setup) (h : List Entry) (view : JudgeView) (entry : Entry)
-    (programs : List Program) (found : Option A) → entry.caller ≤ 67
-    → entry.seq ≡ get_or view.counts entry.caller 0 → o.programs ≡ programs
-    → option_map read found ≡ program_of programs entry.caller → IsAfter o h view
+pub counted_is : {A : Type 0} (read : A → Program) (o : Setup) (h : List Entry) (entry : Entry)
+    (programs : List Program) (found : Option A)
+    → entry.seq ≡ count_by (λ earlier. earlier.caller == entry.caller) h → o.programs ≡ programs
+    → option_map read found ≡ program_of programs entry.caller
     → IsTrue (is_some found) ↔ IsCounted o h entry
-counted_is {A = A} read o h view entry programs found known number same finds at =
+counted_is {A = A} read o h entry programs found number same finds =
     let has : is_some found ≡ is_some (program_of o.programs entry.caller) =
     some_map found ∙ (λ i. is_some (finds i))
     ∙ (λ i. is_some (program_of (sym same i) entry.caller)) in (
-      λ is. record { caller = sym has ∙ is; number = number ∙ at.counted entry.caller known },
+      λ is. record { caller = sym has ∙ is; number = number },
       λ is. has ∙ is.caller,
     )
   where

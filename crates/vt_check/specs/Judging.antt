@@ -1,12 +1,12 @@
 -- A judge on its way through a journal. No public clause names this.
-use Rattle.std.specs.Prelude.{◌≡◌, ℕ, ◌<◌, ◌≤◌, ◌==◌, true, false, List, length, count_by, map, Some, is_some, slice_index, slice_index_or}
-use Rattle.session_order.specs.Calls.{as_meant, calls_by, next_by}
+use Rattle.std.specs.Prelude.{◌≡◌, ℕ, ◌<◌, true, false, List, length, Some, is_some}
+use Rattle.session_order.specs.Calls.{next_by}
 use Rattle.session_order.specs.Ends.{Setup}
 use Rattle.session_order.specs.Follows.{is_waiting}
-use Rattle.session_text.specs.Programs.{Call, program_of}
-use Rattle.session_text.specs.Walks.{Place, Stands}
+use Rattle.session_order.specs.Standing.{AreAfter, StandingView}
+use Rattle.session_text.specs.Programs.{program_of}
 use Rattle.session_text.specs.declared.program.Program.{Program}
-use Rattle.vt_base.specs.Limits.{callers, greatest_caller}
+use Rattle.vt_base.specs.Limits.{callers}
 use Rattle.vt_events.specs.Charge.{charge_of}
 use Rattle.vt_events.specs.declared.entry.Entry.{Entry}
 use Rattle.vt_events.specs.declared.event.Event.{Event}
@@ -14,33 +14,18 @@ use Rattle.vt_journal.specs.Log.{charge_of_all}
 use Rattle.vt_world.specs.History.{replay}
 use Rattle.vt_world.specs.State.{WorldState}
 
--- what contracts see of `Judge`: the console, where each caller's walk stands, how many calls each made,
--- by the callers' numbers, and how many entries there were and what they count for
+-- what contracts see of `Judge`: the console, how far each caller is, and how many entries there were and
+-- what they count for
 pub record JudgeView : Type 0 where
   pub world : WorldState
-  pub walks : List Place
-  pub counts : List ℕ
+  pub standing : StandingView
   pub events : ℕ
   pub bytes : ℕ
-
--- the walk stands where these calls, as they are meant, were made
-pub record StandsAfter (program : Program) (walk : Place) (made : List Call) : Type 0 where
-  pub calls : List Call
-  pub stands : Stands program walk calls
-  pub meant : map as_meant calls ≡ made
 
 -- the judge is behind this history
 pub record IsAfter (o : Setup) (h : List Entry) (j : JudgeView) : Type 0 where
   pub replayed : j.world ≡ replay o.start h
-  pub walks : length j.walks ≡ callers
-  pub stand :
-      (q : ℕ) (program : Program) (walk : Place) → q ≤ greatest_caller
-      → program_of o.programs q ≡ Some program → walk ≡ slice_index_or j.walks q walk
-      → StandsAfter program walk (calls_by q h)
-  pub places : length j.counts ≡ callers
-  pub counted :
-      (q : ℕ) → q ≤ greatest_caller
-      → slice_index j.counts q ≡ count_by (λ entry. entry.caller == q) h
+  pub standing : AreAfter o.programs h j.standing
   pub events : j.events ≡ length h
   pub bytes : j.bytes ≡ charge_of_all h
 

@@ -1,5 +1,5 @@
 //! How a journal ends, judged.
-ghost use Rattle.std.specs.Prelude.{◌≡◌, ◌≤◌, ◌<◌, ◌↔◌, ℕ, List, length, IfOk, IfSome, IfNone, IsTrue};
+ghost use Rattle.std.specs.Prelude.{◌≡◌, ◌≤◌, ◌<◌, ◌↔◌, ℕ, List, IfOk, IfSome, IfNone, IsTrue};
 ghost use Rattle.std.specs.Bool.{OnFalse, OnTrue};
 ghost use Rattle.session_order.specs.Calls.{all_over, next_by};
 ghost use Rattle.session_order.specs.Ends.{EndsBy, Setup, Stops};
@@ -10,7 +10,6 @@ ghost use Rattle.vt_events.specs.declared.entry.Entry.{Entry};
 ghost use Rattle.vt_journal.specs.Room.{has_room};
 
 use crate::judge::Judge;
-use session_order::meant_laws;
 use session_text::{Program, program_of};
 use std::alloc::Global;
 use vt_base::{CALLERS, CallerNo, NoMemory};
@@ -32,7 +31,6 @@ impl Judge {
         programs: &[Program],
         end: &Tail,
     ) -> Result<Option<u8>, NoMemory>
-        requires walks { length self.now.walks ≡ callers }
         requires programs { AreOfCallers programs.now }
         requires bytes { self.now.bytes ≤ 1_073_741_824 }
         ensures fails { IfOk result (λ why. IfSome why (λ n. (o : Setup) (h : List Entry)
@@ -71,7 +69,6 @@ impl Judge {
 
     // Whether every program is over.
     fn are_over(&self, alloc: Global, programs: &[Program]) -> Result<bool, NoMemory>
-        requires walks { length self.now.walks ≡ callers }
         ensures { IfOk result (λ are. (o : Setup) (h : List Entry) → o.programs ≡ programs.now
             → IsAfter o h self.now → all_over o.programs h ≡ are) }
     {
@@ -94,7 +91,6 @@ impl Judge {
         programs: &[Program],
         full: &Full,
     ) -> Result<bool, NoMemory>
-        requires walks { length self.now.walks ≡ callers }
         requires programs { AreOfCallers programs.now }
         requires bytes { self.now.bytes ≤ 1_073_741_824 }
         ensures { IfOk result (λ is. (o : Setup) (h : List Entry) → o.programs ≡ programs.now
@@ -125,7 +121,6 @@ impl Judge {
         programs: &[Program],
         charge: u32,
     ) -> Result<bool, NoMemory>
-        requires walks { length self.now.walks ≡ callers }
         ensures found { IfOk result (λ is. OnTrue is ((o : Setup) (h : List Entry)
             → o.programs ≡ programs.now → IsAfter o h self.now
             → (caller : ℕ) × HasCall o h caller charge)) }
@@ -149,7 +144,6 @@ impl Judge {
         p: CallerNo,
         wanted: u32,
     ) -> Result<bool, NoMemory>
-        requires walks { length self.now.walks ≡ callers }
         ensures { IfOk result (λ is. (o : Setup) (h : List Entry) → o.programs ≡ programs.now
             → IsAfter o h self.now → IsTrue is ↔ HasCall o h p wanted) }
     {
@@ -169,13 +163,11 @@ impl Judge {
         programs: &[Program],
         p: CallerNo,
     ) -> Result<Option<Event>, NoMemory>
-        requires walks { length self.now.walks ≡ callers }
         ensures { IfOk result (λ e. (o : Setup) (h : List Entry) → o.programs ≡ programs.now
             → IsAfter o h self.now → e ≡ next_by o.programs p h) }
     {
-        meant_laws();
         match program_of(programs, p) {
-            Some(program) => self.walks[usize::from(p.get())].next(alloc, program),
+            Some(program) => self.standing.walk(p).next(alloc, program),
             None => Ok(None),
         }
     }

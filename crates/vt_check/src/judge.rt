@@ -1,23 +1,19 @@
-ghost use Rattle.std.specs.Prelude.{◌≡◌, ◌≤◌, ◌↔◌, ◌&&◌, List, [], ◌∷◌, ◌++◌, Some, is_some, length, All, IfOk, IfSome, IfNone, IsTrue};
+ghost use Rattle.std.specs.Prelude.{◌≡◌, ◌≤◌, ◌↔◌, ◌&&◌, List, [], ◌∷◌, ◌++◌, Some, is_some, IfOk, IfSome, IfNone, IsTrue};
 ghost use Rattle.session_order.specs.Ends.{Setup};
 ghost use Rattle.session_order.specs.Follows.{IsNextCall, is_waiting};
 ghost use Rattle.session_order.specs.Sessions.{setup_of};
 ghost use Rattle.session_text.specs.Programs.{program_of};
-ghost use Rattle.session_text.specs.Walks.{Stands};
-ghost use Rattle.session_text.specs.declared.program.Program.{Program};
-ghost use Rattle.vt_base.specs.Limits.{callers};
 ghost use Rattle.vt_check.specs.Judging.{IsAfter};
 ghost use Rattle.vt_check.specs.Verdicts.{FailsAt, IsAnswered, IsCounted, Passes};
 ghost use Rattle.vt_events.specs.declared.entry.Entry.{Entry};
 ghost use Rattle.vt_journal.specs.Room.{IsWithin};
 ghost use Rattle.vt_world.specs.Refusals.{ends_wait};
 
-use crate::counts::Counts;
-use session_order::meant_laws;
-use session_text::{Program, Session, Walk, program_of};
+use session_order::{Standing, meant_laws};
+use session_text::{Program, Session, program_of};
 use std::alloc::Global;
 use std::marker::Model;
-use vt_base::{CALLERS, NoMemory};
+use vt_base::NoMemory;
 use vt_events::{Entry, Event, charge};
 use vt_journal::{Limits, same_event, same_reply};
 use vt_world::{World, legal_grows, spare_for};
@@ -34,13 +30,11 @@ const NOT_ANSWERED: u8 = 3;
 /// That the journal's limits are passed.
 const PAST_LIMITS: u8 = 5;
 
-/// A console, where each caller's walk through its program stands, how many calls each made, how many
-/// entries there were and what they count for.
+/// A console, how far each caller is, how many entries there were and what they count for.
 #[derive(Debug, Drop)]
 pub(crate) struct Judge {
     pub(crate) world: World,
-    pub(crate) walks: Vec<Walk>,
-    counts: Counts,
+    pub(crate) standing: Standing,
     pub(crate) events: u32,
     pub(crate) bytes: u64,
 }
@@ -52,8 +46,7 @@ impl Model for Judge {
 
     ghost view = { λ j. record {
       world = j.world;
-      walks = j.walks.items;
-      counts = j.counts;
+      standing = j.standing;
       events = j.events;
       bytes = j.bytes;
     } };
@@ -67,11 +60,10 @@ impl Judge {
         ensures bytes { IfOk result (λ judge. judge.bytes ≡ 0) }
     {
         let world = World::start(alloc, s.config(), s.key_tables())?;
-        let walks = first_walks(alloc)?;
+        let standing = Standing::start(alloc)?;
         Ok(Judge {
             world,
-            walks,
-            counts: Counts::new(),
+            standing,
             events: 0,
             bytes: 0,
         })
@@ -85,7 +77,6 @@ impl Judge {
         programs: &[Program],
         entry: &Entry,
     ) -> Result<Option<u8>, NoMemory>
-        requires walks { length self.old.walks ≡ callers }
         requires events { self.old.events ≤ 1_000_000 }
         requires bytes { self.old.bytes ≤ 1_073_741_824 }
         ensures fails { IfOk result (λ why. IfSome why (λ n. (o : Setup) (h : List Entry)
@@ -97,7 +88,6 @@ impl Judge {
         ensures after { IfOk result (λ why. IfNone why ((o : Setup) (h : List Entry)
             → o.programs ≡ programs.now → IsAfter o h self.old
             → IsAfter o (h ++ entry.now ∷ []) self.new)) }
-        ensures walks { IfOk result (λ why. length self.new.walks ≡ callers) }
         ensures events { IfOk result (λ why. IfNone why (self.new.events ≤ limits.events)) }
         ensures bytes { IfOk result (λ why. IfNone why (self.new.bytes ≤ limits.bytes)) }
     {
@@ -123,8 +113,7 @@ impl Judge {
         ensures program { IfSome result
             (λ program. program_of programs.now entry.now.caller ≡ Some program.now) }
     {
-        entry.caller.stays_in_range();
-        if entry.seq != self.counts.of(entry.caller) {
+        if entry.seq != self.standing.count(entry.caller) {
             return None;
         }
         program_of(programs, entry.caller)
@@ -132,7 +121,6 @@ impl Judge {
 
     // Whether the call is the next of its caller's program, and ends no wait that goes on.
     fn is_next(&self, alloc: Global, program: &Program, entry: &Entry) -> Result<bool, NoMemory>
-        requires { length self.now.walks ≡ callers }
         ensures { IfOk result (λ is. (o : Setup) (h : List Entry)
             → program_of o.programs entry.now.caller ≡ Some program.now → IsAfter o h self.now
             → IsTrue is ↔ IsNextCall o.start o.programs h entry.now) }
@@ -141,8 +129,7 @@ impl Judge {
         if self.goes_on_waiting(entry) {
             return Ok(false);
         }
-        let walk = &self.walks[usize::from(entry.caller.get())];
-        match walk.next(alloc, program)? {
+        match self.standing.walk(entry.caller).next(alloc, program)? {
             Some(call) => Ok(same_event(&call, &entry.event)),
             None => Ok(false),
         }
@@ -163,7 +150,6 @@ impl Judge {
         program: &Program,
         entry: &Entry,
     ) -> Result<bool, NoMemory>
-        requires walks { length self.old.walks ≡ callers }
         requires events { self.old.events ≤ 1_000_000 }
         requires bytes { self.old.bytes ≤ 1_073_741_824 }
         ensures answered { IfOk result (λ is. (o : Setup) (h : List Entry) → IsAfter o h self.old
@@ -172,18 +158,14 @@ impl Judge {
             → program_of o.programs entry.now.caller ≡ Some program.now → IsAfter o h self.old
             → IsNextCall o.start o.programs h entry.now
             → IsAfter o (h ++ entry.now ∷ []) self.new) }
-        ensures walks { IfOk result (λ is. length self.new.walks ≡ length self.old.walks) }
     {
         legal_grows();
-        meant_laws();
         let spare = spare_for(alloc, &entry.event, self.world.size())?;
         let (reply, _unused) = self.world.step(entry.caller, &entry.event, spare);
         if !same_reply(&reply, &entry.reply) {
             return Ok(false);
         }
-        let walk = &mut self.walks[usize::from(entry.caller.get())];
-        walk.took(program, &entry.reply);
-        self.counts.add(entry.caller);
+        self.standing.took(entry.caller, program, &entry.reply);
         self.events += 1;
         self.bytes += u64::from(charge(&entry.event));
         Ok(true)
@@ -198,17 +180,4 @@ impl Judge {
     {
         self.events <= limits.events && self.bytes <= limits.bytes
     }
-}
-
-// A walk for each caller, of which nothing was called.
-fn first_walks(alloc: Global) -> Result<Vec<Walk>, NoMemory>
-    ensures many { IfOk result (λ walks. length walks.items ≡ callers) }
-    ensures stand { IfOk result (λ walks.
-        All (λ walk. (p : Program) → Stands p walk []) walks.items) }
-{
-    let mut walks = Vec::with_capacity(alloc, CALLERS)?;
-    for _caller in 0..CALLERS {
-        walks.push(Walk::start())?;
-    }
-    Ok(walks)
 }

@@ -2,7 +2,6 @@
 #![tactic(auto)]
 
 mod checking;
-mod counts;
 mod endings;
 mod judge;
 mod laws;

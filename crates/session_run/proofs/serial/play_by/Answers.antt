@@ -50,7 +50,7 @@ returns-clause-serial g c =
     let events : o.limits.events ≡ c.limits-limits.result.events =
     ap (λ (l : Limits). l.events) (sym c.limits-limits.ensures.same) in
     let turned : IsAt o (turns o first nothing_played) c.turns.new.self =
-    c.in_ok-turns.ensures.at o nothing_played same c.in_ok-player.ensures.at in
+    c.in_ok-turns.ensures o nothing_played same c.in_ok-player.ensures in
     let end : IsEnd o first c.rounds.new.self =
     c.in_ok-rounds.ensures o first (from-start c.args.s.now are) same events turned in
     subst (λ list. IsSerial o list (played c.end.result)) c.turns-first.ensures.same
@@ -66,7 +66,7 @@ returns-clause-world g c =
     let events : o.limits.events ≡ c.limits-limits.result.events =
     ap (λ (l : Limits). l.events) (sym c.limits-limits.ensures.same) in
     let turned : IsAt o (turns o first nothing_played) c.turns.new.self =
-    c.in_ok-turns.ensures.at o nothing_played same c.in_ok-player.ensures.at in
+    c.in_ok-turns.ensures o nothing_played same c.in_ok-player.ensures in
     let end : IsEnd o first c.rounds.new.self =
     c.in_ok-rounds.ensures o first (from-start c.args.s.now are) same events turned in
     run-world c.meant_laws.ensures.replay o end.0 c.rounds.new.self c.end.result end.2 c.end.ensures.world c.end.ensures.log

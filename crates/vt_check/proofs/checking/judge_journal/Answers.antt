@@ -48,7 +48,6 @@ loop-i-preserved c =
       after =
           subst (λ h. IsAfter o h c.judge.new.self) (sym (next_take entries c.loop-i.i c.index-entries-i.result here))
           (after o front (sym c.programs-programs.ensures.same) c.loop-i.invariant.after);
-      walks = c.in_ok-why.ensures.walks;
       events = omega (arith, events, c.limits-limits.ensures.events);
       bytes = omega (arith, bytes, c.limits-limits.ensures.bytes);
     }

@@ -6,28 +6,26 @@ use Rattle.vt_events.specs.Charge.{charge_of}
 use Rattle.vt_journal.specs.Log.{HasRoom}
 use Rattle.session_run.proofs.player.Player.call.Goals as goal
 
-pub returns-then-room-clause-at : goal.returns-then-room-clause-at
-returns-then-room-clause-at c = λ o t is going now at.
+pub returns-then-room : goal.returns-then-room
+returns-then-room c = λ o t is going now at.
     let before : PlayerView = record {
       world = c.self.inside.world;
       log = c.self.inside.log;
-      walks = c.self.inside.walks.items;
-      counts = c.self.inside.counts;
+      standing = c.self.inside.standing;
       stop = c.self.inside.stop;
     } in
     let here : IsAt o t before = subst (IsAt o t) (sym c.self.view_is) at in
     let room : HasRoom c.self.inside.log (charge_of c.args.event) =
     subst (HasRoom c.self.inside.log) c.charge-charge.ensures (c.room.ensures.0 c.if-room.true) in
     turn-enters o t c.args.p c.args.event before c.enter.new.self room here going now
-    (c.in_ok-enter.ensures.at o t is going now at)
+    (c.in_ok-enter.ensures o t is going now at)
 
-pub returns-clause-at : goal.returns-clause-at
-returns-clause-at c = λ o t is going now at.
+pub returns : goal.returns
+returns c = λ o t is going now at.
     let before : PlayerView = record {
       world = c.self.inside.world;
       log = c.self.inside.log;
-      walks = c.self.inside.walks.items;
-      counts = c.self.inside.counts;
+      standing = c.self.inside.standing;
       stop = c.self.inside.stop;
     } in
     turn-fills o t c.args.p c.args.event before

@@ -6,9 +6,9 @@ use Rattle.session_run.specs.Callers.{callers_in}
 use Rattle.session_run.specs.Playing.{IsAt}
 use Rattle.session_run.proofs.player.Player.round.Goals as goal
 
-pub returns-clause-at : goal.returns-clause-at
-returns-clause-at g c = λ o t same at.
-    let made = c.loop-p.invariant.at o t same at in
+pub returns : goal.returns
+returns g c = λ o t same at.
+    let made = c.loop-p.invariant o t same at in
     let over : made.0 ≡ turns o c.args.callers.now t =
     ap (λ rest. turns o rest made.0) (sym (drop_all c.loop-p.p-index c.args.callers.now c.loop-p-test.false)) ∙ made.2 in
     let is : turns o c.args.callers.now t ≡ round o t =

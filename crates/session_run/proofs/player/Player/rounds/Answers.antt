@@ -6,26 +6,23 @@ use Rattle.std.specs.Prelude.{is_some}
 use Rattle.session_run.proofs.player.Player.rounds.Goals as goal
 
 pub loop-round-preserved : goal.loop-round-preserved
-loop-round-preserved g c = record {
-  walks = c.in_ok-round.ensures.walks;
-  at = λ o t same at.
-      subst (λ x. IsAt o x c.round.new.self) (sym (c.serial_laws.ensures.sum o c.loop-round._round 1 t))
-      (c.in_ok-round.ensures.at o (rounds o c.loop-round._round t) same (c.loop-round.invariant.at o t same at));
-}
+loop-round-preserved g c = λ o t same at.
+    subst (λ x. IsAt o x c.round.new.self) (sym (c.serial_laws.ensures.sum o c.loop-round._round 1 t))
+    (c.in_ok-round.ensures o (rounds o c.loop-round._round t) same (c.loop-round.invariant o t same at))
 
 pub returns-then-is_some : goal.returns-then-is_some
 returns-then-is_some g c = λ o first start same events at.
     let t : Played = rounds o c.loop-round._round (turns o first nothing_played) in
-    let old : IsAt o t c.loop-round.self = c.loop-round.invariant.at o (turns o first nothing_played) same at in
-    let new : IsAt o (round o t) c.round.new.self = c.in_ok-round.ensures.at o t same old in
+    let old : IsAt o t c.loop-round.self = c.loop-round.invariant o (turns o first nothing_played) same at in
+    let new : IsAt o (round o t) c.round.new.self = c.in_ok-round.ensures o t same old in
     round-stops c.serial_laws.ensures.sum o first c.loop-round._round (round o t) c.round.new.self refl new
     (ap (λ (v : PlayerView). is_some v.stop) (sym c.self-in-loop-round.view_is) ∙ sym c.is_some.ensures ∙ c.if-is_some.true)
 
 pub returns-then-entries-before : goal.returns-then-entries-before
 returns-then-entries-before g c = λ o first start same events at.
     let t : Played = rounds o c.loop-round._round (turns o first nothing_played) in
-    let old : IsAt o t c.loop-round.self = c.loop-round.invariant.at o (turns o first nothing_played) same at in
-    let new : IsAt o (round o t) c.round.new.self = c.in_ok-round.ensures.at o t same old in
+    let old : IsAt o t c.loop-round.self = c.loop-round.invariant o (turns o first nothing_played) same at in
+    let new : IsAt o (round o t) c.round.new.self = c.in_ok-round.ensures o t same old in
     round-stays c.serial_laws.ensures.stays c.serial_laws.ensures.sum c.serial_laws.ensures.goes_on o first c.loop-round._round t (round o t)
     c.loop-round.self c.round.new.self start refl refl old new
     (ap (λ (v : PlayerView). length v.log.entries) (sym c.self-in-loop-round.view_is)
@@ -39,7 +36,7 @@ returns g c = λ o first start same events at.
     let begun : Played = turns o first nothing_played in
     let count : c.loop-round._round ≡ o.limits.events + 1 =
     omega (arith, events, c.loop-round-test.false, c.loop-round.auto._round-end) in
-    let old : IsAt o (rounds o c.loop-round._round begun) c.loop-round.self = c.loop-round.invariant.at o begun same at in (
+    let old : IsAt o (rounds o c.loop-round._round begun) c.loop-round.self = c.loop-round.invariant o begun same at in (
       rounds o (o.limits.events + 1) begun,
       c.serial_laws.ensures.ends o first start,
       subst (λ k. IsAt o (rounds o k begun) c.loop-round.self) count old,

@@ -1,6 +1,6 @@
-use Rattle.std.proofs.Common.{◌≡◌, ◌↔◌, ◌+◌, ◌<◌, ◌≤◌, List, length, get_or, set, refl, sym, ap, ◌∙◌, subst, arith}
+use Rattle.std.proofs.Common.{◌↔◌, ◌+◌, ◌≤◌, ◌∷◌, [], ◌++◌, length, refl, sym, ap, ◌∙◌, subst, arith}
 use Rattle.std.specs.Prelude.{IsTrue}
-use Rattle.session_text.specs.Walks.{Place}
+use Rattle.session_order.specs.Standing.{AreAfter}
 use Rattle.vt_check.proofs.Growing.{Takes, taken}
 use Rattle.vt_check.proofs.Tested.{answered_is}
 use Rattle.vt_check.specs.Judging.{IsAfter, JudgeView}
@@ -12,8 +12,7 @@ pub returns-then-not-same_reply-clause-answered : goal.returns-then-not-same_rep
 returns-then-not-same_reply-clause-answered c = λ o h at.
     let view : JudgeView = record {
       world = c.self.inside.world;
-      walks = c.self.inside.walks.items;
-      counts = c.self.inside.counts;
+      standing = c.self.inside.standing;
       events = c.self.inside.events;
       bytes = c.self.inside.bytes;
     } in
@@ -25,8 +24,7 @@ pub returns-clause-answered : goal.returns-clause-answered
 returns-clause-answered c = λ o h at.
     let view : JudgeView = record {
       world = c.self.inside.world;
-      walks = c.self.inside.walks.items;
-      counts = c.self.inside.counts;
+      standing = c.self.inside.standing;
       events = c.self.inside.events;
       bytes = c.self.inside.bytes;
     } in
@@ -36,39 +34,26 @@ returns-clause-answered c = λ o h at.
 
 pub returns-clause-after : goal.returns-clause-after
 returns-clause-after c = λ o h is program at next.
-    let p : c.from.result ≡ c.args.entry.now.caller = c.from.ensures ∙ c.get.ensures.same in
-    let items : List Place = c.self.inside.walks.items in
-    let walk : Place = c.index_mut-walk.result.now in
-    let moved : Place = c.took.new.self in
     let before : JudgeView = record {
       world = c.self.inside.world;
-      walks = items;
-      counts = c.self.inside.counts;
+      standing = c.self.inside.standing;
       events = c.self.inside.events;
       bytes = c.self.inside.bytes;
     } in
     let after : JudgeView = record {
       world = c.step-reply.new.self;
-      walks = set items c.from.result moved;
-      counts = c.add.new.self;
+      standing = c.took.new.self;
       events = c.self.inside.events + 1;
-      bytes = c.self.inside.bytes + c.from-2.result;
+      bytes = c.self.inside.bytes + c.from.result;
     } in
-    let takes : Takes c.args.entry.now c.args.program.now before after = record {
-      walk = walk;
-      moved = moved;
-      known = omega (arith, c.get.ensures.same, c.get.ensures.high);
-      few = subst (λ (v : JudgeView). v.events ≤ 1_000_000) (sym c.self.view_is) c.requires.events;
+    let here : IsAfter o h before = subst (IsAfter o h) (sym c.self.view_is) at in
+    let few : length h ≤ 1_000_000 =
+    omega (arith, here.events, ap (λ (v : JudgeView). v.events) c.self.view_is, c.requires.events) in
+    let standing : AreAfter o.programs (h ++ c.args.entry.now ∷ []) c.took.new.self =
+    c.took.ensures o.programs h c.args.entry.now program here.standing few refl next.next refl in
+    let takes : Takes c.args.entry.now before after = record {
       stepped = ap (λ (x : Outcome). x.world) c.step-reply.ensures.step;
-      counts = c.add.ensures;
-      within =
-          subst (λ (v : JudgeView). c.args.entry.now.caller < length v.walks) (sym c.self.view_is)
-          (omega (arith, c.get.ensures.same, c.get.ensures.high, c.requires.walks));
-      read = subst (λ k. walk ≡ get_or items k walk) p c.index_mut-walk.ensures.value;
-      walks = ap (λ k. set items k moved) p;
-      took = record { took = c.took.ensures };
       events = refl;
-      bytes = ap (λ n. c.self.inside.bytes + n) (c.from-2.ensures ∙ c.charge.ensures);
+      bytes = ap (λ n. c.self.inside.bytes + n) (c.from.ensures ∙ c.charge.ensures);
     } in
-    taken c.meant_laws.ensures.next c.legal_grows.ensures.replay o h c.args.entry.now c.args.program.now
-    before after takes program next (subst (IsAfter o h) (sym c.self.view_is) at)
+    taken c.legal_grows.ensures.replay o h c.args.entry.now before after takes standing here

@@ -3,7 +3,7 @@ use Rattle.std.proofs.lemmas.List.{length_push}
 use Rattle.std.proofs.lemmas.List.Elements.{All-push, All-same}
 use Rattle.session_text.specs.Walks.{Place, Stands}
 use Rattle.session_text.specs.declared.program.Program.{Program}
-use Rattle.session_run.proofs.player.first_walks.Goals as goal
+use Rattle.session_order.proofs.standing.first_walks.Goals as goal
 
 -- nothing was called
 abbrev Begins : Place → Type 0

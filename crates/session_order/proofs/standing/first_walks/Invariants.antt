@@ -2,7 +2,7 @@ use Rattle.std.proofs.Common.{◌≡◌, [], length}
 use Rattle.std.specs.List.{All}
 use Rattle.session_text.specs.Walks.{Stands}
 use Rattle.session_text.specs.declared.program.Program.{Program}
-use Rattle.session_run.proofs.player.first_walks.Given as goal
+use Rattle.session_order.proofs.standing.first_walks.Given as goal
 
 abbrev pub invariant-loop-caller : goal.invariant-loop-caller
 invariant-loop-caller l = record {
