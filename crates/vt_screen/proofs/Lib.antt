@@ -15,3 +15,6 @@ mod Start
 mod TapeHalves
 mod TapeInside
 mod Tapes
+mod TextEnds
+mod TextRows
+mod TextSteps

@@ -12,3 +12,4 @@ pub mod Saying
 pub mod Screen
 pub mod Settings
 pub mod Tape
+pub mod TextRows

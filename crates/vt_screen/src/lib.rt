@@ -13,6 +13,7 @@ mod report_text;
 mod saved;
 mod screen_state;
 mod stops;
+mod text_laws;
 mod write;
 
 pub use emu::{BLANK, Emu, FEED_BYTES};
@@ -23,3 +24,4 @@ pub use report_text::ReportText;
 pub use saved::Saved;
 pub use screen_state::ScreenState;
 pub use stops::Stops;
+pub use text_laws::text_fills_rows;
