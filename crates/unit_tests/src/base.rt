@@ -6,24 +6,40 @@ use vt_base::{
     parse_decimal,
 };
 
+// Places in the list of all consoles, and their numbers.
+const CONSOLES: &[(usize, u16)] = &[(0, 1), (62, 63)];
+
+fn is_console(place: usize, n: u16) -> bool {
+    ConsoleNo::all()[place.min(62)].get() == n
+}
+
+// Places in the list of all callers, their numbers, and whether they are keyboards.
+const CALLERS: &[(usize, u16, bool)] = &[(0, 0, true), (64, 64, false), (67, 67, true)];
+
+fn is_caller(place: usize, n: u16, keyboard: bool) -> bool {
+    let caller = CallerNo::all()[place.min(67)];
+    caller.get() == n && caller.is_keyboard() == keyboard
+}
+
+fn are_keyboards() -> bool {
+    let callers = CallerNo::all();
+    CallerNo::keyboards() == [callers[0], callers[65], callers[66], callers[67]]
+}
+
+fn begin_with_one() -> bool {
+    CallerNo::processes()[0].get() == 1 && CallerNo::KEYBOARD.get() == 0
+}
+
 #[test]
 fn numbers_are_listed_rising(rt: HostRuntime) {
-    let consoles = ConsoleNo::all();
-    let (low, high) = (consoles[0].get(), consoles[62].get());
-    check_name(&rt, low == 1 && high == 63, "consoles");
-    let callers = CallerNo::all();
-    let (keyboard, process, last) = (callers[0], callers[64], callers[67]);
-    check_name(&rt, keyboard.get() == 0, "the first caller");
-    check_name(&rt, process.get() == 64, "the last process");
-    check_name(&rt, last.get() == 67, "the last caller");
-    check_name(&rt, keyboard.is_keyboard(), "the first keyboard");
-    check_name(&rt, !process.is_keyboard(), "no keyboard");
-    check_name(&rt, last.is_keyboard(), "the last keyboard");
-    let keyboards = [keyboard, callers[65], callers[66], last];
-    check_name(&rt, CallerNo::keyboards() == keyboards, "keyboards");
-    let processes = CallerNo::processes();
-    check_name(&rt, processes[0].get() == 1, "the first process");
-    check_name(&rt, CallerNo::KEYBOARD.get() == 0, "the keyboard");
+    for &(place, n) in CONSOLES {
+        check_number(&rt, is_console(place, n), u32::from(n));
+    }
+    for &(place, n, keyboard) in CALLERS {
+        check_number(&rt, is_caller(place, n, keyboard), u32::from(n));
+    }
+    check_name(&rt, are_keyboards(), "keyboards");
+    check_name(&rt, begin_with_one(), "processes");
 }
 
 // Keyboards, and their callers.
@@ -133,12 +149,17 @@ fn knows_one_spelling(rt: HostRuntime) {
     }
 }
 
-fn grows(alloc: Global) -> Result<bool, NoMemory> {
-    let mut text = Bytes::from_slice(alloc, b"ab")?;
-    let was_full = text.room() == 0;
+fn grow(alloc: Global, text: &mut Bytes) -> Result<(), NoMemory> {
     text.grow(alloc, 3)?;
     text.append(b"c");
     text.push(b'd');
+    Ok(())
+}
+
+fn grows(alloc: Global) -> Result<bool, NoMemory> {
+    let mut text = Bytes::from_slice(alloc, b"ab")?;
+    let was_full = text.room() == 0;
+    grow(alloc, &mut text)?;
     Ok(was_full && text.as_slice() == b"abcd".as_slice() && text.room() == 1)
 }
 

@@ -86,9 +86,14 @@ fn is_copy(event: &Event) -> bool {
     }
 }
 
+fn copies(alloc: Global, event: &Event) -> Result<bool, NoMemory> {
+    let copy = event.copy(alloc)?;
+    Ok(is_copy(&copy))
+}
+
 fn copies_event(alloc: Global) -> Result<bool, NoMemory> {
-    let event = Event::SetFunc(3, 4, roomy(alloc, 5)?);
-    Ok(is_copy(&event.copy(alloc)?))
+    let b = roomy(alloc, 5)?;
+    copies(alloc, &Event::SetFunc(3, 4, b))
 }
 
 fn is_text(reply: &Reply) -> bool {
