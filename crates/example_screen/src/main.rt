@@ -1,5 +1,5 @@
-//! An example of the library: the escape machine alone. A text of any length goes in; what it says beside the screen
-//! comes out line by line, and then the rows.
+//! An example of the library: the escape machine alone. A text of any length goes in; line by line, what it says beside
+//! the screen comes out, and then the rows that it changed.
 #![tactic(auto)]
 
 mod drawing;

@@ -1,15 +1,59 @@
-//! What a text says beside the screen, as lines.
+//! What a text says beside the screen, and rows of the screen, as lines.
+ghost use Rattle.std.specs.Prelude.{◌<◌};
+
 use itoa::Buffer;
 use std::alloc::Global;
 use vt_base::{Bytes, NoMemory};
-use vt_screen::Out;
+use vt_dump::text_row;
+use vt_grid::Grid;
+use vt_screen::{Listener, Out};
 
-/// Adds a line for each thing said.
-pub fn add_all(alloc: Global, outs: &[Out], lines: &mut Bytes) -> Result<(), NoMemory> {
-    for out in outs {
-        add_said(alloc, out, lines)?;
+/// The lines so far. A listener can't answer that memory ran out, so that is kept until the end.
+#[derive(Drop)]
+pub struct Teller {
+    alloc: Global,
+    lines: Bytes,
+    is_short: bool,
+}
+
+impl Teller {
+    /// No lines yet.
+    pub fn new(alloc: Global) -> Teller {
+        Teller {
+            alloc,
+            lines: Bytes::new(alloc),
+            is_short: false,
+        }
     }
-    Ok(())
+
+    /// Adds a row after its number.
+    pub fn add_row(&mut self, grid: &Grid, y: u8) -> Result<(), NoMemory>
+        requires { y < grid.now.rows }
+    {
+        let row = text_row(self.alloc, grid, y)?;
+        add_number(self.alloc, b"row ", y, &mut self.lines)?;
+        add(self.alloc, b" ", &mut self.lines)?;
+        add(self.alloc, row.as_slice(), &mut self.lines)
+    }
+
+    /// The lines, if memory was found for all of them.
+    pub fn finish(self) -> Result<Bytes, NoMemory> {
+        if self.is_short {
+            return Err(NoMemory);
+        }
+        Ok(self.lines)
+    }
+}
+
+impl Listener for Teller {
+    ghost hears = { λ old out new. Unit {0} };
+
+    /// Adds a line.
+    fn hear(&mut self, out: Out) {
+        if add_said(self.alloc, &out, &mut self.lines).is_err() {
+            self.is_short = true;
+        }
+    }
 }
 
 fn add_said(alloc: Global, out: &Out, lines: &mut Bytes) -> Result<(), NoMemory> {

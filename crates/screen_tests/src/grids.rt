@@ -1,4 +1,5 @@
 mod calls;
+mod changes;
 mod edits;
 mod halves;
 mod row_edits;

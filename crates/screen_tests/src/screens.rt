@@ -4,6 +4,7 @@ mod cells;
 mod columns;
 mod cursor;
 mod cuts;
+mod hearing;
 mod sayings;
 mod sizes;
 

@@ -1,5 +1,6 @@
 mod Border
 mod Clears
+mod Copied
 mod Covered
 mod Edited
 mod Joins

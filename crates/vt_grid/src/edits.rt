@@ -69,6 +69,49 @@ pub fn scroll_down<L: Ledger>(
     requires row { bottom < store.old.rows }
     ensures { sheet_shown store.new ≡ scrolled_down (sheet_shown store.old) top bottom n c }
 {
+    if bottom - top == store.size().rows - 1 {
+        scroll_rows_down::<L>(store, top, bottom, n, c, blank);
+    } else {
+        scroll_some_down::<L>(store, top, bottom, n, c, blank);
+    }
+}
+
+// Does the same where these aren't all rows, out of line: then a scroll of all saves no registers.
+#[inline(never)]
+fn scroll_some_down<L: Ledger>(
+    store: &mut RowStore,
+    top: u8,
+    bottom: u8,
+    n: u16,
+    c: Cell,
+    blank: Blank,
+)
+    requires name { blank.name ≡ L.name }
+    requires parts { blank.parts ≡ L.parts }
+    requires some { 0 < blank.parts }
+    requires order { top ≤ bottom }
+    requires row { bottom < store.old.rows }
+    ensures { sheet_shown store.new ≡ scrolled_down (sheet_shown store.old) top bottom n c }
+{
+    scroll_rows_down::<L>(store, top, bottom, n, c, blank);
+}
+
+#[inline(always)]
+fn scroll_rows_down<L: Ledger>(
+    store: &mut RowStore,
+    top: u8,
+    bottom: u8,
+    n: u16,
+    c: Cell,
+    blank: Blank,
+)
+    requires name { blank.name ≡ L.name }
+    requires parts { blank.parts ≡ L.parts }
+    requires some { 0 < blank.parts }
+    requires order { top ≤ bottom }
+    requires row { bottom < store.old.rows }
+    ensures { sheet_shown store.new ≡ scrolled_down (sheet_shown store.old) top bottom n c }
+{
     let mut steps = Steps::<L>::open(blank);
     let _ = store.size();
     let height = bottom - top + 1;

@@ -105,6 +105,7 @@ impl Grid {
     }
 
     /// Does what [`Grid::scroll_up`] does, and counts its steps, of which none is told for a cell.
+    #[inline(always)]
     pub fn scroll_up_counted<L: Ledger>(
         &mut self,
         top: u8,
@@ -205,6 +206,35 @@ impl Grid {
 
 // Scrolls up, with a counter of its own.
 fn scroll_up_alone<L: Ledger>(grid: &mut Grid, top: u8, bottom: u8, n: u16, c: Cell, blank: Blank)
+    requires name { blank.name ≡ L.name }
+    requires parts { blank.parts ≡ L.parts }
+    requires some { 0 < blank.parts }
+    requires order { top ≤ bottom }
+    requires row { bottom < grid.old.rows }
+    ensures { grid.new ≡ scrolled_up grid.old top bottom n c }
+{
+    if bottom - top == grid.size().rows - 1 {
+        scroll_rows_up::<L>(grid, top, bottom, n, c, blank);
+    } else {
+        scroll_some_up::<L>(grid, top, bottom, n, c, blank);
+    }
+}
+
+// Does the same where these aren't all rows, out of line: then a scroll of all saves no registers.
+#[inline(never)]
+fn scroll_some_up<L: Ledger>(grid: &mut Grid, top: u8, bottom: u8, n: u16, c: Cell, blank: Blank)
+    requires name { blank.name ≡ L.name }
+    requires parts { blank.parts ≡ L.parts }
+    requires some { 0 < blank.parts }
+    requires order { top ≤ bottom }
+    requires row { bottom < grid.old.rows }
+    ensures { grid.new ≡ scrolled_up grid.old top bottom n c }
+{
+    scroll_rows_up::<L>(grid, top, bottom, n, c, blank);
+}
+
+#[inline(always)]
+fn scroll_rows_up<L: Ledger>(grid: &mut Grid, top: u8, bottom: u8, n: u16, c: Cell, blank: Blank)
     requires name { blank.name ≡ L.name }
     requires parts { blank.parts ≡ L.parts }
     requires some { 0 < blank.parts }

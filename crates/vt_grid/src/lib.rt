@@ -1,6 +1,7 @@
 //! The cells of a screen, and the edits that text makes to them.
 #![tactic(auto)]
 
+mod changes;
 mod code;
 mod edits;
 mod grid;

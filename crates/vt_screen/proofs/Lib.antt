@@ -3,6 +3,7 @@ mod Cuts
 mod Feeds
 mod Halved
 mod InsideTable
+mod Hearing
 mod Insides
 mod Narrow
 mod Printed

@@ -2,6 +2,7 @@ pub mod Cursor
 pub mod Effect
 pub mod Erasing
 pub mod Halves
+pub mod Hearing
 pub mod Inside
 pub mod Kept
 pub mod Narrow

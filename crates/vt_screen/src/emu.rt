@@ -162,7 +162,7 @@ impl Emu {
     // Does what stands at the front of the text, as much at once as can be, and tells how many bytes
     // that is.
     #[inline(always)]
-    fn take_front(&mut self, b: &[u8], outs: &mut Outs) -> usize
+    pub(crate) fn take_front(&mut self, b: &[u8], outs: &mut Outs) -> usize
         requires some { 0 < length b.now }
         requires room { length outs.old < 64 }
         ensures some { 0 < result }

@@ -1,4 +1,4 @@
-ghost use Rattle.std.specs.Prelude.{◌≡◌, ◌<◌, ◌≤◌, ◌+◌, [], ◌∷◌, ◌++◌, length};
+ghost use Rattle.std.specs.Prelude.{◌≡◌, ◌<◌, ◌≤◌, ◌+◌, [], ◌∷◌, ◌++◌, length, IfNone, IfSome};
 ghost use Rattle.vt_screen.specs.Run.{listed};
 
 use crate::Out;
@@ -54,6 +54,18 @@ impl Outs {
         if let Some(out) = said {
             self.items.push(out);
         }
+    }
+
+    // Takes out what was said first, if anything was.
+    #[inline(always)]
+    pub(crate) fn pop_first(&mut self) -> Option<Out>
+        ensures some { IfSome result (λ out. self.old ≡ out ∷ self.new) }
+        ensures none { IfNone result ((self.old ≡ []) × (self.new ≡ [])) }
+    {
+        if self.items.is_empty() {
+            return None;
+        }
+        Some(self.items.remove(0))
     }
 
     /// What was said, in order.

@@ -54,3 +54,27 @@ pub two-joined : (first second : ℕ) (p : PenState) → 0 < taken_by first (sec
     → sgr (first ∷ second ∷ []) p ≡ with_form first (second ∷ []) p
 two-joined first second p some =
     behind-taken (taken_by first (second ∷ [])) second (with_form first (second ∷ []) p) some
+
+drop-all : {A : Type 0} (xs : List A) → drop (length xs) xs ≡ []
+drop-all [] = refl
+drop-all (x ∷ xs) = drop-all xs
+
+-- the first parameter takes all others along
+pub all-joined : (n : ℕ) (rest : List ℕ) (p : PenState) → taken_by n rest ≡ length rest
+    → sgr (n ∷ rest) p ≡ with_form n rest p
+all-joined n rest p all =
+    let q : PenState = with_form n rest p in
+    sgr_behind-drop (taken_by n rest) rest q
+    ∙ ap (λ (taken : ℕ). sgr_behind 0 (drop taken rest) q) all
+    ∙ ap (λ (left : List ℕ). sgr_behind 0 left q) (drop-all rest)
+
+front-is : (params : List ℕ) (n : ℕ) (rest : List ℕ) → 0 < length params → get_or params 0 0 ≡ n
+    → rest ≡ drop 1 params → params ≡ n ∷ rest
+front-is [] n rest some head tail = absurd (omega (arith, some))
+front-is (x ∷ xs) n rest some head tail =
+    ap (λ (first : ℕ). first ∷ xs) head ∙ ap (λ (others : List ℕ). n ∷ others) (sym tail)
+
+pub one-form : (params : List ℕ) (n : ℕ) (rest : List ℕ) (p : PenState) → 0 < length params → get_or params 0 0 ≡ n
+    → rest ≡ drop 1 params → taken_by n rest ≡ length rest → sgr params p ≡ with_form n rest p
+one-form params n rest p some head tail all =
+    ap (λ (numbers : List ℕ). sgr numbers p) (front-is params n rest some head tail) ∙ all-joined n rest p all

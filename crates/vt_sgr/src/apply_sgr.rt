@@ -1,4 +1,4 @@
-ghost use Rattle.std.specs.Prelude.{◌≡◌, ◌≤◌, [], ◌∷◌, length};
+ghost use Rattle.std.specs.Prelude.{◌≡◌, ◌<◌, ◌≤◌, [], ◌∷◌, length};
 ghost use Rattle.vt_sgr.specs.Sgr.{colour_of, sgr, sgr_behind, taken_by, with_bg_colour, with_fg_colour, with_form};
 
 use crate::Pen;
@@ -18,8 +18,24 @@ pub fn apply(p: &mut Pen, params: &[u16])
         [] => set_form(p, 0, params),
         [n] => set_form(p, *n, &[]),
         [first, second] => apply_two(p, *first, *second),
-        _ => apply_all(p, params),
+        _ => apply_longer(p, params),
     }
+}
+
+// Most longer sequences are one colour, which needs no loop.
+fn apply_longer(p: &mut Pen, params: &[u16])
+    requires { 0 < length params.now }
+    ensures { p.new ≡ sgr params.now p.old }
+{
+    let rest = &params[1..];
+    if colour_len(rest) == rest.len() {
+        match params[0] {
+            38 => return set_fg_by(p, rest),
+            48 => return set_bg_by(p, rest),
+            _ => {}
+        }
+    }
+    apply_all(p, params);
 }
 
 // The usual sequences have one parameter or two: these need no loop.

@@ -4,6 +4,7 @@ ghost use Rattle.vt_sgr.specs.Sgr.{colour_len, colour_of};
 use vt_cells::rgb_of;
 
 /// The colour that the parameters after a 38 or 48 give: 5 and an index, or 2, red, green and blue.
+#[inline(always)]
 pub(crate) fn colour_of(rest: &[u16]) -> Option<(u8, u8, u8)>
     ensures { result ≡ colour_of rest.now }
 {

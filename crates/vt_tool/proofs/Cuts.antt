@@ -1,5 +1,5 @@
 -- Where an input is cut.
-use Rattle.std.proofs.Common.{refl, ◌≡◌, ℕ, ◌+◌, ◌<◌, ◌≤◌, ◌-◌, ◌++◌, inl, inr, List, [], length, take, drop, sym, ap, ◌∙◌, subst, arith, length-append, length-drop, length-take, take_all, ⊎_elim}
+use Rattle.std.proofs.Common.{refl, ◌≡◌, ℕ, ◌<◌, ◌≤◌, ◌-◌, inl, inr, List, [], length, take, drop, sym, ap, ◌∙◌, subst, arith, length-append, length-drop, length-take, take_all, ⊎_elim}
 use Rattle.std.proofs.Math.Seq.{take-append_seam, drop-append_seam}
 use Rattle.std.proofs.lemmas.Bool.{cases_lt}
 use Rattle.std.proofs.lemmas.List.{take-append-drop}

@@ -2,14 +2,20 @@ mod Checks
 mod Complete
 mod Cuts
 mod Drawing
+mod Keymaps
 mod Knows
 mod Made
+mod Meant
 mod Numbers
 mod Oks
+mod Once
 mod Outcomes
+mod Plays
 mod Sessions
+mod Setups
 mod Statuses
 pub mod Streams
 mod TypeTables
 mod Typed
+mod Upgraded
 mod Upgrades

@@ -1,79 +1,41 @@
 -- The commands over a session and a journal give one outcome for an input.
-use Rattle.std.proofs.Common.{refl, ◌≡◌, ℕ, ◌<◌, inl, inr, List, [], ◌∷◌, length, Result, Ok, Err, sym, ap, ◌∙◌, subst, arith}
+use Rattle.std.proofs.Common.{refl, ◌≡◌, ℕ, inl, inr, List, [], ◌∷◌, length, Result, Ok, Err, sym, ap, ◌∙◌, subst}
 use Rattle.key_compile.specs.Compiled.{OneValue}
 use Rattle.session_order.specs.Ends.{Setup}
 use Rattle.session_order.specs.Sessions.{setup_of, start_of}
 use Rattle.session_text.specs.Sessions.{IsSessionOf, OneSession, SessionValue, SessionView, session_says}
-use Rattle.session_text.specs.declared.program.Program.{Program}
 use Rattle.table_fields.specs.declared.fault.TableFault.{TableFault}
 use Rattle.vt_check.specs.Verdicts.{Judges, OneVerdict}
 use Rattle.vt_check.specs.declared.verdict.Verdict.{Verdict}
 use Rattle.vt_check.specs.declared.verdict.Verdict.TheVariants.{Legal, Illegal}
 use Rattle.vt_events.specs.declared.entry.Entry.{Entry}
 use Rattle.vt_explain.specs.Accepting.{Accepts, OneAcceptance}
-use Rattle.vt_explain.specs.CertText.{CertSays, OneCert, cert_text}
+use Rattle.vt_explain.specs.CertText.{OneCert, cert_text}
 use Rattle.vt_explain.specs.Certificates.{IsCertificate, OneCertificate}
 use Rattle.vt_explain.specs.declared.hop_why.HopWhy.{HopWhy}
-use Rattle.vt_explain.specs.declared.judged.Judged.{Judged}
 use Rattle.vt_journal.specs.Says.{JournalSays, OneJournal}
 use Rattle.vt_journal.specs.declared.j_fault.JFault.{JFault}
 use Rattle.vt_journal.specs.declared.journal.Journal.{Journal}
-use Rattle.vt_journal.specs.declared.limits.Limits.{Limits}
 use Rattle.vt_review.specs.Announcements.{review_text}
 use Rattle.vt_tool.proofs.Cuts.{one-cut}
-use Rattle.vt_tool.specs.Commands.Accept.{ComesOfCert, IsAccepted, IsAnswered, answered}
-use Rattle.vt_tool.specs.Commands.Check.{IsJudged, legal_text}
-use Rattle.vt_tool.specs.Commands.Explain.{IsExplained}
+use Rattle.vt_tool.proofs.Setups.{one-setup, one-start}
+use Rattle.vt_tool.specs.Commands.Accept.{ComesOfCert, IsAnswered, answered}
+use Rattle.vt_tool.specs.Commands.Check.{legal_text}
 use Rattle.vt_tool.specs.Commands.Judging.{ComesOf, GivesFaultBefore, GivesMade, IsParted, IsReadAs, MakesOf, OneOutcomeOf}
-use Rattle.vt_tool.specs.Commands.Review.{IsReviewed, ear_of}
+use Rattle.vt_tool.specs.Commands.Review.{ear_of}
 use Rattle.vt_tool.specs.Commands.Judged.{judged_text}
 use Rattle.vt_tool.specs.Outcome.{Outcome}
 use Rattle.vt_tool.specs.declared.commands.asked.Asked.{Asked}
 use Rattle.vt_tool.specs.declared.commands.asked.Asked.TheVariants as asked
 use Rattle.vt_tool.specs.declared.commands.cut.Mark.TheVariants as mark
 use Rattle.vt_world.specs.Laws.{moments}
-use Rattle.vt_world.specs.Start.{opening}
 use Rattle.vt_world.specs.State.{WorldState}
-
--- a function gives one value for seven arguments
-same7 : {A B C D E F G H : Type 0} (f : A → B → C → D → E → F → G → H) (a a' : A) (b b' : B)
-    (c c' : C) (d d' : D) (e e' : E) (g g' : F) (h h' : G)
-    → a ≡ a' → b ≡ b' → c ≡ c' → d ≡ d' → e ≡ e' → g ≡ g' → h ≡ h'
-    → f a b c d e g h ≡ f a' b' c' d' e' g' h'
-same7 f a a' b b' c c' d d' e e' g g' h h' p q r s t u v = cc
-
-abbrev limits_of : ℕ → ℕ → Limits
-limits_of events bytes = record { events = events; bytes = bytes }
-
-abbrev setup : WorldState → List Program → Limits → Setup
-setup start programs limits = record { start = start; programs = programs; limits = limits }
-
--- a value is of sessions that begin alike
-one-setup : OneValue → (value : SessionValue) (s t : SessionView) → IsSessionOf s value
-    → IsSessionOf t value → setup_of s ≡ setup_of t
-one-setup one_value value s t x y =
-    let starts : start_of s ≡ start_of t =
-    same7 opening s.config.size.rows t.config.size.rows s.config.size.cols t.config.size.cols
-    s.config.consoles t.config.consoles s.config.front t.config.front
-    s.config.keyboards t.config.keyboards s.config.procs t.config.procs s.tables t.tables
-    (x.rows ∙ sym y.rows) (x.cols ∙ sym y.cols) (x.consoles ∙ sym y.consoles)
-    (x.front ∙ sym y.front) (x.keyboards ∙ sym y.keyboards) (x.starts ∙ sym y.starts)
-    (one_value value.typed.lines s.tables t.tables x.tables y.tables) in
-    let limits : s.limits ≡ t.limits =
-    ap (λ (n : ℕ). limits_of n s.limits.bytes) (x.events ∙ sym y.events)
-    ∙ ap (λ (n : ℕ). limits_of t.limits.events n) (x.bytes ∙ sym y.bytes) in
-    ap (λ (w : WorldState). setup w s.programs s.limits) starts
-    ∙ ap (λ (p : List Program). setup (start_of t) p s.limits) (x.programs ∙ sym y.programs)
-    ∙ ap (λ (l : Limits). setup (start_of t) t.programs l) limits
 
 -- what is made of a journal is one outcome, wherever sessions begin alike
 abbrev pub OneMade : Asked → Type 0
 OneMade asked =
     (cert : List ℕ) (s t : SessionView) (j : Journal) (a b : Outcome) → setup_of s ≡ setup_of t
     → MakesOf asked cert s j a → MakesOf asked cert t j b → a ≡ b
-
-one-start : (s t : SessionView) → setup_of s ≡ setup_of t → start_of s ≡ start_of t
-one-start s t same = ap (λ (o : Setup). o.start) same
 
 -- one verdict
 same-verdict : OneVerdict → (s t : SessionView) (j : Journal) (v w : Verdict)

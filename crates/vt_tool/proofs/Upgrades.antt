@@ -1,17 +1,13 @@
 -- A journal of version 1, by its first line.
-use Rattle.std.proofs.Common.{◌≡◌, ◌≢◌, ◌++◌, ℕ, List, ◌∷◌, [], Option, Some, Result, Ok, map, ap, subst, sym, ◌∙◌, arith}
+use Rattle.std.proofs.Common.{◌≡◌, ◌≢◌, ◌++◌, ℕ, List, ◌∷◌, [], Ok, map, subst, arith}
 use Rattle.std.specs.List.{flat_map}
-use Rattle.vt_events.specs.declared.entry.Entry.{Entry}
-use Rattle.vt_journal.specs.Callers.{IsVersion}
 use Rattle.vt_journal.specs.Journal.{entry_words, line_text, tail_words}
 use Rattle.vt_journal.specs.Says.{HasFirst, JournalSays}
 use Rattle.vt_journal.specs.Says.JournalSays.{Whole}
-use Rattle.vt_journal.specs.declared.j_fault.JFault.{JFault}
 use Rattle.vt_journal.specs.declared.journal.Journal.{Journal}
-use Rattle.vt_journal.specs.declared.tail.Tail.{Tail}
 
 -- a journal's text begins with the first line of its version
-first_line : (text : List ℕ) (j : Journal) → JournalSays text (Ok j) → HasFirst j.version text
+pub first_line : (text : List ℕ) (j : Journal) → JournalSays text (Ok j) → HasFirst j.version text
 first_line text j (Whole version entries end known fit fit_e few is) = record {
   known = known;
   rest = flat_map line_text (map (entry_words version) entries ++ tail_words end ∷ []);

@@ -1,5 +1,6 @@
 pub mod Commands
 pub mod Input
+pub mod Laws
 pub mod Outcome
 pub mod Reading
 pub mod Run

@@ -17,7 +17,7 @@ mod tool;
 mod words;
 mod writing;
 
-pub use laws::{one_accept, one_check, one_explain, one_review};
+pub use laws::{one_accept, one_check, one_explain, one_outcome, one_review, race_outcomes};
 pub use run::vt_run;
 pub use status::Status;
 pub use streamed::Streamed;

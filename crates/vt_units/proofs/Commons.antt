@@ -1,11 +1,20 @@
 -- Characters of two or three bytes, whatever tails follow the first one.
-use Rattle.std.proofs.Common.{◌≡◌, ℕ, true, false, not, ◌==◌, ◌&&◌, ◌<◌, ◌≤◌, zero, suc, List, [], ◌∷◌, length, take, get_or, refl, sym, ap, ◌∙◌, subst, ◌⊎◌, inl, inr, ⊎_elim, arith}
-use Rattle.std.proofs.lemmas.Bool.{and_parts, cases_lt, cond-false, false≢true}
+use Rattle.std.proofs.Common.{◌≡◌, ℕ, Bool, true, false, not, ◌++◌, replicate, slice_index_or, ◌==◌, ◌&&◌, ◌<◌, ◌≤◌, zero, suc, List, [], ◌∷◌, length, take, get_or, refl, sym, ap, ◌∙◌, subst, ◌⊎◌, inl, inr, ⊎_elim, arith}
+use Rattle.std.proofs.lemmas.Bool.{agree_below_at, and_parts, cases_lt, cond-false, false≢true}
 use Rattle.std.proofs.lemmas.Bool.Decides.{nat_tests}
 use Rattle.vt_chars.specs.Utf8.{is_second, is_tail, within}
 use Rattle.vt_units.proofs.Sizes.{Sized, sized}
 use Rattle.vt_units.proofs.Wholes.{well}
 use Rattle.vt_units.specs.Characters.{Begins, IsTextOf, NoneBegins, is_common}
+
+-- the flags of the bytes, from 0 on
+abbrev flags : List Bool
+flags =
+    replicate 195 false ++ replicate 29 true ++ replicate 1 false ++ replicate 12 true ++ replicate 1 false
+    ++ replicate 2 true ++ replicate 16 false
+
+pub flag-is : (a : ℕ) → a < 256 → slice_index_or flags a false ≡ is_common a
+flag-is a below = agree_below_at (λ a. slice_index_or flags a false) is_common 256 a refl below
 
 -- any tail may follow
 second-is : (a b : ℕ) → is_common a ≡ true → is_second a b ≡ is_tail b

@@ -125,13 +125,13 @@ pub(crate) fn number_at(b: &[u8], at: usize) -> (u16, usize)
     }
     let one = with_digit(0, b[at]);
     if !is_digit(b[at + 1]) {
-        return (one, at + 1);
+        return (one as u16, at + 1);
     }
     let two = with_digit(one, b[at + 1]);
     if !is_digit(b[at + 2]) {
-        return (two, at + 2);
+        return (two as u16, at + 2);
     }
-    (with_digit(two, b[at + 2]), at + 3)
+    (with_digit(two, b[at + 2]) as u16, at + 3)
 }
 
 // Whether the byte ends a control sequence, and is one that is looked for here: a letter, `@` or a
@@ -146,13 +146,13 @@ fn ends_brief(b: u8) -> bool
 
 // The number with one digit more.
 #[inline(always)]
-fn with_digit(number: u16, digit: u8) -> u16
+fn with_digit(number: u32, digit: u8) -> u32
     requires small { number ≤ 99 }
     requires digit { is_digit digit ≡ true }
     ensures number { result ≡ shifted number digit }
     ensures bound { result ≤ number * 10 + 9 }
 {
-    number * 10 + u16::from(digit - b'0')
+    number * 10 + u32::from(digit - b'0')
 }
 
 /// The last byte of the escape sequence of two bytes that the text begins with, where it is one from

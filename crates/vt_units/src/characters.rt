@@ -12,6 +12,32 @@ const TWO_MARKS: u32 = 0xC0 * 0x40 + 0x80;
 // The same of three.
 const THREE_MARKS: u32 = (0xE0 * 0x40 + 0x80) * 0x40 + 0x80;
 
+const Y: bool = true;
+
+const N: bool = false;
+
+// Whether each byte is the first one of a character of two or three bytes that is shown, whatever tails
+// follow. A row begins with the byte beside it.
+#[rattlefmt::skip]
+static COMMON: [bool; 256] = [
+    N, N, N, N, N, N, N, N, N, N, N, N, N, N, N, N, // 00
+    N, N, N, N, N, N, N, N, N, N, N, N, N, N, N, N, // 10
+    N, N, N, N, N, N, N, N, N, N, N, N, N, N, N, N, // 20
+    N, N, N, N, N, N, N, N, N, N, N, N, N, N, N, N, // 30
+    N, N, N, N, N, N, N, N, N, N, N, N, N, N, N, N, // 40
+    N, N, N, N, N, N, N, N, N, N, N, N, N, N, N, N, // 50
+    N, N, N, N, N, N, N, N, N, N, N, N, N, N, N, N, // 60
+    N, N, N, N, N, N, N, N, N, N, N, N, N, N, N, N, // 70
+    N, N, N, N, N, N, N, N, N, N, N, N, N, N, N, N, // 80
+    N, N, N, N, N, N, N, N, N, N, N, N, N, N, N, N, // 90
+    N, N, N, N, N, N, N, N, N, N, N, N, N, N, N, N, // A0
+    N, N, N, N, N, N, N, N, N, N, N, N, N, N, N, N, // B0
+    N, N, N, Y, Y, Y, Y, Y, Y, Y, Y, Y, Y, Y, Y, Y, // C0
+    Y, Y, Y, Y, Y, Y, Y, Y, Y, Y, Y, Y, Y, Y, Y, Y, // D0
+    N, Y, Y, Y, Y, Y, Y, Y, Y, Y, Y, Y, Y, N, Y, Y, // E0
+    N, N, N, N, N, N, N, N, N, N, N, N, N, N, N, N, // F0
+];
+
 /// Reads whole characters at the front of the text that are shown, as many as are wanted at most, and
 /// tells how many bytes they are.
 pub(crate) fn read_characters(b: &[u8], most: usize, codes: &mut Codes) -> usize
@@ -74,7 +100,7 @@ fn common_character(a: u8, b: u8, c: u8) -> Option<(u32, usize)>
 fn is_common(a: u8) -> bool
     ensures { result ≡ is_common a }
 {
-    0xC3 <= a && a <= 0xEF && a != 0xE0 && a != 0xED
+    COMMON[usize::from(a)]
 }
 
 #[inline(always)]

@@ -35,32 +35,19 @@ pub(crate) fn read_numbers(text: &[u8], params: &mut Params) -> usize
     ensures rest { drop result text.now ≡ behind is_parameter text.now }
     ensures bound { result ≤ length text.now }
 {
-    let at = read_short_numbers(text, params);
-    at + read_more_numbers(&text[at..], params)
-}
-
-// Reads parameters of at most three digits that a semicolon ends, as long as a longest one and its end
-// are there, and tells how many bytes they are.
-fn read_short_numbers(text: &[u8], params: &mut Params) -> usize
-    requires none { params.old ≡ [] }
-    requires short { length text.now ≤ 256 }
-    ensures params { take 16 (params.new ++ continued 0 (front is_parameter (drop result text.now)))
-        ≡ params_of (front is_parameter text.now) }
-    ensures count { length (front is_parameter text.now)
-        ≡ result + length (front is_parameter (drop result text.now)) }
-    ensures rest { behind is_parameter text.now ≡ behind is_parameter (drop result text.now) }
-    ensures bound { result ≤ length text.now }
-{
     let mut at = 0;
     while at + 4 <= text.len() {
         let (number, end) = number_at(text, at);
-        if text[end] != b';' {
+        if is_digit(text[end]) {
             break;
         }
         add(params, u32::from(number));
+        if text[end] != b';' {
+            return end;
+        }
         at = end + 1;
     }
-    at
+    at + read_more_numbers(&text[at..], params)
 }
 
 // Reads the parameters at the front of the text, behind others.

@@ -115,3 +115,17 @@ pub fn draw_codes(grid: &mut Grid, y: u8, x: u8, codes: &[u32]) -> bool {
     }
     stays
 }
+
+pub fn is_row_same(grid: &Grid, other: &Grid, y: u8) -> bool {
+    y < grid.size().rows && y < other.size().rows && grid.is_row_same(other, y)
+}
+
+pub fn copy_from(grid: &mut Grid, other: &Grid) -> bool {
+    let size = grid.size();
+    let fresh = other.size();
+    let stays = size.rows == fresh.rows && size.cols == fresh.cols;
+    if stays {
+        grid.copy_from(other);
+    }
+    stays
+}

@@ -329,6 +329,7 @@ impl RowStore {
 }
 
 // Makes the rows of so many numbers from the one at `from` on blank: each cell is `c`.
+#[inline(never)]
 fn clear_rows(rows: &mut [Row], ring: &Ring, from: u8, count: u8, c: Cell)
     requires part { from + count ≤ length ring.now }
     requires within { (y : ℕ) → y < length ring.now → slice_index ring.now y < length rows.old }

@@ -127,6 +127,21 @@ impl Canvas {
     pub(super) fn render(&mut self, params: &[u16])
         ensures { self.new ≡ rendered params.now self.old }
     {
+        if params.len() > 2 {
+            self.render_longer(params);
+            return;
+        }
+        apply(&mut self.state.pen, params);
+        self.attr = attr_byte(&self.state.pen.attr, &self.state.pen.look);
+        self.erase = erase_byte(&self.state.pen.attr);
+    }
+
+    // SGR of more than two parameters, out of line: then the usual ones save no registers.
+    #[inline(never)]
+    #[tactic(auto, unfolding(crate::specs::Settings::rendered, crate::specs::Screen::printed_byte, crate::specs::Screen::erased_byte))]
+    fn render_longer(&mut self, params: &[u16])
+        ensures { self.new ≡ rendered params.now self.old }
+    {
         apply(&mut self.state.pen, params);
         self.attr = attr_byte(&self.state.pen.attr, &self.state.pen.look);
         self.erase = erase_byte(&self.state.pen.attr);

@@ -81,7 +81,3 @@ GivesAsked asked input outcome = GivesMade asked input outcome ⊎ GivesFaultBef
 abbrev pub OneOutcomeOf : Asked → Type 0
 OneOutcomeOf asked =
     (input : List ℕ) (a b : Outcome) → GivesAsked asked input a → GivesAsked asked input b → a ≡ b
-
--- `check` does
-abbrev pub OneOutcome : Type 0
-OneOutcome = OneOutcomeOf Verdict

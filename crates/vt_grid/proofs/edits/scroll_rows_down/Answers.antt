@@ -2,7 +2,7 @@ use Rattle.std.proofs.Common.{◌≡◌, ◌+◌, ◌-◌, min, ap, ◌∙◌, a
 use Rattle.vt_grid.proofs.Scrolls.{shown-scrolled_down}
 use Rattle.vt_grid.specs.Line.{blank_line}
 use Rattle.vt_grid.specs.Store.{Store, cleared, part_turned, sheet_shown}
-use Rattle.vt_grid.proofs.edits.scroll_down.Goals as goal
+use Rattle.vt_grid.proofs.edits.scroll_rows_down.Goals as goal
 
 pub returns : goal.returns
 returns g c =

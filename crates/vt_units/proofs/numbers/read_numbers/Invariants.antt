@@ -2,7 +2,7 @@ use Rattle.std.proofs.Common.{◌≡◌, ◌≤◌, ◌+◌, ◌-◌, ◌++◌, 
 use Rattle.vt_units.specs.Numbers.{continued, params_of}
 use Rattle.vt_units.specs.Reading.{behind, front}
 use Rattle.vt_units.specs.Sequences.{is_parameter}
-use Rattle.vt_units.proofs.numbers.read_short_numbers.Given as goal
+use Rattle.vt_units.proofs.numbers.read_numbers.Given as goal
 
 abbrev pub invariant-loop-at : goal.invariant-loop-at
 invariant-loop-at l = record {
