@@ -1,145 +1,133 @@
-use key_compile::compile;
+//! Keymap texts, the tables that they are compiled to, and their faults.
+use crate::checks::{check_made, check_row, check_text};
+use crate::compiled::tables_of;
 use key_tables::KeyTables;
-use key_text::{Includes, KeyError, KeyFault, parse};
+use key_text::KeyError;
 use std::alloc::Global;
-use std::process::Abort;
-use std::test::Fail;
+use vt_base::NoMemory;
 
 // A text, and the text of its listing.
-#[derive(Drop)]
-struct Listed {
-    text: &'static [u8],
-    listing: &'static [u8],
-}
+const LISTINGS: &[(&[u8], &[u8])] = &[
+    (
+        b"keymaps 0-1\nkeycode 2 = one exclam\nstring F1 = \"\\033[A\"\ncompose '`' 'a' to U+00E0\n",
+        b"maps 0 1\nmap 0 2 1 49\nmap 1 2 1 33\nfunc 0 1b5b41\npair 96 97 224\n",
+    ),
+    (
+        b"keymaps 0-1,4\nkeycode 30 = a\n",
+        b"maps 0 1 4\nmap 0 30 2 97\nmap 1 30 2 65\nmap 4 30 1 1\n",
+    ),
+    (b"", b"maps 0 1 2 4 5 8 12\n"),
+    (
+        b"keycode 30 = U+0041\n",
+        b"maps 0 1 2 4 5 8 12\nmap 0 30 2 65\nmap 1 30 2 97\nmap 2 30 2 65\nmap 4 30 1 1\nmap 5 30 1 1\nmap 8 30 3 65\nmap 12 30 3 1\n",
+    ),
+    (
+        b"keymaps 0-1\nkeycode 2 = one two\nplain keycode 2 = three\nkeycode 2 = four\nshift keycode 2 = five\naltgr keycode 2 = b",
+        b"maps 0 1 2\nmap 0 2 1 52\nmap 1 2 1 53\nmap 2 2 1 98\n",
+    ),
+    (
+        b"keymaps 0,8-9,16\nkeycode 2 = one VoidSymbol\nkeycode 3 = two a VoidSymbol\nkeycode 4 = U+0080\nkeycode 5 = U+0080 VoidSymbol\nshift alt keycode 4 = three\nkeycode 6 = +Z\nalt_is_meta",
+        b"maps 0 8 9 16\nmap 0 2 1 49\nmap 0 3 1 50\nmap 0 4 1 128\nmap 0 5 1 128\nmap 0 6 2 90\nmap 8 2 3 49\nmap 8 3 1 97\nmap 8 4 1 128\nmap 8 6 3 90\nmap 9 4 1 51\nmap 9 6 3 122\nmap 16 4 1 128\n",
+    ),
+    (
+        b"keymaps 3\nstring F2 = \"a\"\nstring F2 = \"b\"\ncompose a a to b\ncompose a a to c\ncompose a a to b",
+        b"maps 3\nfunc 1 62\npair 97 97 98\npair 97 97 99\npair 97 97 98\n",
+    ),
+];
 
-// A text, and its first fault: the kind, the line and the column.
-#[derive(Drop)]
-struct Case {
-    text: &'static [u8],
-    fault: (u16, u32, u32),
-}
-
-const fn row(text: &'static [u8], listing: &'static [u8]) -> Listed {
-    Listed { text, listing }
-}
-
-const fn refused(text: &'static [u8], kind: u16, line: u32, column: u32) -> Case {
-    Case {
-        text,
-        fault: (kind, line, column),
+fn has_listing(alloc: Global, tables: &KeyTables, wanted: &[u8]) -> bool {
+    match tables.listing(alloc) {
+        Ok(listing) => listing.as_slice() == wanted,
+        Err(NoMemory) => false,
     }
 }
 
-fn tables_of(alloc: Global, text: &[u8]) -> Result<KeyTables, KeyError> {
-    let includes = Includes::none(alloc);
-    let lines = parse(alloc, text, &includes)?;
-    compile(alloc, lines.as_slice())
-}
-
-fn check_listing(rt: &impl Abort, alloc: Global, text: &[u8], listing: &[u8]) {
+fn is_listed(alloc: Global, text: &[u8], wanted: &[u8]) -> bool {
     match tables_of(alloc, text) {
-        Ok(tables) => {
-            match tables.listing(alloc) {
-                Ok(found) => assert_eq!(rt; found.as_slice(), listing),
-                Err(_) => assert!(rt; false),
-            }
-        }
-        Err(_) => assert!(rt; false),
+        Ok(tables) => has_listing(alloc, &tables, wanted),
+        Err(_error) => false,
     }
-}
-
-fn check_fault(rt: &impl Abort, alloc: Global, text: &[u8], fault: (u16, u32, u32)) {
-    let (kind, line, column) = fault;
-    let found = match tables_of(alloc, text) {
-        Ok(_tables) => None,
-        Err(KeyError::Fault(fault)) => Some(fault),
-        Err(KeyError::NoMemory) => None,
-    };
-    assert_eq!(rt; found, Some(KeyFault { kind, line, column }));
 }
 
 #[test]
-fn texts_have_their_listings(rt: HostRuntime) -> Result<(), Fail> {
-    let alloc = rt.alloc();
-    let rows = [
-        row(
-            b"keymaps 0-1\nkeycode 2 = one exclam\nstring F1 = \"\\033[A\"\ncompose '`' 'a' to U+00E0\n",
-            b"maps 0 1\nmap 0 2 1 49\nmap 1 2 1 33\nfunc 0 1b5b41\npair 96 97 224\n",
-        ),
-        row(
-            b"keymaps 0-1,4\nkeycode 30 = a\n",
-            b"maps 0 1 4\nmap 0 30 2 97\nmap 1 30 2 65\nmap 4 30 1 1\n",
-        ),
-        row(b"", b"maps 0 1 2 4 5 8 12\n"),
-        row(
-            b"keycode 30 = U+0041\n",
-            b"maps 0 1 2 4 5 8 12\nmap 0 30 2 65\nmap 1 30 2 97\nmap 2 30 2 65\nmap 4 30 1 1\nmap 5 30 1 1\nmap 8 30 3 65\nmap 12 30 3 1\n",
-        ),
-        row(
-            b"keymaps 0-1\nkeycode 2 = one two\nplain keycode 2 = three\nkeycode 2 = four\nshift keycode 2 = five\naltgr keycode 2 = b",
-            b"maps 0 1 2\nmap 0 2 1 52\nmap 1 2 1 53\nmap 2 2 1 98\n",
-        ),
-        row(
-            b"keymaps 0,8-9,16\nkeycode 2 = one VoidSymbol\nkeycode 3 = two a VoidSymbol\nkeycode 4 = U+0080\nkeycode 5 = U+0080 VoidSymbol\nshift alt keycode 4 = three\nkeycode 6 = +Z\nalt_is_meta",
-            b"maps 0 8 9 16\nmap 0 2 1 49\nmap 0 3 1 50\nmap 0 4 1 128\nmap 0 5 1 128\nmap 0 6 2 90\nmap 8 2 3 49\nmap 8 3 1 97\nmap 8 4 1 128\nmap 8 6 3 90\nmap 9 4 1 51\nmap 9 6 3 122\nmap 16 4 1 128\n",
-        ),
-        row(
-            b"keymaps 3\nstring F2 = \"a\"\nstring F2 = \"b\"\ncompose a a to b\ncompose a a to c\ncompose a a to b",
-            b"maps 3\nfunc 1 62\npair 97 97 98\npair 97 97 99\npair 97 97 98\n",
-        ),
-    ];
-    for row in &rows {
-        check_listing(&rt, alloc, row.text, row.listing);
+fn texts_have_their_listings(rt: HostRuntime) {
+    for &(text, listing) in LISTINGS {
+        check_text(&rt, is_listed(rt.alloc(), text, listing), text);
     }
-    Ok(())
 }
 
 #[test]
 fn usual_strings_and_pairs(rt: HostRuntime) {
-    check_listing(
-        &rt,
-        rt.alloc(),
-        b"strings as usual\ncompose as usual",
-        USUAL,
-    );
+    let text = b"strings as usual\ncompose as usual";
+    check_text(&rt, is_listed(rt.alloc(), text, USUAL), text);
+}
+
+// A text, and its first fault: the kind, the line and the column.
+const FAULTS: &[(&[u8], u16, u32, u32)] = &[
+    (b"keycode 1 = a\nkeymaps 0", 5, 2, 1),
+    (b"shift keycode 1 = a\n keymaps 0\nkeycode 1 = a b", 5, 2, 2),
+    (b"keycode 30 = foo", 2, 1, 14),
+    (b"\n\tkeycode 30 = a b c d e f g h", 4, 2, 2),
+    (b"keymaps 0\nkeycode 30 = a b\nkeymaps 1", 5, 3, 1),
+    (
+        b"compose as usual\ncompose as usual\ncompose as usual\n  compose as usual",
+        10,
+        4,
+        3,
+    ),
+];
+
+fn is_fault(alloc: Global, text: &[u8], wanted: (u16, u32, u32)) -> Result<bool, NoMemory> {
+    match tables_of(alloc, text) {
+        Ok(_tables) => Ok(false),
+        Err(KeyError::Fault(fault)) => Ok((fault.kind, fault.line, fault.column) == wanted),
+        Err(KeyError::NoMemory) => Err(NoMemory),
+    }
 }
 
 #[test]
-fn first_fault_has_its_place(rt: HostRuntime) -> Result<(), Fail> {
-    let alloc = rt.alloc();
-    let cases = [
-        refused(b"keycode 1 = a\nkeymaps 0", 5, 2, 1),
-        refused(b"shift keycode 1 = a\n keymaps 0\nkeycode 1 = a b", 5, 2, 2),
-        refused(b"keycode 30 = foo", 2, 1, 14),
-        refused(b"\n\tkeycode 30 = a b c d e f g h", 4, 2, 2),
-        refused(b"keymaps 0\nkeycode 30 = a b\nkeymaps 1", 5, 3, 1),
-        refused(
-            b"compose as usual\ncompose as usual\ncompose as usual\n  compose as usual",
-            10,
-            4,
-            3,
-        ),
-    ];
-    for case in &cases {
-        check_fault(&rt, alloc, case.text, case.fault);
+fn first_fault_has_its_place(rt: HostRuntime) {
+    for &(text, kind, line, column) in FAULTS {
+        check_row(&rt, is_fault(rt.alloc(), text, (kind, line, column)), text);
     }
-    let mut text = Vec::new(alloc);
-    for _i in 0..256 {
+}
+
+// A text of so many pairs.
+fn add_pairs(text: &mut Vec<u8>, count: u32) -> Result<(), NoMemory> {
+    for _ in 0..count {
         text.extend_from_slice(b"compose a a to b\n")?;
     }
-    let tables = match tables_of(alloc, text.as_slice()) {
-        Ok(tables) => tables,
-        Err(_) => return Err(Fail::from("256 pairs are refused")),
-    };
-    assert_eq!(rt; tables.pairs().len(), 256);
-    text.extend_from_slice(b"compose a a to b\n")?;
-    check_fault(&rt, alloc, text.as_slice(), (10, 257, 1));
     Ok(())
+}
+
+fn has_pairs(alloc: Global, text: &[u8], count: usize) -> Result<bool, NoMemory> {
+    match tables_of(alloc, text) {
+        Ok(tables) => Ok(tables.pairs().len() == count),
+        Err(_error) => Ok(false),
+    }
+}
+
+fn takes_pairs(alloc: Global) -> Result<bool, NoMemory> {
+    let mut text = Vec::new(alloc);
+    add_pairs(&mut text, 256)?;
+    has_pairs(alloc, text.as_slice(), 256)
+}
+
+fn refuses_pairs(alloc: Global) -> Result<bool, NoMemory> {
+    let mut text = Vec::new(alloc);
+    add_pairs(&mut text, 257)?;
+    is_fault(alloc, text.as_slice(), (10, 257, 1))
+}
+
+#[test]
+fn pairs_are_256_at_most(rt: HostRuntime) {
+    check_made(&rt, takes_pairs(rt.alloc()), "256 pairs");
+    check_made(&rt, refuses_pairs(rt.alloc()), "257 pairs");
 }
 
 // The listing of `strings as usual` and `compose as usual`.
 #[rattlefmt::skip]
-static USUAL: &[u8] = b"maps 0 1 2 4 5 8 12\n\
+const USUAL: &[u8] = b"maps 0 1 2 4 5 8 12\n\
         func 0 1b5b5b41\n\
         func 1 1b5b5b42\n\
         func 2 1b5b5b43\n\

@@ -1,96 +1,106 @@
-use key_compile::compile;
+//! The dumps of tables, and what is read from them again.
+use crate::checks::{check_made, check_text};
+use crate::compiled::tables_of;
 use key_dump::{dump, dumpable};
 use key_tables::KeyTables;
-use key_text::{Includes, KeyError, parse};
 use std::alloc::Global;
-use std::process::Abort;
-use std::test::Fail;
+use vt_base::{Bytes, NoMemory};
 
 // A keymap text, and the dump of its tables.
-#[derive(Drop)]
-struct Dumped {
-    text: &'static [u8],
-    dump: &'static [u8],
+const DUMPS: &[(&[u8], &[u8])] = &[
+    (
+        b"keymaps 0-1,4\nkeycode 30 = a",
+        b"keymaps 0,1,4\nplain keycode 30 = +a\nshift keycode 30 = +A\ncontrol keycode 30 = Control_a\n",
+    ),
+    (
+        b"keymaps 0-1\nkeycode 2 = one exclam\nstring F1 = \"\\033[A\"",
+        b"keymaps 0,1\nplain keycode 2 = one\nshift keycode 2 = exclam\nstring F1 = \"\\033[A\"\n",
+    ),
+    (
+        b"keymaps 0\nctrlr altgr shift keycode 1 = Home\nstring Help = \"a\\\"\\\\\\177 ~\"\ncompose 'a' U+0101 to '~'",
+        b"keymaps 0,131\nshift altgr ctrlr keycode 1 = Find\nstring Help = \"a\\042\\134\\177 ~\"\ncompose U+0061 U+0101 to U+007E\n",
+    ),
+];
+
+// The dump; none where there is no dump, or memory ran out.
+fn dump_of(alloc: Global, tables: &KeyTables) -> Option<Bytes> {
+    if !dumpable(tables) {
+        return None;
+    }
+    match dump(alloc, tables) {
+        Ok(text) => Some(text),
+        Err(NoMemory) => None,
+    }
 }
 
-const fn row(text: &'static [u8], dump: &'static [u8]) -> Dumped {
-    Dumped { text, dump }
+fn has_dump(alloc: Global, tables: &KeyTables, wanted: &[u8]) -> bool {
+    match dump_of(alloc, tables) {
+        Some(text) => text.as_slice() == wanted,
+        None => false,
+    }
 }
 
-fn tables_of(alloc: Global, text: &[u8]) -> Result<KeyTables, KeyError> {
-    let includes = Includes::none(alloc);
-    let lines = parse(alloc, text, &includes)?;
-    compile(alloc, lines.as_slice())
-}
-
-fn check_dump(rt: &impl Abort, alloc: Global, text: &[u8], expected: &[u8]) {
+fn is_dumped(alloc: Global, text: &[u8], wanted: &[u8]) -> bool {
     match tables_of(alloc, text) {
-        Ok(tables) => {
-            if !dumpable(&tables) {
-                assert!(rt; false);
-                return;
-            }
-            match dump(alloc, &tables) {
-                Ok(found) => assert_eq!(rt; found.as_slice(), expected),
-                Err(_) => assert!(rt; false),
-            }
-        }
-        Err(_) => assert!(rt; false),
+        Ok(tables) => has_dump(alloc, &tables, wanted),
+        Err(_error) => false,
     }
-}
-
-// The dump of a keymap's tables, compiled again, has their listing.
-fn check_again(rt: &impl Abort, alloc: Global, text: &[u8]) -> Result<(), Fail> {
-    let tables = tables_of(alloc, text).map_err(|_error| Fail::from("a fault"))?;
-    if !dumpable(&tables) {
-        return Err(Fail::from("not dumpable"));
-    }
-    let text = dump(alloc, &tables)?;
-    let again = tables_of(alloc, text.as_slice()).map_err(|_error| Fail::from("a fault"))?;
-    let first = tables.listing(alloc)?;
-    let second = again.listing(alloc)?;
-    assert_eq!(rt; second.as_slice(), first.as_slice());
-    Ok(())
 }
 
 #[test]
 fn tables_have_their_dumps(rt: HostRuntime) {
-    let alloc = rt.alloc();
-    let rows = [
-        row(
-            b"keymaps 0-1,4\nkeycode 30 = a",
-            b"keymaps 0,1,4\nplain keycode 30 = +a\nshift keycode 30 = +A\ncontrol keycode 30 = Control_a\n",
-        ),
-        row(
-            b"keymaps 0-1\nkeycode 2 = one exclam\nstring F1 = \"\\033[A\"",
-            b"keymaps 0,1\nplain keycode 2 = one\nshift keycode 2 = exclam\nstring F1 = \"\\033[A\"\n",
-        ),
-        row(
-            b"keymaps 0\nctrlr altgr shift keycode 1 = Home\nstring Help = \"a\\\"\\\\\\177 ~\"\ncompose 'a' U+0101 to '~'",
-            b"keymaps 0,131\nshift altgr ctrlr keycode 1 = Find\nstring Help = \"a\\042\\134\\177 ~\"\ncompose U+0061 U+0101 to U+007E\n",
-        ),
-    ];
-    for row in &rows {
-        check_dump(&rt, alloc, row.text, row.dump);
+    for &(text, wanted) in DUMPS {
+        check_text(&rt, is_dumped(rt.alloc(), text, wanted), text);
     }
 }
 
-#[test]
-fn dumps_are_read_again(rt: HostRuntime) -> Result<(), Fail> {
-    let alloc = rt.alloc();
-    check_again(
-        &rt,
-        alloc,
-        b"keymaps 0-2,4-5,8,12\nalt_is_meta\nkeycode 30 = a\nkeycode 48 = b\nkeycode 56 = Alt\n\
+// Keymap texts whose tables have the listing of what is read from their dump.
+const AGAIN: &[&[u8]] = &[
+    b"keymaps 0-2,4-5,8,12\nalt_is_meta\nkeycode 30 = a\nkeycode 48 = b\nkeycode 56 = Alt\n\
             keycode 65 = F7\nalt keycode 65 = Console_7\nstrings as usual\ncompose as usual",
-    )?;
-    check_again(
-        &rt,
-        alloc,
-        b"keymaps 0-255\nkeycode 1 = a\nkeycode 255 = +U+0100\nshift ctrll keycode 9 = Compose",
-    )?;
-    let none = KeyTables::empty(alloc, &[])?;
-    assert!(rt; !dumpable(&none));
-    assert!(rt; dumpable(&KeyTables::empty(alloc, &[255])?));
-    Ok(())
+    b"keymaps 0-255\nkeycode 1 = a\nkeycode 255 = +U+0100\nshift ctrll keycode 9 = Compose",
+];
+
+fn listing_of(alloc: Global, tables: &KeyTables) -> Option<Bytes> {
+    match tables.listing(alloc) {
+        Ok(listing) => Some(listing),
+        Err(NoMemory) => None,
+    }
+}
+
+fn lists(alloc: Global, text: &[u8], wanted: &[u8]) -> bool {
+    match tables_of(alloc, text) {
+        Ok(tables) => match listing_of(alloc, &tables) {
+            Some(listing) => listing.as_slice() == wanted,
+            None => false,
+        },
+        Err(_error) => false,
+    }
+}
+
+fn is_again(alloc: Global, tables: &KeyTables) -> bool {
+    match (dump_of(alloc, tables), listing_of(alloc, tables)) {
+        (Some(text), Some(listing)) => lists(alloc, text.as_slice(), listing.as_slice()),
+        _ => false,
+    }
+}
+
+fn is_read_again(alloc: Global, text: &[u8]) -> bool {
+    match tables_of(alloc, text) {
+        Ok(tables) => is_again(alloc, &tables),
+        Err(_error) => false,
+    }
+}
+
+fn has_dump_of(alloc: Global, declared: &[u8], is: bool) -> Result<bool, NoMemory> {
+    Ok(dumpable(&KeyTables::empty(alloc, declared)?) == is)
+}
+
+#[test]
+fn dumps_are_read_again(rt: HostRuntime) {
+    for text in AGAIN {
+        check_text(&rt, is_read_again(rt.alloc(), text), text);
+    }
+    check_made(&rt, has_dump_of(rt.alloc(), &[], false), "no table");
+    check_made(&rt, has_dump_of(rt.alloc(), &[255], true), "the last table");
 }

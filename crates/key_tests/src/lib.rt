@@ -2,6 +2,10 @@
 #![tactic(auto)]
 
 #[cfg(test)]
+mod checks;
+#[cfg(test)]
+mod compiled;
+#[cfg(test)]
 mod compiling;
 #[cfg(test)]
 mod dumping;

@@ -1,15 +1,18 @@
-ghost use Rattle.std.specs.Prelude.{◌≤◌};
-
+//! What the tests of keys share.
 mod actions;
 mod sent;
 mod sessions;
 
 use Wanted::{Attention, Bytes, Last, Next, Nothing, Prev, Spawn, Switch};
-use key_machine::{KbState, KeyModes, KeyOut};
+use key_machine::{KbState, KeyModes, KeyOut, Keyboard};
+use key_syms::Action;
+use key_tables::KeyTables;
 use scan_codes::KeyEvent;
+use std::alloc::Global;
+use vt_base::NoMemory;
 
 // What a key event came to.
-#[derive(Clone, Copy, Debug)]
+#[derive(Clone, Copy)]
 enum Wanted {
     Bytes(&'static [u8]),
     Switch(u8),
@@ -42,27 +45,47 @@ const MODES: KeyModes = KeyModes {
     newline: false,
 };
 
-const HELD: KeyModes = KeyModes {
-    cursor: false,
-    keypad: false,
-    repeat: false,
-    newline: false,
-};
-
 const DOWN: KeyEvent = KeyEvent {
     code: 30,
     down: true,
 };
 
-const UP: KeyEvent = KeyEvent {
-    code: 30,
-    down: false,
-};
-
-fn start(mode: u8) -> KbState
-    requires { mode ≤ 4 }
-{
+// The key state at the start, in this mode.
+fn start(mode: u8) -> KbState {
     let mut s = KbState::start();
-    s.mode = mode;
+    s.mode = mode.min(4);
     s
+}
+
+// Whether the event of the first keyboard comes to this.
+fn says(
+    keys: &mut Keyboard,
+    s: &mut KbState,
+    t: &KeyTables,
+    e: KeyEvent,
+    m: KeyModes,
+    wanted: Wanted,
+) -> bool {
+    is_wanted(&keys.key(0, e, t, s, m), wanted)
+}
+
+// An entry of the tables: the table, the keycode, and the kind and the value of the action.
+type Entry = (u8, u8, u16, u16);
+
+fn set_entry(t: &mut KeyTables, entry: &Entry) {
+    let (table, code, kind, value) = *entry;
+    if let Some(action) = Action::new(kind, value) {
+        if t.exists(table) && code != 0 {
+            t.set_entry(table, code, action);
+        }
+    }
+}
+
+// These tables with these entries.
+fn tables(alloc: Global, declared: &[u8], entries: &[Entry]) -> Result<KeyTables, NoMemory> {
+    let mut t = KeyTables::empty(alloc, declared)?;
+    for entry in entries {
+        set_entry(&mut t, entry);
+    }
+    Ok(t)
 }

@@ -6,6 +6,8 @@ mod base;
 #[cfg(test)]
 mod charges;
 #[cfg(test)]
+mod checks;
+#[cfg(test)]
 mod hooks;
 #[cfg(test)]
 mod journals;

@@ -1,6 +1,6 @@
 //! Callers through opens, signals, waits and deaths. Expected answers were reckoned by hand from the
 //! rules of signals and waits.
-use std::test::Fail;
+use crate::checks::{check_name, check_number};
 use vt_base::{CallerNo, ConsoleNo, Fd, Signal};
 use vt_procs::{ProcStart, Procs, Ticket, Waited};
 
@@ -12,145 +12,265 @@ fn two_processes() -> Procs {
     Procs::start(&[start, ProcStart::default()], 1)
 }
 
-#[test]
-fn opens_are_the_lowest_free(rt: HostRuntime) -> Result<(), Fail> {
-    let p = CallerNo::new(1).ok_or("none")?;
-    let c = ConsoleNo::new(2).ok_or("none")?;
-    let other = ConsoleNo::new(5).ok_or("none")?;
-    let first = Fd::new(0).ok_or("none")?;
-    let mut procs = two_processes();
-    assert_eq!(rt; procs.home(p), 2);
-    assert!(rt; !procs.privileged(p));
-    assert!(rt; procs.add_open(p, c).is_some());
-    assert!(rt; procs.add_open(p, other).is_some());
-    if procs.console_of(p, 0).is_some() {
-        procs.shut(p, first);
-    }
-    assert!(rt; !procs.opened(c));
-    assert!(rt; procs.opened(other));
-    assert_eq!(rt; procs.add_open(p, c), Some(first));
-    for _ in 2..16 {
-        assert!(rt; procs.add_open(p, c).is_some());
-    }
-    assert!(rt; procs.add_open(p, c).is_none());
-    assert_eq!(rt; procs.console_of(p, 1), Some(other));
-    assert!(rt; procs.console_of(p, 16).is_none());
-    Ok(())
+// A process opens a console, and another.
+#[derive(Clone, Copy)]
+struct Opens {
+    p: CallerNo,
+    c: ConsoleNo,
+    other: ConsoleNo,
 }
 
-// What the process is told after each of the ends of a wait: nothing that happened, the display
-// came, bytes came, a signal came, and the other callers wait or are dead.
-#[test]
-fn waits_end_by_what_they_wait_for(rt: HostRuntime) -> Result<(), Fail> {
-    let keyboard = CallerNo::new(0).ok_or("none")?;
-    let p = CallerNo::new(1).ok_or("none")?;
-    let q = CallerNo::new(2).ok_or("none")?;
-    let c = ConsoleNo::new(3).ok_or("none")?;
-    let s = Signal::new(10).ok_or("none")?;
-    let cases = [
-        (
-            Ticket::Active(c),
-            Waited::Done,
-            Waited::Still,
-            Waited::Broken,
-        ),
-        (
-            Ticket::Input(c),
-            Waited::Still,
-            Waited::Done,
-            Waited::Broken,
-        ),
-        (
-            Ticket::AnySignal,
-            Waited::Still,
-            Waited::Still,
-            Waited::Broken,
-        ),
-    ];
-    for (ticket, shown, filled, signalled) in cases {
-        for (end, told) in [(0, shown), (1, filled), (2, signalled), (3, Waited::Broken)] {
-            let mut procs = two_processes();
-            assert_eq!(rt; procs.ticket(p), Waited::None);
-            begin(&mut procs, p, &ticket);
-            procs.settle();
-            assert_eq!(rt; procs.ticket(p), Waited::Still);
-            match end {
-                0 => procs.shown(c),
-                1 => procs.filled(c),
-                2 => raise(&mut procs, p, s),
-                _ => {
-                    end_caller(&mut procs, keyboard);
-                    end_caller(&mut procs, q);
-                    procs.settle();
-                }
-            }
-            assert_eq!(rt; procs.ticket(p), told);
-            assert_eq!(rt; procs.signalled(p), end == 2);
+fn two_consoles() -> Option<Opens> {
+    Some(Opens {
+        p: CallerNo::new(1)?,
+        c: ConsoleNo::new(2)?,
+        other: ConsoleNo::new(5)?,
+    })
+}
+
+fn has_home(procs: &Procs, p: CallerNo) -> bool {
+    procs.home(p) == 2 && !procs.privileged(p)
+}
+
+// Whether this open has this number.
+fn adds(procs: &mut Procs, p: CallerNo, c: ConsoleNo, number: u16) -> bool {
+    match procs.add_open(p, c) {
+        Some(fd) => fd.get() == number,
+        None => false,
+    }
+}
+
+fn shuts_first(procs: &mut Procs, p: CallerNo) -> bool {
+    let Some(first) = Fd::new(0) else {
+        return false;
+    };
+    if procs.console_of(p, 0).is_none() {
+        return false;
+    }
+    procs.shut(p, first);
+    true
+}
+
+// Opens the console with each number that is left.
+fn fills(procs: &mut Procs, p: CallerNo, c: ConsoleNo) -> bool {
+    for number in 2..16 {
+        if !adds(procs, p, c, number) {
+            return false;
         }
     }
-    Ok(())
+    procs.add_open(p, c).is_none()
 }
 
-fn begin(procs: &mut Procs, p: CallerNo, ticket: &Ticket) {
+fn opens_and_shuts(procs: &mut Procs, o: &Opens) -> bool {
+    has_home(procs, o.p)
+        && adds(procs, o.p, o.c, 0)
+        && adds(procs, o.p, o.other, 1)
+        && shuts_first(procs, o.p)
+        && !procs.opened(o.c)
+        && procs.opened(o.other)
+        && adds(procs, o.p, o.c, 0)
+        && fills(procs, o.p, o.c)
+        && procs.console_of(o.p, 1) == Some(o.other)
+        && procs.console_of(o.p, 16).is_none()
+}
+
+fn opens_lowest() -> bool {
+    let mut procs = two_processes();
+    match two_consoles() {
+        Some(o) => opens_and_shuts(&mut procs, &o),
+        None => false,
+    }
+}
+
+#[test]
+fn opens_are_the_lowest_free(rt: HostRuntime) {
+    check_name(&rt, opens_lowest(), "opens");
+}
+
+fn begin(procs: &mut Procs, p: CallerNo, ticket: Ticket) {
     if procs.live(p) && procs.ticket(p) == Waited::None {
-        procs.wait(p, *ticket);
+        procs.wait(p, ticket);
     }
 }
 
-fn raise(procs: &mut Procs, p: CallerNo, s: Signal) {
-    if procs.live(p) && s.get() != 9 {
-        procs.raise(p, s);
+fn raise(procs: &mut Procs, p: CallerNo, n: u16) {
+    if let Some(s) = Signal::new(n) {
+        if procs.live(p) && s.get() != 9 {
+            procs.raise(p, s);
+        }
     }
 }
 
-fn end_caller(procs: &mut Procs, p: CallerNo) {
-    if procs.live(p) {
-        procs.end(p);
+fn end_caller(procs: &mut Procs, n: u16) {
+    if let Some(p) = CallerNo::new(n) {
+        if procs.live(p) {
+            procs.end(p);
+        }
     }
+}
+
+// What happens while a process waits: 0, the console gets the display; 1, bytes come; 2, a signal comes; 3, the others die.
+fn happen(procs: &mut Procs, p: CallerNo, c: ConsoleNo, what: u16) {
+    match what {
+        0 => procs.shown(c),
+        1 => procs.filled(c),
+        2 => raise(procs, p, 10),
+        _ => {
+            end_caller(procs, 0);
+            end_caller(procs, 2);
+            procs.settle();
+        }
+    }
+}
+
+fn ticket_of(word: u16, c: ConsoleNo) -> Ticket {
+    match word {
+        0 => Ticket::Active(c),
+        1 => Ticket::Input(c),
+        _ => Ticket::AnySignal,
+    }
+}
+
+// Process 1 waits by this ticket for console 3: whether it is told this after what happens.
+fn waits(p: CallerNo, c: ConsoleNo, word: u16, what: u16, told: Waited) -> bool {
+    let mut procs = two_processes();
+    let none = procs.ticket(p) == Waited::None;
+    begin(&mut procs, p, ticket_of(word, c));
+    procs.settle();
+    let open = procs.ticket(p) == Waited::Still;
+    happen(&mut procs, p, c, what);
+    none && open && procs.ticket(p) == told && procs.signalled(p) == (what == 2)
+}
+
+fn is_told(word: u16, what: u16, told: Waited) -> bool {
+    match (CallerNo::new(1), ConsoleNo::new(3)) {
+        (Some(p), Some(c)) => waits(p, c, word, what, told),
+        _ => false,
+    }
+}
+
+// The ticket, what happens, and what the process is told then.
+const WAITS: &[(u16, u16, Waited)] = &[
+    (0, 0, Waited::Done),
+    (0, 1, Waited::Still),
+    (0, 2, Waited::Broken),
+    (0, 3, Waited::Broken),
+    (1, 0, Waited::Still),
+    (1, 1, Waited::Done),
+    (1, 2, Waited::Broken),
+    (1, 3, Waited::Broken),
+    (2, 0, Waited::Still),
+    (2, 1, Waited::Still),
+    (2, 2, Waited::Broken),
+    (2, 3, Waited::Broken),
+];
+
+#[test]
+fn waits_end_by_what_they_wait_for(rt: HostRuntime) {
+    for &(word, what, told) in WAITS {
+        check_number(&rt, is_told(word, what, told), u32::from(10 * word + what));
+    }
+}
+
+fn is_live(procs: &Procs, n: u16) -> bool {
+    match CallerNo::new(n) {
+        Some(p) => procs.live(p),
+        None => false,
+    }
+}
+
+// Keyboards, and what the process is told once each is gone too.
+const KEYBOARDS: &[(u16, Waited)] = &[
+    (0, Waited::Still),
+    (65, Waited::Still),
+    (66, Waited::Still),
+    (67, Waited::Broken),
+];
+
+fn goes(procs: &mut Procs, p: CallerNo, keyboard: u16, told: Waited) -> bool {
+    let was_live = is_live(procs, keyboard);
+    end_caller(procs, keyboard);
+    procs.settle();
+    was_live && procs.ticket(p) == told
+}
+
+fn all_go(procs: &mut Procs, p: CallerNo) -> bool {
+    begin(procs, p, Ticket::AnySignal);
+    for &(keyboard, told) in KEYBOARDS {
+        if !goes(procs, p, keyboard, told) {
+            return false;
+        }
+    }
+    true
+}
+
+fn four_go() -> bool {
+    let mut procs = Procs::start(&[ProcStart::default()], 4);
+    match CallerNo::new(1) {
+        Some(p) => !is_live(&procs, 2) && all_go(&mut procs, p),
+        None => false,
+    }
+}
+
+fn two_live() -> bool {
+    let two = Procs::start(&[], 2);
+    is_live(&two, 65) && !is_live(&two, 66)
 }
 
 // Of four keyboards and a process that waits, the fourth keyboard is the last that can go on.
 #[test]
-fn every_keyboard_keeps_the_others_waiting(rt: HostRuntime) -> Result<(), Fail> {
-    let p = CallerNo::new(1).ok_or("none")?;
-    let mut procs = Procs::start(&[ProcStart::default()], 4);
-    assert!(rt; !procs.live(CallerNo::new(2).ok_or("none")?));
-    begin(&mut procs, p, &Ticket::AnySignal);
-    for (k, told) in [
-        (0, Waited::Still),
-        (1, Waited::Still),
-        (2, Waited::Still),
-        (3, Waited::Broken),
-    ] {
-        assert!(rt; procs.live(CallerNo::keyboard(k)));
-        end_caller(&mut procs, CallerNo::keyboard(k));
-        procs.settle();
-        assert_eq!(rt; procs.ticket(p), told);
+fn every_keyboard_keeps_the_others_waiting(rt: HostRuntime) {
+    check_name(&rt, four_go(), "four keyboards");
+    check_name(&rt, two_live(), "two keyboards");
+}
+
+// The signals that the process takes, as a set; 0 where it is dead.
+fn taken(procs: &mut Procs, p: CallerNo) -> u64 {
+    if procs.live(p) {
+        procs.take_signals(p).bits()
+    } else {
+        0
     }
-    let two = Procs::start(&[], 2);
-    assert!(rt; two.live(CallerNo::keyboard(1)));
-    assert!(rt; !two.live(CallerNo::keyboard(2)));
-    Ok(())
+}
+
+fn collects_nothing(procs: &mut Procs, p: CallerNo) -> bool {
+    procs.live(p) && procs.collect(p) == Waited::None
+}
+
+fn accepts(procs: &mut Procs, p: CallerNo) -> bool {
+    if let Some(s) = Signal::new(2) {
+        if procs.live(p) {
+            procs.accept(p, s);
+        }
+    }
+    procs.accepter().is_some()
+}
+
+fn dies(procs: &mut Procs, p: CallerNo) -> bool {
+    end_caller(procs, p.get());
+    procs.accepter().is_none() && !procs.live(p)
+}
+
+fn takes_once(procs: &mut Procs, p: CallerNo) -> bool {
+    for n in [10, 1, 64, 10] {
+        raise(procs, p, n);
+    }
+    taken(procs, p) == 0x8000_0000_0000_0201
+        && taken(procs, p) == 0
+        && collects_nothing(procs, p)
+        && accepts(procs, p)
+        && dies(procs, p)
+}
+
+fn takes_signals() -> bool {
+    let mut procs = two_processes();
+    match CallerNo::new(1) {
+        Some(p) => takes_once(&mut procs, p),
+        None => false,
+    }
 }
 
 #[test]
-fn signals_are_taken_once(rt: HostRuntime) -> Result<(), Fail> {
-    let p = CallerNo::new(1).ok_or("none")?;
-    let mut procs = two_processes();
-    for n in [10, 1, 64, 10] {
-        raise(&mut procs, p, Signal::new(n).ok_or("none")?);
-    }
-    if procs.live(p) {
-        assert_eq!(rt; procs.take_signals(p).bits(), 0x8000_0000_0000_0201);
-    }
-    if procs.live(p) {
-        assert_eq!(rt; procs.take_signals(p).bits(), 0);
-        assert_eq!(rt; procs.collect(p), Waited::None);
-        procs.accept(p, Signal::new(2).ok_or("none")?);
-    }
-    assert!(rt; procs.accepter().is_some());
-    end_caller(&mut procs, p);
-    assert!(rt; procs.accepter().is_none());
-    assert!(rt; !procs.live(p));
-    Ok(())
+fn signals_are_taken_once(rt: HostRuntime) {
+    check_name(&rt, takes_signals(), "signals");
 }

@@ -1,8 +1,9 @@
 //! The adapters over std's streams, which no proof ties to what a real stream does.
+use crate::checks::{check_made, check_number};
+use std::alloc::Global;
 use std::io;
 use std::io::{ErrorKind, Read, Write};
-use std::test::Fail;
-use vt_base::CallerNo;
+use vt_base::{CallerNo, NoMemory};
 use vt_io::{Failed, Gate, OpenGate, Sink, Source, StdSink, StdSource};
 
 // A stream that is interrupted so often. Then it gives or takes one byte a call, or none where it
@@ -50,42 +51,66 @@ impl Write for Stream {
     }
 }
 
-#[test]
-fn tries_again_after_an_interruption(rt: HostRuntime) -> Result<(), Fail> {
-    // interruptions, broken, full, what a read gives and what a write gives
-    let cases: [(
-        u16,
-        bool,
-        bool,
-        Result<usize, Failed>,
-        Result<usize, Failed>,
-    ); 7] = [
-        (0, false, false, Ok(1), Ok(1)),
-        (1, false, false, Ok(1), Ok(1)),
-        (1_000, false, false, Ok(1), Ok(1)),
-        (1_001, false, false, Err(Failed), Err(Failed)),
-        (0, true, false, Err(Failed), Err(Failed)),
-        (2, true, false, Err(Failed), Err(Failed)),
-        (0, false, true, Ok(0), Err(Failed)),
-    ];
-    for (interruptions, broken, full, read, write) in cases {
-        let mut stream = Stream {
-            interruptions,
-            broken,
-            full,
-            taken: 0,
-        };
-        let mut buf = [b' '; 2];
-        let mut src = StdSource::new(stream);
-        assert_eq!(rt; src.read(&mut buf), read, "{interruptions}");
-        assert_eq!(rt; buf[0] == b'x', read == Ok(1), "{interruptions}");
-        assert_eq!(rt; buf[1], b' ', "{interruptions}");
-        let mut sink = StdSink::new(&mut stream);
-        assert_eq!(rt; sink.write(b"yz"), write, "{interruptions}");
-        assert_eq!(rt; stream.taken == b'y', write == Ok(1), "{interruptions}");
+// How often the stream is interrupted, whether it is broken and full, and what a read gives and a write takes.
+type Row = (
+    u16,
+    bool,
+    bool,
+    Result<usize, Failed>,
+    Result<usize, Failed>,
+);
+
+const ROWS: &[Row] = &[
+    (0, false, false, Ok(1), Ok(1)),
+    (1, false, false, Ok(1), Ok(1)),
+    (1_000, false, false, Ok(1), Ok(1)),
+    (1_001, false, false, Err(Failed), Err(Failed)),
+    (0, true, false, Err(Failed), Err(Failed)),
+    (2, true, false, Err(Failed), Err(Failed)),
+    (0, false, true, Ok(0), Err(Failed)),
+];
+
+fn stream_of(row: &Row) -> Stream {
+    let (interruptions, broken, full, _, _) = *row;
+    Stream {
+        interruptions,
+        broken,
+        full,
+        taken: 0,
     }
-    assert_eq!(rt; Failed.to_string(rt.alloc())?.as_str(), "failed");
-    Ok(())
+}
+
+fn is_read(row: &Row) -> bool {
+    let (_, _, _, wanted, _) = *row;
+    let mut buf = [b' '; 2];
+    let mut src = StdSource::new(stream_of(row));
+    let read = src.read(&mut buf);
+    read == wanted && (buf[0] == b'x') == (read == Ok(1)) && buf[1] == b' '
+}
+
+fn is_written(row: &Row) -> bool {
+    let (_, _, _, _, wanted) = *row;
+    let mut stream = stream_of(row);
+    let mut sink = StdSink::new(&mut stream);
+    let written = sink.write(b"yz");
+    written == wanted && (stream.taken == b'y') == (written == Ok(1))
+}
+
+fn tells_failure(alloc: Global) -> Result<bool, NoMemory> {
+    Ok(Failed.to_string(alloc)?.as_str() == "failed")
+}
+
+#[test]
+fn tries_again_after_an_interruption(rt: HostRuntime) {
+    for row in ROWS {
+        let (interruptions, ..) = *row;
+        check_number(
+            &rt,
+            is_read(row) && is_written(row),
+            u32::from(interruptions),
+        );
+    }
+    check_made(&rt, tells_failure(rt.alloc()), "Failed");
 }
 
 #[test]

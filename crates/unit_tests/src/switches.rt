@@ -1,5 +1,5 @@
 //! Handshakes over the display. Expected answers were reckoned by hand from the rules of switching.
-use std::test::Fail;
+use crate::checks::{check_name, check_number};
 use vt_base::{CallerNo, ConsoleNo, VtMode};
 use vt_switch::{Asked, Switch};
 
@@ -11,7 +11,23 @@ const PROCESS: VtMode = VtMode {
     frsig: 0,
 };
 
-// Consoles 1 to 3; process 4 handles the switches of 1, which is in front, and 2 waits.
+// Consoles 1 and 2, and process 4.
+#[derive(Clone, Copy)]
+struct Names {
+    one: ConsoleNo,
+    two: ConsoleNo,
+    owner: CallerNo,
+}
+
+fn named() -> Option<Names> {
+    Some(Names {
+        one: ConsoleNo::new(1)?,
+        two: ConsoleNo::new(2)?,
+        owner: CallerNo::new(4)?,
+    })
+}
+
+// Consoles 1 to 3; the process handles the switches of 1, which is in front, and 2 waits.
 fn waiting() -> Option<Switch> {
     let mut switch = Switch::start(ConsoleNo::new(1)?, 0b1110);
     let _set = switch.set_mode(ConsoleNo::new(1)?, CallerNo::new(4)?, PROCESS);
@@ -19,59 +35,99 @@ fn waiting() -> Option<Switch> {
     Some(switch)
 }
 
-#[test]
-fn an_owner_lets_go_or_dies(rt: HostRuntime) -> Result<(), Fail> {
-    let one = ConsoleNo::new(1).ok_or("none")?;
-    let two = ConsoleNo::new(2).ok_or("none")?;
-    let owner = CallerNo::new(4).ok_or("none")?;
-    for end in 0..4 {
-        let mut switch = waiting().ok_or("none")?;
-        assert_eq!(rt; switch.pending(), Some(two));
-        match end {
-            0 => assert!(rt; switch.release(one, owner, 1).is_ok()),
-            1 => assert!(rt; switch.leave(owner).is_some()),
-            2 => {
-                if switch.owns(owner, one) {
-                    assert!(rt; switch.reset(one, owner).is_some());
-                }
-            }
-            _ => assert!(rt; switch.release(one, owner, 0).is_ok()),
-        }
-        let hops = end < 3;
-        assert_eq!(rt; switch.front(), if hops { two } else { one });
-        assert_eq!(rt; switch.last(), one);
-        assert!(rt; switch.pending().is_none());
-        if switch.allocated(one) {
-            assert_eq!(rt; switch.owner(one).is_some(), end == 0 || end == 3);
-            assert_eq!(rt;
-                switch.mode(one).relsig,
-                if end == 0 || end == 3 { 10 } else { 0 }
-            );
-        }
+// Ends the handshake in one of four ways: the owner lets go, dies, gives up its handling, or refuses.
+fn end(switch: &mut Switch, n: &Names, way: u32) -> bool {
+    match way {
+        0 => switch.release(n.one, n.owner, 1).is_ok(),
+        1 => switch.leave(n.owner).is_some(),
+        2 => reset(switch, n),
+        _ => switch.release(n.one, n.owner, 0).is_ok(),
     }
-    Ok(())
+}
+
+fn reset(switch: &mut Switch, n: &Names) -> bool {
+    switch.owns(n.owner, n.one) && switch.reset(n.one, n.owner).is_some()
+}
+
+// Whether this console is in front, and none is pending.
+fn is_settled(switch: &Switch, n: &Names, front: ConsoleNo) -> bool {
+    switch.front() == front && switch.last() == n.one && switch.pending().is_none()
+}
+
+// Whether console 1 has an owner, and releases by this signal.
+fn is_owned(switch: &Switch, n: &Names, owned: bool, relsig: u16) -> bool {
+    switch.allocated(n.one)
+        && switch.owner(n.one).is_some() == owned
+        && switch.mode(n.one).relsig == relsig
+}
+
+// A way to end a handshake, whether it hops, whether console 1 is still owned, and its signal of release.
+const ENDS: &[(u32, bool, bool, u16)] = &[
+    (0, true, true, 10),
+    (1, true, false, 0),
+    (2, true, false, 0),
+    (3, false, true, 10),
+];
+
+fn ends(way: u32, hops: bool, owned: bool, relsig: u16) -> Option<bool> {
+    let n = named()?;
+    let mut switch = waiting()?;
+    let front = if hops { n.two } else { n.one };
+    Some(
+        switch.pending() == Some(n.two)
+            && end(&mut switch, &n, way)
+            && is_settled(&switch, &n, front)
+            && is_owned(&switch, &n, owned, relsig),
+    )
 }
 
 #[test]
-fn graphics_and_the_lock_keep_the_display(rt: HostRuntime) -> Result<(), Fail> {
-    let one = ConsoleNo::new(1).ok_or("none")?;
-    let two = ConsoleNo::new(2).ok_or("none")?;
-    let mut switch = Switch::start(one, 0b110);
-    if switch.allocated(one) {
-        switch.set_kd(one, true);
+fn an_owner_lets_go_or_dies(rt: HostRuntime) {
+    for &(way, hops, owned, relsig) in ENDS {
+        check_number(&rt, ends(way, hops, owned, relsig) == Some(true), way);
     }
-    if switch.allocated(one) {
-        assert!(rt; switch.kd(one));
+}
+
+fn draws(switch: &mut Switch, c: ConsoleNo, graphics: bool) -> bool {
+    if switch.allocated(c) {
+        switch.set_kd(c, graphics);
     }
-    assert!(rt; matches!(switch.request(two), Asked::Ignored));
-    if switch.allocated(one) {
-        switch.set_kd(one, false);
-    }
+    switch.allocated(c) && switch.kd(c) == graphics
+}
+
+fn is_ignored(switch: &mut Switch, to: ConsoleNo) -> bool {
+    matches!(switch.request(to), Asked::Ignored)
+}
+
+fn is_locked(switch: &mut Switch, to: ConsoleNo) -> bool {
     switch.set_lock(true);
-    assert!(rt; switch.locked());
-    assert!(rt; matches!(switch.request(two), Asked::Ignored));
+    let locked = switch.locked();
+    let ignored = is_ignored(switch, to);
     switch.set_lock(false);
-    assert!(rt; matches!(switch.request(two), Asked::Hopped(_)));
-    assert_eq!(rt; switch.front(), two);
-    Ok(())
+    locked && ignored
+}
+
+fn hops(switch: &mut Switch, to: ConsoleNo) -> bool {
+    matches!(switch.request(to), Asked::Hopped(_)) && switch.front() == to
+}
+
+fn keeps_the_display() -> Option<bool> {
+    let n = named()?;
+    let mut switch = Switch::start(ConsoleNo::new(1)?, 0b110);
+    Some(
+        draws(&mut switch, n.one, true)
+            && is_ignored(&mut switch, n.two)
+            && draws(&mut switch, n.one, false)
+            && is_locked(&mut switch, n.two)
+            && hops(&mut switch, n.two),
+    )
+}
+
+#[test]
+fn graphics_and_the_lock_keep_the_display(rt: HostRuntime) {
+    check_name(
+        &rt,
+        keeps_the_display() == Some(true),
+        "graphics and the lock",
+    );
 }

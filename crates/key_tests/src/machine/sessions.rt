@@ -1,22 +1,23 @@
+//! Scan bytes, and what their keys say.
 use super::Wanted::{Bytes, Nothing};
-use super::{MODES, Wanted, is_wanted, start};
-use key_machine::Keyboard;
-use key_syms::{Action, Pair};
+use super::{Entry, MODES, Wanted, is_wanted, says, start, tables};
+use crate::checks::check_made;
+use key_machine::{KbState, Keyboard};
+use key_syms::Pair;
 use key_tables::KeyTables;
 use scan_codes::Scanner;
 use std::alloc::Global;
-use std::process::Abort;
-use std::test::Fail;
+use vt_base::NoMemory;
 
 // Scan bytes, one after another, and what each of them says.
-#[derive(Clone, Copy, Drop)]
+#[derive(Clone, Copy)]
 struct Session {
     what: &'static str,
     mode: u8,
     keys: &'static [(u8, Wanted)],
 }
 
-const SESSIONS: [Session; 13] = [
+const SESSIONS: &[Session] = &[
     Session {
         what: "a key goes up as what it went down as",
         mode: 3,
@@ -168,110 +169,151 @@ const SESSIONS: [Session; 13] = [
     },
 ];
 
-// Tables with these entries: the table, the keycode, and the action.
-fn tables(
-    rt: &impl Abort,
-    alloc: Global,
-    entries: &[(u8, u8, u16, u16)],
-) -> Result<KeyTables, Fail> {
-    let mut t = KeyTables::empty(alloc, &[0, 1, 4])?;
-    for (table, code, kind, value) in entries {
-        let a = Action::new(*kind, *value).ok_or("an action")?;
-        assert!(rt; t.exists(*table) && *code != 0);
-        t.set_entry(*table, *code, a);
-    }
+const ENTRIES: &[Entry] = &[
+    (0, 42, 8, 0),
+    (1, 42, 1, 0x31),
+    (0, 54, 8, 0),
+    (1, 54, 8, 0),
+    (0, 29, 8, 2),
+    (1, 29, 8, 2),
+    (0, 30, 2, 0x61),
+    (1, 30, 2, 0x41),
+    (0, 58, 12, 2),
+    (0, 41, 10, 0),
+    (0, 40, 7, 1),
+    (0, 18, 2, 0x65),
+    (0, 57, 1, 0x20),
+    (0, 59, 4, 20),
+    (0, 46, 12, 10),
+    (4, 79, 13, 6),
+    (4, 80, 13, 5),
+];
+
+const PAIRS: [Pair; 2] = [
+    Pair {
+        accent: 0x27,
+        base: 0x65,
+        result: 0xE9,
+    },
+    Pair {
+        accent: 0x27,
+        base: 0x65,
+        result: 0x45,
+    },
+];
+
+fn made(alloc: Global, entries: &[Entry]) -> Result<KeyTables, NoMemory> {
+    let mut t = tables(alloc, &[0, 1, 4], entries)?;
     t.set_func(20, b"\x1B[1~");
-    t.set_pairs(&[
-        Pair {
-            accent: 0x27,
-            base: 0x65,
-            result: 0xE9,
-        },
-        Pair {
-            accent: 0x27,
-            base: 0x65,
-            result: 0x45,
-        },
-    ]);
+    t.set_pairs(&PAIRS);
     Ok(t)
 }
 
-#[test]
-fn scan_bytes_become_what_keys_say(rt: HostRuntime) -> Result<(), Fail> {
-    let t = tables(
-        &rt,
-        rt.alloc(),
-        &[
-            (0, 42, 8, 0),
-            (1, 42, 1, 0x31),
-            (0, 54, 8, 0),
-            (1, 54, 8, 0),
-            (0, 29, 8, 2),
-            (1, 29, 8, 2),
-            (0, 30, 2, 0x61),
-            (1, 30, 2, 0x41),
-            (0, 58, 12, 2),
-            (0, 41, 10, 0),
-            (0, 40, 7, 1),
-            (0, 18, 2, 0x65),
-            (0, 57, 1, 0x20),
-            (0, 59, 4, 20),
-            (0, 46, 12, 10),
-            (4, 79, 13, 6),
-            (4, 80, 13, 5),
-        ],
-    )?;
-    for session in SESSIONS {
-        let mut scanner = Scanner::start();
-        assert_eq!(rt; scanner.set(85, 200), Ok(()));
-        let mut keys = Keyboard::start();
-        assert!(rt; session.mode <= 4);
-        let mut s = start(session.mode);
-        let what = session.what;
-        for (b, wanted) in session.keys {
-            let e = scanner.push(*b).ok_or("a key")?;
-            let out = keys.key(0, e, &t, &mut s, MODES);
-            assert!(rt; is_wanted(&out, *wanted), "{what}: {b:02x} gave {out:?}");
+fn is_said(t: &KeyTables, session: &Session) -> bool {
+    let mut scanner = Scanner::start();
+    let is_set = scanner.set(85, 200).is_ok();
+    let mut keys = Keyboard::start();
+    let mut s = start(session.mode);
+    for &(b, wanted) in session.keys {
+        let Some(e) = scanner.push(b) else {
+            return false;
+        };
+        if !says(&mut keys, &mut s, t, e, MODES, wanted) {
+            return false;
         }
     }
-    Ok(())
+    is_set
 }
 
-// Keys of two keyboards: which keyboard, its scan byte, and what it says.
+fn plays(alloc: Global, session: &Session) -> Result<bool, NoMemory> {
+    let t = made(alloc, ENTRIES)?;
+    Ok(is_said(&t, session))
+}
+
 #[test]
-fn keyboards_type_together(rt: HostRuntime) -> Result<(), Fail> {
-    let entries = [
-        (0, 42, 8, 0),
-        (1, 42, 8, 0),
-        (0, 30, 2, 0x61),
-        (1, 30, 2, 0x41),
-    ];
-    let t = tables(&rt, rt.alloc(), &entries)?;
-    let mut scanners = [Scanner::start(), Scanner::start()];
-    let mut keys = Keyboard::start();
-    let mut s = start(3);
-    let typed = [
-        (1, 0x2A, Nothing),
-        (0, 0x1E, Bytes(b"A")),
-        (1, 0x1E, Bytes(b"A")),
-        (1, 0x9E, Nothing),
-        (0, 0x1E, Bytes(b"A")),
-        (0, 0x2A, Nothing),
-        (1, 0xAA, Nothing),
-        (1, 0x1E, Bytes(b"A")),
-        (0, 0xAA, Nothing),
-        (0, 0x1E, Bytes(b"a")),
-        (1, 0x2A, Nothing),
-    ];
-    for (from, b, wanted) in typed {
-        let e = scanners[usize::from(from)].push(b).ok_or("a key")?;
-        assert!(rt; from < 2);
-        let out = keys.key(from, e, &t, &mut s, MODES);
-        assert!(rt; is_wanted(&out, wanted), "{from} {b:02x} gave {out:?}");
+fn scan_bytes_become_what_keys_say(rt: HostRuntime) {
+    for session in SESSIONS {
+        check_made(&rt, plays(rt.alloc(), session), session.what);
     }
-    keys.unplug(1);
-    let e = scanners[0].push(0x1E).ok_or("a key")?;
-    let out = keys.key(0, e, &t, &mut s, MODES);
-    assert!(rt; is_wanted(&out, Bytes(b"a")), "after the unplug {out:?}");
-    Ok(())
+}
+
+const SHIFTED: &[Entry] = &[
+    (0, 42, 8, 0),
+    (1, 42, 8, 0),
+    (0, 30, 2, 0x61),
+    (1, 30, 2, 0x41),
+];
+
+// Keys of two keyboards: which keyboard, its scan byte, and what it says.
+const TYPED: &[(u8, u8, Wanted)] = &[
+    (1, 0x2A, Nothing),
+    (0, 0x1E, Bytes(b"A")),
+    (1, 0x1E, Bytes(b"A")),
+    (1, 0x9E, Nothing),
+    (0, 0x1E, Bytes(b"A")),
+    (0, 0x2A, Nothing),
+    (1, 0xAA, Nothing),
+    (1, 0x1E, Bytes(b"A")),
+    (0, 0xAA, Nothing),
+    (0, 0x1E, Bytes(b"a")),
+    (1, 0x2A, Nothing),
+];
+
+// Two keyboards of one console.
+#[derive(Drop)]
+struct Typing {
+    first: Scanner,
+    second: Scanner,
+    keys: Keyboard,
+    state: KbState,
+}
+
+fn types(typing: &mut Typing, t: &KeyTables, from: u8, b: u8, wanted: Wanted) -> bool {
+    let scanned = if from == 0 {
+        typing.first.push(b)
+    } else {
+        typing.second.push(b)
+    };
+    match scanned {
+        Some(e) => {
+            let out = typing.keys.key(from.min(1), e, t, &mut typing.state, MODES);
+            is_wanted(&out, wanted)
+        }
+        None => false,
+    }
+}
+
+fn types_all(typing: &mut Typing, t: &KeyTables) -> bool {
+    for &(from, b, wanted) in TYPED {
+        if !types(typing, t, from, b, wanted) {
+            return false;
+        }
+    }
+    true
+}
+
+// Once the second keyboard is gone, its Shift is too.
+fn types_alone(typing: &mut Typing, t: &KeyTables) -> bool {
+    typing.keys.unplug(1);
+    types(typing, t, 0, 0x1E, Bytes(b"a"))
+}
+
+fn type_together(t: &KeyTables) -> bool {
+    let mut typing = Typing {
+        first: Scanner::start(),
+        second: Scanner::start(),
+        keys: Keyboard::start(),
+        state: start(3),
+    };
+    types_all(&mut typing, t) && types_alone(&mut typing, t)
+}
+
+fn share_modifiers(alloc: Global) -> Result<bool, NoMemory> {
+    let t = made(alloc, SHIFTED)?;
+    Ok(type_together(&t))
+}
+
+#[test]
+fn keyboards_type_together(rt: HostRuntime) {
+    check_made(&rt, share_modifiers(rt.alloc()), "two keyboards");
 }

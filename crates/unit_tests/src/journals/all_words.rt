@@ -1,12 +1,14 @@
 //! The words of every call and every answer, by the table in docs/JOURNAL.md.
+use super::answer::Answer;
+use crate::checks::check_row;
 use std::alloc::Global;
-use std::test::Fail;
-use vt_base::{Bytes, CallerNo, Errno, NoMemory, SigSet, Signal, VtMode};
+use std::slice::from_ref;
+use vt_base::{Bytes, CallerNo, Errno, NoMemory, VtMode};
 use vt_events::{Entry, Event, Reply};
 use vt_journal::{Tail, print, read_event};
 
 // The words of each call, and how its event is printed for debugging, up to its bytes.
-const CALLS: [(&[u8], &str); 46] = [
+const CALLS: &[(&[u8], &str)] = &[
     (b"scan e0", "Scan(224)"),
     (b"exit", "Exit"),
     (b"open 63", "OpenCon(63)"),
@@ -55,10 +57,39 @@ const CALLS: [(&[u8], &str); 46] = [
     (b"kill 64 9", "Kill(64, 9)"),
 ];
 
-// The line of this call and this answer.
-fn line(alloc: Global, event: Event, reply: Reply) -> Result<Bytes, Fail> {
+const END: Tail = Tail::End {
+    events: 1,
+    bytes: 2,
+};
+
+// What a journal of one call says before its last line, behind the call's words and "=".
+fn answer_in<'a>(journal: &'a [u8], call: &[u8]) -> Option<&'a [u8]> {
+    journal
+        .strip_prefix(b"%journal 2\np1 0 ")?
+        .strip_prefix(call)?
+        .strip_prefix(b" = ")?
+        .strip_suffix(b"\n%end 1 2\n")
+}
+
+fn is_printed(alloc: Global, entry: &Entry, call: &[u8], wanted: &[u8]) -> Result<bool, NoMemory> {
+    let mut text = Bytes::new(alloc);
+    print(alloc, from_ref(entry), 2, &END, &mut text)?;
+    Ok(match answer_in(text.as_slice(), call) {
+        Some(answer) => answer == wanted,
+        None => false,
+    })
+}
+
+// Whether the line of this call and this answer has these words.
+fn is_line(
+    alloc: Global,
+    event: Event,
+    reply: Reply,
+    call: &[u8],
+    wanted: &[u8],
+) -> Result<bool, NoMemory> {
     let Some(caller) = CallerNo::new(1) else {
-        return Err(Fail::from("no caller"));
+        return Ok(false);
     };
     let entry = Entry {
         caller,
@@ -66,90 +97,74 @@ fn line(alloc: Global, event: Event, reply: Reply) -> Result<Bytes, Fail> {
         event,
         reply,
     };
-    let mut text = Bytes::new(alloc);
-    let end = Tail::End {
-        events: 1,
-        bytes: 2,
-    };
-    print(alloc, &[entry], 2, &end, &mut text)?;
-    Ok(text)
+    is_printed(alloc, &entry, call, wanted)
 }
 
-// The text of one line between the first and the last.
-fn journal(alloc: Global, call: &[u8], answer: &[u8]) -> Result<Bytes, NoMemory> {
-    let mut text = Bytes::new(alloc);
-    for part in [
-        b"%journal 2\np1 0 ".as_slice(),
-        call,
-        b" = ",
-        answer,
-        b"\n%end 1 2\n",
-    ] {
-        text.grow(alloc, part.len())?;
-        text.append(part);
-    }
-    Ok(text)
+fn is_shown(alloc: Global, event: &Event, start: &str) -> Result<bool, NoMemory> {
+    let shown = format!(in alloc; "{event:?}")?;
+    Ok(shown.as_str().starts_with(start))
 }
 
-#[test]
-fn every_call_has_its_words(rt: HostRuntime) -> Result<(), Fail> {
-    let alloc = rt.alloc();
-    for (words, event) in CALLS {
-        let Some(read) = read_event(alloc, words)? else {
-            return Err(Fail::from("no call"));
-        };
-        let shown = format!(in alloc; "{read:?}")?;
-        assert!(rt; shown.as_str().starts_with(event), "{event}");
-        let expected = journal(alloc, words, b"ok")?;
-        let printed = line(alloc, read, Reply::Done)?;
-        assert_eq!(rt; printed.as_slice(), expected.as_slice(), "{event}");
+fn reads_as(alloc: Global, words: &[u8], start: &str) -> Result<bool, NoMemory> {
+    match read_event(alloc, words)? {
+        Some(event) => is_shown(alloc, &event, start),
+        None => Ok(false),
     }
-    Ok(())
+}
+
+fn prints_as(alloc: Global, words: &[u8]) -> Result<bool, NoMemory> {
+    match read_event(alloc, words)? {
+        Some(event) => is_line(alloc, event, Reply::Done, words, b"ok"),
+        None => Ok(false),
+    }
+}
+
+fn has_words(alloc: Global, words: &[u8], start: &str) -> Result<bool, NoMemory> {
+    Ok(reads_as(alloc, words, start)? && prints_as(alloc, words)?)
 }
 
 #[test]
-fn every_answer_has_its_words(rt: HostRuntime) -> Result<(), Fail> {
-    let alloc = rt.alloc();
-    let (Some(first), Some(last)) = (Signal::new(1), Signal::new(64)) else {
-        return Err(Fail::from("no signal"));
-    };
-    let mode = VtMode {
-        mode: 1,
-        waitv: 2,
-        relsig: 10,
-        acqsig: 12,
-        frsig: 3,
-    };
-    let state = Reply::State {
-        front: 63,
-        mask: 9_223_372_036_854_775_810,
-    };
-    let act = Reply::Act {
-        kind: 14,
-        value: 65_535,
-    };
-    let cases: [(Reply, &[u8]); 10] = [
-        (Reply::Done, b"ok"),
-        (Reply::Num(4_294_967_295), b"num 4294967295"),
-        (state, b"state 63 9223372036854775810"),
-        (
-            Reply::Text(Bytes::from_slice(alloc, b"\x00\xA9")?),
-            b"bytes 00a9",
-        ),
-        (Reply::Mode(mode), b"mode 1 2 10 12 3"),
-        (act, b"act 14 65535"),
-        (Reply::Wait, b"wait"),
-        (Reply::Sigs(SigSet::empty()), b"sigs 0"),
-        (
-            Reply::Sigs(SigSet::empty().with(first).with(last)),
-            b"sigs 9223372036854775809",
-        ),
-        (Reply::Err(Errno::Notty), b"err 25"),
-    ];
-    for (reply, words) in cases {
-        let expected = journal(alloc, b"exit", words)?;
-        let printed = line(alloc, Event::Exit, reply)?;
-        assert_eq!(rt; printed.as_slice(), expected.as_slice(), "{words:?}");
+fn every_call_has_its_words(rt: HostRuntime) {
+    for &(words, start) in CALLS {
+        check_row(&rt, has_words(rt.alloc(), words, start), words);
     }
-    Ok(())
+}
+
+const MODE: VtMode = VtMode {
+    mode: 1,
+    waitv: 2,
+    relsig: 10,
+    acqsig: 12,
+    frsig: 3,
+};
+
+const ANSWERS: &[(Answer, &[u8])] = &[
+    (Answer::Done, b"ok"),
+    (Answer::Num(4_294_967_295), b"num 4294967295"),
+    (
+        Answer::State(63, 9_223_372_036_854_775_810),
+        b"state 63 9223372036854775810",
+    ),
+    (Answer::Text(b"\x00\xA9"), b"bytes 00a9"),
+    (Answer::Mode(MODE), b"mode 1 2 10 12 3"),
+    (Answer::Act(14, 65_535), b"act 14 65535"),
+    (Answer::Wait, b"wait"),
+    (Answer::Sigs(0), b"sigs 0"),
+    (
+        Answer::Sigs(0x8000_0000_0000_0001),
+        b"sigs 9223372036854775809",
+    ),
+    (Answer::Err(Errno::Notty), b"err 25"),
+];
+
+fn is_answer(alloc: Global, answer: Answer, words: &[u8]) -> Result<bool, NoMemory> {
+    let reply = answer.reply(alloc)?;
+    is_line(alloc, Event::Exit, reply, b"exit", words)
+}
+
+#[test]
+fn every_answer_has_its_words(rt: HostRuntime) {
+    for &(answer, words) in ANSWERS {
+        check_row(&rt, is_answer(rt.alloc(), answer, words), words);
+    }
 }
