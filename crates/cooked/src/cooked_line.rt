@@ -27,7 +27,7 @@ const MOST: usize = 4_095;
 
 /// A line discipline: bytes as they are typed become lines, signals and an echo. Contracts see the
 /// settings, the bytes that are fresh and the line that was given last.
-#[derive(Debug, Drop)]
+#[derive(Drop)]
 pub struct Cooked {
     termios: Termios,
     fresh: Bytes,

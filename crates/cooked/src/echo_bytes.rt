@@ -4,7 +4,7 @@ use arrayvec::ArrayVec;
 use std::marker::Model;
 
 /// What is echoed of one byte: at most 8 bytes.
-#[derive(Debug, Drop)]
+#[derive(Drop)]
 pub struct EchoBytes {
     bytes: ArrayVec<u8, 8>,
 }

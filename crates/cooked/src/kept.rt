@@ -14,7 +14,7 @@ pub const LINE_BYTES: usize = 4_096;
 
 /// The characters that erases left: their bytes, and the size of each. An erase takes the last size,
 /// and so never cuts the bytes anew.
-#[derive(Debug, Drop)]
+#[derive(Drop)]
 pub struct Kept {
     bytes: Bytes,
     sizes: Bytes,

@@ -24,7 +24,7 @@ use vt_world::{Spare, spare_for};
 const ECHO_BYTES: usize = 8;
 
 /// A line discipline of a process, over a descriptor of its. Contracts see what [`Cooked`] sees.
-#[derive(Debug, Drop)]
+#[derive(Drop)]
 pub struct Tty {
     cooked: Cooked,
 }

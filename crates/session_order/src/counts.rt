@@ -7,7 +7,7 @@ use vt_base::CallerNo;
 const PLACES: usize = 68;
 
 /// How many calls each caller made.
-#[derive(Debug, Drop)]
+#[derive(Drop)]
 pub struct Counts {
     places: [u32; PLACES],
 }

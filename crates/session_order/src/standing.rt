@@ -19,7 +19,7 @@ use vt_events::Reply;
 
 /// How far the callers of a session are: where each one's walk through its program stands, and how many
 /// calls it made.
-#[derive(Debug, Drop)]
+#[derive(Drop)]
 pub struct Standing {
     walks: Vec<Walk>,
     counts: Counts,

@@ -9,7 +9,7 @@ const FACTOR: u64 = 6_364_136_223_846_793_005;
 const STEP: u64 = 1_442_695_040_888_963_407;
 
 /// The number that was drawn last.
-#[derive(Debug, Drop)]
+#[derive(Drop)]
 pub(crate) struct Draws {
     x: u64,
 }

@@ -18,7 +18,7 @@ use vt_journal::{Full, Log};
 use vt_world::{World, legal_grows, spare_for};
 
 /// A console, its journal so far, how far each caller is, and where the play stopped.
-#[derive(Debug, Drop)]
+#[derive(Drop)]
 pub(crate) struct Player {
     pub(crate) world: World,
     pub(crate) log: Log,

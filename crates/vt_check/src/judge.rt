@@ -31,7 +31,7 @@ const NOT_ANSWERED: u8 = 3;
 const PAST_LIMITS: u8 = 5;
 
 /// A console, how far each caller is, how many entries there were and what they count for.
-#[derive(Debug, Drop)]
+#[derive(Drop)]
 pub(crate) struct Judge {
     pub(crate) world: World,
     pub(crate) standing: Standing,

@@ -1,7 +1,7 @@
 use crate::HopWhy;
 
 /// Why the display changed hands in a journal (docs/EXPLAIN.md). This project's own.
-#[derive(Debug, Drop)]
+#[derive(Drop)]
 pub enum Explained {
     /// The journal is legal: the certificate of its hops.
     Cert(Vec<HopWhy>),

@@ -12,7 +12,7 @@ use vt_base::{ConsoleNo, NoMemory, Signal};
 use vt_switch::{Cause, Hop, Mark};
 
 /// The items of the hops that were read, and who was asked last to let the display go.
-#[derive(Debug, Drop)]
+#[derive(Drop)]
 pub(crate) struct Reader {
     made: Vec<HopWhy>,
     last: Option<LastAsk>,

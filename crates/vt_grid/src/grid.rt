@@ -15,7 +15,7 @@ use vt_base::{NoMemory, Size};
 use vt_cells::Cell;
 
 /// The cells of a screen: rows and columns are counted from 0, from the top left.
-#[derive(Debug, Drop)]
+#[derive(Drop)]
 pub struct Grid {
     store: RowStore,
 }

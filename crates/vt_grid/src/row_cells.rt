@@ -8,7 +8,7 @@ use vt_cells::Cell;
 
 /// The cells of a row from left to right, seen as the list of those that are left. From
 /// [`Grid::row`](crate::Grid::row). A blank end of a row is stored nowhere, so there is no slice.
-#[derive(Debug, Drop)]
+#[derive(Drop)]
 pub struct RowCells<'a> {
     stored: &'a [Kept],
     rest: Kept,

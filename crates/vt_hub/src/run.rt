@@ -5,7 +5,7 @@ use vt_journal::{Full, Log, Tail};
 use vt_world::World;
 
 /// A console after calls, and their journal.
-#[derive(Debug, Drop)]
+#[derive(Drop)]
 pub struct Run {
     pub world: World,
     pub log: Log,

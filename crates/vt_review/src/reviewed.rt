@@ -1,7 +1,7 @@
 use vt_base::Bytes;
 
 /// What a review of a journal gives.
-#[derive(Debug, Drop)]
+#[derive(Drop)]
 pub enum Reviewed {
     /// The journal is legal, and this is what its ears were told, a line each.
     Text(Bytes),

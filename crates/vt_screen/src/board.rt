@@ -12,7 +12,7 @@ use vt_grid::Grid;
 
 /// A grid, and whether it is known that none of its cells is the half of a character: no border parts
 /// one then, and no cell is looked at.
-#[derive(Debug, Drop)]
+#[derive(Drop)]
 pub struct Board {
     grid: Grid,
     narrow: bool,

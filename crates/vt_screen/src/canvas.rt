@@ -29,7 +29,7 @@ use vt_grid::Grid;
 use vt_units::{Mode, Unit};
 
 /// A screen, and what each unit does to it.
-#[derive(Debug, Drop)]
+#[derive(Drop)]
 pub struct Canvas {
     grid: Board,
     state: ScreenState,

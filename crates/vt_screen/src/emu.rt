@@ -30,7 +30,7 @@ pub const FEED_BYTES: usize = 64;
 
 /// A screen and the machine that writes on it. Contracts see the screen, and the rest of its text
 /// that isn't a whole unit yet.
-#[derive(Debug, Drop)]
+#[derive(Drop)]
 pub struct Emu {
     canvas: Canvas,
     pending: Pending,

@@ -6,7 +6,7 @@ use arrayvec::ArrayVec;
 use std::marker::Model;
 
 /// What a run of bytes said, in order: a byte says at most one thing, so 64 bytes say at most 64.
-#[derive(Debug, Drop)]
+#[derive(Drop)]
 pub struct Outs {
     items: ArrayVec<Out, 64>,
 }

@@ -7,7 +7,7 @@ use vt_chars::CharMap;
 use vt_sgr::Pen;
 
 /// The state of a screen beside its cells (console_codes(4)).
-#[derive(Debug, Drop)]
+#[derive(Drop)]
 pub struct ScreenState {
     /// The cursor's column, from 0.
     pub x: u8,

@@ -7,7 +7,7 @@ use std::marker::Model;
 const COLUMNS: usize = 255;
 
 /// The tab stops: a set of columns below 255. Contracts see whether each column is one.
-#[derive(Debug, Drop)]
+#[derive(Drop)]
 pub struct Stops {
     columns: [bool; COLUMNS],
 }

@@ -12,7 +12,7 @@ use scan_codes::{KeyEvent, Scanner};
 use vt_base::{CallerNo, KEYBOARDS};
 
 /// The keyboards: the bytes of each are read, and their keys are typed, by what the tables say.
-#[derive(Debug, Drop)]
+#[derive(Drop)]
 pub(crate) struct Board {
     // By the keyboards' numbers. All have one translation.
     pub(crate) scanners: [Scanner; KEYBOARDS],

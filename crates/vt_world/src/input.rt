@@ -2,7 +2,7 @@ use in_queue::InQueue;
 use key_machine::KbState;
 
 /// What the keyboard puts into a console: its queue, and its key state.
-#[derive(Debug, Drop)]
+#[derive(Drop)]
 pub(crate) struct Input {
     pub(crate) queue: InQueue,
     pub(crate) keys: KbState,

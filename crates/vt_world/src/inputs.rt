@@ -12,7 +12,7 @@ use vt_base::{Bytes, CONSOLES, ConsoleNo, NoMemory};
 const PLACES: usize = CONSOLES + 1;
 
 /// What the keyboard puts into each console, by its number.
-#[derive(Debug, Drop)]
+#[derive(Drop)]
 pub(crate) struct Inputs {
     places: Vec<Input>,
 }

@@ -10,7 +10,7 @@ use vt_grid::Grid;
 use vt_screen::BLANK;
 
 /// What a call may need beside the world: it is taken before, so that the call takes no memory.
-#[derive(Debug, Drop)]
+#[derive(Drop)]
 pub struct Spare {
     pub(crate) grid: Option<Grid>,
     pub(crate) reply: Bytes,

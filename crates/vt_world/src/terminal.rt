@@ -9,7 +9,7 @@ use vt_grid::Grid;
 use vt_screen::{Emu, Out, Outs};
 
 /// What a console shows: its screen, and how often its bell rang.
-#[derive(Debug, Drop)]
+#[derive(Drop)]
 pub struct Terminal {
     emu: Emu,
     bells: u32,

@@ -15,7 +15,7 @@ use vt_screen::{BLANK, Outs};
 const PLACES: usize = CONSOLES + 1;
 
 /// What the consoles show, by their numbers, of which 0 stays free.
-#[derive(Debug, Drop)]
+#[derive(Drop)]
 pub struct Terminals {
     places: Vec<Option<Terminal>>,
 }

@@ -11,7 +11,7 @@ use vt_switch::Mark;
 pub(crate) const TRACE_MARKS: usize = 12_288;
 
 /// What the last event told, and how often the display switched since the start.
-#[derive(Debug, Drop)]
+#[derive(Drop)]
 pub(crate) struct Trace {
     marks: Vec<Mark>,
     hops: u64,

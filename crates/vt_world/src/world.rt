@@ -22,7 +22,7 @@ use vt_switch::{Mark, Switch};
 
 /// All consoles with what they show and what was typed into them, the display, the callers, the
 /// keyboards, and what the last event told.
-#[derive(Debug, Drop)]
+#[derive(Drop)]
 pub struct World {
     pub(crate) size: Size,
     pub(crate) switch: Switch,

@@ -9,7 +9,7 @@ use std::sync::ledger::Ledger;
 use vt_base::NoMemory;
 
 /// Numbers in a ring: the first of them stands at `head`.
-#[derive(Debug, Drop)]
+#[derive(Drop)]
 pub struct Ring {
     head: u8,
     numbers: Vec<u8>,

@@ -13,7 +13,7 @@ use vt_cells::Cell;
 const SHORT_RUN: usize = 8;
 
 /// One row: room for its cells, of which the first `len` are stored.
-#[derive(Debug, Drop)]
+#[derive(Drop)]
 pub struct Row {
     cells: Vec<Kept>,
     rest: Kept,

@@ -16,7 +16,7 @@ use vt_cells::Cell;
 
 /// The rows of a grid. Each stores its first cells, and one cell that stands for all further
 /// ones.
-#[derive(Debug, Drop)]
+#[derive(Drop)]
 pub struct RowStore {
     size: Size,
     ring: Ring,
