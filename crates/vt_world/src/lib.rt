@@ -2,6 +2,7 @@
 #![tactic(auto)]
 
 mod board;
+mod call;
 mod effects;
 mod input;
 mod inputs;
