@@ -19,7 +19,7 @@ use std::test::Fail;
 use vt_base::{Bytes, CallerNo, NoMemory};
 use vt_events::{Entry, Event, Reply};
 use vt_journal::{Tail, print, read_event};
-use vt_world::{World, spare_for};
+use vt_world::World;
 
 // What the journal of one call ends with.
 const END: Tail = Tail::End {
@@ -60,19 +60,18 @@ fn made(alloc: Global, world: &mut World, p: u16, words: &[u8]) -> Result<Bytes,
         return Ok(Bytes::new(alloc));
     };
     match read_event(alloc, words)? {
-        Some(event) => step(alloc, world, caller, event),
+        Some(event) => called(alloc, world, caller, event),
         None => Ok(Bytes::new(alloc)),
     }
 }
 
-fn step(
+fn called(
     alloc: Global,
     world: &mut World,
     caller: CallerNo,
     event: Event,
 ) -> Result<Bytes, NoMemory> {
-    let spare = spare_for(alloc, &event, world.size())?;
-    let (reply, _unused) = world.step(caller, &event, spare);
+    let reply = world.call(alloc, caller, &event)?;
     journal(alloc, caller, event, reply)
 }
 

@@ -1,5 +1,5 @@
 //! What the processes do.
-use crate::calling::{asker, call, server};
+use crate::calling::{asker, server};
 use crate::opening::opened;
 use crate::telling::{add, add_line};
 use std::alloc::Global;
@@ -22,14 +22,14 @@ pub fn ask_for_each(alloc: Global, text: &[u8]) -> Result<Bytes, NoMemory> {
 
 fn ask_for(alloc: Global, world: &mut World, digit: u8, lines: &mut Bytes) -> Result<(), NoMemory> {
     let event = Event::Activate(0, u16::from(digit.saturating_sub(b'0')));
-    let reply = call(alloc, world, asker(), &event)?;
+    let reply = world.call(alloc, asker(), &event)?;
     add(alloc, b"2 asks for ", lines)?;
     add_line(alloc, &[digit], &reply, world.display(), lines)
 }
 
 // Process 1 takes its signals, and does what each asks of it.
 fn heed_signals(alloc: Global, world: &mut World, lines: &mut Bytes) -> Result<(), NoMemory> {
-    let signals = signals_in(&call(alloc, world, server(), &Event::TakeSignals)?);
+    let signals = signals_in(&world.call(alloc, server(), &Event::TakeSignals)?);
     if signals.has(Signal::numbered(10)) {
         release(alloc, world, 1, b"1 lets the display go", lines)?;
     }
@@ -53,6 +53,6 @@ fn release(
     words: &[u8],
     lines: &mut Bytes,
 ) -> Result<(), NoMemory> {
-    let reply = call(alloc, world, server(), &Event::RelDisp(0, how))?;
+    let reply = world.call(alloc, server(), &Event::RelDisp(0, how))?;
     add_line(alloc, words, &reply, world.display(), lines)
 }

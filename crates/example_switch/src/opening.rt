@@ -1,5 +1,5 @@
 //! The console at the start, with what both processes do first.
-use crate::calling::{asker, call, server};
+use crate::calling::{asker, server};
 use key_tables::KeyTables;
 use std::alloc::Global;
 use vt_base::{ConsoleNo, NoMemory, Size};
@@ -16,9 +16,9 @@ const BY_SIGNALS: Event = Event::SetMode(0, 1, 0, 10, 12, 0);
 /// A console on which each process has its own console open as descriptor 0.
 pub fn opened(alloc: Global) -> Result<World, NoMemory> {
     let mut world = started(alloc)?;
-    call(alloc, &mut world, server(), &Event::OpenCon(1))?;
-    call(alloc, &mut world, server(), &BY_SIGNALS)?;
-    call(alloc, &mut world, asker(), &Event::OpenCon(2))?;
+    world.call(alloc, server(), &Event::OpenCon(1))?;
+    world.call(alloc, server(), &BY_SIGNALS)?;
+    world.call(alloc, asker(), &Event::OpenCon(2))?;
     Ok(world)
 }
 

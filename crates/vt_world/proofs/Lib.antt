@@ -27,6 +27,7 @@ mod Traces
 mod Translations
 mod Truths
 mod Typed
+mod Unchanged
 mod Untouched
 mod Users
 pub mod Waits

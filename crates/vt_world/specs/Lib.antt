@@ -4,6 +4,7 @@ pub mod Heard
 pub mod History
 pub mod Inputs
 pub mod Laws
+pub mod RefusalLaws
 pub mod Refusals
 pub mod Rows
 pub mod Spare

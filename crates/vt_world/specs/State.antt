@@ -36,5 +36,8 @@ abbrev pub is_waiting : WorldState → ℕ → Bool
 is_waiting w p = is_open (caller_at w.callers p).waiting
 
 -- the consoles that have a terminal are those that are allocated
+abbrev pub AreAllocated : List (Option TerminalState) → Display → Type 0
+AreAllocated terminals d = map is_some terminals ≡ map is_some d.consoles
+
 abbrev pub HasTerminals : WorldState → Type 0
-HasTerminals w = map is_some w.terminals ≡ map is_some w.display.consoles
+HasTerminals w = AreAllocated w.terminals w.display

@@ -1,6 +1,7 @@
 //! The laws of histories.
 ghost use Rattle.vt_world.specs.History.{LegalGrows, NothingIsLegal, ReplayGrows};
 ghost use Rattle.vt_world.specs.Laws.{ActsAreCalls, ActsMakeCores, DisplaysAreLawful, DisplaysAreLawfulFrom, MomentsGrow, OwnersAreLive, ScreensAreTapes, TargetsAreExplained, TerminalsAreAllocated, TracesTellActs, TracesTellDeeds, TracesTellHops, TracesTellNews};
+ghost use Rattle.vt_world.specs.RefusalLaws.{BrokenWaitsAreTaken, LaterAnswersStay, RefusalsCanGo, RefusalsChangeNothing};
 ghost use Rattle.vt_world.specs.StepLaws.{NobodyWaitsAtStart, OneTranslation, SizesStay, TerminalsStay, TicketsAreCalled};
 
 use vt_screen::tapes_run;
@@ -55,6 +56,15 @@ pub fn terminals_stay()
 /// Whose ticket an event opens: its caller's, by a wait.
 pub fn tickets_are_called()
     ensures { TicketsAreCalled }
+{}
+
+/// What a refused call changes: nothing, neither the console nor any later answer. So a list of calls
+/// may go without those of it that are refused.
+pub fn refused_calls_change_nothing()
+    ensures refused { RefusalsChangeNothing }
+    ensures later { LaterAnswersStay }
+    ensures runs { RefusalsCanGo }
+    ensures broken { BrokenWaitsAreTaken }
 {}
 
 /// After every history from a start, the scan numbers of all keyboards have the same keycodes.

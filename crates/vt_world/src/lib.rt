@@ -2,6 +2,7 @@
 #![tactic(auto)]
 
 mod board;
+mod call;
 mod effects;
 mod input;
 mod inputs;
@@ -17,8 +18,8 @@ mod world;
 
 pub use laws::{
     displays_are_lawful, displays_are_lawful_from, legal_grows, nobody_waits_at_start,
-    one_translation, screens_are_tapes, sizes_stay, terminals_stay, tickets_are_called,
-    traces_tell_news,
+    one_translation, refused_calls_change_nothing, screens_are_tapes, sizes_stay, terminals_stay,
+    tickets_are_called, traces_tell_news,
 };
 pub use spare::{Spare, spare_for};
 pub use vt_switch::{Hop, Mark};

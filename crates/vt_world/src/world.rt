@@ -49,18 +49,9 @@ impl Model for World {
       trace = w.trace;
     } };
 
-    ghost use Rattle.vt_world.specs.State.{HasTerminals};
+    ghost use Rattle.vt_world.specs.State.{AreAllocated};
 
-    ghost invariant = { λ w. HasTerminals (record {
-      rows = w.size.rows;
-      cols = w.size.cols;
-      display = w.switch;
-      callers = w.procs;
-      terminals = w.terminals;
-      inputs = w.inputs;
-      board = w.board;
-      trace = w.trace;
-    }) };
+    ghost invariant = { λ w. AreAllocated w.terminals w.switch };
 }
 
 impl World {

@@ -1,7 +1,7 @@
 //! What refuses an event, where several rows share it.
 ghost use Rattle.std.specs.Prelude.{◌≡◌, [], ◌∷◌, IfOk, Some, true};
 ghost use Rattle.vt_procs.specs.Callers.{console_of};
-ghost use Rattle.vt_world.specs.Refusals.{error_of, first_refusal, gets, may_handle, needs_open, needs_privilege, needs_right, sets};
+ghost use Rattle.vt_world.specs.Refusals.{error_of, first_refusal, gets, may_handle, needs_open, needs_privilege, needs_right, needs_sense, sets};
 
 use crate::World;
 use vt_base::{CallerNo, ConsoleNo, Errno};
@@ -40,9 +40,7 @@ impl World {
         ensures refused { error_of result ≡ first_refusal (sets self.now p fd makes_sense) }
     {
         let c = self.handled(p, fd)?;
-        if !makes_sense {
-            return Err(Errno::Inval);
-        }
+        check_sense(makes_sense)?;
         Ok(c)
     }
 
@@ -58,9 +56,7 @@ impl World {
         ensures refused { error_of result ≡ first_refusal (gets self.now p fd makes_sense) }
     {
         let c = self.opened(p, fd)?;
-        if !makes_sense {
-            return Err(Errno::Inval);
-        }
+        check_sense(makes_sense)?;
         Ok(c)
     }
 
@@ -81,5 +77,17 @@ impl World {
         ensures { result ≡ may_handle self.now p c }
     {
         self.procs.privileged(p) || c.get() == u16::from(self.procs.home(p))
+    }
+}
+
+// What the event asks for has to make sense.
+fn check_sense(makes_sense: bool) -> Result<(), Errno>
+    ensures sense { IfOk result (λ sensible. makes_sense ≡ true) }
+    ensures refused { error_of result ≡ first_refusal (needs_sense makes_sense ∷ []) }
+{
+    if makes_sense {
+        Ok(())
+    } else {
+        Err(Errno::Inval)
     }
 }

@@ -4,6 +4,7 @@ ghost use Rattle.call_bytes.specs.Colours.{colours_text};
 ghost use Rattle.call_bytes.specs.Words.{words_text};
 ghost use Rattle.vt_events.specs.Charge.{greatest_dump};
 ghost use Rattle.vt_events.specs.declared.event.Event.TheVariants as event;
+ghost use Rattle.vt_grid.specs.Grid.{IsFull};
 ghost use Rattle.vt_procs.specs.Callers.{has_open};
 ghost use Rattle.vt_world.specs.Rows.{dump_of, screen_bytes};
 ghost use Rattle.vt_world.specs.Spare.{HasGrid, extent, is_console, is_extent, needed_grid};
@@ -176,12 +177,21 @@ fn add_screen(kind: u16, emu: &Emu, out: &mut Bytes)
 {
     let grid = emu.grid();
     let state = emu.state();
-    let _size = grid.size();
+    stays_in_range(grid);
     match kind {
         0 => vcs(grid, out),
         1 => vcsa(grid, state.x, state.y, state.reverse, out),
         _ => codes(grid, out),
     }
+}
+
+// A grid has all its cells, and at most 255 rows and columns.
+fn stays_in_range(grid: &Grid)
+    ensures full { IsFull grid.now }
+    ensures rows { grid.now.rows ≤ 255 }
+    ensures cols { grid.now.cols ≤ 255 }
+{
+    let _size = grid.size();
 }
 
 // Whether a screen can have so many rows and columns.

@@ -1,0 +1,64 @@
+-- The law of refusals: a refused call is as one that was never made. This project's own.
+use Rattle.std.specs.Prelude.{◌≡◌, ℕ, Bool, true, false, not, List, [], ◌∷◌, filter, map}
+use Rattle.vt_base.specs.declared.errno.Errno.TheVariants.{Intr}
+use Rattle.vt_events.specs.declared.entry.Entry.{Entry}
+use Rattle.vt_events.specs.declared.event.Event.{Event}
+use Rattle.vt_events.specs.declared.event.Event.TheVariants as event
+use Rattle.vt_events.specs.declared.reply.Reply.{Reply}
+use Rattle.vt_events.specs.declared.reply.Reply.TheVariants as reply
+use Rattle.vt_procs.specs.Tickets.{collected}
+use Rattle.vt_world.specs.Heard.{cleared}
+use Rattle.vt_world.specs.History.{replay}
+use Rattle.vt_world.specs.State.{WorldState}
+use Rattle.vt_world.specs.Step.{Outcome, step}
+
+-- a call is refused where it is answered by an error. A `waitend` that is answered EINTR isn't: it
+-- tells that a signal or the idle rule ended the wait
+abbrev pub is_refusal : Event → Reply → Bool
+is_refusal event.WaitEnd (reply.Err Intr) = false
+is_refusal e (reply.Err errno) = true
+is_refusal e answer = false
+
+-- after a refused call the console is as it was, and nothing is told of the call
+abbrev pub RefusalsChangeNothing : Type 0
+RefusalsChangeNothing =
+    (w : WorldState) (p : ℕ) (e : Event) → is_refusal e (step w p e).reply ≡ true
+    → (step w p e).world ≡ cleared w
+
+-- a `waitend` that is answered EINTR takes its caller's ticket, and changes nothing else
+abbrev pub BrokenWaitsAreTaken : Type 0
+BrokenWaitsAreTaken =
+    (w : WorldState) (p : ℕ) → (step w p event.WaitEnd).reply ≡ reply.Err Intr
+    → (step w p event.WaitEnd).world ≡ record (cleared w) { callers = collected p w.callers }
+
+-- the calls of entries, made one after another, each with the console's answer
+abbrev pub exchanges : WorldState → List Entry → List (Entry × Reply)
+exchanges w [] = []
+exchanges w (entry ∷ entries) =
+    let after : Outcome = step w entry.caller entry.event in
+    (entry, after.reply) ∷ exchanges after.world entries
+
+-- whatever is called after a refused call is answered as it would be without it
+abbrev pub LaterAnswersStay : Type 0
+LaterAnswersStay =
+    (w : WorldState) (p : ℕ) (e : Event) (later : List Entry)
+    → is_refusal e (step w p e).reply ≡ true
+    → exchanges (step w p e).world later ≡ exchanges w later
+
+-- those that weren't refused
+abbrev pub accepted : List (Entry × Reply) → List (Entry × Reply)
+accepted made = filter (λ one. not (is_refusal one.0.event one.1)) made
+
+abbrev pub calls : List (Entry × Reply) → List Entry
+calls made = map (λ one. one.0) made
+
+-- calls that are made again without those that were refused are answered as they were, and leave the
+-- same console, but for what is told of the last one
+pub record IsSameWithout (w : WorldState) (entries : List Entry) : Type 0 where
+  pub answers :
+      exchanges w (calls (accepted (exchanges w entries))) ≡ accepted (exchanges w entries)
+  pub world :
+      cleared (replay w (calls (accepted (exchanges w entries)))) ≡ cleared (replay w entries)
+
+abbrev pub RefusalsCanGo : Type 0
+RefusalsCanGo = (w : WorldState) (entries : List Entry) → IsSameWithout w entries
