@@ -2,6 +2,9 @@
 use Rattle.std.proofs.Common.{◌≡◌, ℕ, Bool, true, false, List, [], ◌∷◌, ◌++◌, Some, None, refl, sym, ap, ◌∙◌, subst}
 use Rattle.std.proofs.lemmas.Option.{none-some}
 use Rattle.atomic_table.specs.Seated.{TableId}
+use Rattle.cooked.specs.Cooked.{Typing}
+use Rattle.cooked.specs.Turn.{Turns}
+use Rattle.cooked.specs.declared.turn.Turn.{Turn}
 use Rattle.race_tests.specs.Ready.{IsReady, is_told_to_wait}
 use Rattle.vt_events.specs.Plain.{plain_reply}
 use Rattle.vt_events.specs.Waits.{is_wait}
@@ -37,4 +40,12 @@ ready_after start most e here v w (answer.Done place r) own called = record {
 ready_after start most e here v w (answer.Full full) own stopped = record {
   own = stopped.hub ∙ own;
   free = λ goes met. absurd (none-some _ (sym met ∙ stopped.met));
+}
+
+-- the pass after a turn
+pub ready_turned : (start : WorldState) (fd : ℕ) (old new : Typing) (turn : Turn) (here : TableId) (v w : PassView)
+    → v.hub ≡ here → Turns start fd old new turn v w → IsReady here false w
+ready_turned start fd old new turn here v w own turns = record {
+  own = turns.goes_on.hub ∙ own;
+  free = λ goes met. turns.free met;
 }

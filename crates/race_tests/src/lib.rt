@@ -1,4 +1,5 @@
-//! Tests of what runs in several threads: the shared console, and the race of a session.
+//! Tests of what runs in several threads: the shared console, cooked lines above it, and the race of a session; and of cooked
+//! lines alone.
 #![tactic(auto)]
 
 #[cfg(test)]

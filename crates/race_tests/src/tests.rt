@@ -1,7 +1,10 @@
 //! What the tests share. Rows are texts and numbers alone.
 mod hub;
+mod lines;
+mod passes;
 mod printing;
 mod race;
+mod typing;
 
 use std::alloc::Global;
 use std::process::Abort;

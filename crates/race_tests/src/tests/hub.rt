@@ -1,12 +1,13 @@
 //! A hub over the console of two processes: another thread makes their calls in the order of the serial
 //! play, while this one reads the display.
 ghost use Rattle.std.specs.Prelude.{◌≡◌, false, None, IfOk};
-ghost use Rattle.race_tests.specs.Ready.{IsReady, is_told_to_wait};
+ghost use Rattle.race_tests.specs.Ready.{IsReady};
 ghost use Rattle.session_order.specs.Sessions.{start_of};
 ghost use Rattle.vt_hub.specs.Answers.{Answers};
 ghost use Rattle.vt_hub.specs.Histories.{awaits};
 ghost use Rattle.vt_world.specs.Refusals.{ends_wait};
 
+use super::passes::{split, was_wait};
 use super::{SESSION, journal_of, same_text};
 use session_text::{Session, read};
 use std::alloc::Global;
@@ -16,9 +17,9 @@ use std::sync::Wait;
 use std::test::Fail;
 use std::thread;
 use std::thread::Threads;
-use vt_base::{CallerNo, NoMemory, Size};
-use vt_events::{Event, Reply};
-use vt_hub::{Answer, Hub, Opening, Pass, Run, Steward};
+use vt_base::{NoMemory, Size};
+use vt_events::Event;
+use vt_hub::{Answer, Hub, Opening, Pass, Run};
 use vt_journal::read_event;
 use vt_world::{Spare, World, nobody_waits_at_start, spare_for};
 
@@ -84,18 +85,6 @@ fn ask<J: Opening, R: Wait>(
     }
     let spare = spare_for(alloc, &event, size)?;
     Ok(hub.call(rt, pass, event, spare))
-}
-
-fn was_wait(answer: &Answer) -> bool
-    ensures { result ≡ is_told_to_wait answer.now }
-{
-    match answer {
-        Answer::Done {
-            reply: Reply::Wait,
-            ..
-        } => true,
-        _ => false,
-    }
 }
 
 // Makes the call that the words spell, and says whether it was entered.
@@ -191,19 +180,6 @@ fn watch<J: Opening>(hub: &Hub<J>, reader: Reader<J>) -> Reader<J>
         pass,
         turned: false,
     }
-}
-
-// A new pass of this caller.
-fn split<J: Opening>(hub: &Hub<J>, steward: &mut Steward<J>, c: u16) -> Result<Pass<J>, Fail>
-    requires { steward.old.hub ≡ hub.now }
-    ensures steward { steward.new.hub ≡ hub.now }
-    ensures pass { IfOk result (λ pass. IsReady hub.now false pass) }
-{
-    let c = CallerNo::new(c).ok_or("no caller")?;
-    if steward.made(c) {
-        return Err("made twice".into());
-    }
-    Ok(hub.split(steward, c))
 }
 
 // Whether all calls were made, and the display turned; and the run.

@@ -1,4 +1,4 @@
-//! A race whose hooks count their calls. What it prints and how it ends is in `run_tests`.
+//! A race whose hooks count their calls. What it prints and how it ends is in `session_tests`.
 ghost use Rattle.std.specs.Prelude.{◌≡◌, ℕ, ◌<◌, [], length, slice_index_or, vec_len};
 ghost use Rattle.session_run.specs.Runs.{HasHooks};
 

@@ -1,7 +1,7 @@
 use Rattle.std.proofs.Common.{◌∙◌}
 use Rattle.vt_procs.specs.declared.config.Config.{Config}
 use Rattle.vt_world.specs.Start.{opening}
-use Rattle.cooked_tests.proofs.typing.type_session.Goals as goal
+use Rattle.race_tests.proofs.tests.typing.type_session.Goals as goal
 
 pub type_beside-requires-clause-world : goal.type_beside-requires-clause-world
 type_beside-requires-clause-world g c κs within =

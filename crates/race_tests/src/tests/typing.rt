@@ -1,10 +1,11 @@
 //! A shared console: one thread types on its keyboard, and a process in another reads a line by turns.
 ghost use Rattle.std.specs.Prelude.{◌≡◌, false, None, IfOk};
-ghost use Rattle.cooked_tests.specs.Ready.{IsReady, is_told_to_wait};
+ghost use Rattle.race_tests.specs.Ready.{IsReady};
 ghost use Rattle.session_order.specs.Sessions.{start_of};
 ghost use Rattle.vt_hub.specs.Histories.{awaits};
 ghost use Rattle.vt_world.specs.Refusals.{ends_wait};
 
+use super::passes::{split, was_wait};
 use cooked::{Given, Stop, Termios, Tty};
 use session_text::{Session, read};
 use std::alloc::Global;
@@ -14,9 +15,9 @@ use std::sync::Wait;
 use std::test::Fail;
 use std::thread;
 use std::thread::Threads;
-use vt_base::{CallerNo, Errno, NoMemory, Size};
-use vt_events::{Event, Reply};
-use vt_hub::{Answer, Hub, Opening, Pass, Run, Steward};
+use vt_base::{Errno, NoMemory, Size};
+use vt_events::Event;
+use vt_hub::{Hub, Opening, Pass, Run, Steward};
 use vt_world::{Spare, World, nobody_waits_at_start, spare_for};
 
 const SESSION: &str = "rows = 2
@@ -36,18 +37,6 @@ script = []
 
 // `a`, `b`, an erase and Return, each pressed and released.
 const SCANS: [u8; 8] = [0x1E, 0x9E, 0x30, 0xB0, 0x0E, 0x8E, 0x1C, 0x9C];
-
-fn was_wait(answer: &Answer) -> bool
-    ensures { result ≡ is_told_to_wait answer.now }
-{
-    match answer {
-        Answer::Done {
-            reply: Reply::Wait,
-            ..
-        } => true,
-        _ => false,
-    }
-}
 
 // Makes a call that isn't WaitEnd, and says whether it was answered "wait".
 #[tactic(auto, using(crate::proofs::Ready::ready_after))]
@@ -144,19 +133,6 @@ fn read_line<J: Opening, R: Wait>(
         tty,
         found: false,
     })
-}
-
-// A new pass of this caller.
-fn split<J: Opening>(hub: &Hub<J>, steward: &mut Steward<J>, c: u16) -> Result<Pass<J>, Fail>
-    requires { steward.old.hub ≡ hub.now }
-    ensures steward { steward.new.hub ≡ hub.now }
-    ensures pass { IfOk result (λ pass. IsReady hub.now false pass) }
-{
-    let c = CallerNo::new(c).ok_or("no caller")?;
-    if steward.made(c) {
-        return Err("made twice".into());
-    }
-    Ok(hub.split(steward, c))
 }
 
 // Whether a line was given, the discipline, and the run.

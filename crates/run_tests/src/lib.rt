@@ -1,5 +1,0 @@
-//! Tests of the top call over threads: what `race` prints, and how it ends.
-#![tactic(auto)]
-
-#[cfg(test)]
-mod tests;
