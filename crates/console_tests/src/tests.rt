@@ -1,7 +1,6 @@
 //! What the tests share. Rows are texts and numbers alone, helpers have no clauses, and no `?` stands where a console or
 //! a session lives, since each would have to drop it: so a test is proved in seconds.
 mod deaths;
-mod hooks;
 mod marks;
 mod row;
 mod seen;
