@@ -84,8 +84,7 @@ fn without_num(t: &KeyTables, m: KeyModes, v: u16) -> KeyBytes
 pub(crate) fn function_bytes(t: &KeyTables, i: u8) -> KeyBytes
     ensures { result ≡ func_of t.now i }
 {
-    // That there is room is known of all strings, by `exists`.
-    let _exists = t.exists(0);
+    t.stays_whole();
     KeyBytes::of(t.func(i))
 }
 

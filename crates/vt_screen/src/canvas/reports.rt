@@ -81,7 +81,7 @@ impl Canvas {
     fn cursor_report(&self) -> Out
         ensures { result ≡ Report (0x1B ∷ cursor_text self.now) }
     {
-        let _whole = self.grid.size();
+        self.grid.stays_full();
         let mut text = ReportText::new();
         text.push(0x1B);
         text.push(b'[');
@@ -96,7 +96,7 @@ impl Canvas {
     fn reported_row(&self) -> u8
         ensures { result ≡ (if self.now.state.origin then self.now.state.y - self.now.state.top else self.now.state.y) + 1 }
     {
-        let _whole = self.grid.size();
+        self.grid.stays_full();
         if self.state.origin {
             self.state.y.saturating_sub(self.state.top) + 1
         } else {
