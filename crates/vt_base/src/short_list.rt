@@ -46,9 +46,9 @@ impl<T: Drop, const MOST: usize> ShortList<T, MOST> {
 
     /// The items in order.
     pub fn as_slice(&self) -> &[T]
-        ensures items { result.now ≡ self.now }
-        ensures bound { length self.now ≤ MOST }
-        ensures short { length result.now ≤ MOST }
+        ensures list { result.now ≡ self.now }
+        ensures bound { length result.now ≤ MOST }
+        ensures few { length self.now ≤ MOST }
     {
         self.items.as_slice()
     }
