@@ -5,6 +5,7 @@ ghost use Rattle.vt_screen.specs.declared.out.Out.TheVariants.{Report};
 ghost use Rattle.vt_screen.specs.Saying.{console_setting, cursor_text, device_report, lights, status_report, with_default_pair, with_dim_colour, with_underline_colour};
 
 use super::Canvas;
+use crate::report_text::push_decimal;
 use crate::{Out, Outs, ReportText};
 use vt_cells::Look;
 use vt_sgr::Pen;
@@ -85,9 +86,9 @@ impl Canvas {
         let mut text = ReportText::new();
         text.push(0x1B);
         text.push(b'[');
-        text.push_decimal(self.reported_row());
+        push_decimal(&mut text, self.reported_row());
         text.push(b';');
-        text.push_decimal(self.state.x + 1);
+        push_decimal(&mut text, self.state.x + 1);
         text.push(b'R');
         Out::Report(text)
     }
@@ -179,6 +180,6 @@ fn report(text: &[u8]) -> Out
 {
     let mut report = ReportText::new();
     report.push(0x1B);
-    report.push_all(text);
+    report.extend(text);
     Out::Report(report)
 }
