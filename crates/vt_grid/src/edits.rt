@@ -9,6 +9,7 @@ use std::sync::ledger::{Blank, Ledger};
 use vt_cells::Cell;
 
 /// Puts the cells of these codes.
+#[inline(always)]
 pub fn put_run<T: Code, L: Ledger>(
     store: &mut RowStore,
     y: u8,

@@ -86,6 +86,7 @@ impl Grid {
     }
 
     /// Sets the cells from column `x` on, one for each byte: its code is the byte.
+    #[inline(always)]
     pub fn put_bytes(&mut self, y: u8, x: u8, bytes: &[u8], attr: u8)
         requires row { y < self.old.rows }
         requires columns { x + length bytes.now ≤ self.old.cols }

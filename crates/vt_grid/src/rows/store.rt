@@ -158,6 +158,7 @@ impl RowStore {
 
     // Puts the cells of these codes into row `y` from column `x` on. As many steps as cells that
     // are put or come to be stored.
+    #[inline(always)]
     pub(crate) fn put_run<T: Code, L: Ledger>(
         &mut self,
         y: u8,
