@@ -65,19 +65,34 @@ def calls():
     return [Call(*form.fullmatch(line).groups()) for line in lines]
 
 
+def guesses(calls, file):
+    """Returns the lines of the table of guesses, by the sum that the file takes of a name; the first call of a place has it."""
+    text = file.read_text()
+    sum = r"(\d+) \* first \+ (\d+) \* last \+ (\d+) \* fourth \+ (\d+) \* long"
+    first, last, fourth, long = map(int, re.search(sum, text).groups())
+    places = ["Scan"] * int(re.search(r"const PLACES: usize = (\d+);", text)[1])
+    for call in reversed(calls):
+        word = call.word.encode()
+        if len(word) >= 4:
+            places[(first * word[0] + last * word[-1] + fourth * word[3] + long * len(word)) % len(places)] = call.name
+    return textwrap.wrap(" ".join(f"Kind::{name}," for name in places), 112)
+
+
 def lists(calls):
     """Gives the file of each list, what stands before and after it, the blanks that its lines begin with, and its lines."""
     events, journal = CRATES / "vt_events", CRATES / "vt_journal"
     each = lambda told: [told(it) for it in calls]
     yield events / "src/event.rt", "        Ok(match self {\n", "        })\n", 12, each(Call.copy)
     yield journal / "src/kind.rt", "pub enum Kind {\n", "}\n", 4, [f"{it.name}," for it in calls]
-    call = r"        ensures { result ≡ call_of self n.now b.bytes }\n    {\n        match self {\n"
-    yield journal / "src/kind.rt", call.replace(r"\n", "\n"), "        }\n", 12, each(Call.made)
+    call = "        ensures { result ≡ call_of self n.now b.bytes }\n    {\n        match self {\n"
+    yield journal / "src/kind.rt", call, "        }\n", 12, each(Call.made)
     yield journal / "src/parts.rt", "        match e {\n", "        }\n    }\n}\n", 12, each(Call.taken)
     yield journal / "src/rows.rt", "static ROWS: [Row; KINDS] = [\n", "];\n", 4, each(Call.row)
     yield journal / "src/rows.rt", "/// How many kinds there are.\n", BLANK_LINE, 0, [f"const KINDS: usize = {len(calls)};"]
     defined = "abbrev pub call_of : Kind → List ℕ → List ℕ → Event\n"
     yield journal / "specs/Kinds.antt", defined, BLANK_LINE, 0, each(Call.defined)
+    likely = journal / "src/likely.rt"
+    yield likely, "static LIKELY: [Kind; PLACES] = [\n", "];\n", 4, guesses(calls, likely)
     kinds = textwrap.wrap(" ".join(f"kind.{it.name}+∷" for it in calls) + " []", 96)
     yield journal / "proofs/Calls.antt", "kinds =\n", BLANK_LINE, 4, [line.replace("+", " ") for line in kinds]
 
@@ -98,7 +113,8 @@ def main(words):
             continue
         is_right = False
         if "--check" in words:
-            print(f"{file.relative_to(CRATES.parent)}: the list after {before.splitlines()[-1].strip()!r} isn't that of the words of calls")
+            place = f"{file.relative_to(CRATES.parent)}: the list after {before.splitlines()[-1].strip()!r}"
+            print(f"{place} isn't that of the words of calls")
         else:
             file.write_text(text[:begin] + written + text[end:])
     return 0 if is_right or "--check" not in words else 1
