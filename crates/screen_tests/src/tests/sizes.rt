@@ -1,6 +1,6 @@
 //! Screens of other sizes, and a screen that gets another size. The cells are reckoned by hand.
+use super::checks::check_made;
 use super::{has_attributes, has_cursor, has_row, has_rows, resize, start, written};
-use crate::checks::{check_made, check_row};
 use std::alloc::Global;
 use vt_base::{NoMemory, Size};
 use vt_screen::Emu;
@@ -42,7 +42,7 @@ fn is_worked(alloc: Global, case: &Worked) -> Result<bool, NoMemory> {
 #[test]
 fn worked_rows(rt: HostRuntime) {
     for case in WORKED {
-        check_row(&rt, is_worked(rt.alloc(), case), case.2);
+        check_made(&rt, is_worked(rt.alloc(), case), case.2);
     }
 }
 
@@ -98,7 +98,7 @@ fn is_resized(alloc: Global, case: &Resized) -> Result<bool, NoMemory> {
 #[test]
 fn a_screen_gets_another_size(rt: HostRuntime) {
     for case in RESIZED {
-        check_row(&rt, is_resized(rt.alloc(), case), case.0);
+        check_made(&rt, is_resized(rt.alloc(), case), case.0);
     }
 }
 

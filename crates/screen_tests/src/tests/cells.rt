@@ -1,8 +1,7 @@
 //! What each row of the table makes of the cells. The cells are reckoned by hand.
+use super::checks::check_made;
 use super::{has_attributes, has_rows, written};
-use crate::checks::check_row;
 use std::alloc::Global;
-use std::process::Abort;
 use vt_base::{NoMemory, Size};
 
 const SIZE: Size = Size { rows: 3, cols: 10 };
@@ -18,7 +17,7 @@ const BOTTOM: &str = "uvwxyzABCD";
 // A text behind the full screen, and the rows after it.
 type Case = (&'static [u8], [&'static str; 3]);
 
-const CHANGED: &[Case] = &[
+const CASES: &[Case] = &[
     (b"", [TOP, MIDDLE, BOTTOM]),
     (b"\x1B[2;5H\x1B[J", [TOP, "klmn", ""]),
     (b"\x1B[3;1H\x1B[0J", [TOP, MIDDLE, ""]),
@@ -46,10 +45,7 @@ const CHANGED: &[Case] = &[
     (b"\x1B[2;5H\x1B[M", [TOP, BOTTOM, ""]),
     (b"\x1B[1;5H\x1B[2M", [BOTTOM, "", ""]),
     (b"\x1B[2;5H\x1B[99M", [TOP, "", ""]),
-];
-
-// The region.
-const IN_REGION: &[Case] = &[
+    // The region.
     (b"\x1B[1;2r\x1B[1;5H\x1B[L", ["", TOP, BOTTOM]),
     (b"\x1B[1;2r\x1B[1;5H\x1B[M", [MIDDLE, "", BOTTOM]),
     (b"\x1B[1;2r\x1B[3;5H\x1B[L\x1B[M", [TOP, MIDDLE, BOTTOM]),
@@ -59,10 +55,7 @@ const IN_REGION: &[Case] = &[
     (b"\x1B[2;3r\x1B[2;5H\x1BM", [TOP, "", MIDDLE]),
     (b"\x1B[2;3r\x1B[1;5H\x1BM", [TOP, MIDDLE, BOTTOM]),
     (b"\x1B[1;2r\x1B[2;10HXY", ["klmnopqrsX", "Y", BOTTOM]),
-];
-
-// Printing.
-const PRINTED: &[Case] = &[
+    // Printing.
     (b"\x1B[1;5H\x1B[4hXY", ["abcdXYefgh", MIDDLE, BOTTOM]),
     (b"\x1B[1;10H\x1B[4hXY", ["abcdefghiX", "Yklmnopqrs", BOTTOM]),
     (b"\x1B[1;5H\x1B[4h\x1B[4lX", ["abcdXfghij", MIDDLE, BOTTOM]),
@@ -72,10 +65,7 @@ const PRINTED: &[Case] = &[
         b"\x1B[1;9H\x1B[?7l\x1B[?7hXYZ",
         ["abcdefghXY", "Zlmnopqrst", BOTTOM],
     ),
-];
-
-// The whole screen.
-const WHOLE: &[Case] = &[
+    // The whole screen.
     (b"\x1B#8", ["EEEEEEEEEE", "EEEEEEEEEE", "EEEEEEEEEE"]),
     (b"\x1B#7\x1B$8", [TOP, MIDDLE, BOTTOM]),
     (b"\x1Bc", ["", "", ""]),
@@ -119,18 +109,11 @@ fn is_changed(alloc: Global, case: &Case) -> Result<bool, NoMemory> {
     Ok(has_rows(emu.grid(), &rows))
 }
 
-fn check(by: &impl Abort, alloc: Global, cases: &[Case]) {
-    for case in cases {
-        check_row(by, is_changed(alloc, case), case.0);
-    }
-}
-
 #[test]
 fn cells_change(rt: HostRuntime) {
-    check(&rt, rt.alloc(), CHANGED);
-    check(&rt, rt.alloc(), IN_REGION);
-    check(&rt, rt.alloc(), PRINTED);
-    check(&rt, rt.alloc(), WHOLE);
+    for case in CASES {
+        check_made(&rt, is_changed(rt.alloc(), case), case.0);
+    }
 }
 
 fn is_coloured(alloc: Global, case: &Coloured) -> Result<bool, NoMemory> {
@@ -142,6 +125,6 @@ fn is_coloured(alloc: Global, case: &Coloured) -> Result<bool, NoMemory> {
 #[test]
 fn cells_have_the_pens_colours(rt: HostRuntime) {
     for case in COLOURED {
-        check_row(&rt, is_coloured(rt.alloc(), case), case.0);
+        check_made(&rt, is_coloured(rt.alloc(), case), case.0);
     }
 }

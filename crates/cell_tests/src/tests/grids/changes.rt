@@ -1,6 +1,6 @@
 //! Which rows a scroll changed, and a copy of the grid.
 use super::{calls, has_column, letter, lettered};
-use crate::checks::check_row;
+use crate::tests::checks::check_made;
 use std::alloc::Global;
 use vt_base::NoMemory;
 use vt_grid::Grid;
@@ -41,6 +41,6 @@ fn is_told(alloc: Global, case: &Change) -> Result<bool, NoMemory> {
 #[test]
 fn changed_rows_are_told(rt: HostRuntime) {
     for case in CHANGES {
-        check_row(&rt, is_told(rt.alloc(), case), &case.3);
+        check_made(&rt, is_told(rt.alloc(), case), &case.3);
     }
 }

@@ -1,6 +1,6 @@
 //! Short sequences that are cut at each of their bytes, beside the same text read byte by byte.
+use super::checks::check_made;
 use super::{SIZE, Way, cell_at, fed, has_cursor, start};
-use crate::checks::check_row;
 use std::alloc::Global;
 use vt_base::NoMemory;
 use vt_grid::Grid;
@@ -112,6 +112,6 @@ fn is_read(alloc: Global, text: &[u8]) -> Result<bool, NoMemory> {
 #[test]
 fn short_sequences_are_read_as_their_bytes(rt: HostRuntime) {
     for text in TEXTS {
-        check_row(&rt, is_read(rt.alloc(), text), text);
+        check_made(&rt, is_read(rt.alloc(), text), text);
     }
 }

@@ -1,5 +1,5 @@
 use super::calls;
-use crate::checks::check_row;
+use crate::tests::checks::check_made;
 use std::alloc::Global;
 use vt_base::{NoMemory, Size};
 use vt_cells::Cell;
@@ -92,7 +92,7 @@ fn is_edited(alloc: Global, case: &Edited) -> Result<bool, NoMemory> {
 #[test]
 fn edits_one_row(rt: HostRuntime) {
     for case in EDITED {
-        check_row(&rt, is_edited(rt.alloc(), case), &case.2);
+        check_made(&rt, is_edited(rt.alloc(), case), &case.2);
     }
 }
 
@@ -133,6 +133,6 @@ fn is_resized(alloc: Global, case: &Resize) -> Result<bool, NoMemory> {
 #[test]
 fn keeps_what_fits_the_new_size(rt: HostRuntime) {
     for case in RESIZES {
-        check_row(&rt, is_resized(rt.alloc(), case), &case.3[0]);
+        check_made(&rt, is_resized(rt.alloc(), case), &case.3[0]);
     }
 }

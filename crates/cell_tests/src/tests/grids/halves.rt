@@ -1,5 +1,5 @@
 use super::calls;
-use crate::checks::check_made;
+use crate::tests::checks::check_made;
 use std::alloc::Global;
 use vt_base::{NoMemory, Size};
 use vt_cells::{Cell, HALF};

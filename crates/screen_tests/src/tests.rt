@@ -1,6 +1,7 @@
 //! Rows of the effect table. The expected rows are those of console_codes(4) and of this project's
 //! own rules, reckoned by hand.
 mod cells;
+mod checks;
 mod columns;
 mod cursor;
 mod cuts;
@@ -8,7 +9,7 @@ mod hearing;
 mod sayings;
 mod sizes;
 
-use crate::checks::{check_made, check_name, check_row, check_text};
+use checks::{check, check_made};
 use std::alloc::Global;
 use std::process::Abort;
 use vt_base::{NoMemory, Size};
@@ -163,7 +164,7 @@ fn check_cuts(by: &impl Abort, alloc: Global, case: &Case) {
     for cut in 0..text.len() {
         for way in [Way::Quickly, Way::Plainly] {
             let made = is_drawn(alloc, way, text.split_at(cut), &rows, bells);
-            check_row(by, made, text);
+            check_made(by, made, text);
         }
     }
 }
@@ -200,7 +201,7 @@ fn is_left(alloc: Global, case: &Left) -> Result<bool, NoMemory> {
 #[test]
 fn a_text_leaves_a_state(rt: HostRuntime) {
     for case in LEFT {
-        check_row(&rt, is_left(rt.alloc(), case), case.0);
+        check_made(&rt, is_left(rt.alloc(), case), case.0);
     }
 }
 
@@ -244,12 +245,12 @@ fn keeps_two() -> bool {
 
 #[test]
 fn keeps_what_is_said(rt: HostRuntime) {
-    check_text(&rt, report().as_slice() == b"\x1Bc".as_slice(), b"\x1Bc");
-    check_name(&rt, keeps_two(), "a bell and a report");
-    check_name(
+    check(&rt, report().as_slice() == b"\x1Bc".as_slice(), b"\x1Bc");
+    check(&rt, keeps_two(), "a bell and a report");
+    check(
         &rt,
         ReportText::default().as_slice().is_empty(),
         "no report",
     );
-    check_name(&rt, Outs::default().as_slice().is_empty(), "nothing said");
+    check(&rt, Outs::default().as_slice().is_empty(), "nothing said");
 }

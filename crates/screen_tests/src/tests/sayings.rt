@@ -1,7 +1,7 @@
 //! What each row of the table says beside the screen, and what it sets. The answers are those of
 //! console_codes(4) and of this project's own rules.
+use super::checks::check_made;
 use super::{start, written};
-use crate::checks::{check_made, check_row};
 use std::alloc::Global;
 use vt_base::{NoMemory, Size};
 use vt_screen::{Out, Outs, ScreenState};
@@ -124,7 +124,7 @@ fn says(alloc: Global, case: &Case) -> Result<bool, NoMemory> {
 #[test]
 fn texts_say(rt: HostRuntime) {
     for case in CASES {
-        check_row(&rt, says(rt.alloc(), case), case.0);
+        check_made(&rt, says(rt.alloc(), case), case.0);
     }
 }
 
@@ -149,7 +149,7 @@ fn sets(alloc: Global, case: &Setting) -> Result<bool, NoMemory> {
 #[test]
 fn texts_set(rt: HostRuntime) {
     for case in SETTINGS {
-        check_row(&rt, sets(rt.alloc(), case), case.0);
+        check_made(&rt, sets(rt.alloc(), case), case.0);
     }
 }
 

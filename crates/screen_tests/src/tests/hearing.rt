@@ -1,7 +1,7 @@
 //! What a listener hears of a text of any length.
+use super::checks::check_made;
 use super::sayings::{Said, is_said};
 use super::start;
-use crate::checks::check_row;
 use std::alloc::Global;
 use vt_base::{NoMemory, Size};
 use vt_screen::{Listener, Out};
@@ -63,6 +63,6 @@ fn is_heard(alloc: Global, case: &Case) -> Result<bool, NoMemory> {
 #[test]
 fn listeners_hear(rt: HostRuntime) {
     for case in CASES {
-        check_row(&rt, is_heard(rt.alloc(), case), case.0);
+        check_made(&rt, is_heard(rt.alloc(), case), case.0);
     }
 }

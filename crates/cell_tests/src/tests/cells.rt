@@ -1,4 +1,4 @@
-use crate::checks::{check_name, check_number, check_text};
+use super::checks::check;
 use vt_cells::Intensity::{Bold, Dim, Normal};
 use vt_cells::{
     Attr, Intensity, Look, Palette, attr_byte, columns, erase_byte, fold_bg, fold_fg, is_plain,
@@ -36,7 +36,8 @@ const SHOWN: &[Shown] = &[
     (7, 0, Bold, [false, false, true, true], 0xF8),
 ];
 
-fn attr_of(fg: u8, bg: u8, intensity: Intensity, on: [bool; 4]) -> Attr {
+/// The attributes of these colours, with italic, underline, blink and reverse as they are told.
+pub fn attr_of(fg: u8, bg: u8, intensity: Intensity, on: [bool; 4]) -> Attr {
     Attr {
         fg: fg.min(15),
         bg: bg.min(7),
@@ -57,11 +58,11 @@ fn is_shown(case: &Shown) -> bool {
 #[test]
 fn shows_attributes(rt: HostRuntime) {
     for case in SHOWN {
-        check_number(&rt, is_shown(case), u32::from(case.4));
+        check(&rt, is_shown(case), u32::from(case.4));
     }
     let shown = attr_of(1, 4, Normal, [true, false, true, true]);
-    check_name(&rt, erase_byte(&shown) == 0x14, "the colours alone");
-    check_name(&rt, swapped(0xAC) == 0xCA, "blink and bright stay");
+    check(&rt, erase_byte(&shown) == 0x14, "the colours alone");
+    check(&rt, swapped(0xAC) == 0xCA, "blink and bright stay");
 }
 
 // An index of the 256 colours, and its red, green and blue.
@@ -122,15 +123,15 @@ fn is_set() -> bool {
 fn folds_colours(rt: HostRuntime) {
     let palette = Palette::start();
     for case in INDEXED {
-        check_number(&rt, is_indexed(&palette, case), u32::from(case.0));
+        check(&rt, is_indexed(&palette, case), u32::from(case.0));
     }
-    check_name(&rt, is_set(), "a colour of the palette");
+    check(&rt, is_set(), "a colour of the palette");
     for case in FOLDED {
         let (r, g, b) = case.0;
-        check_text(&rt, is_folded(case), &[r, g, b]);
+        check(&rt, is_folded(case), &[r, g, b]);
     }
-    check_name(&rt, fold_bg(128, 0, 127) == 1, "blue");
-    check_name(&rt, fold_bg(127, 128, 255) == 6, "cyan");
+    check(&rt, fold_bg(128, 0, 127) == 1, "blue");
+    check(&rt, fold_bg(127, 128, 255) == 6, "cyan");
 }
 
 // A code, and how many columns it takes: the widths of Unicode 18.0 (Unicode Standard Annex 11), with
@@ -182,9 +183,9 @@ fn takes(code: u32, width: u8) -> bool {
 #[test]
 fn characters_have_columns(rt: HostRuntime) {
     for (code, width) in TAKEN {
-        check_number(&rt, takes(*code, *width), *code);
+        check(&rt, takes(*code, *width), *code);
     }
-    check_name(
+    check(
         &rt,
         is_plain(0x20) && is_plain(0x2500) && !is_plain(0x4E00),
         "plain characters",

@@ -1,12 +1,8 @@
-use crate::checks::{check_name, check_text};
+use super::UTF8;
+use super::checks::check;
 use std::process::Abort;
 use vt_units::Ahead::{Csi, Esc, Nothing};
 use vt_units::{Ahead, Mode, Params, Pending, Then};
-
-const UTF8: Mode = Mode {
-    utf8: true,
-    display: false,
-};
 
 const BYTES: Mode = Mode {
     utf8: false,
@@ -99,13 +95,13 @@ fn is_escape(mode: Mode, case: &Escape) -> bool {
 
 fn check_all(by: &impl Abort, mode: Mode) {
     for case in CONTROLS {
-        check_text(by, is_control(mode, case), case.0);
+        check(by, is_control(mode, case), case.0);
     }
     for case in ESCAPES {
-        check_text(by, is_escape(mode, case), case.0);
+        check(by, is_escape(mode, case), case.0);
     }
     for text in NOTHINGS {
-        check_text(by, is_taken(mode, text, Nothing, &[]), text);
+        check(by, is_taken(mode, text, Nothing, &[]), text);
     }
 }
 
@@ -133,8 +129,8 @@ fn takes_sequences_of_256_bytes(rt: HostRuntime) {
         last: b'A',
         count: 256,
     };
-    check_name(&rt, is_taken_of_zeros(255, whole, &[0]), "256 bytes");
-    check_name(&rt, is_taken_of_zeros(256, Nothing, &[]), "257 bytes");
+    check(&rt, is_taken_of_zeros(255, whole, &[0]), "256 bytes");
+    check(&rt, is_taken_of_zeros(256, Nothing, &[]), "257 bytes");
 }
 
 // Whether ESC [ m is read at once.
@@ -165,10 +161,10 @@ fn ends(pending: &mut Pending, b: u8) -> bool {
 #[test]
 fn takes_no_sequence_behind_a_text(rt: HostRuntime) {
     let mut pending = Pending::default();
-    check_name(&rt, pending.is_empty(), "at the start");
-    check_name(&rt, !ends(&mut pending, 0x1B), "ESC");
-    check_name(&rt, !pending.is_empty(), "behind ESC");
-    check_name(&rt, takes_nothing(&mut pending), "ESC [ m behind ESC");
-    check_name(&rt, ends(&mut pending, b'c'), "ESC c");
-    check_name(&rt, takes_reset(&mut pending), "ESC [ m");
+    check(&rt, pending.is_empty(), "at the start");
+    check(&rt, !ends(&mut pending, 0x1B), "ESC");
+    check(&rt, !pending.is_empty(), "behind ESC");
+    check(&rt, takes_nothing(&mut pending), "ESC [ m behind ESC");
+    check(&rt, ends(&mut pending, b'c'), "ESC c");
+    check(&rt, takes_reset(&mut pending), "ESC [ m");
 }

@@ -1,6 +1,6 @@
 //! Characters of two columns and of none. The cells are reckoned by hand.
+use super::checks::check_made;
 use super::{Way, cell_at, fed, has_cursor, resize, start, written};
-use crate::checks::{check_made, check_row};
 use std::alloc::Global;
 use vt_base::{Bytes, NoMemory, Size};
 use vt_cells::HALF;
@@ -93,8 +93,8 @@ fn is_left(alloc: Global, way: Way, case: &Case) -> Result<bool, NoMemory> {
 #[test]
 fn characters_take_their_columns(rt: HostRuntime) {
     for case in CASES {
-        check_row(&rt, is_left(rt.alloc(), Way::Quickly, case), case.0);
-        check_row(&rt, is_left(rt.alloc(), Way::Plainly, case), case.0);
+        check_made(&rt, is_left(rt.alloc(), Way::Quickly, case), case.0);
+        check_made(&rt, is_left(rt.alloc(), Way::Plainly, case), case.0);
     }
 }
 
@@ -119,7 +119,7 @@ fn has_dumps(alloc: Global) -> Result<bool, NoMemory> {
 
 #[test]
 fn dumps_show_both_halves(rt: HostRuntime) {
-    check_row(&rt, has_dumps(rt.alloc()), DUMPED);
+    check_made(&rt, has_dumps(rt.alloc()), DUMPED);
 }
 
 fn draws_a_byte(alloc: Global) -> Result<bool, NoMemory> {

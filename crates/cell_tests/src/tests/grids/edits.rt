@@ -1,6 +1,6 @@
 //! Edits of a grid one after another, and its rows after each. They are computed by hand, row by row.
 use super::{calls, letter};
-use crate::checks::{check_made, check_name};
+use crate::tests::checks::{check, check_made};
 use std::alloc::Global;
 use std::process::Abort;
 use vt_base::{NoMemory, Size};
@@ -178,7 +178,7 @@ fn has_rows(grid: &Grid, rows: &str) -> bool {
 
 fn check_edits(by: &impl Abort, grid: &mut Grid) {
     for (edit, rows) in EDITS {
-        check_name(by, make(grid, *edit) && has_rows(grid, rows), rows);
+        check(by, make(grid, *edit) && has_rows(grid, rows), rows);
     }
 }
 

@@ -1,8 +1,7 @@
 //! Where each row of the table leaves the cursor. The places are reckoned by hand.
+use super::checks::check_made;
 use super::{has_cursor, written};
-use crate::checks::check_row;
 use std::alloc::Global;
-use std::process::Abort;
 use vt_base::{NoMemory, Size};
 
 const SIZE: Size = Size { rows: 3, cols: 10 };
@@ -10,7 +9,7 @@ const SIZE: Size = Size { rows: 3, cols: 10 };
 // A text, the cursor's column and row after it, and whether a wrap is pending.
 type Case = (&'static [u8], u8, u8, bool);
 
-const MOVED: &[Case] = &[
+const CASES: &[Case] = &[
     (b"\x1B[2;5H\x1B[A", 4, 0, false),
     (b"\x1B[3;5H\x1B[0A", 4, 1, false),
     (b"\x1B[2;5H\x1B[9A", 4, 0, false),
@@ -41,10 +40,7 @@ const MOVED: &[Case] = &[
     (b"\x1B[2;3f", 2, 1, false),
     (b"\x1B[5G\x1B[7`", 6, 0, false),
     (b"\x1B[5G\x1B[?2A\x1B[?5H", 4, 0, false),
-];
-
-// Origin mode and the region.
-const IN_REGION: &[Case] = &[
+    // Origin mode and the region.
     (b"\x1B[3;5H\x1B[2;3r", 0, 0, false),
     (b"\x1B[3;5H\x1B[2r", 0, 0, false),
     (b"\x1B[2;5H\x1B[3;2r", 4, 1, false),
@@ -58,10 +54,7 @@ const IN_REGION: &[Case] = &[
     (b"\x1B[1;2r\x1B[?6h\x1B[9B", 0, 1, false),
     (b"\x1B[1;2r\x1B[9B", 0, 2, false),
     (b"\x1B[2;3r\x1B[?6h\x1B[?6l", 0, 0, false),
-];
-
-// Line feeds.
-const FED: &[Case] = &[
+    // Line feeds.
     (b"ab\n", 2, 1, false),
     (b"ab\x1B[20h\n", 0, 1, false),
     (b"ab\x1B[20h\x1B[20l\x0C", 2, 1, false),
@@ -73,29 +66,20 @@ const FED: &[Case] = &[
     (b"\x1B[2;3r\x1B[2;5H\x1BM", 4, 1, false),
     (b"\x1B[2;3r\x1B[1;5H\x1BM", 4, 0, false),
     (b"\x1B[3;5H\x1BM", 4, 1, false),
-];
-
-// Tab stops.
-const TABBED: &[Case] = &[
+    // Tab stops.
     (b"\x1B[1;5H\x1BH\r\t", 4, 0, false),
     (b"\x1B[1;5H\x1BH\t", 8, 0, false),
     (b"\x1B[1;9H\x1B[g\r\t", 9, 0, false),
     (b"\x1B[1;9H\x1B[2g\r\t", 8, 0, false),
     (b"\x1B[3g\t", 9, 0, false),
-];
-
-// What is saved.
-const SAVED: &[Case] = &[
+    // What is saved.
     (b"\x1B[2;5H\x1B7\x1B[H\x1B8", 4, 1, false),
     (b"\x1B[2;5H\x1B[s\x1B[H\x1B[u", 4, 1, false),
     (b"\x1B[2;5H\x1B8", 0, 0, false),
     (b"1234567890\x1B7\x1B8", 9, 0, false),
     (b"\x1B[3;5H\x1B7\x1B[1;2r\x1B[?6h\x1B8", 4, 1, false),
     (b"\x1B[2;5H\x1B7\x1Bc\x1B8", 0, 0, false),
-];
-
-// The pending wrap.
-const WRAPPED: &[Case] = &[
+    // The pending wrap.
     (b"1234567890", 9, 0, true),
     (b"1234567890\x1B[31m\x1B[?25l\x1BH\x1B(0\x1B#8", 9, 0, true),
     (b"1234567890\x1B[4J\x1B[3K\x1B[?J", 9, 0, true),
@@ -116,18 +100,9 @@ fn is_left(alloc: Global, case: &Case) -> Result<bool, NoMemory> {
     Ok(has_cursor(&emu, x, y, wrap))
 }
 
-fn check(by: &impl Abort, alloc: Global, cases: &[Case]) {
-    for case in cases {
-        check_row(by, is_left(alloc, case), case.0);
-    }
-}
-
 #[test]
 fn the_cursor_goes(rt: HostRuntime) {
-    check(&rt, rt.alloc(), MOVED);
-    check(&rt, rt.alloc(), IN_REGION);
-    check(&rt, rt.alloc(), FED);
-    check(&rt, rt.alloc(), TABBED);
-    check(&rt, rt.alloc(), SAVED);
-    check(&rt, rt.alloc(), WRAPPED);
+    for case in CASES {
+        check_made(&rt, is_left(rt.alloc(), case), case.0);
+    }
 }

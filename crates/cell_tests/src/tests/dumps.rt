@@ -1,4 +1,4 @@
-use crate::checks::{check_made, check_row};
+use super::checks::check_made;
 use std::alloc::Global;
 use vt_base::{Bytes, NoMemory, Size};
 use vt_cells::Cell;
@@ -124,6 +124,6 @@ fn is_shown(alloc: Global, case: &Shown) -> Result<bool, NoMemory> {
 #[test]
 fn shows_characters(rt: HostRuntime) {
     for case in SHOWN {
-        check_row(&rt, is_shown(rt.alloc(), case), case.2);
+        check_made(&rt, is_shown(rt.alloc(), case), case.2);
     }
 }

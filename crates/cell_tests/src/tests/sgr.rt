@@ -1,25 +1,21 @@
-use crate::checks::check_params;
+use super::cells::attr_of;
+use super::checks::check;
 use vt_cells::Intensity::{Bold, Dim, Normal};
 use vt_cells::{Attr, Intensity, Look};
 use vt_sgr::{Pen, apply};
 
-const PEN: Pen = Pen {
-    attr: Attr {
-        fg: 7,
-        bg: 0,
-        intensity: Intensity::Normal,
-        italic: false,
-        underline: false,
-        blink: false,
-        reverse: false,
-    },
-    look: Look { ul: 15, dim: 8 },
-    def_fg: 2,
-    def_bg: 4,
-    alt: false,
-    display: false,
-    toggle: false,
-};
+// A pen of white on black.
+fn pen() -> Pen {
+    Pen {
+        attr: attr_of(7, 0, Normal, OFF),
+        look: Look { ul: 15, dim: 8 },
+        def_fg: 2,
+        def_bg: 4,
+        alt: false,
+        display: false,
+        toggle: false,
+    }
+}
 
 // Parameters, and a pen of white on black after them: its colours, its intensity, and whether italic,
 // underline, blink and reverse are on.
@@ -33,7 +29,7 @@ const UNDERLINED: [bool; 4] = [false, true, false, false];
 
 fn is_drawn(case: &Case) -> bool {
     let (params, colours, wanted, on) = *case;
-    let mut pen = PEN;
+    let mut pen = pen();
     apply(&mut pen, params);
     let Attr {
         fg,
@@ -66,7 +62,7 @@ const DRAWN: &[Case] = &[
 #[test]
 fn draws_by_parameters(rt: HostRuntime) {
     for case in DRAWN {
-        check_params(&rt, is_drawn(case), case.0);
+        check(&rt, is_drawn(case), case.0);
     }
 }
 
@@ -92,7 +88,7 @@ const FOLDED: &[Case] = &[
 #[test]
 fn folds_colours(rt: HostRuntime) {
     for case in FOLDED {
-        check_params(&rt, is_drawn(case), case.0);
+        check(&rt, is_drawn(case), case.0);
     }
 }
 
@@ -109,7 +105,7 @@ const MAPPED: &[Mapping] = &[
 
 fn is_mapped(case: &Mapping) -> bool {
     let (params, flags) = *case;
-    let mut pen = PEN;
+    let mut pen = pen();
     apply(&mut pen, params);
     (pen.alt, pen.display, pen.toggle) == flags
 }
@@ -117,6 +113,6 @@ fn is_mapped(case: &Mapping) -> bool {
 #[test]
 fn maps_by_parameters(rt: HostRuntime) {
     for case in MAPPED {
-        check_params(&rt, is_mapped(case), case.0);
+        check(&rt, is_mapped(case), case.0);
     }
 }

@@ -5,7 +5,7 @@ mod halves;
 mod row_edits;
 mod stores;
 
-use crate::checks::check_row;
+use super::checks::check_made;
 use std::alloc::Global;
 use vt_base::{NoMemory, Size};
 use vt_cells::Cell;
@@ -60,6 +60,6 @@ fn is_scrolled(alloc: Global, case: &Scroll) -> Result<bool, NoMemory> {
 #[test]
 fn scrolls_a_region(rt: HostRuntime) {
     for case in SCROLLS {
-        check_row(&rt, is_scrolled(rt.alloc(), case), &case.3);
+        check_made(&rt, is_scrolled(rt.alloc(), case), &case.3);
     }
 }

@@ -1,4 +1,4 @@
-use crate::checks::{check_number, check_text};
+use super::checks::check;
 use std::process::Abort;
 use vt_chars::Got::{Bad, BadThen, Char, More};
 use vt_chars::{
@@ -118,7 +118,7 @@ const RANGES: &[Case] = &[
 
 fn check_read(by: &impl Abort, cases: &[Case]) {
     for case in cases {
-        check_text(by, is_read(case), case.0);
+        check(by, is_read(case), case.0);
     }
 }
 
@@ -161,7 +161,7 @@ fn users_map() -> CharMap {
 
 fn check_mapped(by: &impl Abort, map: &CharMap, cases: &[Mapped]) {
     for case in cases {
-        check_number(by, is_mapped(map, case), case.2);
+        check(by, is_mapped(map, case), case.2);
     }
 }
 
@@ -178,11 +178,11 @@ fn is_character(decoded: Decoded, code: u32) -> bool {
 #[test]
 fn decodes_characters(rt: HostRuntime) {
     let line = decode(&[0xE2, 0x94], 0x80);
-    check_number(&rt, is_character(line, 0x2500), 0x2500);
-    check_number(&rt, is_character(decode_one(0x7E), 0x7E), 0x7E);
-    check_number(&rt, is_character(decode_two(0xC3, 0xA9), 0xE9), 0xE9);
+    check(&rt, is_character(line, 0x2500), 0x2500);
+    check(&rt, is_character(decode_one(0x7E), 0x7E), 0x7E);
+    check(&rt, is_character(decode_two(0xC3, 0xA9), 0xE9), 0xE9);
     let line = decode_three(0xE2, 0x94, 0x80);
-    check_number(&rt, is_character(line, 0x2500), 0x2500);
+    check(&rt, is_character(line, 0x2500), 0x2500);
     let face = decode_four(0xF0, 0x9F, 0x98, 0x80);
-    check_number(&rt, is_character(face, 0x1F600), 0x1F600);
+    check(&rt, is_character(face, 0x1F600), 0x1F600);
 }

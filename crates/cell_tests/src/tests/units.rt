@@ -1,4 +1,5 @@
-use crate::checks::{check_name, check_text};
+use super::UTF8;
+use super::checks::check;
 use Told::{
     Act, Bad, Byte, Char, Colour, ColourReset, Control, Csi, Dropped, Esc, Ignored, Private,
 };
@@ -23,11 +24,6 @@ enum Told {
 
 // How a text is read, the text, and what its bytes come to, but for those that come to nothing yet.
 type Case = (Mode, &'static [u8], &'static [Told]);
-
-const UTF8: Mode = Mode {
-    utf8: true,
-    display: false,
-};
 
 const BYTES: Mode = Mode {
     utf8: false,
@@ -131,7 +127,7 @@ const CHARACTERS: &[Case] = &[
 #[test]
 fn reads_characters(rt: HostRuntime) {
     for case in CHARACTERS {
-        check_text(&rt, is_read(case), case.1);
+        check(&rt, is_read(case), case.1);
     }
 }
 
@@ -172,7 +168,7 @@ const SEQUENCES: &[Case] = &[
 #[test]
 fn reads_sequences(rt: HostRuntime) {
     for case in SEQUENCES {
-        check_text(&rt, is_read(case), case.1);
+        check(&rt, is_read(case), case.1);
     }
 }
 
@@ -228,7 +224,7 @@ fn are_swallowed(pending: &mut Pending, case: &Long) -> bool {
 fn ends_long_texts(rt: HostRuntime) {
     let mut pending = Pending::new();
     for case in LONG {
-        check_text(&rt, are_swallowed(&mut pending, case), &[case.0, case.1]);
+        check(&rt, are_swallowed(&mut pending, case), &[case.0, case.1]);
     }
 }
 
@@ -240,16 +236,16 @@ fn takes(pending: &mut Pending, mode: Mode, text: &[u8], count: usize) -> bool {
 #[test]
 fn takes_printables(rt: HostRuntime) {
     let mut pending = Pending::default();
-    check_name(&rt, takes(&mut pending, UTF8, b"ab ~\x1Bc", 4), "up to ESC");
-    check_name(
+    check(&rt, takes(&mut pending, UTF8, b"ab ~\x1Bc", 4), "up to ESC");
+    check(
         &rt,
         takes(&mut pending, BYTES, b"ab", 0),
         "bytes have their tables",
     );
     let _ = pending.take(UTF8, 0x1B);
-    check_name(&rt, takes(&mut pending, UTF8, b"ab", 0), "behind ESC");
-    check_name(&rt, comes_to(&mut pending, b'c', Esc(0, b'c')), "ESC c");
-    check_name(
+    check(&rt, takes(&mut pending, UTF8, b"ab", 0), "behind ESC");
+    check(&rt, comes_to(&mut pending, b'c', Esc(0, b'c')), "ESC c");
+    check(
         &rt,
         takes(&mut pending, UTF8, b"ab\n", 2),
         "behind the sequence",
@@ -270,10 +266,10 @@ const CONTROLS: &[(Mode, u8, bool)] = &[
 fn takes_controls(rt: HostRuntime) {
     let mut pending = Pending::new();
     for (mode, b, is_taken) in CONTROLS {
-        check_text(&rt, pending.take_control(*mode, *b) == *is_taken, &[*b]);
+        check(&rt, pending.take_control(*mode, *b) == *is_taken, &[*b]);
     }
     let _ = pending.take(UTF8, 0x1B);
-    check_name(&rt, !pending.take_control(UTF8, b'\n'), "behind ESC");
+    check(&rt, !pending.take_control(UTF8, b'\n'), "behind ESC");
 }
 
 // A text, how many characters are wanted, the bytes that are taken, and the characters.
@@ -308,7 +304,7 @@ fn is_taken(case: &Run) -> bool {
 #[test]
 fn takes_characters(rt: HostRuntime) {
     for case in RUNS {
-        check_text(&rt, is_taken(case), case.0);
+        check(&rt, is_taken(case), case.0);
     }
 }
 
@@ -321,7 +317,7 @@ fn takes_none(pending: &mut Pending, mode: Mode) -> bool {
 #[test]
 fn takes_no_character_of_bytes_or_a_sequence(rt: HostRuntime) {
     let mut pending = Pending::new();
-    check_name(&rt, takes_none(&mut pending, BYTES), "bytes");
+    check(&rt, takes_none(&mut pending, BYTES), "bytes");
     let _ = pending.take(UTF8, 0x1B);
-    check_name(&rt, takes_none(&mut pending, UTF8), "behind ESC");
+    check(&rt, takes_none(&mut pending, UTF8), "behind ESC");
 }
