@@ -1,5 +1,5 @@
 //! Numbers, sets, decimal words, byte texts, and the errors as texts.
-use crate::checks::{check_made, check_name, check_number, check_text};
+use super::checks::{check, check_made};
 use std::alloc::Global;
 use vt_base::{
     Bytes, CallerNo, ConsoleNo, Errno, Inval, NoMemory, SigSet, Signal, hex_value, lower_hex_value,
@@ -33,13 +33,13 @@ fn begin_with_one() -> bool {
 #[test]
 fn numbers_are_listed_rising(rt: HostRuntime) {
     for &(place, n) in CONSOLES {
-        check_number(&rt, is_console(place, n), u32::from(n));
+        check(&rt, is_console(place, n), u32::from(n));
     }
     for &(place, n, keyboard) in CALLERS {
-        check_number(&rt, is_caller(place, n, keyboard), u32::from(n));
+        check(&rt, is_caller(place, n, keyboard), u32::from(n));
     }
-    check_name(&rt, are_keyboards(), "keyboards");
-    check_name(&rt, begin_with_one(), "processes");
+    check(&rt, are_keyboards(), "keyboards");
+    check(&rt, begin_with_one(), "processes");
 }
 
 // Keyboards, and their callers.
@@ -57,11 +57,11 @@ fn keyboard_of(n: u16) -> Option<u8> {
 #[test]
 fn keyboards_are_named(rt: HostRuntime) {
     for &(k, n) in KEYBOARDS {
-        check_number(&rt, is_keyboard(k, n), u32::from(n));
+        check(&rt, is_keyboard(k, n), u32::from(n));
     }
-    check_number(&rt, CallerNo::new(64).is_some(), 64);
-    check_number(&rt, keyboard_of(64).is_none(), 64);
-    check_number(&rt, CallerNo::new(68).is_none(), 68);
+    check(&rt, CallerNo::new(64).is_some(), 64);
+    check(&rt, keyboard_of(64).is_none(), 64);
+    check(&rt, CallerNo::new(68).is_none(), 68);
 }
 
 // A byte, its value as a hexadecimal digit, and as one in lower case.
@@ -82,7 +82,7 @@ const DIGITS: &[(u8, Option<u8>, Option<u8>)] = &[
 fn hexadecimal_digits_are_read(rt: HostRuntime) {
     for &(b, either, lower) in DIGITS {
         let is_read = hex_value(b) == either && lower_hex_value(b) == lower;
-        check_number(&rt, is_read, u32::from(b));
+        check(&rt, is_read, u32::from(b));
     }
 }
 
@@ -107,10 +107,10 @@ fn set_of(n: u16) -> SigSet {
 fn signals_of_a_set_are_found(rt: HostRuntime) {
     let set = SigSet::from_bits(0x8000_0000_0000_0001);
     for &(n, first) in FIRSTS {
-        check_number(&rt, first_from(set, n) == first, u32::from(n));
+        check(&rt, first_from(set, n) == first, u32::from(n));
     }
-    check_name(&rt, first_from(set_of(1), 1) == 1, "the one signal");
-    check_name(&rt, first_from(set_of(1), 2) == 0, "past the one signal");
+    check(&rt, first_from(set_of(1), 1) == 1, "the one signal");
+    check(&rt, first_from(set_of(1), 2) == 0, "past the one signal");
 }
 
 // errno(3) on Linux: EPERM is 1, ENOTTY 25, and ENOENT, which is 2, isn't among these.
@@ -124,7 +124,7 @@ const ERRORS: &[(u16, Option<Errno>)] = &[
 #[test]
 fn errors_are_found_by_number(rt: HostRuntime) {
     for &(n, found) in ERRORS {
-        check_number(&rt, Errno::of(n) == found, u32::from(n));
+        check(&rt, Errno::of(n) == found, u32::from(n));
     }
 }
 
@@ -145,7 +145,7 @@ const WORDS: &[(&[u8], Option<u64>)] = &[
 #[test]
 fn knows_one_spelling(rt: HostRuntime) {
     for &(word, n) in WORDS {
-        check_text(&rt, parse_decimal(word, 65_535) == n, word);
+        check(&rt, parse_decimal(word, 65_535) == n, word);
     }
 }
 

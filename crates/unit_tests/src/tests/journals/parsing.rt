@@ -1,15 +1,14 @@
 //! Journal texts and their faults, by the rules of docs/JOURNAL.md.
-use crate::checks::{check_row, check_text};
+use crate::tests::checks::{check, check_made};
 use std::alloc::Global;
-use std::process::Abort;
 use vt_base::NoMemory;
 use vt_journal::{JError, parse, version_of};
 
 // A text, and the kind and the line of its fault; 0 and the number of its entries, where it has none.
 type Row = (&'static [u8], u16, u32);
 
-// Texts without a fault.
 const JOURNALS: &[Row] = &[
+    // Texts without a fault.
     (b"%journal 1\n%end 0 0\n", 0, 0),
     (
         b"%journal 1\n1 0 open 1 = num 0\n64 4294967295 write 65535 - = err 9\n%end 2 128\n",
@@ -28,10 +27,7 @@ const JOURNALS: &[Row] = &[
         0,
         3,
     ),
-];
-
-// Faults of the first line.
-const FIRST: &[Row] = &[
+    // Faults of the first line.
     (b"", 40, 0),
     (b"%journal 1", 40, 0),
     (b"%journal 0\n%end 0 0\n", 40, 0),
@@ -39,10 +35,7 @@ const FIRST: &[Row] = &[
     (b"%journal 2", 40, 0),
     (b"%journal 02\n%end 0 0\n", 40, 0),
     (b" %journal 1\n%end 0 0\n", 40, 0),
-];
-
-// Faults of the lines of version 1.
-const LINES_1: &[Row] = &[
+    // Faults of the lines of version 1.
     (b"%journal 1\nk0 0 exit = ok\n%end 1 64\n", 41, 2),
     (b"%journal 1\np1 0 exit = ok\n%end 1 64\n", 41, 2),
     (b"%journal 1\n%end 0 0", 41, 2),
@@ -57,10 +50,7 @@ const LINES_1: &[Row] = &[
     (b"%journal 1\n\n%end 0 0\n", 41, 2),
     (b"%journal 1\n%end 0 18446744073709551616\n", 41, 2),
     (b"%journal 1\n%full 0 0 4294967296\n", 41, 2),
-];
-
-// Faults of the lines of version 2.
-const LINES_2: &[Row] = &[
+    // Faults of the lines of version 2.
     (b"%journal 2\n0 0 exit = ok\n%end 1 64\n", 41, 2),
     (b"%journal 2\n1 0 exit = ok\n%end 1 64\n", 41, 2),
     (b"%journal 2\np0 0 exit = ok\n%end 1 64\n", 41, 2),
@@ -69,10 +59,7 @@ const LINES_2: &[Row] = &[
     (b"%journal 2\nk4 0 exit = ok\n%end 1 64\n", 41, 2),
     (b"%journal 2\nk 0 exit = ok\n%end 1 64\n", 41, 2),
     (b"%journal 2\nK0 0 exit = ok\n%end 1 64\n", 41, 2),
-];
-
-// Ends that are missing, and what stands behind an end.
-const ENDS: &[Row] = &[
+    // Ends that are missing, and what stands behind an end.
     (b"%journal 2\n", 42, 1),
     (b"%journal 2\np1 0 exit = ok\n%end 1 64\n%end 1 64\n", 43, 3),
     (b"%journal 1\n", 42, 1),
@@ -89,19 +76,11 @@ fn is_said(alloc: Global, text: &[u8], kind: u16, line: u32) -> Result<bool, NoM
     }
 }
 
-fn check_all(by: &impl Abort, alloc: Global, rows: &[Row]) {
-    for &(text, kind, line) in rows {
-        check_row(by, is_said(alloc, text, kind, line), text);
-    }
-}
-
 #[test]
 fn reads_one_spelling(rt: HostRuntime) {
-    check_all(&rt, rt.alloc(), JOURNALS);
-    check_all(&rt, rt.alloc(), FIRST);
-    check_all(&rt, rt.alloc(), LINES_1);
-    check_all(&rt, rt.alloc(), LINES_2);
-    check_all(&rt, rt.alloc(), ENDS);
+    for &(text, kind, line) in JOURNALS {
+        check_made(&rt, is_said(rt.alloc(), text, kind, line), text);
+    }
 }
 
 // Journals, and their versions.
@@ -120,8 +99,8 @@ fn has_version(alloc: Global, text: &[u8], version: u8) -> bool {
 #[test]
 fn tells_the_version(rt: HostRuntime) {
     for &(text, version) in VERSIONS {
-        check_text(&rt, has_version(rt.alloc(), text, version), text);
+        check(&rt, has_version(rt.alloc(), text, version), text);
     }
     let part = b"%journal 1";
-    check_text(&rt, version_of(part).is_none(), part);
+    check(&rt, version_of(part).is_none(), part);
 }

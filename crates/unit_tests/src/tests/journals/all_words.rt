@@ -1,6 +1,6 @@
 //! The words of every call and every answer, by the table in docs/JOURNAL.md.
 use super::answer::Answer;
-use crate::checks::check_row;
+use crate::tests::checks::check_made;
 use std::alloc::Global;
 use std::slice::from_ref;
 use vt_base::{Bytes, CallerNo, Errno, NoMemory, VtMode};
@@ -126,7 +126,7 @@ fn has_words(alloc: Global, words: &[u8], start: &str) -> Result<bool, NoMemory>
 #[test]
 fn every_call_has_its_words(rt: HostRuntime) {
     for &(words, start) in CALLS {
-        check_row(&rt, has_words(rt.alloc(), words, start), words);
+        check_made(&rt, has_words(rt.alloc(), words, start), words);
     }
 }
 
@@ -165,6 +165,6 @@ fn is_answer(alloc: Global, answer: Answer, words: &[u8]) -> Result<bool, NoMemo
 #[test]
 fn every_answer_has_its_words(rt: HostRuntime) {
     for &(answer, words) in ANSWERS {
-        check_row(&rt, is_answer(rt.alloc(), answer, words), words);
+        check_made(&rt, is_answer(rt.alloc(), answer, words), words);
     }
 }

@@ -4,7 +4,7 @@ mod all_words;
 mod answer;
 mod parsing;
 
-use crate::checks::{check_row, check_text};
+use super::checks::{check, check_made};
 use answer::Answer;
 use std::alloc::Global;
 use vt_base::{Bytes, CallerNo, Errno, NoMemory};
@@ -191,14 +191,15 @@ fn is_printed(alloc: Global, case: &Case) -> Result<bool, NoMemory> {
 fn prints_what_a_log_holds(rt: HostRuntime) {
     for case in CASES {
         let (_, _, _, _, new) = *case;
-        check_row(&rt, is_printed(rt.alloc(), case), new);
+        check_made(&rt, is_printed(rt.alloc(), case), new);
     }
 }
 
 const SPELLED: &[&[u8]] = &[b"scan e0", b"open 0", b"open 65535", b"write 0 00ff"];
 
-// Numbers and blanks that aren't spelled so.
-const NUMBERS: &[&[u8]] = &[
+// Words that aren't those of a call.
+const MISSPELLED: &[&[u8]] = &[
+    // Numbers and blanks.
     b"scan 1",
     b"scan 1E",
     b"scan -",
@@ -218,10 +219,7 @@ const NUMBERS: &[&[u8]] = &[
     b"exit ",
     b"waitend -",
     b"signals 0",
-];
-
-// Numbers of words, and bytes, that aren't those of a call.
-const BYTES: &[&[u8]] = &[
+    // Numbers of words, and bytes.
     b"resize 0 25",
     b"resize 0 25 80 0",
     b"setent 0 1 30 0",
@@ -256,13 +254,10 @@ fn is_call(alloc: Global, words: &[u8], is: bool) -> bool {
 #[test]
 fn knows_one_spelling(rt: HostRuntime) {
     for words in SPELLED {
-        check_text(&rt, is_call(rt.alloc(), words, true), words);
+        check(&rt, is_call(rt.alloc(), words, true), words);
     }
-    for words in NUMBERS {
-        check_text(&rt, is_call(rt.alloc(), words, false), words);
-    }
-    for words in BYTES {
-        check_text(&rt, is_call(rt.alloc(), words, false), words);
+    for words in MISSPELLED {
+        check(&rt, is_call(rt.alloc(), words, false), words);
     }
 }
 
@@ -282,6 +277,6 @@ fn is_added(alloc: Global, b: &[u8], wanted: &[u8]) -> Result<bool, NoMemory> {
 #[test]
 fn adds_hexadecimal(rt: HostRuntime) {
     for &(b, wanted) in HEXADECIMAL {
-        check_row(&rt, is_added(rt.alloc(), b, wanted), wanted);
+        check_made(&rt, is_added(rt.alloc(), b, wanted), wanted);
     }
 }

@@ -1,5 +1,5 @@
 //! What calls count for: 64, the bytes that they hold, and the most bytes of their answers.
-use crate::checks::{check_made, check_row};
+use super::checks::check_made;
 use std::alloc::Global;
 use vt_base::{Bytes, NoMemory};
 use vt_events::{Event, Reply, charge};
@@ -59,14 +59,14 @@ fn is_charged(alloc: Global, words: &[u8], wanted: u32) -> Result<bool, NoMemory
 #[test]
 fn counts_the_greatest_answer(rt: HostRuntime) {
     for &(words, wanted) in ANSWERED {
-        check_row(&rt, is_charged(rt.alloc(), words, wanted), words);
+        check_made(&rt, is_charged(rt.alloc(), words, wanted), words);
     }
 }
 
 #[test]
 fn counts_held_bytes(rt: HostRuntime) {
     for &(words, wanted) in HELD {
-        check_row(&rt, is_charged(rt.alloc(), words, wanted), words);
+        check_made(&rt, is_charged(rt.alloc(), words, wanted), words);
     }
 }
 

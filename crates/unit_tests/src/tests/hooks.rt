@@ -1,5 +1,5 @@
 //! Hooks over closures. Expected acts are those that the tables were given.
-use crate::checks::check_number;
+use super::checks::check;
 use sig_hooks::{Act, Handler, Hook, HookTable};
 use std::cell::Cell;
 use vt_base::Signal;
@@ -32,7 +32,7 @@ fn a_table_changes_one_signal(rt: HostRuntime) {
             64 => PUT,
             _ => Act::Nothing,
         };
-        check_number(&rt, is_act(&table, n, act), u32::from(n));
+        check(&rt, is_act(&table, n, act), u32::from(n));
     }
 }
 
@@ -80,6 +80,6 @@ fn a_hook_asks_its_closure(rt: HostRuntime) {
     let mut table = HookTable::empty();
     set(&mut table, 12, Act::Leave);
     for &(n, act) in ASKED {
-        check_number(&rt, is_asked(table, n, act), u32::from(n));
+        check(&rt, is_asked(table, n, act), u32::from(n));
     }
 }

@@ -1,6 +1,6 @@
 //! Callers through opens, signals, waits and deaths. Expected answers were reckoned by hand from the
 //! rules of signals and waits.
-use crate::checks::{check_name, check_number};
+use super::checks::check;
 use vt_base::{CallerNo, ConsoleNo, Fd, Signal};
 use vt_procs::{ProcStart, Procs, Ticket, Waited};
 
@@ -10,22 +10,6 @@ fn two_processes() -> Procs {
         privileged: false,
     };
     Procs::start(&[start, ProcStart::default()], 1)
-}
-
-// A process opens a console, and another.
-#[derive(Clone, Copy)]
-struct Opens {
-    p: CallerNo,
-    c: ConsoleNo,
-    other: ConsoleNo,
-}
-
-fn two_consoles() -> Option<Opens> {
-    Some(Opens {
-        p: CallerNo::new(1)?,
-        c: ConsoleNo::new(2)?,
-        other: ConsoleNo::new(5)?,
-    })
 }
 
 fn has_home(procs: &Procs, p: CallerNo) -> bool {
@@ -41,13 +25,10 @@ fn adds(procs: &mut Procs, p: CallerNo, c: ConsoleNo, number: u16) -> bool {
 }
 
 fn shuts_first(procs: &mut Procs, p: CallerNo) -> bool {
-    let Some(first) = Fd::new(0) else {
-        return false;
-    };
     if procs.console_of(p, 0).is_none() {
         return false;
     }
-    procs.shut(p, first);
+    procs.shut(p, Fd::numbered(0));
     true
 }
 
@@ -61,30 +42,26 @@ fn fills(procs: &mut Procs, p: CallerNo, c: ConsoleNo) -> bool {
     procs.add_open(p, c).is_none()
 }
 
-fn opens_and_shuts(procs: &mut Procs, o: &Opens) -> bool {
-    has_home(procs, o.p)
-        && adds(procs, o.p, o.c, 0)
-        && adds(procs, o.p, o.other, 1)
-        && shuts_first(procs, o.p)
-        && !procs.opened(o.c)
-        && procs.opened(o.other)
-        && adds(procs, o.p, o.c, 0)
-        && fills(procs, o.p, o.c)
-        && procs.console_of(o.p, 1) == Some(o.other)
-        && procs.console_of(o.p, 16).is_none()
-}
-
-fn opens_lowest() -> bool {
-    let mut procs = two_processes();
-    match two_consoles() {
-        Some(o) => opens_and_shuts(&mut procs, &o),
-        None => false,
-    }
+// Process 1 opens consoles 2 and 5, and shuts the first.
+fn opens_and_shuts(procs: &mut Procs) -> bool {
+    let p = CallerNo::numbered(1);
+    let c = ConsoleNo::numbered(2);
+    let other = ConsoleNo::numbered(5);
+    has_home(procs, p)
+        && adds(procs, p, c, 0)
+        && adds(procs, p, other, 1)
+        && shuts_first(procs, p)
+        && !procs.opened(c)
+        && procs.opened(other)
+        && adds(procs, p, c, 0)
+        && fills(procs, p, c)
+        && procs.console_of(p, 1) == Some(other)
+        && procs.console_of(p, 16).is_none()
 }
 
 #[test]
 fn opens_are_the_lowest_free(rt: HostRuntime) {
-    check_name(&rt, opens_lowest(), "opens");
+    check(&rt, opens_and_shuts(&mut two_processes()), "opens");
 }
 
 fn begin(procs: &mut Procs, p: CallerNo, ticket: Ticket) {
@@ -132,7 +109,9 @@ fn ticket_of(word: u16, c: ConsoleNo) -> Ticket {
 }
 
 // Process 1 waits by this ticket for console 3: whether it is told this after what happens.
-fn waits(p: CallerNo, c: ConsoleNo, word: u16, what: u16, told: Waited) -> bool {
+fn is_told(word: u16, what: u16, told: Waited) -> bool {
+    let p = CallerNo::numbered(1);
+    let c = ConsoleNo::numbered(3);
     let mut procs = two_processes();
     let none = procs.ticket(p) == Waited::None;
     begin(&mut procs, p, ticket_of(word, c));
@@ -140,13 +119,6 @@ fn waits(p: CallerNo, c: ConsoleNo, word: u16, what: u16, told: Waited) -> bool 
     let open = procs.ticket(p) == Waited::Still;
     happen(&mut procs, p, c, what);
     none && open && procs.ticket(p) == told && procs.signalled(p) == (what == 2)
-}
-
-fn is_told(word: u16, what: u16, told: Waited) -> bool {
-    match (CallerNo::new(1), ConsoleNo::new(3)) {
-        (Some(p), Some(c)) => waits(p, c, word, what, told),
-        _ => false,
-    }
 }
 
 // The ticket, what happens, and what the process is told then.
@@ -168,7 +140,7 @@ const WAITS: &[(u16, u16, Waited)] = &[
 #[test]
 fn waits_end_by_what_they_wait_for(rt: HostRuntime) {
     for &(word, what, told) in WAITS {
-        check_number(&rt, is_told(word, what, told), u32::from(10 * word + what));
+        check(&rt, is_told(word, what, told), u32::from(10 * word + what));
     }
 }
 
@@ -206,10 +178,7 @@ fn all_go(procs: &mut Procs, p: CallerNo) -> bool {
 
 fn four_go() -> bool {
     let mut procs = Procs::start(&[ProcStart::default()], 4);
-    match CallerNo::new(1) {
-        Some(p) => !is_live(&procs, 2) && all_go(&mut procs, p),
-        None => false,
-    }
+    !is_live(&procs, 2) && all_go(&mut procs, CallerNo::numbered(1))
 }
 
 fn two_live() -> bool {
@@ -220,8 +189,8 @@ fn two_live() -> bool {
 // Of four keyboards and a process that waits, the fourth keyboard is the last that can go on.
 #[test]
 fn every_keyboard_keeps_the_others_waiting(rt: HostRuntime) {
-    check_name(&rt, four_go(), "four keyboards");
-    check_name(&rt, two_live(), "two keyboards");
+    check(&rt, four_go(), "four keyboards");
+    check(&rt, two_live(), "two keyboards");
 }
 
 // The signals that the process takes, as a set; 0 where it is dead.
@@ -238,10 +207,8 @@ fn collects_nothing(procs: &mut Procs, p: CallerNo) -> bool {
 }
 
 fn accepts(procs: &mut Procs, p: CallerNo) -> bool {
-    if let Some(s) = Signal::new(2) {
-        if procs.live(p) {
-            procs.accept(p, s);
-        }
+    if procs.live(p) {
+        procs.accept(p, Signal::numbered(2));
     }
     procs.accepter().is_some()
 }
@@ -251,7 +218,8 @@ fn dies(procs: &mut Procs, p: CallerNo) -> bool {
     procs.accepter().is_none() && !procs.live(p)
 }
 
-fn takes_once(procs: &mut Procs, p: CallerNo) -> bool {
+fn takes_once(procs: &mut Procs) -> bool {
+    let p = CallerNo::numbered(1);
     for n in [10, 1, 64, 10] {
         raise(procs, p, n);
     }
@@ -262,15 +230,7 @@ fn takes_once(procs: &mut Procs, p: CallerNo) -> bool {
         && dies(procs, p)
 }
 
-fn takes_signals() -> bool {
-    let mut procs = two_processes();
-    match CallerNo::new(1) {
-        Some(p) => takes_once(&mut procs, p),
-        None => false,
-    }
-}
-
 #[test]
 fn signals_are_taken_once(rt: HostRuntime) {
-    check_name(&rt, takes_signals(), "signals");
+    check(&rt, takes_once(&mut two_processes()), "signals");
 }

@@ -1,5 +1,5 @@
 //! Handshakes over the display. Expected answers were reckoned by hand from the rules of switching.
-use crate::checks::{check_name, check_number};
+use super::checks::check;
 use vt_base::{CallerNo, ConsoleNo, VtMode};
 use vt_switch::{Asked, Switch};
 
@@ -19,20 +19,20 @@ struct Names {
     owner: CallerNo,
 }
 
-fn named() -> Option<Names> {
-    Some(Names {
-        one: ConsoleNo::new(1)?,
-        two: ConsoleNo::new(2)?,
-        owner: CallerNo::new(4)?,
-    })
+fn named() -> Names {
+    Names {
+        one: ConsoleNo::numbered(1),
+        two: ConsoleNo::numbered(2),
+        owner: CallerNo::numbered(4),
+    }
 }
 
 // Consoles 1 to 3; the process handles the switches of 1, which is in front, and 2 waits.
-fn waiting() -> Option<Switch> {
-    let mut switch = Switch::start(ConsoleNo::new(1)?, 0b1110);
-    let _set = switch.set_mode(ConsoleNo::new(1)?, CallerNo::new(4)?, PROCESS);
-    let _asked = switch.request(ConsoleNo::new(2)?);
-    Some(switch)
+fn waiting(n: &Names) -> Switch {
+    let mut switch = Switch::start(ConsoleNo::numbered(1), 0b1110);
+    let _set = switch.set_mode(n.one, n.owner, PROCESS);
+    let _asked = switch.request(n.two);
+    switch
 }
 
 // Ends the handshake in one of four ways: the owner lets go, dies, gives up its handling, or refuses.
@@ -69,22 +69,20 @@ const ENDS: &[(u32, bool, bool, u16)] = &[
     (3, false, true, 10),
 ];
 
-fn ends(way: u32, hops: bool, owned: bool, relsig: u16) -> Option<bool> {
-    let n = named()?;
-    let mut switch = waiting()?;
+fn ends(way: u32, hops: bool, owned: bool, relsig: u16) -> bool {
+    let n = named();
+    let mut switch = waiting(&n);
     let front = if hops { n.two } else { n.one };
-    Some(
-        switch.pending() == Some(n.two)
-            && end(&mut switch, &n, way)
-            && is_settled(&switch, &n, front)
-            && is_owned(&switch, &n, owned, relsig),
-    )
+    switch.pending() == Some(n.two)
+        && end(&mut switch, &n, way)
+        && is_settled(&switch, &n, front)
+        && is_owned(&switch, &n, owned, relsig)
 }
 
 #[test]
 fn an_owner_lets_go_or_dies(rt: HostRuntime) {
     for &(way, hops, owned, relsig) in ENDS {
-        check_number(&rt, ends(way, hops, owned, relsig) == Some(true), way);
+        check(&rt, ends(way, hops, owned, relsig), way);
     }
 }
 
@@ -111,23 +109,16 @@ fn hops(switch: &mut Switch, to: ConsoleNo) -> bool {
     matches!(switch.request(to), Asked::Hopped(_)) && switch.front() == to
 }
 
-fn keeps_the_display() -> Option<bool> {
-    let n = named()?;
-    let mut switch = Switch::start(ConsoleNo::new(1)?, 0b110);
-    Some(
-        draws(&mut switch, n.one, true)
-            && is_ignored(&mut switch, n.two)
-            && draws(&mut switch, n.one, false)
-            && is_locked(&mut switch, n.two)
-            && hops(&mut switch, n.two),
-    )
+fn keeps_the_display(n: &Names) -> bool {
+    let mut switch = Switch::start(ConsoleNo::numbered(1), 0b110);
+    draws(&mut switch, n.one, true)
+        && is_ignored(&mut switch, n.two)
+        && draws(&mut switch, n.one, false)
+        && is_locked(&mut switch, n.two)
+        && hops(&mut switch, n.two)
 }
 
 #[test]
 fn graphics_and_the_lock_keep_the_display(rt: HostRuntime) {
-    check_name(
-        &rt,
-        keeps_the_display() == Some(true),
-        "graphics and the lock",
-    );
+    check(&rt, keeps_the_display(&named()), "graphics and the lock");
 }

@@ -1,5 +1,5 @@
 //! The adapters over std's streams, which no proof ties to what a real stream does.
-use crate::checks::{check_made, check_number};
+use super::checks::{check, check_made};
 use std::alloc::Global;
 use std::io;
 use std::io::{ErrorKind, Read, Write};
@@ -104,7 +104,7 @@ fn tells_failure(alloc: Global) -> Result<bool, NoMemory> {
 fn tries_again_after_an_interruption(rt: HostRuntime) {
     for row in ROWS {
         let (interruptions, ..) = *row;
-        check_number(
+        check(
             &rt,
             is_read(row) && is_written(row),
             u32::from(interruptions),

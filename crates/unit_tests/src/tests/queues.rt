@@ -1,5 +1,5 @@
 //! Queues of input.
-use crate::checks::{check_made, check_number};
+use super::checks::{check, check_made};
 use in_queue::InQueue;
 use std::alloc::Global;
 use vt_base::{Bytes, NoMemory};
@@ -44,7 +44,7 @@ fn is_put(
 fn takes_a_piece_whole_or_not_at_all(rt: HostRuntime) {
     for &(before, fits, after, drops) in PIECES {
         let made = is_put(rt.alloc(), before, fits, after, drops);
-        check_number(&rt, matches!(made, Ok(true)), before);
+        check(&rt, matches!(made, Ok(true)), before);
     }
 }
 

@@ -1,5 +1,5 @@
 //! Pairs, words and colours as the bytes of calls.
-use crate::checks::{check_made, check_name, check_number};
+use super::checks::{check, check_made};
 use call_bytes::{add_colours, add_pairs, add_words, read_colours, read_pairs, read_words};
 use key_syms::Pair;
 use std::alloc::Global;
@@ -47,16 +47,16 @@ fn is_read(place: usize) -> bool {
 #[test]
 fn pairs_are_twelve_bytes(rt: HostRuntime) {
     check_made(&rt, gives_pairs(rt.alloc()), "two pairs are given");
-    check_name(&rt, are_pairs(&PAIR_BYTES, &PAIRS), "two pairs are read");
-    check_name(&rt, are_pairs(&[], &[]), "no pair is read");
-    check_name(&rt, read_pairs(&[0; 3_072]).is_some(), "256 pairs");
-    check_name(&rt, read_pairs(&[0; 3_084]).is_none(), "257 pairs");
-    check_name(&rt, read_pairs(&PAIR_BYTES[..11]).is_none(), "11 bytes");
-    check_name(&rt, read_pairs(&PAIR_BYTES[..13]).is_none(), "13 bytes");
-    check_name(&rt, read_pairs(&PAIR_BYTES[..23]).is_none(), "23 bytes");
+    check(&rt, are_pairs(&PAIR_BYTES, &PAIRS), "two pairs are read");
+    check(&rt, are_pairs(&[], &[]), "no pair is read");
+    check(&rt, read_pairs(&[0; 3_072]).is_some(), "256 pairs");
+    check(&rt, read_pairs(&[0; 3_084]).is_none(), "257 pairs");
+    check(&rt, read_pairs(&PAIR_BYTES[..11]).is_none(), "11 bytes");
+    check(&rt, read_pairs(&PAIR_BYTES[..13]).is_none(), "13 bytes");
+    check(&rt, read_pairs(&PAIR_BYTES[..23]).is_none(), "23 bytes");
     // The upper two bytes of each number of 32 bits are zero.
     for place in 0..12u32 {
-        check_number(&rt, is_read(place as usize) == (place % 4 < 2), place);
+        check(&rt, is_read(place as usize) == (place % 4 < 2), place);
     }
 }
 
@@ -91,9 +91,9 @@ fn are_words(bytes: &[u8], words: &[u16]) -> bool {
 #[test]
 fn words_are_two_bytes(rt: HostRuntime) {
     check_made(&rt, gives_words(rt.alloc()), "a table is given");
-    check_name(&rt, are_words(&word_bytes(), &words()), "a table is read");
-    check_name(&rt, read_words(&[0; 510]).is_none(), "255 words");
-    check_name(&rt, read_words(&[]).is_none(), "no word");
+    check(&rt, are_words(&word_bytes(), &words()), "a table is read");
+    check(&rt, read_words(&[0; 510]).is_none(), "255 words");
+    check(&rt, read_words(&[]).is_none(), "no word");
 }
 
 // The start palette: red 1, green 2, blue 4, and bright from 8 on.
@@ -119,7 +119,7 @@ fn reads_colours() -> bool {
 #[test]
 fn colours_are_three_bytes(rt: HostRuntime) {
     check_made(&rt, gives_colours(rt.alloc()), "a palette is given");
-    check_name(&rt, reads_colours(), "a palette is read");
-    check_name(&rt, read_colours(&COLOUR_BYTES[..47]).is_none(), "a part");
-    check_name(&rt, read_colours(&[]).is_none(), "no colour");
+    check(&rt, reads_colours(), "a palette is read");
+    check(&rt, read_colours(&COLOUR_BYTES[..47]).is_none(), "a part");
+    check(&rt, read_colours(&[]).is_none(), "no colour");
 }
