@@ -1,5 +1,5 @@
 //! Names of symbols, and actions.
-use crate::checks::{check_name, check_text};
+use super::checks::check;
 use key_syms::{Action, by_name, name_of, number};
 
 // A name, the kind and the value of the action that it stands for, and the first name of that action.
@@ -71,12 +71,12 @@ fn is_first(action: Action, first: &str) -> bool {
 fn names_stand_for_actions(rt: HostRuntime) {
     for row in NAMES {
         let (name, ..) = *row;
-        check_name(&rt, is_named(row), name);
+        check(&rt, is_named(row), name);
     }
     for &(name, kind, value) in NONE {
         let is_none = by_name(name).is_none() && Action::new(kind, value).is_none();
-        check_name(&rt, is_none, name);
+        check(&rt, is_none, name);
     }
     let large = b"0x10000".as_slice();
-    check_text(&rt, number(large) == Some(65536), large);
+    check(&rt, number(large) == Some(65536), large);
 }

@@ -1,15 +1,14 @@
 //! Keymap texts and their faults.
-use crate::checks::{check_made, check_row};
+use super::checks::check_made;
 use key_text::{Includes, KeyError, parse};
 use std::alloc::Global;
-use std::process::Abort;
 use vt_base::NoMemory;
 
 // A text, and its first fault: the kind, the line and the column.
 type Row = (&'static [u8], u16, u32, u32);
 
-// Lines of no form.
-const UNKNOWN: &[Row] = &[
+const FAULTS: &[Row] = &[
+    // Lines of no form.
     (b"frob 1", 1, 1, 1),
     (b"\n \tkeycode x = a", 1, 2, 11),
     (b"keycode 30=a", 1, 1, 9),
@@ -20,10 +19,7 @@ const UNKNOWN: &[Row] = &[
     (b"keymaps 0,x", 1, 1, 9),
     (b"keycode 08 = a", 1, 1, 9),
     (b"keycode 30 =\\\r\nfoo", 1, 1, 12),
-];
-
-// Names and numbers that are none, or not in their range.
-const NAMES: &[Row] = &[
+    // Names and numbers that are none, or not in their range.
     (b"keycode 30 = foo", 2, 1, 14),
     (b"keycode 30 = a 256", 2, 1, 16),
     (b"string Shift = \"a\"", 2, 1, 8),
@@ -35,10 +31,7 @@ const NAMES: &[Row] = &[
     (b"keycode 256 = a", 3, 1, 9),
     (b"include \\\n  \"bad\"", 2, 1, 1),
     (b"keycode 30 = \\\r\nfoo", 2, 2, 1),
-];
-
-// Numbers of symbols and pairs, strings and texts.
-const FORMS: &[Row] = &[
+    // Numbers of symbols and pairs, strings and texts.
     (b"keycode 30 =", 4, 1, 13),
     (b"shift keycode 30 = ", 4, 1, 20),
     (b"keycode 30 =\\\n", 4, 1, 13),
@@ -52,10 +45,7 @@ const FORMS: &[Row] = &[
     (b"keycode 30 = ab\xE2\x82", 6, 1, 16),
     (b"include 'no' x", 6, 1, 9),
     (b"include \"bad\" \xFF", 6, 1, 15),
-];
-
-// Texts that are included, and what is left of a line.
-const INCLUDES: &[Row] = &[
+    // Texts that are included, and what is left of a line.
     (b"include \"no\" # text", 7, 1, 9),
     (b"\n  include \"again\"", 8, 2, 3),
     (b"include \"again\" x", 9, 1, 17),
@@ -108,23 +98,13 @@ fn included(alloc: Global, texts: &[(&[u8], &[u8])]) -> Includes {
     }
 }
 
-fn check_all(by: &impl Abort, alloc: Global, includes: &Includes, rows: &[Row]) {
-    for &(text, kind, line, column) in rows {
-        check_row(
-            by,
-            is_fault(alloc, includes, text, (kind, line, column)),
-            text,
-        );
-    }
-}
-
 #[test]
 fn first_fault_has_its_place(rt: HostRuntime) {
     let includes = included(rt.alloc(), INCLUDED);
-    check_all(&rt, rt.alloc(), &includes, UNKNOWN);
-    check_all(&rt, rt.alloc(), &includes, NAMES);
-    check_all(&rt, rt.alloc(), &includes, FORMS);
-    check_all(&rt, rt.alloc(), &includes, INCLUDES);
+    for &(text, kind, line, column) in FAULTS {
+        let made = is_fault(rt.alloc(), &includes, text, (kind, line, column));
+        check_made(&rt, made, text);
+    }
 }
 
 // A piece so many times between two other texts, and the first fault of the whole.
@@ -169,7 +149,7 @@ fn long_texts_have_their_faults(rt: HostRuntime) {
     let includes = included(rt.alloc(), INCLUDED);
     for long in LONG {
         let (_, piece, ..) = *long;
-        check_row(&rt, is_long_fault(rt.alloc(), &includes, long), piece);
+        check_made(&rt, is_long_fault(rt.alloc(), &includes, long), piece);
     }
 }
 

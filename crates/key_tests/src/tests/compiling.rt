@@ -1,7 +1,6 @@
 //! Keymap texts, the tables that they are compiled to, and their faults.
-use crate::checks::{check_made, check_row, check_text};
-use crate::compiled::tables_of;
-use key_tables::KeyTables;
+use super::checks::{check, check_made};
+use super::compiled::{is_listed, tables_of};
 use key_text::KeyError;
 use std::alloc::Global;
 use vt_base::NoMemory;
@@ -35,31 +34,17 @@ const LISTINGS: &[(&[u8], &[u8])] = &[
     ),
 ];
 
-fn has_listing(alloc: Global, tables: &KeyTables, wanted: &[u8]) -> bool {
-    match tables.listing(alloc) {
-        Ok(listing) => listing.as_slice() == wanted,
-        Err(NoMemory) => false,
-    }
-}
-
-fn is_listed(alloc: Global, text: &[u8], wanted: &[u8]) -> bool {
-    match tables_of(alloc, text) {
-        Ok(tables) => has_listing(alloc, &tables, wanted),
-        Err(_error) => false,
-    }
-}
-
 #[test]
 fn texts_have_their_listings(rt: HostRuntime) {
     for &(text, listing) in LISTINGS {
-        check_text(&rt, is_listed(rt.alloc(), text, listing), text);
+        check(&rt, is_listed(rt.alloc(), text, listing), text);
     }
 }
 
 #[test]
 fn usual_strings_and_pairs(rt: HostRuntime) {
     let text = b"strings as usual\ncompose as usual";
-    check_text(&rt, is_listed(rt.alloc(), text, USUAL), text);
+    check(&rt, is_listed(rt.alloc(), text, USUAL), text);
 }
 
 // A text, and its first fault: the kind, the line and the column.
@@ -88,7 +73,7 @@ fn is_fault(alloc: Global, text: &[u8], wanted: (u16, u32, u32)) -> Result<bool,
 #[test]
 fn first_fault_has_its_place(rt: HostRuntime) {
     for &(text, kind, line, column) in FAULTS {
-        check_row(&rt, is_fault(rt.alloc(), text, (kind, line, column)), text);
+        check_made(&rt, is_fault(rt.alloc(), text, (kind, line, column)), text);
     }
 }
 

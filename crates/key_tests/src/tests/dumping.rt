@@ -1,6 +1,6 @@
 //! The dumps of tables, and what is read from them again.
-use crate::checks::{check_made, check_text};
-use crate::compiled::tables_of;
+use super::checks::{check, check_made};
+use super::compiled::{is_listed, tables_of};
 use key_dump::{dump, dumpable};
 use key_tables::KeyTables;
 use std::alloc::Global;
@@ -50,7 +50,7 @@ fn is_dumped(alloc: Global, text: &[u8], wanted: &[u8]) -> bool {
 #[test]
 fn tables_have_their_dumps(rt: HostRuntime) {
     for &(text, wanted) in DUMPS {
-        check_text(&rt, is_dumped(rt.alloc(), text, wanted), text);
+        check(&rt, is_dumped(rt.alloc(), text, wanted), text);
     }
 }
 
@@ -68,19 +68,9 @@ fn listing_of(alloc: Global, tables: &KeyTables) -> Option<Bytes> {
     }
 }
 
-fn lists(alloc: Global, text: &[u8], wanted: &[u8]) -> bool {
-    match tables_of(alloc, text) {
-        Ok(tables) => match listing_of(alloc, &tables) {
-            Some(listing) => listing.as_slice() == wanted,
-            None => false,
-        },
-        Err(_error) => false,
-    }
-}
-
 fn is_again(alloc: Global, tables: &KeyTables) -> bool {
     match (dump_of(alloc, tables), listing_of(alloc, tables)) {
-        (Some(text), Some(listing)) => lists(alloc, text.as_slice(), listing.as_slice()),
+        (Some(text), Some(listing)) => is_listed(alloc, text.as_slice(), listing.as_slice()),
         _ => false,
     }
 }
@@ -99,7 +89,7 @@ fn has_dump_of(alloc: Global, declared: &[u8], is: bool) -> Result<bool, NoMemor
 #[test]
 fn dumps_are_read_again(rt: HostRuntime) {
     for text in AGAIN {
-        check_text(&rt, is_read_again(rt.alloc(), text), text);
+        check(&rt, is_read_again(rt.alloc(), text), text);
     }
     check_made(&rt, has_dump_of(rt.alloc(), &[], false), "no table");
     check_made(&rt, has_dump_of(rt.alloc(), &[255], true), "the last table");

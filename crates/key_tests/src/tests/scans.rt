@@ -1,5 +1,5 @@
 //! Scan bytes, and the keys that their groups name.
-use crate::checks::{check_name, check_number};
+use super::checks::check;
 use scan_codes::{KeyEvent, Scanner};
 use vt_base::Inval;
 
@@ -45,7 +45,7 @@ fn is_event(event: Option<KeyEvent>, wanted: Option<(u8, bool)>) -> bool {
 fn groups_name_keys(rt: HostRuntime) {
     let mut scanner = Scanner::start();
     for &(b, wanted, what) in GROUPS {
-        check_name(&rt, is_event(scanner.push(b), wanted), what);
+        check(&rt, is_event(scanner.push(b), wanted), what);
     }
 }
 
@@ -62,13 +62,13 @@ const UNKNOWN: &[u16] = &[0, 128, 256];
 fn scan_numbers_are_translated(rt: HostRuntime) {
     let mut scanner = Scanner::start();
     for &(scan, code) in STARTS {
-        check_number(&rt, scanner.get(scan) == Ok(code), u32::from(scan));
+        check(&rt, scanner.get(scan) == Ok(code), u32::from(scan));
     }
     for &(scan, code) in REFUSED {
-        check_number(&rt, scanner.set(scan, code) == Err(Inval), u32::from(scan));
+        check(&rt, scanner.set(scan, code) == Err(Inval), u32::from(scan));
     }
     for &scan in UNKNOWN {
-        check_number(&rt, scanner.get(scan) == Err(Inval), u32::from(scan));
+        check(&rt, scanner.get(scan) == Err(Inval), u32::from(scan));
     }
 }
 
@@ -84,5 +84,5 @@ fn is_translated(scanner: &mut Scanner) -> bool {
 
 #[test]
 fn a_group_is_translated_at_its_last_byte(rt: HostRuntime) {
-    check_name(&rt, is_translated(&mut Scanner::start()), "E0 1C, and FF");
+    check(&rt, is_translated(&mut Scanner::start()), "E0 1C, and FF");
 }
