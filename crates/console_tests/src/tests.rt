@@ -100,6 +100,9 @@ fn is_answered(
 fn is_so(alloc: Global, world: &mut World, row: Row) -> Result<bool, NoMemory> {
     match row {
         Row::Call(p, words, reply) => is_answered(alloc, world, p, words, reply),
+        Row::Keyed(words, n) => {
+            Ok(is_answered(alloc, world, 0, words, "ok")? && is_seen(world, Row::Front(n)))
+        }
         seen => Ok(is_seen(world, seen)),
     }
 }

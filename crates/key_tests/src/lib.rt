@@ -2,20 +2,4 @@
 #![tactic(auto)]
 
 #[cfg(test)]
-mod checks;
-#[cfg(test)]
-mod compiled;
-#[cfg(test)]
-mod compiling;
-#[cfg(test)]
-mod dumping;
-#[cfg(test)]
-mod machine;
-#[cfg(test)]
-mod scans;
-#[cfg(test)]
-mod symbols;
-#[cfg(test)]
-mod tables;
-#[cfg(test)]
-mod texts;
+mod tests;

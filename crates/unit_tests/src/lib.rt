@@ -2,22 +2,4 @@
 #![tactic(auto)]
 
 #[cfg(test)]
-mod base;
-#[cfg(test)]
-mod charges;
-#[cfg(test)]
-mod checks;
-#[cfg(test)]
-mod hooks;
-#[cfg(test)]
-mod journals;
-#[cfg(test)]
-mod pieces;
-#[cfg(test)]
-mod processes;
-#[cfg(test)]
-mod queues;
-#[cfg(test)]
-mod streams;
-#[cfg(test)]
-mod switches;
+mod tests;

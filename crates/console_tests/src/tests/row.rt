@@ -3,6 +3,8 @@
 pub enum Row {
     /// A caller makes this call, and is answered so.
     Call(u16, &'static str, &'static str),
+    /// The keyboard makes this call, and then this console is in front.
+    Keyed(&'static str, u16),
     /// The marks of the last event: hundreds for its kind, and a console or a caller.
     Marks(&'static [u16]),
     /// The console in front.
@@ -25,7 +27,7 @@ impl Row {
     /// What a message calls the row: the words of a call, or what is seen.
     pub fn words(self) -> &'static str {
         match self {
-            Row::Call(_, words, _) => words,
+            Row::Call(_, words, _) | Row::Keyed(words, _) => words,
             Row::Marks(_) => "the marks",
             Row::Front(_) => "the console in front",
             Row::Hops(_) => "the hops",

@@ -6,7 +6,7 @@ use vt_world::{Mark, World};
 /// Whether this is seen of the console; nothing is seen of a call.
 pub fn is_seen(world: &World, row: Row) -> bool {
     match row {
-        Row::Call(..) => false,
+        Row::Call(..) | Row::Keyed(..) => false,
         Row::Marks(codes) => has_marks(world, codes),
         Row::Front(n) => world.display().get() == n,
         Row::Hops(hops) => world.hops() == hops,

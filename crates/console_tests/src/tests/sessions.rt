@@ -2,29 +2,7 @@
 use session_text::{Session, read};
 use std::process::Abort;
 use std::test::Fail;
-
-// A shell, and a display server that hands its console over.
-pub const ORDINARY: &str = "keys = '1e 9e 38 41 c1 b8 30 b0'
-keymap = '''
-keymaps 0-2,4-5,8,12
-alt_is_meta
-keycode 30 = a
-keycode 48 = b
-keycode 56 = Alt
-keycode 65 = F7
-alt keycode 65 = Console_7
-strings as usual
-compose as usual
-'''
-[[process]]
-home = 1
-script = ['open 1', 'say 0 $ ', 'waitinput 0', 'read 0 64']
-[[process]]
-home = 7
-privileged = true
-script = ['open 7', 'setmode 0 1 0 10 12 0', 'setkd 0 1', 'waitsignal']
-hooks = ['10 disp 0 1', '12 disp 0 2']
-";
+use test_sessions::ORDINARY;
 
 fn has_config(session: &Session) -> bool {
     let config = session.config();

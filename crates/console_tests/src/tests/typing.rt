@@ -1,7 +1,7 @@
 //! Scan bytes and what texts say. Expected queues and displays were computed by hand from docs/SWITCHING.md.
 use super::row::Row;
-use super::row::Row::{Call, Front, Queue, Queued};
-use super::{check, check_all, made, open};
+use super::row::Row::{Call, Front, Keyed, Queue, Queued};
+use super::{check, check_all, check_row, made, open};
 use std::alloc::Global;
 use std::process::Abort;
 use std::test::Fail;
@@ -31,28 +31,17 @@ fn types_into_the_console_in_front(rt: HostRuntime) -> Result<(), Fail> {
 
 // Scan bytes, and the console in front after each; last that no process scans, and the keyboard scans alone.
 const SCANS: &[Row] = &[
-    Call(0, "scan 1e", "ok"),
-    Front(2),
-    Call(0, "scan 02", "ok"),
-    Front(3),
-    Call(0, "scan 9e", "ok"),
-    Front(3),
-    Call(0, "scan 1e", "ok"),
-    Front(3),
-    Call(0, "scan 03", "ok"),
-    Front(2),
-    Call(0, "scan 04", "ok"),
-    Front(3),
-    Call(0, "scan 84", "ok"),
-    Front(3),
-    Call(0, "scan 04", "ok"),
-    Front(1),
-    Call(0, "scan 05", "ok"),
-    Front(3),
-    Call(0, "scan 85", "ok"),
-    Front(3),
-    Call(0, "scan 05", "ok"),
-    Front(2),
+    Keyed("scan 1e", 2),
+    Keyed("scan 02", 3),
+    Keyed("scan 9e", 3),
+    Keyed("scan 1e", 3),
+    Keyed("scan 03", 2),
+    Keyed("scan 04", 3),
+    Keyed("scan 84", 3),
+    Keyed("scan 04", 1),
+    Keyed("scan 05", 3),
+    Keyed("scan 85", 3),
+    Keyed("scan 05", 2),
     Queue(1, b"", 0),
     Queue(2, b"a", 0),
     Queue(3, b"a", 0),
@@ -76,8 +65,7 @@ const TEXT: &[Row] = &[
     ),
     Queue(1, b"\x1B[1;1R", 0),
     Front(2),
-    Call(0, "scan 03", "ok"),
-    Front(3),
+    Keyed("scan 03", 3),
 ];
 
 fn put(words: &mut Vec<u8>, bytes: &[u8]) -> Result<(), NoMemory> {
@@ -102,52 +90,53 @@ fn fill(alloc: Global, world: &mut World) -> Result<(), NoMemory> {
     Ok(())
 }
 
-// The same, and these rows.
-fn fill_and_check(
-    by: &impl Abort,
-    alloc: Global,
-    world: &mut World,
-    rows: &[Row],
-) -> Result<(), Fail> {
-    check_all(by, alloc, world, FRONT)?;
-    fill(alloc, world)?;
-    check_all(by, alloc, world, rows)
-}
-
-fn check_filled(by: &impl Abort, alloc: Global, rows: &[Row]) -> Result<(), Fail> {
-    let mut world = open(alloc, TYPED)?;
-    fill_and_check(by, alloc, &mut world, rows)
-}
-
 // Console 1 comes to the front.
 const FRONT: &[Row] = &[
     Call(1, "open 1", "num 0"),
     Call(1, "write 0 1b5b31323b315d", "num 7"),
 ];
 
-#[test]
-fn drops_what_does_not_fit(rt: HostRuntime) -> Result<(), Fail> {
-    check_filled(&rt, rt.alloc(), FOUR)?;
-    check_filled(&rt, rt.alloc(), FIVE)
+// Types a letter so many times, and asks for one report more.
+fn type_and_report(
+    by: &impl Abort,
+    alloc: Global,
+    world: &mut World,
+    letters: u32,
+) -> Result<(), Fail> {
+    for _ in 0..letters {
+        check_row(by, alloc, world, Keyed("scan 1e", 1))?;
+    }
+    Ok(check_row(by, alloc, world, Call(1, "write 0 1b5b366e", "num 4"))?)
 }
 
-// Four keys, and one report more, for which there is room.
-const FOUR: &[Row] = &[
-    Call(0, "scan 1e", "ok"),
-    Call(0, "scan 1e", "ok"),
-    Call(0, "scan 1e", "ok"),
-    Call(0, "scan 1e", "ok"),
-    Call(1, "write 0 1b5b366e", "num 4"),
-    Queued(1, 4_096, 0),
-];
+fn fill_and_check(
+    by: &impl Abort,
+    alloc: Global,
+    world: &mut World,
+    case: &Filled,
+) -> Result<(), Fail> {
+    let (letters, len, dropped) = *case;
+    check_all(by, alloc, world, FRONT)?;
+    fill(alloc, world)?;
+    type_and_report(by, alloc, world, letters)?;
+    Ok(check_row(by, alloc, world, Queued(1, len, dropped))?)
+}
 
-// Five keys, and one report more.
-const FIVE: &[Row] = &[
-    Call(0, "scan 1e", "ok"),
-    Call(0, "scan 1e", "ok"),
-    Call(0, "scan 1e", "ok"),
-    Call(0, "scan 1e", "ok"),
-    Call(0, "scan 1e", "ok"),
-    Call(1, "write 0 1b5b366e", "num 4"),
-    Queued(1, 4_091, 1),
-];
+fn check_filled(by: &impl Abort, alloc: Global, case: &Filled) -> Result<(), Fail> {
+    let mut world = open(alloc, TYPED)?;
+    fill_and_check(by, alloc, &mut world, case)
+}
+
+// How many letters are typed into the filled queue, and how many bytes it holds and how many pieces it dropped after one
+// report more.
+type Filled = (u32, usize, u32);
+
+const FILLED: &[Filled] = &[(4, 4_096, 0), (5, 4_091, 1)];
+
+#[test]
+fn drops_what_does_not_fit(rt: HostRuntime) -> Result<(), Fail> {
+    for case in FILLED {
+        check_filled(&rt, rt.alloc(), case)?;
+    }
+    Ok(())
+}

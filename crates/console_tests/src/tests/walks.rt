@@ -2,13 +2,13 @@
 ghost use Rattle.session_text.specs.Walks.{HasActs};
 
 use super::journal;
-use super::sessions::ORDINARY;
 use session_text::{Program, Walk, read};
 use sig_hooks::{Handler, Hook, HookTable};
 use std::alloc::Global;
 use std::cell::Cell;
 use std::process::Abort;
 use std::test::Fail;
+use test_sessions::ORDINARY;
 use vt_base::{Bytes, CallerNo, Errno, NoMemory, SigSet, Signal};
 use vt_events::{Event, Reply};
 

@@ -1,0 +1,15 @@
+mod cells;
+mod chars;
+mod checks;
+mod dumps;
+mod grids;
+mod sequences;
+mod sgr;
+mod units;
+
+use vt_units::Mode;
+
+const UTF8: Mode = Mode {
+    utf8: true,
+    display: false,
+};

@@ -1,0 +1,9 @@
+mod checks;
+mod compiled;
+mod compiling;
+mod dumping;
+mod machine;
+mod scans;
+mod symbols;
+mod tables;
+mod texts;

@@ -1,4 +1,0 @@
-use Rattle.screen_tests.proofs.grids.stores.rows_are_written_and_moved.Given as goal
-
-abbrev pub ghosts-driven : goal.ghosts-driven
-ghosts-driven g a = record { name = a.blank.name; parts = a.blank.parts }

@@ -1,0 +1,10 @@
+mod base;
+mod charges;
+mod checks;
+mod hooks;
+mod journals;
+mod pieces;
+mod processes;
+mod queues;
+mod streams;
+mod switches;
