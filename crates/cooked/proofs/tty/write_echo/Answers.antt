@@ -10,7 +10,7 @@ returns-then-is_empty g c =
     let none : length c.as_slice-bytes.result.now ≡ 0 =
     eqb-true (length c.as_slice-bytes.result.now) 0 (sym c.is_empty.ensures ∙ c.if-is_empty.true) in
     writes-none g.J.Opening.start c.args.fd c.args.pass.now c.args.echo.now
-    (sym c.as_slice-bytes.ensures.bytes ∙ no-bytes c.as_slice-bytes.result.now none)
+    (sym c.as_slice-bytes.ensures.list ∙ no-bytes c.as_slice-bytes.result.now none)
     c.requires.met c.requires.free
 
 pub returns-in-Done : goal.returns-in-Done
@@ -19,11 +19,11 @@ returns-in-Done g c =
     λ none.
     false≢true
     (sym (sym c.is_empty.ensures ∙ c.if-is_empty.false)
-    ∙ eq-eqb (length c.as_slice-bytes.result.now) 0 (ap length (c.as_slice-bytes.ensures.bytes ∙ none))) in
+    ∙ eq-eqb (length c.as_slice-bytes.result.now) 0 (ap length (c.as_slice-bytes.ensures.list ∙ none))) in
     let same : c.append.new.self.bytes ≡ c.args.echo.now =
     c.append.ensures.bytes
     ∙ ap (λ bs. bs ++ c.as_slice-bytes.result.now) c.requires.empty
-    ∙ c.as_slice-bytes.ensures.bytes in
+    ∙ c.as_slice-bytes.ensures.list in
     subst (λ s. Writes g.J.Opening.start c.args.fd c.args.echo.now c.args.pass.now c.call.new.p s) (sym c.stop_of.ensures)
     (writes-done _ _ _ _ c.append.new.self _ _ _ _ some same c.in-Done.ensures)
 
@@ -33,5 +33,5 @@ returns-in-Full g c =
     λ none.
     false≢true
     (sym (sym c.is_empty.ensures ∙ c.if-is_empty.false)
-    ∙ eq-eqb (length c.as_slice-bytes.result.now) 0 (ap length (c.as_slice-bytes.ensures.bytes ∙ none))) in
+    ∙ eq-eqb (length c.as_slice-bytes.result.now) 0 (ap length (c.as_slice-bytes.ensures.list ∙ none))) in
     writes-full _ _ _ c.args.echo.now c.append.new.self _ _ _ some c.in-Full.ensures
