@@ -1,11 +1,13 @@
 -- What `keys` gives: docs/KEYS.md.
-use Rattle.std.specs.Prelude.{◌≡◌, ◌⊎◌, ℕ, List, [], Some, None, Ok, Err}
+use Rattle.std.specs.Prelude.{◌≡◌, ◌⊎◌, ℕ, List, [], Some, None, Result, Ok, Err, ⊤}
 use Rattle.key_compile.specs.Compiled.{AreTablesOf}
 use Rattle.key_compile.specs.Faults.{compile_fault}
 use Rattle.key_tables.specs.Listing.{listing_of}
 use Rattle.key_tables.specs.Tables.{Tables}
 use Rattle.key_text.specs.Reading.{lines_of}
 use Rattle.key_text.specs.KeymapLine.{KeymapLine}
+use Rattle.key_text.specs.declared.fault.KeyError.{KeyError}
+use Rattle.key_text.specs.declared.fault.KeyError.TheVariants as errors
 use Rattle.key_text.specs.declared.fault.KeyFault.{KeyFault}
 use Rattle.vt_tool.specs.Outcome.{Outcome}
 use Rattle.vt_tool.specs.declared.status.Status.TheVariants.{Fine, Refused}
@@ -15,6 +17,19 @@ abbrev pub HasKeyFault : List ℕ → KeyFault → Type 0
 HasKeyFault input fault =
     (lines_of [] input ≡ Err fault)
     ⊎ ((lines : List KeymapLine) × (lines_of [] input ≡ Ok lines) × (compile_fault lines ≡ Some fault))
+
+-- the tables of a keymap text without a fault; no text is included
+pub record AreTablesIn (input : List ℕ) (tables : Tables) : Type 0 where
+  pub lines : List KeymapLine
+  pub read : lines_of [] input ≡ Ok lines
+  pub fine : compile_fault lines ≡ None
+  pub compiled : AreTablesOf lines tables
+
+-- what a call returned is the tables of a keymap text, or its first fault, unless memory ran out
+abbrev pub ReadsKeymap : List ℕ → Result Tables KeyError → Type 0
+ReadsKeymap input (Ok tables) = AreTablesIn input tables
+ReadsKeymap input (Err (errors.Fault fault)) = HasKeyFault input fault
+ReadsKeymap input (Err errors.NoMemory) = ⊤
 
 -- the listing of the tables of a keymap text; no text is included
 pub record GivesListing (input : List ℕ) (outcome : Outcome) : Type 0 where

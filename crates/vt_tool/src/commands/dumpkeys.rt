@@ -8,12 +8,11 @@ ghost use Rattle.vt_tool.specs.Commands.Keys.{GivesKeyFault};
 ghost use Rattle.vt_tool.specs.Status.{is_own};
 
 use crate::answer::Answer;
-use crate::commands::keys::answer_refused;
+use crate::commands::keys::{answer_refused, tables_in};
 use crate::status::Status;
-use key_compile::compile;
 use key_dump::dump;
 use key_tables::KeyTables;
-use key_text::{Includes, KeyError, parse};
+use key_text::KeyError;
 use std::alloc::Global;
 use vt_base::NoMemory;
 
@@ -24,12 +23,7 @@ pub fn answer(alloc: Global, input: &[u8]) -> Result<Answer, NoMemory>
         ⊎ GivesKeyFault input.now (record { status = answer.status; text = answer.text.bytes })) }
     ensures own { IfOk result (λ answer. IsTrue (is_own answer.status)) }
 {
-    let lines = match parse(alloc, input, &Includes::none(alloc)) {
-        Ok(lines) => lines,
-        Err(KeyError::Fault(fault)) => return Ok(answer_refused(alloc, fault)),
-        Err(KeyError::NoMemory) => return Err(NoMemory),
-    };
-    match compile(alloc, lines.as_slice()) {
+    match tables_in(alloc, input) {
         Ok(tables) => answer_dumped(alloc, &tables),
         Err(KeyError::Fault(fault)) => Ok(answer_refused(alloc, fault)),
         Err(KeyError::NoMemory) => Err(NoMemory),

@@ -1,7 +1,8 @@
 //! `keys`: the listing of the tables of a keymap text.
 ghost use Rattle.std.specs.Prelude.{◌≡◌, ◌⊎◌, [], IfOk, IsTrue};
+ghost use Rattle.key_compile.specs.Dumpable.{is_dumpable};
 ghost use Rattle.key_tables.specs.Listing.{listing_of};
-ghost use Rattle.vt_tool.specs.Commands.Keys.{GivesKeyFault, GivesListing};
+ghost use Rattle.vt_tool.specs.Commands.Keys.{GivesKeyFault, GivesListing, ReadsKeymap};
 ghost use Rattle.vt_tool.specs.Status.{is_own};
 
 use crate::answer::Answer;
@@ -19,16 +20,20 @@ pub fn answer(alloc: Global, input: &[u8]) -> Result<Answer, NoMemory>
         ⊎ GivesKeyFault input.now (record { status = answer.status; text = answer.text.bytes })) }
     ensures own { IfOk result (λ answer. IsTrue (is_own answer.status)) }
 {
-    let lines = match parse(alloc, input, &Includes::none(alloc)) {
-        Ok(lines) => lines,
-        Err(KeyError::Fault(fault)) => return Ok(answer_refused(alloc, fault)),
-        Err(KeyError::NoMemory) => return Err(NoMemory),
-    };
-    match compile(alloc, lines.as_slice()) {
+    match tables_in(alloc, input) {
         Ok(tables) => answer_listed(alloc, &tables),
         Err(KeyError::Fault(fault)) => Ok(answer_refused(alloc, fault)),
         Err(KeyError::NoMemory) => Err(NoMemory),
     }
+}
+
+/// The tables of the keymap text, or its first fault.
+pub fn tables_in(alloc: Global, input: &[u8]) -> Result<KeyTables, KeyError>
+    ensures read { ReadsKeymap input.now result }
+    ensures dumpable { IfOk result (λ tables. IsTrue (is_dumpable tables)) }
+{
+    let lines = parse(alloc, input, &Includes::none(alloc))?;
+    compile(alloc, lines.as_slice())
 }
 
 fn answer_listed(alloc: Global, tables: &KeyTables) -> Result<Answer, NoMemory>
