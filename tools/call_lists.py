@@ -93,6 +93,10 @@ def lists(calls):
     yield journal / "specs/Kinds.antt", defined, BLANK_LINE, 0, each(Call.defined)
     likely = journal / "src/likely.rt"
     yield likely, "static LIKELY: [Kind; PLACES] = [\n", "];\n", 4, guesses(calls, likely)
+    each_kind = "pub each_kind : (k : Kind) → Contains kinds k\n"
+    found = f"each_kind kind.{calls[0].name} = (0, ltb-true 0 {len(calls)} refl, refl)"
+    other = f"(position_or_len (is_named (name_of (blank k))) kinds, ltb-true _ {len(calls)} refl, refl)"
+    yield journal / "proofs/Calls.antt", each_kind, BLANK_LINE, 0, [found, "each_kind k =", f"    {other}"]
     kinds = textwrap.wrap(" ".join(f"kind.{it.name}+∷" for it in calls) + " []", 96)
     yield journal / "proofs/Calls.antt", "kinds =\n", BLANK_LINE, 4, [line.replace("+", " ") for line in kinds]
 

@@ -73,7 +73,6 @@ pub fn add_end(alloc: Global, text: &mut Bytes) -> Result<(), NoMemory>
 }
 
 /// Adds a blank and the number.
-#[inline(always)]
 pub fn add_next(alloc: Global, text: &mut Bytes, n: u64) -> Result<(), NoMemory>
     ensures ok { OnOk result (text.new.bytes ≡ text.old.bytes ++ 0x20 ∷ decimal n) }
     ensures err { OnErr result (text.new.bytes ≡ text.old.bytes) }
@@ -81,16 +80,6 @@ pub fn add_next(alloc: Global, text: &mut Bytes, n: u64) -> Result<(), NoMemory>
     if n < 10 {
         return add(alloc, text, &[b' ', b'0' + n as u8]);
     }
-    add_digits(alloc, text, n)
-}
-
-// Adds a blank and the number of two digits or more.
-#[inline(never)]
-fn add_digits(alloc: Global, text: &mut Bytes, n: u64) -> Result<(), NoMemory>
-    requires { 10 ≤ n }
-    ensures ok { OnOk result (text.new.bytes ≡ text.old.bytes ++ 0x20 ∷ decimal n) }
-    ensures err { OnErr result (text.new.bytes ≡ text.old.bytes) }
-{
     if n < 100 {
         return add(
             alloc,

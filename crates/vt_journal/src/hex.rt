@@ -17,7 +17,8 @@ pub fn add_hex(alloc: Global, text: &mut Bytes, b: &[u8]) -> Result<(), NoMemory
     }
     make_room(alloc, text, 2 * b.len())?;
     for byte in b {
-        text.append(&[digit(byte >> 4), digit(byte & 0xF)]);
+        text.push(digit(byte >> 4));
+        text.push(digit(byte & 0xF));
     }
     Ok(())
 }

@@ -19,7 +19,7 @@ pub fn likely(name: &[u8]) -> Kind {
 /// How many places there are.
 const PLACES: usize = 96;
 
-// The kind whose name has the place; `scan` where no name has it.
+// The kind whose name has the place; `scan` where no name has it. `tools/call_lists.py` writes this list.
 #[rattlefmt::skip]
 static LIKELY: [Kind; PLACES] = [
     Kind::Scan, Kind::Scan, Kind::Resize, Kind::WaitEnd, Kind::Write, Kind::Scan, Kind::Scan, Kind::GetEntry,
