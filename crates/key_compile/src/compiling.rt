@@ -1,6 +1,5 @@
 ghost use Rattle.std.specs.Prelude.{◌≡◌, None, cond, IfOk, IsTrue};
 ghost use Rattle.std.specs.List.{list_any};
-ghost use Rattle.key_tables.specs.Tables.{IsWhole};
 ghost use Rattle.key_compile.specs.Compiled.{AreStart, AreTablesOf, Compiles};
 ghost use Rattle.key_compile.specs.Dumpable.{AreFit, is_dumpable};
 ghost use Rattle.key_compile.specs.Entries.{is_alt};
@@ -82,14 +81,7 @@ fn fill_tables(tables: &mut KeyTables, union: &[u8], lines: &[Line], pairs: &[Pa
     put_alt(tables, lines);
     put_strings(tables, lines);
     tables.set_pairs(pairs);
-    are_whole(tables);
-}
-
-// Tables are whole, whatever was set: each call on them says so.
-fn are_whole(tables: &KeyTables)
-    ensures { IsWhole tables.now }
-{
-    let _ = tables.exists(0);
+    tables.stays_whole();
 }
 
 // Fills the tables with Alt, where a line is `alt_is_meta`.

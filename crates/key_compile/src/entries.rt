@@ -29,18 +29,13 @@ fn put_line(tables: &mut KeyTables, union: &[u8], line: &Line)
     ensures { Puts (gives union.now line.now.telling) tables.old tables.new }
 {
     match &line.kind {
-        LineKind::Keymaps(_) => {}
         LineKind::Keys { code, syms } => put_symbols(tables, union, *code, syms.as_slice()),
         LineKind::One {
             table,
             code,
             action,
         } => put_one(tables, *table, *code, *action),
-        LineKind::Text { .. } => {}
-        LineKind::Compose(_) => {}
-        LineKind::AltIsMeta => {}
-        LineKind::UsualStrings => {}
-        LineKind::UsualPairs => {}
+        _ => {}
     }
 }
 

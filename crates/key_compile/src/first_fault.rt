@@ -48,12 +48,9 @@ fn fault_of(n: usize, seen: bool, count: usize, line: &Line) -> Option<u16>
     match &line.kind {
         LineKind::Keymaps(_) => late(seen),
         LineKind::Keys { syms, .. } => wrong_count(n, syms.as_slice().len()),
-        LineKind::One { .. } => None,
-        LineKind::Text { .. } => None,
         LineKind::Compose(_) => pairs_fault(count + 1),
-        LineKind::AltIsMeta => None,
-        LineKind::UsualStrings => None,
         LineKind::UsualPairs => pairs_fault(count + USUAL_PAIR_COUNT),
+        _ => None,
     }
 }
 
@@ -83,16 +80,7 @@ fn pairs_fault(count: usize) -> Option<u16>
 fn is_key(line: &Line) -> bool
     ensures { result ≡ is_key line.now.telling }
 {
-    match &line.kind {
-        LineKind::Keymaps(_) => false,
-        LineKind::Keys { .. } => true,
-        LineKind::One { .. } => true,
-        LineKind::Text { .. } => false,
-        LineKind::Compose(_) => false,
-        LineKind::AltIsMeta => false,
-        LineKind::UsualStrings => false,
-        LineKind::UsualPairs => false,
-    }
+    matches!(&line.kind, LineKind::Keys { .. } | LineKind::One { .. })
 }
 
 fn pairs_of_line(line: &Line) -> usize
@@ -100,13 +88,8 @@ fn pairs_of_line(line: &Line) -> usize
     ensures few { result ≤ 66 }
 {
     match &line.kind {
-        LineKind::Keymaps(_) => 0,
-        LineKind::Keys { .. } => 0,
-        LineKind::One { .. } => 0,
-        LineKind::Text { .. } => 0,
         LineKind::Compose(_) => 1,
-        LineKind::AltIsMeta => 0,
-        LineKind::UsualStrings => 0,
         LineKind::UsualPairs => USUAL_PAIR_COUNT,
+        _ => 0,
     }
 }

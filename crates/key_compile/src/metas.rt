@@ -31,16 +31,7 @@ pub fn has_alt_is_meta(lines: &[Line]) -> bool
 fn is_alt(line: &Line) -> bool
     ensures { result ≡ is_alt line.now.telling }
 {
-    match &line.kind {
-        LineKind::Keymaps(_) => false,
-        LineKind::Keys { .. } => false,
-        LineKind::One { .. } => false,
-        LineKind::Text { .. } => false,
-        LineKind::Compose(_) => false,
-        LineKind::AltIsMeta => true,
-        LineKind::UsualStrings => false,
-        LineKind::UsualPairs => false,
-    }
+    matches!(&line.kind, LineKind::AltIsMeta)
 }
 
 /// Fills the holes of the tables with Alt: each gets the meta of the character below it.

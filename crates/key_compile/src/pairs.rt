@@ -21,14 +21,9 @@ fn add_pairs(pairs: &mut Vec<Pair>, line: &Line) -> Result<(), AllocError>
     ensures { OnOk result (pairs.new.items ≡ pairs.old.items ++ pairs_by line.now.telling) }
 {
     match &line.kind {
-        LineKind::Keymaps(_) => Ok(()),
-        LineKind::Keys { .. } => Ok(()),
-        LineKind::One { .. } => Ok(()),
-        LineKind::Text { .. } => Ok(()),
         LineKind::Compose(pair) => add_pair(pairs, *pair),
-        LineKind::AltIsMeta => Ok(()),
-        LineKind::UsualStrings => Ok(()),
         LineKind::UsualPairs => pairs.extend_from_slice(usual_pairs()),
+        _ => Ok(()),
     }
 }
 

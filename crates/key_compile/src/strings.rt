@@ -20,14 +20,9 @@ fn put_text(tables: &mut KeyTables, line: &Line)
     ensures { PutsTexts (text_by line.now.telling) tables.old tables.new }
 {
     match &line.kind {
-        LineKind::Keymaps(_) => {}
-        LineKind::Keys { .. } => {}
-        LineKind::One { .. } => {}
         LineKind::Text { func, text } => put_string(tables, *func, text.as_slice()),
-        LineKind::Compose(_) => {}
-        LineKind::AltIsMeta => {}
         LineKind::UsualStrings => put_usual_strings(tables),
-        LineKind::UsualPairs => {}
+        _ => {}
     }
 }
 

@@ -33,16 +33,7 @@ fn has_keymaps(lines: &[Line]) -> bool
 fn is_keymaps(line: &Line) -> bool
     ensures { result ≡ is_keymaps line.now.telling }
 {
-    match &line.kind {
-        LineKind::Keymaps(_) => true,
-        LineKind::Keys { .. } => false,
-        LineKind::One { .. } => false,
-        LineKind::Text { .. } => false,
-        LineKind::Compose(_) => false,
-        LineKind::AltIsMeta => false,
-        LineKind::UsualStrings => false,
-        LineKind::UsualPairs => false,
-    }
+    matches!(&line.kind, LineKind::Keymaps(_))
 }
 
 // For each table whether a line `keymaps` has it.
@@ -84,13 +75,7 @@ fn names_table(t: u8, line: &Line) -> bool
 {
     match &line.kind {
         LineKind::Keymaps(tables) => tables.has(t),
-        LineKind::Keys { .. } => false,
-        LineKind::One { .. } => false,
-        LineKind::Text { .. } => false,
-        LineKind::Compose(_) => false,
-        LineKind::AltIsMeta => false,
-        LineKind::UsualStrings => false,
-        LineKind::UsualPairs => false,
+        _ => false,
     }
 }
 
@@ -135,14 +120,8 @@ fn mark_modified(marks: &mut Vec<bool>, line: &Line)
         ≡ (slice_index_or marks.old.items t false || modifies_table t line.now.telling) }
 {
     match &line.kind {
-        LineKind::Keymaps(_) => {}
-        LineKind::Keys { .. } => {}
         LineKind::One { table, .. } => marks[usize::from(*table)] = true,
-        LineKind::Text { .. } => {}
-        LineKind::Compose(_) => {}
-        LineKind::AltIsMeta => {}
-        LineKind::UsualStrings => {}
-        LineKind::UsualPairs => {}
+        _ => {}
     }
 }
 

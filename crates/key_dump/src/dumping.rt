@@ -4,7 +4,6 @@ ghost use Rattle.key_compile.specs.Dumpable.{is_dumpable};
 ghost use Rattle.key_dump.specs.Dump.{dump_of, keymaps_words, pair_words, row_text, rows_from, string_rows, table_numbers, table_rows};
 ghost use Rattle.key_dump.specs.ReadsBack.{ReadsAs};
 ghost use Rattle.key_syms.specs.Act.{is_character};
-ghost use Rattle.key_tables.specs.Tables.{IsWhole};
 ghost use Rattle.key_text.specs.KeymapLine.{is_real};
 
 use crate::entries::add_table;
@@ -34,7 +33,7 @@ pub fn dump(alloc: Global, tables: &KeyTables) -> Result<Bytes, NoMemory>
     ensures text { IfOk result (λ text. text.bytes ≡ dump_of tables.now) }
     ensures back { IfOk result (λ text. ReadsAs text.bytes tables.now) }
 {
-    are_whole(tables);
+    tables.stays_whole();
     dump_reads_back();
     let mut text = Bytes::new(alloc);
     add_keymaps(alloc, &mut text, tables)?;
@@ -47,20 +46,13 @@ pub fn dump(alloc: Global, tables: &KeyTables) -> Result<Bytes, NoMemory>
 fn has_table(tables: &KeyTables) -> bool
     ensures { result ≡ list_any is_some tables.now.maps }
 {
-    are_whole(tables);
+    tables.stays_whole();
     for t in 0..COUNT {
         if tables.exists(t as u8) {
             return true;
         }
     }
     false
-}
-
-// Tables are whole, whatever was set: each call on them says so.
-fn are_whole(tables: &KeyTables)
-    ensures { IsWhole tables.now }
-{
-    let _ = tables.exists(0);
 }
 
 fn are_real(pairs: &[Pair]) -> bool
@@ -117,7 +109,7 @@ fn add_tables(alloc: Global, text: &mut Bytes, tables: &KeyTables) -> Result<(),
     ensures { OnOk result (text.new.bytes
         ≡ text.old.bytes ++ flat_map row_text (rows_from table_rows 0 tables.now.maps)) }
 {
-    are_whole(tables);
+    tables.stays_whole();
     for t in 0..COUNT {
         add_table(alloc, text, tables, t as u8)?;
     }
@@ -129,7 +121,7 @@ fn add_strings(alloc: Global, text: &mut Bytes, tables: &KeyTables) -> Result<()
     ensures { OnOk result (text.new.bytes
         ≡ text.old.bytes ++ flat_map row_text (rows_from string_rows 0 tables.now.funcs)) }
 {
-    are_whole(tables);
+    tables.stays_whole();
     for i in 0..COUNT {
         add_string(alloc, text, i as u8, tables.func(i as u8))?;
     }

@@ -9,6 +9,12 @@ use key_tables::KeyTables;
 /// KP_Enter.
 pub const ENTER: u16 = 14;
 
+// The letters of the pad's keys with DECPAM, by the values of the keys.
+static LETTERS: [u8; 17] = *b"pqrstuvwxylSRQMnn";
+
+// Their characters.
+static CHARACTERS: [u8; 17] = *b"0123456789+-*/\r,.";
+
 /// The bytes of a cursor key.
 #[tactic(auto, unfolding(crate::specs::Pads::cursor_bytes))]
 pub(crate) fn cursor_bytes(application: bool, v: u16) -> KeyBytes
@@ -84,8 +90,7 @@ fn without_num(t: &KeyTables, m: KeyModes, v: u16) -> KeyBytes
 pub(crate) fn function_bytes(t: &KeyTables, i: u8) -> KeyBytes
     ensures { result ≡ func_of t.now i }
 {
-    // That there is room is known of all strings, by `exists`.
-    let _exists = t.exists(0);
+    t.stays_whole();
     KeyBytes::of(t.func(i))
 }
 
@@ -94,24 +99,7 @@ fn letter(v: u16) -> u8
     requires { v ≤ 16 }
     ensures { result ≡ slice_index pad_letters v }
 {
-    match v {
-        0 => b'p',
-        1 => b'q',
-        2 => b'r',
-        3 => b's',
-        4 => b't',
-        5 => b'u',
-        6 => b'v',
-        7 => b'w',
-        8 => b'x',
-        9 => b'y',
-        10 => b'l',
-        11 => b'S',
-        12 => b'R',
-        13 => b'Q',
-        14 => b'M',
-        _ => b'n',
-    }
+    LETTERS[usize::from(v)]
 }
 
 // The character of a key of the pad.
@@ -119,23 +107,5 @@ fn character(v: u16) -> u8
     requires { v ≤ 16 }
     ensures { result ≡ slice_index pad_characters v }
 {
-    match v {
-        0 => b'0',
-        1 => b'1',
-        2 => b'2',
-        3 => b'3',
-        4 => b'4',
-        5 => b'5',
-        6 => b'6',
-        7 => b'7',
-        8 => b'8',
-        9 => b'9',
-        10 => b'+',
-        11 => b'-',
-        12 => b'*',
-        13 => b'/',
-        14 => b'\r',
-        15 => b',',
-        _ => b'.',
-    }
+    CHARACTERS[usize::from(v)]
 }

@@ -67,6 +67,13 @@ impl KeyTables {
         self.maps.exists(t)
     }
 
+    /// Does nothing: it is called for its clause. Tables are whole, whatever was set.
+    pub fn stays_whole(&self)
+        ensures { IsWhole self.now }
+    {
+        let _ = self.exists(0);
+    }
+
     /// What a keycode does in a table.
     pub fn entry(&self, t: u8, c: u8) -> Option<Action>
         ensures { result ≡ entry_of self.now t c }
@@ -101,8 +108,7 @@ impl KeyTables {
         ensures funcs { (j : ℕ) → func_of self.new j
             ≡ cond (j == i) text.now (func_of self.old j) }
     {
-        let kept = &mut self.funcs[usize::from(i)];
-        kept.set(text);
+        self.funcs[usize::from(i)] = FuncText::of(text);
     }
 
     /// What an accent and a base make: the result of the first such pair.
@@ -156,7 +162,7 @@ fn copy_funcs(alloc: Global, funcs: &[FuncText]) -> Result<Vec<FuncText>, NoMemo
 {
     let mut copies = Vec::with_capacity(alloc, funcs.len())?;
     for func in funcs {
-        copies.push(func.copy())?;
+        copies.push(FuncText::of(func.as_slice()))?;
     }
     Ok(copies)
 }
@@ -166,7 +172,7 @@ fn empty_funcs(alloc: Global) -> Result<Vec<FuncText>, NoMemory>
 {
     let mut funcs = Vec::with_capacity(alloc, COUNT)?;
     for _i in 0..COUNT {
-        funcs.push(FuncText::empty())?;
+        funcs.push(FuncText::new())?;
     }
     Ok(funcs)
 }

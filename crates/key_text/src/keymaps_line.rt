@@ -1,4 +1,4 @@
-ghost use Rattle.std.specs.Prelude.{◌≡◌, ℕ, ◌<◌, ◌≤◌, ◌||◌, false, length, slice_index_or, take, drop, replicate, IfOk, IsTrue};
+ghost use Rattle.std.specs.Prelude.{◌≡◌, ℕ, ◌<◌, ◌≤◌, ◌||◌, false, length, slice_index_or, replicate, IfOk, IsTrue};
 ghost use Rattle.key_text.specs.Fault.{Gives};
 ghost use Rattle.key_text.specs.Lines.{before, covers, in_order, keymaps_line, range_by, range_of, table_of, tables_in};
 ghost use Rattle.key_text.specs.Sayings.{is_fit_said, said};
@@ -8,6 +8,7 @@ use crate::fault::KeyError;
 use crate::fault_kind::{OUT_OF_RANGE, UNKNOWN_WORD};
 use crate::fields::{ended, ranged};
 use crate::line_kind::LineKind;
+use crate::pieces::{rest_of, start_of};
 use crate::placed::{Place, Placed};
 use crate::saying::Saying;
 use crate::table_set::TableSet;
@@ -128,18 +129,4 @@ fn before(mark: u8, text: &[u8]) -> usize
         }
     }
     text.len()
-}
-
-fn start_of(text: &[u8], n: usize) -> &[u8]
-    requires { n ≤ length text.now }
-    ensures { result.now ≡ take n text.now }
-{
-    &text[..n]
-}
-
-fn rest_of(text: &[u8], n: usize) -> &[u8]
-    requires { n ≤ length text.now }
-    ensures { result.now ≡ drop n text.now }
-{
-    &text[n..]
 }

@@ -16,6 +16,7 @@ mod line_kind;
 mod lines;
 mod named;
 mod next_row;
+mod pieces;
 mod placed;
 mod quoted;
 mod reading;

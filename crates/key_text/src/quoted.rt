@@ -1,8 +1,9 @@
-ghost use Rattle.std.specs.Prelude.{◌≡◌, ◌-◌, ◌≤◌, length, take, drop, IfOk, IfSome};
+ghost use Rattle.std.specs.Prelude.{◌≡◌, ◌-◌, ◌≤◌, length, take, IfOk, IfSome};
 ghost use Rattle.std.specs.List.{prefix_len};
 ghost use Rattle.std.specs.Option.{option_map};
 ghost use Rattle.key_text.specs.Quoted.{between, character_of, decoded, escape_in, first_of, is_octal, letter_escape, octal_escape, octal_len, octal_value, one_character, text_of, unescaped_whole};
 
+use crate::pieces::{rest_of, start_of};
 use crate::placed::Placed;
 use crate::words::{bytes, close_at};
 use std::alloc::{AllocError, Global};
@@ -220,18 +221,4 @@ fn bits(b: u8, mark: u8) -> u32
     ensures small { result ≤ 255 }
 {
     u32::from(b.saturating_sub(mark))
-}
-
-fn start_of(text: &[u8], n: usize) -> &[u8]
-    requires { n ≤ length text.now }
-    ensures { result.now ≡ take n text.now }
-{
-    &text[..n]
-}
-
-fn rest_of(text: &[u8], n: usize) -> &[u8]
-    requires { n ≤ length text.now }
-    ensures { result.now ≡ drop n text.now }
-{
-    &text[n..]
 }

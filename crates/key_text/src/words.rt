@@ -1,4 +1,4 @@
-ghost use Rattle.std.specs.Prelude.{◌≡◌, ◌+◌, ◌<◌, ◌≤◌, ◌==◌, ◌&&◌, not, false, nat_lt, length, take, drop, IfOk, IfSome};
+ghost use Rattle.std.specs.Prelude.{◌≡◌, ◌+◌, ◌<◌, ◌≤◌, ◌==◌, ◌&&◌, not, false, nat_lt, length, IfOk, IfSome};
 ghost use Rattle.std.specs.List.{prefix_len};
 ghost use Rattle.std.specs.Option.{option_map};
 ghost use Rattle.std.specs.Str.Lossy.{utf8_valid_len};
@@ -8,6 +8,7 @@ ghost use Rattle.key_text.specs.Words.{bytes, close_at, is_bare, is_blank, is_qu
 
 use crate::fault::{KeyError, KeyFault};
 use crate::fault_kind::BAD_TEXT;
+use crate::pieces::{rest_of, start_of};
 use crate::placed::{Place, Placed};
 use std::alloc::{AllocError, Global};
 
@@ -69,12 +70,12 @@ pub fn next(
 pub fn word_at(items: &[Placed]) -> Option<(&[Placed], &[Placed])>
     ensures { option_map (λ w. (w.0.now, w.1.now)) result ≡ word_at items.now }
 {
-    let items = behind(items, blank_len(items));
+    let items = rest_of(items, blank_len(items));
     let len = word_len(items);
     if len == 0 {
         return None;
     }
-    Some((front(items, len), behind(items, len)))
+    Some((start_of(items, len), rest_of(items, len)))
 }
 
 /// A word that was come to, and what follows it.
@@ -149,7 +150,7 @@ fn word_len(items: &[Placed]) -> usize
     ensures within { result ≤ length items.now }
 {
     let quoted = quoted_len(items);
-    quoted + bare_len(behind(items, quoted))
+    quoted + bare_len(rest_of(items, quoted))
 }
 
 fn quoted_len(items: &[Placed]) -> usize
@@ -224,20 +225,4 @@ pub fn is_word(text: &[u8], word: &[Placed]) -> bool
         }
     }
     true
-}
-
-/// The first n items.
-pub fn front(items: &[Placed], n: usize) -> &[Placed]
-    requires { n ≤ length items.now }
-    ensures { result.now ≡ take n items.now }
-{
-    &items[..n]
-}
-
-/// The items behind the first n.
-pub fn behind(items: &[Placed], n: usize) -> &[Placed]
-    requires { n ≤ length items.now }
-    ensures { result.now ≡ drop n items.now }
-{
-    &items[n..]
 }

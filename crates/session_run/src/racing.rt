@@ -1,9 +1,10 @@
 //! The race of a session: its callers' calls on one console, each caller in a thread of its own.
-ghost use Rattle.std.specs.Prelude.{◌≡◌, ℕ, ◌<◌, [], length, IfOk, slice_index_or, vec_len};
+ghost use Rattle.std.specs.Prelude.{◌≡◌, ℕ, ◌<◌, [], length, IfOk, OnOk, slice_index_or, vec_len};
 ghost use Rattle.session_order.specs.Ends.{Ends};
 ghost use Rattle.session_order.specs.Follows.{Follows};
 ghost use Rattle.session_order.specs.Sessions.{ShowsTapes, setup_of, start_of};
-ghost use Rattle.session_run.specs.Racing.{IsRaced, IsRunOf};
+ghost use Rattle.session_run.specs.Callers.{AreHooked, callers_in};
+ghost use Rattle.session_run.specs.Racing.{AreHome, IsRaced, IsRunOf, IsSplit};
 ghost use Rattle.session_run.specs.Runs.{HasHooks};
 ghost use Rattle.vt_journal.specs.Room.{tail_at};
 ghost use Rattle.vt_switch.specs.Law.{IsExplained, IsLawful};
@@ -15,14 +16,14 @@ use crate::callers::callers_in;
 use crate::handlers::{hooks_of, tables_of};
 use crate::passes::{join_all, split_all, work_all};
 use session_order::race_laws;
-use session_text::{Session, callers_have_programs};
+use session_text::{Program, Session, callers_have_programs};
 use sig_hooks::{Handler, Hook, HookTable};
 use std::alloc::Global;
 use std::marker::Brand;
 use std::sync::Wait;
 use std::thread::Threads;
-use vt_base::{NoMemory, Signal};
-use vt_hub::{Hub, Opening, Run};
+use vt_base::{NoMemory, Signal, Size};
+use vt_hub::{Hub, Opening, Run, Steward};
 use vt_io::Gate;
 use vt_world::{World, displays_are_lawful, nobody_waits_at_start, screens_are_tapes};
 
@@ -161,12 +162,36 @@ fn race_on<
     let _starts = config.procs.as_slice();
     let programs = s.programs();
     let (hub, mut steward) = Hub::<J>::open(alloc, world, s.limits())?;
+    race_in(rt, alloc, &hub, &mut steward, programs, hooks, gate, size)?;
+    Ok(hub.close(steward))
+}
+
+// Races them in this hub: all its passes are made, and are taken in again.
+fn race_in<
+    J: Opening + Send + Sync,
+    H: Handler + Send + Sync,
+    G: Gate + Sync,
+    R: Threads + Wait + Sync,
+>(
+    rt: &R,
+    alloc: Global,
+    hub: &Hub<J>,
+    steward: &mut Steward<J>,
+    programs: &[Program],
+    hooks: &[Hook<H>],
+    gate: &G,
+    size: Size,
+) -> Result<(), NoMemory>
+    requires fresh { IsSplit hub.now (callers_in programs.now) 0 steward.old }
+    requires hooks { AreHooked programs.now hooks.now }
+    requires size { (size.rows ≡ J.start.rows) × (size.cols ≡ J.start.cols) }
+    ensures { OnOk result
+        (AreHome programs.now hub.now (length (callers_in programs.now)) steward.new) }
+{
     let found = callers_in(alloc, programs)?;
     let callers = found.as_slice();
-    let passes = split_all(alloc, &hub, &mut steward, callers)?;
-    let ran = work_all(
-        rt, alloc, &hub, callers, passes, programs, hooks, gate, size,
-    )?;
-    join_all(&hub, &mut steward, ran, programs, callers)?;
-    Ok(hub.close(steward))
+    let passes = split_all(alloc, hub, steward, callers)?;
+    let ran = work_all(rt, alloc, hub, callers, passes, programs, hooks, gate, size)?;
+    join_all(hub, steward, ran, programs, callers)?;
+    Ok(())
 }

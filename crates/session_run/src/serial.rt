@@ -3,6 +3,7 @@ ghost use Rattle.session_order.specs.Ends.{Ends};
 ghost use Rattle.vt_journal.specs.Room.{tail_at};
 ghost use Rattle.session_order.specs.Follows.{Follows};
 ghost use Rattle.session_order.specs.Serial.{IsSerial};
+ghost use Rattle.session_run.specs.Callers.{callers_in};
 ghost use Rattle.session_run.specs.Runs.{HasHooks, played};
 ghost use Rattle.session_order.specs.Sessions.{ShowsTapes, setup_of, start_of};
 ghost use Rattle.vt_switch.specs.Law.{IsExplained, IsLawful};
@@ -15,9 +16,9 @@ use crate::handlers::{hooks_of, tables_of};
 use crate::player::Player;
 use session_order::{meant_laws, serial_laws};
 use session_text::Session;
-use sig_hooks::{Handler, HookTable};
+use sig_hooks::{Handler, Hook, HookTable};
 use std::alloc::Global;
-use vt_base::{NoMemory, Signal};
+use vt_base::{CallerNo, NoMemory, Signal};
 use vt_hub::Run;
 use vt_world::{displays_are_lawful, screens_are_tapes};
 
@@ -74,15 +75,30 @@ fn play_by<H: Handler>(
     ensures serial { IfOk result (λ run. IsSerial (setup_of s.now) s.now.turns (played run)) }
     ensures world { IfOk result (λ run. run.world ≡ replay (start_of s.now) run.log.entries) }
 {
-    meant_laws();
     let hooks = hooks_of(alloc, handlers, acts)?;
+    let callers = callers_in(alloc, s.programs())?;
+    play_on(alloc, s, hooks.as_slice(), callers.as_slice())
+}
+
+// Plays it with these hooks, each round with these callers.
+fn play_on<H: Handler>(
+    alloc: Global,
+    s: &Session,
+    hooks: &[Hook<H>],
+    callers: &[CallerNo],
+) -> Result<Run, NoMemory>
+    requires hooks { HasHooks s.now.programs hooks.now }
+    requires callers { callers.now ≡ callers_in s.now.programs }
+    ensures serial { IfOk result (λ run. IsSerial (setup_of s.now) s.now.turns (played run)) }
+    ensures world { IfOk result (λ run. run.world ≡ replay (start_of s.now) run.log.entries) }
+{
+    meant_laws();
     let _starts = s.config().procs.as_slice();
     let programs = s.programs();
     let first = s.turns();
     let limits = s.limits();
-    let callers = callers_in(alloc, programs)?;
     let mut player = Player::open(alloc, s)?;
-    player.turns(alloc, programs, &hooks, first)?;
-    player.rounds(alloc, programs, &hooks, &callers, limits.events)?;
+    player.turns(alloc, programs, hooks, first)?;
+    player.rounds(alloc, programs, hooks, callers, limits.events)?;
     Ok(player.end())
 }

@@ -9,7 +9,7 @@ use vt_base::{Bytes, NoMemory, SigSet};
 use vt_events::Event;
 
 /// An act, and the signal at which it is made.
-#[derive(Clone, Copy, Debug)]
+#[derive(Clone, Copy)]
 pub struct Found {
     pub signal: u16,
     pub act: Act,

@@ -2,7 +2,7 @@ use sig_hooks::HookTable;
 use vt_base::SigSet;
 
 /// The acts of hooks, and the signals that have one.
-#[derive(Debug, Drop)]
+#[derive(Drop)]
 pub struct Hooked {
     pub acts: HookTable,
     pub signals: SigSet,

@@ -6,7 +6,7 @@ use vt_base::NoMemory;
 use vt_events::Event;
 
 /// The calls of a script, with room for more: adding one within the room takes no memory.
-#[derive(Debug, Drop)]
+#[derive(Drop)]
 pub struct Items {
     events: Vec<Event>,
     room: usize,

@@ -2,7 +2,7 @@ use key_tables::KeyTables;
 use vt_base::Bytes;
 
 /// The first keyboard of a session: the tables of its keymap, and its scan bytes.
-#[derive(Debug, Drop)]
+#[derive(Drop)]
 pub struct Keyboard {
     pub tables: KeyTables,
     pub keys: Bytes,

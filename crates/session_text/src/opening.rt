@@ -1,7 +1,7 @@
 use vt_base::ConsoleNo;
 
 /// The numbers that a session begins with.
-#[derive(Debug, Drop)]
+#[derive(Drop)]
 pub struct Opening {
     pub rows: u8,
     pub cols: u8,

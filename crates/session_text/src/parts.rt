@@ -4,7 +4,7 @@ use crate::process::Process;
 use vt_base::Bytes;
 
 /// The parts of a session.
-#[derive(Debug, Drop)]
+#[derive(Drop)]
 pub struct Parts {
     pub opening: Opening,
     pub keyboard: Keyboard,

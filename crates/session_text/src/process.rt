@@ -3,7 +3,7 @@ use sig_hooks::HookTable;
 use vt_procs::ProcStart;
 
 /// A process of a session: what it has at the start, and its program.
-#[derive(Debug, Drop)]
+#[derive(Drop)]
 pub struct Process {
     pub start: ProcStart,
     pub items: Items,

@@ -3,7 +3,7 @@ use sig_hooks::HookTable;
 use vt_base::Bytes;
 
 /// What a caller calls, one call after another.
-#[derive(Debug, Drop)]
+#[derive(Drop)]
 pub enum Program {
     /// A keyboard's scan bytes, and then exit.
     Keys(Bytes),

@@ -14,7 +14,7 @@ use vt_journal::Limits;
 use vt_procs::Config;
 
 /// What the callers of a console have and do, and how they take turns.
-#[derive(Debug, Drop)]
+#[derive(Drop)]
 pub struct Session {
     config: Config,
     tables: KeyTables,

@@ -18,7 +18,7 @@ use vt_base::{Bytes, NoMemory, SigSet};
 use vt_events::{Event, Reply};
 
 /// A walk through a program, one call after another. It stands for the calls that were made.
-#[derive(Debug, Drop)]
+#[derive(Drop)]
 pub struct Walk {
     item: usize,
     taking: bool,

@@ -29,7 +29,7 @@ pub fn add_row(form: Form, g: &Grid, y: u8, out: &mut Bytes)
     ensures room { out.new.room + length out.new.bytes ≡ out.old.room + length out.old.bytes }
     ensures most { out.old.room ≤ out.new.room + g.now.cols * most_bytes form }
 {
-    let _ = g.size();
+    g.stays_full();
     for cell in g.row(y) {
         add_cell(form, cell, out);
     }

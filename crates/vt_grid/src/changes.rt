@@ -23,7 +23,7 @@ impl Grid {
         ensures { self.new ≡ other.now }
     {
         let size = self.size();
-        let _other = other.size();
+        other.stays_full();
         for y in 0..size.rows {
             self.copy_row(y, other, y, size.cols);
         }

@@ -9,6 +9,7 @@ use std::sync::ledger::{Blank, Ledger};
 use vt_cells::Cell;
 
 /// Puts the cells of these codes.
+#[inline(always)]
 pub fn put_run<T: Code, L: Ledger>(
     store: &mut RowStore,
     y: u8,
@@ -27,7 +28,7 @@ pub fn put_run<T: Code, L: Ledger>(
         (map (λ c. record { code = T.code_of c; attr = attr }) codes.now) }
 {
     let mut steps = Steps::<L>::open(blank);
-    let _ = store.size();
+    store.stays_fit();
     store.put_run(y, x, codes, attr, &mut steps);
 }
 
@@ -113,7 +114,7 @@ fn scroll_rows_down<L: Ledger>(
     ensures { sheet_shown store.new ≡ scrolled_down (sheet_shown store.old) top bottom n c }
 {
     let mut steps = Steps::<L>::open(blank);
-    let _ = store.size();
+    store.stays_fit();
     let height = bottom - top + 1;
     let count = n.min(u16::from(height)) as u8;
     move_up(store, top, bottom, height - count, &mut steps);
@@ -189,7 +190,7 @@ pub fn copy_row<L: Ledger>(
         ≡ with_run (sheet_shown store.old) y 0 (take cols (row_at (sheet_shown old.now) from)) }
 {
     let mut steps = Steps::<L>::open(blank);
-    let _ = old.size();
+    old.stays_fit();
     if cols == store.size().cols {
         store.copy_row(y, old, from, &mut steps);
     } else {

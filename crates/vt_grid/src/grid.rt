@@ -47,13 +47,22 @@ impl Grid {
         self.store.size()
     }
 
+    /// Does nothing: it is called for its clause.
+    pub fn stays_full(&self)
+        ensures rows { self.now.rows ≤ 255 }
+        ensures cols { self.now.cols ≤ 255 }
+        ensures full { IsFull self.now }
+    {
+        let _ = self.size();
+    }
+
     /// The cell in row `y` and column `x`.
     pub fn at(&self, y: u8, x: u8) -> Cell
         requires row { y < self.now.rows }
         requires column { x < self.now.cols }
         ensures { HasCellAt self.now y x result }
     {
-        let _ = self.store.size();
+        self.store.stays_fit();
         self.store.at(y, x)
     }
 
@@ -62,7 +71,7 @@ impl Grid {
         requires { y < self.now.rows }
         ensures { result ≡ row_at self.now y }
     {
-        let _ = self.store.size();
+        self.store.stays_fit();
         self.store.cells(y)
     }
 
@@ -72,11 +81,12 @@ impl Grid {
         requires column { x < self.old.cols }
         ensures { self.new ≡ with_cell self.old y x c }
     {
-        let _ = self.store.size();
+        self.store.stays_fit();
         put_run::<u32, Brand>(&mut self.store, y, x, &[c.code], c.attr, Blank::new(1));
     }
 
     /// Sets the cells from column `x` on, one for each byte: its code is the byte.
+    #[inline(always)]
     pub fn put_bytes(&mut self, y: u8, x: u8, bytes: &[u8], attr: u8)
         requires row { y < self.old.rows }
         requires columns { x + length bytes.now ≤ self.old.cols }
@@ -119,7 +129,7 @@ impl Grid {
         ensures grid { self.new ≡ scrolled_up self.old top bottom n c }
         ensures steps { steps.new ≤ steps.old + scroll_steps self.old.rows top bottom n }
     {
-        let _ = self.store.size();
+        self.store.stays_fit();
         let height = bottom - top + 1;
         let count = n.min(u16::from(height)) as u8;
         move_up(&mut self.store, top, bottom, count, steps);
@@ -132,7 +142,7 @@ impl Grid {
         requires row { bottom < self.old.rows }
         ensures { self.new ≡ scrolled_down self.old top bottom n c }
     {
-        let _ = self.store.size();
+        self.store.stays_fit();
         scroll_down::<Brand>(&mut self.store, top, bottom, n, c, Blank::new(1));
     }
 

@@ -25,7 +25,7 @@ impl Grid {
         requires columns { x + length bytes.now ≤ self.old.cols }
         ensures { self.new ≡ drawn self.old y x (cells_of_codes bytes.now attr) }
     {
-        let _ = self.size();
+        self.stays_full();
         self.part_ends(y, x, x + bytes.len() as u8);
         self.put_bytes(y, x, bytes, attr);
     }
@@ -36,7 +36,7 @@ impl Grid {
         requires columns { x + length codes.now ≤ self.old.cols }
         ensures { self.new ≡ drawn self.old y x (cells_of_codes codes.now attr) }
     {
-        let _ = self.size();
+        self.stays_full();
         self.part_ends(y, x, x + codes.len() as u8);
         self.put_codes(y, x, codes, attr);
     }
@@ -111,7 +111,7 @@ impl Grid {
         requires column { x < self.old.cols }
         ensures { self.new ≡ parted_at self.old y x }
     {
-        let _ = self.size();
+        self.stays_full();
         let right = self.at(y, x);
         if right.code == HALF {
             let left = self.at(y, x - 1);

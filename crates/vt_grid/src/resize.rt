@@ -29,7 +29,7 @@ fn copy_row(fresh: &mut Grid, old: &Grid, y: u8, from: u8, cols: u8, border: u8)
     requires border { cols ≤ border }
     ensures { fresh.new ≡ with_run fresh.old y 0 (take cols (parted border (row_at old.now from))) }
 {
-    let _new = fresh.size();
+    fresh.stays_full();
     let was = old.size();
     fresh.copy_row(y, old, from, cols);
     if border < was.cols {

@@ -1,4 +1,4 @@
-ghost use Rattle.std.specs.Prelude.{None, ◌≡◌, MatchResult};
+ghost use Rattle.std.specs.Prelude.{None, ◌≡◌, ◌≤◌, IfSome, MatchResult, length};
 ghost use Rattle.std.specs.Io.{ReadsAtMost};
 ghost use Rattle.std.specs.Io.KnownBytes.{ReadConsumes};
 ghost use Rattle.vt_io.specs.Faults.{HasCause, one_more};
@@ -21,6 +21,7 @@ const PIECE_BYTES: usize = 4_096;
 pub struct StdSource<R> {
     reader: R,
     faults: u64,
+    piece: [u8; PIECE_BYTES],
 }
 
 impl<R> Model for StdSource<R> {
@@ -40,6 +41,7 @@ impl<R> StdSource<R> {
         StdSource {
             reader: r,
             faults: 0,
+            piece: [0; PIECE_BYTES],
         }
     }
 }
@@ -58,16 +60,28 @@ impl<R: Read> Source for StdSource<R> {
             (λ _. self.new ≡ self.old)
             (λ _. self.new ≡ one_more self.old) }
     {
-        let mut piece = [0; PIECE_BYTES];
         let most = buf.len().min(PIECE_BYTES);
-        for _ in 0..=RETRIES {
-            match self.reader.read(&mut piece[..most]) {
-                Ok(count) => return Ok(move_front(&piece[..count], buf)),
-                Err(error) if error.kind() == ErrorKind::Interrupted => {}
-                Err(_) => break,
+        let piece = &mut self.piece[..];
+        match read_again(&mut self.reader, &mut piece[..most]) {
+            Some(count) => Ok(move_front(&piece[..count], buf)),
+            None => {
+                self.faults = self.faults.saturating_add(1);
+                Err(Failed)
             }
         }
-        self.faults = self.faults.saturating_add(1);
-        Err(Failed)
     }
+}
+
+// What a read gives, tried again where it was interrupted.
+fn read_again<R: Read>(reader: &mut R, piece: &mut [u8]) -> Option<usize>
+    ensures { IfSome result (λ count. count ≤ length piece.old) }
+{
+    for _ in 0..=RETRIES {
+        match reader.read(piece) {
+            Ok(count) => return Some(count),
+            Err(error) if error.kind() == ErrorKind::Interrupted => {}
+            Err(_) => break,
+        }
+    }
+    None
 }

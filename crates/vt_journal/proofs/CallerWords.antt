@@ -1,7 +1,7 @@
 -- A word is one caller's.
-use Rattle.std.proofs.Common.{◌≡◌, ◌≢◌, true≢false, ℕ, ◌+◌, ◌-◌, ◌%◌, ◌<◌, ◌≤◌, ◌^◌, ◌⊎◌, ⊎_elim, Bool, true, false, ◌&&◌, ◌||◌, eqb, ltb, cond, Option, Some, None, List, [], ◌∷◌, ◌++◌, codes, decimal, refl, sym, ap, ◌∙◌, arith}
+use Rattle.std.proofs.Common.{◌≡◌, ◌≢◌, true≢false, ℕ, ◌+◌, ◌%◌, ◌<◌, ◌≤◌, ◌^◌, ◌⊎◌, ⊎_elim, Bool, true, false, ◌&&◌, ◌||◌, eqb, ltb, cond, Option, Some, None, List, [], ◌∷◌, ◌++◌, codes, decimal, refl, sym, ap, ◌∙◌, arith}
 use Rattle.std.specs.List.{list_all}
-use Rattle.std.specs.Prelude.{nat_le, IfNone}
+use Rattle.std.specs.Prelude.{IfNone}
 use Rattle.vt_base.specs.Limits.{callers}
 use Rattle.vt_base.specs.Range.{in_range}
 use Rattle.std.proofs.lemmas.Bool.{cases_lt, le-ltb, lt-ltb}

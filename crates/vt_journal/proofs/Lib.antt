@@ -4,6 +4,7 @@ pub mod Calls
 pub mod Clear
 pub mod Comparing
 pub mod Cuts
+pub mod Digits
 pub mod Firsts
 pub mod Lines
 pub mod Once

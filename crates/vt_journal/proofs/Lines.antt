@@ -1,5 +1,6 @@
 -- Lines, made word by word.
-use Rattle.std.proofs.Common.{◌≡◌, ℕ, ◌+◌, ◌<◌, List, [], ◌∷◌, ◌++◌, decimal, length, map, take, get_or, sym, ap, ◌∙◌, add-one, append_assoc}
+use Rattle.std.proofs.Common.{◌≡◌, ℕ, ◌+◌, ◌/◌, ◌%◌, ◌<◌, ◌≤◌, arith, List, [], ◌∷◌, ◌++◌, decimal, length, map, take, get_or, sym, ap, ◌∙◌, add-one, append_assoc}
+use Rattle.itoa.proofs.Decimal.{decimal_pair, pair}
 use Rattle.std.proofs.lemmas.Fmt.{decimal_digit}
 use Rattle.std.proofs.lemmas.List.Concat.{flat_map-append}
 use Rattle.std.proofs.Math.Seq.{take-suc}
@@ -20,14 +21,12 @@ spelled-cons word [] = sym (append-nil word)
 spelled-cons word (next ∷ words) =
     ap (λ text. word ++ (0x20 ∷ text)) (spelled-cons next words)
 
--- a number of one digit behind a blank
-pub digit_next : (n : ℕ) (t0 t1 t2 t3 : List ℕ) → n < 10 → t1 ≡ t0 → t2 ≡ t1 ++ 0x20 ∷ []
-    → t3 ≡ t2 ++ (48 + n) ∷ [] → t3 ≡ t0 ++ 0x20 ∷ decimal n
-digit_next n t0 t1 t2 t3 few is1 is2 is3 =
-    is3
-    ∙ (ap (λ t. t ++ (48 + n) ∷ []) (is2 ∙ ap (λ t. t ++ 0x20 ∷ []) is1)
-    ∙ (append_assoc t0 (0x20 ∷ []) ((48 + n) ∷ [])
-    ∙ ap (λ digits. t0 ++ 0x20 ∷ digits) (sym (decimal_digit n few))))
+-- the digits of a number of three
+pub decimal_three : (n : ℕ) → 100 ≤ n → n < 1000
+    → decimal n ≡ (48 + n / 100) ∷ (48 + n % 100 / 10) ∷ (48 + n % 100 % 10) ∷ []
+decimal_three n least most =
+    decimal_pair n least (omega arith)
+    ∙ ap (λ first. first ++ pair (n % 100)) (decimal_digit (n / 100) (omega arith))
 
 -- the line of an entry, from its pieces
 pub entry_line : (caller seq sign : List ℕ) (call answer : List (List ℕ))

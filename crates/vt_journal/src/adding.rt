@@ -1,5 +1,5 @@
 //! Adds words to a text, with room for them.
-ghost use Rattle.std.specs.Prelude.{◌≡◌, ◌<◌, ◌^◌, [], ◌∷◌, ◌++◌, decimal, map, OnOk, OnErr};
+ghost use Rattle.std.specs.Prelude.{◌≡◌, ◌<◌, ◌≤◌, ◌^◌, [], ◌∷◌, ◌++◌, decimal, map, OnOk, OnErr};
 ghost use Rattle.std.specs.List.{All};
 ghost use Rattle.vt_journal.specs.Hex.{hex_text};
 ghost use Rattle.vt_journal.specs.Text.{Begins, spaced};
@@ -9,12 +9,37 @@ use itoa::Buffer;
 use std::alloc::Global;
 use vt_base::{Bytes, NoMemory};
 
+/// How many bytes there is room for at least, once room is made.
+const STEP: usize = 4_096;
+
+/// Makes room for so many more bytes, and where it takes memory also for some of those after them.
+#[inline(always)]
+pub fn make_room(alloc: Global, text: &mut Bytes, n: usize) -> Result<(), NoMemory>
+    ensures bytes { text.new.bytes ≡ text.old.bytes }
+    ensures ok { OnOk result (n ≤ text.new.room) }
+{
+    if n <= text.room() {
+        return Ok(());
+    }
+    take_room(alloc, text, n)
+}
+
+// Takes memory for so many more bytes, and for some of those after them.
+#[inline(never)]
+fn take_room(alloc: Global, text: &mut Bytes, n: usize) -> Result<(), NoMemory>
+    ensures bytes { text.new.bytes ≡ text.old.bytes }
+    ensures ok { OnOk result (n ≤ text.new.room) }
+{
+    text.grow(alloc, n.max(STEP))
+}
+
 /// Adds the bytes.
+#[inline(always)]
 pub fn add(alloc: Global, text: &mut Bytes, b: &[u8]) -> Result<(), NoMemory>
     ensures ok { OnOk result (text.new.bytes ≡ text.old.bytes ++ b.now) }
     ensures err { OnErr result (text.new.bytes ≡ text.old.bytes) }
 {
-    text.grow(alloc, b.len())?;
+    make_room(alloc, text, b.len())?;
     text.append(b);
     Ok(())
 }
@@ -33,7 +58,7 @@ pub fn add_word(alloc: Global, text: &mut Bytes, word: &[u8]) -> Result<(), NoMe
     ensures ok { OnOk result (text.new.bytes ≡ text.old.bytes ++ 0x20 ∷ word.now) }
     ensures err { OnErr result (text.new.bytes ≡ text.old.bytes) }
 {
-    text.grow(alloc, 1 + word.len())?;
+    make_room(alloc, text, 1 + word.len())?;
     text.push(b' ');
     text.append(word);
     Ok(())
@@ -44,22 +69,54 @@ pub fn add_end(alloc: Global, text: &mut Bytes) -> Result<(), NoMemory>
     ensures ok { OnOk result (text.new.bytes ≡ text.old.bytes ++ 0x0A ∷ []) }
     ensures err { OnErr result (text.new.bytes ≡ text.old.bytes) }
 {
-    text.grow(alloc, 1)?;
-    text.push(b'\n');
-    Ok(())
+    add(alloc, text, b"\n")
 }
 
 /// Adds a blank and the number.
+#[inline(always)]
 pub fn add_next(alloc: Global, text: &mut Bytes, n: u64) -> Result<(), NoMemory>
     ensures ok { OnOk result (text.new.bytes ≡ text.old.bytes ++ 0x20 ∷ decimal n) }
     ensures err { OnErr result (text.new.bytes ≡ text.old.bytes) }
 {
     if n < 10 {
-        text.grow(alloc, 2)?;
-        text.push(b' ');
-        text.push(b'0' + n as u8);
-        return Ok(());
+        return add(alloc, text, &[b' ', b'0' + n as u8]);
     }
+    add_digits(alloc, text, n)
+}
+
+// Adds a blank and the number of two digits or more.
+#[inline(never)]
+fn add_digits(alloc: Global, text: &mut Bytes, n: u64) -> Result<(), NoMemory>
+    requires { 10 ≤ n }
+    ensures ok { OnOk result (text.new.bytes ≡ text.old.bytes ++ 0x20 ∷ decimal n) }
+    ensures err { OnErr result (text.new.bytes ≡ text.old.bytes) }
+{
+    if n < 100 {
+        return add(
+            alloc,
+            text,
+            &[b' ', b'0' + (n / 10) as u8, b'0' + (n % 10) as u8],
+        );
+    }
+    if n < 1_000 {
+        let (high, low) = (n / 100, n % 100);
+        let digits = [
+            b' ',
+            b'0' + high as u8,
+            b'0' + (low / 10) as u8,
+            b'0' + (low % 10) as u8,
+        ];
+        return add(alloc, text, &digits);
+    }
+    add_long(alloc, text, n)
+}
+
+// Adds a blank and the number, whatever it is.
+#[inline(never)]
+fn add_long(alloc: Global, text: &mut Bytes, n: u64) -> Result<(), NoMemory>
+    ensures ok { OnOk result (text.new.bytes ≡ text.old.bytes ++ 0x20 ∷ decimal n) }
+    ensures err { OnErr result (text.new.bytes ≡ text.old.bytes) }
+{
     let mut buffer = Buffer::new();
     add_word(alloc, text, buffer.format(n).as_bytes())
 }

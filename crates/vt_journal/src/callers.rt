@@ -5,7 +5,7 @@ ghost use Rattle.std.specs.List.{All};
 ghost use Rattle.vt_base.specs.Limits.{callers, processes};
 ghost use Rattle.vt_journal.specs.Callers.{HasWord, caller_word, is_process, keyboard_number};
 
-use crate::adding::add_number;
+use crate::adding::{add, add_number, make_room};
 use crate::words::Words;
 use itoa::Buffer;
 use std::alloc::Global;
@@ -57,9 +57,28 @@ fn add_lettered(alloc: Global, text: &mut Bytes, letter: u8, n: u16) -> Result<(
     ensures ok { OnOk result (text.new.bytes ≡ text.old.bytes ++ letter ∷ decimal n) }
     ensures err { OnErr result (text.new.bytes ≡ text.old.bytes) }
 {
+    if n < 10 {
+        return add(alloc, text, &[letter, b'0' + n as u8]);
+    }
+    if n < 100 {
+        return add(
+            alloc,
+            text,
+            &[letter, b'0' + (n / 10) as u8, b'0' + (n % 10) as u8],
+        );
+    }
+    add_lettered_long(alloc, text, letter, n)
+}
+
+// Adds the letter and the number, whatever it is.
+#[inline(never)]
+fn add_lettered_long(alloc: Global, text: &mut Bytes, letter: u8, n: u16) -> Result<(), NoMemory>
+    ensures ok { OnOk result (text.new.bytes ≡ text.old.bytes ++ letter ∷ decimal n) }
+    ensures err { OnErr result (text.new.bytes ≡ text.old.bytes) }
+{
     let mut buffer = Buffer::new();
     let digits = buffer.format(n).as_bytes();
-    text.grow(alloc, 1 + digits.len())?;
+    make_room(alloc, text, 1 + digits.len())?;
     text.push(letter);
     text.append(digits);
     Ok(())

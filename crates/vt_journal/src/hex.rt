@@ -3,6 +3,7 @@ ghost use Rattle.std.specs.Prelude.{◌≡◌, ◌≢◌, ℕ, ◌<◌, ◌%◌,
 ghost use Rattle.std.specs.List.{All, flat_map};
 ghost use Rattle.vt_journal.specs.Hex.{hex_byte, hex_digit, hex_text};
 
+use crate::adding::{add, make_room};
 use std::alloc::Global;
 use vt_base::{Bytes, NoMemory};
 
@@ -12,14 +13,11 @@ pub fn add_hex(alloc: Global, text: &mut Bytes, b: &[u8]) -> Result<(), NoMemory
     ensures err { OnErr result (text.new.bytes ≡ text.old.bytes) }
 {
     if b.is_empty() {
-        text.grow(alloc, 1)?;
-        text.push(b'-');
-        return Ok(());
+        return add(alloc, text, b"-");
     }
-    text.grow(alloc, 2 * b.len())?;
+    make_room(alloc, text, 2 * b.len())?;
     for byte in b {
-        text.push(digit(byte >> 4));
-        text.push(digit(byte & 0xF));
+        text.append(&[digit(byte >> 4), digit(byte & 0xF)]);
     }
     Ok(())
 }

@@ -4,6 +4,7 @@ ghost use Rattle.vt_journal.specs.Calls.{held_of, name_of, numbers_of};
 ghost use Rattle.vt_journal.specs.Kinds.{blank, call_of, takes};
 ghost use Rattle.vt_journal.specs.declared.kind.Kind.{Kind};
 
+use crate::likely::likely;
 use crate::rows::{row_of, rows};
 use vt_base::Bytes;
 use vt_events::Event;
@@ -65,6 +66,18 @@ pub enum Kind {
 impl Kind {
     /// The kind of the calls of this name.
     pub fn named(name: &[u8]) -> Option<Kind>
+        ensures found { IfSome result (λ kind. name_of (blank kind) ≡ name.now) }
+        ensures none { IfNone result ((kind : Kind) → name_of (blank kind) ≢ name.now) }
+    {
+        let kind = likely(name);
+        if kind.name().len() == name.len() && kind.name() == name {
+            return Some(kind);
+        }
+        Kind::looked_up(name)
+    }
+
+    // The kind of the calls of this name, looked for in every row.
+    fn looked_up(name: &[u8]) -> Option<Kind>
         ensures found { IfSome result (λ kind. name_of (blank kind) ≡ name.now) }
         ensures none { IfNone result ((kind : Kind) → name_of (blank kind) ≢ name.now) }
     {

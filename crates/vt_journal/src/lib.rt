@@ -17,6 +17,7 @@ mod j_fault;
 mod journal;
 mod kind;
 mod laws;
+mod likely;
 mod limits;
 mod log;
 mod next;

@@ -1,5 +1,5 @@
 //! Numbers that are words.
-ghost use Rattle.std.specs.Prelude.{◌≡◌, ◌≢◌, ℕ, ◌<◌, ◌≤◌, ◌^◌, List, ◌∷◌, ◌++◌, length, map, decimal, IfSome, IfNone};
+ghost use Rattle.std.specs.Prelude.{◌≡◌, ◌≢◌, ℕ, ◌<◌, ◌≤◌, ◌^◌, List, [], ◌∷◌, ◌++◌, length, map, decimal, IfSome, IfNone};
 ghost use Rattle.std.specs.List.{All};
 ghost use Rattle.vt_journal.specs.Replies.{Within};
 
@@ -60,5 +60,49 @@ pub fn take_number(words: &mut Words, most: u64) -> Option<u64>
         ((n : ℕ) (rest : List (List ℕ)) → n ≤ most → words.old ≢ decimal n ∷ rest) }
 {
     let word = words.next()?;
+    if let Some(n) = short_number(word) {
+        if n <= most {
+            return Some(n);
+        }
+    }
     parse_decimal(word, most)
+}
+
+// The number of a word that is one digit, or two; none of any other word.
+#[inline(always)]
+fn short_number(word: &[u8]) -> Option<u64>
+    ensures { IfSome result (λ n. decimal n ≡ word.now) }
+{
+    if word.len() == 1 {
+        return one_digit(word[0]);
+    }
+    if word.len() == 2 {
+        return two_digits(word[0], word[1]);
+    }
+    None
+}
+
+// The number of a digit.
+#[inline(always)]
+fn one_digit(ones: u8) -> Option<u64>
+    ensures { IfSome result (λ n. decimal n ≡ ones ∷ []) }
+{
+    if ones < b'0' || b'9' < ones {
+        return None;
+    }
+    Some(u64::from(ones - b'0'))
+}
+
+// The number of two digits, of which the first is no zero.
+#[inline(always)]
+fn two_digits(tens: u8, ones: u8) -> Option<u64>
+    ensures { IfSome result (λ n. decimal n ≡ tens ∷ ones ∷ []) }
+{
+    if tens < b'1' || b'9' < tens {
+        return None;
+    }
+    if ones < b'0' || b'9' < ones {
+        return None;
+    }
+    Some(10 * u64::from(tens - b'0') + u64::from(ones - b'0'))
 }

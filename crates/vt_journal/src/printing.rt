@@ -10,7 +10,7 @@ ghost use Rattle.vt_journal.specs.Says.{IsFitEntry, IsFitTail};
 ghost use Rattle.vt_journal.specs.Text.{Begins, spaced};
 ghost use Rattle.vt_journal.specs.Words.{IsFit, event_words, held_words, reply_words};
 
-use crate::adding::{add, add_bytes, add_end, add_named, add_next, add_word};
+use crate::adding::{add, add_bytes, add_end, add_named, add_next};
 use crate::callers::add_caller;
 use crate::parts::Parts;
 use crate::{Full, Tail};
@@ -86,7 +86,7 @@ fn add_entry(alloc: Global, text: &mut Bytes, version: u8, entry: &Entry) -> Res
     add_caller(alloc, text, entry.caller, version)?;
     add_next(alloc, text, u64::from(entry.seq))?;
     add_event(alloc, text, &entry.event)?;
-    add_word(alloc, text, b"=")?;
+    add(alloc, text, b" =")?;
     add_reply(alloc, text, &entry.reply)?;
     add_end(alloc, text)?;
     Ok(())
@@ -152,9 +152,9 @@ fn add_reply(alloc: Global, text: &mut Bytes, r: &Reply) -> Result<(), NoMemory>
     ensures fit { OnOk result (IsFitReply (plain_reply r.now)) }
 {
     match r {
-        Reply::Done => add_named(alloc, text, b"ok", &[]),
+        Reply::Done => add(alloc, text, b" ok"),
         Reply::Num(n) => {
-            add_word(alloc, text, b"num")?;
+            add(alloc, text, b" num")?;
             add_next(alloc, text, u64::from(*n))
         }
         Reply::State { front, mask } => {
@@ -162,7 +162,7 @@ fn add_reply(alloc: Global, text: &mut Bytes, r: &Reply) -> Result<(), NoMemory>
             add_next(alloc, text, *mask)
         }
         Reply::Text(b) => {
-            add_word(alloc, text, b"bytes")?;
+            add(alloc, text, b" bytes")?;
             add_bytes(alloc, text, b.as_slice())
         }
         Reply::Mode(m) => {
@@ -172,11 +172,14 @@ fn add_reply(alloc: Global, text: &mut Bytes, r: &Reply) -> Result<(), NoMemory>
         Reply::Act { kind, value } => {
             add_named(alloc, text, b"act", &[u16::from(*kind), *value])
         }
-        Reply::Wait => add_named(alloc, text, b"wait", &[]),
+        Reply::Wait => add(alloc, text, b" wait"),
         Reply::Sigs(signals) => {
-            add_word(alloc, text, b"sigs")?;
+            add(alloc, text, b" sigs")?;
             add_next(alloc, text, signals.bits())
         }
-        Reply::Err(errno) => add_named(alloc, text, b"err", &[errno.number()]),
+        Reply::Err(errno) => {
+            add(alloc, text, b" err")?;
+            add_next(alloc, text, u64::from(errno.number()))
+        }
     }
 }

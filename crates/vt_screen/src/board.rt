@@ -58,6 +58,15 @@ impl Board {
         self.grid.size()
     }
 
+    /// Does nothing: it is called for its clause.
+    pub fn stays_full(&self)
+        ensures rows { self.now.rows ≤ 255 }
+        ensures cols { self.now.cols ≤ 255 }
+        ensures full { IsFull self.now }
+    {
+        self.grid.stays_full();
+    }
+
     /// Makes every cell this one.
     #[tactic(auto, using(crate::proofs::Narrow::filled_narrow))]
     pub fn fill(&mut self, c: Cell)
@@ -103,7 +112,7 @@ impl Board {
         requires columns { x + length bytes.now ≤ self.old.cols }
         ensures { self.new ≡ drawn self.old y x (cells_of_codes bytes.now attr) }
     {
-        let _ = self.size();
+        self.stays_full();
         self.part_ends(y, x, x + bytes.len() as u8);
         self.grid.put_bytes(y, x, bytes, attr);
     }
@@ -116,7 +125,7 @@ impl Board {
         requires columns { x + length codes.now ≤ self.old.cols }
         ensures { self.new ≡ drawn self.old y x (cells_of_codes codes.now attr) }
     {
-        let _ = self.size();
+        self.stays_full();
         self.part_ends(y, x, x + codes.len() as u8);
         self.grid.put_codes(y, x, codes, attr);
     }
@@ -127,7 +136,7 @@ impl Board {
         requires columns { x + length codes.now ≤ self.old.cols }
         ensures { self.new ≡ drawn self.old y x (cells_of_codes codes.now attr) }
     {
-        let _ = self.size();
+        self.stays_full();
         self.part_ends(y, x, x + codes.len() as u8);
         self.grid.put_codes(y, x, codes, attr);
         self.narrow = stays_narrow(self.narrow, codes);

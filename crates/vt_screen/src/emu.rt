@@ -224,10 +224,12 @@ impl Emu {
             ≡ having_said outs.new self.new }
         ensures few { length outs.new ≤ length outs.old + result }
     {
-        match b[0] {
-            0x1B => self.obey_brief(b, outs),
-            b'\n' => self.scroll_front(b),
-            _ => 0,
+        if b[0] == 0x1B {
+            self.obey_brief(b, outs)
+        } else if b[0] <= b'\n' {
+            self.scroll_front(b)
+        } else {
+            0
         }
     }
 

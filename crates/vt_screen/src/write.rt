@@ -11,9 +11,10 @@ impl Emu {
     {
         any_cut();
         let mut outs = Outs::new();
-        let mut at = 0;
-        while at < b.len() {
-            at += self.take_next(&b[at..], &mut outs);
+        let mut rest = b;
+        while !rest.is_empty() {
+            let count = self.take_next(rest, &mut outs);
+            rest = &rest[count..];
         }
     }
 }

@@ -13,6 +13,15 @@ pub record Display : Type 0 where
   pub pending : Option ℕ
   pub consoles : List (Option Console)
 
+abbrev pub display_of : ℕ → ℕ → Bool → Option ℕ → List (Option Console) → Display
+display_of front last locked pending consoles = record {
+  front = front;
+  last = last;
+  locked = locked;
+  pending = pending;
+  consoles = consoles;
+}
+
 -- what a new console has: text, and nobody who handles its switches
 abbrev pub fresh : Console
 fresh = record {

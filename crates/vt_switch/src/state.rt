@@ -32,27 +32,15 @@ pub struct Switch {
 }
 
 impl Model for Switch {
-    ghost use Rattle.vt_switch.specs.Display.{Display};
+    ghost use Rattle.vt_switch.specs.Display.{Display, display_of};
 
     ghost Value = { Display };
 
-    ghost view = { λ s. record {
-      front = s.front;
-      last = s.last;
-      locked = s.locked;
-      pending = s.pending;
-      consoles = s.consoles;
-    } };
+    ghost view = { λ s. display_of s.front s.last s.locked s.pending s.consoles };
 
     ghost use Rattle.vt_switch.specs.Display.{IsSound};
 
-    ghost invariant = { λ s. IsSound (record {
-      front = s.front;
-      last = s.last;
-      locked = s.locked;
-      pending = s.pending;
-      consoles = s.consoles;
-    }) };
+    ghost invariant = { λ s. IsSound (display_of s.front s.last s.locked s.pending s.consoles) };
 }
 
 impl Switch {

@@ -97,6 +97,7 @@ impl Row {
     }
 
     /// Writes the cells of these codes from column `x` on.
+    #[inline(always)]
     pub fn write_run<T: Code>(&mut self, x: u8, codes: &[T], attr: u8)
         requires place { x ≤ length self.old.line.stored }
         requires columns { x + length codes.now ≤ self.old.room }
@@ -260,6 +261,7 @@ fn write_codes<T: Code>(cells: &mut [Kept], codes: &[T], attr: u8)
 }
 
 // Writes at most eight cells: without a loop, which costs more to enter than these cost.
+#[inline(always)]
 #[tactic(auto, using(crate::proofs::Parts::written_all))]
 fn write_short<T: Code>(cells: &mut [Kept], codes: &[T], attr: u8)
     requires same { length codes.now ≡ length cells.old }

@@ -60,6 +60,15 @@ impl RowStore {
         self.size
     }
 
+    /// Does nothing: it is called for its clause.
+    pub fn stays_fit(&self)
+        ensures rows { self.now.rows ≤ 255 }
+        ensures cols { self.now.cols ≤ 255 }
+        ensures fit { IsFit self.now }
+    {
+        let _ = self.size();
+    }
+
     /// The cell in row `y` and column `x`.
     pub fn at(&self, y: u8, x: u8) -> Cell
         requires row { y < self.now.rows }
@@ -116,7 +125,7 @@ impl RowStore {
             ≡ record self.old { lines = cleared from count (blank_line c) self.old.lines } }
         ensures steps { steps.new ≡ steps.old + count }
     {
-        let _ = self.size();
+        self.stays_fit();
         if count == 1 {
             self.cut(from, 0, c, steps);
             return;
@@ -149,6 +158,7 @@ impl RowStore {
 
     // Puts the cells of these codes into row `y` from column `x` on. As many steps as cells that
     // are put or come to be stored.
+    #[inline(always)]
     pub(crate) fn put_run<T: Code, L: Ledger>(
         &mut self,
         y: u8,

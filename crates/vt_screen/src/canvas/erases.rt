@@ -91,7 +91,7 @@ impl Canvas {
         if self.is_in_region() {
             self.grid
                 .scroll_down(self.state.y, self.state.bottom, n, blank);
-            let _ = self.grid.size();
+            self.grid.stays_full();
         }
         self.unwrap();
     }
@@ -105,7 +105,7 @@ impl Canvas {
         if self.is_in_region() {
             self.grid
                 .scroll_up(self.state.y, self.state.bottom, n, blank);
-            let _ = self.grid.size();
+            self.grid.stays_full();
         }
         self.unwrap();
     }
@@ -133,7 +133,7 @@ impl Canvas {
     fn erase_line_start(&mut self)
         ensures { self.new ≡ line_start_erased self.old }
     {
-        let _whole = self.grid.size();
+        self.grid.stays_full();
         self.erase_cells(0, self.state.x);
     }
 
@@ -155,7 +155,7 @@ impl Canvas {
     fn erase_above(&mut self)
         ensures { self.new ≡ above_erased self.old }
     {
-        let _whole = self.grid.size();
+        self.grid.stays_full();
         self.erase_rows(0, self.state.y);
     }
 
@@ -172,11 +172,11 @@ impl Canvas {
         requires column { to < self.old.grid.cols }
         ensures { self.new ≡ line_erased from to self.old }
     {
-        let _whole = self.grid.size();
+        self.grid.stays_full();
         let blank = self.blank();
         self.part(from, to + 1);
         self.grid.erase(self.state.y, from, to, blank);
-        let _ = self.grid.size();
+        self.grid.stays_full();
     }
 
     /// Puts `n` blanks in at the cursor.
@@ -188,7 +188,7 @@ impl Canvas {
         let count = n.min(u16::from(cols - self.state.x)) as u8;
         self.part(self.state.x, cols - count);
         self.grid.insert(self.state.y, self.state.x, n, blank);
-        let _ = self.grid.size();
+        self.grid.stays_full();
     }
 
     // Takes `n` cells out at the cursor.
@@ -198,7 +198,7 @@ impl Canvas {
         let blank = self.blank();
         self.part_ends(n);
         self.grid.delete(self.state.y, self.state.x, n, blank);
-        let _ = self.grid.size();
+        self.grid.stays_full();
     }
 
     // Parts the cursor's row before the cursor, and then `n` columns on, where the row goes so far.
@@ -212,7 +212,7 @@ impl Canvas {
         let end = u32::from(self.state.x) + u32::from(n);
         if end < u32::from(self.grid.size().cols) {
             self.grid.part(self.state.y, end as u8);
-            let _ = self.grid.size();
+            self.grid.stays_full();
         }
     }
 
@@ -225,7 +225,7 @@ impl Canvas {
     {
         self.grid.part(self.state.y, x);
         self.grid.part(self.state.y, end);
-        let _ = self.grid.size();
+        self.grid.stays_full();
     }
 
     // Erases `count` rows from `from` on.
@@ -234,12 +234,12 @@ impl Canvas {
         requires { from + count ≤ self.old.grid.rows }
         ensures { self.new ≡ rows_erased from count self.old }
     {
-        let _whole = self.grid.size();
+        self.grid.stays_full();
         if count > 0 {
             let blank = self.blank();
             let last = from + (count - 1);
             self.grid.scroll_up(from, last, u16::from(count), blank);
-            let _ = self.grid.size();
+            self.grid.stays_full();
         }
     }
 }

@@ -63,7 +63,7 @@ impl Canvas {
         ensures column { result ≡ (if self.now.state.newline then 0 else self.now.state.x) }
         ensures within { result < self.now.grid.cols }
     {
-        let _cols = self.grid.size().cols;
+        self.grid.stays_full();
         if self.state.newline { 0 } else { self.state.x }
     }
 
@@ -147,7 +147,7 @@ impl Canvas {
         ensures row { result ≡ first_row self.now }
         ensures within { result < self.now.grid.rows }
     {
-        let _whole = self.grid.size();
+        self.grid.stays_full();
         if self.state.origin { self.state.top } else { 0 }
     }
 
@@ -174,7 +174,7 @@ impl Canvas {
         self.state.wrap = false;
         self.grid
             .scroll_up(self.state.top, self.state.bottom, 1, blank);
-        let _ = self.grid.size();
+        self.grid.stays_full();
     }
 
     fn scroll_region_down(&mut self)
@@ -184,7 +184,7 @@ impl Canvas {
         self.state.wrap = false;
         self.grid
             .scroll_down(self.state.top, self.state.bottom, 1, blank);
-        let _ = self.grid.size();
+        self.grid.stays_full();
     }
 }
 

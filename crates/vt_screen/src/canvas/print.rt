@@ -205,7 +205,7 @@ impl Canvas {
         let cols = self.grid.size().cols;
         self.grid
             .draw_codes(self.state.y, self.state.x, codes, self.attr);
-        let _ = self.grid.size();
+        self.grid.stays_full();
         go_on(&mut self.state, codes.len(), cols);
     }
 
@@ -219,7 +219,7 @@ impl Canvas {
         let cols = self.grid.size().cols;
         self.grid
             .draw_plain(self.state.y, self.state.x, codes, self.attr);
-        let _ = self.grid.size();
+        self.grid.stays_full();
         go_on(&mut self.state, codes.len(), cols);
     }
 
@@ -233,7 +233,7 @@ impl Canvas {
         let cols = self.grid.size().cols;
         self.grid
             .draw_bytes(self.state.y, self.state.x, bytes, self.attr);
-        let _ = self.grid.size();
+        self.grid.stays_full();
         go_on_unwrapped(&mut self.state, bytes.len(), cols);
     }
 

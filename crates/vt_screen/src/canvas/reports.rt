@@ -5,6 +5,7 @@ ghost use Rattle.vt_screen.specs.declared.out.Out.TheVariants.{Report};
 ghost use Rattle.vt_screen.specs.Saying.{console_setting, cursor_text, device_report, lights, status_report, with_default_pair, with_dim_colour, with_underline_colour};
 
 use super::Canvas;
+use crate::report_text::push_decimal;
 use crate::{Out, Outs, ReportText};
 use vt_cells::Look;
 use vt_sgr::Pen;
@@ -81,13 +82,13 @@ impl Canvas {
     fn cursor_report(&self) -> Out
         ensures { result ≡ Report (0x1B ∷ cursor_text self.now) }
     {
-        let _whole = self.grid.size();
+        self.grid.stays_full();
         let mut text = ReportText::new();
         text.push(0x1B);
         text.push(b'[');
-        text.push_decimal(self.reported_row());
+        push_decimal(&mut text, self.reported_row());
         text.push(b';');
-        text.push_decimal(self.state.x + 1);
+        push_decimal(&mut text, self.state.x + 1);
         text.push(b'R');
         Out::Report(text)
     }
@@ -96,7 +97,7 @@ impl Canvas {
     fn reported_row(&self) -> u8
         ensures { result ≡ (if self.now.state.origin then self.now.state.y - self.now.state.top else self.now.state.y) + 1 }
     {
-        let _whole = self.grid.size();
+        self.grid.stays_full();
         if self.state.origin {
             self.state.y.saturating_sub(self.state.top) + 1
         } else {
@@ -179,6 +180,6 @@ fn report(text: &[u8]) -> Out
 {
     let mut report = ReportText::new();
     report.push(0x1B);
-    report.push_all(text);
+    report.extend(text);
     Out::Report(report)
 }

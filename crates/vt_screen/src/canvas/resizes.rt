@@ -12,7 +12,7 @@ impl Canvas {
         ensures old { result ≡ self.old.grid }
     {
         let size = fresh.size();
-        let _whole = self.grid.size();
+        self.grid.stays_full();
         let blank = self.blank();
         let skip = (self.state.y + 1).saturating_sub(size.rows);
         self.state.y -= skip;
@@ -21,7 +21,7 @@ impl Canvas {
         self.state.top = 0;
         self.state.bottom = size.rows - 1;
         let old = self.grid.resize(fresh, skip, blank);
-        let _ = self.grid.size();
+        self.grid.stays_full();
         old
     }
 }

@@ -67,6 +67,6 @@ impl Canvas {
             attr: self.erase,
         };
         self.grid.fill(cell);
-        let _ = self.grid.size();
+        self.grid.stays_full();
     }
 }

@@ -64,7 +64,7 @@ impl Canvas {
     pub(super) fn set_stop(&mut self)
         ensures { self.new ≡ set_stop self.old }
     {
-        let _whole = self.grid.size();
+        self.grid.stays_full();
         self.state.stops.set(self.state.x, true);
     }
 
@@ -73,7 +73,7 @@ impl Canvas {
     pub(super) fn clear_stops(&mut self, which: u16)
         ensures { self.new ≡ clear_stops which self.old }
     {
-        let _whole = self.grid.size();
+        self.grid.stays_full();
         match which {
             0 => self.state.stops.set(self.state.x, false),
             3 => self.state.stops.clear(),

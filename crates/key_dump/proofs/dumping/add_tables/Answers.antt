@@ -6,9 +6,9 @@ use Rattle.key_dump.proofs.dumping.add_tables.Goals as goal
 pub loop-t-preserved : goal.loop-t-preserved
 loop-t-preserved c =
     rows_more row_text table_rows c.args.tables.now.maps c.loop-t.t None c.args.text.now.bytes c.loop-t.text.bytes c.add_table.new.text.bytes
-    (let tall = c.are_whole.ensures.tall in omega (arith, tall, c.loop-t-test.true)) c.in_ok-add_table.ensures c.loop-t.invariant
+    (let tall = c.stays_whole.ensures.tall in omega (arith, tall, c.loop-t-test.true)) c.in_ok-add_table.ensures c.loop-t.invariant
 
 pub returns : goal.returns
 returns c =
     rows_all row_text table_rows c.args.tables.now.maps c.loop-t.t c.args.text.now.bytes c.loop-t.text.bytes
-    (let tall = c.are_whole.ensures.tall in omega (arith, tall, c.loop-t-test.false)) c.loop-t.invariant
+    (let tall = c.stays_whole.ensures.tall in omega (arith, tall, c.loop-t-test.false)) c.loop-t.invariant

@@ -10,4 +10,4 @@ returns-clause-text c =
 pub returns-clause-back : goal.returns-clause-back
 returns-clause-back c =
     subst (λ (bytes : List ℕ). ReadsAs bytes c.args.tables.now) (sym (returns-clause-text c))
-    (c.dump_reads_back.ensures c.args.tables.now c.are_whole.ensures c.requires)
+    (c.dump_reads_back.ensures c.args.tables.now c.stays_whole.ensures c.requires)

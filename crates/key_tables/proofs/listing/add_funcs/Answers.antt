@@ -6,4 +6,4 @@ use Rattle.key_tables.proofs.listing.add_funcs.Goals as goal
 pub loop-i-preserved : goal.loop-i-preserved
 loop-i-preserved c =
     texts_more func_text c.args.funcs.now c.loop-i.i c.index-funcs-i.result _ _ _ c.loop-i-test.true c.index-funcs-i.is
-    (c.in_ok-add_func.ensures ∙ ap (λ (f : List ℕ). c.loop-i.text.bytes ++ func_text c.loop-i.i f) c.as_slice.ensures.value) c.loop-i.invariant
+    (c.in_ok-add_func.ensures ∙ ap (λ (f : List ℕ). c.loop-i.text.bytes ++ func_text c.loop-i.i f) c.as_slice.ensures.list) c.loop-i.invariant

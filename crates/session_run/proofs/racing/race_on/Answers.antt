@@ -1,18 +1,14 @@
-use Rattle.std.proofs.Common.{◌≡◌, ℕ, ◌≤◌, arith, List, length, sym, ap, ◌∙◌, subst}
-use Rattle.std.specs.List.Sorted.{IsStrictlyIncreasing}
-use Rattle.atomic_table.specs.Seated.{TableId}
+use Rattle.std.proofs.Common.{◌≡◌, ℕ, ◌≤◌, arith, length, sym, ap, ◌∙◌, subst}
 use Rattle.session_order.specs.Sessions.{start_of}
-use Rattle.session_run.proofs.HavePrograms.{callers-rise, hooked}
+use Rattle.session_run.proofs.HavePrograms.{hooked}
 use Rattle.session_run.proofs.Joins.{split-start}
-use Rattle.session_run.proofs.Races.{AllHome, all-home, race-raced}
+use Rattle.session_run.proofs.Races.{all-home, race-raced}
 use Rattle.session_run.proofs.Sessions.{has-low, is-start}
 use Rattle.session_run.specs.Callers.{callers_in}
-use Rattle.session_run.specs.Racing.{AreHome}
 use Rattle.session_run.specs.Runs.{HasHooks}
-use Rattle.session_text.specs.declared.program.Program.{Program}
 use Rattle.vt_base.specs.ConsoleSet.{IsFitSet}
 use Rattle.vt_world.specs.State.{is_waiting}
-use Rattle.vt_hub.specs.Views.{StewardView, opened}
+use Rattle.vt_hub.specs.Views.{opened}
 use Rattle.vt_procs.specs.declared.config.Config.{Config}
 use Rattle.vt_world.specs.Laws.{IsStart}
 use Rattle.session_run.proofs.racing.race_on.Goals as goal
@@ -23,30 +19,20 @@ open-requires-clause-free g c = λ p.
     is-start c.args.s.now (subst (λ (config : Config). IsFitSet config.consoles config.front) c.config-config.ensures.same c.config-config.ensures.fit) in
     ap (λ w. is_waiting w p) c.requires.world ∙ c.nobody_waits_at_start.ensures (start_of c.args.s.now) start p
 
-pub split_all-requires-clause-rising : goal.split_all-requires-clause-rising
-split_all-requires-clause-rising g c =
-    subst IsStrictlyIncreasing (sym (c.as_slice-callers.ensures.value ∙ c.in_ok-found.ensures)) (callers-rise c.programs-programs.result.now)
-
-pub split_all-requires-clause-fresh : goal.split_all-requires-clause-fresh
-split_all-requires-clause-fresh g c =
-    split-start (start_of c.args.s.now) c.in_ok-hub.hub c.as_slice-callers.result.now c.in_ok-hub.steward
+pub race_in-requires-clause-fresh : goal.race_in-requires-clause-fresh
+race_in-requires-clause-fresh g c κs within =
+    split-start (start_of c.args.s.now) c.in_ok-hub.hub (callers_in c.programs-programs.result.now) c.in_ok-hub.steward
     (c.in_ok-hub.ensures ∙ ap (λ w. opened w c.in_ok-hub.hub) c.requires.start)
 
 -- the hooks are those of the session's processes
-pub work_all-requires-clause-hooks : goal.work_all-requires-clause-hooks
-work_all-requires-clause-hooks g c κs within =
+pub race_in-requires-clause-hooks : goal.race_in-requires-clause-hooks
+race_in-requires-clause-hooks g c κs within =
     hooked (length c.args.s.now.config.procs) c.args.s.now.config.keyboards c.programs-programs.result.now c.args.hooks.now
     c.programs-programs.ensures.are (subst (λ ps. HasHooks ps c.args.hooks.now) (sym c.programs-programs.ensures.same) c.requires.hooks)
 
--- all passes are at home
-home : (programs : List Program) (here : TableId) (callers : List ℕ) (s : StewardView)
-    → callers ≡ callers_in programs → AreHome programs here (length callers) s → AllHome programs here s
-home programs here callers s same is = subst (λ cs. AreHome programs here (length cs) s) same is
-
 pub close-requires-clause-all : goal.close-requires-clause-all
 close-requires-clause-all g c =
-    all-home c.programs-programs.result.now c.in_ok-hub.hub c.join_all.new.steward
-    (home c.programs-programs.result.now c.in_ok-hub.hub c.as_slice-callers.result.now c.join_all.new.steward (c.as_slice-callers.ensures.value ∙ c.in_ok-found.ensures) c.in_ok-join_all.ensures)
+    all-home c.programs-programs.result.now c.in_ok-hub.hub c.race_in.new.steward c.in_ok-race_in.ensures
 
 pub returns : goal.returns
 returns g c =
@@ -56,7 +42,7 @@ returns g c =
     let few : n ≤ 64 = omega (arith, starts, c.as_slice-starts.ensures.bound) in
     let four : c.args.s.now.config.keyboards ≤ 4 =
     subst (λ (config : Config). config.keyboards ≤ 4) c.config-config.ensures.same c.config-config.ensures.keyboards.four in
-    race-raced c.race_laws.ensures.right c.args.s.now _ _ c.programs-programs.result.now c.in_ok-hub.hub c.join_all.new.steward c.close.result
+    race-raced c.race_laws.ensures.right c.args.s.now _ _ c.programs-programs.result.now c.in_ok-hub.hub c.race_in.new.steward c.close.result
     c.requires.start c.requires.limits c.programs-programs.ensures.same c.close.ensures
-    (home c.programs-programs.result.now c.in_ok-hub.hub c.as_slice-callers.result.now c.join_all.new.steward (c.as_slice-callers.ensures.value ∙ c.in_ok-found.ensures) c.in_ok-join_all.ensures)
+    c.in_ok-race_in.ensures
     (has-low c.callers_have_programs.ensures n c.args.s.now.config.keyboards c.programs-programs.result.now few four c.programs-programs.ensures.are)

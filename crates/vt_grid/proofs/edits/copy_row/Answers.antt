@@ -10,12 +10,12 @@ returns-then-cols-size g c =
     let old = c.args.old.now in
     let whole : store.cols ≡ c.args.cols = omega arith in
     ap sheet_shown c.copy_row.ensures.rows
-    ∙ shown-copy_row store old c.args.y c.args.from c.requires.row c.requires.from c.size-2.ensures.fit
-    c.size.ensures.fit (omega arith)
+    ∙ shown-copy_row store old c.args.y c.args.from c.requires.row c.requires.from c.size.ensures.fit
+    c.stays_fit.ensures.fit (omega arith)
     ∙ ap (λ n. with_run (sheet_shown store) c.args.y 0 (take n (row_at (sheet_shown old) c.args.from))) whole
 
 pub returns : goal.returns
 returns g c =
     ap sheet_shown c.cover_row.ensures.rows
     ∙ shown-cover_row c.args.store.now c.args.old.now c.args.y c.args.from c.args.cols c.requires.row
-    c.requires.from c.size-2.ensures.fit c.size.ensures.fit c.requires.columns c.requires.old_columns
+    c.requires.from c.size.ensures.fit c.stays_fit.ensures.fit c.requires.columns c.requires.old_columns

@@ -11,5 +11,5 @@ returns g c =
     map (λ t. record { code = g.T.Code.code_of t; attr = c.args.attr }) c.args.codes.now in
     let len : length cells ≡ length c.args.codes.now = length-map c.args.codes.now _ in
     ap sheet_shown c.put_run.ensures.rows
-    ∙ shown-put_run c.args.store.now c.args.y c.args.x cells c.requires.row c.size.ensures.fit
+    ∙ shown-put_run c.args.store.now c.args.y c.args.x cells c.requires.row c.stays_fit.ensures.fit
     (omega arith)

@@ -17,4 +17,4 @@ returns g c =
     (c.move_up.ensures.rows
     ∙ ap (λ n. record store { lines = part_turned c.args.top c.args.bottom n store.lines }) up))
     ∙ shown-scrolled_down store c.args.top c.args.bottom c.args.n count c.args.c c.requires.order
-    c.requires.row c.size.ensures.fit count_is
+    c.requires.row c.stays_fit.ensures.fit count_is

@@ -1,8 +1,8 @@
-use Rattle.vt_journal.proofs.Lines.{digit_next}
+use Rattle.std.proofs.Common.{◌≡◌, ◌∷◌, ◌++◌, OnOk, subst, sym}
+use Rattle.std.proofs.lemmas.Fmt.{decimal_digit}
 use Rattle.vt_journal.proofs.adding.add_next.Goals as goal
 
 pub returns-then-n-lt10-clause-ok : goal.returns-then-n-lt10-clause-ok
 returns-then-n-lt10-clause-ok c =
-    digit_next c.args.n c.args.text.now.bytes c.grow.new.self.bytes c.push.new.self.bytes
-    c.push-then-n-lt10.new.self.bytes c.if-n-lt10.true c.grow.ensures.bytes c.push.ensures.bytes
-    c.push-then-n-lt10.ensures.bytes
+    subst (λ digits. OnOk c.add.result (c.add.new.text.bytes ≡ c.args.text.now.bytes ++ 0x20 ∷ digits))
+    (sym (decimal_digit c.args.n c.if-n-lt10.true)) c.add.ensures.ok

@@ -10,9 +10,9 @@ returns-clause-ok c =
     let entry = c.args.entry.now in
     entry_line (caller_word c.args.version entry.caller) (decimal entry.seq) _ (event_words entry.event)
     (reply_words entry.reply) c.args.text.now.bytes c.add_caller.new.text.bytes
-    c.add_next.new.text.bytes c.add_event.new.text.bytes c.add_word.new.text.bytes
+    c.add_next.new.text.bytes c.add_event.new.text.bytes c.add.new.text.bytes
     c.add_reply.new.text.bytes c.add_end.new.text.bytes (grind arith) (grind arith)
-    c.in_ok-add_event.ensures.ok c.in_ok-add_word.ensures.ok c.in_ok-add_reply.ensures.ok
+    c.in_ok-add_event.ensures.ok c.in_ok-add.ensures.ok c.in_ok-add_reply.ensures.ok
     c.in_ok-add_end.ensures.ok
 
 pub returns-in_err-add_reply-clause-kept : goal.returns-in_err-add_reply-clause-kept
@@ -20,5 +20,5 @@ returns-in_err-add_reply-clause-kept c =
     let caller = begins_more _ _ _ c.in_ok-add_caller.ensures.ok in
     let seq = begins_after _ _ _ caller (begins_more _ _ _ c.in_ok-add_next.ensures.ok) in
     let call = begins_after _ _ _ seq c.add_event.ensures.kept in
-    let sign = begins_after _ _ _ call (begins_more _ _ _ c.in_ok-add_word.ensures.ok) in
+    let sign = begins_after _ _ _ call (begins_more _ _ _ c.in_ok-add.ensures.ok) in
     begins_after _ _ _ sign c.add_reply.ensures.kept

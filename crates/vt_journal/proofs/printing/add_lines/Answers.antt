@@ -1,4 +1,4 @@
-use Rattle.std.proofs.Common.{[], ◌∷◌, codes, ap, map, subst}
+use Rattle.std.proofs.Common.{ap, map, subst}
 use Rattle.std.specs.List.{All}
 use Rattle.std.proofs.lemmas.List.{take_all}
 use Rattle.vt_events.specs.Plain.{plain_entry}

@@ -1,4 +1,4 @@
-use Rattle.std.proofs.Common.{◌≡◌, ◌∷◌, [], ◌++◌, codes, take, map}
+use Rattle.std.proofs.Common.{◌≡◌, ◌∷◌, ◌++◌, take, map}
 use Rattle.std.specs.List.{All, flat_map}
 use Rattle.vt_events.specs.Plain.{plain_entry}
 use Rattle.vt_journal.specs.Journal.{entry_words, first_words, line_text}

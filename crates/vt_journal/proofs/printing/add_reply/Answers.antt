@@ -5,8 +5,8 @@ use Rattle.vt_journal.specs.Replies.{IsFitReply}
 use Rattle.vt_journal.proofs.ReplyWords.{always, fit_mode, fit_text}
 use Rattle.vt_journal.proofs.printing.add_reply.Goals as goal
 
-pub returns-in_ok-add_word-in-Text-clause-fit : goal.returns-in_ok-add_word-in-Text-clause-fit
-returns-in_ok-add_word-in-Text-clause-fit c =
+pub returns-in_ok-add-in-Text-clause-fit : goal.returns-in_ok-add-in-Text-clause-fit
+returns-in_ok-add-in-Text-clause-fit c =
     always c.add_bytes.result
     (subst (λ r. IsFitReply (plain_reply r)) (sym c.in-Text.is)
     (fit_text c.in-Text.b

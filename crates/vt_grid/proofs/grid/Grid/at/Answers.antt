@@ -9,5 +9,5 @@ returns c =
     let cols = ap (λ (s : Sheet). s.cols) c.self.view_is in
     subst (λ (s : Sheet). HasCellAt s c.args.y c.args.x c.at.result) c.self.view_is
     (HasCellAt-shown c.self.inside.store c.args.y c.args.x (omega (arith, rows)) (omega (arith, cols))
-    c.size.ensures.fit
+    c.stays_fit.ensures.fit
     ∙ ap Some (sym c.at.ensures))

@@ -12,10 +12,10 @@ loop-y-preserved c =
     let y : ℕ = c.loop-y.y in
     let rows : List (List Cell) = take y new.cells ++ drop y old.cells in
     let row : List Cell = get_or new.cells y [] in
-    let within : y < length new.cells = omega (arith, c.size-other.ensures.full.tall) in
+    let within : y < length new.cells = omega (arith, c.stays_full.ensures.full.tall) in
     let same : length old.cells ≡ length new.cells =
-    omega (arith, c.size-size.ensures.full.tall, c.size-other.ensures.full.tall) in
-    let wide : length row ≡ new.cols = c.size-other.ensures.full.wide y [] within in
+    omega (arith, c.size-size.ensures.full.tall, c.stays_full.ensures.full.tall) in
+    let wide : length row ≡ new.cols = c.stays_full.ensures.full.wide y [] within in
     let wide_old : length (get_or old.cells y []) ≡ old.cols =
     c.size-size.ensures.full.wide y [] (omega (arith, within, same)) in
     let whole : take c.size-size.result.cols row ≡ row =
@@ -37,6 +37,6 @@ returns c =
     let y : ℕ = c.loop-y.y in
     c.loop-y.invariant
     ∙ ap (λ (cells : List (List Cell)). record new { cells = cells })
-    ((λ i. take_all y new.cells (omega (arith, c.size-other.ensures.full.tall)) i
+    ((λ i. take_all y new.cells (omega (arith, c.stays_full.ensures.full.tall)) i
     ++ drop_all y old.cells (omega (arith, c.size-size.ensures.full.tall)) i)
     ∙ append-nil new.cells)

@@ -10,5 +10,5 @@ returns c =
     let cols = ap (λ (s : Sheet). s.cols) c.self.view_is in
     c.put_run.ensures
     ∙ with_run-one (sheet_shown c.self.inside.store) c.args.y c.args.x c.args.c (omega (arith, rows))
-    (omega (arith, cols)) (IsFull-shown c.self.inside.store c.size.ensures.fit)
+    (omega (arith, cols)) (IsFull-shown c.self.inside.store c.stays_fit.ensures.fit)
     ∙ ap (λ (s : Sheet). with_cell s c.args.y c.args.x c.args.c) c.self.view_is

@@ -15,6 +15,6 @@ returns-clause-grid g c =
       lines = cleared (c.args.bottom + 1 - count) count (blank_line c.args.c) s.lines;
     }) c.move_up.ensures.rows)
     ∙ shown-scrolled_up c.self.inside.store c.args.top c.args.bottom c.args.n count c.args.c
-    c.requires.order (omega (arith, ap (λ (s : Sheet). s.rows) c.self.view_is)) c.size.ensures.fit
+    c.requires.order (omega (arith, ap (λ (s : Sheet). s.rows) c.self.view_is)) c.stays_fit.ensures.fit
     count_is
     ∙ ap (λ (s : Sheet). scrolled_up s c.args.top c.args.bottom c.args.n c.args.c) c.self.view_is

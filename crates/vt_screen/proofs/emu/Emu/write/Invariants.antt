@@ -1,12 +1,10 @@
-use Rattle.std.proofs.Common.{◌≡◌, ◌≤◌, ◌-◌, length, take}
+use Rattle.std.proofs.Common.{◌≡◌, length}
 use Rattle.vt_screen.specs.Run.{after}
 use Rattle.vt_screen.proofs.emu.Emu.write.Given as goal
 
-abbrev pub invariant-loop-at : goal.invariant-loop-at
-invariant-loop-at l = record {
-  within : l.at ≤ length l.b;
-  done : l.self ≡ after l.fn.self (take l.at l.b);
-}
+-- the rest is still to be run
+abbrev pub invariant-loop-rest : goal.invariant-loop-rest
+invariant-loop-rest l = after l.self l.rest ≡ after l.fn.self l.b
 
-abbrev pub decreases-loop-at : goal.decreases-loop-at
-decreases-loop-at l = length l.b - l.at
+abbrev pub decreases-loop-rest : goal.decreases-loop-rest
+decreases-loop-rest l = length l.rest

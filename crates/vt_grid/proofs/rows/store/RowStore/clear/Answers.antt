@@ -12,7 +12,7 @@ returns-then-count-eq1-clause-rows g c =
     let one : 1 ≡ c.args.count = omega arith in
     c.cut.ensures.rows
     ∙ ap (λ (all : List Line). record c.args.self.now { lines = all })
-    (cleared_one c.args.from (blank_line c.args.c) lines (omega (arith, c.size.ensures.fit.tall))
+    (cleared_one c.args.from (blank_line c.args.c) lines (omega (arith, c.stays_fit.ensures.fit.tall))
     ∙ ap (λ (n : ℕ). cleared c.args.from n (blank_line c.args.c) lines) one)
 
 pub invariant_of-self : goal.invariant_of-self

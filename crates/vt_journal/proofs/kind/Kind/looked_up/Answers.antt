@@ -5,7 +5,7 @@ use Rattle.vt_journal.specs.Calls.{name_of}
 use Rattle.vt_journal.specs.Kinds.{blank}
 use Rattle.vt_journal.specs.declared.kind.Kind.{Kind}
 use Rattle.vt_journal.specs.declared.rows.Row.{Row}
-use Rattle.vt_journal.proofs.kind.Kind.named.Goals as goal
+use Rattle.vt_journal.proofs.kind.Kind.looked_up.Goals as goal
 
 -- a name that stands in no row is that of no kind, where each kind has a row
 none_named : (rows : List Row) (name : List ℕ) (k : Kind)

@@ -5,7 +5,6 @@ use Rattle.session_order.specs.Serial.{IsSerial, nothing_played, turns}
 use Rattle.session_run.proofs.Ends.{IsEnd, run-serial, run-world}
 use Rattle.session_run.proofs.HavePrograms.{hooked}
 use Rattle.session_run.proofs.Sessions.{from-start}
-use Rattle.session_run.specs.Callers.{AreHooked}
 use Rattle.session_run.specs.Playing.{IsAt}
 use Rattle.session_run.specs.Runs.{HasHooks, played}
 use Rattle.session_order.specs.Sessions.{setup_of}
@@ -14,20 +13,18 @@ use Rattle.session_text.specs.Sessions.{ArePrograms}
 use Rattle.session_text.specs.Turns.{is_there}
 use Rattle.vt_journal.specs.declared.limits.Limits.{Limits}
 use Rattle.vt_procs.specs.declared.config.Config.{Config}
-use Rattle.session_run.proofs.serial.play_by.Goals as goal
+use Rattle.session_run.proofs.serial.play_on.Goals as goal
 
 -- the hooks are those of the session's processes
 pub turns-requires-clause-hooks : goal.turns-requires-clause-hooks
 turns-requires-clause-hooks g c =
-    subst (AreHooked c.programs-programs.result.now) (sym (c.deref.ensures.value ∙ c.in_ok-hooks.ensures))
-    (hooked (length c.args.s.now.config.procs) c.args.s.now.config.keyboards c.programs-programs.result.now c.args.acts.now
-    c.programs-programs.ensures.are (subst (λ ps. HasHooks ps c.args.acts.now) (sym c.programs-programs.ensures.same) c.requires.hooks))
+    hooked (length c.args.s.now.config.procs) c.args.s.now.config.keyboards c.programs-programs.result.now c.args.hooks.now
+    c.programs-programs.ensures.are (subst (λ ps. HasHooks ps c.args.hooks.now) (sym c.programs-programs.ensures.same) c.requires.hooks)
 
 pub rounds-requires-clause-hooks : goal.rounds-requires-clause-hooks
 rounds-requires-clause-hooks g c =
-    subst (AreHooked c.programs-programs.result.now) (sym (c.deref-2.ensures.value ∙ c.in_ok-hooks.ensures))
-    (hooked (length c.args.s.now.config.procs) c.args.s.now.config.keyboards c.programs-programs.result.now c.args.acts.now
-    c.programs-programs.ensures.are (subst (λ ps. HasHooks ps c.args.acts.now) (sym c.programs-programs.ensures.same) c.requires.hooks))
+    hooked (length c.args.s.now.config.procs) c.args.s.now.config.keyboards c.programs-programs.result.now c.args.hooks.now
+    c.programs-programs.ensures.are (subst (λ ps. HasHooks ps c.args.hooks.now) (sym c.programs-programs.ensures.same) c.requires.hooks)
 
 pub turns-requires-clause-known : goal.turns-requires-clause-known
 turns-requires-clause-known g c =

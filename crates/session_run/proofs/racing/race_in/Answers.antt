@@ -1,0 +1,19 @@
+use Rattle.std.proofs.Common.{length, sym, ◌∙◌, subst}
+use Rattle.std.specs.List.Sorted.{IsStrictlyIncreasing}
+use Rattle.session_run.proofs.HavePrograms.{callers-rise}
+use Rattle.session_run.specs.Racing.{AreHome, IsSplit}
+use Rattle.session_run.proofs.racing.race_in.Goals as goal
+
+pub split_all-requires-clause-rising : goal.split_all-requires-clause-rising
+split_all-requires-clause-rising g c =
+    subst IsStrictlyIncreasing (sym (c.as_slice-callers.ensures.value ∙ c.in_ok-found.ensures)) (callers-rise c.args.programs.now)
+
+pub split_all-requires-clause-fresh : goal.split_all-requires-clause-fresh
+split_all-requires-clause-fresh g c =
+    subst (λ callers. IsSplit c.args.hub.now callers 0 c.args.steward.now) (sym (c.as_slice-callers.ensures.value ∙ c.in_ok-found.ensures))
+    c.requires.fresh
+
+pub returns : goal.returns
+returns g c =
+    subst (λ callers. AreHome c.args.programs.now c.args.hub.now (length callers) c.join_all.new.steward)
+    (c.as_slice-callers.ensures.value ∙ c.in_ok-found.ensures) c.in_ok-join_all.ensures

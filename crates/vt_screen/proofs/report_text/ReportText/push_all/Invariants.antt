@@ -1,5 +1,0 @@
-use Rattle.std.proofs.Common.{◌≡◌, ◌++◌, take}
-use Rattle.vt_screen.proofs.report_text.ReportText.push_all.Given as goal
-
-abbrev pub invariant-loop-b : goal.invariant-loop-b
-invariant-loop-b l = l.self ≡ l.fn.self ++ take l.b-index l.bytes
