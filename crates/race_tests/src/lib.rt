@@ -1,5 +1,4 @@
-//! Tests of what runs in several threads: the shared console, cooked lines above it, and the race of a session; and of cooked
-//! lines alone.
+//! Tests of what a race of a session asks of its hooks, and of the text that several threads print.
 #![tactic(auto)]
 
 #[cfg(test)]

@@ -2,17 +2,16 @@
 ghost use Rattle.std.specs.Prelude.{◌≡◌, ℕ, ◌<◌, [], length, slice_index_or, vec_len};
 ghost use Rattle.session_run.specs.Runs.{HasHooks};
 
-use super::SESSION;
 use session_run::{Run, race};
 use session_text::{Program, Session, read};
 use sig_hooks::{Handler, Hook, HookTable};
 use std::alloc::Global;
-use std::process::Abort;
 use std::sync::atomic::AtomicU64;
 use std::sync::atomic::Ordering::SeqCst;
 use std::sync::{Arc, Wait};
 use std::test::Fail;
 use std::thread::Threads;
+use test_sessions::HANDOVER;
 use vt_base::{NoMemory, Signal};
 use vt_events::{Entry, Reply};
 use vt_io::OpenGate;
@@ -89,12 +88,30 @@ fn signals_in(entries: &[Entry]) -> u64 {
     count
 }
 
+fn is_counted(asked: &Count, run: &Run) -> bool {
+    asked.load(SeqCst) == signals_in(run.log.entries())
+}
+
+// Whether the journal had room, and as many signals were asked about as were given.
+fn counts_to<R: Threads + Wait + Sync>(
+    rt: &R,
+    alloc: Global,
+    s: &Session,
+    asked: &Count,
+) -> Result<bool, Fail> {
+    let run = race_counted(rt, alloc, s, asked)?;
+    Ok(run.stop.is_none() && is_counted(asked, &run))
+}
+
+fn counts<R: Threads + Wait + Sync>(rt: &R, alloc: Global, s: &Session) -> Result<bool, Fail> {
+    let asked = Arc::new(alloc, AtomicU64::new(0))?;
+    counts_to(rt, alloc, s, &asked)
+}
+
 #[test]
 fn a_hook_is_asked_once_for_each_signal(rt: HostRuntime) -> Result<(), Fail> {
-    let session = read(rt.alloc(), SESSION.as_bytes())?;
-    let asked = Arc::new(rt.alloc(), AtomicU64::new(0))?;
-    let run = race_counted(&rt, rt.alloc(), &session, &asked)?;
-    assert!(rt; run.stop.is_none(), "the journal had room");
-    assert_eq!(rt; asked.load(SeqCst), signals_in(run.log.entries()));
+    let session = read(rt.alloc(), HANDOVER.as_bytes())?;
+    let counted = counts(&rt, rt.alloc(), &session)?;
+    assert!(rt; counted, "each signal once, with room in the journal");
     Ok(())
 }

@@ -1,11 +1,11 @@
 //! A session that was raced: its journal is one of many, and has a certificate all the same.
-use super::ORDINARY;
 use session_run::race_tables;
 use session_text::{Session, read};
 use std::alloc::Global;
 use std::sync::Wait;
 use std::test::Fail;
 use std::thread::Threads;
+use test_sessions::ORDINARY;
 use vt_base::Bytes;
 use vt_events::Entry;
 use vt_explain::{Explained, HopWhy, Judged, accept, explain, print_cert, read_cert};

@@ -1,10 +1,10 @@
 //! How races end: by their status, the end of the journal and the line on err (docs/PROGRAM.md).
 use super::printed::{Printed, in_order, race_text};
-use super::{ORDINARY, SESSION};
 use std::alloc::Global;
 use std::sync::Wait;
 use std::test::Fail;
 use std::thread::Threads;
+use test_sessions::{HANDOVER, ORDINARY};
 use vt_base::NoMemory;
 use vt_io::OpenGate;
 
@@ -30,7 +30,7 @@ fn ends<R: Threads + Wait + Sync>(
 
 // The same of a session whose journal holds three calls.
 fn ends_full<R: Threads + Wait + Sync>(rt: &R, alloc: Global) -> Result<bool, NoMemory> {
-    let text = format!(in alloc; "events = 3\n{SESSION}")?;
+    let text = format!(in alloc; "events = 3\n{HANDOVER}")?;
     let said = "vt: journal full 3 192 64\n";
     ends(rt, alloc, text.as_str(), 7, "\n%full 3 192 64\n", said)
 }

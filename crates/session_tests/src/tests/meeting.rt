@@ -1,12 +1,12 @@
 //! A gate that no thread can pass twice without another: the workers of a race meet at it. A race that is
 //! played on one thread fails here, and so does one whose threads ask the gate and then play serially.
-use super::SESSION;
 use super::printed::{in_order, race_text};
 use std::sync::Wait;
 use std::sync::atomic::AtomicBool;
 use std::sync::atomic::Ordering::SeqCst;
 use std::test::Fail;
 use std::thread;
+use test_sessions::HANDOVER;
 use vt_base::CallerNo;
 use vt_io::Gate;
 
@@ -59,7 +59,7 @@ impl Gate for TwoHolds {
 #[test]
 fn meeting(rt: HostRuntime) -> Result<(), Fail> {
     let gate = TwoHolds::new();
-    let printed = race_text(&rt, rt.alloc(), SESSION.as_bytes(), &gate)?;
+    let printed = race_text(&rt, rt.alloc(), HANDOVER.as_bytes(), &gate)?;
     assert!(rt; !gate.failed.load(SeqCst), "each hold ended");
     assert_eq!(rt; printed.status, 0);
     assert!(rt;

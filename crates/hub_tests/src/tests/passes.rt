@@ -1,6 +1,6 @@
 //! The passes of a shared console.
 ghost use Rattle.std.specs.Prelude.{◌≡◌, false, IfOk};
-ghost use Rattle.race_tests.specs.Ready.{IsReady, is_told_to_wait};
+ghost use Rattle.hub_tests.specs.Ready.{IsReady, is_told_to_wait};
 
 use std::test::Fail;
 use vt_base::CallerNo;

@@ -1,6 +1,6 @@
 //! A shared console: one thread types on its keyboard, and a process in another reads a line by turns.
 ghost use Rattle.std.specs.Prelude.{◌≡◌, false, None, IfOk};
-ghost use Rattle.race_tests.specs.Ready.{IsReady};
+ghost use Rattle.hub_tests.specs.Ready.{IsReady};
 ghost use Rattle.session_order.specs.Sessions.{start_of};
 ghost use Rattle.vt_hub.specs.Histories.{awaits};
 ghost use Rattle.vt_world.specs.Refusals.{ends_wait};

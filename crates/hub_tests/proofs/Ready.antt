@@ -5,7 +5,7 @@ use Rattle.atomic_table.specs.Seated.{TableId}
 use Rattle.cooked.specs.Cooked.{Typing}
 use Rattle.cooked.specs.Turn.{Turns}
 use Rattle.cooked.specs.declared.turn.Turn.{Turn}
-use Rattle.race_tests.specs.Ready.{IsReady, is_told_to_wait}
+use Rattle.hub_tests.specs.Ready.{IsReady, is_told_to_wait}
 use Rattle.vt_events.specs.Plain.{plain_reply}
 use Rattle.vt_events.specs.Waits.{is_wait}
 use Rattle.vt_events.specs.declared.entry.Entry.{Entry}

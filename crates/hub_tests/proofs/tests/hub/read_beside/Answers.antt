@@ -4,7 +4,7 @@ use Rattle.vt_base.specs.ConsoleSet.{IsFitSet}
 use Rattle.vt_procs.specs.declared.config.Config.{Config}
 use Rattle.vt_world.specs.Laws.{IsStart}
 use Rattle.vt_world.specs.State.{is_waiting}
-use Rattle.race_tests.proofs.tests.typing.type_beside.Goals as goal
+use Rattle.hub_tests.proofs.tests.hub.read_beside.Goals as goal
 
 pub open-requires-clause-free : goal.open-requires-clause-free
 open-requires-clause-free g c = λ p.

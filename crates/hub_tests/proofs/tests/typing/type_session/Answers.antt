@@ -1,10 +1,10 @@
 use Rattle.std.proofs.Common.{◌∙◌}
 use Rattle.vt_procs.specs.declared.config.Config.{Config}
 use Rattle.vt_world.specs.Start.{opening}
-use Rattle.race_tests.proofs.tests.hub.read_session.Goals as goal
+use Rattle.hub_tests.proofs.tests.typing.type_session.Goals as goal
 
-pub read_beside-requires-clause-world : goal.read_beside-requires-clause-world
-read_beside-requires-clause-world g c κs within =
+pub type_beside-requires-clause-world : goal.type_beside-requires-clause-world
+type_beside-requires-clause-world g c κs within =
     c.in_ok-world.ensures
     ∙ (λ i.
     let config : Config = c.config.ensures.same i in

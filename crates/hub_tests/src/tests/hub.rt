@@ -1,14 +1,13 @@
 //! A hub over the console of two processes: another thread makes their calls in the order of the serial
 //! play, while this one reads the display.
 ghost use Rattle.std.specs.Prelude.{◌≡◌, false, None, IfOk};
-ghost use Rattle.race_tests.specs.Ready.{IsReady};
+ghost use Rattle.hub_tests.specs.Ready.{IsReady};
 ghost use Rattle.session_order.specs.Sessions.{start_of};
 ghost use Rattle.vt_hub.specs.Answers.{Answers};
 ghost use Rattle.vt_hub.specs.Histories.{awaits};
 ghost use Rattle.vt_world.specs.Refusals.{ends_wait};
 
 use super::passes::{split, was_wait};
-use super::{SESSION, journal_of, same_text};
 use session_text::{Session, read};
 use std::alloc::Global;
 use std::marker::Brand;
@@ -17,10 +16,11 @@ use std::sync::Wait;
 use std::test::Fail;
 use std::thread;
 use std::thread::Threads;
-use vt_base::{NoMemory, Size};
+use test_sessions::HANDOVER;
+use vt_base::{Bytes, NoMemory, Size};
 use vt_events::Event;
 use vt_hub::{Answer, Hub, Opening, Pass, Run};
-use vt_journal::read_event;
+use vt_journal::{print, read_event};
 use vt_world::{Spare, World, nobody_waits_at_start, spare_for};
 
 // Whose calls they are, in the order of the serial play, behind the keyboard's.
@@ -250,13 +250,23 @@ fn read_session<R: Threads + Wait + Sync>(
     read_beside::<Brand, R>(rt, alloc, s, world)
 }
 
+fn has_journal(alloc: Global, run: &Run) -> Result<bool, NoMemory> {
+    let mut text = Bytes::new(alloc);
+    print(alloc, run.log.entries(), 2, &run.tail(), &mut text)?;
+    Ok(text.as_slice() == JOURNAL.as_bytes())
+}
+
+fn check(by: &impl Abort, alloc: Global, outcome: &Outcome) -> Result<(), NoMemory> {
+    let same = has_journal(alloc, &outcome.run)?;
+    assert!(by; outcome.made, "each call was entered");
+    assert!(by; outcome.turned, "the display was 1, and then 2");
+    assert!(by; same, "the journal");
+    Ok(())
+}
+
 #[test]
 fn the_display_is_read_while_others_call(rt: HostRuntime) -> Result<(), Fail> {
-    let session = read(rt.alloc(), SESSION.as_bytes())?;
+    let session = read(rt.alloc(), HANDOVER.as_bytes())?;
     let outcome = read_session(&rt, rt.alloc(), &session)?;
-    assert!(rt; outcome.made, "each call was entered");
-    assert!(rt; outcome.turned, "the display was 1, and then 2");
-    let text = journal_of(rt.alloc(), &outcome.run)?;
-    same_text(&rt, text.as_slice(), JOURNAL);
-    Ok(())
+    Ok(check(&rt, rt.alloc(), &outcome)?)
 }

@@ -1,6 +1,6 @@
 use Rattle.std.proofs.Common.{false}
-use Rattle.race_tests.specs.Ready.{IsReady}
-use Rattle.race_tests.proofs.tests.typing.press.Given as goal
+use Rattle.hub_tests.specs.Ready.{IsReady}
+use Rattle.hub_tests.proofs.tests.typing.press.Given as goal
 
 abbrev pub invariant-loop-b : goal.invariant-loop-b
 invariant-loop-b g l = IsReady l.hub false l.pass

@@ -1,0 +1,4 @@
+mod hub;
+mod lines;
+mod passes;
+mod typing;
