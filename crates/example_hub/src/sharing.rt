@@ -7,7 +7,7 @@ ghost use Rattle.vt_world.specs.History.{IsLegal, replay};
 ghost use Rattle.vt_world.specs.State.{is_waiting};
 
 use crate::asker::ask;
-use crate::calling::exit;
+use crate::seat::Seat;
 use crate::server::{serve, take_switches};
 use std::alloc::Global;
 use std::marker::Brand;
@@ -53,22 +53,26 @@ fn share<J: Opening + Send + Sync, R: Threads + Wait + Sync>(
 {
     let size = world.size();
     let (hub, mut steward) = Hub::<J>::open(alloc, world, LIMITS)?;
-    unplug(rt, alloc, &hub, &mut steward);
+    let seat = Seat {
+        rt,
+        alloc,
+        hub: &hub,
+        size,
+    };
+    unplug(&seat, &mut steward);
     let mut server = hub.split(&mut steward, CallerNo::numbered(1));
     let asker = hub.split(&mut steward, CallerNo::numbered(2));
-    take_switches(rt, alloc, &hub, &mut server, size)?;
+    take_switches(&seat, &mut server)?;
     let (server, asker) = thread::join(
         rt,
         || -> Result<Pass<J>, NoMemory>
-            requires { IsReady hub server × (server.number ≡ 1)
-                × (size.rows ≡ J.start.rows) × (size.cols ≡ J.start.cols) }
-            ensures { IfOk result (λ after. (after.hub ≡ hub) × (after.number ≡ 1)) }
-        { serve(rt, alloc, &hub, server, size) },
+            requires { IsReady seat server × (server.number ≡ 1) }
+            ensures { IfOk result (λ after. (after.hub ≡ seat.entry) × (after.number ≡ 1)) }
+        { serve(&seat, server) },
         || -> Result<Pass<J>, NoMemory>
-            requires { IsReady hub asker × (asker.number ≡ 2)
-                × (size.rows ≡ J.start.rows) × (size.cols ≡ J.start.cols) }
-            ensures { IfOk result (λ after. (after.hub ≡ hub) × (after.number ≡ 2)) }
-        { ask(rt, alloc, &hub, asker, size, text) },
+            requires { IsReady seat asker × (asker.number ≡ 2) }
+            ensures { IfOk result (λ after. (after.hub ≡ seat.entry) × (after.number ≡ 2)) }
+        { ask(&seat, asker, text) },
     );
     hub.join(&mut steward, server?);
     hub.join(&mut steward, asker?);
@@ -76,13 +80,13 @@ fn share<J: Opening + Send + Sync, R: Threads + Wait + Sync>(
 }
 
 // Nobody types, so the keyboard leaves first: a wait of the only process that is left then ends by itself.
-fn unplug<J: Opening, R: Wait>(rt: &R, alloc: Global, hub: &Hub<J>, steward: &mut Steward<J>)
-    requires own { steward.old.hub ≡ hub.now }
+fn unplug<J: Opening, R: Wait>(seat: &Seat<J, R>, steward: &mut Steward<J>)
+    requires own { steward.old.hub ≡ seat.now }
     requires fresh { stand_at steward.old.stands 0 ≡ Unmade }
-    ensures hub { steward.new.hub ≡ hub.now }
+    ensures hub { steward.new.hub ≡ seat.now }
     ensures stands { steward.new.stands ≡ slice_set steward.old.stands 0 Home }
 {
-    let mut pass = hub.split(steward, CallerNo::KEYBOARD);
-    exit(rt, alloc, hub, &mut pass);
-    hub.join(steward, pass);
+    let mut pass = seat.hub.split(steward, CallerNo::KEYBOARD);
+    seat.exit(&mut pass);
+    seat.hub.join(steward, pass);
 }

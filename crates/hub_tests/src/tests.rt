@@ -1,4 +1,5 @@
 mod hub;
 mod lines;
 mod passes;
+mod seat;
 mod typing;

@@ -1,13 +1,12 @@
 //! A hub over the console of two processes: another thread makes their calls in the order of the serial
 //! play, while this one reads the display.
-ghost use Rattle.std.specs.Prelude.{◌≡◌, false, None, IfOk};
+ghost use Rattle.std.specs.Prelude.{◌≡◌, false, IfOk};
 ghost use Rattle.hub_tests.specs.Ready.{IsReady};
 ghost use Rattle.session_order.specs.Sessions.{start_of};
-ghost use Rattle.vt_hub.specs.Answers.{Answers};
-ghost use Rattle.vt_hub.specs.Histories.{awaits};
 ghost use Rattle.vt_world.specs.Refusals.{ends_wait};
 
 use super::passes::{split, was_wait};
+use super::seat::Seat;
 use session_text::{Session, read};
 use std::alloc::Global;
 use std::marker::Brand;
@@ -17,11 +16,11 @@ use std::test::Fail;
 use std::thread;
 use std::thread::Threads;
 use test_sessions::HANDOVER;
-use vt_base::{Bytes, NoMemory, Size};
+use vt_base::{Bytes, NoMemory};
 use vt_events::Event;
 use vt_hub::{Answer, Hub, Opening, Pass, Run};
 use vt_journal::{print, read_event};
-use vt_world::{Spare, World, nobody_waits_at_start, spare_for};
+use vt_world::{Spare, World, nobody_waits_at_start};
 
 // Whose calls they are, in the order of the serial play, behind the keyboard's.
 const CALLS: &[(u16, &str)] = &[
@@ -66,49 +65,24 @@ fn ends(event: &Event) -> bool
     matches!(event, Event::WaitEnd)
 }
 
-// Makes this call.
-fn ask<J: Opening, R: Wait>(
-    rt: &R,
-    alloc: Global,
-    hub: &Hub<J>,
-    pass: &mut Pass<J>,
-    size: Size,
-    event: Event,
-) -> Result<Answer, NoMemory>
-    requires own { pass.old.hub ≡ hub.now }
-    requires free { ends_wait event ≡ false → pass.old.stop ≡ None → awaits pass.old.mine ≡ false }
-    requires size { (size.rows ≡ J.start.rows) × (size.cols ≡ J.start.cols) }
-    ensures { IfOk result (λ answer. Answers J.start J.limits event pass.old pass.new answer) }
-{
-    if matches!(event, Event::WaitEnd) {
-        return Ok(hub.wait_end(rt, pass));
-    }
-    let spare = spare_for(alloc, &event, size)?;
-    Ok(hub.call(rt, pass, event, spare))
-}
-
 // Makes the call that the words spell, and says whether it was entered.
 #[tactic(auto, using(crate::proofs::Ready::ready_after))]
 fn make<J: Opening, R: Wait>(
-    rt: &R,
-    alloc: Global,
-    hub: &Hub<J>,
+    seat: &Seat<J, R>,
     pass: &mut Pass<J>,
     waits: &mut bool,
-    size: Size,
     words: &str,
 ) -> Result<bool, NoMemory>
-    requires ready { IsReady hub.now waits.old pass.old }
-    requires size { (size.rows ≡ J.start.rows) × (size.cols ≡ J.start.cols) }
-    ensures { IfOk result (λ _. IsReady hub.now waits.new pass.new) }
+    requires ready { IsReady seat.now waits.old pass.old }
+    ensures { IfOk result (λ _. IsReady seat.now waits.new pass.new) }
 {
-    let Some(event) = read_event(alloc, words.as_bytes())? else {
+    let Some(event) = read_event(seat.alloc, words.as_bytes())? else {
         return Ok(false);
     };
     if *waits && !ends(&event) {
         return Ok(false);
     }
-    let answer = ask(rt, alloc, hub, pass, size, event)?;
+    let answer = seat.ask(pass, event)?;
     *waits = was_wait(&answer);
     Ok(matches!(answer, Answer::Done { .. }))
 }
@@ -122,17 +96,13 @@ struct Callers<J: Opening> {
 }
 
 fn make_all<J: Opening, R: Wait>(
-    rt: &R,
-    alloc: Global,
-    hub: &Hub<J>,
+    seat: &Seat<J, R>,
     callers: Callers<J>,
-    size: Size,
 ) -> Result<Callers<J>, NoMemory>
-    requires one { IsReady hub.now false callers.one }
-    requires two { IsReady hub.now false callers.two }
-    requires size { (size.rows ≡ J.start.rows) × (size.cols ≡ J.start.cols) }
-    ensures one { IfOk result (λ callers. callers.one.hub ≡ hub.now) }
-    ensures two { IfOk result (λ callers. callers.two.hub ≡ hub.now) }
+    requires one { IsReady seat.now false callers.one }
+    requires two { IsReady seat.now false callers.two }
+    ensures one { IfOk result (λ callers. callers.one.hub ≡ seat.now) }
+    ensures two { IfOk result (λ callers. callers.two.hub ≡ seat.now) }
 {
     let Callers {
         mut one,
@@ -144,9 +114,9 @@ fn make_all<J: Opening, R: Wait>(
     let mut made = true;
     for &(p, words) in CALLS {
         let entered = if p == 1 {
-            make(rt, alloc, hub, &mut one, &mut one_waits, size, words)?
+            make(seat, &mut one, &mut one_waits, words)?
         } else {
-            make(rt, alloc, hub, &mut two, &mut two_waits, size, words)?
+            make(seat, &mut two, &mut two_waits, words)?
         };
         made = made && entered;
     }
@@ -217,13 +187,19 @@ fn read_beside<J: Opening + Send + Sync, R: Threads + Wait + Sync>(
         pass: keyboard,
         turned: false,
     };
+    let seat = Seat {
+        rt,
+        alloc,
+        hub: &hub,
+        size,
+    };
     let (callers, reader) = thread::join(
         rt,
         || -> Result<Callers<J>, NoMemory>
-            requires { IsReady hub false callers.one × IsReady hub false callers.two
-                × (size.rows ≡ J.start.rows) × (size.cols ≡ J.start.cols) }
-            ensures { IfOk result (λ callers. (callers.one.hub ≡ hub) × (callers.two.hub ≡ hub)) }
-        { make_all(rt, alloc, &hub, callers, size) },
+            requires { IsReady seat false callers.one × IsReady seat false callers.two }
+            ensures { IfOk result (λ callers. (callers.one.hub ≡ seat.entry)
+                × (callers.two.hub ≡ seat.entry)) }
+        { make_all(&seat, callers) },
         || -> Reader<J>
             requires { reader.pass.hub ≡ hub }
             ensures { result.pass.hub ≡ hub }

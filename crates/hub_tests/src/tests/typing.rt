@@ -1,11 +1,11 @@
 //! A shared console: one thread types on its keyboard, and a process in another reads a line by turns.
-ghost use Rattle.std.specs.Prelude.{◌≡◌, false, None, IfOk};
+ghost use Rattle.std.specs.Prelude.{◌≡◌, false, IfOk};
 ghost use Rattle.hub_tests.specs.Ready.{IsReady};
 ghost use Rattle.session_order.specs.Sessions.{start_of};
-ghost use Rattle.vt_hub.specs.Histories.{awaits};
 ghost use Rattle.vt_world.specs.Refusals.{ends_wait};
 
 use super::passes::{split, was_wait};
+use super::seat::Seat;
 use cooked::{Given, Stop, Termios, Tty};
 use session_text::{Session, read};
 use std::alloc::Global;
@@ -15,10 +15,10 @@ use std::sync::Wait;
 use std::test::Fail;
 use std::thread;
 use std::thread::Threads;
-use vt_base::{Errno, NoMemory, Size};
+use vt_base::{Errno, NoMemory};
 use vt_events::Event;
 use vt_hub::{Hub, Opening, Pass, Run, Steward};
-use vt_world::{Spare, World, nobody_waits_at_start, spare_for};
+use vt_world::{World, nobody_waits_at_start};
 
 const SESSION: &str = "rows = 2
 cols = 10
@@ -41,38 +41,26 @@ const SCANS: [u8; 8] = [0x1E, 0x9E, 0x30, 0xB0, 0x0E, 0x8E, 0x1C, 0x9C];
 // Makes a call that isn't WaitEnd, and says whether it was answered "wait".
 #[tactic(auto, using(crate::proofs::Ready::ready_after))]
 fn make<J: Opening, R: Wait>(
-    rt: &R,
-    alloc: Global,
-    hub: &Hub<J>,
+    seat: &Seat<J, R>,
     pass: &mut Pass<J>,
-    size: Size,
     event: Event,
 ) -> Result<bool, NoMemory>
-    requires ready { IsReady hub.now false pass.old }
+    requires ready { IsReady seat.now false pass.old }
     requires call { ends_wait event ≡ false }
-    requires size { (size.rows ≡ J.start.rows) × (size.cols ≡ J.start.cols) }
-    ensures { IfOk result (λ waits. IsReady hub.now waits pass.new) }
+    ensures { IfOk result (λ waits. IsReady seat.now waits pass.new) }
 {
-    let spare = spare_for(alloc, &event, size)?;
-    let answer = hub.call(rt, pass, event, spare);
+    let answer = seat.ask(pass, event)?;
     Ok(was_wait(&answer))
 }
 
 // Types all keys.
-fn press<J: Opening, R: Wait>(
-    rt: &R,
-    alloc: Global,
-    hub: &Hub<J>,
-    pass: Pass<J>,
-    size: Size,
-) -> Result<Pass<J>, NoMemory>
-    requires ready { IsReady hub.now false pass }
-    requires size { (size.rows ≡ J.start.rows) × (size.cols ≡ J.start.cols) }
-    ensures { IfOk result (λ pass. pass.hub ≡ hub.now) }
+fn press<J: Opening, R: Wait>(seat: &Seat<J, R>, pass: Pass<J>) -> Result<Pass<J>, NoMemory>
+    requires { IsReady seat.now false pass }
+    ensures { IfOk result (λ pass. pass.hub ≡ seat.now) }
 {
     let mut pass = pass;
     for b in SCANS {
-        if make(rt, alloc, hub, &mut pass, size, Event::Scan(b))? {
+        if make(seat, &mut pass, Event::Scan(b))? {
             return Ok(pass);
         }
     }
@@ -98,22 +86,18 @@ fn may_go_on(stop: Option<Stop>) -> bool {
 // Turns until a line is given.
 #[tactic(auto, using(crate::proofs::Ready::ready_turned))]
 fn read_line<J: Opening, R: Wait>(
-    rt: &R,
-    alloc: Global,
-    hub: &Hub<J>,
+    seat: &Seat<J, R>,
     reader: Reader<J>,
-    size: Size,
 ) -> Result<Reader<J>, NoMemory>
-    requires ready { IsReady hub.now false reader.pass }
-    requires size { (size.rows ≡ J.start.rows) × (size.cols ≡ J.start.cols) }
-    ensures { IfOk result (λ reader. reader.pass.hub ≡ hub.now) }
+    requires { IsReady seat.now false reader.pass }
+    ensures { IfOk result (λ reader. reader.pass.hub ≡ seat.now) }
 {
     let Reader {
         mut pass,
         mut tty,
         ..
     } = reader;
-    if make(rt, alloc, hub, &mut pass, size, Event::OpenCon(1))? {
+    if make(seat, &mut pass, Event::OpenCon(1))? {
         return Ok(Reader {
             pass,
             tty,
@@ -121,7 +105,7 @@ fn read_line<J: Opening, R: Wait>(
         });
     }
     for _ in 0..1_000_000 {
-        let turn = tty.turn(rt, alloc, hub, &mut pass, 0)?;
+        let turn = tty.turn(seat.rt, seat.alloc, seat.hub, &mut pass, 0)?;
         let found = turn.given == Given::Line;
         if found || !may_go_on(turn.stop) {
             return Ok(Reader { pass, tty, found });
@@ -145,31 +129,25 @@ struct Outcome {
 
 // The keys in one thread, and the line in another.
 fn both<J: Opening + Send + Sync, R: Threads + Wait + Sync>(
-    rt: &R,
-    alloc: Global,
-    hub: &Hub<J>,
+    seat: &Seat<J, R>,
     keyboard: Pass<J>,
     reader: Reader<J>,
-    size: Size,
 ) -> Result<(Pass<J>, Reader<J>), NoMemory>
-    requires keyboard { IsReady hub.now false keyboard }
-    requires reader { IsReady hub.now false reader.pass }
-    requires size { (size.rows ≡ J.start.rows) × (size.cols ≡ J.start.cols) }
-    ensures keyboard { IfOk result (λ both. both.0.hub ≡ hub.now) }
-    ensures reader { IfOk result (λ both. both.1.pass.hub ≡ hub.now) }
+    requires keyboard { IsReady seat.now false keyboard }
+    requires reader { IsReady seat.now false reader.pass }
+    ensures keyboard { IfOk result (λ both. both.0.hub ≡ seat.now) }
+    ensures reader { IfOk result (λ both. both.1.pass.hub ≡ seat.now) }
 {
     let (keyboard, reader) = thread::join(
-        rt,
+        seat.rt,
         || -> Result<Pass<J>, NoMemory>
-            requires { IsReady hub.now false keyboard
-                × (size.rows ≡ J.start.rows) × (size.cols ≡ J.start.cols) }
-            ensures { IfOk result (λ pass. pass.hub ≡ hub.entry.now) }
-        { press(rt, alloc, hub, keyboard, size) },
+            requires { IsReady seat.now false keyboard }
+            ensures { IfOk result (λ pass. pass.hub ≡ seat.entry.now) }
+        { press(seat, keyboard) },
         || -> Result<Reader<J>, NoMemory>
-            requires { IsReady hub.now false reader.pass
-                × (size.rows ≡ J.start.rows) × (size.cols ≡ J.start.cols) }
-            ensures { IfOk result (λ reader. reader.pass.hub ≡ hub.entry.now) }
-        { read_line(rt, alloc, hub, reader, size) },
+            requires { IsReady seat.now false reader.pass }
+            ensures { IfOk result (λ reader. reader.pass.hub ≡ seat.entry.now) }
+        { read_line(seat, reader) },
     );
     let keyboard = keyboard?;
     let reader = reader?;
@@ -219,7 +197,13 @@ fn type_beside<J: Opening + Send + Sync, R: Threads + Wait + Sync>(
         tty,
         found: false,
     };
-    let (keyboard, reader) = both(rt, alloc, &hub, keyboard, reader, size)?;
+    let seat = Seat {
+        rt,
+        alloc,
+        hub: &hub,
+        size,
+    };
+    let (keyboard, reader) = both(&seat, keyboard, reader)?;
     closed(hub, steward, keyboard, reader)
 }
 

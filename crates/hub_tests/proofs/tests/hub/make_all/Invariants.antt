@@ -3,4 +3,4 @@ use Rattle.hub_tests.specs.Ready.{IsReady}
 use Rattle.hub_tests.proofs.tests.hub.make_all.Given as goal
 
 abbrev pub invariant-loop-p : goal.invariant-loop-p
-invariant-loop-p g l = IsReady l.hub l.one_waits l.one × IsReady l.hub l.two_waits l.two
+invariant-loop-p g l = IsReady l.seat l.one_waits l.one × IsReady l.seat l.two_waits l.two

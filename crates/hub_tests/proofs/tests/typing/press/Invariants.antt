@@ -3,4 +3,4 @@ use Rattle.hub_tests.specs.Ready.{IsReady}
 use Rattle.hub_tests.proofs.tests.typing.press.Given as goal
 
 abbrev pub invariant-loop-b : goal.invariant-loop-b
-invariant-loop-b g l = IsReady l.hub false l.pass
+invariant-loop-b g l = IsReady l.seat false l.pass

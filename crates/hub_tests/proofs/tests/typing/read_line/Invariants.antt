@@ -3,4 +3,4 @@ use Rattle.hub_tests.specs.Ready.{IsReady}
 use Rattle.hub_tests.proofs.tests.typing.read_line.Given as goal
 
 abbrev pub invariant-loop : goal.invariant-loop
-invariant-loop g l = IsReady l.hub false l.pass
+invariant-loop g l = IsReady l.seat false l.pass
