@@ -22,30 +22,25 @@ pub fn opened(alloc: Global) -> Result<World, NoMemory> {
     Ok(world)
 }
 
-// Console 1 is in front, and no key types anything.
+// Console 1 is in front, and no key types anything. Each process is at home on the console of its number, whose
+// switches it may handle.
 fn started(alloc: Global) -> Result<World, NoMemory> {
-    let tables = KeyTables::empty(alloc, &[0])?;
+    let mut procs = ProcList::new();
+    procs.push(ProcStart {
+        home: 1,
+        privileged: false,
+    });
+    procs.push(ProcStart {
+        home: 2,
+        privileged: false,
+    });
     let config = Config {
         size: Size { rows: 25, cols: 80 },
         consoles: CONSOLES,
         front: ConsoleNo::numbered(1),
-        procs: processes(),
+        procs,
         keyboards: 1,
     };
+    let tables = KeyTables::empty(alloc, &[0])?;
     World::start(alloc, &config, &tables)
-}
-
-// Each is at home on the console of its number, whose switches it may handle.
-fn processes() -> ProcList {
-    let mut list = ProcList::new();
-    list.push(at_home(1));
-    list.push(at_home(2));
-    list
-}
-
-fn at_home(home: u8) -> ProcStart {
-    ProcStart {
-        home,
-        privileged: false,
-    }
 }

@@ -1,11 +1,13 @@
 mod calls;
 mod changes;
+mod edit;
 mod edits;
 mod halves;
 mod row_edits;
 mod stores;
 
 use super::checks::check_made;
+use edit::Edit;
 use std::alloc::Global;
 use vt_base::{NoMemory, Size};
 use vt_cells::Cell;
@@ -24,14 +26,14 @@ fn letter(code: u8) -> Cell {
 fn lettered(alloc: Global) -> Result<Grid, NoMemory> {
     let mut grid = Grid::blank(alloc, SIZE, letter(b' '))?;
     for (y, code) in [(0, b'a'), (1, b'b'), (2, b'c'), (3, b'd')] {
-        let _ = calls::put(&mut grid, y, 0, letter(code));
+        let _ = calls::make(&mut grid, Edit::Put(y, 0, u32::from(code), 0x07));
     }
     Ok(grid)
 }
 
 fn has_column(grid: &Grid, codes: &[u8; 4]) -> bool {
     for (y, code) in [(0, codes[0]), (1, codes[1]), (2, codes[2]), (3, codes[3])] {
-        if calls::code(grid, y, 0) != u32::from(code) {
+        if calls::code(grid, y, 0) != Some(u32::from(code)) {
             return false;
         }
     }
@@ -54,7 +56,7 @@ const SCROLLS: &[Scroll] = &[
 fn is_scrolled(alloc: Global, case: &Scroll) -> Result<bool, NoMemory> {
     let (top, bottom, n, codes) = *case;
     let mut grid = lettered(alloc)?;
-    Ok(calls::scroll_up(&mut grid, top, bottom, n, letter(b'-')) && has_column(&grid, &codes))
+    Ok(calls::make(&mut grid, Edit::Up(top, bottom, n)) && has_column(&grid, &codes))
 }
 
 #[test]

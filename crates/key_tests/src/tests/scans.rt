@@ -3,34 +3,24 @@ use super::checks::check;
 use scan_codes::{KeyEvent, Scanner};
 use vt_base::Inval;
 
-// A byte, and the key that it names, with whether that goes down.
-const GROUPS: &[(u8, Option<(u8, bool)>, &str)] = &[
-    (0x1E, Some((30, true)), "a key goes down"),
-    (0x1E, Some((30, true)), "and repeats"),
-    (0x9E, Some((30, false)), "and goes up"),
-    (0x00, None, "00 names nothing"),
-    (0xFF, None, "FF names nothing"),
-    (0x80, None, "80 has no scan number"),
-    (0x58, Some((88, true)), "the last key without E0"),
-    (0x59, None, "a scan number without a key"),
-    (0xE0, None, "E0 goes with one byte more"),
-    (0x1C, Some((96, true)), "Enter of the pad"),
-    (0xE0, None, "E0"),
-    (0x9C, Some((96, false)), "and it goes up"),
-    (0xE0, None, "E0"),
-    (0x00, None, "E0 00 names nothing"),
-    (0xE0, None, "E0"),
-    (0xE1, None, "after E0 every byte ends the group"),
-    (0xE1, None, "E1 goes with two bytes more"),
-    (0x1D, None, "the second of Pause"),
-    (0x45, Some((119, true)), "Pause goes down"),
-    (0xE1, None, "E1"),
-    (0x9D, None, "the second of Pause"),
-    (0xC5, Some((119, false)), "Pause goes up"),
-    (0xE1, None, "E1"),
-    (0xE0, None, "E0 is its second byte"),
-    (0x1C, None, "another group of E1 names nothing"),
-    (0x1C, Some((28, true)), "Enter stands alone"),
+// The bytes of a group, and the key that the last of them names, with whether that goes down; the others name none.
+const GROUPS: &[(&[u8], Option<(u8, bool)>, &str)] = &[
+    (b"\x1E", Some((30, true)), "a key goes down"),
+    (b"\x1E", Some((30, true)), "and repeats"),
+    (b"\x9E", Some((30, false)), "and goes up"),
+    (b"\x00", None, "00 names nothing"),
+    (b"\xFF", None, "FF names nothing"),
+    (b"\x80", None, "80 has no scan number"),
+    (b"\x58", Some((88, true)), "the last key without E0"),
+    (b"\x59", None, "a scan number without a key"),
+    (b"\xE0\x1C", Some((96, true)), "Enter of the pad"),
+    (b"\xE0\x9C", Some((96, false)), "and it goes up"),
+    (b"\xE0\x00", None, "E0 00 names nothing"),
+    (b"\xE0\xE1", None, "after E0 every byte ends the group"),
+    (b"\xE1\x1D\x45", Some((119, true)), "Pause goes down"),
+    (b"\xE1\x9D\xC5", Some((119, false)), "Pause goes up"),
+    (b"\xE1\xE0\x1C", None, "another group of E1 names nothing"),
+    (b"\x1C", Some((28, true)), "Enter stands alone"),
 ];
 
 fn is_event(event: Option<KeyEvent>, wanted: Option<(u8, bool)>) -> bool {
@@ -41,11 +31,22 @@ fn is_event(event: Option<KeyEvent>, wanted: Option<(u8, bool)>) -> bool {
     }
 }
 
+fn names(scanner: &mut Scanner, bytes: &[u8], wanted: Option<(u8, bool)>) -> bool {
+    let mut event = None;
+    for &b in bytes {
+        if event.is_some() {
+            return false;
+        }
+        event = scanner.push(b);
+    }
+    is_event(event, wanted)
+}
+
 #[test]
 fn groups_name_keys(rt: HostRuntime) {
     let mut scanner = Scanner::start();
-    for &(b, wanted, what) in GROUPS {
-        check(&rt, is_event(scanner.push(b), wanted), what);
+    for &(bytes, wanted, what) in GROUPS {
+        check(&rt, names(&mut scanner, bytes, wanted), what);
     }
 }
 

@@ -39,20 +39,23 @@ const NAMES: &[Row] = &[
     ("Ascii_9", 13, 9, "Ascii_9"),
 ];
 
-// No names, beside what is no action.
-const NONE: &[(&str, u16, u16)] = &[
-    ("foo", 14, 0),
-    ("", 1, 0xD800),
-    ("256", 2, 0xDFFF),
-    ("+65", 3, 128),
-    ("08", 4, 256),
-    ("0X41", 11, 0),
-    ("U+D800", 11, 64),
-    ("U+041", 12, 20),
-    ("u+0041", 0, 1),
-    ("F247", 5, 17),
-    ("+Shift", 256, 0),
-    ("shift", 65535, 0),
+const NO_NAMES: &[&str] = &[
+    "foo", "", "256", "+65", "08", "0X41", "U+D800", "U+041", "u+0041", "F247", "+Shift", "shift",
+];
+
+const NO_KINDS: &[u16] = &[14, 256, 65535];
+
+// Kinds, and values that they don't have.
+const NO_VALUES: &[(u16, u16)] = &[
+    (0, 1),
+    (1, 0xD800),
+    (2, 0xDFFF),
+    (3, 128),
+    (4, 256),
+    (5, 17),
+    (11, 0),
+    (11, 64),
+    (12, 20),
 ];
 
 fn is_named(row: &Row) -> bool {
@@ -73,10 +76,19 @@ fn names_stand_for_actions(rt: HostRuntime) {
         let (name, ..) = *row;
         check(&rt, is_named(row), name);
     }
-    for &(name, kind, value) in NONE {
-        let is_none = by_name(name).is_none() && Action::new(kind, value).is_none();
-        check(&rt, is_none, name);
+    for &name in NO_NAMES {
+        check(&rt, by_name(name).is_none(), name);
     }
     let large = b"0x10000".as_slice();
     check(&rt, number(large) == Some(65536), large);
+}
+
+#[test]
+fn actions_have_kinds_and_values(rt: HostRuntime) {
+    for &kind in NO_KINDS {
+        check(&rt, Action::new(kind, 0).is_none(), u32::from(kind));
+    }
+    for &(kind, value) in NO_VALUES {
+        check(&rt, Action::new(kind, value).is_none(), u32::from(kind));
+    }
 }

@@ -18,24 +18,7 @@ use vt_io::OpenGate;
 
 type Count = Arc<AtomicU64, Global>;
 
-// Races the session of two processes with hooks that count how often they are asked.
-fn race_counted<R: Threads + Wait + Sync>(
-    rt: &R,
-    alloc: Global,
-    s: &Session,
-    asked: &Count,
-) -> Result<Run, Fail> {
-    let [
-        Program::Keys(_),
-        Program::Script { hooks: one, .. },
-        Program::Script { hooks: two, .. },
-    ] = s.programs()
-    else {
-        return Err("no session of two processes".into());
-    };
-    Ok(race_asking(rt, alloc, s, &[*one, *two], asked)?)
-}
-
+// Races the session with hooks of these tables, which count how often they are asked.
 fn race_asking<R: Threads + Wait + Sync>(
     rt: &R,
     alloc: Global,
@@ -92,14 +75,22 @@ fn is_counted(asked: &Count, run: &Run) -> bool {
     asked.load(SeqCst) == signals_in(run.log.entries())
 }
 
-// Whether the journal had room, and as many signals were asked about as were given.
+// Whether the journal of two processes had room, and as many signals were asked about as were given.
 fn counts_to<R: Threads + Wait + Sync>(
     rt: &R,
     alloc: Global,
     s: &Session,
     asked: &Count,
 ) -> Result<bool, Fail> {
-    let run = race_counted(rt, alloc, s, asked)?;
+    let [
+        Program::Keys(_),
+        Program::Script { hooks: one, .. },
+        Program::Script { hooks: two, .. },
+    ] = s.programs()
+    else {
+        return Err("no session of two processes".into());
+    };
+    let run = race_asking(rt, alloc, s, &[*one, *two], asked)?;
     Ok(run.stop.is_none() && is_counted(asked, &run))
 }
 

@@ -1,6 +1,7 @@
 //! What calls count for: 64, the bytes that they hold, and the most bytes of their answers.
 use super::checks::check_made;
 use std::alloc::Global;
+use std::process::Abort;
 use vt_base::{Bytes, NoMemory};
 use vt_events::{Event, Reply, charge};
 use vt_journal::read_event;
@@ -56,18 +57,20 @@ fn is_charged(alloc: Global, words: &[u8], wanted: u32) -> Result<bool, NoMemory
     }
 }
 
-#[test]
-fn counts_the_greatest_answer(rt: HostRuntime) {
-    for &(words, wanted) in ANSWERED {
-        check_made(&rt, is_charged(rt.alloc(), words, wanted), words);
+fn check_charges(by: &impl Abort, alloc: Global, calls: &[(&[u8], u32)]) {
+    for &(words, wanted) in calls {
+        check_made(by, is_charged(alloc, words, wanted), words);
     }
 }
 
 #[test]
+fn counts_the_greatest_answer(rt: HostRuntime) {
+    check_charges(&rt, rt.alloc(), ANSWERED);
+}
+
+#[test]
 fn counts_held_bytes(rt: HostRuntime) {
-    for &(words, wanted) in HELD {
-        check_made(&rt, is_charged(rt.alloc(), words, wanted), words);
-    }
+    check_charges(&rt, rt.alloc(), HELD);
 }
 
 // A text in so much room.

@@ -1,6 +1,7 @@
 //! Callers through opens, signals, waits and deaths. Expected answers were reckoned by hand from the
 //! rules of signals and waits.
 use super::checks::check;
+use Waited::{Broken, Done, Still};
 use vt_base::{CallerNo, ConsoleNo, Fd, Signal};
 use vt_procs::{ProcStart, Procs, Ticket, Waited};
 
@@ -116,31 +117,25 @@ fn is_told(word: u16, what: u16, told: Waited) -> bool {
     let none = procs.ticket(p) == Waited::None;
     begin(&mut procs, p, ticket_of(word, c));
     procs.settle();
-    let open = procs.ticket(p) == Waited::Still;
+    let open = procs.ticket(p) == Still;
     happen(&mut procs, p, c, what);
     none && open && procs.ticket(p) == told && procs.signalled(p) == (what == 2)
 }
 
-// The ticket, what happens, and what the process is told then.
-const WAITS: &[(u16, u16, Waited)] = &[
-    (0, 0, Waited::Done),
-    (0, 1, Waited::Still),
-    (0, 2, Waited::Broken),
-    (0, 3, Waited::Broken),
-    (1, 0, Waited::Still),
-    (1, 1, Waited::Done),
-    (1, 2, Waited::Broken),
-    (1, 3, Waited::Broken),
-    (2, 0, Waited::Still),
-    (2, 1, Waited::Still),
-    (2, 2, Waited::Broken),
-    (2, 3, Waited::Broken),
+// What the process is told then: a row for each ticket, and in it the answer after each of what may happen.
+const WAITS: [[Waited; 4]; 3] = [
+    [Done, Still, Broken, Broken],
+    [Still, Done, Broken, Broken],
+    [Still, Still, Broken, Broken],
 ];
 
 #[test]
 fn waits_end_by_what_they_wait_for(rt: HostRuntime) {
-    for &(word, what, told) in WAITS {
-        check(&rt, is_told(word, what, told), u32::from(10 * word + what));
+    for word in 0..3 {
+        for what in 0..4 {
+            let told = WAITS[usize::from(word)][usize::from(what)];
+            check(&rt, is_told(word, what, told), u32::from(10 * word + what));
+        }
     }
 }
 
@@ -152,12 +147,7 @@ fn is_live(procs: &Procs, n: u16) -> bool {
 }
 
 // Keyboards, and what the process is told once each is gone too.
-const KEYBOARDS: &[(u16, Waited)] = &[
-    (0, Waited::Still),
-    (65, Waited::Still),
-    (66, Waited::Still),
-    (67, Waited::Broken),
-];
+const KEYBOARDS: &[(u16, Waited)] = &[(0, Still), (65, Still), (66, Still), (67, Broken)];
 
 fn goes(procs: &mut Procs, p: CallerNo, keyboard: u16, told: Waited) -> bool {
     let was_live = is_live(procs, keyboard);

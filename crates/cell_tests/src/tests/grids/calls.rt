@@ -1,119 +1,60 @@
-//! The calls of a grid, each made only where it stays in the grid, and whether it does.
+//! The calls of a grid, each made only where it stays in the grid.
+use super::edit::Edit;
+use super::letter;
+use vt_base::Size;
 use vt_cells::Cell;
 use vt_grid::Grid;
 
-/// The code in row `y` and column `x`; outside the grid none has this one.
-pub fn code(grid: &Grid, y: u8, x: u8) -> u32 {
-    cell(grid, y, x).code
-}
-
-/// The cell in row `y` and column `x`; outside the grid no cell is this one.
-pub fn cell(grid: &Grid, y: u8, x: u8) -> Cell {
-    let size = grid.size();
-    if y < size.rows && x < size.cols {
-        return grid.at(y, x);
-    }
-    Cell {
-        code: 0xFFFF_FFFF,
-        attr: 0xFF,
+/// The cell in row `y` and column `x`, where there is one.
+pub fn cell(grid: &Grid, y: u8, x: u8) -> Option<Cell> {
+    let Size { rows, cols } = grid.size();
+    if y < rows && x < cols {
+        Some(grid.at(y, x))
+    } else {
+        None
     }
 }
 
-pub fn put(grid: &mut Grid, y: u8, x: u8, cell: Cell) -> bool {
-    let size = grid.size();
-    let stays = y < size.rows && x < size.cols;
-    if stays {
-        grid.put(y, x, cell);
+/// The code of that cell.
+pub fn code(grid: &Grid, y: u8, x: u8) -> Option<u32> {
+    match cell(grid, y, x) {
+        Some(cell) => Some(cell.code),
+        None => None,
     }
-    stays
 }
 
-pub fn put_bytes(grid: &mut Grid, y: u8, x: u8, bytes: &[u8]) -> bool {
-    let size = grid.size();
-    let stays = y < size.rows && usize::from(x) + bytes.len() <= usize::from(size.cols);
-    if stays {
-        grid.put_bytes(y, x, bytes, 0x07);
+/// Makes the edit, and tells whether it stays in the grid: one that doesn't isn't made.
+pub fn make(grid: &mut Grid, edit: Edit) -> bool {
+    let Size { rows, cols } = grid.size();
+    let most = usize::from(cols);
+    let fill = letter(b'-');
+    match edit {
+        Edit::Put(y, x, code, attr) if y < rows && x < cols => grid.put(y, x, Cell { code, attr }),
+        Edit::Bytes(y, x, text) if y < rows && usize::from(x) + text.len() <= most => {
+            grid.put_bytes(y, x, text, 0x07);
+        }
+        Edit::Codes(y, x, text) if y < rows && usize::from(x) + text.len() <= most => {
+            grid.put_codes(y, x, text, 0x07);
+        }
+        Edit::DrawnBytes(y, x, text) if y < rows && usize::from(x) + text.len() <= most => {
+            grid.draw_bytes(y, x, text, 0x07);
+        }
+        Edit::DrawnCodes(y, x, text) if y < rows && usize::from(x) + text.len() <= most => {
+            grid.draw_codes(y, x, text, 0x07);
+        }
+        Edit::Part(y, x) if y < rows && x <= cols => grid.part(y, x),
+        Edit::Up(top, bottom, n) if top <= bottom && bottom < rows => {
+            grid.scroll_up(top, bottom, n, fill);
+        }
+        Edit::Down(top, bottom, n) if top <= bottom && bottom < rows => {
+            grid.scroll_down(top, bottom, n, fill);
+        }
+        Edit::Erase(y, x0, x1) if y < rows && x0 <= x1 && x1 < cols => grid.erase(y, x0, x1, fill),
+        Edit::Insert(y, x, n) if y < rows && x < cols => grid.insert(y, x, n, fill),
+        Edit::Delete(y, x, n) if y < rows && x < cols => grid.delete(y, x, n, fill),
+        _ => return false,
     }
-    stays
-}
-
-pub fn put_codes(grid: &mut Grid, y: u8, x: u8, codes: &[u32]) -> bool {
-    let size = grid.size();
-    let stays = y < size.rows && usize::from(x) + codes.len() <= usize::from(size.cols);
-    if stays {
-        grid.put_codes(y, x, codes, 0x07);
-    }
-    stays
-}
-
-pub fn scroll_up(grid: &mut Grid, top: u8, bottom: u8, n: u16, fill: Cell) -> bool {
-    let stays = top <= bottom && bottom < grid.size().rows;
-    if stays {
-        grid.scroll_up(top, bottom, n, fill);
-    }
-    stays
-}
-
-pub fn scroll_down(grid: &mut Grid, top: u8, bottom: u8, n: u16, fill: Cell) -> bool {
-    let stays = top <= bottom && bottom < grid.size().rows;
-    if stays {
-        grid.scroll_down(top, bottom, n, fill);
-    }
-    stays
-}
-
-pub fn erase(grid: &mut Grid, y: u8, x0: u8, x1: u8, fill: Cell) -> bool {
-    let size = grid.size();
-    let stays = y < size.rows && x0 <= x1 && x1 < size.cols;
-    if stays {
-        grid.erase(y, x0, x1, fill);
-    }
-    stays
-}
-
-pub fn insert(grid: &mut Grid, y: u8, x: u8, n: u16, fill: Cell) -> bool {
-    let size = grid.size();
-    let stays = y < size.rows && x < size.cols;
-    if stays {
-        grid.insert(y, x, n, fill);
-    }
-    stays
-}
-
-pub fn delete(grid: &mut Grid, y: u8, x: u8, n: u16, fill: Cell) -> bool {
-    let size = grid.size();
-    let stays = y < size.rows && x < size.cols;
-    if stays {
-        grid.delete(y, x, n, fill);
-    }
-    stays
-}
-
-pub fn part(grid: &mut Grid, y: u8, x: u8) -> bool {
-    let size = grid.size();
-    let stays = y < size.rows && x <= size.cols;
-    if stays {
-        grid.part(y, x);
-    }
-    stays
-}
-
-pub fn draw_bytes(grid: &mut Grid, y: u8, x: u8, bytes: &[u8]) -> bool {
-    let size = grid.size();
-    let stays = y < size.rows && usize::from(x) + bytes.len() <= usize::from(size.cols);
-    if stays {
-        grid.draw_bytes(y, x, bytes, 0x07);
-    }
-    stays
-}
-
-pub fn draw_codes(grid: &mut Grid, y: u8, x: u8, codes: &[u32]) -> bool {
-    let size = grid.size();
-    let stays = y < size.rows && usize::from(x) + codes.len() <= usize::from(size.cols);
-    if stays {
-        grid.draw_codes(y, x, codes, 0x07);
-    }
-    stays
+    true
 }
 
 pub fn is_row_same(grid: &Grid, other: &Grid, y: u8) -> bool {

@@ -1,5 +1,6 @@
 //! Which rows a scroll changed, and a copy of the grid.
-use super::{calls, has_column, letter, lettered};
+use super::edit::Edit;
+use super::{calls, has_column, lettered};
 use crate::tests::checks::check_made;
 use std::alloc::Global;
 use vt_base::NoMemory;
@@ -30,7 +31,7 @@ fn is_told(alloc: Global, case: &Change) -> Result<bool, NoMemory> {
     let mut shown = lettered(alloc)?;
     let mut grid = lettered(alloc)?;
     Ok(
-        calls::scroll_up(&mut grid, top, bottom, n, letter(b'-'))
+        calls::make(&mut grid, Edit::Up(top, bottom, n))
             && are_same(&shown, &grid, same)
             && calls::copy_from(&mut shown, &grid)
             && are_same(&shown, &grid, [true; 4])

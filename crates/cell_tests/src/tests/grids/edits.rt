@@ -1,24 +1,12 @@
 //! Edits of a grid one after another, and its rows after each. They are computed by hand, row by row.
+use super::edit::Edit;
+use super::edit::Edit::{Bytes, Codes, Delete, Down, Erase, Insert, Put, Up};
 use super::{calls, letter};
 use crate::tests::checks::{check, check_made};
 use std::alloc::Global;
 use std::process::Abort;
 use vt_base::{NoMemory, Size};
-use vt_cells::Cell;
 use vt_grid::Grid;
-
-/// An edit of a grid. What it fills is `-`.
-#[derive(Clone, Copy)]
-enum Edit {
-    Put(u8, u8, u32),
-    Bytes(u8, u8, &'static [u8]),
-    Codes(u8, u8, &'static [u32]),
-    Up(u8, u8, u16),
-    Down(u8, u8, u16),
-    Erase(u8, u8, u8),
-    Insert(u8, u8, u16),
-    Delete(u8, u8, u16),
-}
 
 const SIZE: Size = Size { rows: 5, cols: 7 };
 
@@ -27,139 +15,94 @@ type Edited = (Edit, &'static str);
 
 const EDITS: &[Edited] = &[
     (
-        Edit::Put(0, 3, 0x41),
+        Put(0, 3, 0x41, 0x07),
         "   A   /       /       /       /       ",
     ),
     (
-        Edit::Bytes(1, 2, b"hello"),
+        Bytes(1, 2, b"hello"),
         "   A   /  hello/       /       /       ",
     ),
     (
-        Edit::Codes(4, 0, &[0x2588, 0x10FFFF]),
+        Codes(4, 0, &[0x2588, 0x10FFFF]),
         "   A   /  hello/       /       /\u{2588}\u{10FFFF}     ",
     ),
     (
-        Edit::Up(0, 4, 1),
+        Up(0, 4, 1),
         "  hello/       /       /\u{2588}\u{10FFFF}     /-------",
     ),
     (
-        Edit::Bytes(4, 0, b"abcde"),
+        Bytes(4, 0, b"abcde"),
         "  hello/       /       /\u{2588}\u{10FFFF}     /abcde--",
     ),
     (
-        Edit::Put(4, 6, 0x42),
+        Put(4, 6, 0x42, 0x07),
         "  hello/       /       /\u{2588}\u{10FFFF}     /abcde-B",
     ),
     (
-        Edit::Up(1, 3, 1),
+        Up(1, 3, 1),
         "  hello/       /\u{2588}\u{10FFFF}     /-------/abcde-B",
     ),
     (
-        Edit::Put(3, 5, 0x43),
+        Put(3, 5, 0x43, 0x07),
         "  hello/       /\u{2588}\u{10FFFF}     /-----C-/abcde-B",
     ),
     (
-        Edit::Bytes(3, 1, b"vwxyz"),
+        Bytes(3, 1, b"vwxyz"),
         "  hello/       /\u{2588}\u{10FFFF}     /-vwxyz-/abcde-B",
     ),
-    (Edit::Up(0, 4, 3), "-vwxyz-/abcde-B/-------/-------/-------"),
-    (Edit::Up(2, 4, 2), "-vwxyz-/abcde-B/-------/-------/-------"),
+    (Up(0, 4, 3), "-vwxyz-/abcde-B/-------/-------/-------"),
+    (Up(2, 4, 2), "-vwxyz-/abcde-B/-------/-------/-------"),
     (
-        Edit::Codes(2, 5, &[0x7A, 0x79]),
+        Codes(2, 5, &[0x7A, 0x79]),
         "-vwxyz-/abcde-B/-----zy/-------/-------",
     ),
     (
-        Edit::Bytes(2, 1, b"small"),
+        Bytes(2, 1, b"small"),
         "-vwxyz-/abcde-B/-smally/-------/-------",
     ),
-    (Edit::Up(0, 2, 2), "-smally/-------/-------/-------/-------"),
+    (Up(0, 2, 2), "-smally/-------/-------/-------/-------"),
     (
-        Edit::Bytes(1, 0, b"oneline"),
+        Bytes(1, 0, b"oneline"),
         "-smally/oneline/-------/-------/-------",
     ),
-    (Edit::Up(1, 1, 1), "-smally/-------/-------/-------/-------"),
-    (Edit::Up(0, 4, 9), "-------/-------/-------/-------/-------"),
+    (Up(1, 1, 1), "-smally/-------/-------/-------/-------"),
+    (Up(0, 4, 9), "-------/-------/-------/-------/-------"),
     (
-        Edit::Put(2, 2, 0x44),
+        Put(2, 2, 0x44, 0x07),
         "-------/-------/--D----/-------/-------",
     ),
     (
-        Edit::Bytes(1, 1, b"lower"),
+        Bytes(1, 1, b"lower"),
         "-------/-lower-/--D----/-------/-------",
     ),
+    (Down(0, 4, 1), "-------/-------/-lower-/--D----/-------"),
     (
-        Edit::Down(0, 4, 1),
-        "-------/-------/-lower-/--D----/-------",
-    ),
-    (
-        Edit::Bytes(4, 0, b"bottom!"),
+        Bytes(4, 0, b"bottom!"),
         "-------/-------/-lower-/--D----/bottom!",
     ),
+    (Down(1, 3, 1), "-------/-------/-------/-lower-/bottom!"),
+    (Erase(3, 2, 4), "-------/-------/-------/-l---r-/bottom!"),
+    (Erase(4, 3, 6), "-------/-------/-------/-l---r-/bot----"),
+    (Insert(3, 1, 2), "-------/-------/-------/---l---/bot----"),
+    (Delete(4, 0, 1), "-------/-------/-------/---l---/ot-----"),
     (
-        Edit::Down(1, 3, 1),
-        "-------/-------/-------/-lower-/bottom!",
-    ),
-    (
-        Edit::Erase(3, 2, 4),
-        "-------/-------/-------/-l---r-/bottom!",
-    ),
-    (
-        Edit::Erase(4, 3, 6),
-        "-------/-------/-------/-l---r-/bot----",
-    ),
-    (
-        Edit::Insert(3, 1, 2),
-        "-------/-------/-------/---l---/bot----",
-    ),
-    (
-        Edit::Delete(4, 0, 1),
-        "-------/-------/-------/---l---/ot-----",
-    ),
-    (
-        Edit::Bytes(3, 2, b"again"),
+        Bytes(3, 2, b"again"),
         "-------/-------/-------/--again/ot-----",
     ),
+    (Insert(3, 3, 9), "-------/-------/-------/--a----/ot-----"),
+    (Delete(3, 0, 2), "-------/-------/-------/a------/ot-----"),
     (
-        Edit::Insert(3, 3, 9),
-        "-------/-------/-------/--a----/ot-----",
-    ),
-    (
-        Edit::Delete(3, 0, 2),
-        "-------/-------/-------/a------/ot-----",
-    ),
-    (
-        Edit::Put(4, 6, 0x45),
+        Put(4, 6, 0x45, 0x07),
         "-------/-------/-------/a------/ot----E",
     ),
-    (
-        Edit::Delete(4, 6, 1),
-        "-------/-------/-------/a------/ot-----",
-    ),
-    (
-        Edit::Down(2, 4, 9),
-        "-------/-------/-------/-------/-------",
-    ),
+    (Delete(4, 6, 1), "-------/-------/-------/a------/ot-----"),
+    (Down(2, 4, 9), "-------/-------/-------/-------/-------"),
 ];
 
-// Makes the edit, and tells whether it stays in the grid: one that doesn't isn't made.
-fn make(grid: &mut Grid, edit: Edit) -> bool {
-    let fill = letter(b'-');
-    match edit {
-        Edit::Put(y, x, code) => calls::put(grid, y, x, Cell { code, attr: 0x07 }),
-        Edit::Bytes(y, x, bytes) => calls::put_bytes(grid, y, x, bytes),
-        Edit::Codes(y, x, codes) => calls::put_codes(grid, y, x, codes),
-        Edit::Up(top, bottom, n) => calls::scroll_up(grid, top, bottom, n, fill),
-        Edit::Down(top, bottom, n) => calls::scroll_down(grid, top, bottom, n, fill),
-        Edit::Erase(y, x0, x1) => calls::erase(grid, y, x0, x1, fill),
-        Edit::Insert(y, x, n) => calls::insert(grid, y, x, n, fill),
-        Edit::Delete(y, x, n) => calls::delete(grid, y, x, n, fill),
-    }
-}
-
-fn is_code(code: u32, wanted: Option<char>) -> bool {
-    match wanted {
-        Some(c) => code == c as u32,
-        None => false,
+fn code_of(character: Option<char>) -> Option<u32> {
+    match character {
+        Some(c) => Some(c as u32),
+        None => None,
     }
 }
 
@@ -167,7 +110,7 @@ fn has_rows(grid: &Grid, rows: &str) -> bool {
     let mut characters = rows.chars();
     for y in 0..5 {
         for x in 0..7 {
-            if !is_code(calls::code(grid, y, x), characters.next()) {
+            if calls::code(grid, y, x) != code_of(characters.next()) {
                 return false;
             }
         }
@@ -178,7 +121,7 @@ fn has_rows(grid: &Grid, rows: &str) -> bool {
 
 fn check_edits(by: &impl Abort, grid: &mut Grid) {
     for (edit, rows) in EDITS {
-        check(by, make(grid, *edit) && has_rows(grid, rows), rows);
+        check(by, calls::make(grid, *edit) && has_rows(grid, rows), rows);
     }
 }
 

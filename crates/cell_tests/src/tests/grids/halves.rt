@@ -1,4 +1,5 @@
 use super::calls;
+use super::edit::Edit;
 use crate::tests::checks::check_made;
 use std::alloc::Global;
 use vt_base::{NoMemory, Size};
@@ -13,9 +14,9 @@ fn of(code: u32, attr: u8) -> Cell {
 // A row that begins with a Han character, its halves in two colours, and a letter.
 fn row(alloc: Global) -> Result<Grid, NoMemory> {
     let mut grid = Grid::blank(alloc, Size { rows: 2, cols: 4 }, of(0x20, 0x07))?;
-    let _ = calls::put(&mut grid, 0, 0, of(0x4E2D, 0x01));
-    let _ = calls::put(&mut grid, 0, 1, of(HALF, 0x02));
-    let _ = calls::put(&mut grid, 0, 2, of(0x61, 0x03));
+    for (x, code, attr) in [(0, 0x4E2D, 0x01), (1, HALF, 0x02), (2, 0x61, 0x03)] {
+        let _ = calls::make(&mut grid, Edit::Put(0, x, code, attr));
+    }
     Ok(grid)
 }
 
@@ -33,7 +34,7 @@ const PARTED: &[(u8, &str)] = &[
 ];
 
 fn is_parted(alloc: Global, grid: &mut Grid, x: u8, wanted: &str) -> Result<bool, NoMemory> {
-    Ok(calls::part(grid, 0, x) && shows(alloc, grid, wanted)?)
+    Ok(calls::make(grid, Edit::Part(0, x)) && shows(alloc, grid, wanted)?)
 }
 
 // Whether the halves have their colours still when all is done.
@@ -44,7 +45,10 @@ fn are_parted(alloc: Global) -> Result<bool, NoMemory> {
             return Ok(false);
         }
     }
-    Ok(calls::cell(&grid, 0, 0).attr == 0x01 && calls::cell(&grid, 0, 1).attr == 0x02)
+    Ok(
+        calls::cell(&grid, 0, 0) == Some(of(0x20, 0x01))
+            && calls::cell(&grid, 0, 1) == Some(of(0x20, 0x02)),
+    )
 }
 
 #[test]
@@ -54,12 +58,15 @@ fn parts_at_a_half_alone(rt: HostRuntime) {
 
 fn draws_a_byte(alloc: Global) -> Result<bool, NoMemory> {
     let mut grid = row(alloc)?;
-    Ok(calls::draw_bytes(&mut grid, 0, 1, b"x") && shows(alloc, &grid, "| xa |\n")?)
+    Ok(calls::make(&mut grid, Edit::DrawnBytes(0, 1, b"x")) && shows(alloc, &grid, "| xa |\n")?)
 }
 
 fn draws_a_character(alloc: Global) -> Result<bool, NoMemory> {
     let mut grid = row(alloc)?;
-    Ok(calls::draw_codes(&mut grid, 0, 0, &[0xE9]) && shows(alloc, &grid, "|\u{E9} a |\n")?)
+    Ok(
+        calls::make(&mut grid, Edit::DrawnCodes(0, 0, &[0xE9]))
+            && shows(alloc, &grid, "|\u{E9} a |\n")?,
+    )
 }
 
 #[test]

@@ -1,56 +1,43 @@
-use super::calls;
+use super::edit::Edit;
+use super::edit::Edit::{Bytes, Delete, Erase, Insert};
+use super::{calls, letter};
 use crate::tests::checks::check_made;
 use std::alloc::Global;
 use vt_base::{NoMemory, Size};
-use vt_cells::Cell;
 use vt_grid::Grid;
-
-#[derive(Clone, Copy)]
-enum Call {
-    Erase(u8, u8),
-    Insert(u8, u16),
-    Delete(u8, u16),
-}
-
-fn letter(code: u8) -> Cell {
-    Cell {
-        code: u32::from(code),
-        attr: 0x07,
-    }
-}
 
 // Whether row y has these bytes; 0 is a place outside the grid.
 fn has_row(grid: &Grid, y: u8, bytes: &[u8; 6]) -> bool {
-    let size = grid.size();
     for x in 0..6 {
-        let is_inside = y < size.rows && x < size.cols;
-        let byte = bytes[usize::from(x)];
-        if is_inside && calls::code(grid, y, x) != u32::from(byte) || !is_inside && byte != 0 {
+        if calls::code(grid, y, x) != code_of(bytes[usize::from(x)]) {
             return false;
         }
     }
     true
 }
 
-// Makes the call on the first row, and tells whether it stays in it.
-fn make(grid: &mut Grid, call: Call) -> bool {
-    let fill = letter(b'-');
-    match call {
-        Call::Erase(x0, x1) => calls::erase(grid, 0, x0, x1, fill),
-        Call::Insert(x, n) => calls::insert(grid, 0, x, n, fill),
-        Call::Delete(x, n) => calls::delete(grid, 0, x, n, fill),
+fn code_of(byte: u8) -> Option<u32> {
+    if byte == 0 {
+        None
+    } else {
+        Some(u32::from(byte))
     }
 }
 
 // A grid of these two rows; cells past a row's text are blank.
-fn of_rows(alloc: Global, cols: u8, first: &[u8], second: &[u8]) -> Result<Grid, NoMemory> {
+fn of_rows(
+    alloc: Global,
+    cols: u8,
+    first: &'static [u8],
+    second: &'static [u8],
+) -> Result<Grid, NoMemory> {
     let size = Size {
         rows: 2,
         cols: cols.max(1),
     };
     let mut grid = Grid::blank(alloc, size, letter(b' '))?;
-    let _ = calls::put_bytes(&mut grid, 0, 0, first);
-    let _ = calls::put_bytes(&mut grid, 1, 0, second);
+    let _ = calls::make(&mut grid, Bytes(0, 0, first));
+    let _ = calls::make(&mut grid, Bytes(1, 0, second));
     Ok(grid)
 }
 
@@ -58,34 +45,34 @@ const WHOLE: &[u8] = b"abcdef";
 
 const SHORT: &[u8] = b"ab";
 
-// How the first row begins, a call, and then that row.
-type Edited = (&'static [u8], Call, [u8; 6]);
+// How the first row begins, an edit of it, and then that row.
+type Edited = (&'static [u8], Edit, [u8; 6]);
 
 const EDITED: &[Edited] = &[
-    (WHOLE, Call::Insert(2, 1), *b"ab-cde"),
-    (WHOLE, Call::Insert(0, 2), *b"--abcd"),
-    (WHOLE, Call::Insert(5, 1), *b"abcde-"),
-    (WHOLE, Call::Insert(4, 65_535), *b"abcd--"),
-    (WHOLE, Call::Insert(1, 0), *b"abcdef"),
-    (SHORT, Call::Insert(1, 2), *b"a--b  "),
-    (SHORT, Call::Insert(4, 1), *b"ab  - "),
-    (WHOLE, Call::Delete(0, 1), *b"bcdef-"),
-    (WHOLE, Call::Delete(2, 2), *b"abef--"),
-    (WHOLE, Call::Delete(3, 65_535), *b"abc---"),
-    (WHOLE, Call::Delete(5, 0), *b"abcdef"),
-    (SHORT, Call::Delete(1, 1), *b"a    -"),
-    (SHORT, Call::Delete(4, 2), *b"ab  --"),
-    (WHOLE, Call::Erase(0, 0), *b"-bcdef"),
-    (WHOLE, Call::Erase(2, 3), *b"ab--ef"),
-    (WHOLE, Call::Erase(0, 5), *b"------"),
-    (SHORT, Call::Erase(3, 3), *b"ab -  "),
-    (SHORT, Call::Erase(4, 5), *b"ab  --"),
+    (WHOLE, Insert(0, 2, 1), *b"ab-cde"),
+    (WHOLE, Insert(0, 0, 2), *b"--abcd"),
+    (WHOLE, Insert(0, 5, 1), *b"abcde-"),
+    (WHOLE, Insert(0, 4, 65_535), *b"abcd--"),
+    (WHOLE, Insert(0, 1, 0), *b"abcdef"),
+    (SHORT, Insert(0, 1, 2), *b"a--b  "),
+    (SHORT, Insert(0, 4, 1), *b"ab  - "),
+    (WHOLE, Delete(0, 0, 1), *b"bcdef-"),
+    (WHOLE, Delete(0, 2, 2), *b"abef--"),
+    (WHOLE, Delete(0, 3, 65_535), *b"abc---"),
+    (WHOLE, Delete(0, 5, 0), *b"abcdef"),
+    (SHORT, Delete(0, 1, 1), *b"a    -"),
+    (SHORT, Delete(0, 4, 2), *b"ab  --"),
+    (WHOLE, Erase(0, 0, 0), *b"-bcdef"),
+    (WHOLE, Erase(0, 2, 3), *b"ab--ef"),
+    (WHOLE, Erase(0, 0, 5), *b"------"),
+    (SHORT, Erase(0, 3, 3), *b"ab -  "),
+    (SHORT, Erase(0, 4, 5), *b"ab  --"),
 ];
 
 fn is_edited(alloc: Global, case: &Edited) -> Result<bool, NoMemory> {
-    let (text, call, wanted) = *case;
+    let (text, edit, wanted) = *case;
     let mut grid = of_rows(alloc, 6, text, b"ghijkl")?;
-    let stays = make(&mut grid, call);
+    let stays = calls::make(&mut grid, edit);
     Ok(stays && has_row(&grid, 0, &wanted) && has_row(&grid, 1, b"ghijkl"))
 }
 

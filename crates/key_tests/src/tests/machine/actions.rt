@@ -8,16 +8,15 @@ use std::alloc::Global;
 use std::process::Abort;
 use vt_base::NoMemory;
 
+// Keys that are held don't repeat.
 const HELD: KeyModes = KeyModes {
-    cursor: false,
-    keypad: false,
     repeat: false,
-    newline: false,
+    ..MODES
 };
 
 const UP: KeyEvent = KeyEvent {
-    code: 30,
     down: false,
+    ..DOWN
 };
 
 // The flags, the locked and the sticky modifiers.

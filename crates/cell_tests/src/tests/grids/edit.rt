@@ -1,0 +1,26 @@
+/// An edit of a grid. What it fills is `-`, and texts have the start colours.
+#[derive(Clone, Copy)]
+pub enum Edit {
+    /// A row, a column, and the code and the attribute byte of the cell that is put there.
+    Put(u8, u8, u32, u8),
+    /// A row, a column, and the bytes that are put from there on.
+    Bytes(u8, u8, &'static [u8]),
+    /// The same of codes.
+    Codes(u8, u8, &'static [u32]),
+    /// The same of bytes that are drawn: they part the characters that they cut.
+    DrawnBytes(u8, u8, &'static [u8]),
+    /// The same of codes that are drawn.
+    DrawnCodes(u8, u8, &'static [u32]),
+    /// A row, and the column at which it is parted.
+    Part(u8, u8),
+    /// The first and the last row of a region, and by how much it scrolls up.
+    Up(u8, u8, u16),
+    /// The same down.
+    Down(u8, u8, u16),
+    /// A row, and the first and the last column of what is erased.
+    Erase(u8, u8, u8),
+    /// A row, a column, and how many cells are inserted there.
+    Insert(u8, u8, u16),
+    /// The same of cells that are deleted.
+    Delete(u8, u8, u16),
+}
