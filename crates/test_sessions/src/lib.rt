@@ -1,4 +1,5 @@
 //! The texts of sessions that tests of several crates use.
+#![tactic(auto)]
 
 /// Process 1 handles switches by signals, and lets the display go at signal 10; process 2 asks for its own console, 2.
 pub const HANDOVER: &str = "rows = 2
