@@ -1,5 +1,5 @@
-ghost use Rattle.std.specs.Prelude.{◌≡◌, ◌≢◌, IfSome, IfNone};
-ghost use Rattle.vt_base.specs.Errno.{number_of};
+ghost use Rattle.std.specs.Prelude.{◌≡◌, ◌≢◌, IfSome, IfNone, Some};
+ghost use Rattle.vt_base.specs.Errno.{number_of, text_of};
 ghost use Rattle.vt_base.specs.declared.errno.Errno.{Errno};
 
 use std::error::Error;
@@ -68,18 +68,20 @@ impl Errno {
 
 /// The texts of errno(3).
 impl fmt::Display for Errno {
+    ghost output = { λ e. Some (text_of e) };
+
     fn fmt<W: fmt::Write>(&self, f: &mut fmt::Formatter<W>) -> fmt::Result {
-        f.write_str(match self {
-            Errno::Srch => "No such process",
-            Errno::Intr => "Interrupted system call",
-            Errno::Nxio => "No such device or address",
-            Errno::Badf => "Bad file descriptor",
-            Errno::Again => "Resource temporarily unavailable",
-            Errno::Busy => "Device or resource busy",
-            Errno::Inval => "Invalid argument",
-            Errno::Notty => "Inappropriate ioctl for device",
-            Errno::Perm => "Operation not permitted",
-        })
+        match self {
+            Errno::Srch => f.write_str("No such process"),
+            Errno::Intr => f.write_str("Interrupted system call"),
+            Errno::Nxio => f.write_str("No such device or address"),
+            Errno::Badf => f.write_str("Bad file descriptor"),
+            Errno::Again => f.write_str("Resource temporarily unavailable"),
+            Errno::Busy => f.write_str("Device or resource busy"),
+            Errno::Inval => f.write_str("Invalid argument"),
+            Errno::Notty => f.write_str("Inappropriate ioctl for device"),
+            Errno::Perm => f.write_str("Operation not permitted"),
+        }
     }
 }
 

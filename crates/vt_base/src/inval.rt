@@ -1,3 +1,7 @@
+ghost use Rattle.std.specs.Prelude.{Some};
+ghost use Rattle.vt_base.specs.Errno.{text_of};
+ghost use Rattle.vt_base.specs.declared.errno.Errno.TheVariants as errno;
+
 use crate::Errno;
 use std::error::Error;
 use std::fmt;
@@ -7,6 +11,8 @@ use std::fmt;
 pub struct Inval;
 
 impl fmt::Display for Inval {
+    ghost output = { λ _. Some (text_of errno.Inval) };
+
     fn fmt<W: fmt::Write>(&self, f: &mut fmt::Formatter<W>) -> fmt::Result {
         write!(f, "{}", Errno::Inval)
     }
