@@ -20,32 +20,43 @@ fn row(alloc: Global, cols: u8, code: u32) -> Result<Grid, NoMemory> {
     Ok(grid)
 }
 
-fn characters(alloc: Global, grid: &Grid) -> Result<Bytes, NoMemory> {
+// A form in which a grid is dumped.
+#[derive(Clone, Copy)]
+enum Form {
+    Characters,
+    Pairs,
+    Reversed,
+    Codes,
+}
+
+fn dump(grid: &Grid, form: Form, out: &mut Bytes) {
     let size = grid.size();
     let cells = usize::from(size.rows) * usize::from(size.cols);
-    let mut out = Bytes::with_room(alloc, cells)?;
-    vcs(grid, &mut out);
+    if out.room() < 4 + 4 * cells {
+        return;
+    }
+    match form {
+        Form::Characters => vcs(grid, out),
+        Form::Pairs => vcsa(grid, 1, 0, false, out),
+        Form::Reversed => vcsa(grid, 1, 0, true, out),
+        Form::Codes => codes(grid, out),
+    }
+}
+
+fn dump_of(alloc: Global, grid: &Grid, form: Form) -> Result<Bytes, NoMemory> {
+    let size = grid.size();
+    let cells = usize::from(size.rows) * usize::from(size.cols);
+    let mut out = Bytes::with_room(alloc, 4 + 4 * cells)?;
+    dump(grid, form, &mut out);
     Ok(out)
 }
 
-fn has_characters(alloc: Global, grid: &Grid, wanted: &[u8]) -> Result<bool, NoMemory> {
-    Ok(characters(alloc, grid)?.as_slice() == wanted)
-}
-
-fn has_pairs(alloc: Global, grid: &Grid, reversed: bool, wanted: &[u8]) -> Result<bool, NoMemory> {
-    let size = grid.size();
-    let cells = usize::from(size.rows) * usize::from(size.cols);
-    let mut out = Bytes::with_room(alloc, 4 + 2 * cells)?;
-    vcsa(grid, 1, 0, reversed, &mut out);
-    Ok(out.as_slice() == wanted)
-}
-
-fn has_codes(alloc: Global, grid: &Grid, wanted: &[u8]) -> Result<bool, NoMemory> {
-    let size = grid.size();
-    let cells = usize::from(size.rows) * usize::from(size.cols);
-    let mut out = Bytes::with_room(alloc, 4 * cells)?;
-    codes(grid, &mut out);
-    Ok(out.as_slice() == wanted)
+// Whether the grid is dumped so in this form. Where memory ran out it isn't.
+fn has_dump(alloc: Global, grid: &Grid, form: Form, wanted: &[u8]) -> bool {
+    match dump_of(alloc, grid, form) {
+        Ok(out) => out.as_slice() == wanted,
+        Err(NoMemory) => false,
+    }
 }
 
 const CHARACTERS: &[u8] = &[0x41, 0x20];
@@ -56,18 +67,14 @@ const REVERSED: &[u8] = &[1, 2, 1, 0, 0x41, 0x70, 0x20, 0x70];
 
 const CODES: &[u8] = &[0x41, 0, 0, 0, 0x20, 0, 0, 0];
 
-fn are_dumped(alloc: Global, grid: &Grid) -> Result<bool, NoMemory> {
-    Ok(
-        has_characters(alloc, grid, CHARACTERS)?
-            && has_pairs(alloc, grid, false, PAIRS)?
-            && has_pairs(alloc, grid, true, REVERSED)?
-            && has_codes(alloc, grid, CODES)?,
-    )
-}
-
 fn dumps_two(alloc: Global) -> Result<bool, NoMemory> {
     let grid = row(alloc, 2, 0x41)?;
-    are_dumped(alloc, &grid)
+    Ok(
+        has_dump(alloc, &grid, Form::Characters, CHARACTERS)
+            && has_dump(alloc, &grid, Form::Pairs, PAIRS)
+            && has_dump(alloc, &grid, Form::Reversed, REVERSED)
+            && has_dump(alloc, &grid, Form::Codes, CODES),
+    )
 }
 
 #[test]
@@ -101,24 +108,40 @@ const SHOWN: &[Shown] = &[
     (0xFFFF_FFFF, 0x3F, b"|?|\n"),
 ];
 
-// Whether the character's byte is this one, and the row behind it this text.
-fn begins(alloc: Global, grid: &Grid, byte: u8, text: &[u8]) -> Result<bool, NoMemory> {
-    let mut out = characters(alloc, grid)?;
-    add_rows(alloc, &mut out, grid)?;
-    match out.as_slice() {
-        [first, rest @ ..] => Ok(*first == byte && rest == text),
-        [] => Ok(false),
+// Whether the bytes are this byte and then this text.
+fn are_so(bytes: &[u8], byte: u8, text: &[u8]) -> bool {
+    match bytes {
+        [first, rest @ ..] => *first == byte && rest == text,
+        [] => false,
     }
 }
 
-fn has_text(alloc: Global, grid: &Grid, text: &[u8]) -> Result<bool, NoMemory> {
-    Ok(text_rows(alloc, grid)?.as_slice() == text)
+// The character, and the row behind it.
+fn with_row(alloc: Global, grid: &Grid) -> Result<Bytes, NoMemory> {
+    let mut out = dump_of(alloc, grid, Form::Characters)?;
+    add_rows(alloc, &mut out, grid)?;
+    Ok(out)
+}
+
+// Whether the character's byte is this one, and the row behind it this text.
+fn begins(alloc: Global, grid: &Grid, byte: u8, text: &[u8]) -> bool {
+    match with_row(alloc, grid) {
+        Ok(out) => are_so(out.as_slice(), byte, text),
+        Err(NoMemory) => false,
+    }
+}
+
+fn has_text(alloc: Global, grid: &Grid, text: &[u8]) -> bool {
+    match text_rows(alloc, grid) {
+        Ok(rows) => rows.as_slice() == text,
+        Err(NoMemory) => false,
+    }
 }
 
 fn is_shown(alloc: Global, case: &Shown) -> Result<bool, NoMemory> {
     let (code, byte, text) = *case;
     let grid = row(alloc, 1, code)?;
-    Ok(has_text(alloc, &grid, text)? && begins(alloc, &grid, byte, text)?)
+    Ok(has_text(alloc, &grid, text) && begins(alloc, &grid, byte, text))
 }
 
 #[test]
