@@ -44,6 +44,14 @@ fn is_read(place: usize) -> bool {
     read_pairs(&bytes).is_some()
 }
 
+// Whether no pair is read of so many of the bytes.
+fn is_none_read(len: usize) -> bool {
+    read_pairs(&PAIR_BYTES[..len.min(24)]).is_none()
+}
+
+// Numbers of bytes that are no pairs.
+const NO_PAIRS: &[(usize, &str)] = &[(11, "11 bytes"), (13, "13 bytes"), (23, "23 bytes")];
+
 #[test]
 fn pairs_are_twelve_bytes(rt: HostRuntime) {
     check_made(&rt, gives_pairs(rt.alloc()), "two pairs are given");
@@ -51,9 +59,9 @@ fn pairs_are_twelve_bytes(rt: HostRuntime) {
     check(&rt, are_pairs(&[], &[]), "no pair is read");
     check(&rt, read_pairs(&[0; 3_072]).is_some(), "256 pairs");
     check(&rt, read_pairs(&[0; 3_084]).is_none(), "257 pairs");
-    check(&rt, read_pairs(&PAIR_BYTES[..11]).is_none(), "11 bytes");
-    check(&rt, read_pairs(&PAIR_BYTES[..13]).is_none(), "13 bytes");
-    check(&rt, read_pairs(&PAIR_BYTES[..23]).is_none(), "23 bytes");
+    for (len, what) in NO_PAIRS {
+        check(&rt, is_none_read(*len), *what);
+    }
     // The upper two bytes of each number of 32 bits are zero.
     for place in 0..12u32 {
         check(&rt, is_read(place as usize) == (place % 4 < 2), place);

@@ -100,14 +100,25 @@ fn is_line(
     is_printed(alloc, &entry, call, wanted)
 }
 
-fn is_shown(alloc: Global, event: &Event, start: &str) -> Result<bool, NoMemory> {
-    let shown = format!(in alloc; "{event:?}")?;
-    Ok(shown.as_str().starts_with(start))
+fn shown(alloc: Global, event: &Event) -> Result<String, NoMemory> {
+    Ok(format!(in alloc; "{event:?}")?)
+}
+
+fn begins(text: &str, start: &str) -> bool {
+    text.as_bytes().starts_with(start.as_bytes())
+}
+
+// Whether the event is printed so for debugging. Where memory ran out it isn't.
+fn is_shown(alloc: Global, event: &Event, start: &str) -> bool {
+    match shown(alloc, event) {
+        Ok(text) => begins(text.as_str(), start),
+        Err(NoMemory) => false,
+    }
 }
 
 fn reads_as(alloc: Global, words: &[u8], start: &str) -> Result<bool, NoMemory> {
     match read_event(alloc, words)? {
-        Some(event) => is_shown(alloc, &event, start),
+        Some(event) => Ok(is_shown(alloc, &event, start)),
         None => Ok(false),
     }
 }

@@ -19,16 +19,23 @@ pub enum Answer {
 impl Answer {
     /// The answer itself.
     pub fn reply(self, alloc: Global) -> Result<Reply, NoMemory> {
-        Ok(match self {
-            Answer::Done => Reply::Done,
+        match self {
+            Answer::Text(b) => Ok(Reply::Text(Bytes::from_slice(alloc, b)?)),
+            other => Ok(other.plain()),
+        }
+    }
+
+    // The answer itself, where it has no bytes.
+    fn plain(self) -> Reply {
+        match self {
+            Answer::Done | Answer::Text(_) => Reply::Done,
             Answer::Num(n) => Reply::Num(n),
             Answer::State(front, mask) => Reply::State { front, mask },
-            Answer::Text(b) => Reply::Text(Bytes::from_slice(alloc, b)?),
             Answer::Mode(mode) => Reply::Mode(mode),
             Answer::Act(kind, value) => Reply::Act { kind, value },
             Answer::Wait => Reply::Wait,
             Answer::Sigs(bits) => Reply::Sigs(SigSet::from_bits(bits)),
             Answer::Err(errno) => Reply::Err(errno),
-        })
+        }
     }
 }
