@@ -1,6 +1,6 @@
 ghost use Rattle.std.specs.Prelude.{◌≡◌, ◌≤◌, None, Some, length, option_copied, [], ◌∷◌};
-ghost use Rattle.vt_journal.specs.Calls.{held_of, name_of, numbers_of};
-ghost use Rattle.vt_journal.specs.Kinds.{blank};
+ghost use Rattle.vt_journal.specs.Calls.{parts_of};
+ghost use Rattle.vt_journal.specs.Kinds.{told};
 
 use crate::kind::{Kind, NUMBERS};
 use arrayvec::ArrayVec;
@@ -19,9 +19,8 @@ pub struct Parts<'a> {
 impl<'a> Parts<'a> {
     /// What the words of the call say.
     pub fn of(e: &'a Event) -> Parts<'a>
-        ensures name { name_of (blank result.kind) ≡ name_of e.now }
-        ensures numbers { result.numbers.items ≡ numbers_of e.now }
-        ensures held { option_copied result.held ≡ held_of e.now }
+        ensures { told result.kind result.numbers.items (option_copied result.held)
+            ≡ parts_of e.now }
     {
         match e {
             Event::Scan(b) => holding(Kind::Scan, &[], array::from_ref(b)),
@@ -82,36 +81,32 @@ impl<'a> Parts<'a> {
 
 // A kind without numbers.
 fn no_number<'a>(kind: Kind) -> Parts<'a>
-    ensures kind { result.kind ≡ kind }
-    ensures numbers { result.numbers.items ≡ [] }
-    ensures held { result.held ≡ None }
+    ensures { told result.kind result.numbers.items (option_copied result.held)
+        ≡ told kind [] None }
 {
     plain(kind, &[])
 }
 
 // A kind and a number.
 fn one_number<'a>(kind: Kind, m: u16) -> Parts<'a>
-    ensures kind { result.kind ≡ kind }
-    ensures numbers { result.numbers.items ≡ m ∷ [] }
-    ensures held { result.held ≡ None }
+    ensures { told result.kind result.numbers.items (option_copied result.held)
+        ≡ told kind (m ∷ []) None }
 {
     plain(kind, &[m])
 }
 
 // A kind and two numbers.
 fn two_numbers<'a>(kind: Kind, m: u16, n: u16) -> Parts<'a>
-    ensures kind { result.kind ≡ kind }
-    ensures numbers { result.numbers.items ≡ m ∷ n ∷ [] }
-    ensures held { result.held ≡ None }
+    ensures { told result.kind result.numbers.items (option_copied result.held)
+        ≡ told kind (m ∷ n ∷ []) None }
 {
     plain(kind, &[m, n])
 }
 
 // A kind and three numbers.
 fn three_numbers<'a>(kind: Kind, m: u16, n: u16, o: u16) -> Parts<'a>
-    ensures kind { result.kind ≡ kind }
-    ensures numbers { result.numbers.items ≡ m ∷ n ∷ o ∷ [] }
-    ensures held { result.held ≡ None }
+    ensures { told result.kind result.numbers.items (option_copied result.held)
+        ≡ told kind (m ∷ n ∷ o ∷ []) None }
 {
     plain(kind, &[m, n, o])
 }
@@ -119,9 +114,8 @@ fn three_numbers<'a>(kind: Kind, m: u16, n: u16, o: u16) -> Parts<'a>
 // A kind and numbers.
 fn plain<'a>(kind: Kind, numbers: &[u16]) -> Parts<'a>
     requires { length numbers.now ≤ NUMBERS }
-    ensures kind { result.kind ≡ kind }
-    ensures numbers { result.numbers.items ≡ numbers.now }
-    ensures held { result.held ≡ None }
+    ensures { told result.kind result.numbers.items (option_copied result.held)
+        ≡ told kind numbers.now None }
 {
     Parts {
         kind,
@@ -133,9 +127,8 @@ fn plain<'a>(kind: Kind, numbers: &[u16]) -> Parts<'a>
 // A kind, numbers and bytes.
 fn holding<'a>(kind: Kind, numbers: &[u16], held: &'a [u8]) -> Parts<'a>
     requires { length numbers.now ≤ NUMBERS }
-    ensures kind { result.kind ≡ kind }
-    ensures numbers { result.numbers.items ≡ numbers.now }
-    ensures held { option_copied result.held ≡ Some held.now }
+    ensures { told result.kind result.numbers.items (option_copied result.held)
+        ≡ told kind numbers.now (Some held.now) }
 {
     Parts {
         kind,
