@@ -42,10 +42,16 @@ class Call:
         return f"Kind::{self.name} => {self.of('Event', places + held)},"
 
     def taken(self):
-        numbers = ", ".join(f"*{it}" for it in self.numbers)
-        held = ", array::from_ref(b)" if self.is_one_byte else ", b.as_slice()" if self.holds_bytes else ""
-        shape = "holding" if self.holds_bytes else "plain"
-        return f"{self.of('Event', self.fields)} => {shape}(Kind::{self.name}, &[{numbers}]{held}),"
+        numbers = [f"*{it}" for it in self.numbers]
+        counted = ["no_number", "one_number", "two_numbers", "three_numbers"]
+        if self.holds_bytes:
+            held = "array::from_ref(b)" if self.is_one_byte else "b.as_slice()"
+            made = f"holding(Kind::{self.name}, &[{', '.join(numbers)}], {held})"
+        elif len(numbers) < len(counted):
+            made = f"{counted[len(numbers)]}({', '.join([f'Kind::{self.name}', *numbers])})"
+        else:
+            made = f"plain(Kind::{self.name}, &[{', '.join(numbers)}])"
+        return f"{self.of('Event', self.fields)} => {made},"
 
     def row(self):
         held = str(self.holds_bytes).lower()

@@ -1,5 +1,6 @@
 pub mod Adds
 pub mod Cut
+pub mod ErrorText
 pub mod Fault
 pub mod FaultKinds
 pub mod Fields

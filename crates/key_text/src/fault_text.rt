@@ -1,9 +1,14 @@
 //! A fault as a text, as the program `vt` tells it on err.
+ghost use Rattle.std.specs.Prelude.{Some};
+ghost use Rattle.key_text.specs.ErrorText.{fault_text};
+
 use crate::KeyFault;
 use std::error::Error;
 use std::fmt;
 
 impl fmt::Display for KeyFault {
+    ghost output = { λ fault. Some (fault_text fault) };
+
     fn fmt<W: fmt::Write>(&self, f: &mut fmt::Formatter<W>) -> fmt::Result {
         let kind = self.kind;
         let line = self.line;

@@ -39,6 +39,36 @@ entry_line caller seq sign call answer t0 t1 t2 t3 t4 t5 t6 is1 is2 is3 is4 is5 
     let whole = spelled-cons caller (seq ∷ call ++ sign ∷ answer) in
     rw whole (rw others (simp (is6, is5, is4, is3, is2, is1, append_assoc)))
 
+-- a line of a name and of numbers, from its pieces
+pub numbered_line : (name ns : List ℕ) (i : ℕ) (t0 t1 : List ℕ) → take i ns ≡ ns
+    → t1 ≡ (t0 ++ name) ++ spaced (map decimal (take i ns))
+    → t1 ++ 0x0A ∷ [] ≡ t0 ++ line_text (name ∷ map decimal ns)
+numbered_line name ns i t0 t1 all is =
+    let whole : t1 ≡ (t0 ++ name) ++ spaced (map decimal ns) =
+    is ∙ ap (λ ms. (t0 ++ name) ++ spaced (map decimal ms)) all in
+    rw (spelled-cons name (map decimal ns)) (simp (whole, append_assoc))
+
+-- a name and numbers, each behind a blank, from their pieces
+pub named_numbers : (name ns : List ℕ) (i : ℕ) (t0 t1 : List ℕ) → take i ns ≡ ns
+    → t1 ≡ (t0 ++ 0x20 ∷ name) ++ spaced (map decimal (take i ns))
+    → t1 ≡ t0 ++ spaced (name ∷ map decimal ns)
+named_numbers name ns i t0 t1 all is =
+    is
+    ∙ ap (λ ms. (t0 ++ 0x20 ∷ name) ++ spaced (map decimal ms)) all
+    ∙ append_assoc t0 (0x20 ∷ name) (spaced (map decimal ns))
+
+-- one more number behind a blank, after the first ones
+pub numbers_more : (ns : List ℕ) (i : ℕ) (front text more : List ℕ) → i < length ns
+    → text ≡ front ++ spaced (map decimal (take i ns)) → more ≡ text ++ 0x20 ∷ decimal (get_or ns i 0)
+    → more ≡ front ++ spaced (map decimal (take (i + 1) ns))
+numbers_more ns i front text more within so_far added =
+    let n = get_or ns i 0 in
+    let next : take (i + 1) ns ≡ take i ns ++ n ∷ [] =
+    ap (λ k. take k ns) (add-one i) ∙ take-suc ns i 0 within in
+    rw (next, map-append decimal (take i ns) (n ∷ []))
+    (rw (flat_map-append (λ (word : List ℕ). 0x20 ∷ word) (map decimal (take i ns)) (decimal n ∷ []))
+    (simp (added, so_far, append_assoc, append-nil)))
+
 -- one more line, after those of the first entries
 pub lines_more : (version : ℕ) (head : List (List ℕ)) (entries : List Entry) (i : ℕ) (entry : Entry)
     (old text more : List ℕ) → i < length entries → entry ≡ get_or entries i entry

@@ -1,12 +1,17 @@
 -- Texts that grow, piece by piece.
-use Rattle.std.proofs.Common.{◌≡◌, ℕ, ◌≤◌, ◌++◌, List, length, take, arith, sym, ap, ◌∙◌}
+use Rattle.std.proofs.Common.{◌≡◌, ℕ, ◌≤◌, ◌++◌, Result, Ok, Err, List, [], length, take, arith, sym, ap, ◌∙◌}
+use Rattle.std.specs.Prelude.{OnErr, OnOk}
 use Rattle.std.proofs.Math.Seq.{take-append_seam}
-use Rattle.std.proofs.lemmas.List.{take-take, length-take}
+use Rattle.std.proofs.lemmas.List.{append-nil, take-take, length-take}
 use Rattle.vt_journal.specs.Text.{Begins}
 
 -- a text with more behind it
 pub begins_more : (a b more : List ℕ) → b ≡ a ++ more → Begins a b
 begins_more a b more is = record { front = ap (take (length a)) is ∙ take-append_seam a more }
+
+-- a text begins with itself
+pub begins_same : (a b : List ℕ) → b ≡ a → Begins a b
+begins_same a b is = begins_more a b [] (is ∙ sym (append-nil a))
 
 -- a text begins with what its beginning began with
 pub begins_after : (a b c : List ℕ) → Begins a b → Begins b c → Begins a c
@@ -19,3 +24,9 @@ begins_after a b c first then =
           ∙ ap (take (length a)) then.front
           ∙ first.front;
     }
+
+-- a text begins with what it was, however a call ended that adds a piece or leaves it
+pub begins_either : {T E : Type 0} (r : Result T E) (a b more : List ℕ) → OnOk r (b ≡ a ++ more)
+    → OnErr r (b ≡ a) → Begins a b
+begins_either (Ok x) a b more ok err = begins_more a b more ok
+begins_either (Err e) a b more ok err = begins_same a b err

@@ -1,9 +1,10 @@
 -- The kinds of calls, by which calls are made of their words.
-use Rattle.std.specs.Prelude.{ℕ, ◌==◌, Bool, true, List, []}
+use Rattle.std.specs.Prelude.{ℕ, ◌==◌, Bool, true, List, [], Option}
 use Rattle.std.specs.List.{slice_index}
 use Rattle.vt_events.specs.Plain.{text}
 use Rattle.vt_events.specs.declared.event.Event.{Event}
 use Rattle.vt_events.specs.declared.event.Event.TheVariants as event
+use Rattle.vt_journal.specs.Calls.{Parts, name_of}
 use Rattle.vt_journal.specs.declared.kind.Kind.{Kind}
 use Rattle.vt_journal.specs.declared.kind.Kind.TheVariants as kind
 
@@ -68,3 +69,7 @@ blank k = call_of k [] []
 abbrev pub takes : Kind → ℕ → Bool
 takes kind.Scan n = n == 1
 takes k n = true
+
+-- what the words of a call of this kind say
+abbrev pub told : Kind → List ℕ → Option (List ℕ) → Parts
+told kind numbers held = record { name = name_of (blank kind); numbers = numbers; held = held }

@@ -1,6 +1,7 @@
 pub mod Callers
 pub mod Calls
 pub mod Cut
+pub mod ErrorText
 pub mod Hex
 pub mod Journal
 pub mod Kinds

@@ -13,7 +13,7 @@ use vt_events::Event;
 pub const NUMBERS: usize = 6;
 
 /// Which call it is, as its [`Event`] is named.
-#[derive(Clone, Copy, Debug, PartialEq, Eq)]
+#[derive(Clone, Copy, PartialEq, Eq)]
 pub enum Kind {
     Scan,
     Exit,

@@ -1,6 +1,6 @@
-ghost use Rattle.std.specs.Prelude.{◌≡◌, ◌≤◌, None, Some, length, option_copied};
-ghost use Rattle.vt_journal.specs.Calls.{held_of, name_of, numbers_of};
-ghost use Rattle.vt_journal.specs.Kinds.{blank};
+ghost use Rattle.std.specs.Prelude.{◌≡◌, ◌≤◌, None, Some, length, option_copied, [], ◌∷◌};
+ghost use Rattle.vt_journal.specs.Calls.{parts_of};
+ghost use Rattle.vt_journal.specs.Kinds.{told};
 
 use crate::kind::{Kind, NUMBERS};
 use arrayvec::ArrayVec;
@@ -19,74 +19,103 @@ pub struct Parts<'a> {
 impl<'a> Parts<'a> {
     /// What the words of the call say.
     pub fn of(e: &'a Event) -> Parts<'a>
-        ensures name { name_of (blank result.kind) ≡ name_of e.now }
-        ensures numbers { result.numbers.items ≡ numbers_of e.now }
-        ensures held { option_copied result.held ≡ held_of e.now }
+        ensures { told result.kind result.numbers.items (option_copied result.held)
+            ≡ parts_of e.now }
     {
         match e {
             Event::Scan(b) => holding(Kind::Scan, &[], array::from_ref(b)),
-            Event::Exit => plain(Kind::Exit, &[]),
-            Event::OpenCon(n) => plain(Kind::OpenCon, &[*n]),
-            Event::CloseFd(fd) => plain(Kind::CloseFd, &[*fd]),
+            Event::Exit => no_number(Kind::Exit),
+            Event::OpenCon(n) => one_number(Kind::OpenCon, *n),
+            Event::CloseFd(fd) => one_number(Kind::CloseFd, *fd),
             Event::Write(fd, b) => holding(Kind::Write, &[*fd], b.as_slice()),
-            Event::ReadIn(fd, most) => plain(Kind::ReadIn, &[*fd, *most]),
-            Event::WaitInput(fd) => plain(Kind::WaitInput, &[*fd]),
-            Event::WaitActive(fd, n) => plain(Kind::WaitActive, &[*fd, *n]),
-            Event::WaitSignal => plain(Kind::WaitSignal, &[]),
-            Event::WaitEnd => plain(Kind::WaitEnd, &[]),
-            Event::Activate(fd, n) => plain(Kind::Activate, &[*fd, *n]),
-            Event::Disallocate(fd, n) => plain(Kind::Disallocate, &[*fd, *n]),
-            Event::OpenQry(fd) => plain(Kind::OpenQry, &[*fd]),
-            Event::GetState(fd) => plain(Kind::GetState, &[*fd]),
-            Event::Resize(fd, rows, cols) => plain(Kind::Resize, &[*fd, *rows, *cols]),
-            Event::LockSwitch(fd) => plain(Kind::LockSwitch, &[*fd]),
-            Event::UnlockSwitch(fd) => plain(Kind::UnlockSwitch, &[*fd]),
-            Event::SetKd(fd, mode) => plain(Kind::SetKd, &[*fd, *mode]),
-            Event::GetKd(fd) => plain(Kind::GetKd, &[*fd]),
-            Event::SetMode(fd, mode, waitv, relsig, acqsig, frsig) => {
-                plain(
-                    Kind::SetMode,
-                    &[*fd, *mode, *waitv, *relsig, *acqsig, *frsig],
-                )
-            }
-            Event::GetMode(fd) => plain(Kind::GetMode, &[*fd]),
-            Event::RelDisp(fd, arg) => plain(Kind::RelDisp, &[*fd, *arg]),
-            Event::SetKb(fd, mode) => plain(Kind::SetKb, &[*fd, *mode]),
-            Event::GetKb(fd) => plain(Kind::GetKb, &[*fd]),
-            Event::SetMeta(fd, meta) => plain(Kind::SetMeta, &[*fd, *meta]),
-            Event::GetMeta(fd) => plain(Kind::GetMeta, &[*fd]),
-            Event::SetLed(fd, lights) => plain(Kind::SetLed, &[*fd, *lights]),
-            Event::GetLed(fd) => plain(Kind::GetLed, &[*fd]),
-            Event::SetFlags(fd, flags) => plain(Kind::SetFlags, &[*fd, *flags]),
-            Event::GetFlags(fd) => plain(Kind::GetFlags, &[*fd]),
-            Event::SetEntry(fd, table, code, kind, value) => {
-                plain(Kind::SetEntry, &[*fd, *table, *code, *kind, *value])
-            }
-            Event::GetEntry(fd, table, code) => plain(Kind::GetEntry, &[*fd, *table, *code]),
+            Event::ReadIn(fd, most) => two_numbers(Kind::ReadIn, *fd, *most),
+            Event::WaitInput(fd) => one_number(Kind::WaitInput, *fd),
+            Event::WaitActive(fd, n) => two_numbers(Kind::WaitActive, *fd, *n),
+            Event::WaitSignal => no_number(Kind::WaitSignal),
+            Event::WaitEnd => no_number(Kind::WaitEnd),
+            Event::Activate(fd, n) => two_numbers(Kind::Activate, *fd, *n),
+            Event::Disallocate(fd, n) => two_numbers(Kind::Disallocate, *fd, *n),
+            Event::OpenQry(fd) => one_number(Kind::OpenQry, *fd),
+            Event::GetState(fd) => one_number(Kind::GetState, *fd),
+            Event::Resize(fd, rows, cols) => three_numbers(Kind::Resize, *fd, *rows, *cols),
+            Event::LockSwitch(fd) => one_number(Kind::LockSwitch, *fd),
+            Event::UnlockSwitch(fd) => one_number(Kind::UnlockSwitch, *fd),
+            Event::SetKd(fd, mode) => two_numbers(Kind::SetKd, *fd, *mode),
+            Event::GetKd(fd) => one_number(Kind::GetKd, *fd),
+            Event::SetMode(fd, mode, waitv, relsig, acqsig, frsig) => plain(
+                Kind::SetMode,
+                &[*fd, *mode, *waitv, *relsig, *acqsig, *frsig],
+            ),
+            Event::GetMode(fd) => one_number(Kind::GetMode, *fd),
+            Event::RelDisp(fd, arg) => two_numbers(Kind::RelDisp, *fd, *arg),
+            Event::SetKb(fd, mode) => two_numbers(Kind::SetKb, *fd, *mode),
+            Event::GetKb(fd) => one_number(Kind::GetKb, *fd),
+            Event::SetMeta(fd, meta) => two_numbers(Kind::SetMeta, *fd, *meta),
+            Event::GetMeta(fd) => one_number(Kind::GetMeta, *fd),
+            Event::SetLed(fd, lights) => two_numbers(Kind::SetLed, *fd, *lights),
+            Event::GetLed(fd) => one_number(Kind::GetLed, *fd),
+            Event::SetFlags(fd, flags) => two_numbers(Kind::SetFlags, *fd, *flags),
+            Event::GetFlags(fd) => one_number(Kind::GetFlags, *fd),
+            Event::SetEntry(fd, table, code, kind, value) => plain(
+                Kind::SetEntry,
+                &[*fd, *table, *code, *kind, *value],
+            ),
+            Event::GetEntry(fd, table, code) => three_numbers(Kind::GetEntry, *fd, *table, *code),
             Event::SetFunc(fd, i, b) => holding(Kind::SetFunc, &[*fd, *i], b.as_slice()),
-            Event::GetFunc(fd, i) => plain(Kind::GetFunc, &[*fd, *i]),
+            Event::GetFunc(fd, i) => two_numbers(Kind::GetFunc, *fd, *i),
             Event::SetDia(fd, b) => holding(Kind::SetDia, &[*fd], b.as_slice()),
-            Event::GetDia(fd) => plain(Kind::GetDia, &[*fd]),
-            Event::SetCode(fd, scan, code) => plain(Kind::SetCode, &[*fd, *scan, *code]),
-            Event::GetCode(fd, scan) => plain(Kind::GetCode, &[*fd, *scan]),
-            Event::Accept(fd, signal) => plain(Kind::Accept, &[*fd, *signal]),
+            Event::GetDia(fd) => one_number(Kind::GetDia, *fd),
+            Event::SetCode(fd, scan, code) => three_numbers(Kind::SetCode, *fd, *scan, *code),
+            Event::GetCode(fd, scan) => two_numbers(Kind::GetCode, *fd, *scan),
+            Event::Accept(fd, signal) => two_numbers(Kind::Accept, *fd, *signal),
             Event::SetMap(fd, b) => holding(Kind::SetMap, &[*fd], b.as_slice()),
-            Event::GetMap(fd) => plain(Kind::GetMap, &[*fd]),
+            Event::GetMap(fd) => one_number(Kind::GetMap, *fd),
             Event::SetPal(fd, b) => holding(Kind::SetPal, &[*fd], b.as_slice()),
-            Event::GetPal(fd) => plain(Kind::GetPal, &[*fd]),
-            Event::Dump(kind, n) => plain(Kind::Dump, &[*kind, *n]),
-            Event::TakeSignals => plain(Kind::TakeSignals, &[]),
-            Event::Kill(caller, signal) => plain(Kind::Kill, &[*caller, *signal]),
+            Event::GetPal(fd) => one_number(Kind::GetPal, *fd),
+            Event::Dump(kind, n) => two_numbers(Kind::Dump, *kind, *n),
+            Event::TakeSignals => no_number(Kind::TakeSignals),
+            Event::Kill(caller, signal) => two_numbers(Kind::Kill, *caller, *signal),
         }
     }
+}
+
+// A kind without numbers.
+fn no_number<'a>(kind: Kind) -> Parts<'a>
+    ensures { told result.kind result.numbers.items (option_copied result.held)
+        ≡ told kind [] None }
+{
+    plain(kind, &[])
+}
+
+// A kind and a number.
+fn one_number<'a>(kind: Kind, m: u16) -> Parts<'a>
+    ensures { told result.kind result.numbers.items (option_copied result.held)
+        ≡ told kind (m ∷ []) None }
+{
+    plain(kind, &[m])
+}
+
+// A kind and two numbers.
+fn two_numbers<'a>(kind: Kind, m: u16, n: u16) -> Parts<'a>
+    ensures { told result.kind result.numbers.items (option_copied result.held)
+        ≡ told kind (m ∷ n ∷ []) None }
+{
+    plain(kind, &[m, n])
+}
+
+// A kind and three numbers.
+fn three_numbers<'a>(kind: Kind, m: u16, n: u16, o: u16) -> Parts<'a>
+    ensures { told result.kind result.numbers.items (option_copied result.held)
+        ≡ told kind (m ∷ n ∷ o ∷ []) None }
+{
+    plain(kind, &[m, n, o])
 }
 
 // A kind and numbers.
 fn plain<'a>(kind: Kind, numbers: &[u16]) -> Parts<'a>
     requires { length numbers.now ≤ NUMBERS }
-    ensures kind { result.kind ≡ kind }
-    ensures numbers { result.numbers.items ≡ numbers.now }
-    ensures held { result.held ≡ None }
+    ensures { told result.kind result.numbers.items (option_copied result.held)
+        ≡ told kind numbers.now None }
 {
     Parts {
         kind,
@@ -98,9 +127,8 @@ fn plain<'a>(kind: Kind, numbers: &[u16]) -> Parts<'a>
 // A kind, numbers and bytes.
 fn holding<'a>(kind: Kind, numbers: &[u16], held: &'a [u8]) -> Parts<'a>
     requires { length numbers.now ≤ NUMBERS }
-    ensures kind { result.kind ≡ kind }
-    ensures numbers { result.numbers.items ≡ numbers.now }
-    ensures held { option_copied result.held ≡ Some held.now }
+    ensures { told result.kind result.numbers.items (option_copied result.held)
+        ≡ told kind numbers.now (Some held.now) }
 {
     Parts {
         kind,

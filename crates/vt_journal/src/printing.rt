@@ -1,5 +1,5 @@
 //! The text of a journal, in either version.
-ghost use Rattle.std.specs.Prelude.{◌≡◌, ◌<◌, ◌≤◌, ◌^◌, ◌∷◌, ◌++◌, map, option_copied, IfSome, OnOk, OnErr};
+ghost use Rattle.std.specs.Prelude.{◌≡◌, ◌<◌, ◌≤◌, ◌^◌, ◌∷◌, ◌++◌, decimal, map, option_copied, IfSome, OnOk, OnErr};
 ghost use Rattle.std.specs.List.{All};
 ghost use Rattle.vt_events.specs.Plain.{plain_entry, plain_event, plain_reply};
 ghost use Rattle.vt_base.specs.Limits.{processes};
@@ -70,10 +70,25 @@ fn add_first(alloc: Global, text: &mut Bytes, version: u8) -> Result<(), NoMemor
         (text.new.bytes ≡ text.old.bytes ++ line_text (first_words version)) }
     ensures kept { Begins text.old.bytes text.new.bytes }
 {
-    add(alloc, text, b"%journal")?;
-    add_next(alloc, text, u64::from(version))?;
-    add_end(alloc, text)?;
-    Ok(())
+    add_numbered(alloc, text, b"%journal", &[u64::from(version)])
+}
+
+// A line of a name and of numbers, each behind a blank.
+fn add_numbered(
+    alloc: Global,
+    text: &mut Bytes,
+    name: &[u8],
+    numbers: &[u64],
+) -> Result<(), NoMemory>
+    ensures ok { OnOk result
+        (text.new.bytes ≡ text.old.bytes ++ line_text (name.now ∷ map decimal numbers.now)) }
+    ensures kept { Begins text.old.bytes text.new.bytes }
+{
+    add(alloc, text, name)?;
+    for n in numbers {
+        add_next(alloc, text, *n)?;
+    }
+    add_end(alloc, text)
 }
 
 fn add_entry(alloc: Global, text: &mut Bytes, version: u8, entry: &Entry) -> Result<(), NoMemory>
@@ -99,9 +114,7 @@ fn add_tail(alloc: Global, text: &mut Bytes, end: &Tail) -> Result<(), NoMemory>
 {
     match end {
         Tail::End { events, bytes } => {
-            add(alloc, text, b"%end")?;
-            add_next(alloc, text, u64::from(*events))?;
-            add_next(alloc, text, *bytes)?;
+            add_numbered(alloc, text, b"%end", &[u64::from(*events), *bytes])
         }
         Tail::Full(
             Full {
@@ -110,14 +123,10 @@ fn add_tail(alloc: Global, text: &mut Bytes, end: &Tail) -> Result<(), NoMemory>
                 charge,
             },
         ) => {
-            add(alloc, text, b"%full")?;
-            add_next(alloc, text, u64::from(*events))?;
-            add_next(alloc, text, *bytes)?;
-            add_next(alloc, text, u64::from(*charge))?;
+            let numbers = [u64::from(*events), *bytes, u64::from(*charge)];
+            add_numbered(alloc, text, b"%full", &numbers)
         }
     }
-    add(alloc, text, b"\n")?;
-    Ok(())
 }
 
 // The words of a call, each behind a blank.

@@ -13,7 +13,7 @@ const MOST_WORD: u64 = 65_535;
 const MOST_LONG: u64 = 4_294_967_295;
 
 /// Which answer it is, as its [`Reply`] is named.
-#[derive(Clone, Copy, Debug, PartialEq, Eq)]
+#[derive(Clone, Copy, PartialEq, Eq)]
 pub enum ReplyKind {
     Done,
     Num,

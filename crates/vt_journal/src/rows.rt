@@ -7,7 +7,6 @@ ghost use Rattle.vt_journal.specs.declared.kind.Kind.{Kind};
 use crate::kind::Kind;
 
 /// What the words of a kind of calls are.
-#[derive(Debug)]
 pub struct Row {
     pub kind: Kind,
     pub name: &'static [u8],

@@ -4,5 +4,5 @@ use Rattle.vt_journal.proofs.adding.add_named.Given as goal
 
 abbrev pub invariant-loop-n : goal.invariant-loop-n
 invariant-loop-n l =
-    (l.text.bytes ≡ l.fn.text.bytes ++ spaced (l.name ∷ map decimal (take l.n-index l.numbers)))
+    (l.text.bytes ≡ (l.fn.text.bytes ++ 0x20 ∷ l.name) ++ spaced (map decimal (take l.n-index l.numbers)))
     × Begins l.fn.text.bytes l.text.bytes

@@ -1,6 +1,6 @@
 use Rattle.std.proofs.Common.{decimal, arith}
 use Rattle.vt_journal.proofs.Lines.{entry_line}
-use Rattle.vt_journal.proofs.Texts.{begins_after, begins_more}
+use Rattle.vt_journal.proofs.Texts.{begins_after, begins_more, begins_same}
 use Rattle.vt_journal.specs.Callers.{caller_word}
 use Rattle.vt_journal.specs.Words.{event_words, reply_words}
 use Rattle.vt_journal.proofs.printing.add_entry.Goals as goal
@@ -22,3 +22,42 @@ returns-in_err-add_reply-clause-kept c =
     let call = begins_after _ _ _ seq c.add_event.ensures.kept in
     let sign = begins_after _ _ _ call (begins_more _ _ _ c.in_ok-add.ensures.ok) in
     begins_after _ _ _ sign c.add_reply.ensures.kept
+
+pub returns-in_err-add_caller-clause-kept : goal.returns-in_err-add_caller-clause-kept
+returns-in_err-add_caller-clause-kept c = begins_same _ _ c.in_err-add_caller.ensures.err
+
+pub returns-in_err-add_next-clause-kept : goal.returns-in_err-add_next-clause-kept
+returns-in_err-add_next-clause-kept c =
+    begins_after _ _ _ (begins_more _ _ _ c.in_ok-add_caller.ensures.ok)
+    (begins_same _ _ c.in_err-add_next.ensures.err)
+
+pub returns-in_err-add_event-clause-kept : goal.returns-in_err-add_event-clause-kept
+returns-in_err-add_event-clause-kept c =
+    let caller = begins_more _ _ _ c.in_ok-add_caller.ensures.ok in
+    let seq = begins_after _ _ _ caller (begins_more _ _ _ c.in_ok-add_next.ensures.ok) in
+    begins_after _ _ _ seq c.add_event.ensures.kept
+
+pub returns-in_err-add-clause-kept : goal.returns-in_err-add-clause-kept
+returns-in_err-add-clause-kept c =
+    let caller = begins_more _ _ _ c.in_ok-add_caller.ensures.ok in
+    let seq = begins_after _ _ _ caller (begins_more _ _ _ c.in_ok-add_next.ensures.ok) in
+    let call = begins_after _ _ _ seq c.add_event.ensures.kept in
+    begins_after _ _ _ call (begins_same _ _ c.in_err-add.ensures.err)
+
+pub returns-in_err-add_end-clause-kept : goal.returns-in_err-add_end-clause-kept
+returns-in_err-add_end-clause-kept c =
+    let caller = begins_more _ _ _ c.in_ok-add_caller.ensures.ok in
+    let seq = begins_after _ _ _ caller (begins_more _ _ _ c.in_ok-add_next.ensures.ok) in
+    let call = begins_after _ _ _ seq c.add_event.ensures.kept in
+    let sign = begins_after _ _ _ call (begins_more _ _ _ c.in_ok-add.ensures.ok) in
+    let answer = begins_after _ _ _ sign c.add_reply.ensures.kept in
+    begins_after _ _ _ answer (begins_same _ _ c.in_err-add_end.ensures.err)
+
+pub returns-clause-kept : goal.returns-clause-kept
+returns-clause-kept c =
+    let caller = begins_more _ _ _ c.in_ok-add_caller.ensures.ok in
+    let seq = begins_after _ _ _ caller (begins_more _ _ _ c.in_ok-add_next.ensures.ok) in
+    let call = begins_after _ _ _ seq c.add_event.ensures.kept in
+    let sign = begins_after _ _ _ call (begins_more _ _ _ c.in_ok-add.ensures.ok) in
+    let answer = begins_after _ _ _ sign c.add_reply.ensures.kept in
+    begins_after _ _ _ answer (begins_more _ _ _ c.in_ok-add_end.ensures.ok)

@@ -26,3 +26,15 @@ returns-clause-fit c =
     subst (All (IsFitEntry c.args.version))
     (ap (map plain_entry) (take_all c.loop-entry.entry-index c.args.entries.now c.loop-entry-test.false))
     c.loop-entry.invariant.fit
+
+pub returns-in_err-add_first-clause-kept : goal.returns-in_err-add_first-clause-kept
+returns-in_err-add_first-clause-kept c = c.add_first.ensures.kept
+
+pub returns-in_err-add_entry-clause-kept : goal.returns-in_err-add_entry-clause-kept
+returns-in_err-add_entry-clause-kept c = begins_after _ _ _ c.loop-entry.invariant.begins c.add_entry.ensures.kept
+
+pub returns-in_err-add_tail-clause-kept : goal.returns-in_err-add_tail-clause-kept
+returns-in_err-add_tail-clause-kept c = begins_after _ _ _ c.loop-entry.invariant.begins c.add_tail.ensures.kept
+
+pub returns-clause-kept : goal.returns-clause-kept
+returns-clause-kept c = begins_after _ _ _ c.loop-entry.invariant.begins c.add_tail.ensures.kept
