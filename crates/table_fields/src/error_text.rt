@@ -1,20 +1,24 @@
 //! The errors as texts, as the program `vt` tells them on err.
+ghost use Rattle.std.specs.Prelude.{Some};
+ghost use Rattle.table_fields.specs.ErrorTexts.{error_text, fault_text};
+
 use crate::{TableError, TableFault};
 use std::error::Error;
 use std::fmt;
 
 impl fmt::Display for TableFault {
+    ghost output = { λ fault. Some (fault_text fault) };
+
     fn fmt<W: fmt::Write>(&self, f: &mut fmt::Formatter<W>) -> fmt::Result {
-        let kind = self.kind;
-        let part = self.part;
-        let item = self.item;
-        write!(f, "refused {kind} at {part}:{item}")
+        write!(f, "refused {} at {}:{}", self.kind, self.part, self.item)
     }
 }
 
 impl Error for TableFault {}
 
 impl fmt::Display for TableError {
+    ghost output = { λ error. Some (error_text error) };
+
     fn fmt<W: fmt::Write>(&self, f: &mut fmt::Formatter<W>) -> fmt::Result {
         match self {
             TableError::Fault(fault) => write!(f, "{fault}"),

@@ -1,9 +1,6 @@
 ghost use Rattle.std.specs.Prelude.{◌≡◌};
 ghost use Rattle.table_fields.specs.Checked.{fault};
 
-use std::alloc::{AllocError, AllocFailed};
-use vt_base::NoMemory;
-
 /// The first fault of a TOML table, or of a text in it: its kind, and its place. Of a table the place
 /// is the part, 0 for the table itself, and the number of a key or of an item, from 1; of a keymap it
 /// is line and column.
@@ -35,48 +32,4 @@ pub fn refused(kind: u16, part: u32, item: u32) -> TableError
     ensures { result ≡ TableError.Fault (fault kind part item) }
 {
     TableError::Fault(fault(kind, part, item))
-}
-
-impl From<TableFault> for TableError {
-    ghost use Rattle.std.specs.Prelude.{◌≡◌};
-    ghost use Rattle.table_fields.specs.declared.fault.TableError.TheVariants.{Fault as why};
-
-    ghost from_gives = { λ fault e. e ≡ why fault };
-
-    fn from(fault: TableFault) -> TableError {
-        TableError::Fault(fault)
-    }
-}
-
-impl From<NoMemory> for TableError {
-    ghost use Rattle.std.specs.Prelude.{◌≡◌};
-    ghost use Rattle.table_fields.specs.declared.fault.TableError.TheVariants.{NoMemory as want};
-
-    ghost from_gives = { λ _ e. e ≡ want };
-
-    fn from(_error: NoMemory) -> TableError {
-        TableError::NoMemory
-    }
-}
-
-impl From<AllocError> for TableError {
-    ghost use Rattle.std.specs.Prelude.{◌≡◌};
-    ghost use Rattle.table_fields.specs.declared.fault.TableError.TheVariants.{NoMemory as want};
-
-    ghost from_gives = { λ _ e. e ≡ want };
-
-    fn from(_error: AllocError) -> TableError {
-        TableError::NoMemory
-    }
-}
-
-impl<T: Drop> From<AllocFailed<T>> for TableError {
-    ghost use Rattle.std.specs.Prelude.{◌≡◌};
-    ghost use Rattle.table_fields.specs.declared.fault.TableError.TheVariants.{NoMemory as want};
-
-    ghost from_gives = { λ _ e. e ≡ want };
-
-    fn from(_error: AllocFailed<T>) -> TableError {
-        TableError::NoMemory
-    }
 }

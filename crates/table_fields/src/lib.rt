@@ -3,6 +3,7 @@
 #![tactic(auto)]
 
 mod arrays;
+mod conversions;
 mod documents;
 mod error_text;
 mod fault;

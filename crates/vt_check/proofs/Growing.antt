@@ -4,19 +4,20 @@ use Rattle.std.proofs.lemmas.List.{length_push}
 use Rattle.std.proofs.lemmas.List.Sums.{sum_by-append}
 use Rattle.session_order.specs.Ends.{Setup}
 use Rattle.session_order.specs.Standing.{AreAfter}
-use Rattle.vt_check.specs.Judging.{IsAfter, JudgeView}
+use Rattle.vt_check.specs.Judging.{IsAfter}
+use Rattle.vt_check.specs.declared.judge.Judge.{Judge}
 use Rattle.vt_events.specs.Charge.{charge_of}
 use Rattle.vt_events.specs.declared.entry.Entry.{Entry}
 use Rattle.vt_world.specs.History.{ReplayGrows}
 use Rattle.vt_world.specs.Step.{step}
 
 -- what an entry that passes changes
-pub record Takes (entry : Entry) (before after : JudgeView) : Type 0 where
+pub record Takes (entry : Entry) (before after : Judge) : Type 0 where
   pub stepped : (step before.world entry.caller entry.event).world ≡ after.world
   pub events : after.events ≡ before.events + 1
   pub bytes : after.bytes ≡ before.bytes + charge_of entry.event
 
-pub taken : ReplayGrows → (o : Setup) (h : List Entry) (entry : Entry) (before after : JudgeView)
+pub taken : ReplayGrows → (o : Setup) (h : List Entry) (entry : Entry) (before after : Judge)
     → Takes entry before after → AreAfter o.programs (h ++ entry ∷ []) after.standing
     → IsAfter o h before
     → IsAfter o (h ++ entry ∷ []) after

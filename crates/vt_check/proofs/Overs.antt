@@ -1,5 +1,5 @@
 -- How a judge tells the end of a journal.
-use Rattle.std.proofs.Common.{◌≡◌, ◌≢◌, ◌↔◌, ℕ, ◌+◌, ◌<◌, ◌≤◌, ⊎_elim, Bool, true, false, ◌&&◌, nat_le, nat_lt, List, length, get_or, Option, Some, None, is_some, Result, Ok, Err, refl, sym, ap, subst, ◌∙◌, arith}
+use Rattle.std.proofs.Common.{◌≡◌, ◌↔◌, ℕ, ◌+◌, ◌<◌, ◌≤◌, ⊎_elim, Bool, true, false, ◌&&◌, nat_le, nat_lt, List, length, get_or, Option, Some, None, is_some, Result, Ok, Err, refl, sym, ap, subst, ◌∙◌, arith}
 use Rattle.std.specs.List.{range_with_len}
 use Rattle.std.specs.Bool.{OnFalse, OnTrue}
 use Rattle.std.specs.Prelude.{IfOk, IsTrue}
@@ -17,7 +17,8 @@ use Rattle.session_text.specs.Sessions.{ArePrograms, CallersHavePrograms}
 use Rattle.session_text.specs.declared.program.Program.{Program}
 use Rattle.vt_base.specs.Limits.{callers}
 use Rattle.vt_check.proofs.VerdictLaws.{caller_known}
-use Rattle.vt_check.specs.Judging.{AreOfCallers, HasCall, IsAfter, JudgeView}
+use Rattle.vt_check.specs.Judging.{AreOfCallers, HasCall, IsAfter}
+use Rattle.vt_check.specs.declared.judge.Judge.{Judge}
 use Rattle.vt_events.specs.Charge.{charge_of}
 use Rattle.vt_events.specs.declared.entry.Entry.{Entry}
 use Rattle.vt_events.specs.declared.event.Event.{Event}
@@ -69,7 +70,7 @@ of_callers have processes keyboards list few four are = λ p is.
     (sym (have processes keyboards list few are p) ∙ is))
 
 -- the history stops at the call that was found
-pub stops_here : (o : Setup) (h : List Entry) (view : JudgeView) (full : Full) (caller : ℕ)
+pub stops_here : (o : Setup) (h : List Entry) (view : Judge) (full : Full) (caller : ℕ)
     → IsAfter o h view → full.events ≡ view.events → full.bytes ≡ view.bytes
     → has_room o.limits h full.charge ≡ false → HasCall o h caller full.charge → Stops o h full
 stops_here o h view full caller at events bytes none has =
@@ -86,7 +87,7 @@ stops_here o h view full caller at events bytes none has =
     }
 
 -- a history that stops has these numbers, no room, and such a call
-pub numbers_of_stop : (o : Setup) (h : List Entry) (view : JudgeView) (full : Full) → IsAfter o h view
+pub numbers_of_stop : (o : Setup) (h : List Entry) (view : Judge) (full : Full) → IsAfter o h view
     → Stops o h full → (full.events ≡ view.events) × (full.bytes ≡ view.bytes)
 numbers_of_stop o h view full at is = (
   ap (λ (f : Full). f.events) is.numbers ∙ sym at.events,
@@ -133,7 +134,7 @@ over_calls o h p wanted none = (
 )
 
 -- whether the history stops, where the numbers are right and there is no room
-pub stop_tested : (o : Setup) (h : List Entry) (view : JudgeView) (full : Full) (programs : List Program) (is : Bool)
+pub stop_tested : (o : Setup) (h : List Entry) (view : Judge) (full : Full) (programs : List Program) (is : Bool)
     → AreOfCallers programs → IsAfter o h view → o.programs ≡ programs → (full.events ≡ view.events) × (full.bytes ≡ view.bytes)
     → has_room o.limits h full.charge ≡ false
     → OnTrue is ((caller : ℕ) × HasCall o h caller full.charge)

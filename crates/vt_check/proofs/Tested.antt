@@ -11,7 +11,8 @@ use Rattle.session_order.specs.Meant.{NextIsPlain}
 use Rattle.session_order.specs.Calls.{calls_by, next_of}
 use Rattle.session_text.specs.Programs.{next, program_of}
 use Rattle.session_text.specs.declared.program.Program.{Program}
-use Rattle.vt_check.specs.Judging.{IsAfter, JudgeView}
+use Rattle.vt_check.specs.Judging.{IsAfter}
+use Rattle.vt_check.specs.declared.judge.Judge.{Judge}
 use Rattle.vt_check.specs.Verdicts.{IsAnswered, IsCounted}
 use Rattle.vt_events.specs.Plain.{plain_event, plain_reply}
 use Rattle.vt_events.specs.declared.entry.Entry.{Entry}
@@ -23,7 +24,7 @@ use Rattle.vt_world.specs.Step.{Outcome, step}
 use Rattle.vt_world.specs.Refusals.{ends_wait}
 
 -- the answer was compared with the console's
-pub answered_is : (o : Setup) (h : List Entry) (view : JudgeView) (entry : Entry) (after : WorldState) (reply : Reply) (same : Bool)
+pub answered_is : (o : Setup) (h : List Entry) (view : Judge) (entry : Entry) (after : WorldState) (reply : Reply) (same : Bool)
     → IsAfter o h view
     → step view.world entry.caller entry.event ≡ record { world = after; reply = plain_reply reply }
     → (IsTrue same ↔ (plain_reply reply ≡ plain_reply entry.reply))
@@ -35,7 +36,7 @@ answered_is o h view entry after reply same at stepped compared =
     (λ is. sym (compared.0 is) ∙ answer, λ is. compared.1 (answer ∙ sym is))
 
 -- a wait that goes on is ended by no call
-pub waits_on : (o : Setup) (h : List Entry) (view : JudgeView) (entry : Entry) (goes : Bool)
+pub waits_on : (o : Setup) (h : List Entry) (view : Judge) (entry : Entry) (goes : Bool)
     → IsAfter o h view → goes ≡ true
     → goes ≡ (ends_wait entry.event && is_waiting view.world entry.caller)
     → IsTrue false ↔ IsNextCall o.start o.programs h entry
@@ -53,7 +54,7 @@ waits_on o h view entry goes at is test = (
     parts false b is = absurd (false≢true is)
 
 -- the next call of the walk was compared with the entry's
-pub next_is : NextIsPlain → (o : Setup) (h : List Entry) (view : JudgeView) (entry : Entry) (goes same : Bool)
+pub next_is : NextIsPlain → (o : Setup) (h : List Entry) (view : Judge) (entry : Entry) (goes same : Bool)
     (call : Event) (program : Program) → IsAfter o h view → goes ≡ false
     → goes ≡ (ends_wait entry.event && is_waiting view.world entry.caller)
     → program_of o.programs entry.caller ≡ Some program

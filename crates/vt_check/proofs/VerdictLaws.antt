@@ -1,5 +1,5 @@
 -- There is one verdict, and it is legal exactly where the journal is right.
-use Rattle.std.proofs.Common.{◌≡◌, ◌↔◌, ℕ, ◌+◌, ◌-◌, ◌<◌, ◌≤◌, ◌⊎◌, ⊎_elim, true, false, zero, suc, List, [], ◌∷◌, ◌++◌, length, take, get_or, Option, Some, None, refl, sym, ap, subst, ◌∙◌, arith, true≢false}
+use Rattle.std.proofs.Common.{◌≡◌, ◌↔◌, ℕ, ◌+◌, ◌<◌, ◌≤◌, ⊎_elim, true, zero, suc, List, [], ◌∷◌, ◌++◌, length, take, get_or, Option, Some, None, refl, sym, ap, subst, ◌∙◌, arith, true≢false}
 use Rattle.std.specs.Prelude.{is_some, slice_get}
 use Rattle.std.proofs.lemmas.Bool.{cases_lt, cases_order}
 use Rattle.std.proofs.lemmas.List.{length-take, take-take, take_all, take_more}
@@ -21,7 +21,6 @@ use Rattle.vt_events.specs.declared.event.Event.{Event}
 use Rattle.vt_journal.specs.Room.{IsWithin}
 use Rattle.vt_journal.specs.declared.limits.Limits.{Limits}
 use Rattle.vt_journal.specs.declared.tail.Tail.{Tail}
-use Rattle.vt_journal.specs.declared.tail.Tail.TheVariants as tail
 
 -- an entry passes, or it fails for one reason
 not_both : (o : Setup) (before : List Entry) (entry : Entry) (why : ℕ) → Passes o before entry

@@ -3,27 +3,19 @@ use Rattle.std.specs.Prelude.{◌≡◌, ℕ, ◌<◌, true, false, List, length
 use Rattle.session_order.specs.Calls.{next_by}
 use Rattle.session_order.specs.Ends.{Setup}
 use Rattle.session_order.specs.Follows.{is_waiting}
-use Rattle.session_order.specs.Standing.{AreAfter, StandingView}
+use Rattle.session_order.specs.Standing.{AreAfter}
 use Rattle.session_text.specs.Programs.{program_of}
 use Rattle.session_text.specs.declared.program.Program.{Program}
 use Rattle.vt_base.specs.Limits.{callers}
+use Rattle.vt_check.specs.declared.judge.Judge.{Judge}
 use Rattle.vt_events.specs.Charge.{charge_of}
 use Rattle.vt_events.specs.declared.entry.Entry.{Entry}
 use Rattle.vt_events.specs.declared.event.Event.{Event}
 use Rattle.vt_journal.specs.Log.{charge_of_all}
 use Rattle.vt_world.specs.History.{replay}
-use Rattle.vt_world.specs.State.{WorldState}
-
--- what contracts see of `Judge`: the console, how far each caller is, and how many entries there were and
--- what they count for
-pub record JudgeView : Type 0 where
-  pub world : WorldState
-  pub standing : StandingView
-  pub events : ℕ
-  pub bytes : ℕ
 
 -- the judge is behind this history
-pub record IsAfter (o : Setup) (h : List Entry) (j : JudgeView) : Type 0 where
+pub record IsAfter (o : Setup) (h : List Entry) (j : Judge) : Type 0 where
   pub replayed : j.world ≡ replay o.start h
   pub standing : AreAfter o.programs h j.standing
   pub events : j.events ≡ length h

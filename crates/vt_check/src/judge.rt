@@ -12,7 +12,6 @@ ghost use Rattle.vt_world.specs.Refusals.{ends_wait};
 use session_order::{Standing, meant_laws};
 use session_text::{Program, Session, program_of};
 use std::alloc::Global;
-use std::marker::Model;
 use vt_base::NoMemory;
 use vt_events::{Entry, Event, charge};
 use vt_journal::{Limits, same_event, same_reply};
@@ -37,19 +36,6 @@ pub(crate) struct Judge {
     pub(crate) standing: Standing,
     pub(crate) events: u32,
     pub(crate) bytes: u64,
-}
-
-impl Model for Judge {
-    ghost use Rattle.vt_check.specs.Judging.{JudgeView};
-
-    ghost Value = { JudgeView };
-
-    ghost view = { λ j. record {
-      world = j.world;
-      standing = j.standing;
-      events = j.events;
-      bytes = j.bytes;
-    } };
 }
 
 impl Judge {

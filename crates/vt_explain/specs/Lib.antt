@@ -1,6 +1,7 @@
 pub mod Accepting
 pub mod CertText
 pub mod Certificates
+pub mod ErrorTexts
 pub mod Finding
 pub mod Hops
 pub mod Reading

@@ -1,4 +1,6 @@
-use std::alloc::AllocFailed;
+ghost use Rattle.std.specs.Prelude.{◌≡◌};
+ghost use Rattle.vt_explain.specs.declared.cert_error.CertError.TheVariants as errors;
+
 use vt_base::NoMemory;
 
 /// Why a certificate's text wasn't read.
@@ -15,23 +17,9 @@ pub enum CertError {
 }
 
 impl From<NoMemory> for CertError {
-    ghost use Rattle.std.specs.Prelude.{◌≡◌};
-    ghost use Rattle.vt_explain.specs.declared.cert_error.CertError.TheVariants.{NoMemory as want};
-
-    ghost from_gives = { λ _ e. e ≡ want };
+    ghost from_gives = { λ _ e. e ≡ errors.NoMemory };
 
     fn from(_error: NoMemory) -> CertError {
-        CertError::NoMemory
-    }
-}
-
-impl<T: Drop> From<AllocFailed<T>> for CertError {
-    ghost use Rattle.std.specs.Prelude.{◌≡◌};
-    ghost use Rattle.vt_explain.specs.declared.cert_error.CertError.TheVariants.{NoMemory as want};
-
-    ghost from_gives = { λ _ e. e ≡ want };
-
-    fn from(_error: AllocFailed<T>) -> CertError {
         CertError::NoMemory
     }
 }

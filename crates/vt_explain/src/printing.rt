@@ -60,33 +60,29 @@ fn add_cause(alloc: Global, text: &mut Bytes, cause: &HopCause) -> Result<(), No
             owner,
             asked,
             signal,
-        } => {
-            add(alloc, text, b" released")?;
-            add_ask(alloc, text, *owner, *asked, *signal)
-        }
+        } => add_ask(alloc, text, b" released", *owner, *asked, *signal),
         HopCause::Died {
             owner,
             asked,
             signal,
-        } => {
-            add(alloc, text, b" died")?;
-            add_ask(alloc, text, *owner, *asked, *signal)
-        }
+        } => add_ask(alloc, text, b" died", *owner, *asked, *signal),
     }
 }
 
-// Adds the owner, the entry that asked it, and the signal.
+// Adds how the display was let go, the owner, the entry that asked it, and the signal.
 fn add_ask(
     alloc: Global,
     text: &mut Bytes,
+    how: &[u8],
     owner: CallerNo,
     asked: u32,
     signal: Signal,
 ) -> Result<(), NoMemory>
     ensures ok { OnOk result
-        (text.new.bytes ≡ text.old.bytes ++ spaced (asked_words owner asked signal)) }
+        (text.new.bytes ≡ text.old.bytes ++ how.now ++ spaced (asked_words owner asked signal)) }
     ensures fit { IsFitAsk owner asked signal }
 {
+    add(alloc, text, how)?;
     add_next(alloc, text, u64::from(owner.get()))?;
     add(alloc, text, b" asked")?;
     add_next(alloc, text, u64::from(asked))?;

@@ -3,7 +3,7 @@
 -- also has a case of IsFit or of intake_of.
 use Rattle.std.specs.Prelude.{ℕ, List, [], ◌∷◌, ◌⊎◌, codes, ⊤}
 use Rattle.vt_tool.specs.Outcome.{Outcome}
-use Rattle.vt_tool.specs.Words.{Form, alone, form, with_two}
+use Rattle.vt_tool.specs.Words.{Form, Rest, alone, form, with_two}
 use Rattle.vt_tool.specs.declared.command.Command.{Command}
 use Rattle.vt_tool.specs.declared.command.Command.TheVariants as command
 use Rattle.vt_tool.specs.declared.intake.Intake.{Intake}
@@ -21,6 +21,8 @@ use Rattle.vt_tool.specs.Commands.Session.{GivesSessionFault}
 use Rattle.vt_tool.specs.Commands.Typing.{GivesTableFault, GivesTyped}
 use Rattle.vt_tool.specs.Commands.Upgrade.{GivesUpgraded}
 use Rattle.vt_tool.specs.declared.commands.asked.Asked.TheVariants as asked
+use Rattle.vt_tool.specs.declared.with_two.WithTwo.{WithTwo}
+use Rattle.vt_tool.specs.declared.with_two.WithTwo.TheVariants as two
 pub mod Accept
 pub mod Check
 pub mod Cook
@@ -40,18 +42,24 @@ pub mod Typed
 pub mod Typing
 pub mod Upgrade
 
+-- what stands after the names of the commands with numbers
+abbrev pub rest_of : WithTwo → Rest
+rest_of two.Screen = with_two side side command.Screen
+rest_of two.Drill = with_two items_each seeds command.Drill
+rest_of two.Review = with_two kinds_heard consoles_heard command.Review
+
 -- the names of the commands that need no threads
 abbrev pub serial_forms : List Form
 serial_forms =
-    form (codes "screen") (with_two side side command.Screen)
+    form (codes "screen") (rest_of two.Screen)
     ∷ form (codes "keys") (alone command.Keys)
     ∷ form (codes "type") (alone command.Typing)
     ∷ form (codes "play") (alone command.Play)
     ∷ form (codes "check") (alone command.Check)
-    ∷ form (codes "drill") (with_two items_each seeds command.Drill)
+    ∷ form (codes "drill") (rest_of two.Drill)
     ∷ form (codes "dumpkeys") (alone command.DumpKeys)
     ∷ form (codes "cook") (alone command.Cook)
-    ∷ form (codes "review") (with_two kinds_heard consoles_heard command.Review)
+    ∷ form (codes "review") (rest_of two.Review)
     ∷ form (codes "explain") (alone command.Explain)
     ∷ form (codes "accept") (alone command.Accept)
     ∷ form (codes "upgrade") (alone command.Upgrade)

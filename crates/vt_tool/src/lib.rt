@@ -14,6 +14,7 @@ mod streamed;
 mod streaming;
 mod telling;
 mod tool;
+mod with_two;
 mod words;
 mod writing;
 

@@ -1,9 +1,9 @@
 ghost use Rattle.std.specs.Prelude.{◌≡◌, ◌≤◌, true, false, map, string_bytes, IfSome};
-ghost use Rattle.vt_tool.specs.Commands.{IsFit, IsSerial, all_forms, serial_forms};
-ghost use Rattle.vt_tool.specs.Words.{command_of, if_no_words, number_in};
+ghost use Rattle.vt_tool.specs.Commands.{IsFit, IsSerial, all_forms, rest_of, serial_forms};
+ghost use Rattle.vt_tool.specs.Words.{command_of, command_with, if_no_words, number_in};
 
 use crate::command::Command;
-use crate::commands::{drill, review, screen};
+use crate::with_two::WithTwo;
 use vt_base::parse_decimal;
 
 /// The command that the words spell, if it needs no threads.
@@ -14,18 +14,18 @@ pub fn parse_words(words: &[String]) -> Option<Command>
 {
     let (name, others) = words.split_first()?;
     match name.as_str() {
-        "screen" => screen::parse(others),
+        "screen" => two_numbers(WithTwo::Screen, others),
         "keys" => alone(Command::Keys, others),
         "dumpkeys" => alone(Command::DumpKeys, others),
         "type" => alone(Command::Typing, others),
         "play" => alone(Command::Play, others),
         "check" => alone(Command::Check, others),
         "cook" => alone(Command::Cook, others),
-        "review" => review::parse(others),
+        "review" => two_numbers(WithTwo::Review, others),
         "explain" => alone(Command::Explain, others),
         "accept" => alone(Command::Accept, others),
         "upgrade" => alone(Command::Upgrade, others),
-        "drill" => drill::parse(others),
+        "drill" => two_numbers(WithTwo::Drill, others),
         _ => None,
     }
 }
@@ -55,9 +55,32 @@ fn alone(command: Command, words: &[String]) -> Option<Command>
     }
 }
 
-/// The number from `low` to `high` that the word spells.
+// The command of two numbers, each in its range.
+fn two_numbers(form: WithTwo, words: &[String]) -> Option<Command>
+    ensures command { result ≡ command_with (rest_of form) (map string_bytes words.now) }
+    ensures serial { IfSome result (λ command. IsSerial command) }
+    ensures fit { IfSome result (λ command. IsFit command) }
+{
+    let [first, second] = words else { return None };
+    match form {
+        WithTwo::Screen => Some(Command::Screen {
+            rows: parse_number(first.as_str(), 1, 255)? as u8,
+            cols: parse_number(second.as_str(), 1, 255)? as u8,
+        }),
+        WithTwo::Drill => Some(Command::Drill {
+            n: parse_number(first.as_str(), 1, 10_000)? as u32,
+            seed: parse_number(second.as_str(), 0, u64::MAX)?,
+        }),
+        WithTwo::Review => Some(Command::Review {
+            kinds: parse_number(first.as_str(), 0, 7)? as u8,
+            console: parse_number(second.as_str(), 0, 63)? as u8,
+        }),
+    }
+}
+
+// The number from `low` to `high` that the word spells.
 #[tactic(auto, using(crate::proofs::Numbers::number_some, crate::proofs::Numbers::number_low, crate::proofs::Numbers::number_none))]
-pub fn parse_number(word: &str, low: u64, high: u64) -> Option<u64>
+fn parse_number(word: &str, low: u64, high: u64) -> Option<u64>
     ensures number { result ≡ number_in (record { low = low; high = high }) word.now }
     ensures range { IfSome result (λ n. (low ≤ n) × (n ≤ high)) }
 {

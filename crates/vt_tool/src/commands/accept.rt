@@ -5,13 +5,13 @@ ghost use Rattle.vt_tool.specs.Commands.Accept.{IsAccepted, IsAnswered};
 ghost use Rattle.vt_tool.specs.Status.{is_own};
 
 use crate::answer::Answer;
-use crate::commands::judging::without_text;
+use crate::commands::lines::add_number;
 use crate::status::Status;
 use session_text::Session;
 use std::alloc::Global;
 use vt_base::{Bytes, NoMemory};
 use vt_explain::{CertError, HopWhy, Judged, accept, read_cert};
-use vt_journal::{Journal, add, add_next};
+use vt_journal::Journal;
 
 /// The kind of a fault in a certificate.
 const BAD_CERT: u16 = 45;
@@ -31,11 +31,11 @@ pub fn answer(
     ensures own { IfOk result (λ answer. IsTrue (is_own answer.status)) }
 {
     if cert.is_empty() {
-        return Ok(refused_at(alloc, 0, 0));
+        return Ok(Answer::refused(alloc, BAD_CERT, 0, 0));
     }
     match read_cert(alloc, cert) {
         Ok(items) => answer_items(alloc, session, journal, items.as_slice()),
-        Err(CertError::Fault { line }) => Ok(refused_at(alloc, line, 1)),
+        Err(CertError::Fault { line }) => Ok(Answer::refused(alloc, BAD_CERT, line, 1)),
         Err(CertError::NoMemory) => Err(NoMemory),
     }
 }
@@ -53,8 +53,8 @@ fn answer_items(
 {
     match accept(alloc, session, journal, items)? {
         Judged::Yes => answer_yes(alloc, items.len()),
-        Judged::No { index } => Ok(illegal_at(alloc, index, BAD_ITEM)),
-        Judged::Illegal { index, why } => Ok(illegal_at(alloc, index, why)),
+        Judged::No { index } => Ok(Answer::illegal(alloc, index, BAD_ITEM)),
+        Judged::Illegal { index, why } => Ok(Answer::illegal(alloc, index, why)),
     }
 }
 
@@ -64,33 +64,6 @@ fn answer_yes(alloc: Global, items: usize) -> Result<Answer, NoMemory>
         ≡ line_text (codes "accepted" ∷ decimal items ∷ [])) }
 {
     let mut text = Bytes::new(alloc);
-    add(alloc, &mut text, b"accepted")?;
-    add_next(alloc, &mut text, items as u64)?;
-    add(alloc, &mut text, b"\n")?;
-    Ok(Answer {
-        status: Status::Fine,
-        text,
-    })
-}
-
-fn illegal_at(alloc: Global, index: u32, why: u8) -> Answer
-    ensures status { result.status ≡ Status.Illegal index why }
-    ensures text { result.text.bytes ≡ [] }
-{
-    without_text(alloc, Status::Illegal { index, why })
-}
-
-// The answer to a certificate that is refused there.
-fn refused_at(alloc: Global, line: u32, column: u32) -> Answer
-    ensures status { result.status ≡ Status.Refused 45 line column }
-    ensures text { result.text.bytes ≡ [] }
-{
-    without_text(
-        alloc,
-        Status::Refused {
-            code: BAD_CERT,
-            a: line,
-            b: column,
-        },
-    )
+    add_number(alloc, &mut text, b"accepted", items as u64)?;
+    Ok(Answer::fine(text))
 }

@@ -5,13 +5,13 @@ ghost use Rattle.vt_tool.specs.Commands.Judged.{judged_text};
 ghost use Rattle.vt_tool.specs.Status.{is_own};
 
 use crate::answer::Answer;
-use crate::commands::judging::without_text;
+use crate::commands::lines::add_number;
 use crate::status::Status;
 use session_text::Session;
 use std::alloc::Global;
 use vt_base::{Bytes, NoMemory};
 use vt_check::{Verdict, check};
-use vt_journal::{Journal, add, add_next};
+use vt_journal::Journal;
 use vt_world::displays_are_lawful;
 
 /// The verdict on the journal.
@@ -35,9 +35,7 @@ fn answer_told(alloc: Global, verdict: Verdict, entries: usize) -> Result<Answer
 {
     match verdict {
         Verdict::Legal => answer_legal(alloc, entries),
-        Verdict::Illegal { index, why } => {
-            Ok(without_text(alloc, Status::Illegal { index, why }))
-        }
+        Verdict::Illegal { index, why } => Ok(Answer::illegal(alloc, index, why)),
     }
 }
 
@@ -46,11 +44,6 @@ fn answer_legal(alloc: Global, entries: usize) -> Result<Answer, NoMemory>
     ensures text { IfOk result (λ answer. answer.text.bytes ≡ legal_text entries) }
 {
     let mut text = Bytes::new(alloc);
-    add(alloc, &mut text, b"legal")?;
-    add_next(alloc, &mut text, entries as u64)?;
-    add(alloc, &mut text, b"\n")?;
-    Ok(Answer {
-        status: Status::Fine,
-        text,
-    })
+    add_number(alloc, &mut text, b"legal", entries as u64)?;
+    Ok(Answer::fine(text))
 }

@@ -6,11 +6,12 @@ ghost use Rattle.vt_tool.specs.Commands.Cook.{bytes_line, cook_text, item_line};
 ghost use Rattle.vt_tool.specs.Status.{is_own};
 
 use crate::answer::Answer;
+use crate::commands::lines::add_number;
 use crate::status::Status;
 use cooked::{Cooked, EchoBytes, Given, Termios, one_more};
 use std::alloc::Global;
 use vt_base::{Bytes, NoMemory};
-use vt_journal::{add, add_hex, add_next};
+use vt_journal::{add, add_hex};
 
 /// A line for each item that the input gives, one for what is kept, and one for the echo.
 pub fn answer(alloc: Global, input: &[u8]) -> Result<Answer, NoMemory>
@@ -18,10 +19,7 @@ pub fn answer(alloc: Global, input: &[u8]) -> Result<Answer, NoMemory>
     ensures text { IfOk result (λ answer. answer.text.bytes ≡ cook_text input.now) }
     ensures own { IfOk result (λ answer. IsTrue (is_own answer.status)) }
 {
-    Ok(Answer {
-        status: Status::Fine,
-        text: cook(alloc, input)?,
-    })
+    Ok(Answer::fine(cook(alloc, input)?))
 }
 
 fn cook(alloc: Global, typed: &[u8]) -> Result<Bytes, NoMemory>
@@ -60,9 +58,7 @@ fn add_signal(alloc: Global, text: &mut Bytes, number: u16) -> Result<(), NoMemo
     ensures { OnOk result (text.new.bytes
         ≡ text.old.bytes ++ item_line (Rattle.cooked.specs.Given.signal number)) }
 {
-    add(alloc, text, b"signal")?;
-    add_next(alloc, text, u64::from(number))?;
-    add(alloc, text, b"\n")
+    add_number(alloc, text, b"signal", u64::from(number))
 }
 
 // Adds a line of a name and bytes.

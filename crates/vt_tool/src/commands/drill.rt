@@ -1,33 +1,15 @@
 //! `drill N SEED`: five numbers of the serial play of a session that is made from a number.
-ghost use Rattle.std.specs.Prelude.{◌≡◌, ◌≤◌, [], ◌++◌, map, string_bytes, IfOk, IfSome, IsTrue, OnOk};
-ghost use Rattle.vt_tool.specs.Commands.{IsFit, IsSerial};
-ghost use Rattle.vt_tool.specs.Commands.Drill.{GivesDrill, drill_text, dropped_in, items_each, number_line, seeds};
+ghost use Rattle.std.specs.Prelude.{◌≡◌, ◌≤◌, IfOk, IsTrue};
+ghost use Rattle.vt_tool.specs.Commands.Drill.{GivesDrill, drill_text, dropped_in};
 ghost use Rattle.vt_tool.specs.Status.{is_own};
-ghost use Rattle.vt_tool.specs.Words.{if_two_numbers};
-ghost use Rattle.vt_tool.specs.declared.command.Command.TheVariants as command;
 
 use crate::answer::Answer;
-use crate::command::Command;
+use crate::commands::lines::add_number;
 use crate::commands::session::status_of;
-use crate::words::parse_number;
 use session_run::{Run, drill_session, play};
 use std::alloc::Global;
 use vt_base::{Bytes, ConsoleNo, NoMemory};
-use vt_journal::{add, add_next};
 use vt_world::World;
-
-/// The words after `drill`: how many items each process has, and the seed.
-pub fn parse(words: &[String]) -> Option<Command>
-    ensures command { result
-        ≡ if_two_numbers items_each seeds command.Drill (map string_bytes words.now) }
-    ensures serial { IfSome result (λ command. IsSerial command) }
-    ensures fit { IfSome result (λ command. IsFit command) }
-{
-    let [n, seed] = words else { return None };
-    let n = parse_number(n.as_str(), 1, 10_000)?;
-    let seed = parse_number(seed.as_str(), 0, u64::MAX)?;
-    Some(Command::Drill { n: n as u32, seed })
-}
 
 /// The numbers of the session's serial play.
 pub fn answer(alloc: Global, n: u32, seed: u64) -> Result<Answer, NoMemory>
@@ -59,15 +41,6 @@ fn numbers_of(alloc: Global, run: &Run) -> Result<Bytes, NoMemory>
         u64::from(run.world.display().get()),
     )?;
     Ok(text)
-}
-
-// Adds a line of a name and a number.
-fn add_number(alloc: Global, text: &mut Bytes, name: &[u8], n: u64) -> Result<(), NoMemory>
-    ensures { OnOk result (text.new.bytes ≡ text.old.bytes ++ number_line name.now n) }
-{
-    add(alloc, text, name)?;
-    add_next(alloc, text, n)?;
-    add(alloc, text, b"\n")
 }
 
 // How many pieces all queues dropped.

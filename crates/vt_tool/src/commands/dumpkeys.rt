@@ -36,8 +36,5 @@ fn answer_dumped(alloc: Global, tables: &KeyTables) -> Result<Answer, NoMemory>
     ensures text { IfOk result (λ answer. answer.text.bytes ≡ dump_of tables.now) }
     ensures back { IfOk result (λ answer. ReadsAs answer.text.bytes tables.now) }
 {
-    Ok(Answer {
-        status: Status::Fine,
-        text: dump(alloc, tables)?,
-    })
+    Ok(Answer::fine(dump(alloc, tables)?))
 }

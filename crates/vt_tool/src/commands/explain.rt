@@ -4,8 +4,6 @@ ghost use Rattle.vt_tool.specs.Commands.Explain.{IsExplained};
 ghost use Rattle.vt_tool.specs.Status.{is_own};
 
 use crate::answer::Answer;
-use crate::commands::judging::without_text;
-use crate::status::Status;
 use session_text::Session;
 use std::alloc::Global;
 use vt_base::NoMemory;
@@ -19,12 +17,7 @@ pub fn answer(alloc: Global, session: &Session, journal: &Journal) -> Result<Ans
     ensures own { IfOk result (λ answer. IsTrue (is_own answer.status)) }
 {
     match explain(alloc, session, journal)? {
-        Explained::Cert(items) => Ok(Answer {
-            status: Status::Fine,
-            text: print_cert(alloc, items.as_slice())?,
-        }),
-        Explained::Illegal { index, why } => {
-            Ok(without_text(alloc, Status::Illegal { index, why }))
-        }
+        Explained::Cert(items) => Ok(Answer::fine(print_cert(alloc, items.as_slice())?)),
+        Explained::Illegal { index, why } => Ok(Answer::illegal(alloc, index, why)),
     }
 }

@@ -11,7 +11,7 @@ use crate::status::Status;
 use session_text::{Session, read};
 use std::alloc::Global;
 use table_fields::TableError;
-use vt_base::{Bytes, NoMemory};
+use vt_base::NoMemory;
 use vt_journal::{JError, JFault, Journal, parse};
 
 /// What is made of the session and the text after it; or the first fault of the session, or else of
@@ -87,29 +87,12 @@ fn make_of(
     }
 }
 
-/// The answer with this status, and no text.
-pub fn without_text(alloc: Global, status: Status) -> Answer
-    ensures status { result.status ≡ status }
-    ensures text { result.text.bytes ≡ [] }
-{
-    Answer {
-        status,
-        text: Bytes::new(alloc),
-    }
-}
-
 /// The answer to a journal that is refused at this fault.
 pub fn answer_refused(alloc: Global, fault: JFault) -> Answer
     ensures status { result.status
         ≡ Status.Refused fault.kind fault.line (column_of fault.line) }
     ensures text { result.text.bytes ≡ [] }
 {
-    without_text(
-        alloc,
-        Status::Refused {
-            code: fault.kind,
-            a: fault.line,
-            b: if fault.line == 0 { 0 } else { 1 },
-        },
-    )
+    let column = if fault.line == 0 { 0 } else { 1 };
+    Answer::refused(alloc, fault.kind, fault.line, column)
 }

@@ -11,7 +11,7 @@ use key_compile::compile;
 use key_tables::KeyTables;
 use key_text::{Includes, KeyError, KeyFault, parse};
 use std::alloc::Global;
-use vt_base::{Bytes, NoMemory};
+use vt_base::NoMemory;
 
 /// The listing of the tables of the keymap text, or its first fault.
 pub fn answer(alloc: Global, input: &[u8]) -> Result<Answer, NoMemory>
@@ -40,10 +40,7 @@ fn answer_listed(alloc: Global, tables: &KeyTables) -> Result<Answer, NoMemory>
     ensures status { IfOk result (λ answer. answer.status ≡ Status.Fine) }
     ensures text { IfOk result (λ answer. answer.text.bytes ≡ listing_of tables.now) }
 {
-    Ok(Answer {
-        status: Status::Fine,
-        text: tables.listing(alloc)?,
-    })
+    Ok(Answer::fine(tables.listing(alloc)?))
 }
 
 /// The answer to a keymap text that is refused at this fault.
@@ -51,12 +48,5 @@ pub fn answer_refused(alloc: Global, fault: KeyFault) -> Answer
     ensures status { result.status ≡ Status.Refused fault.kind fault.line fault.column }
     ensures text { result.text.bytes ≡ [] }
 {
-    Answer {
-        status: Status::Refused {
-            code: fault.kind,
-            a: fault.line,
-            b: fault.column,
-        },
-        text: Bytes::new(alloc),
-    }
+    Answer::refused(alloc, fault.kind, fault.line, fault.column)
 }

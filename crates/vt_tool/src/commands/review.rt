@@ -1,37 +1,14 @@
 //! `review K N`: what one ear is told of the journal after a session.
-ghost use Rattle.std.specs.Prelude.{◌≡◌, ◌≤◌, ◌-◌, ◌^◌, ◌==◌, [], ◌∷◌, map, string_bytes, if◌then◌else◌, IfOk, IfSome, IsTrue};
-ghost use Rattle.vt_tool.specs.Commands.{IsFit, IsSerial};
-ghost use Rattle.vt_tool.specs.Commands.Review.{IsReviewed, consoles_heard, ear_of, kinds_heard};
+ghost use Rattle.std.specs.Prelude.{◌≡◌, ◌≤◌, ◌-◌, ◌^◌, ◌==◌, [], ◌∷◌, if◌then◌else◌, IfOk, IsTrue};
+ghost use Rattle.vt_tool.specs.Commands.Review.{IsReviewed, ear_of};
 ghost use Rattle.vt_tool.specs.Status.{is_own};
-ghost use Rattle.vt_tool.specs.Words.{if_two_numbers};
-ghost use Rattle.vt_tool.specs.declared.command.Command.TheVariants as command;
 
 use crate::answer::Answer;
-use crate::command::Command;
-use crate::commands::judging::without_text;
-use crate::status::Status;
-use crate::words::parse_number;
 use session_text::Session;
 use std::alloc::Global;
 use vt_base::NoMemory;
 use vt_journal::Journal;
 use vt_review::{Ear, EarTable, Listener, Notice, Reviewed, review};
-
-/// The words after `review`: the kinds of notices, and the console.
-pub fn parse(words: &[String]) -> Option<Command>
-    ensures command { result
-        ≡ if_two_numbers kinds_heard consoles_heard command.Review (map string_bytes words.now) }
-    ensures serial { IfSome result (λ command. IsSerial command) }
-    ensures fit { IfSome result (λ command. IsFit command) }
-{
-    let [kinds, console] = words else { return None };
-    let kinds = parse_number(kinds.as_str(), 0, 7)?;
-    let console = parse_number(console.as_str(), 0, 63)?;
-    Some(Command::Review {
-        kinds: kinds as u8,
-        console: console as u8,
-    })
-}
 
 /// What an ear of these kinds and this console is told of the journal.
 pub fn answer(
@@ -75,13 +52,8 @@ fn answer_by<F: Listener>(
 {
     let ears = one_ear(alloc, f, table)?;
     match review(alloc, session, journal, ears.as_slice())? {
-        Reviewed::Text(text) => Ok(Answer {
-            status: Status::Fine,
-            text,
-        }),
-        Reviewed::Illegal { index, why } => {
-            Ok(without_text(alloc, Status::Illegal { index, why }))
-        }
+        Reviewed::Text(text) => Ok(Answer::fine(text)),
+        Reviewed::Illegal { index, why } => Ok(Answer::illegal(alloc, index, why)),
     }
 }
 

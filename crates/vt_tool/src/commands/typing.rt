@@ -43,8 +43,5 @@ fn answer_typed(alloc: Global, table: &TypeTable) -> Result<Answer, NoMemory>
         table.mode,
         table.keys.as_slice(),
     )?;
-    Ok(Answer {
-        status: Status::Fine,
-        text,
-    })
+    Ok(Answer::fine(text))
 }

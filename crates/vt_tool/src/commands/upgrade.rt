@@ -6,18 +6,14 @@ ghost use Rattle.vt_tool.specs.Commands.Upgrade.{GivesUpgraded};
 ghost use Rattle.vt_tool.specs.Status.{is_own};
 
 use crate::answer::Answer;
-use crate::commands::judging::{answer_refused, without_text};
+use crate::commands::judging::answer_refused;
 use crate::status::Status;
 use std::alloc::Global;
 use vt_base::{Bytes, NoMemory};
 use vt_journal::{JError, Journal, parse, print, version_of};
 
-/// The refusal of a text that begins as a journal of version 2.
-const NO_FIRST: Status = Status::Refused {
-    code: 40,
-    a: 0,
-    b: 0,
-};
+/// The kind of the fault of a text that begins as a journal of version 2.
+const NO_FIRST: u16 = 40;
 
 /// The journal in version 2, or its first fault: a journal of version 2 has no first line here.
 pub fn answer(alloc: Global, input: &[u8]) -> Result<Answer, NoMemory>
@@ -26,7 +22,7 @@ pub fn answer(alloc: Global, input: &[u8]) -> Result<Answer, NoMemory>
     ensures own { IfOk result (λ answer. IsTrue (is_own answer.status)) }
 {
     if is_newer(input) {
-        return Ok(without_text(alloc, NO_FIRST));
+        return Ok(Answer::refused(alloc, NO_FIRST, 0, 0));
     }
     match parse(alloc, input) {
         Ok(journal) => answer_printed(alloc, &journal),
@@ -59,8 +55,5 @@ fn answer_printed(alloc: Global, journal: &Journal) -> Result<Answer, NoMemory>
         &journal.tail,
         &mut text,
     )?;
-    Ok(Answer {
-        status: Status::Fine,
-        text,
-    })
+    Ok(Answer::fine(text))
 }

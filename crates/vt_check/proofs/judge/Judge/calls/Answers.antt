@@ -1,25 +1,22 @@
-use Rattle.std.proofs.Common.{◌≡◌, true, false, sym, ap, ◌∙◌, subst}
+use Rattle.std.proofs.Common.{◌≡◌, true, false, sym, ap, ◌∙◌}
 use Rattle.std.proofs.lemmas.Bool.{eq-eqb, eqb-true}
 use Rattle.session_order.specs.Follows.{is_waiting}
 use Rattle.vt_check.proofs.Overs.{call_tested, over_calls, waiting_calls}
-use Rattle.vt_check.specs.Judging.{IsAfter}
 use Rattle.vt_world.specs.History.{replay}
 use Rattle.vt_check.proofs.judge.Judge.calls.Goals as goal
 
 pub returns-then-waiting : goal.returns-then-waiting
 returns-then-waiting c = λ o h same at.
-    let here = subst (IsAfter o h) (sym c.self.view_is) at in
     let waits : is_waiting (replay o.start h) c.args.p ≡ true =
-    ap (λ w. is_waiting w c.args.p) (sym here.replayed)
+    ap (λ w. is_waiting w c.args.p) (sym at.replayed)
     ∙ sym c.waiting.ensures
     ∙ c.if-waiting.true in
     waiting_calls o h c.args.p c.args.wanted waits
 
 pub returns-in-Some : goal.returns-in-Some
 returns-in-Some c = λ o h same at.
-    let here = subst (IsAfter o h) (sym c.self.view_is) at in
     let goes : is_waiting (replay o.start h) c.args.p ≡ false =
-    ap (λ w. is_waiting w c.args.p) (sym here.replayed)
+    ap (λ w. is_waiting w c.args.p) (sym at.replayed)
     ∙ sym c.waiting.ensures
     ∙ c.if-waiting.false in
     call_tested o h c.args.p c.args.wanted c.in-Some.call _

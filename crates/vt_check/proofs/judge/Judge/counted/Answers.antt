@@ -1,16 +1,13 @@
-use Rattle.std.proofs.Common.{sym, subst, ◌∙◌}
+use Rattle.std.proofs.Common.{◌∙◌}
 use Rattle.vt_check.proofs.Tested.{counted_is, not_counted}
-use Rattle.vt_check.specs.Judging.{IsAfter}
 use Rattle.vt_check.proofs.judge.Judge.counted.Goals as goal
 
 pub returns-then-entry-count-clause-counted : goal.returns-then-entry-count-clause-counted
 returns-then-entry-count-clause-counted c = λ o h same at.
-    let here = subst (IsAfter o h) (sym c.self.view_is) at in
     not_counted o h c.args.entry.now c.count.result c.if-entry-count.true
-    (c.count.ensures o.programs h here.standing)
+    (c.count.ensures o.programs h at.standing)
 
 pub returns-clause-counted : goal.returns-clause-counted
 returns-clause-counted c = λ o h same at.
-    let here = subst (IsAfter o h) (sym c.self.view_is) at in
     counted_is (λ program. program.now) o h c.args.entry.now c.args.programs.now c.program_of.result
-    (c.if-entry-count.false ∙ c.count.ensures o.programs h here.standing) same c.program_of.ensures
+    (c.if-entry-count.false ∙ c.count.ensures o.programs h at.standing) same c.program_of.ensures

@@ -1,59 +1,40 @@
-use Rattle.std.proofs.Common.{◌↔◌, ◌+◌, ◌≤◌, ◌∷◌, [], ◌++◌, length, refl, sym, ap, ◌∙◌, subst, arith}
+use Rattle.std.proofs.Common.{◌↔◌, ◌+◌, ◌≤◌, ◌∷◌, [], ◌++◌, length, refl, ap, ◌∙◌, subst, arith}
 use Rattle.std.specs.Prelude.{IsTrue}
 use Rattle.session_order.specs.Standing.{AreAfter}
 use Rattle.vt_check.proofs.Growing.{Takes, taken}
 use Rattle.vt_check.proofs.Tested.{answered_is}
-use Rattle.vt_check.specs.Judging.{IsAfter, JudgeView}
+use Rattle.vt_check.specs.declared.judge.Judge.{Judge}
 use Rattle.vt_check.specs.Verdicts.{IsAnswered}
 use Rattle.vt_world.specs.Step.{Outcome}
 use Rattle.vt_check.proofs.judge.Judge.is_answered.Goals as goal
 
 pub returns-then-not-same_reply-clause-answered : goal.returns-then-not-same_reply-clause-answered
 returns-then-not-same_reply-clause-answered c = λ o h at.
-    let view : JudgeView = record {
-      world = c.self.inside.world;
-      standing = c.self.inside.standing;
-      events = c.self.inside.events;
-      bytes = c.self.inside.bytes;
-    } in
     subst (λ b. IsTrue b ↔ IsAnswered o h c.args.entry.now) c.if-not-same_reply.true
-    (answered_is o h view c.args.entry.now c.step-reply.new.self c.step-reply.result.0 c.same_reply.result
-    (subst (IsAfter o h) (sym c.self.view_is) at) c.step-reply.ensures.step c.same_reply.ensures)
+    (answered_is o h c.args.self.now c.args.entry.now c.step-reply.new.self c.step-reply.result.0
+    c.same_reply.result at c.step-reply.ensures.step c.same_reply.ensures)
 
 pub returns-clause-answered : goal.returns-clause-answered
 returns-clause-answered c = λ o h at.
-    let view : JudgeView = record {
-      world = c.self.inside.world;
-      standing = c.self.inside.standing;
-      events = c.self.inside.events;
-      bytes = c.self.inside.bytes;
-    } in
     subst (λ b. IsTrue b ↔ IsAnswered o h c.args.entry.now) c.if-not-same_reply.false
-    (answered_is o h view c.args.entry.now c.step-reply.new.self c.step-reply.result.0 c.same_reply.result
-    (subst (IsAfter o h) (sym c.self.view_is) at) c.step-reply.ensures.step c.same_reply.ensures)
+    (answered_is o h c.args.self.now c.args.entry.now c.step-reply.new.self c.step-reply.result.0
+    c.same_reply.result at c.step-reply.ensures.step c.same_reply.ensures)
 
 pub returns-clause-after : goal.returns-clause-after
 returns-clause-after c = λ o h is program at next.
-    let before : JudgeView = record {
-      world = c.self.inside.world;
-      standing = c.self.inside.standing;
-      events = c.self.inside.events;
-      bytes = c.self.inside.bytes;
-    } in
-    let after : JudgeView = record {
+    let before : Judge = c.args.self.now in
+    let after : Judge = record {
       world = c.step-reply.new.self;
       standing = c.took.new.self;
-      events = c.self.inside.events + 1;
-      bytes = c.self.inside.bytes + c.from.result;
+      events = before.events + 1;
+      bytes = before.bytes + c.from.result;
     } in
-    let here : IsAfter o h before = subst (IsAfter o h) (sym c.self.view_is) at in
-    let few : length h ≤ 1_000_000 =
-    omega (arith, here.events, ap (λ (v : JudgeView). v.events) c.self.view_is, c.requires.events) in
+    let few : length h ≤ 1_000_000 = omega (arith, at.events, c.requires.events) in
     let standing : AreAfter o.programs (h ++ c.args.entry.now ∷ []) c.took.new.self =
-    c.took.ensures o.programs h c.args.entry.now program here.standing few refl next.next refl in
+    c.took.ensures o.programs h c.args.entry.now program at.standing few refl next.next refl in
     let takes : Takes c.args.entry.now before after = record {
       stepped = ap (λ (x : Outcome). x.world) c.step-reply.ensures.step;
       events = refl;
-      bytes = ap (λ n. c.self.inside.bytes + n) (c.from.ensures ∙ c.charge.ensures);
+      bytes = ap (λ n. before.bytes + n) (c.from.ensures ∙ c.charge.ensures);
     } in
-    taken c.legal_grows.ensures.replay o h c.args.entry.now before after takes standing here
+    taken c.legal_grows.ensures.replay o h c.args.entry.now before after takes standing at

@@ -1,21 +1,19 @@
-use Rattle.std.proofs.Common.{sym, ap, ◌∙◌, subst}
+use Rattle.std.proofs.Common.{sym, ap, ◌∙◌}
 use Rattle.std.specs.Prelude.{option_map}
 use Rattle.std.proofs.lemmas.Result.{IfOk-weaker}
 use Rattle.session_order.specs.Calls.{calls_by, next_of}
 use Rattle.session_text.specs.Programs.{program_of}
-use Rattle.vt_check.specs.Judging.{IsAfter}
 use Rattle.vt_check.proofs.judge.Judge.next.Goals as goal
 
 pub returns-in-Some : goal.returns-in-Some
 returns-in-Some c =
     IfOk-weaker c.next.result _ _
     (λ e gives o h same at.
-    let here = subst (IsAfter o h) (sym c.self.view_is) at in
     c.walk.ensures.next o.programs h c.in-Some.program.now e
     (ap (λ list. program_of list c.args.p) same
     ∙ sym c.program_of.ensures
     ∙ ap (option_map (λ program. program.now)) c.in-Some.is)
-    here.standing gives)
+    at.standing gives)
     c.next.ensures
 
 pub returns-in-None : goal.returns-in-None

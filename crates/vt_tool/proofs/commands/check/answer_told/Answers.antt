@@ -12,6 +12,6 @@ returns-in-Legal-clause-told c =
 
 pub returns-in-Illegal-clause-told : goal.returns-in-Illegal-clause-told
 returns-in-Illegal-clause-told c =
-    told-illegal c.without_text.result.status c.without_text.result.text.bytes (legal_text c.args.entries)
-    c.in-Illegal.index c.in-Illegal.why c.args.verdict c.without_text.ensures.status
-    c.without_text.ensures.text c.in-Illegal.is
+    told-illegal c.illegal.result.status c.illegal.result.text.bytes (legal_text c.args.entries)
+    c.in-Illegal.index c.in-Illegal.why c.args.verdict c.illegal.ensures.status
+    c.illegal.ensures.text c.in-Illegal.is
