@@ -1,16 +1,19 @@
 ghost use Rattle.std.specs.Prelude.{◌≡◌, ◌≤◌, IfOk, OnErr, length};
 ghost use Rattle.vt_events.specs.Charge.{greatest_reply, text_of_reply};
+ghost use Rattle.vt_world.specs.Spare.{HasGrid, extent, needed_grid};
 ghost use Rattle.vt_world.specs.Step.{Gives, step};
 
-use crate::spare::spare_for;
+use crate::spare::needed_grid;
 use crate::world::World;
 use std::alloc::Global;
-use vt_base::{CallerNo, NoMemory};
-use vt_events::{Event, Reply};
+use vt_base::{Bytes, CallerNo, NoMemory, Size};
+use vt_events::{Event, Reply, reply_bytes};
+use vt_grid::Grid;
+use vt_screen::BLANK;
 
 impl World {
-    /// Takes the event of the caller, and answers it: a step for which the spare is made here, and
-    /// dropped after it.
+    /// Takes the event of the caller, and answers it: a step whose memory is taken here. A grid that
+    /// it takes and doesn't use up is kept for a later one.
     pub fn call(
         &mut self,
         alloc: Global,
@@ -21,8 +24,44 @@ impl World {
         ensures bytes { IfOk result (λ reply. length (text_of_reply reply) ≤ greatest_reply event.now) }
         ensures err { OnErr result (self.new ≡ self.old) }
     {
-        let spare = spare_for(alloc, event, self.size())?;
-        let (reply, _unused) = self.step(caller, event, spare);
+        let room = Bytes::with_room(alloc, reply_bytes(event))?;
+        let mut grid = self.grid_for(alloc, event)?;
+        let reply = self.step_on(caller, event, &mut grid, room);
+        self.keep(grid);
         Ok(reply)
+    }
+
+    // The grid that the call may need.
+    fn grid_for(&mut self, alloc: Global, event: &Event) -> Result<Option<Grid>, NoMemory>
+        ensures grid { IfOk result (HasGrid (needed_grid (extent self.old.rows self.old.cols) event.now)) }
+        ensures same { self.new ≡ self.old }
+    {
+        match needed_grid(event, self.size) {
+            Some(size) => Ok(Some(self.grid_of(alloc, size)?)),
+            None => Ok(None),
+        }
+    }
+
+    // A grid of this size: the one that is kept, or a fresh one.
+    fn grid_of(&mut self, alloc: Global, size: Size) -> Result<Grid, NoMemory>
+        ensures rows { IfOk result (λ grid. grid.rows ≡ size.rows) }
+        ensures cols { IfOk result (λ grid. grid.cols ≡ size.cols) }
+        ensures same { self.new ≡ self.old }
+    {
+        if let Some(grid) = self.kept.take() {
+            if grid.size() == size {
+                return Ok(grid);
+            }
+        }
+        Ok(Grid::blank(alloc, size, BLANK)?)
+    }
+
+    // Keeps a grid for a later call.
+    fn keep(&mut self, grid: Option<Grid>)
+        ensures { self.new ≡ self.old }
+    {
+        if grid.is_some() {
+            self.kept = grid;
+        }
     }
 }

@@ -66,8 +66,8 @@ fn grid_of(alloc: Global, needed: Option<Size>) -> Result<Option<Grid>, NoMemory
     }
 }
 
-// The size of the grid that the call may need.
-fn needed_grid(e: &Event, size: Size) -> Option<Size>
+/// The size of the grid that the call may need.
+pub(crate) fn needed_grid(e: &Event, size: Size) -> Option<Size>
     ensures { option_map extent_of result ≡ needed_grid (extent size.rows size.cols) e.now }
 {
     match e {

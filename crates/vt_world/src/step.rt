@@ -28,9 +28,28 @@ impl World {
             reply,
             unused,
         } = spare;
+        let mut grid = grid;
+        let answer = self.step_on(caller, event, &mut grid, reply);
+        (answer, unused)
+    }
+
+    /// The same step with a grid that is lent. It stays where the event doesn't use it; where a screen
+    /// is resized onto it, that screen's old grid stands in its place.
+    pub(crate) fn step_on(
+        &mut self,
+        caller: CallerNo,
+        event: &Event,
+        grid: &mut Option<Grid>,
+        reply: Bytes,
+    ) -> Reply
+        requires grid { HasGrid (needed_grid (extent self.old.rows self.old.cols) event.now) grid.old }
+        requires reply { greatest_reply event.now ≤ reply.room }
+        ensures step { Gives (step self.old caller event.now) self.new result }
+        ensures bytes { length (text_of_reply result) ≤ greatest_reply event.now }
+    {
         self.trace.clear();
         let answer = self.take(caller, event, grid, reply);
-        (self.finish(caller, answer), unused)
+        self.finish(caller, answer)
     }
 
     // A refusal is answered by its error. After any other event comes the idle rule.
@@ -52,11 +71,11 @@ impl World {
         &mut self,
         p: CallerNo,
         event: &Event,
-        grid: Option<Grid>,
+        grid: &mut Option<Grid>,
         reply: Bytes,
     ) -> Result<Reply, Errno>
         requires clear { self.old.trace.marks ≡ [] }
-        requires grid { HasGrid (needed_grid (extent self.old.rows self.old.cols) event.now) grid }
+        requires grid { HasGrid (needed_grid (extent self.old.rows self.old.cols) event.now) grid.old }
         requires reply { greatest_reply event.now ≤ reply.room }
         ensures effect { Has (effect_after self.old p event.now
             (first_refusal (common_refusals self.old p event.now))) self.new result }
@@ -90,14 +109,14 @@ impl World {
         &mut self,
         p: CallerNo,
         event: &Event,
-        grid: Option<Grid>,
+        grid: &mut Option<Grid>,
         reply: Bytes,
     ) -> Result<Reply, Errno>
         requires clear { self.old.trace.marks ≡ [] }
         requires live { is_live self.old.callers p ≡ true }
         requires free { ends_wait event.now ≡ false
             → waited_of (caller_at self.old.callers p).waiting ≡ Waited.None }
-        requires grid { HasGrid (needed_grid (extent self.old.rows self.old.cols) event.now) grid }
+        requires grid { HasGrid (needed_grid (extent self.old.rows self.old.cols) event.now) grid.old }
         requires reply { greatest_reply event.now ≤ reply.room }
         ensures effect { Has (own_effect self.old p event.now) self.new result }
         ensures bytes { length (text_of_answer result) ≤ greatest_reply event.now }

@@ -63,11 +63,11 @@ impl Terminal {
         self.bells = rung(self.bells, outs.as_slice());
     }
 
-    /// Gives the screen the size of this grid.
-    pub fn resize(&mut self, grid: Grid)
+    /// Gives the screen the size of this grid, and gives the old grid back.
+    pub fn resize(&mut self, grid: Grid) -> Grid
         ensures { self.new ≡ altered_by (resize grid.rows grid.cols) self.old }
     {
-        let _old = self.emu.resize(grid);
+        self.emu.resize(grid)
     }
 
     /// Gives the screen this user's table.

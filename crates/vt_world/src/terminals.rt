@@ -82,12 +82,14 @@ impl Terminals {
         }
     }
 
-    /// Gives the console's screen, if it has one, the size of this grid.
-    pub fn resize(&mut self, c: ConsoleNo, grid: Grid)
+    /// Gives the console's screen, if it has one, the size of this grid. The grid that it no longer
+    /// needs is given back.
+    pub fn resize(&mut self, c: ConsoleNo, grid: Grid) -> Grid
         ensures { self.new ≡ altered c (resize grid.rows grid.cols) self.old }
     {
-        if let Some(terminal) = &mut self.places[usize::from(c.get())] {
-            terminal.resize(grid);
+        match &mut self.places[usize::from(c.get())] {
+            Some(terminal) => terminal.resize(grid),
+            None => grid,
         }
     }
 

@@ -16,6 +16,7 @@ use key_tables::KeyTables;
 use std::alloc::Global;
 use std::marker::Model;
 use vt_base::{CallerNo, ConsoleNo, NoMemory, Size};
+use vt_grid::Grid;
 use vt_procs::{Config, Procs, Waited};
 use vt_screen::Emu;
 use vt_switch::{Mark, Switch};
@@ -31,6 +32,8 @@ pub struct World {
     pub(crate) inputs: Inputs,
     pub(crate) board: Board,
     pub(crate) trace: Trace,
+    // A grid that a call took and left, for the next one. Contracts don't see it.
+    pub(crate) kept: Option<Grid>,
 }
 
 impl Model for World {
@@ -75,6 +78,7 @@ impl World {
             inputs,
             board: Board::start(tables),
             trace,
+            kept: None,
         })
     }
 

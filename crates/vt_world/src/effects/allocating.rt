@@ -13,15 +13,17 @@ use vt_grid::Grid;
 
 impl World {
     /// Allocates the console, if it isn't yet, with a start screen on this grid.
-    pub(crate) fn allocate(&mut self, c: ConsoleNo, grid: Option<Grid>)
+    pub(crate) fn allocate(&mut self, c: ConsoleNo, grid: &mut Option<Grid>)
         requires { is_allocated self.old.display c ≡ false
-            → HasSize (extent self.old.rows self.old.cols) grid }
+            → HasSize (extent self.old.rows self.old.cols) grid.old }
         ensures { self.new ≡ all_done self.old (allocating c []) }
     {
         if self.switch.allocated(c) {
             return;
         }
-        let Some(grid) = grid else { unreachable!() };
+        let Some(grid) = grid.take() else {
+            unreachable!()
+        };
         self.terminals.begin(c, grid);
         self.switch.allocate(c);
     }

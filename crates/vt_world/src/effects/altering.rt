@@ -9,11 +9,12 @@ use vt_cells::Palette;
 use vt_grid::Grid;
 
 impl World {
-    /// The console's screen, if it has one, takes the size of this grid.
-    pub(crate) fn resize_screen(&mut self, c: ConsoleNo, grid: Grid)
+    /// The console's screen, if it has one, takes the size of this grid. The grid that it no longer
+    /// needs is given back.
+    pub(crate) fn resize_screen(&mut self, c: ConsoleNo, grid: Grid) -> Grid
         ensures { self.new ≡ done self.old (Own (Alters c (resize grid.rows grid.cols))) }
     {
-        self.terminals.resize(c, grid);
+        self.terminals.resize(c, grid)
     }
 
     /// The console's screen, if it has one, gets this user's table.

@@ -12,8 +12,13 @@ use vt_grid::Grid;
 
 impl World {
     /// Opens console `n`, or the one in front where `n` is 0, at the lowest free descriptor.
-    pub(crate) fn open(&mut self, p: CallerNo, n: u16, grid: Option<Grid>) -> Result<Reply, Errno>
-        requires { HasGrid (needed_grid (extent self.old.rows self.old.cols) (event.OpenCon n)) grid }
+    pub(crate) fn open(
+        &mut self,
+        p: CallerNo,
+        n: u16,
+        grid: &mut Option<Grid>,
+    ) -> Result<Reply, Errno>
+        requires { HasGrid (needed_grid (extent self.old.rows self.old.cols) (event.OpenCon n)) grid.old }
         ensures { Has (own_effect self.old p (event.OpenCon n)) self.new result }
     {
         let c = self.named(n).ok_or(Errno::Nxio)?;

@@ -21,10 +21,10 @@ impl World {
         p: CallerNo,
         fd: u16,
         n: u16,
-        grid: Option<Grid>,
+        grid: &mut Option<Grid>,
     ) -> Result<Reply, Errno>
         requires clear { self.old.trace.marks ≡ [] }
-        requires grid { HasGrid (needed_grid (extent self.old.rows self.old.cols) (event.Activate fd n)) grid }
+        requires grid { HasGrid (needed_grid (extent self.old.rows self.old.cols) (event.Activate fd n)) grid.old }
         ensures { Has (own_effect self.old p (event.Activate fd n)) self.new result }
     {
         self.handled(p, fd)?;

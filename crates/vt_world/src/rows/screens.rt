@@ -32,14 +32,16 @@ impl World {
         fd: u16,
         rows: u16,
         cols: u16,
-        grid: Option<Grid>,
+        grid: &mut Option<Grid>,
     ) -> Result<Reply, Errno>
-        requires { HasGrid (needed_grid (extent self.old.rows self.old.cols) (event.Resize fd rows cols)) grid }
+        requires { HasGrid (needed_grid (extent self.old.rows self.old.cols) (event.Resize fd rows cols)) grid.old }
         ensures { Has (own_effect self.old p (event.Resize fd rows cols)) self.new result }
     {
         let c = self.settable(p, fd, is_extent(rows, cols))?;
-        let Some(grid) = grid else { unreachable!() };
-        self.resize_screen(c, grid);
+        let Some(fresh) = grid.take() else {
+            unreachable!()
+        };
+        *grid = Some(self.resize_screen(c, fresh));
         Ok(Reply::Done)
     }
 

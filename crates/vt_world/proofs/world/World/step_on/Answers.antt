@@ -5,7 +5,7 @@ use Rattle.vt_world.specs.State.{WorldState}
 use Rattle.vt_world.specs.Step.{answered, effect_after}
 use Rattle.vt_world.specs.Refusals.{common_refusals, first_refusal}
 use Rattle.vt_world.specs.contracts.world.World.{the_view}
-use Rattle.vt_world.proofs.world.World.step.Goals as goal
+use Rattle.vt_world.proofs.world.World.step_on.Goals as goal
 
 pub returns-clause-step : goal.returns-clause-step
 returns-clause-step c =
