@@ -3,10 +3,10 @@
 
 A public call is a `pub fn` that a user of the crate can name, one of a public trait of this repository, or such a trait's at a
 public type. A section `### CRATE` has a line `Laws: ..`, a table, or both, and each call stands once in them. A law gives
-nothing and changes nothing. A row has five cells: calls; whether they may wait (`no` exactly where the signature has no
-`Wait`); whether they take memory (`no` exactly where it has no allocator); the other answers, by clauses that every call of
-the row has ("its clause" has no name), or `none`, which no call that gives an Option, a Result or a bool has; and what is
-lent, which is `nothing lent` exactly where nothing is lent to be changed. NoMemory has no clause; any other answer without
+nothing and changes nothing. A row has five cells: calls; whether they may wait (`no` exactly where the signature, with the
+head of its `impl`, has no `Wait`); whether they take memory (`no` exactly where it has no allocator, nor a `Seat`, which has
+one); the other answers, by clauses that every call of the row has ("its clause" has no name), or `none`, which no call that
+gives an Option, a Result or a bool has; and what is lent, which is `nothing lent` exactly where nothing is lent to be changed. NoMemory has no clause; any other answer without
 one is "no clause". Every call of a cell with "no clause", and every call without an `ensures`, stands as `CRATE::CALL` under
 "What no clause says".
 Prints a line for each fault, and ends with status 1 if there is one.
@@ -22,6 +22,7 @@ PAGE = TOP / "docs" / "PROMISES.md"
 HOLES = "## What no clause says"
 MISSING = "no clause"
 LENT_NOTHING = "nothing lent"
+ALLOCATOR = re.compile(r"alloc: |\bSeat<")
 
 
 def libraries():
@@ -74,23 +75,24 @@ def promised_at(lines):
 
 
 def public_calls(crate, known):
-    """Gives the signature and the promises of each public call of a crate, under the name by which it is cited."""
+    """Gives the signature, with the head of its `impl`, and the promises of each public call of a crate, under the name by
+    which it is cited."""
     source = TOP / "crates" / crate / "src"
     exports, found = exports_of(source / "lib.rt"), {}
     for file in sorted(source.rglob("*.rt")):
         lines = file.read_text(encoding="utf-8").split("\nmod tests {")[0].splitlines()
-        owner, is_open = [], False
+        owner, head, is_open = [], "", False
         for number, line in enumerate(lines):
             if line.startswith("}"):
-                owner, is_open = [], False
+                owner, head, is_open = [], "", False
             if owners(line):
-                owner = owners(line)
+                owner, head = owners(line), line
                 of_trait = re.search(r"(\w+)(?:<.*>)? for ", line)
                 is_open = line.startswith("pub trait") or bool(of_trait and of_trait[1] in known)
             call = re.match(r"\s*(pub )?(?:const )?fn (\w+)", line)
             if call and (call[1] or is_open) and (owner[0] if owner else call[2]) in exports:
                 name = f"{owner[0]}::{call[2]}" if owner else call[2]
-                found[name] = (signature_at(lines[number:]), promised_at(lines[number:]))
+                found[name] = (f"{head} {signature_at(lines[number:])}", promised_at(lines[number:]))
     return found
 
 
@@ -104,7 +106,7 @@ def row_faults(name, signature, cells, clauses):
     arguments, _, result = signature.rpartition("->") if "->" in signature else (signature, "", "")
     if (waits == "no") == bool(re.search(r"\bWait\b", signature)):
         yield f"{name}: whether it may wait"
-    if (memory == "no") == ("alloc: " in arguments):
+    if (memory == "no") == bool(ALLOCATOR.search(arguments)):
         yield f"{name}: whether it takes memory"
     if answers == "none":
         if re.match(r" (Option|Result|bool)\b", result):

@@ -1,5 +1,5 @@
 -- What a console answers to reads and to writes.
-use Rattle.std.proofs.Common.{◌≡◌, ℕ, ◌+◌, ◌<◌, ◌≤◌, min, Bool, true, false, cond, ◌==◌, ◌&&◌, not, List, [], ◌∷◌, ◌++◌, length, take, Some, None, refl, sym, ap, ◌∙◌, subst, arith, length-append}
+use Rattle.std.proofs.Common.{◌≡◌, ℕ, ◌≤◌, min, Bool, true, false, cond, ◌&&◌, List, [], ◌∷◌, ◌++◌, length, take, Some, None, refl, sym, ap, ◌∙◌, subst, arith, length-append}
 use Rattle.std.proofs.Math.Seq.{get_or-append_seam}
 use Rattle.std.proofs.lemmas.Bool.{and_parts, eqb-false, leb-true, not-false}
 use Rattle.std.proofs.lemmas.List.{length-take}
@@ -19,7 +19,7 @@ use Rattle.vt_world.specs.Heard.{cleared}
 use Rattle.vt_world.specs.History.{IsLegal, replay}
 use Rattle.vt_world.specs.Inputs.{input_at}
 use Rattle.vt_world.specs.Refusals.{Refusal, common_refusals, first_refusal, is_empty, needs_open, needs_sense, own_refusals, refusal, target, transfer_limit}
-use Rattle.vt_world.specs.Rows.{read_count, row}
+use Rattle.vt_world.specs.Rows.{row}
 use Rattle.vt_world.specs.State.{WorldState}
 use Rattle.vt_world.specs.Step.{answered, effect_after, effect_of, step}
 use Rattle.cooked.specs.Turn.{ReadAnswer, WriteAnswer}

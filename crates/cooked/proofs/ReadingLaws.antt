@@ -1,12 +1,12 @@
 -- What turns read is what they pushed.
-use Rattle.std.proofs.Common.{◌≡◌, ◌⊎◌, ⊎_elim, ℕ, List, [], ◌∷◌, ◌++◌, None, refl, sym, ap, ◌∙◌, subst, append_assoc}
+use Rattle.std.proofs.Common.{◌≡◌, ⊎_elim, ℕ, List, [], ◌∷◌, ◌++◌, refl, sym, ap, ◌∙◌, subst, append_assoc}
 use Rattle.std.proofs.lemmas.List.{append-nil}
 use Rattle.std.specs.Prelude.{Option}
 use Rattle.cooked.proofs.Pushes.{fresh-none, one-more}
 use Rattle.cooked.specs.Cooked.{Typing, typing}
 use Rattle.cooked.specs.Fresh.{fresh}
 use Rattle.cooked.specs.Given.{Item, given, items_of}
-use Rattle.cooked.specs.Reading.{CameTo, Lead, Made, TurnsRead, bytes_read, items_given, read_by}
+use Rattle.cooked.specs.Reading.{Lead, Made, TurnsRead, bytes_read, items_given, read_by}
 use Rattle.cooked.specs.Turn.{Echoes, MetFull, ReadsOne, Refused, Turns, Typed, Untyped, Wrote}
 use Rattle.cooked.specs.Whole.{all_items}
 use Rattle.cooked.specs.declared.given.Given.{Given}
@@ -14,7 +14,7 @@ use Rattle.cooked.specs.declared.stop.Stop.{Stop}
 use Rattle.cooked.specs.declared.termios.Termios.{Termios}
 use Rattle.cooked.specs.declared.turn.Turn.{Turn}
 use Rattle.vt_events.specs.Charge.{text_of_reply}
-use Rattle.vt_events.specs.Plain.{plain_event, plain_reply, text}
+use Rattle.vt_events.specs.Plain.{plain_event, plain_reply}
 use Rattle.vt_events.specs.declared.entry.Entry.{Entry}
 use Rattle.vt_events.specs.declared.event.Event.{Event}
 use Rattle.vt_events.specs.declared.event.Event.TheVariants as event

@@ -1,5 +1,5 @@
 -- A turn by its calls.
-use Rattle.std.proofs.Common.{◌≡◌, ◌⊎◌, ◌≢◌, inl, inr, ℕ, Bool, true, false, List, [], ◌∷◌, ◌++◌, Some, None, refl, sym, ap, ◌∙◌, subst, append_assoc}
+use Rattle.std.proofs.Common.{◌≡◌, ◌⊎◌, ◌≢◌, inl, inr, ℕ, Bool, false, List, [], ◌∷◌, ◌++◌, Some, None, refl, sym, ap, ◌∙◌, subst, append_assoc}
 use Rattle.std.proofs.lemmas.List.{append-nil}
 use Rattle.std.proofs.lemmas.Option.{none-some}
 use Rattle.std.specs.Prelude.{Option, Result, Ok, Err}
@@ -25,8 +25,7 @@ use Rattle.cooked.specs.Cooked.{Typing, typing}
 use Rattle.cooked.specs.Echo.{echoed}
 use Rattle.cooked.specs.Fresh.{fresh}
 use Rattle.cooked.specs.Given.{given, items_of, line_in}
-use Rattle.cooked.specs.Turn.{Echoes, GoesOn, IsTurn, MetFull, Meets, ReadAnswer, ReadResult, Reads, ReadsByte, ReadsNone, Refused, Refuses, Turns, Typed, Untyped, Writes, Wrote, stop_of}
-use Rattle.cooked.specs.declared.given.Given.{Given}
+use Rattle.cooked.specs.Turn.{Echoes, GoesOn, MetFull, Meets, ReadAnswer, ReadResult, Reads, ReadsByte, ReadsNone, Refused, Refuses, Turns, Writes, Wrote, stop_of}
 use Rattle.cooked.specs.declared.given.Given.TheVariants as answer
 use Rattle.cooked.specs.declared.stop.Stop.{Stop}
 use Rattle.cooked.specs.declared.stop.Stop.TheVariants as stop

@@ -11,3 +11,4 @@ pub mod Sizes
 pub mod Termios
 pub mod Turn
 pub mod Whole
+pub mod StopText

@@ -15,7 +15,7 @@ use Rattle.vt_world.specs.State.{WorldState}
 use Rattle.cooked.specs.Cooked.{Typing, typing}
 use Rattle.cooked.specs.Echo.{echoed}
 use Rattle.cooked.specs.Fresh.{fresh}
-use Rattle.cooked.specs.Given.{Item, given, items_of, line_in}
+use Rattle.cooked.specs.Given.{given, items_of, line_in}
 use Rattle.cooked.specs.declared.given.Given.TheVariants as answer
 use Rattle.cooked.specs.declared.stop.Stop.{Stop}
 use Rattle.cooked.specs.declared.stop.Stop.TheVariants as stop

@@ -1,9 +1,14 @@
 //! Why a turn stopped, as a text.
+ghost use Rattle.std.specs.Prelude.{Some};
+ghost use Rattle.cooked.specs.StopText.{stop_text};
+
 use crate::Stop;
 use std::error::Error;
 use std::fmt;
 
 impl fmt::Display for Stop {
+    ghost output = { λ s. Some (stop_text s) };
+
     fn fmt<W: fmt::Write>(&self, f: &mut fmt::Formatter<W>) -> fmt::Result {
         match self {
             Stop::Err(errno) => {

@@ -1,10 +1,8 @@
-ghost use Rattle.std.specs.Prelude.{◌≡◌, ◌≤◌, [], ℕ, false, None, IfOk, OnErr};
+ghost use Rattle.std.specs.Prelude.{◌≡◌, ◌≤◌, [], false, None, IfOk, OnErr};
 ghost use Rattle.cooked.specs.Cooked.{typing};
 ghost use Rattle.cooked.specs.Termios.{IsValid};
 ghost use Rattle.cooked.specs.Turn.{ReadAnswer, ReadResult, Reads, Turns, Writes, stop_of};
-ghost use Rattle.vt_events.specs.declared.event.Event.TheVariants as event;
 ghost use Rattle.vt_hub.specs.Histories.{awaits};
-ghost use Rattle.vt_world.specs.Spare.{Fits};
 
 use crate::cooked_line::Cooked;
 use crate::echo_bytes::EchoBytes;
@@ -15,10 +13,10 @@ use crate::turn::Turn;
 use std::alloc::Global;
 use std::marker::Model;
 use std::sync::Wait;
-use vt_base::{Bytes, NoMemory, Size};
+use vt_base::{Bytes, NoMemory};
 use vt_events::{Event, Reply};
-use vt_hub::{Answer, Hub, Opening, Pass};
-use vt_world::{Spare, spare_for};
+use vt_hub::{Answer, Opening, Pass, Seat};
+use vt_world::Spare;
 
 /// The most bytes that one byte echoes.
 const ECHO_BYTES: usize = 8;
@@ -57,24 +55,22 @@ impl Tty {
     /// Reads one byte, types it, and writes its echo. The memory is taken before any call.
     pub fn turn<J: Opening, R: Wait>(
         &mut self,
-        rt: &R,
-        alloc: Global,
-        hub: &Hub<J>,
+        seat: &Seat<J, R>,
         pass: &mut Pass<J>,
         fd: u16,
     ) -> Result<Turn, NoMemory>
-        requires own { pass.old.hub ≡ hub.now }
+        requires own { pass.old.hub ≡ seat.now }
         requires free { pass.old.stop ≡ None → awaits pass.old.mine ≡ false }
         ensures ok { IfOk result (λ turn. Turns J.start fd self.old self.new turn pass.old pass.new) }
         ensures err { OnErr result ((self.new ≡ self.old) × (pass.new ≡ pass.old)) }
     {
-        let spare = read_spare(alloc, fd)?;
-        let room = Bytes::with_room(alloc, ECHO_BYTES)?;
-        match read_byte(rt, hub, pass, fd, spare) {
+        let room = Bytes::with_room(seat.alloc, ECHO_BYTES)?;
+        let read = read_byte(seat, pass, fd)?;
+        match read {
             Ok(b) => {
                 let mut echo = EchoBytes::new();
                 let given = self.cooked.push(b, &mut echo);
-                let stop = write_echo(rt, alloc, hub, pass, fd, &echo, room);
+                let stop = write_echo(seat, pass, fd, &echo, room);
                 Ok(Turn { given, stop })
             }
             Err(stop) => Ok(Turn {
@@ -85,28 +81,21 @@ impl Tty {
     }
 }
 
-fn read_spare(alloc: Global, fd: u16) -> Result<Spare, NoMemory>
-    ensures { IfOk result (λ spare. (rows cols : ℕ) → Fits rows cols (event.ReadIn fd 1) spare) }
-{
-    Ok(spare_for(alloc, &Event::ReadIn(fd, 1), Size { rows: 1, cols: 1 })?)
-}
-
 // Reads one byte.
 fn read_byte<J: Opening, R: Wait>(
-    rt: &R,
-    hub: &Hub<J>,
+    seat: &Seat<J, R>,
     pass: &mut Pass<J>,
     fd: u16,
-    spare: Spare,
-) -> Result<u8, Stop>
-    requires own { pass.old.hub ≡ hub.now }
+) -> Result<Result<u8, Stop>, NoMemory>
+    requires own { pass.old.hub ≡ seat.now }
     requires free { pass.old.stop ≡ None → awaits pass.old.mine ≡ false }
-    requires fits { (rows cols : ℕ) → Fits rows cols (event.ReadIn fd 1) spare }
-    ensures { Reads J.start fd pass.old pass.new result }
+    ensures ok { IfOk result (λ read. Reads J.start fd pass.old pass.new read) }
+    ensures err { OnErr result (pass.new ≡ pass.old) }
 {
-    match hub.call(rt, pass, Event::ReadIn(fd, 1), spare) {
-        Answer::Done { at: _, reply } => byte_of(reply),
-        Answer::Full(full) => Err(Stop::Full(full)),
+    let answer = seat.ask(pass, Event::ReadIn(fd, 1))?;
+    match answer {
+        Answer::Done { at: _, reply } => Ok(byte_of(reply)),
+        Answer::Full(full) => Ok(Err(Stop::Full(full))),
     }
 }
 
@@ -124,15 +113,13 @@ fn byte_of(reply: Reply) -> Result<u8, Stop>
 
 // Writes the echo, unless it is empty, and says what stopped that.
 fn write_echo<J: Opening, R: Wait>(
-    rt: &R,
-    alloc: Global,
-    hub: &Hub<J>,
+    seat: &Seat<J, R>,
     pass: &mut Pass<J>,
     fd: u16,
     echo: &EchoBytes,
     room: Bytes,
 ) -> Option<Stop>
-    requires own { pass.old.hub ≡ hub.now }
+    requires own { pass.old.hub ≡ seat.now }
     requires met { pass.old.stop ≡ None }
     requires free { awaits pass.old.mine ≡ false }
     requires empty { room.bytes ≡ [] }
@@ -145,7 +132,8 @@ fn write_echo<J: Opening, R: Wait>(
     }
     let mut room = room;
     room.append(bytes);
-    match hub.call(rt, pass, Event::Write(fd, room), Spare::none(alloc)) {
+    let none = Spare::none(seat.alloc);
+    match seat.hub.call(seat.rt, pass, Event::Write(fd, room), none) {
         Answer::Done { at: _, reply } => stop_of(&reply),
         Answer::Full(full) => Some(Stop::Full(full)),
     }

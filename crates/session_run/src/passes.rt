@@ -12,8 +12,8 @@ use std::alloc::Global;
 use std::sync::Wait;
 use std::thread;
 use std::thread::Threads;
-use vt_base::{CallerNo, NoMemory, Size};
-use vt_hub::{Hub, Opening, Pass, Steward};
+use vt_base::{CallerNo, NoMemory};
+use vt_hub::{Hub, Opening, Pass, Seat, Steward};
 use vt_io::Gate;
 
 /// A pass for each of these callers.
@@ -43,56 +43,47 @@ pub(crate) fn work_all<
     G: Gate + Sync,
     R: Threads + Wait + Sync,
 >(
-    rt: &R,
-    alloc: Global,
-    hub: &Hub<J>,
+    seat: &Seat<J, R>,
     callers: &[CallerNo],
     passes: Vec<Pass<J>>,
     programs: &[Program],
     hooks: &[Hook<H>],
     gate: &G,
-    size: Size,
 ) -> Result<Vec<Result<Pass<J>, NoMemory>>, NoMemory>
-    requires passes { AreFresh hub.now callers.now passes.items }
+    requires passes { AreFresh seat.now callers.now passes.items }
     requires len { vec_len passes ≡ length callers.now }
     requires hooks { AreHooked programs.now hooks.now }
-    requires size { (size.rows ≡ J.start.rows) × (size.cols ≡ J.start.cols) }
     ensures len { IfOk result (λ ran. vec_len ran ≡ length callers.now) }
     ensures ran { IfOk result (λ ran. (i : ℕ) (d : _) → i < length callers.now
         → IfOk (slice_index_or ran.items i d)
-        (λ q. HasRun programs.now hub.now (slice_index_or callers.now i 0) q)) }
+        (λ q. HasRun programs.now seat.now (slice_index_or callers.now i 0) q)) }
 {
     let run = move |pass: Pass<J>| -> Result<Pass<J>, NoMemory>
         requires { IsSync R.row × IsSync G.row
-            × (pass.hub ≡ hub.now) × (pass.mine ≡ []) × (pass.stop ≡ None)
-            × AreHooked programs.now hooks.now
-            × (size.rows ≡ J.start.rows) × (size.cols ≡ J.start.cols) }
-        ensures { IfOk result (λ q. HasRun programs.entry.now hub.entry.now pass.number q) }
-    { work_one(rt, alloc, hub, pass, programs, hooks, gate, size) };
-    Ok(thread::map_vec(rt, passes, &run)?)
+            × (pass.hub ≡ seat.now) × (pass.mine ≡ []) × (pass.stop ≡ None)
+            × AreHooked programs.now hooks.now }
+        ensures { IfOk result (λ q. HasRun programs.entry.now seat.entry.now pass.number q) }
+    { work_one(seat, pass, programs, hooks, gate) };
+    Ok(thread::map_vec(seat.rt, passes, &run)?)
 }
 
 // Runs the worker of this pass. A caller that has no program makes no call.
 fn work_one<J: Opening, H: Handler, G: Gate, R: Wait>(
-    rt: &R,
-    alloc: Global,
-    hub: &Hub<J>,
+    seat: &Seat<J, R>,
     pass: Pass<J>,
     programs: &[Program],
     hooks: &[Hook<H>],
     gate: &G,
-    size: Size,
 ) -> Result<Pass<J>, NoMemory>
-    requires own { pass.hub ≡ hub.now }
+    requires own { pass.hub ≡ seat.now }
     requires fresh { (pass.mine ≡ []) × (pass.stop ≡ None) }
     requires hooks { AreHooked programs.now hooks.now }
-    requires size { (size.rows ≡ J.start.rows) × (size.cols ≡ J.start.cols) }
-    ensures { IfOk result (λ q. HasRun programs.now hub.now pass.number q) }
+    ensures { IfOk result (λ q. HasRun programs.now seat.now pass.number q) }
 {
     let Some(program) = program_of(programs, pass.number()) else {
         return Ok(pass);
     };
-    work(rt, alloc, hub, pass, program, hooks, gate, size)
+    work(seat, pass, program, hooks, gate)
 }
 
 /// Takes every pass in again.

@@ -22,8 +22,8 @@ use std::alloc::Global;
 use std::marker::Brand;
 use std::sync::Wait;
 use std::thread::Threads;
-use vt_base::{NoMemory, Signal, Size};
-use vt_hub::{Hub, Opening, Run, Steward};
+use vt_base::{NoMemory, Signal};
+use vt_hub::{Hub, Opening, Run, Seat, Steward};
 use vt_io::Gate;
 use vt_world::{World, displays_are_lawful, nobody_waits_at_start, screens_are_tapes};
 
@@ -158,11 +158,15 @@ fn race_on<
     nobody_waits_at_start();
     callers_have_programs();
     let config = s.config();
-    let size = config.size;
     let _starts = config.procs.as_slice();
     let programs = s.programs();
     let (hub, mut steward) = Hub::<J>::open(alloc, world, s.limits())?;
-    race_in(rt, alloc, &hub, &mut steward, programs, hooks, gate, size)?;
+    let seat = Seat {
+        rt,
+        alloc,
+        hub: &hub,
+    };
+    race_in(&seat, &mut steward, programs, hooks, gate)?;
     Ok(hub.close(steward))
 }
 
@@ -173,25 +177,21 @@ fn race_in<
     G: Gate + Sync,
     R: Threads + Wait + Sync,
 >(
-    rt: &R,
-    alloc: Global,
-    hub: &Hub<J>,
+    seat: &Seat<J, R>,
     steward: &mut Steward<J>,
     programs: &[Program],
     hooks: &[Hook<H>],
     gate: &G,
-    size: Size,
 ) -> Result<(), NoMemory>
-    requires fresh { IsSplit hub.now (callers_in programs.now) 0 steward.old }
+    requires fresh { IsSplit seat.now (callers_in programs.now) 0 steward.old }
     requires hooks { AreHooked programs.now hooks.now }
-    requires size { (size.rows ≡ J.start.rows) × (size.cols ≡ J.start.cols) }
     ensures { OnOk result
-        (AreHome programs.now hub.now (length (callers_in programs.now)) steward.new) }
+        (AreHome programs.now seat.now (length (callers_in programs.now)) steward.new) }
 {
-    let found = callers_in(alloc, programs)?;
+    let found = callers_in(seat.alloc, programs)?;
     let callers = found.as_slice();
-    let passes = split_all(alloc, hub, steward, callers)?;
-    let ran = work_all(rt, alloc, hub, callers, passes, programs, hooks, gate, size)?;
-    join_all(hub, steward, ran, programs, callers)?;
+    let passes = split_all(seat.alloc, seat.hub, steward, callers)?;
+    let ran = work_all(seat, callers, passes, programs, hooks, gate)?;
+    join_all(seat.hub, steward, ran, programs, callers)?;
     Ok(())
 }

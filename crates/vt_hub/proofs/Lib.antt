@@ -5,3 +5,4 @@ pub mod Found
 pub mod Between
 pub mod Whole
 pub mod Opens
+pub mod Ready

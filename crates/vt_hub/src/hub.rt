@@ -22,7 +22,7 @@ use std::alloc::Global;
 use std::marker::Model;
 use std::sync::Wait;
 use turn_lock::TurnLock;
-use vt_base::{CallerNo, ConsoleNo, NoMemory};
+use vt_base::{CallerNo, ConsoleNo, NoMemory, Size};
 use vt_events::Event;
 use vt_journal::{Limits, Log};
 use vt_world::{Spare, World, displays_are_lawful_from};
@@ -33,15 +33,20 @@ pub struct Hub<J: Opening> {
     lock: TurnLock<Shared<J>>,
     bells: Bells,
     alloc: Global,
+    // Of the screens: it tells how much memory a call needs.
+    size: Size,
 }
 
 impl<J: Opening> Model for Hub<J> {
+    ghost use Rattle.std.specs.Prelude.{◌≡◌};
     ghost use Rattle.atomic_table.specs.Seated.{TableId};
     ghost use Rattle.turn_lock.specs.Words.{name};
 
     ghost Value = { TableId };
 
     ghost view = { λ h. name h.lock };
+
+    ghost invariant = { λ h. (h.size.rows ≡ J.start.rows) × (h.size.cols ≡ J.start.cols) };
 }
 
 impl<J: Opening> Hub<J> {
@@ -54,6 +59,7 @@ impl<J: Opening> Hub<J> {
         requires free { (p : ℕ) → is_waiting w p ≡ false }
         ensures { IfOk result (λ made. made.1 ≡ opened J.start made.0) }
     {
+        let size = w.size();
         let log = Log::with_room(alloc, limits.events, limits.bytes)?;
         let shared = Shared::new(Box::new(alloc, w)?, log);
         shared.sound();
@@ -61,13 +67,26 @@ impl<J: Opening> Hub<J> {
         let (lock, place) = TurnLock::open(alloc, shared)?;
         let stands = [Stand::Unmade; 68];
         Ok((
-            Hub { lock, bells, alloc },
+            Hub {
+                lock,
+                bells,
+                alloc,
+                size,
+            },
             Steward {
                 place,
                 stands,
                 out: 0,
             },
         ))
+    }
+
+    // The size of the screens.
+    pub(crate) fn size(&self) -> Size
+        ensures rows { result.rows ≡ J.start.rows }
+        ensures cols { result.cols ≡ J.start.cols }
+    {
+        self.size
     }
 
     /// Makes the pass of a caller.
@@ -204,6 +223,7 @@ impl<J: Opening> Hub<J> {
             lock,
             bells: _,
             alloc: _,
+            size: _,
         } = self;
         let shared = lock.close(s.place);
         shared.sound();

@@ -1,14 +1,24 @@
+use Rattle.std.proofs.Common.{subst}
 use Rattle.cooked.proofs.TurnLaws.{call-reads, reads-done, reads-full}
 use Rattle.cooked.proofs.tty.read_byte.Goals as goal
-
-pub call-requires-clause-fits : goal.call-requires-clause-fits
-call-requires-clause-fits g c = c.requires.fits g.J.Opening.start.rows g.J.Opening.start.cols
+use Rattle.vt_events.specs.declared.event.Event.TheVariants as event
+use Rattle.vt_hub.specs.Answers.{Answers}
 
 pub byte_of-requires : goal.byte_of-requires
-byte_of-requires g c = call-reads _ _ _ _ _ _ _ c.in-Done.ensures
+byte_of-requires g c =
+    call-reads _ _ _ _ _ _ _
+    (subst (Answers g.J.Opening.start g.J.Opening.limits (event.ReadIn c.args.fd 1) c.args.pass.now c.ask.new.pass) c.in-Done.is
+    c.in_ok-answer.ensures.ok)
 
-pub returns-in-Done : goal.returns-in-Done
-returns-in-Done g c = reads-done _ _ _ _ _ _ _ c.byte_of.result c.in-Done.ensures c.byte_of.ensures
+pub returns-in-Done-clause-ok : goal.returns-in-Done-clause-ok
+returns-in-Done-clause-ok g c =
+    reads-done _ _ _ _ _ _ _ c.byte_of.result
+    (subst (Answers g.J.Opening.start g.J.Opening.limits (event.ReadIn c.args.fd 1) c.args.pass.now c.ask.new.pass) c.in-Done.is
+    c.in_ok-answer.ensures.ok)
+    c.byte_of.ensures
 
-pub returns-in-Full : goal.returns-in-Full
-returns-in-Full g c = reads-full _ _ _ _ _ _ c.in-Full.ensures
+pub returns-in-Full-clause-ok : goal.returns-in-Full-clause-ok
+returns-in-Full-clause-ok g c =
+    reads-full _ _ _ _ _ _
+    (subst (Answers g.J.Opening.start g.J.Opening.limits (event.ReadIn c.args.fd 1) c.args.pass.now c.ask.new.pass) c.in-Full.is
+    c.in_ok-answer.ensures.ok)

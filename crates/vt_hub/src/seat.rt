@@ -1,0 +1,54 @@
+ghost use Rattle.std.specs.Prelude.{◌≡◌, true, false, None, IfOk, OnErr};
+ghost use Rattle.vt_hub.specs.Answers.{Answers};
+ghost use Rattle.vt_hub.specs.Histories.{awaits};
+ghost use Rattle.vt_hub.specs.Ready.{IsReady, is_told_to_wait};
+ghost use Rattle.vt_world.specs.Refusals.{ends_wait};
+
+use crate::answer::Answer;
+use crate::hub::Hub;
+use crate::opening::Opening;
+use crate::pass::Pass;
+use std::alloc::Global;
+use std::marker::Model;
+use std::sync::Wait;
+use vt_base::NoMemory;
+use vt_events::Event;
+use vt_world::spare_for;
+
+/// What the calls of every caller take beside its pass: the handle by which a thread waits, the
+/// allocator, and the hub. Threads may share it. Contracts see which hub it is.
+#[derive(Drop)]
+pub struct Seat<'a, J: Opening, R: Wait> {
+    pub rt: &'a R,
+    pub alloc: Global,
+    pub hub: &'a Hub<J>,
+}
+
+impl<'a, J: Opening, R: Wait> Model for Seat<'a, J, R> {
+    ghost use Rattle.atomic_table.specs.Seated.{TableId};
+
+    ghost Value = { TableId };
+
+    ghost view = { λ s. s.hub.now };
+}
+
+impl<J: Opening, R: Wait> Seat<'_, J, R> {
+    /// Takes what memory the call may need, and makes it. `WaitEnd` needs none: it is made as
+    /// [`Hub::wait_end`] makes it.
+    #[tactic(auto, using(crate::proofs::Ready::ready_after, crate::proofs::Ready::end_tells))]
+    pub fn ask(&self, pass: &mut Pass<J>, event: Event) -> Result<Answer, NoMemory>
+        requires own { pass.old.hub ≡ self.now }
+        // Who was answered "wait" asks first how that ended.
+        requires free { ends_wait event ≡ false → pass.old.stop ≡ None → awaits pass.old.mine ≡ false }
+        ensures ok { IfOk result (λ answer. Answers J.start J.limits event pass.old pass.new answer) }
+        ensures ready { IfOk result (λ answer. IsReady self.now (is_told_to_wait answer) pass.new) }
+        ensures ended { IfOk result (λ answer. ends_wait event ≡ true → is_told_to_wait answer ≡ false) }
+        ensures err { OnErr result (pass.new ≡ pass.old) }
+    {
+        if matches!(event, Event::WaitEnd) {
+            return Ok(self.hub.wait_end(self.rt, pass));
+        }
+        let spare = spare_for(self.alloc, &event, self.hub.size())?;
+        Ok(self.hub.call(self.rt, pass, event, spare))
+    }
+}
