@@ -1,1 +1,2 @@
 pub mod Sequences
+mod Tables

@@ -46,6 +46,14 @@ abbrev pub with_bg_colour : PenState → Option Rgb → PenState
 with_bg_colour p None = p
 with_bg_colour p (Some (r, g, b)) = with_bg p (fold_bg r g b)
 
+-- the colour of a character by an index, and whether it is bold. No public clause names this
+abbrev pub ink_of : ℕ → ℕ × Bool
+ink_of i = let rgb = rgb_of i in fold_fg rgb.0 rgb.1 rgb.2
+
+-- the colour of a ground by an index. No public clause names this
+abbrev pub ground_of : ℕ → ℕ
+ground_of i = let rgb = rgb_of i in fold_bg rgb.0 rgb.1 rgb.2
+
 -- n is one of the eight numbers from low on
 abbrev pub is_of : ℕ → ℕ → Bool
 is_of low n = nat_le low n && nat_le n (low + 7)

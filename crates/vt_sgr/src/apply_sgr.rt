@@ -1,12 +1,15 @@
-ghost use Rattle.std.specs.Prelude.{◌≡◌, ◌<◌, ◌≤◌, [], ◌∷◌, length};
-ghost use Rattle.vt_sgr.specs.Sgr.{colour_of, sgr, sgr_behind, taken_by, with_bg_colour, with_fg_colour, with_form};
+ghost use Rattle.std.specs.Prelude.{◌≡◌, ◌<◌, ◌≤◌, [], ◌∷◌, length, if◌then◌else◌};
+ghost use Rattle.vt_cells.specs.declared.intensity.Intensity.TheVariants.{Bold, Normal};
+ghost use Rattle.vt_sgr.specs.PenState.{with_bright};
+ghost use Rattle.vt_sgr.specs.Sgr.{colour_of, indexed, sgr, sgr_behind, taken_by, with_bg_colour, with_fg_colour, with_form};
 
 use crate::Pen;
 use crate::change::{
     set_bg, set_blink, set_bright, set_default_bg, set_default_fg, set_fg, set_intensity,
     set_italic, set_mapping, set_plain, set_reverse, set_underline,
 };
-use crate::colour::{colour_len, colour_of};
+use crate::colour::{colour_len, colour_of, part};
+use crate::indices::{ground_of, ink_of};
 use vt_cells::{Intensity, fold_bg, fold_fg};
 
 /// SGR: changes the pen by the parameters of the sequence (console_codes(4), "ECMA-48 Select Graphic
@@ -36,6 +39,74 @@ fn apply_longer(p: &mut Pen, params: &[u16])
         }
     }
     apply_all(p, params);
+}
+
+/// Does the same by three parameters: a colour by its index needs no list.
+pub fn apply_three(p: &mut Pen, first: u16, second: u16, third: u16)
+    ensures { p.new ≡ sgr (first ∷ second ∷ third ∷ []) p.old }
+{
+    match (first, second) {
+        (38, 5) => set_fg_index(p, third),
+        (48, 5) => set_bg_index(p, third),
+        _ => apply_listed(p, first, second, third),
+    }
+}
+
+/// Does the same by five parameters: a colour by its parts needs no list.
+pub fn apply_five(p: &mut Pen, first: u16, second: u16, third: u16, fourth: u16, fifth: u16)
+    ensures { p.new ≡ sgr (first ∷ second ∷ third ∷ fourth ∷ fifth ∷ []) p.old }
+{
+    match (first, second) {
+        (38, 2) => set_fg_colour(p, Some((part(third), part(fourth), part(fifth)))),
+        (48, 2) => set_bg_colour(p, Some((part(third), part(fourth), part(fifth)))),
+        _ => apply_five_listed(p, first, second, third, fourth, fifth),
+    }
+}
+
+#[inline(never)]
+fn apply_five_listed(p: &mut Pen, first: u16, second: u16, third: u16, fourth: u16, fifth: u16)
+    ensures { p.new ≡ sgr (first ∷ second ∷ third ∷ fourth ∷ fifth ∷ []) p.old }
+{
+    apply_all(p, &[first, second, third, fourth, fifth]);
+}
+
+// Out of line: a list for other numbers would take room on the stack for colours too.
+#[inline(never)]
+fn apply_listed(p: &mut Pen, first: u16, second: u16, third: u16)
+    ensures { p.new ≡ sgr (first ∷ second ∷ third ∷ []) p.old }
+{
+    apply_all(p, &[first, second, third]);
+}
+
+// A character takes the hue and intensity of the colour of an index, if there is one.
+fn set_fg_index(p: &mut Pen, index: u16)
+    ensures { p.new ≡ with_fg_colour p.old (indexed index) }
+{
+    if index <= 255 {
+        let (fg, bold) = ink_of(index as u8);
+        set_ink(p, fg, bold);
+    }
+}
+
+// A character takes this hue, and is bold or normal.
+fn set_ink(p: &mut Pen, fg: u8, bold: bool)
+    requires { fg < 16 }
+    ensures { p.new ≡ with_bright p.old fg (if bold then Bold else Normal) }
+{
+    let intensity = if bold {
+        Intensity::Bold
+    } else {
+        Intensity::Normal
+    };
+    set_bright(p, fg, intensity);
+}
+
+fn set_bg_index(p: &mut Pen, index: u16)
+    ensures { p.new ≡ with_bg_colour p.old (indexed index) }
+{
+    if index <= 255 {
+        set_bg(p, ground_of(index as u8));
+    }
 }
 
 // The usual sequences have one parameter or two: these need no loop.

@@ -28,7 +28,7 @@ pub(crate) fn colour_len(rest: &[u16]) -> usize
     }
 }
 
-fn part(value: u16) -> u8
+pub(crate) fn part(value: u16) -> u8
     ensures { result ≡ min 255 value }
 {
     value.min(255) as u8

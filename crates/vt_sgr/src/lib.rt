@@ -4,7 +4,8 @@
 mod apply_sgr;
 mod change;
 mod colour;
+mod indices;
 mod pen;
 
-pub use apply_sgr::apply;
+pub use apply_sgr::{apply, apply_five, apply_three};
 pub use pen::Pen;

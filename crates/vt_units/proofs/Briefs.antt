@@ -165,3 +165,39 @@ two_is text first second j e begun goes order more within parts end ends =
     end ends (omega arith)
     (reads-more text 0 2 first j (second ∷ []) e goes within parts
     (reads-last text 0 (j + 1) second e more end (last-stops (get_or text e 0) ends)))
+
+-- three numbers and their end
+pub three_are : (text : List ℕ) (first second third j k e : ℕ) → Begun text → Goes text 0 2 first j → 2 ≤ j
+    → Goes text 0 (j + 1) second k → Goes text 0 (k + 1) third e
+    → j < length text → get_or text j 0 ≡ 0x3B → k < length text → get_or text k 0 ≡ 0x3B
+    → e < length text → get_or text e 0 ≡ 0x6D
+    → opened_ahead text ≡ Some (record { unit = Csi false (first ∷ second ∷ third ∷ []) 0x6D; count = e + 1 })
+three_are text first second third j k e begun goes order more most within parts mid apart end last =
+    let ends : ends_control (get_or text e 0) ≡ true = ap ends_control last in
+    brief-is text (first ∷ second ∷ third ∷ []) e begun
+    (plain-two text first j goes (omega (arith, begun.long)) order parts) end ends (omega arith)
+    (reads-more text 0 2 first j (second ∷ third ∷ []) e goes within parts
+    (reads-more text 0 (j + 1) second k (third ∷ []) e more mid apart
+    (reads-last text 0 (k + 1) third e most end (last-stops (get_or text e 0) ends))))
+    ∙ ap (λ (b : ℕ). Some (record { unit = Csi false (first ∷ second ∷ third ∷ []) b; count = e + 1 })) last
+
+-- five numbers and their end
+pub five_are : (text : List ℕ) (first second third fourth fifth j k l m e : ℕ) → Begun text
+    → Goes text 0 2 first j → 2 ≤ j
+    → Goes text 0 (j + 1) second k → Goes text 0 (k + 1) third l → Goes text 0 (l + 1) fourth m
+    → Goes text 0 (m + 1) fifth e
+    → j < length text → get_or text j 0 ≡ 0x3B → k < length text → get_or text k 0 ≡ 0x3B
+    → l < length text → get_or text l 0 ≡ 0x3B → m < length text → get_or text m 0 ≡ 0x3B
+    → e < length text → get_or text e 0 ≡ 0x6D
+    → opened_ahead text
+    ≡ Some (record { unit = Csi false (first ∷ second ∷ third ∷ fourth ∷ fifth ∷ []) 0x6D; count = e + 1 })
+five_are text first second third fourth fifth j k l m e begun goes order two three four five j_in j_parts k_in k_parts l_in l_parts m_in m_parts e_in last =
+    let ends : ends_control (get_or text e 0) ≡ true = ap ends_control last in
+    brief-is text (first ∷ second ∷ third ∷ fourth ∷ fifth ∷ []) e begun
+    (plain-two text first j goes (omega (arith, begun.long)) order j_parts) e_in ends (omega arith)
+    (reads-more text 0 2 first j (second ∷ third ∷ fourth ∷ fifth ∷ []) e goes j_in j_parts
+    (reads-more text 0 (j + 1) second k (third ∷ fourth ∷ fifth ∷ []) e two k_in k_parts
+    (reads-more text 0 (k + 1) third l (fourth ∷ fifth ∷ []) e three l_in l_parts
+    (reads-more text 0 (l + 1) fourth m (fifth ∷ []) e four m_in m_parts
+    (reads-last text 0 (m + 1) fifth e five e_in (last-stops (get_or text e 0) ends))))))
+    ∙ ap (λ (b : ℕ). Some (record { unit = Csi false (first ∷ second ∷ third ∷ fourth ∷ fifth ∷ []) b; count = e + 1 })) last

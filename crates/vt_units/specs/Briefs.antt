@@ -6,6 +6,7 @@ use Rattle.vt_units.specs.Numbers.{continued}
 use Rattle.vt_units.specs.Reading.{behind, front}
 use Rattle.vt_units.specs.Sequences.{is_parameter}
 use Rattle.vt_units.specs.declared.brief.Brief.{Brief}
+use Rattle.vt_units.specs.declared.longer.Longer.{Longer}
 use Rattle.vt_units.specs.declared.unit.Unit.TheVariants.{Csi}
 
 -- one parameter, or both
@@ -18,6 +19,15 @@ sequence_in b = record {
   unit = Csi false (numbers_in b.first b.second b.both) b.last;
   count = b.count;
 }
+
+-- three parameters, or five
+abbrev pub more_numbers : Longer → List ℕ
+more_numbers l =
+    l.first ∷ l.second ∷ l.third ∷ (if l.five then l.fourth ∷ l.fifth ∷ [] else [])
+
+-- the sequence of SGR that it is
+abbrev pub longer_in : Longer → Sequence
+longer_in l = record { unit = Csi false (more_numbers l) 0x6D; count = l.count }
 
 -- the text begins with ESC [, and has ten bytes. No public clause names this
 pub record Begun (text : List ℕ) : Type 0 where

@@ -146,7 +146,7 @@ fn ends_brief(b: u8) -> bool
 
 // The number with one digit more.
 #[inline(always)]
-fn with_digit(number: u32, digit: u8) -> u32
+pub(crate) fn with_digit(number: u32, digit: u8) -> u32
     requires small { number ≤ 99 }
     requires digit { is_digit digit ≡ true }
     ensures number { result ≡ shifted number digit }

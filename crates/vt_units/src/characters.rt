@@ -48,15 +48,15 @@ pub(crate) fn read_characters(b: &[u8], most: usize, codes: &mut Codes) -> usize
     ensures most { length codes.new ≤ most }
     ensures all { length codes.new < most → NoneBegins (drop result b.now) }
 {
-    let mut at = 0;
+    let mut rest = b;
     while codes.len() < most {
-        let Some((code, len)) = first_character(&b[at..]) else {
+        let Some((code, len)) = first_character(rest) else {
             break;
         };
         codes.push(code);
-        at += len;
+        rest = &rest[len..];
     }
-    at
+    b.len() - rest.len()
 }
 
 // The character that the text begins with, where it is whole and is shown, and how many bytes it has.

@@ -11,6 +11,8 @@ mod ground;
 mod kept;
 mod laws;
 mod left;
+mod longer;
+mod longer_ahead;
 mod mode;
 mod numbers;
 mod osc;
@@ -34,6 +36,7 @@ pub use laws::{
     any_cut, controls_are_units, drops_exactly, ended_texts, one_result, pieces_act,
     printables_are_characters, sequences_are_units, texts_spell_characters, unfinished_is_before,
 };
+pub use longer::Longer;
 pub use mode::Mode;
 pub use params::Params;
 pub use pending::Pending;

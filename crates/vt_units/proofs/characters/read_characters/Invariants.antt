@@ -1,11 +1,12 @@
-use Rattle.std.proofs.Common.{◌≤◌, ◌-◌, length, take}
+use Rattle.std.proofs.Common.{◌≡◌, ◌≤◌, ◌-◌, length, take, drop}
 use Rattle.vt_units.specs.Characters.{AreTextsOf}
 use Rattle.vt_units.proofs.characters.read_characters.Given as goal
 
 abbrev pub invariant-loop-code : goal.invariant-loop-code
 invariant-loop-code l = record {
-  within : l.at ≤ length l.b;
-  texts : AreTextsOf (take l.at l.b) l.codes;
+  within : length l.rest ≤ length l.b;
+  left : l.rest ≡ drop (length l.b - length l.rest) l.b;
+  texts : AreTextsOf (take (length l.b - length l.rest) l.b) l.codes;
   fits : length l.codes ≤ l.most;
 }
 

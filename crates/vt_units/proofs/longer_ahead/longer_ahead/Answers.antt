@@ -1,0 +1,14 @@
+use Rattle.std.proofs.Common.{◌≡◌, ◌∙◌, ℕ, List, take, length, min, Option, Some, IfSome, subst, ap, arith}
+use Rattle.std.proofs.lemmas.List.{take_min}
+use Rattle.vt_units.specs.Ahead.{Sequence, opened_ahead, sequence_ahead}
+use Rattle.vt_units.specs.Briefs.{longer_in}
+use Rattle.vt_units.proofs.longer_ahead.longer_ahead.Goals as goal
+
+pub returns-clause-sequence : goal.returns-clause-sequence
+returns-clause-sequence c =
+    let text : List ℕ = c.args.b.now in
+    let is : c.min.result ≡ min 256 (length text) = omega arith in
+    let same : opened_ahead (take c.min.result text) ≡ sequence_ahead text =
+    ap (λ (k : ℕ). opened_ahead (take k text)) is ∙ ap opened_ahead (take_min 256 text) in
+    subst (λ (found : Option Sequence). IfSome c.opened_longer.result (λ longer. found ≡ Some (longer_in longer)))
+    same c.opened_longer.ensures.sequence
