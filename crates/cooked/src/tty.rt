@@ -15,7 +15,7 @@ use std::marker::Model;
 use std::sync::Wait;
 use vt_base::{Bytes, NoMemory};
 use vt_events::{Event, Reply};
-use vt_hub::{Answer, Opening, Pass, Seat};
+use vt_hub::{Answer, Hub, Opening, Pass, Seat};
 use vt_world::Spare;
 
 /// The most bytes that one byte echoes.
@@ -55,22 +55,25 @@ impl Tty {
     /// Reads one byte, types it, and writes its echo. The memory is taken before any call.
     pub fn turn<J: Opening, R: Wait>(
         &mut self,
-        seat: &Seat<J, R>,
+        rt: &R,
+        alloc: Global,
+        hub: &Hub<J>,
         pass: &mut Pass<J>,
         fd: u16,
     ) -> Result<Turn, NoMemory>
-        requires own { pass.old.hub ≡ seat.now }
+        requires own { pass.old.hub ≡ hub.now }
         requires free { pass.old.stop ≡ None → awaits pass.old.mine ≡ false }
         ensures ok { IfOk result (λ turn. Turns J.start fd self.old self.new turn pass.old pass.new) }
         ensures err { OnErr result ((self.new ≡ self.old) × (pass.new ≡ pass.old)) }
     {
-        let room = Bytes::with_room(seat.alloc, ECHO_BYTES)?;
-        let read = read_byte(seat, pass, fd)?;
+        let room = Bytes::with_room(alloc, ECHO_BYTES)?;
+        let seat = Seat { rt, alloc, hub };
+        let read = read_byte(&seat, pass, fd)?;
         match read {
             Ok(b) => {
                 let mut echo = EchoBytes::new();
                 let given = self.cooked.push(b, &mut echo);
-                let stop = write_echo(seat, pass, fd, &echo, room);
+                let stop = write_echo(&seat, pass, fd, &echo, room);
                 Ok(Turn { given, stop })
             }
             Err(stop) => Ok(Turn {
