@@ -1,6 +1,6 @@
 //! Scan bytes typed on one console.
 use crate::telling::add_line;
-use key_machine::{KbState, KeyModes, KeyOut, Keyboard};
+use key_machine::{KbState, KeyOut, Keyboard, START_MODES};
 use key_tables::KeyTables;
 use scan_codes::Scanner;
 use std::alloc::Global;
@@ -12,23 +12,15 @@ const SCANS: [u8; 24] = [
     0x38, 0x3C, 0xBC, 0xB8, 0xE0, 0x1C, 0xE0, 0x9C,
 ];
 
-/// The modes of a start screen. A console gives those of its screen.
-const MODES: KeyModes = KeyModes {
-    cursor: false,
-    keypad: false,
-    repeat: true,
-    newline: false,
-};
-
 /// Adds a line for each scan byte, which says nothing where no key ends with it. A keyboard has its own scanner, and a
-/// console its own key state.
+/// console its own key state, and the modes of its screen.
 pub fn add_typed(alloc: Global, tables: &KeyTables, lines: &mut Bytes) -> Result<(), NoMemory> {
     let mut scanner = Scanner::start();
     let mut keyboard = Keyboard::start();
     let mut state = KbState::start();
     for scan in SCANS {
         let out = match scanner.push(scan) {
-            Some(event) => keyboard.key(0, event, tables, &mut state, MODES),
+            Some(event) => keyboard.key(0, event, tables, &mut state, START_MODES),
             None => KeyOut::Nothing,
         };
         add_line(alloc, scan, &out, lines)?;

@@ -1,7 +1,8 @@
 -- The keys that are down, what waits, and the key state (keymaps(5), loadkeys(1)).
-use Rattle.std.specs.Prelude.{ℕ, ◌+◌, ◌^◌, Bool, false, ◌==◌, ◌&&◌, ◌||◌, not, nat_lt, Option, None, List, [], ◌∷◌, ◌++◌, filter, find, bit_and, bit_or, bit_xor, if◌then◌else◌}
+use Rattle.std.specs.Prelude.{ℕ, ◌+◌, ◌^◌, Bool, true, false, ◌==◌, ◌&&◌, ◌||◌, not, nat_lt, Option, None, List, [], ◌∷◌, ◌++◌, filter, find, bit_and, bit_or, bit_xor, if◌then◌else◌}
 use Rattle.std.specs.List.{list_any}
 use Rattle.std.specs.Option.{option_map}
+use Rattle.key_machine.specs.declared.key_modes.KeyModes.{KeyModes}
 use Rattle.key_machine.specs.declared.waiting.Waiting.{Waiting}
 use Rattle.key_syms.specs.Act.{Act}
 use Rattle.key_syms.specs.Kinds.{MODIFIER}
@@ -109,3 +110,7 @@ state_of mode meta flags defaults lights locks sticky = record {
 -- K_UNICODE and K_ESCPREFIX, and nothing else
 abbrev pub start_state : State
 start_state = state_of 3 4 0 0 None 0 0
+
+-- the modes of a start screen: keys that are held repeat
+abbrev pub start_modes : KeyModes
+start_modes = record { cursor = false; keypad = false; repeat = true; newline = false }

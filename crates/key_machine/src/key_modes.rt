@@ -10,3 +10,11 @@ pub struct KeyModes {
     /// LNM: Return and Enter send LF after CR.
     pub newline: bool,
 }
+
+/// The modes of a start screen: keys that are held repeat.
+pub const START_MODES: KeyModes = KeyModes {
+    cursor: false,
+    keypad: false,
+    repeat: true,
+    newline: false,
+};

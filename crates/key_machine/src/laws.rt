@@ -1,8 +1,10 @@
 //! Laws of the definitions, and of the numbers in the code.
 ghost use Rattle.std.specs.Prelude.{◌≡◌};
 ghost use Rattle.key_machine.specs.Histories.{AllComeUp, DownsAreLast, LocksStay, MediumBytesTell, PressesRecord, ReleasesTake};
+ghost use Rattle.key_machine.specs.Keys.{start_modes};
 ghost use Rattle.key_machine.specs.Laws.{KeysFollow, RecordsStay, UnplugTakes};
 ghost use Rattle.key_machine.specs.Numbers as number;
+ghost use Rattle.key_machine.specs.declared.key_modes.TheConstants as modes;
 ghost use Rattle.key_machine.specs.declared.mode.TheConstants as mode;
 ghost use Rattle.key_machine.specs.declared.meta.TheConstants as meta;
 ghost use Rattle.key_machine.specs.declared.flag.TheConstants as flag;
@@ -50,7 +52,7 @@ pub fn medium_bytes_tell()
     ensures { MediumBytesTell }
 {}
 
-/// The numbers in the code are those of the definitions.
+/// The numbers in the code are those of the definitions, and so are the modes of a start screen.
 pub fn numbers_are_kept()
     ensures modes { (mode.RAW ≡ number.RAW)
         × (mode.XLATE ≡ number.XLATE)
@@ -85,4 +87,5 @@ pub fn numbers_are_kept()
         × (cursor.RIGHT ≡ number.RIGHT)
         × (cursor.UP ≡ number.UP) }
     ensures pads { pad.ENTER ≡ number.ENTER }
+    ensures start { modes.START_MODES ≡ start_modes }
 {}

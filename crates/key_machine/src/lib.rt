@@ -23,7 +23,7 @@ mod waiting;
 
 pub use kb_state::KbState;
 pub use key_bytes::KeyBytes;
-pub use key_modes::KeyModes;
+pub use key_modes::{KeyModes, START_MODES};
 pub use key_out::KeyOut;
 pub use keyboard::Keyboard;
 pub use laws::{

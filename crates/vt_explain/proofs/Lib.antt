@@ -3,7 +3,6 @@ mod Causes
 mod Certified
 mod Certs
 mod Clear
-mod Cuts
 mod Items
 mod Knowing
 mod Listening

@@ -6,9 +6,9 @@ ghost use Rattle.vt_explain.specs.declared.hop_why.HopWhy.{HopWhy};
 ghost use Rattle.vt_journal.specs.Words.{spelled};
 
 use crate::numbers::{take_caller, take_console, take_number, take_signal};
-use crate::words::{Words, take_word};
 use crate::{HopCause, HopWhy};
 use vt_base::{CallerNo, Signal};
+use vt_journal::{Words, take_word};
 
 /// The number of items that the first line of a certificate tells.
 pub(crate) fn read_count(line: &[u8]) -> Option<u32>

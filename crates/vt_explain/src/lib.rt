@@ -18,7 +18,6 @@ mod numbers;
 mod parsing;
 mod printing;
 mod reader;
-mod words;
 
 pub use cert_error::CertError;
 pub use explained::Explained;

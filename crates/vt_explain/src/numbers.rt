@@ -2,8 +2,8 @@
 ghost use Rattle.std.specs.Prelude.{◌≡◌, ◌≢◌, ◌≤◌, ℕ, List, ◌∷◌, decimal, IfSome, IfNone};
 ghost use Rattle.vt_explain.specs.CertText.{IsConsole};
 
-use crate::words::Words;
-use vt_base::{CallerNo, ConsoleNo, Signal, parse_decimal};
+use vt_base::{CallerNo, ConsoleNo, Signal};
+use vt_journal::Words;
 
 /// The next word as a number of 32 bits.
 pub(crate) fn take_number(words: &mut Words) -> Option<u32>
@@ -12,7 +12,7 @@ pub(crate) fn take_number(words: &mut Words) -> Option<u32>
     ensures none { IfNone result
         ((n : ℕ) (rest : List (List ℕ)) → n ≤ 4_294_967_295 → words.old ≢ decimal n ∷ rest) }
 {
-    let n = take_up_to(words, u64::from(u32::MAX))?;
+    let n = vt_journal::take_number(words, u64::from(u32::MAX))?;
     Some(n as u32)
 }
 
@@ -34,7 +34,7 @@ pub(crate) fn take_caller(words: &mut Words) -> Option<CallerNo>
     ensures none { IfNone result
         ((p : ℕ) (rest : List (List ℕ)) → p ≤ 67 → words.old ≢ decimal p ∷ rest) }
 {
-    let n = take_up_to(words, 67)?;
+    let n = vt_journal::take_number(words, 67)?;
     Some(CallerNo::numbered(n as u16))
 }
 
@@ -50,17 +50,6 @@ pub(crate) fn take_signal(words: &mut Words) -> Option<Signal>
     Some(Signal::numbered(n))
 }
 
-// The next word as a number up to the most.
-fn take_up_to(words: &mut Words, most: u64) -> Option<u64>
-    ensures found { IfSome result (λ n. words.old ≡ decimal n ∷ words.new) }
-    ensures fit { IfSome result (λ n. n ≤ most) }
-    ensures none { IfNone result
-        ((n : ℕ) (rest : List (List ℕ)) → n ≤ most → words.old ≢ decimal n ∷ rest) }
-{
-    let word = words.next()?;
-    parse_decimal(word, most)
-}
-
 // The next word as a number from 1 to the most.
 fn take_from_one(words: &mut Words, most: u16) -> Option<u16>
     ensures found { IfSome result (λ n. words.old ≡ decimal n ∷ words.new) }
@@ -69,7 +58,7 @@ fn take_from_one(words: &mut Words, most: u16) -> Option<u16>
     ensures none { IfNone result ((n : ℕ) (rest : List (List ℕ)) → 1 ≤ n → n ≤ most
         → words.old ≢ decimal n ∷ rest) }
 {
-    let n = take_up_to(words, u64::from(most))?;
+    let n = vt_journal::take_number(words, u64::from(most))?;
     if n == 0 {
         return None;
     }

@@ -1,6 +1,5 @@
 //! Entries read from their lines.
 ghost use Rattle.std.specs.Prelude.{◌≡◌, ◌≢◌, ℕ, List, ◌∷◌, ◌++◌, IfOk, IfSome, IfNone};
-ghost use Rattle.std.specs.Bool.{OnFalse, OnTrue};
 ghost use Rattle.vt_events.specs.declared.entry.Entry.{Entry};
 ghost use Rattle.vt_journal.specs.Journal.{entry_words};
 ghost use Rattle.vt_journal.specs.Says.{IsFitEntry};
@@ -10,7 +9,7 @@ use crate::callers::take_caller;
 use crate::numbers::take_number;
 use crate::reading::take_event;
 use crate::replies::take_reply;
-use crate::words::Words;
+use crate::words::{Words, take_word};
 use std::alloc::Global;
 use vt_base::NoMemory;
 use vt_events::Entry;
@@ -62,15 +61,4 @@ fn take_entry(alloc: Global, words: &mut Words, version: u8) -> Result<Option<En
         event,
         reply,
     }))
-}
-
-// Whether the next word is this one.
-fn take_word(words: &mut Words, word: &[u8]) -> bool
-    ensures found { OnTrue result (words.old ≡ word.now ∷ words.new) }
-    ensures none { OnFalse result ((rest : List (List ℕ)) → words.old ≢ word.now ∷ rest) }
-{
-    match words.next() {
-        Some(next) => next == word,
-        None => false,
-    }
 }

@@ -1,4 +1,5 @@
-ghost use Rattle.std.specs.Prelude.{◌≡◌, ◌==◌, [], ◌∷◌, MatchOption, position};
+ghost use Rattle.std.specs.Bool.{OnFalse, OnTrue};
+ghost use Rattle.std.specs.Prelude.{◌≡◌, ◌≢◌, ◌==◌, ℕ, List, [], ◌∷◌, MatchOption, position};
 ghost use Rattle.vt_journal.specs.Cut.{cut};
 
 use std::marker::Model;
@@ -42,6 +43,17 @@ impl<'a> Words<'a> {
                 Some(rest)
             }
         }
+    }
+}
+
+/// Whether the next word is this one.
+pub fn take_word(words: &mut Words, word: &[u8]) -> bool
+    ensures found { OnTrue result (words.old ≡ word.now ∷ words.new) }
+    ensures none { OnFalse result ((rest : List (List ℕ)) → words.old ≢ word.now ∷ rest) }
+{
+    match words.next() {
+        Some(next) => next == word,
+        None => false,
     }
 }
 

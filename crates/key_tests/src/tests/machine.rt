@@ -4,7 +4,7 @@ mod sent;
 mod sessions;
 
 use Wanted::{Attention, Bytes, Last, Next, Nothing, Prev, Spawn, Switch};
-use key_machine::{KbState, KeyModes, KeyOut, Keyboard};
+use key_machine::{KbState, KeyModes, KeyOut, Keyboard, START_MODES as MODES};
 use key_syms::Action;
 use key_tables::KeyTables;
 use scan_codes::KeyEvent;
@@ -37,13 +37,6 @@ fn is_wanted(out: &KeyOut, wanted: Wanted) -> bool {
         _ => false,
     }
 }
-
-const MODES: KeyModes = KeyModes {
-    cursor: false,
-    keypad: false,
-    repeat: true,
-    newline: false,
-};
 
 const DOWN: KeyEvent = KeyEvent {
     code: 30,
