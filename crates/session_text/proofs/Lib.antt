@@ -1,4 +1,5 @@
 pub mod Acts
+pub mod Collected
 pub mod Consoles
 pub mod Counting
 pub mod FurtherReading

@@ -80,6 +80,7 @@ impl<'a> Parts<'a> {
 }
 
 // A kind without numbers.
+#[inline(always)]
 fn no_number<'a>(kind: Kind) -> Parts<'a>
     ensures { told result.kind result.numbers.items (option_copied result.held)
         ≡ told kind [] None }
@@ -88,6 +89,7 @@ fn no_number<'a>(kind: Kind) -> Parts<'a>
 }
 
 // A kind and a number.
+#[inline(always)]
 fn one_number<'a>(kind: Kind, m: u16) -> Parts<'a>
     ensures { told result.kind result.numbers.items (option_copied result.held)
         ≡ told kind (m ∷ []) None }
@@ -96,6 +98,7 @@ fn one_number<'a>(kind: Kind, m: u16) -> Parts<'a>
 }
 
 // A kind and two numbers.
+#[inline(always)]
 fn two_numbers<'a>(kind: Kind, m: u16, n: u16) -> Parts<'a>
     ensures { told result.kind result.numbers.items (option_copied result.held)
         ≡ told kind (m ∷ n ∷ []) None }
@@ -104,6 +107,7 @@ fn two_numbers<'a>(kind: Kind, m: u16, n: u16) -> Parts<'a>
 }
 
 // A kind and three numbers.
+#[inline(always)]
 fn three_numbers<'a>(kind: Kind, m: u16, n: u16, o: u16) -> Parts<'a>
     ensures { told result.kind result.numbers.items (option_copied result.held)
         ≡ told kind (m ∷ n ∷ o ∷ []) None }
