@@ -15,7 +15,7 @@ use vt_base::{CallerNo, NoMemory};
 use vt_events::{Entry, Event, charge};
 use vt_hub::Run;
 use vt_journal::{Full, Log};
-use vt_world::{World, legal_grows, spare_for};
+use vt_world::{World, legal_grows};
 
 /// A console, its journal so far, how far each caller is, and where the play stopped.
 #[derive(Drop)]
@@ -115,8 +115,7 @@ impl Player {
         legal_grows();
         meant_laws();
         let _entries = self.log.entries();
-        let spare = spare_for(alloc, &event, self.world.size())?;
-        let (reply, _unused) = self.world.step(p, &event, spare);
+        let reply = self.world.call(alloc, p, &event)?;
         let seq = self.standing.count(p);
         self.standing.took(p, program, &reply);
         self.log.push(Entry {

@@ -12,16 +12,16 @@ returns c = λ o t is going now at.
       stop = c.self.inside.stop;
     } in
     let after : PlayerView = record {
-      world = c.step-reply.new.self;
+      world = c.call.new.self;
       log = c.push.new.self;
       standing = c.took.new.self;
       stop = c.self.inside.stop;
     } in
     let enters : Enters c.args.p c.args.event c.args.program.now before after = record {
       seq = c.count-seq.result;
-      reply = c.step-reply.result.0;
+      reply = c.in_ok-reply.reply;
       few = omega (arith, ap length c.entries-entries.ensures.same, c.entries-entries.ensures.most);
-      stepped = c.step-reply.ensures.step;
+      stepped = c.in_ok-reply.ensures.ok;
       logged = c.push.ensures;
       numbered = c.count-seq.ensures;
       took = c.took.ensures;
