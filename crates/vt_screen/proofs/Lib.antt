@@ -1,6 +1,7 @@
 mod Controls
 mod Cuts
 mod Feeds
+mod Fours
 mod Halved
 mod InsideTable
 mod Hearing

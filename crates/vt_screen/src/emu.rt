@@ -8,16 +8,15 @@ ghost use Rattle.vt_screen.specs.Tape.{palette, resize, user_map, with_change};
 ghost use Rattle.vt_screen.specs.declared.out.Out.{Out};
 ghost use Rattle.vt_units.specs.Run.{run, step};
 
+mod sequences;
+
 use crate::canvas::Canvas;
 use crate::leading::line_feeds;
 use crate::{Out, Outs, ScreenState};
 use std::marker::Model;
 use vt_cells::{Cell, Palette, columns_are_few};
 use vt_grid::Grid;
-use vt_units::{
-    Ahead, Codes, MOST_CODES, Params, Pending, Then, controls_are_units, printables_are_characters,
-    sequences_are_units,
-};
+use vt_units::{Codes, MOST_CODES, Pending, Then, controls_are_units, printables_are_characters};
 
 /// What an empty place holds: a space, white on black. This project's own.
 pub const BLANK: Cell = Cell {
@@ -228,78 +227,6 @@ impl Emu {
             0x1B => self.obey_brief(b, outs),
             b'\n' => self.scroll_front(b),
             _ => 0,
-        }
-    }
-
-    // Does what `obey_front` does, quickly where the sequence has one or two short parameters.
-    #[inline(always)]
-    fn obey_brief(&mut self, b: &[u8], outs: &mut Outs) -> usize
-        requires room { length outs.old < 64 }
-        ensures within { result ≤ length b.now }
-        ensures run { run drawing (take result b.now) (having_said outs.old self.old)
-            ≡ having_said outs.new self.new }
-        ensures few { length outs.new ≤ length outs.old + result }
-    {
-        sequences_are_units();
-        match self.pending.take_brief(self.canvas.mode(), b) {
-            Some(brief) => {
-                self.canvas
-                    .obey_brief(brief.first, brief.second, brief.both, brief.last, outs);
-                brief.count
-            }
-            None => self.obey_escape(b, outs),
-        }
-    }
-
-    // Does what `obey_front` does, quickly where it is an escape sequence of two bytes.
-    #[inline(always)]
-    fn obey_escape(&mut self, b: &[u8], outs: &mut Outs) -> usize
-        requires room { length outs.old < 64 }
-        ensures within { result ≤ length b.now }
-        ensures run { run drawing (take result b.now) (having_said outs.old self.old)
-            ≡ having_said outs.new self.new }
-        ensures few { length outs.new ≤ length outs.old + result }
-    {
-        sequences_are_units();
-        match self.pending.take_escape(self.canvas.mode(), b) {
-            Some(last) => {
-                self.canvas.escape(0, last, outs);
-                2
-            }
-            None => self.obey_front(b, outs),
-        }
-    }
-
-    // Does the sequence that the text begins with, where it is read at once, and tells how many bytes
-    // it is.
-    #[inline(never)]
-    fn obey_front(&mut self, b: &[u8], outs: &mut Outs) -> usize
-        requires room { length outs.old < 64 }
-        ensures within { result ≤ length b.now }
-        ensures run { run drawing (take result b.now) (having_said outs.old self.old)
-            ≡ having_said outs.new self.new }
-        ensures few { length outs.new ≤ length outs.old + result }
-    {
-        sequences_are_units();
-        let mut params = Params::new();
-        match self
-            .pending
-            .take_sequence(self.canvas.mode(), b, &mut params)
-        {
-            Ahead::Nothing => 0,
-            Ahead::Esc { mid, last, count } => {
-                self.canvas.escape(mid, last, outs);
-                count
-            }
-            Ahead::Csi {
-                private,
-                last,
-                count,
-            } => {
-                self.canvas
-                    .obey_sequence(private, params.as_slice(), last, outs);
-                count
-            }
         }
     }
 

@@ -2,11 +2,12 @@ ghost use Rattle.std.specs.Prelude.{◌≡◌, ◌<◌, ◌≤◌, ◌+◌, ◌+
 ghost use Rattle.vt_screen.specs.Effect.{control_sequence, effect, number_at, private_sequence};
 ghost use Rattle.vt_screen.specs.Run.{listed};
 ghost use Rattle.vt_screen.specs.Saying.{quiet};
-ghost use Rattle.vt_units.specs.Briefs.{numbers_in};
+ghost use Rattle.vt_units.specs.Briefs.{more_numbers, numbers_in};
 ghost use Rattle.vt_units.specs.declared.unit.Unit.TheVariants.{Csi};
 
 use super::Canvas;
 use crate::Outs;
+use vt_units::Longer;
 
 impl Canvas {
     /// Does what a control sequence does. What it says beside the screen is then last in `outs`.
@@ -37,6 +38,20 @@ impl Canvas {
         let params = [first, if both { second } else { 0 }];
         let count = if both { 2 } else { 1 };
         self.control_sequence(first, params[1], &params[..count], last, outs);
+    }
+
+    /// Does the same for SGR of three parameters, or of five.
+    #[inline(always)]
+    #[tactic(auto, unfolding(crate::specs::Effect::control_sequence))]
+    pub fn obey_longer(&mut self, longer: Longer, outs: &mut Outs)
+        requires room { length outs.old < 64 }
+        ensures screen { self.new ≡ (control_sequence (more_numbers longer) 0x6D self.old).screen }
+        ensures said { outs.new
+            ≡ outs.old ++ listed (control_sequence (more_numbers longer) 0x6D self.old).said }
+        ensures few { length outs.new ≤ length outs.old + 1 }
+    {
+        let _ = outs;
+        self.render_more(longer);
     }
 
     // The table of control sequences, with the first two parameters beside the list of all.

@@ -1,9 +1,12 @@
 ghost use Rattle.std.specs.Prelude.{◌≡◌, ◌<◌, ◌≤◌, ◌==◌, if◌then◌else◌};
 ghost use Rattle.vt_screen.specs.Settings.{table_named, clear_stops, each, invoking, rendered, set_stop, with_coding, with_colour, with_g0, with_g1, with_keypad, with_mode, with_pen, with_private_mode, with_region, with_start_palette};
+ghost use Rattle.vt_sgr.specs.Sgr.{sgr};
+ghost use Rattle.vt_units.specs.Briefs.{more_numbers};
 
 use super::Canvas;
 use vt_cells::{Palette, attr_byte, erase_byte};
-use vt_sgr::{Pen, apply};
+use vt_sgr::{Pen, apply, apply_five, apply_three};
+use vt_units::Longer;
 
 impl Canvas {
     /// Takes another pen, and computes the bytes that it prints and erases with.
@@ -136,6 +139,17 @@ impl Canvas {
         self.erase = erase_byte(&self.state.pen.attr);
     }
 
+    /// SGR of three parameters, or of five.
+    #[inline(always)]
+    #[tactic(auto, unfolding(crate::specs::Settings::rendered, crate::specs::Screen::printed_byte, crate::specs::Screen::erased_byte))]
+    pub(super) fn render_more(&mut self, more: Longer)
+        ensures { self.new ≡ rendered (more_numbers more) self.old }
+    {
+        apply_more(&mut self.state.pen, more);
+        self.attr = attr_byte(&self.state.pen.attr, &self.state.pen.look);
+        self.erase = erase_byte(&self.state.pen.attr);
+    }
+
     // SGR of more than two parameters, out of line: then the usual ones save no registers.
     #[inline(never)]
     #[tactic(auto, unfolding(crate::specs::Settings::rendered, crate::specs::Screen::printed_byte, crate::specs::Screen::erased_byte))]
@@ -203,6 +217,24 @@ impl Canvas {
             25 => self.state.visible = on,
             _ => {}
         }
+    }
+}
+
+#[inline(always)]
+fn apply_more(p: &mut Pen, more: Longer)
+    ensures { p.new ≡ sgr (more_numbers more) p.old }
+{
+    if more.five {
+        apply_five(
+            p,
+            more.first,
+            more.second,
+            more.third,
+            more.fourth,
+            more.fifth,
+        );
+    } else {
+        apply_three(p, more.first, more.second, more.third);
     }
 }
 

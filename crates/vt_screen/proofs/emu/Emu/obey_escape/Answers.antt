@@ -37,6 +37,6 @@ pub returns-in-None-clause-run : goal.returns-in-None-clause-run
 returns-in-None-clause-run c =
     let text : List ℕ = c.args.b.now in
     let outs : List Out = c.args.outs.now in
-    ap (λ (r : Reached Screen). run drawing (take c.obey_front.result text) (having_said outs r))
+    ap (λ (r : Reached Screen). run drawing (take c.obey_longer.result text) (having_said outs r))
     (sym c.self.view_is ∙ ap (λ (r : Rest). reached c.self.inside.canvas r) (sym c.in-None.ensures.rest))
-    ∙ c.obey_front.ensures.run
+    ∙ c.obey_longer.ensures.run
