@@ -3,7 +3,7 @@ ghost use Rattle.std.specs.List.{prefix_len};
 ghost use Rattle.vt_units.specs.Ahead.{parameters_ahead, rest_ahead, sequence_of, taken_ahead};
 ghost use Rattle.vt_units.specs.Answer.{answer, rest_after, settled, took};
 ghost use Rattle.vt_units.specs.BriefForms.{brief_stands, escape_stands};
-ghost use Rattle.vt_units.specs.Briefs.{longer_in, sequence_in};
+ghost use Rattle.vt_units.specs.Briefs.{sequence_in};
 ghost use Rattle.vt_units.specs.Bytes.{decodes, interrupts, is_control, is_printable};
 ghost use Rattle.vt_units.specs.Characters.{AreTextsOf, NoneBegins};
 ghost use Rattle.vt_units.specs.Reading.{is_empty};
@@ -12,6 +12,8 @@ ghost use Rattle.vt_units.specs.Stage.{Inside, Leaves, Quiet, Stands, rest_of};
 ghost use Rattle.vt_units.specs.Units.{IsUnfinished};
 ghost use Rattle.vt_units.specs.declared.unit.Unit.TheVariants.{Esc};
 
+mod longer;
+
 use crate::brief_ahead::{brief_ahead, escape_ahead_of};
 use crate::bytes::{decodes, interrupts, is_body, is_control};
 use crate::characters::read_characters;
@@ -19,7 +21,6 @@ use crate::codes::Codes;
 use crate::ground::{ground, part};
 use crate::kept::{Kept, SEQUENCE_BYTES};
 use crate::left::Left;
-use crate::longer_ahead::longer_ahead;
 use crate::osc::{command, palette};
 use crate::printable::printable_prefix;
 use crate::sequence::sequence;
@@ -27,7 +28,7 @@ use crate::sequence_ahead::sequence_ahead;
 use crate::stage::Stage;
 use crate::step::Step;
 use crate::strings::{string, string_end};
-use crate::{Ahead, Brief, Longer, Mode, Params, Read, Then};
+use crate::{Ahead, Brief, Mode, Params, Read, Then};
 use std::marker::Model;
 use vt_chars::{Decoded, decode};
 
@@ -195,23 +196,6 @@ impl Pending {
         let last = escape_ahead_of(b)?;
         self.go_on(mode);
         Some(last)
-    }
-
-    /// Reads what [`Pending::take_sequence`] reads, where it is SGR that sets one colour by its index or
-    /// by its three parts. Where there is no answer, that call says what is there.
-    #[inline(always)]
-    pub fn take_longer(&mut self, mode: Mode, b: &[u8]) -> Option<Longer>
-        ensures sequence { IfSome result (λ longer. taken_ahead self.old b.now ≡ Some (longer_in longer)) }
-        ensures within { IfSome result (λ longer. longer.count ≤ length b.now) }
-        ensures rest { MatchOption result (self.new ≡ self.old) (λ _. self.new ≡ fresh mode) }
-    {
-        let opens = self.is_empty();
-        if !opens {
-            return None;
-        }
-        let longer = longer_ahead(b)?;
-        self.go_on(mode);
-        Some(longer)
     }
 
     /// Takes a control character where no text is pending, and tells whether the byte was one. It
