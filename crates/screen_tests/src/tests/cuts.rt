@@ -85,28 +85,37 @@ fn shows_alike(emu: &Emu, other: &Emu) -> bool {
 }
 
 // Whether the two parts, fed as they are, draw what the plain screen shows, and say so much.
-fn is_alike(
-    alloc: Global,
-    plain: &Emu,
-    said: usize,
-    parts: (&[u8], &[u8]),
-) -> Result<bool, NoMemory> {
-    let mut emu = start(alloc, SIZE)?;
-    let first = fed(&mut emu, Way::Quickly, parts.0);
-    let second = fed(&mut emu, Way::Quickly, parts.1);
-    Ok(shows_alike(&emu, plain) && first.saturating_add(second) == said)
+fn draws_alike(emu: &mut Emu, plain: &Emu, said: usize, parts: (&[u8], &[u8])) -> bool {
+    let first = fed(emu, Way::Quickly, parts.0);
+    let second = fed(emu, Way::Quickly, parts.1);
+    shows_alike(emu, plain) && first.saturating_add(second) == said
+}
+
+// The same on a screen of its own. Where memory ran out it isn't so.
+fn is_alike(alloc: Global, plain: &Emu, said: usize, parts: (&[u8], &[u8])) -> bool {
+    match start(alloc, SIZE) {
+        Ok(emu) => {
+            let mut emu = emu;
+            draws_alike(&mut emu, plain, said, parts)
+        }
+        Err(NoMemory) => false,
+    }
 }
 
 // Whether each cut draws what the bytes of the text draw one by one.
-fn is_read(alloc: Global, text: &[u8]) -> Result<bool, NoMemory> {
-    let mut plain = start(alloc, SIZE)?;
-    let said = fed(&mut plain, Way::Plainly, text);
+fn are_alike_cut(alloc: Global, plain: &mut Emu, text: &[u8]) -> bool {
+    let said = fed(plain, Way::Plainly, text);
     for cut in 0..text.len() {
-        if !is_alike(alloc, &plain, said, text.split_at(cut))? {
-            return Ok(false);
+        if !is_alike(alloc, plain, said, text.split_at(cut)) {
+            return false;
         }
     }
-    Ok(true)
+    true
+}
+
+fn is_read(alloc: Global, text: &[u8]) -> Result<bool, NoMemory> {
+    let mut plain = start(alloc, SIZE)?;
+    Ok(are_alike_cut(alloc, &mut plain, text))
 }
 
 #[test]

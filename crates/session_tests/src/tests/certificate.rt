@@ -6,7 +6,7 @@ use std::sync::Wait;
 use std::test::Fail;
 use std::thread::Threads;
 use test_sessions::ORDINARY;
-use vt_base::Bytes;
+use vt_base::{Bytes, NoMemory};
 use vt_events::Entry;
 use vt_explain::{Explained, HopWhy, Judged, accept, explain, print_cert, read_cert};
 use vt_io::OpenGate;
@@ -17,11 +17,25 @@ fn raced<R: Threads + Wait + Sync>(rt: &R, alloc: Global, s: &Session) -> Result
     journal(alloc, run.log.entries(), &run.tail())
 }
 
-// What the text of these entries says.
-fn journal(alloc: Global, entries: &[Entry], end: &Tail) -> Result<Journal, Fail> {
+fn printed(alloc: Global, entries: &[Entry], end: &Tail) -> Result<Bytes, NoMemory> {
     let mut text = Bytes::new(alloc);
     print(alloc, entries, 2, end, &mut text)?;
-    Ok(parse(alloc, text.as_slice())?)
+    Ok(text)
+}
+
+fn parsed(alloc: Global, text: &[u8]) -> Result<Journal, Fail> {
+    match parse(alloc, text) {
+        Ok(journal) => Ok(journal),
+        Err(_) => Err("no journal".into()),
+    }
+}
+
+// What the text of these entries says.
+fn journal(alloc: Global, entries: &[Entry], end: &Tail) -> Result<Journal, Fail> {
+    match printed(alloc, entries, end) {
+        Ok(text) => parsed(alloc, text.as_slice()),
+        Err(NoMemory) => Err("no memory".into()),
+    }
 }
 
 // Whether the journal has a certificate, which is accepted when it is read again from its text.

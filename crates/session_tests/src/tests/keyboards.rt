@@ -1,6 +1,8 @@
 //! A race of two keyboards is judged legal, whatever turns their threads took.
 use super::printed::{race_text, run_text};
+use std::alloc::Global;
 use std::test::Fail;
+use vt_base::NoMemory;
 use vt_io::OpenGate;
 
 // k1 holds Shift down, before, while or after k0 types.
@@ -16,14 +18,18 @@ keycode 42 = Shift
 '''
 ";
 
-// What stands before the console.
-fn journal_in(printed: &[u8]) -> &str {
-    let Ok(text) = str::from_utf8(printed) else {
-        return "";
-    };
+// The session, and the journal that stands before the console.
+fn with_journal(alloc: Global, text: &str) -> Result<String, NoMemory> {
     match text.split_once("%display") {
-        Some((journal, _)) => journal,
-        None => "",
+        Some((journal, _)) => Ok(format!(in alloc; "{SESSION}{journal}")?),
+        None => Ok(String::from_str(alloc, SESSION)?),
+    }
+}
+
+fn both_in(alloc: Global, printed: &[u8]) -> Result<String, NoMemory> {
+    match str::from_utf8(printed) {
+        Ok(text) => with_journal(alloc, text),
+        Err(_) => Ok(String::from_str(alloc, SESSION)?),
     }
 }
 
@@ -31,9 +37,8 @@ fn journal_in(printed: &[u8]) -> &str {
 fn a_race_of_two_keyboards_is_legal(rt: HostRuntime) -> Result<(), Fail> {
     let raced = race_text(&rt, rt.alloc(), SESSION.as_bytes(), &OpenGate)?;
     assert_eq!(rt; raced.status, 0);
-    let journal = journal_in(raced.out.held());
-    let both = format!(in rt.alloc(); "{SESSION}{journal}")?;
+    let both = both_in(rt.alloc(), raced.out.held())?;
     let judged = run_text(&rt, rt.alloc(), "check", both.as_bytes(), &OpenGate)?;
-    assert!(rt; judged.out.held() == b"legal 5\n".as_slice(), "{journal}");
+    assert!(rt; judged.out.held() == b"legal 5\n".as_slice(), "{both}");
     Ok(())
 }
