@@ -5,8 +5,8 @@
 #![tactic(auto)]
 
 mod asker;
+mod calling;
 mod opening;
-mod seat;
 mod server;
 mod sharing;
 mod telling;

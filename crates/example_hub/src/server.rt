@@ -1,12 +1,12 @@
 //! Process 1, which handles the switches of console 1.
-ghost use Rattle.std.specs.Prelude.{◌≡◌, IfOk};
-ghost use Rattle.example_hub.specs.Ready.{IsReady};
+ghost use Rattle.std.specs.Prelude.{◌≡◌, false, IfOk};
+ghost use Rattle.vt_hub.specs.Ready.{IsReady};
 
-use crate::seat::Seat;
+use crate::calling::{call, exit};
 use std::sync::Wait;
 use vt_base::{NoMemory, SigSet, Signal};
 use vt_events::{Event, Reply};
-use vt_hub::{Answer, Opening, Pass};
+use vt_hub::{Answer, Opening, Pass, Seat};
 
 /// Signal 10 tells the process to let the display go, and 12 that it came back.
 const BY_SIGNALS: Event = Event::SetMode(0, 1, 0, 10, 12, 0);
@@ -16,37 +16,37 @@ pub fn take_switches<J: Opening, R: Wait>(
     seat: &Seat<J, R>,
     pass: &mut Pass<J>,
 ) -> Result<(), NoMemory>
-    requires ready { IsReady seat.now pass.old }
-    ensures ready { IsReady seat.now pass.new }
+    requires ready { IsReady seat.now false pass.old }
+    ensures ready { IsReady seat.now false pass.new }
     ensures number { pass.new.number ≡ pass.old.number }
 {
-    seat.call(pass, Event::OpenCon(1))?;
-    seat.call(pass, BY_SIGNALS)?;
+    call(seat, pass, Event::OpenCon(1))?;
+    call(seat, pass, BY_SIGNALS)?;
     Ok(())
 }
 
 /// Its thread: it lets the display go once it is told to, and exits, also where memory is missing.
 pub fn serve<J: Opening, R: Wait>(seat: &Seat<J, R>, pass: Pass<J>) -> Result<Pass<J>, NoMemory>
-    requires ready { IsReady seat.now pass }
+    requires ready { IsReady seat.now false pass }
     ensures hub { IfOk result (λ after. after.hub ≡ seat.now) }
     ensures number { IfOk result (λ after. after.number ≡ pass.number) }
 {
     let mut pass = pass;
     let served = heed_signal(seat, &mut pass);
-    seat.exit(&mut pass);
+    exit(seat, &mut pass);
     served?;
     Ok(pass)
 }
 
 fn heed_signal<J: Opening, R: Wait>(seat: &Seat<J, R>, pass: &mut Pass<J>) -> Result<(), NoMemory>
-    requires ready { IsReady seat.now pass.old }
-    ensures ready { IsReady seat.now pass.new }
+    requires ready { IsReady seat.now false pass.old }
+    ensures ready { IsReady seat.now false pass.new }
     ensures number { pass.new.number ≡ pass.old.number }
 {
-    seat.call(pass, Event::WaitSignal)?;
-    let answer = seat.call(pass, Event::TakeSignals)?;
+    call(seat, pass, Event::WaitSignal)?;
+    let answer = call(seat, pass, Event::TakeSignals)?;
     if signals_in(&answer).has(Signal::numbered(10)) {
-        seat.call(pass, Event::RelDisp(0, 1))?;
+        call(seat, pass, Event::RelDisp(0, 1))?;
     }
     Ok(())
 }

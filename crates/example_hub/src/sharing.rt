@@ -1,13 +1,13 @@
 //! The hub of both processes.
 ghost use Rattle.std.specs.Prelude.{◌≡◌, ℕ, false, IfOk, slice_set};
-ghost use Rattle.example_hub.specs.Ready.{IsReady};
+ghost use Rattle.vt_hub.specs.Ready.{IsReady};
 ghost use Rattle.vt_hub.specs.Views.{stand_at};
 ghost use Rattle.vt_hub.specs.declared.stand.Stand.TheVariants.{Home, Unmade};
 ghost use Rattle.vt_world.specs.History.{IsLegal, replay};
 ghost use Rattle.vt_world.specs.State.{is_waiting};
 
 use crate::asker::ask;
-use crate::seat::Seat;
+use crate::calling::exit;
 use crate::server::{serve, take_switches};
 use std::alloc::Global;
 use std::marker::Brand;
@@ -15,7 +15,7 @@ use std::sync::Wait;
 use std::thread;
 use std::thread::Threads;
 use vt_base::{CallerNo, NoMemory};
-use vt_hub::{Hub, Opening, Pass, Run, Steward};
+use vt_hub::{Hub, Opening, Pass, Run, Seat, Steward};
 use vt_journal::Limits;
 use vt_world::World;
 
@@ -51,13 +51,11 @@ fn share<J: Opening + Send + Sync, R: Threads + Wait + Sync>(
     ensures legal { IfOk result (λ run. IsLegal J.start run.log.entries) }
     ensures world { IfOk result (λ run. run.world ≡ replay J.start run.log.entries) }
 {
-    let size = world.size();
     let (hub, mut steward) = Hub::<J>::open(alloc, world, LIMITS)?;
     let seat = Seat {
         rt,
         alloc,
         hub: &hub,
-        size,
     };
     unplug(&seat, &mut steward);
     let mut server = hub.split(&mut steward, CallerNo::numbered(1));
@@ -66,11 +64,11 @@ fn share<J: Opening + Send + Sync, R: Threads + Wait + Sync>(
     let (server, asker) = thread::join(
         rt,
         || -> Result<Pass<J>, NoMemory>
-            requires { IsReady seat server × (server.number ≡ 1) }
+            requires { IsReady seat false server × (server.number ≡ 1) }
             ensures { IfOk result (λ after. (after.hub ≡ seat.entry) × (after.number ≡ 1)) }
         { serve(&seat, server) },
         || -> Result<Pass<J>, NoMemory>
-            requires { IsReady seat asker × (asker.number ≡ 2) }
+            requires { IsReady seat false asker × (asker.number ≡ 2) }
             ensures { IfOk result (λ after. (after.hub ≡ seat.entry) × (after.number ≡ 2)) }
         { ask(&seat, asker, text) },
     );
@@ -87,6 +85,6 @@ fn unplug<J: Opening, R: Wait>(seat: &Seat<J, R>, steward: &mut Steward<J>)
     ensures stands { steward.new.stands ≡ slice_set steward.old.stands 0 Home }
 {
     let mut pass = seat.hub.split(steward, CallerNo::KEYBOARD);
-    seat.exit(&mut pass);
+    exit(seat, &mut pass);
     seat.hub.join(steward, pass);
 }

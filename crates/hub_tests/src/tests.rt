@@ -1,5 +1,4 @@
+mod console;
 mod hub;
 mod lines;
-mod passes;
-mod seat;
 mod typing;

@@ -1,4 +1,4 @@
-ghost use Rattle.std.specs.Prelude.{◌≡◌, true, false, None, IfOk, OnErr};
+ghost use Rattle.std.specs.Prelude.{◌≡◌, true, false, None, IfOk, IsOkAnd, OnErr};
 ghost use Rattle.vt_hub.specs.Answers.{Answers};
 ghost use Rattle.vt_hub.specs.Histories.{awaits};
 ghost use Rattle.vt_hub.specs.Ready.{IsReady, is_told_to_wait};
@@ -42,7 +42,7 @@ impl<J: Opening, R: Wait> Seat<'_, J, R> {
         requires free { ends_wait event ≡ false → pass.old.stop ≡ None → awaits pass.old.mine ≡ false }
         ensures ok { IfOk result (λ answer. Answers J.start J.limits event pass.old pass.new answer) }
         ensures ready { IfOk result (λ answer. IsReady self.now (is_told_to_wait answer) pass.new) }
-        ensures ended { IfOk result (λ answer. ends_wait event ≡ true → is_told_to_wait answer ≡ false) }
+        ensures ended { ends_wait event ≡ true → IsOkAnd result (λ answer. is_told_to_wait answer ≡ false) }
         ensures err { OnErr result (pass.new ≡ pass.old) }
     {
         if matches!(event, Event::WaitEnd) {

@@ -1,13 +1,11 @@
 //! A hub over the console of two processes: another thread makes their calls in the order of the serial
 //! play, while this one reads the display.
-ghost use Rattle.std.specs.Prelude.{◌≡◌, false, IfOk};
-ghost use Rattle.hub_tests.specs.Ready.{IsReady};
-ghost use Rattle.session_order.specs.Sessions.{start_of};
+ghost use Rattle.std.specs.Prelude.{◌≡◌, ℕ, false, IfOk};
+ghost use Rattle.vt_hub.specs.Ready.{IsReady};
 ghost use Rattle.vt_world.specs.Refusals.{ends_wait};
+ghost use Rattle.vt_world.specs.State.{is_waiting};
 
-use super::passes::{split, was_wait};
-use super::seat::Seat;
-use session_text::{Session, read};
+use super::console::{LIMITS, closed, started};
 use std::alloc::Global;
 use std::marker::Brand;
 use std::process::Abort;
@@ -16,11 +14,11 @@ use std::test::Fail;
 use std::thread;
 use std::thread::Threads;
 use test_sessions::HANDOVER;
-use vt_base::{Bytes, NoMemory};
+use vt_base::{Bytes, CallerNo, NoMemory};
 use vt_events::Event;
-use vt_hub::{Answer, Hub, Opening, Pass, Run};
+use vt_hub::{Answer, Hub, Opening, Pass, Run, Seat, Steward};
 use vt_journal::{print, read_event};
-use vt_world::{Spare, World, nobody_waits_at_start};
+use vt_world::{Spare, World};
 
 // Whose calls they are, in the order of the serial play, behind the keyboard's.
 const CALLS: &[(u16, &str)] = &[
@@ -66,7 +64,6 @@ fn ends(event: &Event) -> bool
 }
 
 // Makes the call that the words spell, and says whether it was entered.
-#[tactic(auto, using(crate::proofs::Ready::ready_after))]
 fn make<J: Opening, R: Wait>(
     seat: &Seat<J, R>,
     pass: &mut Pass<J>,
@@ -83,7 +80,7 @@ fn make<J: Opening, R: Wait>(
         return Ok(false);
     }
     let answer = seat.ask(pass, event)?;
-    *waits = was_wait(&answer);
+    *waits = answer.is_wait();
     Ok(matches!(answer, Answer::Done { .. }))
 }
 
@@ -130,13 +127,13 @@ struct Reader<J: Opening> {
     turned: bool,
 }
 
-fn watch<J: Opening>(hub: &Hub<J>, reader: Reader<J>) -> Reader<J>
-    requires { reader.pass.hub ≡ hub.now }
-    ensures { result.pass.hub ≡ hub.now }
+fn watch<J: Opening, R: Wait>(seat: &Seat<J, R>, pass: Pass<J>) -> Reader<J>
+    requires { pass.hub ≡ seat.now }
+    ensures { result.pass.hub ≡ seat.now }
 {
-    let Reader { mut pass, .. } = reader;
+    let mut pass = pass;
     for _ in 0..1_000_000 {
-        match hub.display_now(&mut pass).get() {
+        match seat.hub.display_now(&mut pass).get() {
             1 => thread::yield_now(),
             n => {
                 return Reader {
@@ -152,6 +149,35 @@ fn watch<J: Opening>(hub: &Hub<J>, reader: Reader<J>) -> Reader<J>
     }
 }
 
+// The calls in another thread, and the display in this one.
+fn both<J: Opening + Send + Sync, R: Threads + Wait + Sync>(
+    seat: &Seat<J, R>,
+    callers: Callers<J>,
+    reader: Pass<J>,
+) -> Result<(Callers<J>, Reader<J>), NoMemory>
+    requires one { IsReady seat.now false callers.one }
+    requires two { IsReady seat.now false callers.two }
+    requires reader { reader.hub ≡ seat.now }
+    ensures one { IfOk result (λ both. both.0.one.hub ≡ seat.now) }
+    ensures two { IfOk result (λ both. both.0.two.hub ≡ seat.now) }
+    ensures reader { IfOk result (λ both. both.1.pass.hub ≡ seat.now) }
+{
+    let (callers, reader) = thread::join(
+        seat.rt,
+        || -> Result<Callers<J>, NoMemory>
+            requires { IsReady seat.now false callers.one × IsReady seat.now false callers.two }
+            ensures { IfOk result (λ callers. (callers.one.hub ≡ seat.entry.now)
+                × (callers.two.hub ≡ seat.entry.now)) }
+        { make_all(seat, callers) },
+        || -> Reader<J>
+            requires { reader.hub ≡ seat.now }
+            ensures { result.pass.hub ≡ seat.entry.now }
+        { watch(seat, reader) },
+    );
+    let callers = callers?;
+    Ok((callers, reader))
+}
+
 // Whether all calls were made, and the display turned; and the run.
 #[derive(Drop)]
 struct Outcome {
@@ -160,70 +186,60 @@ struct Outcome {
     run: Run,
 }
 
-// The calls of callers 1 and 2 in another thread, behind the keyboard's, and the display in this one.
-fn read_beside<J: Opening + Send + Sync, R: Threads + Wait + Sync>(
+// The run, once both are through.
+fn joined<J: Opening>(
+    hub: Hub<J>,
+    steward: Steward<J>,
+    callers: Callers<J>,
+    reader: Reader<J>,
+) -> Result<Outcome, Fail>
+    requires steward { steward.hub ≡ hub }
+    requires one { callers.one.hub ≡ hub }
+    requires two { callers.two.hub ≡ hub }
+    requires reader { reader.pass.hub ≡ hub }
+{
+    let mut steward = steward;
+    let Callers { one, two, made } = callers;
+    let Reader { pass, turned } = reader;
+    hub.join(&mut steward, one);
+    hub.join(&mut steward, two);
+    hub.join(&mut steward, pass);
+    let run = closed(hub, steward)?;
+    Ok(Outcome { made, turned, run })
+}
+
+// The calls of callers 1 and 2 behind the keyboard's, whose pass is the reader's then.
+fn share<J: Opening + Send + Sync, R: Threads + Wait + Sync>(
     rt: &R,
     alloc: Global,
-    s: &Session,
     world: World,
 ) -> Result<Outcome, Fail>
-    requires world { world ≡ start_of s.now }
-    requires start { J.start ≡ start_of s.now }
-    requires limits { J.limits ≡ s.now.limits }
+    requires start { world ≡ J.start }
+    requires limits { J.limits ≡ record { events = 65_536; bytes = 67_108_864 } }
+    requires free { (p : ℕ) → is_waiting world p ≡ false }
 {
-    nobody_waits_at_start();
-    let size = s.config().size;
-    let (hub, mut steward) = Hub::<J>::open(alloc, world, s.limits())?;
-    let mut keyboard = split(&hub, &mut steward, 0)?;
-    let one = split(&hub, &mut steward, 1)?;
-    let two = split(&hub, &mut steward, 2)?;
-    hub.call(rt, &mut keyboard, Event::Exit, Spare::none(alloc));
+    let (hub, mut steward) = Hub::<J>::open(alloc, world, LIMITS)?;
+    let mut reader = hub.split(&mut steward, CallerNo::KEYBOARD);
+    let one = hub.split(&mut steward, CallerNo::numbered(1));
+    let two = hub.split(&mut steward, CallerNo::numbered(2));
+    hub.call(rt, &mut reader, Event::Exit, Spare::none(alloc));
     let callers = Callers {
         one,
         two,
         made: false,
     };
-    let reader = Reader {
-        pass: keyboard,
-        turned: false,
-    };
     let seat = Seat {
         rt,
         alloc,
         hub: &hub,
-        size,
     };
-    let (callers, reader) = thread::join(
-        rt,
-        || -> Result<Callers<J>, NoMemory>
-            requires { IsReady seat false callers.one × IsReady seat false callers.two }
-            ensures { IfOk result (λ callers. (callers.one.hub ≡ seat.entry)
-                × (callers.two.hub ≡ seat.entry)) }
-        { make_all(&seat, callers) },
-        || -> Reader<J>
-            requires { reader.pass.hub ≡ hub }
-            ensures { result.pass.hub ≡ hub }
-        { watch(&hub, reader) },
-    );
-    let Callers { one, two, made } = callers?;
-    let Reader { pass, turned } = reader;
-    hub.join(&mut steward, one);
-    hub.join(&mut steward, two);
-    hub.join(&mut steward, pass);
-    if steward.out() != 0 {
-        return Err("a pass is out".into());
-    }
-    let run = hub.close(steward);
-    Ok(Outcome { made, turned, run })
+    let (callers, reader) = both(&seat, callers, reader)?;
+    joined(hub, steward, callers, reader)
 }
 
-fn read_session<R: Threads + Wait + Sync>(
-    rt: &R,
-    alloc: Global,
-    s: &Session,
-) -> Result<Outcome, Fail> {
-    let world = World::start(alloc, s.config(), s.key_tables())?;
-    read_beside::<Brand, R>(rt, alloc, s, world)
+fn read_beside<R: Threads + Wait + Sync>(rt: &R, alloc: Global) -> Result<Outcome, Fail> {
+    let world = started(alloc, HANDOVER)?;
+    share::<Brand, R>(rt, alloc, world)
 }
 
 fn has_journal(alloc: Global, run: &Run) -> Result<bool, NoMemory> {
@@ -242,7 +258,6 @@ fn check(by: &impl Abort, alloc: Global, outcome: &Outcome) -> Result<(), NoMemo
 
 #[test]
 fn the_display_is_read_while_others_call(rt: HostRuntime) -> Result<(), Fail> {
-    let session = read(rt.alloc(), HANDOVER.as_bytes())?;
-    let outcome = read_session(&rt, rt.alloc(), &session)?;
+    let outcome = read_beside(&rt, rt.alloc())?;
     Ok(check(&rt, rt.alloc(), &outcome)?)
 }

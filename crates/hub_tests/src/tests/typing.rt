@@ -1,13 +1,11 @@
 //! A shared console: one thread types on its keyboard, and a process in another reads a line by turns.
-ghost use Rattle.std.specs.Prelude.{◌≡◌, false, IfOk};
-ghost use Rattle.hub_tests.specs.Ready.{IsReady};
-ghost use Rattle.session_order.specs.Sessions.{start_of};
+ghost use Rattle.std.specs.Prelude.{◌≡◌, ℕ, false, IfOk};
+ghost use Rattle.vt_hub.specs.Ready.{IsReady};
 ghost use Rattle.vt_world.specs.Refusals.{ends_wait};
+ghost use Rattle.vt_world.specs.State.{is_waiting};
 
-use super::passes::{split, was_wait};
-use super::seat::Seat;
+use super::console::{LIMITS, closed, started};
 use cooked::{Given, Stop, Termios, Tty};
-use session_text::{Session, read};
 use std::alloc::Global;
 use std::marker::Brand;
 use std::process::Abort;
@@ -15,10 +13,10 @@ use std::sync::Wait;
 use std::test::Fail;
 use std::thread;
 use std::thread::Threads;
-use vt_base::{Errno, NoMemory};
+use vt_base::{CallerNo, Errno, NoMemory};
 use vt_events::Event;
-use vt_hub::{Hub, Opening, Pass, Run, Steward};
-use vt_world::{World, nobody_waits_at_start};
+use vt_hub::{Hub, Opening, Pass, Run, Seat, Steward};
+use vt_world::World;
 
 const SESSION: &str = "rows = 2
 cols = 10
@@ -39,7 +37,6 @@ script = []
 const SCANS: [u8; 8] = [0x1E, 0x9E, 0x30, 0xB0, 0x0E, 0x8E, 0x1C, 0x9C];
 
 // Makes a call that isn't WaitEnd, and says whether it was answered "wait".
-#[tactic(auto, using(crate::proofs::Ready::ready_after))]
 fn make<J: Opening, R: Wait>(
     seat: &Seat<J, R>,
     pass: &mut Pass<J>,
@@ -50,7 +47,7 @@ fn make<J: Opening, R: Wait>(
     ensures { IfOk result (λ waits. IsReady seat.now waits pass.new) }
 {
     let answer = seat.ask(pass, event)?;
-    Ok(was_wait(&answer))
+    Ok(answer.is_wait())
 }
 
 // Types all keys.
@@ -105,7 +102,7 @@ fn read_line<J: Opening, R: Wait>(
         });
     }
     for _ in 0..1_000_000 {
-        let turn = tty.turn(seat.rt, seat.alloc, seat.hub, &mut pass, 0)?;
+        let turn = tty.turn(seat, &mut pass, 0)?;
         let found = turn.given == Given::Line;
         if found || !may_go_on(turn.stop) {
             return Ok(Reader { pass, tty, found });
@@ -155,7 +152,7 @@ fn both<J: Opening + Send + Sync, R: Threads + Wait + Sync>(
 }
 
 // The run, once both are through.
-fn closed<J: Opening>(
+fn joined<J: Opening>(
     hub: Hub<J>,
     steward: Steward<J>,
     keyboard: Pass<J>,
@@ -169,29 +166,23 @@ fn closed<J: Opening>(
     let Reader { pass, tty, found } = reader;
     hub.join(&mut steward, keyboard);
     hub.join(&mut steward, pass);
-    if steward.out() != 0 {
-        return Err("a pass is out".into());
-    }
-    let run = hub.close(steward);
+    let run = closed(hub, steward)?;
     Ok(Outcome { found, tty, run })
 }
 
-fn type_beside<J: Opening + Send + Sync, R: Threads + Wait + Sync>(
+fn share<J: Opening + Send + Sync, R: Threads + Wait + Sync>(
     rt: &R,
     alloc: Global,
-    s: &Session,
     world: World,
     tty: Tty,
 ) -> Result<Outcome, Fail>
-    requires world { world ≡ start_of s.now }
-    requires start { J.start ≡ start_of s.now }
-    requires limits { J.limits ≡ s.now.limits }
+    requires start { world ≡ J.start }
+    requires limits { J.limits ≡ record { events = 65_536; bytes = 67_108_864 } }
+    requires free { (p : ℕ) → is_waiting world p ≡ false }
 {
-    nobody_waits_at_start();
-    let size = s.config().size;
-    let (hub, mut steward) = Hub::<J>::open(alloc, world, s.limits())?;
-    let keyboard = split(&hub, &mut steward, 0)?;
-    let pass = split(&hub, &mut steward, 1)?;
+    let (hub, mut steward) = Hub::<J>::open(alloc, world, LIMITS)?;
+    let keyboard = hub.split(&mut steward, CallerNo::KEYBOARD);
+    let pass = hub.split(&mut steward, CallerNo::numbered(1));
     let reader = Reader {
         pass,
         tty,
@@ -201,37 +192,18 @@ fn type_beside<J: Opening + Send + Sync, R: Threads + Wait + Sync>(
         rt,
         alloc,
         hub: &hub,
-        size,
     };
     let (keyboard, reader) = both(&seat, keyboard, reader)?;
-    closed(hub, steward, keyboard, reader)
-}
-
-fn type_session<R: Threads + Wait + Sync>(
-    rt: &R,
-    alloc: Global,
-    s: &Session,
-    tty: Tty,
-) -> Result<Outcome, Fail> {
-    let world = World::start(alloc, s.config(), s.key_tables())?;
-    type_beside::<Brand, R>(rt, alloc, s, world, tty)
+    joined(hub, steward, keyboard, reader)
 }
 
 fn typed<R: Threads + Wait + Sync>(rt: &R, alloc: Global) -> Result<Outcome, Fail> {
-    let session = read(alloc, SESSION.as_bytes())?;
-    type_with(rt, alloc, &session)
+    let tty = usual(alloc)?;
+    let world = started(alloc, SESSION)?;
+    share::<Brand, R>(rt, alloc, world, tty)
 }
 
-fn type_with<R: Threads + Wait + Sync>(
-    rt: &R,
-    alloc: Global,
-    s: &Session,
-) -> Result<Outcome, Fail> {
-    let tty = started(alloc)?;
-    type_session(rt, alloc, s, tty)
-}
-
-fn started(alloc: Global) -> Result<Tty, Fail> {
+fn usual(alloc: Global) -> Result<Tty, Fail> {
     let t = Termios::usual();
     if !t.valid() {
         return Err("no settings".into());

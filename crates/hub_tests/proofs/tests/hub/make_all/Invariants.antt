@@ -1,5 +1,5 @@
 use Rattle.std.proofs.Common.{◌≡◌}
-use Rattle.hub_tests.specs.Ready.{IsReady}
+use Rattle.vt_hub.specs.Ready.{IsReady}
 use Rattle.hub_tests.proofs.tests.hub.make_all.Given as goal
 
 abbrev pub invariant-loop-p : goal.invariant-loop-p

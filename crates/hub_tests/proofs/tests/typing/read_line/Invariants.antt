@@ -1,5 +1,5 @@
 use Rattle.std.proofs.Common.{false}
-use Rattle.hub_tests.specs.Ready.{IsReady}
+use Rattle.vt_hub.specs.Ready.{IsReady}
 use Rattle.hub_tests.proofs.tests.typing.read_line.Given as goal
 
 abbrev pub invariant-loop : goal.invariant-loop

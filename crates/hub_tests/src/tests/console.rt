@@ -1,0 +1,36 @@
+//! The shared console of a test.
+ghost use Rattle.std.specs.Prelude.{◌≡◌, ℕ, false, IfOk};
+ghost use Rattle.vt_world.specs.State.{is_waiting};
+
+use session_text::read;
+use std::alloc::Global;
+use std::test::Fail;
+use vt_hub::{Hub, Opening, Run, Steward};
+use vt_journal::Limits;
+use vt_world::{World, nobody_waits_at_start};
+
+/// The most entries of the journal, and what they may count for together.
+pub const LIMITS: Limits = Limits {
+    events: 65_536,
+    bytes: 67_108_864,
+};
+
+/// The console of the session that the text says.
+pub fn started(alloc: Global, text: &str) -> Result<World, Fail>
+    ensures { IfOk result (λ world. (p : ℕ) → is_waiting world p ≡ false) }
+{
+    nobody_waits_at_start();
+    let session = read(alloc, text.as_bytes())?;
+    let world = World::start(alloc, session.config(), session.key_tables())?;
+    Ok(world)
+}
+
+/// The run, once every pass was taken in.
+pub fn closed<J: Opening>(hub: Hub<J>, steward: Steward<J>) -> Result<Run, Fail>
+    requires { steward.hub ≡ hub }
+{
+    if steward.out() != 0 {
+        return Err("a pass is out".into());
+    }
+    Ok(hub.close(steward))
+}
