@@ -1,5 +1,3 @@
-use Rattle.std.proofs.Common.{refl, subst}
-use Rattle.vt_base.specs.ConsoleSet.{IsFitSet}
 use Rattle.vt_procs.specs.declared.config.Config.{Config}
 use Rattle.vt_world.specs.Laws.{IsStart}
 use Rattle.hub_tests.proofs.tests.console.started.Goals as goal

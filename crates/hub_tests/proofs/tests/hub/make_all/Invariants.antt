@@ -1,4 +1,3 @@
-use Rattle.std.proofs.Common.{◌≡◌}
 use Rattle.vt_hub.specs.Ready.{IsReady}
 use Rattle.hub_tests.proofs.tests.hub.make_all.Given as goal
 
