@@ -102,7 +102,7 @@ fn read_line<J: Opening, R: Wait>(
         });
     }
     for _ in 0..1_000_000 {
-        let turn = tty.turn(seat, &mut pass, 0)?;
+        let turn = tty.turn(seat.rt, seat.alloc, seat.hub, &mut pass, 0)?;
         let found = turn.given == Given::Line;
         if found || !may_go_on(turn.stop) {
             return Ok(Reader { pass, tty, found });
