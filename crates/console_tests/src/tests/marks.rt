@@ -31,11 +31,23 @@ keymap = 'keymaps 0'
 process = [{home = 1}, {}]
 ";
 
+// Calls, each list of them on consoles of its own.
+const CALLS: &[(&str, &[Row])] = &[
+    (THREE, ACTIVATION),
+    (THREE, GRAPHICS),
+    (THREE, ATTENTION),
+    (TWO, ALLOCATION),
+];
+
 #[test]
-fn a_short_activation_ends_a_wait(rt: HostRuntime) -> Result<(), Fail> {
-    check(&rt, rt.alloc(), THREE, ACTIVATION)
+fn calls_move_the_display(rt: HostRuntime) -> Result<(), Fail> {
+    for (session, rows) in CALLS {
+        check(&rt, rt.alloc(), session, rows)?;
+    }
+    Ok(())
 }
 
+// A short activation ends a wait.
 const ACTIVATION: &[Row] = &[
     Marks(&[]),
     Call(3, "open 1", "num 0"),
@@ -53,11 +65,7 @@ const ACTIVATION: &[Row] = &[
     Marks(&[]),
 ];
 
-#[test]
-fn graphics_keep_the_display(rt: HostRuntime) -> Result<(), Fail> {
-    check(&rt, rt.alloc(), THREE, GRAPHICS)
-}
-
+// Graphics keep the display.
 const GRAPHICS: &[Row] = &[
     Call(1, "open 0", "num 0"),
     Call(1, "setkd 0 1", "ok"),
@@ -69,11 +77,7 @@ const GRAPHICS: &[Row] = &[
     Hops(0),
 ];
 
-#[test]
-fn the_attention_key_ends_who_uses_the_front(rt: HostRuntime) -> Result<(), Fail> {
-    check(&rt, rt.alloc(), THREE, ATTENTION)
-}
-
+// The attention key ends who uses the front.
 const ATTENTION: &[Row] = &[
     Call(1, "open 1", "num 0"),
     Call(3, "open 1", "num 0"),
@@ -89,11 +93,7 @@ const ATTENTION: &[Row] = &[
     Call(2, "signals", "sigs 0"),
 ];
 
-#[test]
-fn a_console_is_there_once_it_is_allocated(rt: HostRuntime) -> Result<(), Fail> {
-    check(&rt, rt.alloc(), TWO, ALLOCATION)
-}
-
+// A console is there once it is allocated.
 const ALLOCATION: &[Row] = &[
     Call(1, "open 1", "num 0"),
     Call(1, "activate 0 63", "ok"),

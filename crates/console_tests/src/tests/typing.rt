@@ -26,7 +26,10 @@ process = [{privileged = true}]
 
 #[test]
 fn types_into_the_console_in_front(rt: HostRuntime) -> Result<(), Fail> {
-    check(&rt, rt.alloc(), TYPED, SCANS)
+    for rows in [SCANS, TEXT] {
+        check(&rt, rt.alloc(), TYPED, rows)?;
+    }
+    Ok(())
 }
 
 // Scan bytes, and the console in front after each; last that no process scans, and the keyboard scans alone.
@@ -48,11 +51,6 @@ const SCANS: &[Row] = &[
     Call(1, "scan 1e", "err 25"),
     Call(0, "open 1", "err 25"),
 ];
-
-#[test]
-fn does_what_a_text_says(rt: HostRuntime) -> Result<(), Fail> {
-    check(&rt, rt.alloc(), TYPED, TEXT)
-}
 
 // ESC [ 6 n, ESC [ 12 ; 3 ], ESC [ 15 ] and ESC [ 12 ; 4 ]: the report goes to the text's own console, and the display
 // to 3 and back, since 4 isn't there. The key then asks for the console before.
