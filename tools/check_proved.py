@@ -3,8 +3,8 @@
 
 A section `### CRATE`, or `### TITLE: CRATE`, has tables of three columns: what holds, what carries it, and where its words
 are defined. What carries it is groups with `; ` between: calls, a colon, and clauses, of which every call of the group has
-every one as an `ensures` or a `requires` in the crate's src/ ("its clause" is an `ensures` without a name); or `type` and
-names of types. A definition is a file of the crate's specs/, or CRATE/specs/FILE of another one, with names in parentheses that
+every one as an `ensures` or a `requires` in the crate's src/ ("its clause" is an `ensures` without a name, and of
+`Type::output` the text that `Display` promises of the type); or `type` and names of types. A definition is a file of the crate's specs/, or CRATE/specs/FILE of another one, with names in parentheses that
 stand in it. Checked too: each page docs/NAME.md that a page names is there.
 Prints a line for each that is missing, and ends with status 1 if there is one.
 """
@@ -37,6 +37,9 @@ def calls_of(crate):
             if line.startswith("}"):
                 owner = []
             owner = owners(line) or owner
+            ghost = re.match(r"\s*ghost (output) = \{", line)
+            if ghost and owner:
+                found.setdefault(f"{owner[0]}::{ghost[1]}", set()).add(UNNAMED)
             call = re.match(r"\s*(?:pub )?(?:const )?fn (\w+)", line)
             if call:
                 name = f"{owner[0]}::{call[1]}" if owner else call[1]
