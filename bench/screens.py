@@ -3,8 +3,8 @@
 
 usage: screens.py VT [--rows R] [--cols C] [--mib N] [--runs N] [--seed S] [--only KIND,..] [--count]
 
-The engines are those that engines/build.sh has built; one that isn't there is left out. Each program reads a file and
-prints the rows; all run by turns on each input, so that a busy machine slows all alike, and the least processor time
+The engines are those that engines/build.sh has built; one that isn't there is left out. So is `plain`, which is no engine
+but engines/plain.c, plain C for these inputs, with a ratio of its own. Each program reads a file and prints the rows; all run by turns on each input, so that a busy machine slows all alike, and the least processor time
 and the least wall time of a program's runs count. MB is 10^6 bytes. --count takes instructions too, on the first MiB,
 less those of an empty input (valgrind's callgrind).
 """
@@ -27,6 +27,8 @@ ENGINES = {
     "libtsm": "libtsm-dev",
     "libvterm": "libvterm-dev",
 }
+# What plain C takes for the same screens.
+PLAIN = "plain"
 
 
 def timed(command, path):
@@ -84,7 +86,7 @@ def main():
     said = words.parse_args()
     size = ["screen", str(said.rows), str(said.cols)]
     programs = {"vt": pathlib.Path(said.vt).resolve()}
-    programs |= {name: HERE / "engines/built" / name for name in ENGINES}
+    programs |= {name: HERE / "engines/built" / name for name in [*ENGINES, PLAIN]}
     commands = {name: [str(path), *size] for name, path in programs.items() if path.exists()}
     print(f"{said.rows} by {said.cols}, {said.mib:g} MiB, least of {said.runs} runs by turns;",
           f"load {os.getloadavg()[0]:.1f}\n")
@@ -95,13 +97,15 @@ def main():
             path = pathlib.Path(folder) / kind
             path.write_bytes(text)
             best = measure(commands, path, said.runs)
-            rivals = [name for name in best if name != "vt"]
+            rivals = [name for name in best if name in ENGINES]
             line = [kind, f"{len(text) / best['vt'][0] / 1e6:.1f}", f"{len(text) / best['vt'][1] / 1e6:.1f}"]
             if rivals:
                 first = min(rivals, key=lambda name: best[name][1])
                 same = [name for name in rivals if best[name][2] == best["vt"][2]]
                 line += [first, f"{best[first][0] / best['vt'][0]:.1f}", f"{best[first][1] / best['vt'][1]:.1f}",
                          " ".join(same) or "none"]
+            if PLAIN in best:
+                line.append(f"{best[PLAIN][1] / best['vt'][1]:.2f}" if best[PLAIN][2] == best["vt"][2] else "other rows")
             if said.count:
                 path.write_bytes(inputs.make(kind, (1 << 20) // inputs.PART.get(kind, 1), said.seed))
                 taken = instructions(commands["vt"], path) - instructions(commands["vt"], os.devnull)
@@ -109,7 +113,8 @@ def main():
             lines.append(line)
             print(f"{kind} done", file=sys.stderr)
     head = ["input", "MB/s", "by processor time"]
-    head += ["quickest engine", "ratio", "by processor time", "same rows"] if len(commands) > 1 else []
+    head += ["quickest engine", "ratio", "by processor time", "same rows"] if commands.keys() & ENGINES.keys() else []
+    head += ["plain C by processor time"] if PLAIN in commands else []
     head += ["instructions a byte"] if said.count else []
     print(table(head, lines))
 
