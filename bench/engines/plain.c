@@ -1,7 +1,10 @@
 /* What plain C takes for the same screens: a machine that takes one byte at a time through a switch on its state, with
  * cells as `vt` keeps them, a code and an attribute byte in 8 bytes, and rows behind a table of their numbers, so that a
  * scroll turns numbers and blanks a row. It knows what inputs.py writes, with SGR and the attribute byte of each pen, and
- * takes every input for well formed: no other sequence, no character of two columns, no state beside these. */
+ * takes every input for well formed: no other sequence, no character of two columns, no state beside these.
+ *
+ * With -DONCE whole characters of one to three bytes are read, checked, looked at and written in one pass, a run up to the
+ * end of its row at a time, and what isn't such a character goes byte by byte. */
 #include "screen.h"
 
 struct cell {
@@ -69,6 +72,44 @@ static inline void print(uint32_t code)
     else
         x++;
 }
+
+#ifdef ONCE
+/* Which blocks of 64 codes take one column each: those of the inputs, up to U+2FFF. */
+static const uint8_t plain[1024] = {[0 ... 191] = 1};
+
+/* Writes the characters that text[i] begins with, and gives the place behind them. */
+static size_t run(const unsigned char *text, size_t i, size_t length)
+{
+    if (wrap) {
+        x = 0;
+        line_feed();
+    }
+    struct cell *to = row(y) + x, *end = row(y) + cols;
+    for (size_t before = length; before != i;) {
+        before = i;
+        while (i < length && to < end && text[i] >= 0x20 && text[i] < 0x7F)
+            *to++ = (struct cell){text[i++], attr};
+        while (i + 3 <= length && to < end) {
+            unsigned b = text[i], c = text[i + 1], d = text[i + 2];
+            if (b - 0xC3u > 0x2C || b == 0xE0 || b == 0xED)
+                break;
+            unsigned three = b >= 0xE0, mask = 0u - three;
+            if (((c & 0xC0) != 0x80) | ((((d & 0xC0) ^ 0x80) & mask) != 0))
+                break;
+            unsigned two = (b & 0x1F) << 6 | (c & 0x3F), of_three = (b & 0x0F) << 12 | (c & 0x3F) << 6 | (d & 0x3F);
+            unsigned found = two ^ ((two ^ of_three) & mask);
+            if (!plain[found >> 6])
+                break;
+            *to++ = (struct cell){found, attr};
+            i += 2 + three;
+        }
+    }
+    x = (int)(to - row(y));
+    wrap = x == cols;
+    x -= wrap;
+    return i;
+}
+#endif
 
 static void render(void)
 {
@@ -187,6 +228,15 @@ int main(int words_count, char **words)
     bottom = rows - 1;
     for (size_t length; (length = next_piece()) > 0;) {
         for (size_t i = 0; i < length; i++) {
+#ifdef ONCE
+            if (state == GROUND && more == 0 && (unsigned char)buffer[i] >= 0x20) {
+                size_t next = run((const unsigned char *)buffer, i, length);
+                if (next > i) {
+                    i = next - 1;
+                    continue;
+                }
+            }
+#endif
             unsigned char b = (unsigned char)buffer[i];
             switch (state) {
             case GROUND:
