@@ -1,4 +1,3 @@
 mod console;
 mod hub;
-mod lines;
 mod typing;
