@@ -1,0 +1,95 @@
+"""The real Linux console: a case is written to /dev/ttyN and read from /dev/vcsaN and /dev/vcsuN, as root."""
+import fcntl
+import os
+import select
+import struct
+import termios
+import tty
+
+from .adapters import CaseFault
+from .forms import Fault
+from .judge import HALF, runs_of, text_of
+
+VT_DISALLOCATE = 0x5608
+WAIT = 0.05
+
+
+class Device:
+    """A console that isn't in front: each case gets it anew, in its own size."""
+
+    def __init__(self, number):
+        self.name = f"device {number}"
+        self.number = number
+        if os.geteuid():
+            raise Fault(f"{self.name}: root was wanted, who may write to a console that isn't the user's own")
+        for path in ("/dev/tty0", self.path("tty"), self.path("vcsa"), self.path("vcsu")):
+            if not os.path.exists(path):
+                raise Fault(f"{self.name}: {path} was wanted, and there is none")
+
+    def path(self, kind):
+        """The file of this console."""
+        return f"/dev/{kind}{self.number}"
+
+    def ask(self, case):
+        """What stands after one case: all but the bells."""
+        try:
+            return self.answer(case)
+        except (OSError, termios.error) as fault:
+            raise CaseFault(f"refuses: {fault}") from None
+
+    def answer(self, case):
+        """Frees the console, opens it anew, writes the case and reads what stands."""
+        front = os.open("/dev/tty0", os.O_WRONLY | os.O_NOCTTY)
+        try:
+            fcntl.ioctl(front, VT_DISALLOCATE, self.number)
+        except OSError:
+            pass  # it was never used
+        finally:
+            os.close(front)
+        console = os.open(self.path("tty"), os.O_RDWR | os.O_NOCTTY | os.O_NONBLOCK)
+        try:
+            tty.setraw(console)
+            fcntl.ioctl(console, termios.TIOCSWINSZ, struct.pack("4H", case.rows, case.columns, 0, 0))
+            for piece in case.pieces():
+                os.write(console, piece)
+            reports = b""
+            while select.select([console], [], [], WAIT)[0]:
+                reports += os.read(console, 4096)
+            with open(self.path("vcsa"), "rb") as file:
+                shown = file.read()
+            with open(self.path("vcsu"), "rb") as file:
+                codes = file.read()
+        finally:
+            os.close(console)
+        return self.told(case, shown, codes, reports)
+
+    def told(self, case, shown, codes, reports):
+        """The answer, by what the three files gave."""
+        rows, columns, column, row = shown[:4]
+        if (rows, columns) != (case.rows, case.columns):
+            raise CaseFault(f"refuses: it has {rows} rows and {columns} columns, and {case.rows} and {case.columns} were wanted")
+        # Its second cell of a wide character is a blank.
+        cells = [int.from_bytes(codes[at : at + 4], "little") for at in range(0, len(codes), 4)]
+        for place in range(1, len(cells)):
+            if place % columns and 0x1100 <= cells[place - 1] < HALF and is_wide(cells[place - 1]) and cells[place] == 32:
+                cells[place] = HALF
+        text = text_of(b"".join(cell.to_bytes(4, "little") for cell in cells), rows, columns)
+        return {
+            "text": text, "cursor": [row, column], "attributes": runs_of(shown[5::2], columns),
+            "reports": reports.decode("latin-1"),
+        }  # fmt: skip
+
+    def answers(self, cases):
+        """The answer or the `CaseFault` of each case, in their order."""
+        for case in cases:
+            try:
+                yield self.ask(case)
+            except CaseFault as fault:
+                yield fault
+
+
+def is_wide(code):
+    """Whether the character takes two columns."""
+    import unicodedata
+
+    return unicodedata.east_asian_width(chr(code)) in "WF"

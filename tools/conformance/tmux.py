@@ -1,0 +1,137 @@
+"""The engine tmux: a pane of the case's size, whose rows and cursor it captures.
+
+The pane runs sleep(1), and the case is written to its terminal. A client in control mode is told each byte that the
+server has read from the pane, so that a case is captured when all of it has been read. Colours, reports and bells aren't
+asked for.
+"""
+import os
+import re
+import select
+import shutil
+import subprocess
+import tempfile
+import termios
+import time
+import tty
+
+from .adapters import SECONDS, CaseFault
+from .forms import Fault
+
+ESCAPED = re.compile(rb"\\([0-7]{3})")
+
+
+class Tmux:
+    """A server of its own, with one window of one pane."""
+
+    name = "tmux"
+
+    def __init__(self):
+        if not shutil.which("tmux"):
+            raise Fault("tmux: the program tmux was wanted (Debian's package tmux)")
+        self.process, self.left, self.size, self.folder = None, b"", None, None
+
+    def start(self):
+        """Starts the server, whose socket and cases are in a folder of their own."""
+        self.folder = tempfile.TemporaryDirectory()
+        words = ["tmux", "-S", f"{self.folder.name}/socket", "-f", os.devnull, "-u", "-C", "new-session", "sleep 100000"]
+        kept = {name: value for name, value in os.environ.items() if name not in ("TMUX", "TMUX_PANE")}
+        pipes = {"stdin": subprocess.PIPE, "stdout": subprocess.PIPE, "stderr": subprocess.DEVNULL}
+        self.process = subprocess.Popen(words, env={**kept, "LC_ALL": "C.UTF-8"}, bufsize=0, **pipes)
+        self.left, self.size = b"", None
+        for option in ("status off", "window-size manual", "history-limit 0", "automatic-rename off"):
+            self.command(f"set-option -g {option}")
+
+    def stop(self):
+        """Ends the server and removes its folder."""
+        if not self.process:
+            return
+        try:
+            self.process.stdin.write(b"kill-server\n")
+            self.process.stdin.close()
+            self.process.wait(SECONDS)
+        except (OSError, subprocess.TimeoutExpired):
+            self.process.kill()
+            self.process.wait()
+        self.process.stdout.close()
+        self.process = None
+        self.folder.cleanup()
+
+    def line(self, until):
+        """The next line that the client prints."""
+        while b"\n" not in self.left:
+            readable = select.select([self.process.stdout], [], [], max(until - time.monotonic(), 0))[0]
+            read = os.read(self.process.stdout.fileno(), 65536) if readable else b""
+            if not read:
+                self.stop()
+                raise CaseFault("died: its client ended" if readable else f"hangs: no answer within {SECONDS} s")
+            self.left += read
+        found, self.left = self.left.split(b"\n", 1)
+        return found
+
+    def command(self, words):
+        """The lines that a command prints."""
+        until, printed = time.monotonic() + SECONDS, None
+        try:
+            self.process.stdin.write(words.encode() + b"\n")
+        except OSError:
+            self.stop()
+            raise CaseFault("died: its client ended") from None
+        while True:
+            line = self.line(until)
+            if printed is None and re.fullmatch(rb"%begin \d+ \d+ 1", line):
+                printed = []
+            elif printed is not None and re.match(rb"%(end|error) \d+ \d+ 1$", line):
+                if line.startswith(b"%error"):
+                    raise CaseFault(f"refuses: {words}: {b' '.join(printed)!r}")
+                return printed
+            elif printed is not None:
+                printed.append(line)
+
+    def read_by_pane(self, count):
+        """Waits until the server has read so many bytes from the pane."""
+        until = time.monotonic() + SECONDS
+        while count > 0:
+            line = self.line(until)
+            if line.startswith(b"%output "):
+                data = line.split(b" ", 2)[2]
+                count -= len(ESCAPED.sub(b".", data))
+
+    def write(self, path, case):
+        """Writes the case to the pane's terminal, in raw mode."""
+        try:
+            terminal = os.open(path, os.O_RDWR | os.O_NOCTTY)
+            try:
+                tty.setraw(terminal)
+                for piece in case.pieces():
+                    os.write(terminal, piece)
+            finally:
+                os.close(terminal)
+        except (OSError, termios.error) as fault:
+            raise CaseFault(f"refuses: {fault}") from None
+
+    def ask(self, case):
+        """What stands after one case: rows and cursor."""
+        if not self.process:
+            self.start()
+        if self.size != (case.rows, case.columns):
+            self.command(f"resize-window -x {case.columns} -y {case.rows}")
+            self.size = (case.rows, case.columns)
+        self.command("respawn-pane -k sleep 100000")
+        self.write(self.command("display-message -p '#{pane_tty}'")[0], case)
+        self.read_by_pane(len(case.data))
+        place = self.command("display-message -p '#{cursor_y} #{cursor_x}'")
+        row, column = (int(number) for number in place[0].split())
+        text = [line.decode("utf-8", "replace").rstrip(" ") for line in self.command("capture-pane -p")]
+        text += [""] * (case.rows - len(text))
+        return {"text": text, "cursor": [row, min(column, case.columns - 1)]}
+
+    def answers(self, cases):
+        """The answer or the `CaseFault` of each case, in their order."""
+        try:
+            for case in cases:
+                try:
+                    yield self.ask(case)
+                except CaseFault as fault:
+                    yield fault
+        finally:
+            self.stop()

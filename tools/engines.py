@@ -1,0 +1,86 @@
+#!/usr/bin/env python3
+"""Compares engines with the conformance corpus, and prints a table: each sequence, and each engine's cases.
+
+    tools/engines.py [ENGINE ..] [--command 'PROGRAM ..'] [--device N] [options]
+
+The engines are vt, pyte, libvterm and tmux; without any, vt. `--command` names a program with the protocol of lines that
+docs/guide/write-a-terminal.md describes, `--device` a console of this machine. Each case is the same, differs, or isn't
+compared whole, since the engine doesn't know all that has to stand. Ends with status 1 if an engine differs in a case, or
+has a fault there; with status 2 if something that was named is missing or damaged.
+"""
+import argparse
+import pathlib
+import sys
+
+sys.dont_write_bytecode = True
+
+from conformance import compare, cutdown, engine_list, page  # noqa: E402: after the line that keeps tools/ clean
+from conformance.forms import PROGRAM, Fault, read_corpus  # noqa: E402
+from conformance.words import in_words  # noqa: E402
+
+
+def chosen(cases, name):
+    """The cases of this name, and those whose names begin with it and a slash."""
+    found = [case for case in cases if not name or case.name == name or case.name.startswith(name.rstrip("/") + "/")]
+    if not found:
+        raise Fault(f"--only {name}: a case or a sequence of the corpus was wanted")
+    return found
+
+
+def shortest(program, engine, found):
+    """The lines of the shortest differing case, cut down."""
+    differing = [it for it in found if it.parts]
+    if not differing:
+        return [f"{engine.name}: no case differs"]
+    first = min(differing, key=lambda it: len(it.case.data))
+    least = cutdown.cut_down(program, engine, first)
+    lines = [f"{engine.name}: {first.case.name}, cut down from {len(first.case.data)} bytes to {len(least.case.data)}"]
+    lines += [f"    {least.case.rows} rows, {least.case.columns} columns: {in_words(least.case)}", f"    {least.case.paragraph}"]
+    for part in least.parts:
+        lines += [f"    {part}", f"        wanted   {least.case.after[part]!r}", f"        there is {least.answer[part]!r}"]
+    return lines
+
+
+def run(given):
+    """Runs what was named; gives the status."""
+    cases = chosen(read_corpus(given.corpus), given.only)
+    engines = engine_list.engines(given)
+    if given.html and not pathlib.Path(given.html).absolute().parent.is_dir():
+        raise Fault(f"--html {given.html}: a file in a folder that is there was wanted")
+    tried = [case.bytewise() for case in cases] if given.cut else cases
+    results = {}
+    for engine in engines:
+        results[engine.name] = [compare.compared(*it) for it in zip(tried, engine.answers(tried), strict=True)]
+    lines = compare.table(cases, results)
+    for engine in engines:
+        lines += compare.notes(engine.name, results[engine.name])
+        lines += shortest(given.vt, engine, results[engine.name]) if given.first else []
+    print("\n".join(lines))
+    if given.html:
+        pathlib.Path(given.html).write_text(page.html(results), encoding="utf-8")
+    return 1 if any(compare.count_of(found)[1] for found in results.values()) else 0
+
+
+def main():
+    words = argparse.ArgumentParser(description=__doc__.split("\n\n")[0])
+    words.add_argument("engine", nargs="*", metavar="ENGINE", help="vt, pyte, libvterm or tmux")
+    words.add_argument("--vt", default=PROGRAM, metavar="PROGRAM", help="the program vt")
+    words.add_argument("--command", action="append", default=[], metavar="'PROGRAM ..'", help="an engine of your own")
+    words.add_argument("--device", type=int, metavar="N", help="console N of this machine")
+    words.add_argument("--corpus", nargs="+", default=[], metavar="FILE", help="other files of cases")
+    words.add_argument("--only", default="", metavar="NAME", help="one sequence or one case")
+    words.add_argument("--cut", action="store_true", help="write each case byte by byte")
+    words.add_argument("--first", action="store_true", help="show the shortest differing case, cut down")
+    words.add_argument("--html", metavar="FILE", help="write a page of the differing cases")
+    try:
+        return run(words.parse_args())
+    except Fault as fault:
+        print(f"engines: {fault}", file=sys.stderr)
+        return 2
+    except OSError as fault:
+        print(f"engines: {fault}", file=sys.stderr)
+        return 2
+
+
+if __name__ == "__main__":
+    sys.exit(main())
