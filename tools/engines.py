@@ -55,6 +55,7 @@ def run(given):
     for engine in engines:
         lines += compare.notes(engine.name, results[engine.name])
         lines += shortest(given.vt, engine, results[engine.name]) if given.first else []
+    lines += compare.agreed(results) if given.agreed else []
     print("\n".join(lines))
     if given.html:
         pathlib.Path(given.html).write_text(page.html(results), encoding="utf-8")
@@ -70,6 +71,7 @@ def main():
     words.add_argument("--corpus", nargs="+", default=[], metavar="FILE", help="other files of cases")
     words.add_argument("--only", default="", metavar="NAME", help="one sequence or one case")
     words.add_argument("--cut", action="store_true", help="write each case byte by byte")
+    words.add_argument("--agreed", action="store_true", help="name the cases in which all engines agree, and not with the corpus")
     words.add_argument("--first", action="store_true", help="show the shortest differing case, cut down")
     words.add_argument("--html", metavar="FILE", help="write a page of the differing cases")
     try:

@@ -3,9 +3,11 @@ from dataclasses import dataclass, field
 
 from .adapters import CaseFault
 from .forms import PARTS
+from .sequences import CONTROLS, ESCAPES, NUMERIC, REST, SWITCHES
 
 SAME, DIFFERS, NOT_COMPARED = "same", "differs", "not compared"
 NOTHING = {"attributes": [], "reports": "", "bells": 0}
+ORDER = {sequence.name: place for place, sequence in enumerate([*CONTROLS, *ESCAPES, *NUMERIC, *REST, *SWITCHES])}
 
 
 @dataclass
@@ -46,8 +48,8 @@ def count_of(results):
 
 
 def groups_of(cases):
-    """The sequences that cases are about, in their order."""
-    return list(dict.fromkeys(case.group for case in cases))
+    """The sequences that cases are about, in the order of console_codes(4), and then what is of no sequence."""
+    return sorted(dict.fromkeys(case.group for case in cases), key=lambda group: ORDER.get(group, len(ORDER)))
 
 
 def table(cases, results):
@@ -69,4 +71,27 @@ def notes(name, found):
     differs = {part: sum(part in it.parts for it in found) for part in PARTS}
     told = [f"{part} in {count}" for part, count in differs.items() if count]
     lines += [f"{name}: differs: {', '.join(told)}"] if told else []
-    return lines + [f"{name}: {it.case.name}: {it.fault}" for it in found if it.fault]
+    return [*lines, *faults_of(name, found)]
+
+
+def faults_of(name, found):
+    """The faults of an engine, each kind once, with the cases that have it: the first three by their names."""
+    kinds = {}
+    for it in found:
+        if it.fault:
+            kinds.setdefault(it.fault, []).append(it.case.name)
+    for fault, names in kinds.items():
+        more = f" and {len(names) - 3} more" if len(names) > 3 else ""
+        yield f"{name}: {fault}: {', '.join(names[:3])}{more}"
+
+
+def agreed(results):
+    """The lines of the cases in which two or more engines answer a part alike, and all of them otherwise than wanted."""
+    lines = []
+    for found in zip(*results.values(), strict=True):
+        case = found[0].case
+        for part in PARTS:
+            told = [it.answer[part] for it in found if not it.fault and part in it.answer]
+            if len(told) > 1 and told[0] != case.after[part] and all(it == told[0] for it in told):
+                lines.append(f"{len(told)} engines agree with each other and not with the corpus: {case.name}: {part}")
+    return lines

@@ -1,43 +1,73 @@
-"""The shortest text that still differs: bytes are left out of a case as long as engine and machine differ."""
+"""The shortest text that still differs: parts are left out of a case as long as engine and machine differ.
+
+First whole sequences and characters of the text go, as many at once as can be, and then bytes inside of a sequence, as
+long as it stays that sequence. What differs stays the same parts of the screen, so that one cause isn't lost for another.
+"""
 from dataclasses import replace
 
 from .compare import compared
 from .judge import judge
+from .words import UNITS
 
-ROUNDS = 200
-
-
-def without(case, at, count):
-    """The case without these bytes, and without its cuts."""
-    return replace(case, data=case.data[:at] + case.data[at + count :], cuts=())
+ROUNDS = 400
 
 
-def still_differing(program, engine, candidates):
-    """The first of the candidates in which the engine differs, or None."""
+def atoms_of(data):
+    """The sequences and control characters of a text, and its other characters one by one."""
+    atoms, at = [], 0
+    for found in UNITS.finditer(data):
+        atoms += [data[at : found.start()]] if found.start() > at else []
+        unit = found[0]
+        if unit < b" " or unit[:1] == b"\x7f" or unit[:2] == b"\xc2\x9b":
+            atoms.append(unit)
+        else:
+            atoms += [it.encode("utf-8", "surrogateescape") for it in unit.decode("utf-8", "surrogateescape")]
+        at = found.end()
+    return atoms + ([data[at:]] if at < len(data) else [])
+
+
+def kinds_of(data):
+    """What stays of a text that is cut inside of its sequences: how each begins and ends."""
+    return [(it[:2], it[-1:]) if it[:1] == b"\x1b" else it[:1] < b" " for it in (found[0] for found in UNITS.finditer(data))]
+
+
+def still_differing(program, engine, candidates, parts):
+    """The first of the candidates in which the engine differs in these parts, or None."""
+    if not candidates:
+        return None
     afters = judge(program, candidates)
     cases = [replace(case, after=after) for case, after in zip(candidates, afters, strict=True)]
-    for case, answer in zip(cases, engine.answers(cases), strict=True):
-        result = compared(case, answer)
-        if result.parts:
-            return result
-    return None
+    results = [compared(*it) for it in zip(cases, engine.answers(cases), strict=True)]
+    return next((it for it in results if it.parts == parts), None)
 
 
-def cut_down(program, engine, result):
-    """The result of a case from which no single byte can be left out."""
-    size = max(len(result.case.data) // 2, 1)
-    uncut = still_differing(program, engine, [replace(result.case, cuts=())])
-    if uncut is None:
-        return result  # only its cuts make it differ
-    result = uncut
+def without(atoms, size):
+    """The texts that lack so many atoms, at each place, and that are not empty."""
+    made = [b"".join(atoms[:at] + atoms[at + size :]) for at in range(0, len(atoms), size)]
+    return [data for data in made if data]
+
+
+def lessened(program, engine, result, atoms_in, keeps):
+    """The result of a text of which no atom can be left out."""
+    size = max(len(atoms_in(result.case.data)) // 2, 1)
     for _ in range(ROUNDS):
-        length = len(result.case.data)
-        candidates = [without(result.case, at, size) for at in range(0, length, size)]
-        found = still_differing(program, engine, [it for it in candidates if it.data])
+        texts = [data for data in without(atoms_in(result.case.data), size) if keeps(data, result.case.data)]
+        found = still_differing(program, engine, [replace(result.case, data=data, cuts=()) for data in texts], result.parts)
         if found:
             result = found
         elif size == 1:
-            return result
+            break
         else:
             size = max(size // 2, 1)
     return result
+
+
+def cut_down(program, engine, result):
+    """The result of the case's shortest text."""
+    whole = still_differing(program, engine, [replace(result.case, cuts=())], result.parts)
+    if whole is None:
+        return result  # it is its cuts that make it differ
+    result = lessened(program, engine, whole, atoms_of, lambda _data, _old: True)
+    return lessened(
+        program, engine, result, lambda data: [bytes([byte]) for byte in data], lambda data, old: kinds_of(data) == kinds_of(old)
+    )

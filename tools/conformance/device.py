@@ -5,6 +5,7 @@ import select
 import struct
 import termios
 import tty
+import unicodedata
 
 from .adapters import CaseFault
 from .forms import Fault
@@ -71,7 +72,7 @@ class Device:
         # Its second cell of a wide character is a blank.
         cells = [int.from_bytes(codes[at : at + 4], "little") for at in range(0, len(codes), 4)]
         for place in range(1, len(cells)):
-            if place % columns and 0x1100 <= cells[place - 1] < HALF and is_wide(cells[place - 1]) and cells[place] == 32:
+            if place % columns and cells[place] == 32 and unicodedata.east_asian_width(chr(cells[place - 1] % HALF)) in "WF":
                 cells[place] = HALF
         text = text_of(b"".join(cell.to_bytes(4, "little") for cell in cells), rows, columns)
         return {
@@ -86,10 +87,3 @@ class Device:
                 yield self.ask(case)
             except CaseFault as fault:
                 yield fault
-
-
-def is_wide(code):
-    """Whether the character takes two columns."""
-    import unicodedata
-
-    return unicodedata.east_asian_width(chr(code)) in "WF"

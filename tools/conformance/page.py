@@ -1,4 +1,5 @@
 """A page of the cases that differ, whole in itself: bytes in words, the paragraph, both screens, differing cells marked."""
+import unicodedata
 from html import escape
 
 from .compare import count_of, groups_of
@@ -14,18 +15,16 @@ figure { display: inline-block; margin: 0 } figcaption { font-weight: bold } cod
 """
 
 
-def width_of(character):
-    """The columns of a character that is shown."""
-    import unicodedata
-
-    return 2 if unicodedata.east_asian_width(character) in "WF" else 1
-
-
 def cells_of(row, columns):
     """The cells of a row: the characters, nothing in the second cell of a wide one, blanks to its end."""
     cells = []
     for character in row:
-        cells += [character] + [""] * (width_of(character) - 1)
+        if unicodedata.combining(character) and cells:
+            cells[-1] += character
+        elif unicodedata.east_asian_width(character) in "WF":
+            cells += [character, ""]
+        else:
+            cells.append(character)
     return cells + [" "] * (columns - len(cells))
 
 

@@ -1,4 +1,4 @@
-"""Cases of SGR: each number on a fresh pen, and those that switch something off on a pen where everything is on."""
+"""Cases of SGR: each number on a fresh pen, those that change a pen where everything is on, and the blanks of a pen."""
 from .forms import Case
 from .sequences import SGR
 
@@ -12,22 +12,23 @@ INDICES = [0, 1, 7, 8, 9, 15, 16, 21, 46, 52, 100, 196, 231, 232, 243, 255]
 TRIPLES = ["0;0;0", "255;0;0", "0;128;0", "10;20;200", "85;85;85", "86;86;86", "170;170;170", "200;200;190", "127;127;128"]
 BROKEN = ["38", "38;5", "38;2;1;2", "38;1;31", "38;5;256", "38;2;256;0;0", "48;5", "48;1;31"]
 EVERYTHING = b"\x1b[1;4;5;7;31;42m"
-PROBE = b"x\x1b[K"
+BLANKS = ["1", "2", "3", "4", "5", "7", "31", "42", "1;31;42", "7;31;42", "5;42", "38;5;9", "48;5;9", "97", "101"]
 
 ORDER = "the order of an attribute byte"
 FOLDING = "the folding of colours"
 BROKEN_RULE = "38 and 48 without a whole form"
+BLANK = "blanks have the pen's two colours alone"
 
 WORDS = [*ATTRIBUTES, *FONT, *COLOURS, *BRIGHT, *SEVERAL, *(f"{w};5;{i}" for w in (38, 48) for i in INDICES)]
 
 
-def case(group, words, state, *own):
-    """A pen after these words, with a character and a blank drawn by it."""
+def case(group, words, state, *own, probe=b"x"):
+    """A pen after these words, and a character drawn by it."""
     rules = ", ".join(own)
     of_page = f"console_codes(4), {SGR}, {words.split(';')[0] or '0'}"
     paragraph = f"this project's own ({rules}), with {of_page}" if rules else of_page
     before = EVERYTHING if state == "everything-on" else b""
-    data = before + b"ab\x1b[" + words.encode() + b"m" + PROBE
+    data = before + b"ab\x1b[" + words.encode() + b"m" + probe
     return Case(f"{group}/{words or 'none'}/{state}", paragraph, ROWS, COLUMNS, data)
 
 
@@ -53,3 +54,5 @@ def cases():
             yield case("SGR-24-bit", f"{which};2;{triple}", "fresh", FOLDING)
     for words in BROKEN:
         yield case("SGR-broken", words, "fresh", BROKEN_RULE)
+    for words in BLANKS:
+        yield case("SGR-blanks", words, "fresh", BLANK, probe=b"\x1b[K")

@@ -32,7 +32,11 @@ def colour(name):
         return None
     if name in NAMES:
         return NAMES.index(name)
-    return FG_BG_256.index(name) if name in FG_BG_256 else f"#{name}"
+    if name in FG_BG_256:
+        return FG_BG_256.index(name)
+    if len(name) != 6:
+        raise ValueError(f"its colour is {name}")
+    return f"#{name}"
 
 
 def pens_of(screen):
@@ -51,6 +55,8 @@ def answer(asked):
     stream = pyte.ByteStream(screen)
     for piece in asked["pieces"]:
         stream.feed(piece.encode("latin-1"))
+    if (screen.lines, screen.columns) != (asked["rows"], asked["columns"]):
+        raise ValueError(f"its screen has {screen.lines} rows and {screen.columns} columns now")
     text = ["".join(screen.buffer[y][x].data for x in range(screen.columns)) for y in range(screen.lines)]
     cursor = [screen.cursor.y, min(screen.cursor.x, screen.columns - 1)]
     return {

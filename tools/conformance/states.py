@@ -26,5 +26,8 @@ def before(state, at):
 
 
 # The rules of docs/SCREEN.md that decide beside the page in a state.
-OWN = {"wrap": "the pending wrap", "wide": "the columns of characters", "charset": "what SO and SI do beside"}
+OWN = {
+    "wrap": "the pending wrap", "wide": "the columns of characters", "charset": "what SO and SI do beside",
+    "pen": "blanks have the pen's two colours alone",
+}  # fmt: skip
 STATES = ["home", "wrap", "region", "origin", "insert", "wide", "charset", "pen"]
