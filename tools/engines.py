@@ -9,6 +9,7 @@ compared whole, since the engine doesn't know all that has to stand. Ends with s
 has a fault there; with status 2 if something that was named is missing or damaged.
 """
 import argparse
+import os
 import pathlib
 import sys
 
@@ -45,7 +46,8 @@ def run(given):
     """Runs what was named; gives the status."""
     cases = chosen(read_corpus(given.corpus), given.only)
     engines = engine_list.engines(given)
-    if given.html and not pathlib.Path(given.html).absolute().parent.is_dir():
+    target = pathlib.Path(given.html or "page.html").absolute()
+    if target.is_dir() or not target.parent.is_dir():
         raise Fault(f"--html {given.html}: a file in a folder that is there was wanted")
     tried = [case.bytewise() for case in cases] if given.cut else cases
     results = {}
@@ -56,9 +58,9 @@ def run(given):
         lines += compare.notes(engine.name, results[engine.name])
         lines += shortest(given.vt, engine, results[engine.name]) if given.first else []
     lines += compare.agreed(results) if given.agreed else []
-    print("\n".join(lines))
     if given.html:
-        pathlib.Path(given.html).write_text(page.html(results), encoding="utf-8")
+        target.write_text(page.html(results), encoding="utf-8", errors="backslashreplace")
+    print("\n".join(lines), flush=True)
     return 1 if any(compare.count_of(found)[1] for found in results.values()) else 0
 
 
@@ -74,12 +76,13 @@ def main():
     words.add_argument("--agreed", action="store_true", help="name the cases in which all engines agree, and not with the corpus")
     words.add_argument("--first", action="store_true", help="show the shortest differing case, cut down")
     words.add_argument("--html", metavar="FILE", help="write a page of the differing cases")
+    sys.stdout.reconfigure(errors="backslashreplace")
     try:
         return run(words.parse_args())
-    except Fault as fault:
-        print(f"engines: {fault}", file=sys.stderr)
+    except BrokenPipeError:
+        os.dup2(os.open(os.devnull, os.O_WRONLY), sys.stdout.fileno())
         return 2
-    except OSError as fault:
+    except (Fault, OSError) as fault:
         print(f"engines: {fault}", file=sys.stderr)
         return 2
 

@@ -89,14 +89,16 @@ def main():
     words.add_argument("--count", type=int, default=MORE, help="how many cases --more prints")
     given = words.parse_args()
     try:
+        if given.count < 1:
+            raise Fault(f"--count {given.count}: a number from 1 was wanted")
         if given.more is not None:
             return more(given.vt, given.more, given.count)
         return check(given.vt) if given.check else write(given.vt)
-    except Fault as fault:
-        print(f"make_conformance: {fault}", file=sys.stderr)
-        return 2
     except BrokenPipeError:
         os.dup2(os.open(os.devnull, os.O_WRONLY), sys.stdout.fileno())
+        return 2
+    except (Fault, OSError) as fault:
+        print(f"make_conformance: {fault}", file=sys.stderr)
         return 2
 
 

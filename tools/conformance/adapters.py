@@ -34,7 +34,7 @@ def answer_of(line, number, case):
     if not isinstance(made, dict) or made.get("case") != number or not is_number(made["case"], 0, 2**53):
         raise CaseFault(f'nonsense: an object with "case": {number} was wanted, and there is {line[:60]!r}')
     if isinstance(made.get("fault"), str):
-        raise CaseFault(f"fault: {made['fault'][:200]}")
+        raise CaseFault("fault: " + "".join(c if c.isprintable() else "?" for c in made["fault"][:200]))
     answer = {part: made[part] for part in PARTS if made.get(part) is not None}
     try:
         if made.get("pens") is not None:
@@ -140,21 +140,23 @@ class Program:
         try:
             return answer_of(self.exchange(line.encode()), self.asked, case)
         except CaseFault as fault:
-            if "nonsense" in str(fault):
+            if str(fault).startswith("nonsense"):
                 self.stop()
             raise
 
     def answers(self, cases):
         """The answer or the `CaseFault` of each case, in their order."""
         hangs = 0
-        for case in cases:
-            if hangs == HANGS_IN_A_ROW:
-                yield CaseFault(f"not run: it hung in {HANGS_IN_A_ROW} cases one after another")
-                continue
-            try:
-                yield self.ask(case)
-                hangs = 0
-            except CaseFault as fault:
-                hangs = hangs + 1 if "hangs" in str(fault) else 0
-                yield fault
-        self.stop()
+        try:
+            for case in cases:
+                if hangs == HANGS_IN_A_ROW:
+                    yield CaseFault(f"not run: it hung in {HANGS_IN_A_ROW} cases one after another")
+                    continue
+                try:
+                    yield self.ask(case)
+                    hangs = 0
+                except CaseFault as fault:
+                    hangs = hangs + 1 if str(fault).startswith("hangs") else 0
+                    yield fault
+        finally:
+            self.stop()

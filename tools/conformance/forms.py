@@ -98,8 +98,8 @@ def case_of(made):
     if not isinstance(made, dict):
         raise Fault("an object was wanted")
     for key in ("name", "paragraph"):
-        if not isinstance(made.get(key), str) or not made[key]:
-            raise Fault(f'"{key}" has to be a text')
+        if not isinstance(made.get(key), str) or not made[key] or not made[key].isprintable():
+            raise Fault(f'"{key}" has to be a text of printed characters')
     for key in ("rows", "columns"):
         if not is_number(made.get(key), 1, 255):
             raise Fault(f'"{key}" has to be a number from 1 to 255')
