@@ -3,10 +3,10 @@
 
     tools/engines.py [ENGINE ..] [--command 'PROGRAM ..'] [--device N] [options]
 
-The engines are vt, pyte, libvterm and tmux; without any, vt. `--command` names a program with the protocol of lines that
-docs/guide/write-a-terminal.md describes, `--device` a console of this machine. Each case is the same, differs, or isn't
-compared whole, since the engine doesn't know all that has to stand. Ends with status 1 if an engine differs in a case, or
-has a fault there; with status 2 if something that was named is missing or damaged.
+The engines are vt, pyte, libvterm and tmux; without any, vt. `--command` names a program with the protocol of lines
+that docs/guide/write-a-terminal.md describes, `--device` a console of this machine. Each case is the same, differs, or
+isn't compared whole, since the engine doesn't know all that has to stand. Ends with status 1 if an engine differs in a
+case, or has a fault there; with status 2 if something that was named is missing or damaged.
 """
 import argparse
 import os
@@ -22,7 +22,8 @@ from conformance.words import in_words  # noqa: E402
 
 def chosen(cases, name):
     """The cases of this name, and those whose names begin with it and a slash."""
-    found = [case for case in cases if not name or case.name == name or case.name.startswith(name.rstrip("/") + "/")]
+    start = name.rstrip("/") + "/"
+    found = [case for case in cases if not name or case.name == name or case.name.startswith(start)]
     if not found:
         raise Fault(f"--only {name}: a case or a sequence of the corpus was wanted")
     return found
@@ -36,9 +37,11 @@ def shortest(program, engine, found):
     first = min(differing, key=lambda it: len(it.case.data))
     least = cutdown.cut_down(program, engine, first)
     lines = [f"{engine.name}: {first.case.name}, cut down from {len(first.case.data)} bytes to {len(least.case.data)}"]
-    lines += [f"    {least.case.rows} rows, {least.case.columns} columns: {in_words(least.case)}", f"    {least.case.paragraph}"]
+    lines.append(f"    {least.case.rows} rows, {least.case.columns} columns: {in_words(least.case)}")
+    lines.append(f"    {least.case.paragraph}")
     for part in least.parts:
-        lines += [f"    {part}", f"        wanted   {least.case.after[part]!r}", f"        there is {least.answer[part]!r}"]
+        lines += [f"    {part}", f"        wanted   {least.case.after[part]!r}"]
+        lines.append(f"        there is {least.answer[part]!r}")
     return lines
 
 
@@ -73,7 +76,7 @@ def main():
     words.add_argument("--corpus", nargs="+", default=[], metavar="FILE", help="other files of cases")
     words.add_argument("--only", default="", metavar="NAME", help="one sequence or one case")
     words.add_argument("--cut", action="store_true", help="write each case byte by byte")
-    words.add_argument("--agreed", action="store_true", help="name the cases in which all engines agree, and not with the corpus")
+    words.add_argument("--agreed", action="store_true", help="name cases in which engines agree, not with the corpus")
     words.add_argument("--first", action="store_true", help="show the shortest differing case, cut down")
     words.add_argument("--html", metavar="FILE", help="write a page of the differing cases")
     sys.stdout.reconfigure(errors="backslashreplace")

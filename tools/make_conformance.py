@@ -53,7 +53,8 @@ def check(program):
     """Whether the stored corpus is the one that would be written; prints where it isn't."""
     wanted = texts(program)
     faults = [difference(CORPUS / name, text) for name, text in wanted.items()]
-    faults += [f"{path}: it is no file of the corpus" for path in sorted(CORPUS.glob("*.jsonl")) if path.name not in wanted]
+    others = [path for path in sorted(CORPUS.glob("*.jsonl")) if path.name not in wanted]
+    faults += [f"{path}: it is no file of the corpus" for path in others]
     for fault in faults:
         if fault:
             print(fault)

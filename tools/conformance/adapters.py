@@ -1,9 +1,9 @@
 """Engines that are programs: cases go in as lines of JSON, what stands comes out as lines of JSON.
 
-A line in has `case`, a number, `rows`, `columns`, and `pieces`, the text as it is written. A line out has the same `case`
-and those of `text`, `cursor`, `attributes` or `pens`, `reports` and `bells` that the engine knows; or `fault`, a text, if the
-engine failed. A case that isn't answered within five seconds, or not by such a line, is a fault of that case: the program
-is started again for the next.
+A line in has `case`, a number, `rows`, `columns`, and `pieces`, the text as it is written. A line out has the same
+`case` and those of `text`, `cursor`, `attributes` or `pens`, `reports` and `bells` that the engine knows; or `fault`, a
+text, if the engine failed. A case that isn't answered within five seconds, or not by such a line, is a fault of that
+case: the program is started again for the next.
 """
 import json
 import os
@@ -126,7 +126,7 @@ class Program:
                 raise self.died() from None
             if len(self.left) > LONGEST_ANSWER:
                 self.stop()
-                raise CaseFault(f"nonsense: a line was wanted, and there are over {LONGEST_ANSWER} bytes without an end")
+                raise CaseFault(f"nonsense: a line was wanted, and over {LONGEST_ANSWER} bytes have no end")
         found, self.left = self.left.split(b"\n", 1)
         return found.decode("utf-8", "replace")
 

@@ -94,7 +94,8 @@ def pair_cases(count):
         data = before("home", 0) + b"\x1b[3;6H"
         data += b"".join(sequence.data + bytes([97 + place % 26]) for place, sequence in enumerate(part))
         names = ", ".join(dict.fromkeys(sequence.name for sequence in part))
-        yield Case(f"pairs/{n + 1}", f"this project's own (the pending wrap), with console_codes(4): {names}", ROWS, COLUMNS, data)
+        paragraph_of_all = f"this project's own (the pending wrap), with console_codes(4): {names}"
+        yield Case(f"pairs/{n + 1}", paragraph_of_all, ROWS, COLUMNS, data)
 
 
 def recording_cases():

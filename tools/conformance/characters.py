@@ -13,16 +13,23 @@ UTF_8 = [
     ("zero-width-space", "a\u200bb".encode(), WIDTHS), ("soft-hyphen", "a\u00adb".encode(), WIDTHS),
     ("no-break-space", "a\u00a0b".encode(), ""), ("replacement", "a\ufffdb".encode(), ""),
     ("not-a-character", "a\uffffb".encode(), WIDTHS), ("next-line", "a\u0085b".encode(), "U+0080 to U+009F"),
-    ("wide-at-the-end", "\x1b[1;20H中x".encode(), WIDTHS), ("wide-without-wrap", "\x1b[?7l\x1b[1;20H中x".encode(), WIDTHS),
-    ("wide-over-its-left-half", "中文\x1b[1;1Hx".encode(), WIDTHS), ("wide-over-its-right-half", "中文\x1b[1;2Hx".encode(), WIDTHS),
-    ("wide-over-two-halves", "中文\x1b[1;2H字x".encode(), WIDTHS), ("wide-in-insert-mode", "abc\x1b[4h\x1b[1;2H中x".encode(), WIDTHS),
-    ("full-row", b"0123456789abcdefghij", "the pending wrap"), ("full-row-and-one", b"0123456789abcdefghijk", "the pending wrap"),
+    ("wide-at-the-end", "\x1b[1;20H中x".encode(), WIDTHS),
+    ("wide-without-wrap", "\x1b[?7l\x1b[1;20H中x".encode(), WIDTHS),
+    ("wide-over-its-left-half", "中文\x1b[1;1Hx".encode(), WIDTHS),
+    ("wide-over-its-right-half", "中文\x1b[1;2Hx".encode(), WIDTHS),
+    ("wide-over-two-halves", "中文\x1b[1;2H字x".encode(), WIDTHS),
+    ("wide-in-insert-mode", "abc\x1b[4h\x1b[1;2H中x".encode(), WIDTHS),
+    ("full-row", b"0123456789abcdefghij", "the pending wrap"),
+    ("full-row-and-one", b"0123456789abcdefghijk", "the pending wrap"),
     ("full-row-and-line-feed", b"0123456789abcdefghij\nk", "the pending wrap"),
     ("full-row-and-return", b"0123456789abcdefghij\r\nk", "the pending wrap"),
     ("full-row-and-tab", b"0123456789abcdefghij\tk", "the pending wrap"),
-    ("full-row-and-backspace", b"0123456789abcdefghij\bk", "the pending wrap"), ("lone-continuation", b"a\x80b", MALFORMED),
-    ("overlong", b"a\xc0\xafb", MALFORMED), ("cut-by-text", b"a\xe4\xb8b", MALFORMED), ("cut-by-escape", b"a\xe4\xb8\x1b[2Cb", MALFORMED),
-    ("cut-by-control", b"a\xe4\xb8\x08b", MALFORMED), ("surrogate", b"a\xed\xa0\x80b", MALFORMED), ("above-the-last", b"a\xf4\x90\x80\x80b", MALFORMED),
+    ("full-row-and-backspace", b"0123456789abcdefghij\bk", "the pending wrap"),
+    ("lone-continuation", b"a\x80b", MALFORMED),
+    ("overlong", b"a\xc0\xafb", MALFORMED), ("cut-by-text", b"a\xe4\xb8b", MALFORMED),
+    ("cut-by-escape", b"a\xe4\xb8\x1b[2Cb", MALFORMED),
+    ("cut-by-control", b"a\xe4\xb8\x08b", MALFORMED), ("surrogate", b"a\xed\xa0\x80b", MALFORMED),
+    ("above-the-last", b"a\xf4\x90\x80\x80b", MALFORMED),
     ("byte-ff", b"a\xffb", MALFORMED), ("unfinished", b"ab\xe4\xb8", MALFORMED),
 ]  # fmt: skip
 
@@ -32,10 +39,14 @@ UNFINISHED = [
 ]  # fmt: skip
 
 LIMITS = [
-    ("saturated", b"ab\x1b[70000Dx", "numbers above 65,535"), ("modulo-two-to-the-32", b"ab\x1b[4294967298Cx", "numbers above 65,535"),
-    ("16-parameters", b"\x1b[" + b"1;" * 15 + b"31mx", ""), ("17-parameters", b"\x1b[" + b"1;" * 16 + b"31mx", "over 16 parameters"),
-    ("256-bytes", b"\x1b[" + b"0" * 252 + b"3Cx", "at most 256 bytes"), ("257-bytes", b"\x1b[" + b"0" * 255 + b"3Cx", "at most 256 bytes"),
-    ("intermediate", b"ab\x1b[2 Cx", "other sequences do nothing"), ("greater-than", b"ab\x1b[>2Cx", "other sequences do nothing"),
+    ("saturated", b"ab\x1b[70000Dx", "numbers above 65,535"),
+    ("modulo-two-to-the-32", b"ab\x1b[4294967298Cx", "numbers above 65,535"),
+    ("16-parameters", b"\x1b[" + b"1;" * 15 + b"31mx", ""),
+    ("17-parameters", b"\x1b[" + b"1;" * 16 + b"31mx", "over 16 parameters"),
+    ("256-bytes", b"\x1b[" + b"0" * 252 + b"3Cx", "at most 256 bytes"),
+    ("257-bytes", b"\x1b[" + b"0" * 255 + b"3Cx", "at most 256 bytes"),
+    ("intermediate", b"ab\x1b[2 Cx", "other sequences do nothing"),
+    ("greater-than", b"ab\x1b[>2Cx", "other sequences do nothing"),
     ("late-question-mark", b"ab\x1b[2?Cx", "other sequences do nothing"),
 ]  # fmt: skip
 
@@ -52,14 +63,18 @@ def table_cases():
             yield Case(f"table-{name}/{row[0]:02x}", paragraph, ROWS, COLUMNS, data)
 
 
+def with_own(own, of_page):
+    """The paragraph of the page, or with it the rule of this project's own that decides."""
+    return f"this project's own ({own}), with {of_page}" if own else of_page
+
+
 def cases():
     """All of them."""
     for name, data, own in UTF_8:
-        paragraph = "console_codes(4), DESCRIPTION, UTF-8 mode"
-        yield Case(f"text/{name}", f"this project's own ({own}), with {paragraph}" if own else paragraph, ROWS, COLUMNS, data)
+        yield Case(f"text/{name}", with_own(own, "console_codes(4), DESCRIPTION, UTF-8 mode"), ROWS, COLUMNS, data)
     for name, data in UNFINISHED:
         yield Case(f"unfinished/{name}", f"console_codes(4), {CONTROL}, ESC", ROWS, COLUMNS, data)
     for name, data, own in LIMITS:
-        paragraph = "console_codes(4), ECMA-48 CSI sequences, CSI"
-        yield Case(f"limits/{name}", f"this project's own ({own}), with {paragraph}" if own else paragraph, ROWS, COLUMNS, data)
+        paragraph = with_own(own, "console_codes(4), ECMA-48 CSI sequences, CSI")
+        yield Case(f"limits/{name}", paragraph, ROWS, COLUMNS, data)
     yield from table_cases()

@@ -86,12 +86,12 @@ def faults_of(name, found):
 
 
 def agreed(results):
-    """The lines of the cases in which two or more engines answer a part alike, and all of them otherwise than wanted."""
+    """The lines of the cases in which two or more engines answer a part alike, and otherwise than wanted."""
     lines = []
     for found in zip(*results.values(), strict=True):
         case = found[0].case
         for part in PARTS:
             told = [it.answer[part] for it in found if not it.fault and part in it.answer]
             if len(told) > 1 and told[0] != case.after[part] and all(it == told[0] for it in told):
-                lines.append(f"{len(told)} engines agree with each other and not with the corpus: {case.name}: {part}")
+                lines.append(f"{len(told)} engines agree, and not with the corpus: {case.name}: {part}")
     return lines

@@ -1,7 +1,7 @@
 """The shortest text that still differs: parts are left out of a case as long as engine and machine differ.
 
 First whole sequences and characters of the text go, as many at once as can be, and then bytes inside of a sequence, as
-long as it stays that sequence. What differs stays the same parts of the screen, so that one cause isn't lost for another.
+long as it stays that sequence. The same parts of the screen go on to differ, so that one cause isn't lost for another.
 """
 from dataclasses import replace
 
@@ -28,7 +28,8 @@ def atoms_of(data):
 
 def kinds_of(data):
     """What stays of a text that is cut inside of its sequences: how each begins and ends."""
-    return [(it[:2], it[-1:]) if it[:1] == b"\x1b" else it[:1] < b" " for it in (found[0] for found in UNITS.finditer(data))]
+    units = [found[0] for found in UNITS.finditer(data)]
+    return [(unit[:2], unit[-1:]) if unit[:1] == b"\x1b" else unit[:1] < b" " for unit in units]
 
 
 def still_differing(program, engine, candidates, parts):
@@ -52,7 +53,8 @@ def lessened(program, engine, result, atoms_in, keeps):
     size = max(len(atoms_in(result.case.data)) // 2, 1)
     for _ in range(ROUNDS):
         texts = [data for data in without(atoms_in(result.case.data), size) if keeps(data, result.case.data)]
-        found = still_differing(program, engine, [replace(result.case, data=data, cuts=()) for data in texts], result.parts)
+        candidates = [replace(result.case, data=data, cuts=()) for data in texts]
+        found = still_differing(program, engine, candidates, result.parts)
         if found:
             result = found
         elif size == 1:
@@ -68,6 +70,5 @@ def cut_down(program, engine, result):
     if whole is None:
         return result  # it is its cuts that make it differ
     result = lessened(program, engine, whole, atoms_of, lambda _data, _old: True)
-    return lessened(
-        program, engine, result, lambda data: [bytes([byte]) for byte in data], lambda data, old: kinds_of(data) == kinds_of(old)
-    )
+    bytes_in = lambda data: [bytes([byte]) for byte in data]  # noqa: E731
+    return lessened(program, engine, result, bytes_in, lambda data, old: kinds_of(data) == kinds_of(old))

@@ -68,11 +68,13 @@ class Device:
         """The answer, by what the three files gave."""
         rows, columns, column, row = shown[:4]
         if (rows, columns) != (case.rows, case.columns):
-            raise CaseFault(f"refuses: it has {rows} rows and {columns} columns, and {case.rows} and {case.columns} were wanted")
+            wanted = f"{case.rows} rows and {case.columns} columns were wanted"
+            raise CaseFault(f"refuses: {wanted}, and there are {rows} and {columns}")
         # Its second cell of a wide character is a blank.
         cells = [int.from_bytes(codes[at : at + 4], "little") for at in range(0, len(codes), 4)]
         for place in range(1, len(cells)):
-            if place % columns and cells[place] == 32 and unicodedata.east_asian_width(chr(cells[place - 1] % HALF)) in "WF":
+            before = chr(cells[place - 1] % HALF)
+            if place % columns and cells[place] == 32 and unicodedata.east_asian_width(before) in "WF":
                 cells[place] = HALF
         text = text_of(b"".join(cell.to_bytes(4, "little") for cell in cells), rows, columns)
         return {

@@ -36,7 +36,8 @@ def libvterm():
             raise Fault("libvterm: a C compiler was wanted for tools/conformance/libvterm.c")
         BUILT.mkdir(exist_ok=True)
         part = f"{built}.{os.getpid()}"
-        ran = subprocess.run([compiler, "-O2", "-o", part, source, "-lvterm"], capture_output=True, text=True, check=False)
+        words = [compiler, "-O2", "-o", part, source, "-lvterm"]
+        ran = subprocess.run(words, capture_output=True, text=True, check=False)
         if ran.returncode:
             why = ran.stderr.strip().splitlines()[:1] or ["no reason"]
             raise Fault(f"libvterm: its driver wasn't compiled; Debian's libvterm-dev was wanted: {why[0]}")

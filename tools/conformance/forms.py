@@ -1,7 +1,7 @@
 """The form of the corpus: one case a line of JSON, and what has to stand on the screen after it.
 
-examples/conformance/README.md describes the form. A line that is not of it is a `Fault`, with its file, its line and what
-was wanted there.
+examples/conformance/README.md describes the form. A line that is not of it is a `Fault`, with its file, its line and
+what was wanted there.
 """
 import json
 import pathlib
@@ -106,7 +106,8 @@ def case_of(made):
     if not is_bytes(made.get("bytes")):
         raise Fault('"bytes" has to be a string whose characters are below U+0100, one for each byte')
     data, cuts = made["bytes"].encode("latin-1"), made.get("cuts", [])
-    if not isinstance(cuts, list) or not all(is_number(it, 1, len(data) - 1) for it in cuts) or sorted(set(cuts)) != cuts:
+    are_inside = isinstance(cuts, list) and all(is_number(it, 1, len(data) - 1) for it in cuts)
+    if not are_inside or sorted(set(cuts)) != cuts:
         raise Fault('"cuts" has to be rising places inside the bytes')
     after = made.get("after")
     if not isinstance(after, dict) or set(after) != set(PARTS):

@@ -1,7 +1,7 @@
 """What stands on the proved machine's screen: cases are played by `vt play`, a console for each.
 
-A session has a process for each of up to 63 cases of one size. It opens a console of its own, writes the case's pieces, and
-dumps the attributes and the characters; the text after the journal has the cursor, the bells and the reports.
+A session has a process for each of up to 63 cases of one size. It opens a console of its own, writes the case's pieces,
+and dumps the attributes and the characters; the text after the journal has the cursor, the bells and the reports.
 """
 import re
 import subprocess
@@ -30,7 +30,8 @@ def session_of(cases):
     text += ["events = 1000000", "bytes = 1073741824"]
     for n, case in enumerate(cases, 1):
         items = [f"open {n}", *(f"write 0 {piece.hex()}" for piece in writes_of(case)), f"dump 1 {n}", f"dump 2 {n}"]
-        text += ["[[process]]", f"home = {n}", "privileged = true", "script = [" + ",".join(f"'{it}'" for it in items) + "]"]
+        script = ",".join(f"'{item}'" for item in items)
+        text += ["[[process]]", f"home = {n}", "privileged = true", f"script = [{script}]"]
     return "\n".join(text) + "\n"
 
 
@@ -50,7 +51,7 @@ def runs_of(attributes, columns):
 
 
 def text_of(codes, rows, columns):
-    """The rows as strings, without the blanks at their ends; the second cell of a wide character has no part in them."""
+    """The rows as strings, without the blanks at their ends; a wide character's second cell has no part in them."""
     cells = [int.from_bytes(codes[at : at + 4], "little") for at in range(0, len(codes), 4)]
     shown = [cells[row * columns : (row + 1) * columns] for row in range(rows)]
     return ["".join(chr(code) for code in row if code != HALF).rstrip(" ") for row in shown]
@@ -58,7 +59,8 @@ def text_of(codes, rows, columns):
 
 def afters_of(printed, cases):
     """What stands after each case, by what the play of their session printed."""
-    dumps = {(int(k), int(n)): bytes.fromhex(given) for k, n, given in re.findall(r" dump (\d) (\d+) = bytes (\w+)\n", printed)}
+    dumped = re.findall(r" dump (\d) (\d+) = bytes (\w+)\n", printed)
+    dumps = {(int(kind), int(n)): bytes.fromhex(given) for kind, n, given in dumped}
     screens = re.findall(r"^%screen (\d+) \d+ \d+ (\d+) (\d+) (\d+)$", printed, re.M)
     queues = dict(re.findall(r"^%queue (\d+) 0 (\S+)$", printed, re.M))
     told = {int(n): ([int(y), int(x)], int(bells)) for n, x, y, bells in screens}
@@ -109,7 +111,8 @@ def judge(program, cases):
     """What stands after each case, in their order."""
     batches, afters = batches_of(cases), [None] * len(cases)
     with ThreadPoolExecutor(AT_ONCE) as pool:
-        for batch, found in zip(batches, pool.map(lambda it: play(program, [cases[n] for n in it]), batches), strict=True):
+        played = pool.map(lambda batch: play(program, [cases[n] for n in batch]), batches)
+        for batch, found in zip(batches, played, strict=True):
             for place, after in zip(batch, found, strict=True):
                 afters[place] = after
     return afters

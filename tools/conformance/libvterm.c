@@ -1,4 +1,4 @@
-/* The adapter of libvterm, in the protocol of lines that docs/guide/write-a-terminal.md describes: an example of one in C. */
+/* The adapter of libvterm, an example of one in C: docs/guide/write-a-terminal.md describes the protocol of lines. */
 #include <stdint.h>
 #include <stdio.h>
 #include <stdlib.h>
@@ -114,7 +114,8 @@ static void print_pen(VTermScreen *screen, int row, int column, int *count)
     if (cell.chars[0] == (uint32_t)-1 && column) /* it has no pen of its own */
         vterm_screen_get_cell(screen, (VTermPos){ .row = row, .col = column - 1 }, &cell);
     int fg = VTERM_COLOR_IS_DEFAULT_FG(&cell.fg), bg = VTERM_COLOR_IS_DEFAULT_BG(&cell.bg);
-    int plain = !cell.attrs.bold && !cell.attrs.italic && !cell.attrs.underline && !cell.attrs.blink && !cell.attrs.reverse;
+    int plain = !cell.attrs.bold && !cell.attrs.italic && !cell.attrs.underline;
+    plain = plain && !cell.attrs.blink && !cell.attrs.reverse;
     if (fg && bg && plain)
         return;
     printf("%s[%d, %d, 1, ", (*count)++ ? ", " : "", row, column);

@@ -1,4 +1,4 @@
-"""A page of the cases that differ, whole in itself: bytes in words, the paragraph, both screens, differing cells marked."""
+"""A page of the cases that differ, whole in itself: bytes in words, the paragraph, both screens, marked cells."""
 import unicodedata
 from html import escape
 
@@ -7,9 +7,10 @@ from .words import in_words
 
 STYLE = """
 body { font: 15px/1.45 sans-serif; max-width: 72em; margin: 2em auto; padding: 0 1em; color: #222; background: #fff }
-table { border-collapse: collapse } th, td { padding: .1em .8em; text-align: right; border-bottom: 1px solid #ddd }
+table { border-collapse: collapse }
+th, td { padding: .1em .8em; text-align: right; border-bottom: 1px solid #ddd }
 th:first-child, td:first-child { text-align: left } section { margin: 2em 0; border-top: 2px solid #888 }
-pre { background: #222; color: #ddd; padding: .5em; display: inline-block; margin: .2em 1em .2em 0; vertical-align: top }
+pre { background: #222; color: #ddd; padding: .5em; margin: .2em 1em .2em 0; vertical-align: top }
 mark { background: #d33; color: #fff } u { text-decoration-color: #fc3; text-decoration-thickness: 3px }
 figure { display: inline-block; margin: 0 } figcaption { font-weight: bold } code { overflow-wrap: anywhere }
 """
@@ -39,7 +40,7 @@ def bytes_of(runs, rows, columns):
 def screen(mine, other, case):
     """A screen as HTML; cells that differ from the other one are marked, and the cursor's is underlined."""
     lines = []
-    pens, others = (bytes_of(it.get("attributes", case.after["attributes"]), case.rows, case.columns) for it in (mine, other))
+    pens, others = (bytes_of(it["attributes"], case.rows, case.columns) for it in (mine, other))
     for y in range(case.rows):
         cells, beside = (cells_of(it["text"][y], case.columns) for it in (mine, other))
         line = ""
@@ -91,5 +92,5 @@ def html(results):
     """The whole page."""
     sections = [section(name, it) for name, found in results.items() for it in found if it.kind == "differs"]
     head = f"<!DOCTYPE html><html lang=en><meta charset=utf-8><title>Engines beside vt</title><style>{STYLE}</style>"
-    about = "<p>Cells that differ are marked, and so are those whose attributes differ; the cursor's cell is underlined.</p>"
+    about = "<p>Cells that differ in character or attributes are marked; the cursor's cell is underlined.</p>"
     return "\n".join([head, "<h1>Engines beside vt</h1>", summary(results), about, *sections, "</html>"]) + "\n"

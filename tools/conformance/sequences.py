@@ -75,10 +75,12 @@ REGION_PROBE = b"x\x1b[4;1H\nv\x1b[6;3H\nw"
 NUMERIC = [
     Numeric("ICH", "@", "12"), Numeric("CUU", "A", "6"), Numeric("CUD", "B", "6"), Numeric("CUF", "C", "12"),
     Numeric("CUB", "D", "12"), Numeric("CNL", "E", "6"), Numeric("CPL", "F", "6"), Numeric("CHA", "G", "12"),
-    Numeric("CUP", "H", "6;12", "3;7", "9999;9999"), Numeric("ED", "J", "3", "2", "4"), Numeric("EL", "K", "2", "2", "3"),
+    Numeric("CUP", "H", "6;12", "3;7", "9999;9999"), Numeric("ED", "J", "3", "2", "4"),
+    Numeric("EL", "K", "2", "2", "3"),
     Numeric("IL", "L", "6", own=KEPT_COLUMN), Numeric("DL", "M", "6", own=KEPT_COLUMN), Numeric("DCH", "P", "12"),
     Numeric("ECH", "X", "12"), Numeric("HPR", "a", "12"), Numeric("VPA", "d", "6"), Numeric("VPR", "e", "6"),
-    Numeric("HVP", "f", "6;12", "3;7", "9999;9999"), Numeric("TBC", "g", "3", "2", "4", before=b"\x1b[9G", probe=b"\r\tx\ty"),
+    Numeric("HVP", "f", "6;12", "3;7", "9999;9999"),
+    Numeric("TBC", "g", "3", "2", "4", before=b"\x1b[9G", probe=b"\r\tx\ty"),
     Numeric("DECSTBM", "r", "1;6", "2;4", "2;9999", probe=REGION_PROBE), Numeric("HPA", "`", "12"),
 ]  # fmt: skip
 
@@ -100,15 +102,18 @@ def escape(name, paragraph, data, probe=b"x", before=b"", own="", at=MIDDLE, par
 
 
 CONTROLS = [
-    control("NUL", b"\0"), control("BEL", b"\a"), control("BS", b"\b"), control("HT", b"\t"), control("LF", b"\n", at=LAST),
-    control("VT", b"\v", at=LAST), control("FF", b"\f", at=LAST), control("CR", b"\r"), control("SO", b"\x0e", b"q", SHIFTS),
+    control("NUL", b"\0"), control("BEL", b"\a"), control("BS", b"\b"), control("HT", b"\t"),
+    control("LF", b"\n", at=LAST),
+    control("VT", b"\v", at=LAST), control("FF", b"\f", at=LAST), control("CR", b"\r"),
+    control("SO", b"\x0e", b"q", SHIFTS),
     control("SI", b"\x0f", b"q", SHIFTS), control("CAN", b"\x18"), control("SUB", b"\x1a"), control("DEL", b"\x7f"),
     Sequence("CSI", CONTROL, "CSI", b"\xc2\x9b2C"), Sequence("ESC", CONTROL, "ESC", b"\x1b\x1b[2C"),
 ]  # fmt: skip
 
 ESCAPES = [
     escape("RIS", "ESC c", b"c", own="what a reset keeps"), escape("IND", "ESC D", b"D", at=LAST),
-    escape("NEL", "ESC E", b"E", at=LAST), escape("HTS", "ESC H", b"H", b"\r\tx"), escape("RI", "ESC M", b"M", at=FIRST),
+    escape("NEL", "ESC E", b"E", at=LAST), escape("HTS", "ESC H", b"H", b"\r\tx"),
+    escape("RI", "ESC M", b"M", at=FIRST),
     escape("DECID", "ESC Z", b"Z"), escape("DECSC", "ESC 7", b"7", b"\x1b[2;2H\x1b[31mk\x1b8x"),
     escape("DECRC", "ESC 8", b"8", before=b"\x1b7\x1b[2;2H\x1b[32m"), escape("byte-text", "ESC % @", b"%@", b"\xe9x"),
     escape("utf8-text", "ESC % G", b"%G", "é中x".encode(), b"\x1b%@"),
@@ -160,16 +165,21 @@ def csi(name, part, paragraph, data, probe=b"x", before=b"", own=""):
 
 SILENT = "what makes no difference on a screen"
 REST = [
-    csi("SCOSC", CSI, "s", b"s", b"\x1b[2;2H\x1b[31mk\x1b[ux"), csi("SCORC", CSI, "u", b"u", before=b"\x1b[s\x1b[2;2H\x1b[32m"),
+    csi("SCOSC", CSI, "s", b"s", b"\x1b[2;2H\x1b[31mk\x1b[ux"),
+    csi("SCORC", CSI, "u", b"u", before=b"\x1b[s\x1b[2;2H\x1b[32m"),
     csi("DA", CSI, "DA", b"c"), csi("DA-0", CSI, "DA", b"0c"), csi("DSR", STATUS, "ESC [ 5 n", b"5n"),
     csi("CPR", STATUS, "ESC [ 6 n", b"6n"), *(csi(f"DECLL-{n}", CSI, "DECLL", f"{n}q".encode()) for n in range(4)),
     csi("underline-colour", LINUX, "ESC [ 1 ; n ]", b"1;9]", b"\x1b[4mu\x1b[24mx"),
     csi("dim-colour", LINUX, "ESC [ 2 ; n ]", b"2;9]", b"\x1b[2mu\x1b[22mx"),
     csi("default-pair", LINUX, "ESC [ 8 ]", b"8]", b"x\x1b[0my\x1b[Kz", b"\x1b[32;44m"),
-    csi("blank-time", LINUX, "ESC [ 9 ; n ]", b"9;5]", own=SILENT), csi("bell-pitch", LINUX, "ESC [ 10 ; n ]", b"10;440]", own=SILENT),
-    csi("bell-length", LINUX, "ESC [ 11 ; n ]", b"11;100]", own=SILENT), csi("console", LINUX, "ESC [ 12 ; n ]", b"12;1]"),
-    csi("unblank", LINUX, "ESC [ 13 ]", b"13]", own=SILENT), csi("powerdown", LINUX, "ESC [ 14 ; n ]", b"14;5]", own=SILENT),
-    csi("previous-console", LINUX, "ESC [ 15 ]", b"15]"), csi("cursor-blink", LINUX, "ESC [ 16 ; n ]", b"16;200]", own=SILENT),
+    csi("blank-time", LINUX, "ESC [ 9 ; n ]", b"9;5]", own=SILENT),
+    csi("bell-pitch", LINUX, "ESC [ 10 ; n ]", b"10;440]", own=SILENT),
+    csi("bell-length", LINUX, "ESC [ 11 ; n ]", b"11;100]", own=SILENT),
+    csi("console", LINUX, "ESC [ 12 ; n ]", b"12;1]"),
+    csi("unblank", LINUX, "ESC [ 13 ]", b"13]", own=SILENT),
+    csi("powerdown", LINUX, "ESC [ 14 ; n ]", b"14;5]", own=SILENT),
+    csi("previous-console", LINUX, "ESC [ 15 ]", b"15]"),
+    csi("cursor-blink", LINUX, "ESC [ 16 ; n ]", b"16;200]", own=SILENT),
     csi("function-key", CSI, "CSI [", b"[A"), csi("other-final", CSI, "CSI", b"3y", own="other sequences do nothing"),
 ]  # fmt: skip
 

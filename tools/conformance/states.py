@@ -1,4 +1,4 @@
-"""The states of the screen in which the sequences are tried: what is written before them on six rows of twelve columns."""
+"""The states of the screen in which the sequences are tried, on six rows of twelve columns: what is written before."""
 
 ROWS, COLUMNS = 6, 12
 FILL = b"0123456789ABCDEFGHIJKLMNOPQRSTUVWXYZabcdefghijklmnopqrstuvwxyz!#$%&*+-=@"

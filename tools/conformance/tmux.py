@@ -1,8 +1,8 @@
 """The engine tmux: a pane of the case's size, whose rows and cursor it captures.
 
 The pane runs sleep(1), and the case is written to its terminal. A client in control mode is told each byte that the
-server has read from the pane, so that a case is captured when all of it has been read. Colours, reports and bells aren't
-asked for.
+server has read from the pane, so that a case is captured when all of it has been read. Colours, reports and bells
+aren't asked for.
 """
 import os
 import re
@@ -18,6 +18,21 @@ from .adapters import SECONDS, CaseFault
 from .forms import Fault
 
 ESCAPED = re.compile(rb"\\([0-7]{3})")
+COLOURS = re.compile("\x1b\\[[0-9;:]*m")
+# The VT100 graphics from ` to ~, as tmux shows them on a UTF-8 terminal.
+GRAPHICS = dict(zip(range(0x60, 0x7F), "◆▒␉␌␍␊°±␤␋┘┐┌└┼⎺⎻─⎼⎽├┤┴┬│≤≥π≠£·", strict=True))
+
+
+def row_of(line):
+    """The characters of a captured row, which holds colours, and SO and SI around VT100 graphics."""
+    parts = re.split("([\x0e\x0f])", COLOURS.sub("", line.decode("utf-8", "replace")))
+    is_drawn, row = False, ""
+    for part in parts:
+        if part in ("\x0e", "\x0f"):
+            is_drawn = part == "\x0e"
+        else:
+            row += part.translate(GRAPHICS) if is_drawn else part
+    return row.rstrip(" ")
 
 
 class Tmux:
@@ -33,7 +48,8 @@ class Tmux:
     def start(self):
         """Starts the server, whose socket and cases are in a folder of their own."""
         self.folder = tempfile.TemporaryDirectory()
-        words = ["tmux", "-S", f"{self.folder.name}/socket", "-f", os.devnull, "-u", "-C", "new-session", "sleep 100000"]
+        socket = f"{self.folder.name}/socket"
+        words = ["tmux", "-S", socket, "-f", os.devnull, "-u", "-C", "new-session", "sleep 100000"]
         kept = {name: value for name, value in os.environ.items() if name not in ("TMUX", "TMUX_PANE")}
         pipes = {"stdin": subprocess.PIPE, "stdout": subprocess.PIPE, "stderr": subprocess.DEVNULL}
         self.process = subprocess.Popen(words, env={**kept, "LC_ALL": "C.UTF-8"}, bufsize=0, **pipes)
@@ -121,7 +137,11 @@ class Tmux:
         self.read_by_pane(len(case.data))
         place = self.command("display-message -p '#{cursor_y} #{cursor_x}'")
         row, column = (int(number) for number in place[0].split())
-        text = [line.decode("utf-8", "replace").rstrip(" ") for line in self.command("capture-pane -p")]
+        lines, drawn = self.command("capture-pane -p -e"), b""
+        text = []
+        for line in lines:
+            text.append(row_of(drawn + line))  # graphics that a row ends with go on in the next one
+            drawn = b"\x0e" if (drawn + line).rfind(b"\x0e") > (drawn + line).rfind(b"\x0f") else b""
         text += [""] * (case.rows - len(text))
         return {"text": text, "cursor": [row, min(column, case.columns - 1)]}
 

@@ -5,11 +5,15 @@ from .sequences import NUMERIC, PLAIN
 
 UNITS = re.compile(
     rb"\x1b\[\[.|(?:\x1b\[|\xc2\x9b)[\x20-\x3f]*[\x40-\x7e]|\x1b\]P[0-9a-fA-F]{7}|\x1b\]R"
-    rb"|\x1b[\]PX^_][^\a\x18\x1a\x1b]*(?:\a|\x1b\\)?|\x1b[\x20-\x2f]*[\x30-\x7e]|[\0-\x1f\x7f]|(?:[^\0-\x1f\x7f\xc2]|\xc2(?!\x9b))+",
+    rb"|\x1b[\]PX^_][^\a\x18\x1a\x1b]*(?:\a|\x1b\\)?|\x1b[\x20-\x2f]*[\x30-\x7e]|[\0-\x1f\x7f]"
+    rb"|(?:[^\0-\x1f\x7f\xc2]|\xc2(?!\x9b))+",
     re.S,
 )
 NAMES = {sequence.data: sequence.name for sequence in PLAIN}
-FINALS = {**{row.final: row.name for row in NUMERIC}, "m": "SGR", "h": "SM", "l": "RM", "n": "DSR", "q": "DECLL", "s": "SCOSC", "u": "SCORC"}
+FINALS = {
+    **{row.final: row.name for row in NUMERIC},
+    "m": "SGR", "h": "SM", "l": "RM", "n": "DSR", "q": "DECLL", "s": "SCOSC", "u": "SCORC",
+}  # fmt: skip
 
 
 def spelled(data):
