@@ -11,6 +11,7 @@ case, or has a fault there; with status 2 if something that was named is missing
 import argparse
 import os
 import pathlib
+import signal
 import sys
 
 sys.dont_write_bytecode = True
@@ -80,6 +81,7 @@ def main():
     words.add_argument("--first", action="store_true", help="show the shortest differing case, cut down")
     words.add_argument("--html", metavar="FILE", help="write a page of the differing cases")
     sys.stdout.reconfigure(errors="backslashreplace")
+    signal.signal(signal.SIGTERM, lambda *_: sys.exit(2))  # so that engines are stopped
     try:
         return run(words.parse_args())
     except BrokenPipeError:

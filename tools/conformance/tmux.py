@@ -18,6 +18,9 @@ from .adapters import SECONDS, CaseFault
 from .forms import Fault
 
 ESCAPED = re.compile(rb"\\([0-7]{3})")
+OPTIONS = ["status off", "window-size manual", "history-limit 0", "automatic-rename off"]
+# How many seconds a pane, and with it the server, lives if this program is killed.
+LIFE = 60
 COLOURS = re.compile("\x1b\\[[0-9;:]*m")
 # The VT100 graphics from ` to ~, as tmux shows them on a UTF-8 terminal.
 GRAPHICS = dict(zip(range(0x60, 0x7F), "◆▒␉␌␍␊°±␤␋┘┐┌└┼⎺⎻─⎼⎽├┤┴┬│≤≥π≠£·", strict=True))
@@ -49,12 +52,12 @@ class Tmux:
         """Starts the server, whose socket and cases are in a folder of their own."""
         self.folder = tempfile.TemporaryDirectory()
         socket = f"{self.folder.name}/socket"
-        words = ["tmux", "-S", socket, "-f", os.devnull, "-u", "-C", "new-session", "sleep 100000"]
+        words = ["tmux", "-S", socket, "-f", os.devnull, "-u", "-C", "new-session", f"sleep {LIFE}"]
         kept = {name: value for name, value in os.environ.items() if name not in ("TMUX", "TMUX_PANE")}
         pipes = {"stdin": subprocess.PIPE, "stdout": subprocess.PIPE, "stderr": subprocess.DEVNULL}
         self.process = subprocess.Popen(words, env={**kept, "LC_ALL": "C.UTF-8"}, bufsize=0, **pipes)
         self.left, self.size = b"", None
-        for option in ("status off", "window-size manual", "history-limit 0", "automatic-rename off"):
+        for option in OPTIONS:
             self.command(f"set-option -g {option}")
 
     def stop(self):
@@ -132,7 +135,7 @@ class Tmux:
         if self.size != (case.rows, case.columns):
             self.command(f"resize-window -x {case.columns} -y {case.rows}")
             self.size = (case.rows, case.columns)
-        self.command("respawn-pane -k sleep 100000")
+        self.command(f"respawn-pane -k sleep {LIFE}")
         self.write(self.command("display-message -p '#{pane_tty}'")[0], case)
         self.read_by_pane(len(case.data))
         place = self.command("display-message -p '#{cursor_y} #{cursor_x}'")
