@@ -15,7 +15,7 @@ MOST_ITEMS = 10_000
 HALF = 0x110000
 PLAIN = 7
 AT_ONCE = 2
-SECONDS = 120
+SECONDS = 600
 
 
 def writes_of(case):

@@ -49,7 +49,7 @@ def screen(mine, other, case):
             differs = x >= len(beside) or cell != beside[x] or (x < case.columns and pens[y][x] != others[y][x])
             shown = f"<u>{shown}</u>" if mine.get("cursor") == [y, x] else shown
             line += f"<mark>{shown or ' '}</mark>" if differs else shown
-        lines.append(line)
+        lines.append(line.replace("</mark><mark>", ""))
     return "<pre>" + "\n".join(lines) + "</pre>"
 
 
