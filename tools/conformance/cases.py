@@ -2,7 +2,6 @@
 
 `stored` makes the families of the stored corpus, by the names of their files; `random_case` makes any number more.
 """
-import pathlib
 import random
 
 from . import characters, pens_cases
@@ -101,7 +100,7 @@ def pair_cases(count):
 def recording_cases():
     """What six programs wrote to a terminal."""
     for name in RECORDINGS:
-        data = (pathlib.Path(TOP) / "examples" / "recordings" / name).read_bytes()
+        data = (TOP / "examples" / "recordings" / name).read_bytes()
         yield Case(f"recordings/{name}", "console_codes(4): what a program writes (examples/recordings)", 25, 80, data)
 
 
