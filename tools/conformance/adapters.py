@@ -50,6 +50,12 @@ def answer_of(line, number, case):
     return {**answer, "text": [row.rstrip(" ") for row in answer["text"]]} if "text" in answer else answer
 
 
+def write_all(terminal, data):
+    """Writes all of the bytes to a terminal."""
+    while data:
+        data = data[os.write(terminal, data) :]
+
+
 class Program:
     """An engine that is a program with the protocol of lines."""
 

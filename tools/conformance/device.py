@@ -7,7 +7,7 @@ import termios
 import tty
 import unicodedata
 
-from .adapters import CaseFault
+from .adapters import CaseFault, write_all
 from .forms import Fault
 from .judge import HALF, runs_of, text_of
 
@@ -43,8 +43,6 @@ class Device:
         front = os.open("/dev/tty0", os.O_WRONLY | os.O_NOCTTY)
         try:
             fcntl.ioctl(front, VT_DISALLOCATE, self.number)
-        except OSError:
-            pass  # it was never used
         finally:
             os.close(front)
         console = os.open(self.path("tty"), os.O_RDWR | os.O_NOCTTY | os.O_NONBLOCK)
@@ -52,7 +50,7 @@ class Device:
             tty.setraw(console)
             fcntl.ioctl(console, termios.TIOCSWINSZ, struct.pack("4H", case.rows, case.columns, 0, 0))
             for piece in case.pieces():
-                os.write(console, piece)
+                write_all(console, piece)
             reports = b""
             while select.select([console], [], [], WAIT)[0]:
                 reports += os.read(console, 4096)

@@ -14,7 +14,7 @@ import termios
 import time
 import tty
 
-from .adapters import SECONDS, CaseFault
+from .adapters import SECONDS, CaseFault, write_all
 from .forms import Fault
 
 ESCAPED = re.compile(rb"\\([0-7]{3})")
@@ -122,7 +122,7 @@ class Tmux:
             try:
                 tty.setraw(terminal)
                 for piece in case.pieces():
-                    os.write(terminal, piece)
+                    write_all(terminal, piece)
             finally:
                 os.close(terminal)
         except (OSError, termios.error) as fault:
