@@ -126,7 +126,7 @@ class Compiler:
         if number > 0xFFFF:
             return None
         if number >= 0x1000:
-            return number ^ 0xF000
+            return number ^ 0xF000 if number ^ 0xF000 >= 0x80 else number
         if number < 0x80 or number > 0xFF:
             return 0xF000 + number
         return LATIN + number if self.narrow else self.byte(number)
@@ -144,7 +144,7 @@ class Compiler:
         elif word.kind == "number":
             action = self.numbered(word.value)
         elif word.kind == "unicode":
-            action = word.value
+            action = word.value if word.value >= 0x80 else LATIN + word.value
         if action is None:
             self.refuse(f"{spelled}: kbd has no such symbol")
         return (self.letter(action, word.kind) if is_letter else action), spelled
