@@ -32,6 +32,7 @@ HOLE = 0xF200
 SHIFTED = "with U+Exxx for each U+Fxxx"
 
 Kbd = collections.namedtuple("Kbd", "maps strings pairs")
+Verdict = collections.namedtuple("Verdict", "word line names entries")
 
 
 class ProgramError(Exception):
@@ -177,37 +178,43 @@ def names_lost(losses, lost):
     return collections.Counter(names[entry] for entry in lost)
 
 
-def compare(program, actions, name, charset, search):
-    """Returns the verdict on one keymap: a word, a line, and the names that were lost with their numbers."""
+def converted_keymap(name, charset, search):
+    """Returns the converted keymap, with the text that was read if it came from standard input."""
     text = sys.stdin.buffer.read() if name == "-" else None
-    converted = keymap.convert(name, charset, search, text=None if text is None else text.decode("latin-1"))
-    path = None if text is not None else kbd_text.keymap_path(name, search)
-    theirs, repair = judged_tables(path, text)
-    ours = vt_tables_of(program, converted.text)
-    listed = {loss.entry for loss in converted.losses}
+    return keymap.convert(name, charset, search, text=None if text is None else text.decode("latin-1")), text
+
+
+def different(lines, note, converted):
+    """Returns the verdict on tables that differ."""
+    shown = "".join(f"\n    {line}" for line in lines[:20])
+    return Verdict("different", f"different: {len(lines)}{note}{shown}", {}, converted.entries)
+
+
+def compare(program, actions, name, charset="", search=()):
+    """Returns the verdict on one keymap."""
+    converted, text = converted_keymap(name, charset, search)
+    theirs, repair = judged_tables(None if text is not None else kbd_text.keymap_path(name, search), text)
     if repair == SHIFTED:
         actions = actions | {number: (1, number + 0x1000) for number in range(0xE000, 0xF000)}
-    lost, lines = differences(theirs, ours, actions, listed)
-    after = f" (loadkeys took it {repair})" if repair else ""
+    listed = {loss.entry for loss in converted.losses}
+    lost, lines = differences(theirs, vt_tables_of(program, converted.text), actions, listed)
+    note = f" (loadkeys took it {repair})" if repair else ""
     if lines:
-        return "different", f"different: {len(lines)}{after}\n" + "".join(f"    {line}\n" for line in lines[:20]).rstrip(), {}
+        return different(lines, note, converted)
     names = names_lost(converted.losses, lost)
-    if lost:
-        by_name = ", ".join(f"{name} {count}" for name, count in names.most_common())
-        return "lost", f"same but for {len(lost)} entries{after}: {by_name}", names
-    return "same", f"same{after}", {}
+    by_name = ", ".join(f"{name} {count}" for name, count in names.most_common())
+    line = f"same but for {len(lost)} entries{note}: {by_name}" if lost else f"same{note}"
+    return Verdict("lost" if lost else "same", line, names, converted.entries)
 
 
-def compare_back(program, actions, name, charset, search):
+def compare_back(program, actions, name, charset="", search=()):
     """Returns the verdict on the way back: the dump of the converted keymap, read by loadkeys."""
-    text = sys.stdin.buffer.read() if name == "-" else None
-    converted = keymap.convert(name, charset, search, text=None if text is None else text.decode("latin-1"))
+    converted, _ = converted_keymap(name, charset, search)
     dump = run([program, "dumpkeys"], converted.text.encode())
-    theirs = kbd_tables_of(dump.encode("latin-1"))
-    lost, lines = differences(theirs, vt_tables_of(program, converted.text), actions, set())
+    lost, lines = differences(kbd_tables_of(dump.encode("latin-1")), vt_tables_of(program, converted.text), actions, set())
     if lines or lost:
-        return "different", f"different: {len(lines)}\n" + "".join(f"    {line}\n" for line in lines[:20]).rstrip(), {}
-    return "same", "the dump has the same tables in loadkeys", {}
+        return different(lines, "", converted)
+    return Verdict("same", "the dump has the same tables in loadkeys", {}, converted.entries)
 
 
 def words():
@@ -231,11 +238,11 @@ def main():
     found = set()
     for name in asked.files:
         try:
-            verdict, line, _ = (compare_back if asked.back else compare)(asked.vt, actions, name, asked.charset, asked.search)
+            verdict = (compare_back if asked.back else compare)(asked.vt, actions, name, asked.charset, asked.search)
         except (KeymapError, ProgramError, OSError) as error:
-            verdict, line = "refused", f"not compared: {error}"
-        found.add(verdict)
-        print(f"{name}: {line}", flush=True)
+            verdict = Verdict("refused", f"not compared: {error}", {}, 0)
+        found.add(verdict.word)
+        print(f"{name}: {verdict.line}", flush=True)
     return 1 if "different" in found else 3 if "refused" in found else 0
 
 
