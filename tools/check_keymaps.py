@@ -4,11 +4,12 @@
 usage: tools/check_keymaps.py [--vt PROGRAM] [COUNT]
 
 - Each line of examples/keymaps/typed.txt is typed with the converted keymap by `vt type`, and gives its text.
-- What vt lists of a converted keymap are the tables that the converter compiled, also of COUNT damaged keymaps (500 if no
-  COUNT is given), made from fixed seeds; a damaged one may be refused instead, with its file and line. The converter, run as
-  a program, ends with a named status on some of them, and no run prints a traceback.
-- What is lost is listed, and --strict refuses it; what can't be read is refused with a reason.
-- tools/why.py explains lines of vt.
+- For a converted keymap vt lists the tables that the converter compiled. The same holds of COUNT damaged keymaps
+  (default: 500), made from fixed seeds, except for those that are refused with their file and line. The converter,
+  run as a program, ends with status 0 or 1 on some of them, and no run prints a traceback.
+- Each entry that is lost is listed, and --strict refuses the keymap; a file that can't be read is refused with a
+  reason.
+- tools/why.py explains lines of vt, and docs/guide/bring-your-keymap.md shows what its commands print.
 
 It needs neither kbd nor its keymaps. Prints a line for each fault and last 'N passed, M failed'; status 1 if one fails.
 """
@@ -21,6 +22,7 @@ import subprocess
 import sys
 import tempfile
 
+import check_pages
 import compare_keymap
 import kbd_tables
 import kbd_text
@@ -35,17 +37,22 @@ SECONDS = 60
 
 # Pieces of keymaps to put where they don't belong.
 PIECES = [
-    b"keymaps 0-255\n", b"keymaps 3-1,\n", b"keycode 0 = a\n", b"keycode 300 = a b\n", b"keycode 30 =\n", b"include \"pc\"\n",
-    b"include \"german.map\"\n", b"include \"\"\n", b"include \"\0\"\n", b"charset \"koi8-r\"\n", b"charset \"nix\"\n", b"charset \"zip\"\n",
-    b"compose '\\345' 'a' to '\\377'\n", b"compose as usual for \"iso-8859-1\"\n", b"string F200 = \"\\400\\777\\9\"\n",
-    b"alt_is_meta\n", b"U+D800", b"U+FFFF", b"U+1F600", b"+U+0451", b"+F5", b"0x0d22", b"0x0e04", b"08", b"99999999999999999999",
-    b"Meta_Meta_a", b"Meta_eacute", b"capsshift keycode 3 = b\n", b"shiftl ctrlr keycode 3 = b\n", b"\\", b"\\\n", b"\"", b"'", b"'''",
-    b"\xff", b"\0", b"\r\n", b"=", b"+", b"-", b",", b"!", b"\xc3\xa4", b"Hex_3 ", b"KP_MinPlus ", b"Brl_dot1 ", b"dead_macron ",
+    b"keymaps 0-255\n", b"keymaps 3-1,\n", b"keycode 0 = a\n", b"keycode 300 = a b\n", b"keycode 30 =\n",
+    b"include \"pc\"\n", b"include \"german.map\"\n", b"include \"\"\n", b"include \"\0\"\n", b"charset \"koi8-r\"\n",
+    b"charset \"nix\"\n", b"charset \"zip\"\n", b"compose '\\345' 'a' to '\\377'\n",
+    b"compose as usual for \"iso-8859-1\"\n", b"string F200 = \"\\400\\777\\9\"\n", b"alt_is_meta\n", b"U+D800",
+    b"U+FFFF", b"U+1F600", b"+U+0451", b"+F5", b"0x0d22", b"0x0e04", b"08", b"99999999999999999999", b"Meta_Meta_a",
+    b"Meta_eacute", b"capsshift keycode 3 = b\n", b"shiftl ctrlr keycode 3 = b\n", b"\\", b"\\\n", b"\"", b"'", b"'''",
+    b"\xff", b"\0", b"\r\n", b"=", b"+", b"-", b",", b"!", b"\xc3\xa4", b"Hex_3 ", b"KP_MinPlus ", b"Brl_dot1 ",
+    b"dead_macron ",
 ]  # fmt: skip
 
 # What vt writes on err for a keymap, and what tools/why.py has to say about it: parts of its lines.
 EXPLAINED = [
-    ("keymaps 0-2\n\tkeycode 31 = +aogonek\n", ["keymap:2:15: an unknown symbol", "\t             ^^^^^^^^", "U+0105", "+U+0105"]),
+    (
+        "keymaps 0-2\n\tkeycode 31 = +aogonek\n",
+        ["keymap:2:15: an unknown symbol", "\t             ^^^^^^^^", "U+0105", "+U+0105"],
+    ),
     ("keycode 30 = Hex_1\n", ["VoidSymbol", "Ascii_0"]),
     ("keycode 30 = pound\n", ["sterling"]),
     ("keycode 30 = 0x0305\n", ["KP_5"]),
@@ -53,7 +60,7 @@ EXPLAINED = [
     ("keycode 30 = \u00e4\n", ["U+00E4"]),
     ("keycode 30=a\n", ["30 = a"]),
     ("keycode 0 = a\n", ["No key has keycode 0"]),
-    ("include \"pc\"\n", ["tools/keymap.py"]),
+    ('include "pc"\n', ["tools/keymap.py"]),
     ("capsshift keycode 3 = a\n", ["vt has eight"]),
     ("keycode 30 = a\nkeymaps 0\n", ["put all keymaps lines in front"]),
 ]
@@ -97,7 +104,8 @@ def example_faults(program):
     for name, keys, wanted in typed_lines():
         found = typed(program, texts[name], keys)
         same = found == wanted.encode()
-        yield None if same else f"typed.txt: {name}: {keys}: types {found.decode('utf-8', 'replace')!r}, and not {wanted!r}"
+        found = found.decode("utf-8", "replace")
+        yield None if same else f"typed.txt: {name}: {keys}: types {found!r}, and not {wanted!r}"
 
 
 def listing_fault(program, made, path, text):
@@ -113,7 +121,9 @@ def listing_fault(program, made, path, text):
         return f"vt doesn't take what was made of it: {error}"
     if found.maps != wanted:
         return "vt has other tables than the converter"
-    strings = {key: string for key, (string, *_) in converter.tables.strings.items() if 0 < len(string) <= keymap.STRING}
+    strings = {
+        key: string for key, (string, *_) in converter.tables.strings.items() if 0 < len(string) <= keymap.STRING
+    }
     if found.strings != strings:
         return "vt has other strings than the converter"
     pairs = [pair[:3] for pair in converter.tables.pairs if not any(0xD800 <= code < 0xE000 for code in pair[:3])]
@@ -172,7 +182,8 @@ def program_faults(count):
     for i in range(count):
         ran = run_keymap(["--search", FOLDER, "-"], damaged(random.Random(f"program {i}"), seed))
         is_named = ran.returncode == 0 or ran.returncode == 1 and ran.stderr and not ran.stdout
-        yield None if is_named and b"Traceback" not in ran.stderr else f"program {i}: ended with {ran.returncode}: {ran.stderr[-200:]!r}"
+        is_right = is_named and b"Traceback" not in ran.stderr
+        yield None if is_right else f"program {i}: ended with {ran.returncode}: {ran.stderr[-200:]!r}"
 
 
 def lost_faults():
@@ -203,11 +214,14 @@ def refused_faults():
             (["--charset", "nix", place / "whole.map"], "no such character set"),
         ]:
             ran = run_keymap(words)
-            yield None if ran.returncode == 1 and part in ran.stderr.decode() else f"{words}: {ran.returncode}: {ran.stderr!r}"
+            is_refused = ran.returncode == 1 and part in ran.stderr.decode()
+            yield None if is_refused else f"{words}: {ran.returncode}: {ran.stderr!r}"
         ran = run_keymap(["--search", place / "parts", place / "whole.map"])
         yield None if ran.returncode == 0 and b"keycode 30 = +a" in ran.stdout else f"--search: {ran.stderr!r}"
         ran = run_keymap(["--usual", "-"], b"keycode 30 = a\n")
-        yield None if ran.stdout.count(b"compose ") == 68 and b"string F1 = " in ran.stdout else f"--usual: {ran.stderr!r}"
+        yield None if ran.stdout.count(
+            b"compose "
+        ) == 68 and b"string F1 = " in ran.stdout else f"--usual: {ran.stderr!r}"
         ran = run_keymap(["--charset", "iso-8859-2", "-"], b"keycode 30 = 0xb1\ncompose ',' 'a' to '\\261'\n")
         yield None if ran.stdout.count(b"U+0105") == 2 else f"--charset: {ran.stdout!r}"
 
@@ -220,7 +234,9 @@ def name_faults():
         if number is None:
             yield f"{name}: kbd's names don't have it"
         elif not name.startswith("+"):
-            yield None if keymap.action_of(number) == action else f"{name}: made {keymap.action_of(number)}, and it is {action}"
+            yield None if keymap.action_of(
+                number
+            ) == action else f"{name}: made {keymap.action_of(number)}, and it is {action}"
 
 
 def why_faults(program):
@@ -229,20 +245,39 @@ def why_faults(program):
         path = pathlib.Path(folder) / "keymap"
         for text, parts in EXPLAINED:
             path.write_text(text, encoding="utf-8")
-            err = subprocess.run([program, "keys"], input=text.encode(), capture_output=True, timeout=SECONDS, check=False).stderr
-            ran = subprocess.run([sys.executable, TOOLS / "why.py", path], input=err, capture_output=True, timeout=SECONDS, check=False)
+            err = subprocess.run(
+                [program, "keys"], input=text.encode(), capture_output=True, timeout=SECONDS, check=False
+            ).stderr
+            ran = subprocess.run(
+                [sys.executable, TOOLS / "why.py", path], input=err, capture_output=True, timeout=SECONDS, check=False
+            )
             told = ran.stdout.decode()
             missing = [part for part in parts if part not in told]
             yield f"why.py: {text!r}: no {missing} in {told!r} {ran.stderr!r}" if missing or ran.returncode else None
 
 
+def page_faults():
+    """Gives a fault for each command of the guide that prints something else."""
+    yield None
+    yield from check_pages.page_faults(ROOT / "docs/guide/bring-your-keymap.md")
+
+
 def main():
     parser = argparse.ArgumentParser(description="Checks that keymaps of kbd come in.")
     parser.add_argument("count", nargs="?", type=int, default=500, help="how many damaged keymaps (default: 500)")
-    parser.add_argument("--vt", default=compare_keymap.VT, metavar="PROGRAM", help="the program vt (default: crates/vt/out/vt)")
+    parser.add_argument(
+        "--vt", default=compare_keymap.VT, metavar="PROGRAM", help="the program vt (default: crates/vt/out/vt)"
+    )
     asked = parser.parse_args()
     passed = failed = 0
-    groups = [example_faults(asked.vt), name_faults(), lost_faults(), refused_faults(), why_faults(asked.vt)]
+    groups = [
+        example_faults(asked.vt),
+        name_faults(),
+        lost_faults(),
+        refused_faults(),
+        why_faults(asked.vt),
+        page_faults(),
+    ]
     for group in [*groups, program_faults(asked.count // 20), damage_faults(asked.vt, asked.count)]:
         for fault in group:
             passed, failed = passed + (not fault), failed + bool(fault)

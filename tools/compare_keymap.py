@@ -3,13 +3,13 @@
 
 usage: tools/compare_keymap.py [--vt PROGRAM] [--back] [--charset C] [--search DIR]... FILE...
 
-For each FILE a line: `same`; `same but for N entries` that tools/keymap.py listed, by name; or `different`, with the first
-twenty differences below. --back goes the other way: `vt dumpkeys` of the converted keymap, read by loadkeys, has to have the
-tables that `vt keys` lists. A keymap that loadkeys refuses is compared with the nearest one that it takes, if one of the
-repairs below makes one, and the line names the repair. Which number of kbd is which action of vt is not taken from
-tools/keymap.py: both programs read the same names, and what they make of a name is the same action.
-It needs loadkeys (Debian: apt-get install kbd); nothing is loaded into a console. Status 1 means that one is different, 3
-that loadkeys or the converter refused one, and 0 neither.
+It prints a line for each FILE: `same`; `same but for N entries` that tools/keymap.py listed, by name; or `different`,
+with the first twenty differences. --back goes the other way: loadkeys reads the dump that `vt dumpkeys` makes of the
+converted keymap, and its tables have to be those that `vt keys` lists. If loadkeys refuses a keymap, a repaired copy
+is compared, and the line names the repair. The tool doesn't take from tools/keymap.py which number of kbd is which
+action of vt: both programs read the same names, and what they make of a name is the same action. It needs loadkeys
+(Debian: apt-get install kbd), and loads nothing into a console. Status 1 means that one is different, 3 that loadkeys
+or the converter refused one, and 0 neither.
 """
 import argparse
 import collections
@@ -151,7 +151,9 @@ def differences(theirs, ours, actions, listed):
 def repaired(text):
     """Gives keymaps near one that loadkeys refuses, each with what is otherwise in it."""
     known = "|".join(["iso-8859-1", *kbd_names.BYTES]).encode()
-    yield "without its charset line", re.sub(rb'^[ \t]*charset[ \t]+"(?!(?:' + known + rb')").*$', b"", text, flags=re.M)
+    yield "without its charset line", re.sub(
+        rb'^[ \t]*charset[ \t]+"(?!(?:' + known + rb')").*$', b"", text, flags=re.M
+    )
     yield SHIFTED, re.sub(rb"U\+[fF]([0-9a-fA-F]{3})", rb"U+E\1", text)
     yield "without its keymaps line", re.sub(rb"^[ \t]*keymaps.*$", b"", text, flags=re.M)
 
@@ -203,7 +205,11 @@ def compare(program, actions, name, charset="", search=()):
         return different(lines, note, converted)
     names = names_lost(converted.losses, lost)
     by_name = ", ".join(f"{name} {count}" for name, count in names.most_common())
-    line = f"same but for {len(lost)} entries{note}: {by_name}" if lost else f"same{note}"
+    line = (
+        f"same but for {len(lost)} {'entry' if len(lost) == 1 else 'entries'}{note}: {by_name}"
+        if lost
+        else f"same{note}"
+    )
     return Verdict("lost" if lost else "same", line, names, converted.entries)
 
 
@@ -211,7 +217,9 @@ def compare_back(program, actions, name, charset="", search=()):
     """Returns the verdict on the way back: the dump of the converted keymap, read by loadkeys."""
     converted, _ = converted_keymap(name, charset, search)
     dump = run([program, "dumpkeys"], converted.text.encode())
-    lost, lines = differences(kbd_tables_of(dump.encode("latin-1")), vt_tables_of(program, converted.text), actions, set())
+    lost, lines = differences(
+        kbd_tables_of(dump.encode("latin-1")), vt_tables_of(program, converted.text), actions, set()
+    )
     if lines or lost:
         return different(lines, "", converted)
     return Verdict("same", "the dump has the same tables in loadkeys", {}, converted.entries)
@@ -220,7 +228,9 @@ def compare_back(program, actions, name, charset="", search=()):
 def words():
     """Returns the words of the command line."""
     parser = argparse.ArgumentParser(description="Compares what loadkeys and vt make of keymaps.")
-    parser.add_argument("files", metavar="FILE", nargs="+", help="a keymap, its name in kbd's folders, or - for standard input")
+    parser.add_argument(
+        "files", metavar="FILE", nargs="+", help="a keymap, its name in kbd's folders, or - for standard input"
+    )
     parser.add_argument("--vt", default=VT, metavar="PROGRAM", help="the program vt (default: crates/vt/out/vt)")
     parser.add_argument("--back", action="store_true", help="compare the dump of the converted keymap")
     parser.add_argument("--charset", default="", metavar="C")

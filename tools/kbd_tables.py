@@ -1,7 +1,7 @@
 """Compiles the lines of a keymap as loadkeys(1) of kbd does: tables of actions, strings and compose pairs.
 
-A part of tools/keymap.py. An action is a number as `loadkeys --mktable` prints it: a character of Unicode below F000, and
-otherwise F000, the type in the next four bits, and the value in the last eight. Each entry keeps its place in the text.
+A part of tools/keymap.py. An action is a number as `loadkeys --mktable` prints it: below F000 a character of Unicode,
+from F000 on a type in the third digit and a value in the last two. Each entry keeps its place in the text.
 """
 import collections
 
@@ -36,8 +36,9 @@ CHARACTERS = {**table_of(kbd_names.CHARACTERS), "Euro": 0x20AC}
 CHARACTERS_IN = {charset: table_of(text) for charset, text in kbd_names.CHARACTERS_IN.items()}
 BYTES = {charset: [int(word, 16) for word in text.split()] for charset, text in kbd_names.BYTES.items()}
 PRINTED = (
-    "space exclam quotedbl numbersign dollar percent ampersand apostrophe parenleft parenright asterisk plus comma minus period "
-    "slash zero one two three four five six seven eight nine colon semicolon less equal greater question at"
+    "space exclam quotedbl numbersign dollar percent ampersand apostrophe parenleft parenright asterisk plus comma "
+    "minus period slash zero one two three four five six seven eight nine colon semicolon less equal greater question "
+    "at"
 ).split()
 ASCII = {
     **table_of(kbd_names.ASCII),
@@ -198,8 +199,8 @@ class Compiler:
             self.refuse(f"{words[0].text if words else 'the end of the line'}: a number has to stand here, of {what}")
         return words.pop(0).value
 
-    def key(self, words, tables):
-        """The rest of a key line after `keycode`: in these tables, or in those of the keymaps lines if there are none."""
+    def key(self, words, table):
+        """The rest of a key line after `keycode`, for one table, or for those of the keymaps lines if it is None."""
         code = self.number(words, "a keycode")
         if not words or words.pop(0).text != "=":
             self.refuse("= has to stand after the keycode")
@@ -208,12 +209,12 @@ class Compiler:
             action, name = self.symbol(words)
             narrowed = self.narrow and 0xFF < action < 0xF000
             entries.append(Entry(action, self.place, name, NARROWED if narrowed else ""))
-        if tables is None:
+        if table is None:
             self.whole_line(code, entries)
             return
         if len(entries) != 1:
             self.refuse(f"a line with modifiers has one symbol, and this one has {len(entries)}")
-        self.set(tables, code, entries[0])
+        self.set(table, code, entries[0])
 
     def whole_line(self, code, entries):
         """A line without modifiers. With one symbol it also stands for the tables that get nothing else."""
@@ -286,7 +287,9 @@ class Compiler:
         if texts[:2] == ["as", "usual"]:
             charset = words[3].value.lower() if len(words) == 4 and texts[2] == "for" else ""
             if len(words) != 2 and charset != "iso-8859-1":
-                self.refuse('loadkeys has usual pairs for "iso-8859-1" alone; others are in files, as include "compose.latin2"')
+                self.refuse(
+                    'loadkeys has usual pairs for "iso-8859-1" alone; others are in files, as include "compose.latin2"'
+                )
             for pair in usual_pairs():
                 self.pairs.append(Pair(*map(self.byte, pair), self.place, "compose as usual"))
             return

@@ -1,7 +1,7 @@
 """Reads a keymap as loadkeys(1) of kbd takes it, with the files that it includes, into lines of words.
 
-A part of tools/keymap.py. `lines_of` gives each logical line with its file and line number. The bytes of a file are read as
-Latin-1, so that each is one character; what a byte means is decided later, by the character set.
+A part of tools/keymap.py. `lines_of` gives each logical line with its file and line number. A file is read as
+Latin-1, so that each byte is one character; the character set decides later what a byte means.
 """
 import bz2
 import collections
@@ -40,6 +40,7 @@ class KeymapError(Exception):
 
 def unescaped(text):
     """Returns a quoted text's bytes: octal numbers, newline, and otherwise the character after the backslash."""
+
     def one(found):
         part = found[1]
         return chr(int(part, 8) & 0xFF) if part[0] in "01234567" else "\n" if part == "n" else part
@@ -112,7 +113,11 @@ def with_ending(path, endings):
 
 def included_path(name, path, search):
     """Finds the file of an include line: near the file that includes it, then in the folders given, then in kbd's."""
-    near = [folder for file in (path, path.resolve()) for folder in (file.parent, file.parent / "../include", file.parent / "../../include")]
+    near = [
+        folder
+        for file in (path, path.resolve())
+        for folder in (file.parent, file.parent / "../include", file.parent / "../../include")
+    ]
     common = [f"{folder}/{part}" for folder in FOLDERS for part in COMMON]
     for folder in [*near, *search, *common]:
         found = with_ending(f"{folder}/{name}" if not name.startswith("/") else name, ["", ".inc"])
@@ -152,7 +157,9 @@ def lines_of(path, search, text=None, depth=0):
         name = words[1].value
         found = None if "\0" in name or not name else included_path(name, path, search)
         if not found:
-            raise KeymapError(path, line.number, f'include "{name}": there is no such file near {path} or in kbd\'s folders')
+            raise KeymapError(
+                path, line.number, f'include "{name}": there is no such file near {path} or in kbd\'s folders'
+            )
         yield from lines_of(found, search, None, depth + 1)
         if words[2:]:
             yield Line(words[2:], path, line.number)

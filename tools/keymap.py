@@ -3,11 +3,12 @@
 
 usage: tools/keymap.py [--charset C] [--search DIR]... [--usual] [--strict] FILE > my.keymap
 
-FILE is a keymap of keymaps(5), compressed or not; the name of one in kbd's folders, as `de-latin1`; or - for standard input.
-The tables are those that loadkeys makes of it in Unicode, written as one text without includes. What vt has no action for
-becomes VoidSymbol, and a line on err lists it, with the file, the line and the name; --strict refuses such a keymap instead.
---charset reads it as if a charset line stood in front, --search looks for included files in a folder first, and --usual adds
-the strings and the compose pairs that a console starts with, if the keymap has none. Status 0 means converted, 1 refused.
+FILE is a keymap of keymaps(5), compressed or not; the name of one in kbd's folders, as `de-latin1`; or - for standard
+input. The tables are those that loadkeys makes of it in Unicode, written as one text without includes. If vt has no
+action for a symbol, VoidSymbol stands in its place, and a line on err lists it with its file, its line and its name;
+--strict refuses such a keymap. --charset reads the keymap as if a charset line were its first line, --search looks
+for included files in a folder first, and --usual adds the strings and the compose pairs that a console starts with,
+if the keymap has none. Status 0 means that the keymap was converted, 1 that it was refused.
 """
 import argparse
 import collections
@@ -27,12 +28,20 @@ CHARACTER, LETTER, META = 1, 2, 3
 TABLES, KEYS, PAIRS, STRING = 256, 256, 256, 255
 
 # By kbd's type of an action: the kind of vt, what is added to the value, and how many values vt has.
-KINDS = {0x0: (1, 0, 256), 0x1: (4, 0, 256), 0x3: (5, 0, 17), 0x4: (7, 0, 6), 0x5: (11, 1, 63), 0x6: (6, 0, 4), 0x7: (8, 0, 8)}
+KINDS = {
+    0x0: (1, 0, 256),
+    0x1: (4, 0, 256),
+    0x3: (5, 0, 17),
+    0x4: (7, 0, 6),
+    0x5: (11, 1, 63),
+    0x6: (6, 0, 4),
+    0x7: (8, 0, 8),
+}
 KINDS |= {0x8: (3, 0, 128), 0x9: (13, 0, 10), 0xA: (9, 0, 8), 0xB: (2, 0, 256), 0xC: (10, 0, 8)}
 SPECIAL, DEAD_OF = 0x2, 0xD
 ACCENTS = "`'^~\","
 
-# Keys of the pad that vt has not: the character that the console types for them, unless a program asked for its own codes.
+# Keys of the pad that vt doesn't have, and the character that Linux types for them outside DECPAM.
 NEAR = {0xF311: "?", 0xF312: "(", 0xF313: ")"}
 
 # Why vt has no place for an action, by kbd's type.
@@ -52,7 +61,9 @@ Loss = collections.namedtuple("Loss", "place name reason entry")
 Converted = collections.namedtuple("Converted", "text losses notes entries")
 
 
-SPECIALS = {number: ACTIONS[name] for name, number in kbd_tables.ACTIONS.items() if number >> 8 == 0xF2 and name in ACTIONS}
+SPECIALS = {
+    number: ACTIONS[name] for name, number in kbd_tables.ACTIONS.items() if number >> 8 == 0xF2 and name in ACTIONS
+}
 
 
 def action_of(number):
@@ -109,7 +120,9 @@ def alone(action, table):
 def shown(actions):
     """Returns a comment with the characters that have no name, as far as they can stand in a line."""
     characters = [chr(value) for kind, value in actions if kind in (CHARACTER, LETTER) and (kind, value) not in NAMES]
-    seen = dict.fromkeys(c for c in characters if c.isprintable() and unicodedata.bidirectional(c) in ("L", "ON", "ET", "EN"))
+    seen = dict.fromkeys(
+        c for c in characters if c.isprintable() and unicodedata.bidirectional(c) in ("L", "ON", "ET", "EN")
+    )
     return f" # {' '.join(list(seen)[:12])}" if seen else ""
 
 
@@ -169,7 +182,9 @@ class Converter:
         """Returns vt's action of an entry; what has none is listed."""
         self.entries += entry.action != kbd_tables.HOLE
         if entry.action in NEAR:
-            self.lose(entry.place, entry.name, f"vt has no such key, and types {NEAR[entry.action]} for it", (table, code))
+            self.lose(
+                entry.place, entry.name, f"vt has no such key, and types {NEAR[entry.action]} for it", (table, code)
+            )
             return (CHARACTER, ord(NEAR[entry.action]))
         found = action_of(entry.action)
         if found is None:
@@ -188,7 +203,9 @@ class Converter:
                     number = table if table >= TABLES else code
                     self.lose(entry.place, f"{beyond} {number}", f"vt has {why} to 255: left out", (table, code))
             if table < TABLES:
-                found[table] = {code: self.action(entry, table, code) for code, entry in entries.items() if 0 < code < KEYS}
+                found[table] = {
+                    code: self.action(entry, table, code) for code, entry in entries.items() if 0 < code < KEYS
+                }
         if not found:
             raise KeymapError(*self.tables.place, "there is no table: neither a keymaps line nor a key line")
         return found
@@ -229,7 +246,7 @@ class Converter:
 
 
 def with_usual(tables):
-    """Adds what a console starts with, and what loadkeys leaves as it is: strings and pairs, where the keymap has none."""
+    """Adds the strings and the pairs that a console starts with, which loadkeys keeps if the keymap has none."""
     tables.place = ("--usual", 0)
     if not tables.strings:
         tables.strings.update((key, (text, tables.place, "")) for key, text in kbd_tables.usual_strings().items())
@@ -262,7 +279,9 @@ def losses_by_line(losses):
         codes = collections.defaultdict(list)
         for table, code in filter(None, entries):
             codes[code].append(table)
-        where = "; ".join(f"keycode {code}, table{'s' * (len(of) > 1)} {ranges(sorted(of))}" for code, of in codes.items())
+        where = "; ".join(
+            f"keycode {code}, table{'s' * (len(of) > 1)} {ranges(sorted(of))}" for code, of in codes.items()
+        )
         yield f"{place[0]}:{place[1]}: {name}: {reason}{f' ({where})' if where else ''}"
 
 
@@ -279,10 +298,16 @@ def report(converted):
 def words():
     """Returns the words of the command line."""
     parser = argparse.ArgumentParser(description="Brings a keymap of kbd into vt's profile.")
-    parser.add_argument("file", metavar="FILE", help="a keymap, the name of one in kbd's folders, or - for standard input")
+    parser.add_argument(
+        "file", metavar="FILE", help="a keymap, the name of one in kbd's folders, or - for standard input"
+    )
     parser.add_argument("--charset", default="", metavar="C", help="read it as if a charset line stood in front")
-    parser.add_argument("--search", action="append", default=[], metavar="DIR", help="look here for included files first")
-    parser.add_argument("--usual", action="store_true", help="add the console's own strings and pairs if there are none")
+    parser.add_argument(
+        "--search", action="append", default=[], metavar="DIR", help="look here for included files first"
+    )
+    parser.add_argument(
+        "--usual", action="store_true", help="add the console's own strings and pairs if there are none"
+    )
     parser.add_argument("--strict", action="store_true", help="refuse a keymap of which something would be lost")
     return parser.parse_args()
 

@@ -3,9 +3,10 @@
 
 usage: tools/list_kbd_names.py > tools/kbd_names.py
 
-It asks an installed `loadkeys` (Debian: apt-get install kbd) and copies no file of kbd. Every word in the program is tried
-as a symbol; what `loadkeys -u --mktable` makes of it is the symbol's meaning. Names of ASCII characters, F1 to F246,
-Console_1 to Console_63 and Meta_* are left out, since tools/kbd_tables.py makes these by rule. It takes some minutes.
+It asks an installed `loadkeys` (Debian: apt-get install kbd) and copies no file of kbd. It tries every word in the
+program as a symbol, and takes from `loadkeys -u --mktable` what the symbol means. Printed ASCII characters, F1 to
+F246, Console_1 to Console_63 and Meta_* are left out, since tools/kbd_tables.py makes these by rule. It takes some
+minutes.
 """
 import re
 import shutil
@@ -15,11 +16,10 @@ import sys
 WIDTH = 116
 LOADKEYS = shutil.which("loadkeys") or "loadkeys"
 BY_RULE = re.compile(r"F\d+|Console_\d+|Meta_.*")
-PYTHON_NAMES = {"iso-8859-1": "latin-1", "cp-1250": "cp1250", "tis-620": "tis_620"}
 
 
 def tables_of(text):
-    """Returns the first table that loadkeys makes of a keymap, as numbers by keycode, or None if it refuses the text."""
+    """Returns the first table that loadkeys makes of a keymap, by keycode, or None if it refuses the text."""
     ran = subprocess.run([LOADKEYS, "-u", "--mktable"], input=text.encode(), capture_output=True, check=False)
     found = re.search(r"plain_map\[NR_KEYS\] = \{(.*?)\}", ran.stdout.decode("latin-1"), re.S)
     if ran.returncode or not found:
@@ -40,7 +40,7 @@ def meanings(names, charset):
 
 
 def words_of_program():
-    """Returns every word in the program; a word that ends another one has no place of its own there, so ends count too."""
+    """Returns every word in the program, and every end of one: a word that ends another one isn't stored twice."""
     with open(LOADKEYS, "rb") as program:
         words = re.findall(rb"[A-Za-z0-9_]{2,}", program.read())
     ends = {word[at:].decode() for word in words for at in range(len(word)) if word[at : at + 1].isalpha()}
@@ -48,7 +48,7 @@ def words_of_program():
 
 
 def known_names():
-    """Returns the words that are symbols, by trying them in halves: a part without a symbol is refused word by word."""
+    """Returns the words that are symbols."""
     return [word for word in words_of_program() if tables_of(f"keymaps 0\nplain keycode 1 = {word}\n")]
 
 
@@ -63,16 +63,10 @@ def charsets():
 
 def bytes_of(charset):
     """Returns the characters of the bytes 80 to FF in a character set; a byte that has none is its own number."""
-    table = tables_of(f'charset "{charset}"\nkeymaps 0\n' + "".join(f"plain keycode {n - 64} = {n}\n" for n in range(128, 256)))
+    table = tables_of(
+        f'charset "{charset}"\nkeymaps 0\n' + "".join(f"plain keycode {n - 64} = {n}\n" for n in range(128, 256))
+    )
     return [number & 0xFF if number >= 0xF000 else number for number in table[64:192]]
-
-
-def of_python(charset):
-    """Returns the same by Python's own tables of the character set, or None if it has none."""
-    try:
-        return [ord(bytes([n]).decode(PYTHON_NAMES.get(charset, charset), "replace")) for n in range(128, 256)]
-    except LookupError:
-        return None
 
 
 def wrapped(words):
@@ -90,10 +84,10 @@ def main():
     plain = meanings(names, "")
     characters = {name: number for name, number in plain.items() if number < 0xF000}
     actions = {name: number - 0xF000 for name, number in plain.items() if number >= 0xF080}
-    print('"""What the symbols and the character sets of kbd 2.5.1 stand for. Written by tools/list_kbd_names.py."""')
+    print('"""The meanings of the symbols and the character sets of kbd 2.5.1. Written by tools/list_kbd_names.py."""')
     print("\n# The names of characters past ASCII, each before its number.")
     print('CHARACTERS = """\n' + wrapped(f"{name} {number:04x}" for name, number in characters.items()) + '\n"""')
-    print("\n# The names of characters that a character set has otherwise.")
+    print("\n# The names that have another meaning in a character set.")
     print("CHARACTERS_IN = {")
     for charset in charsets():
         other = meanings(sorted(characters), charset)
@@ -105,13 +99,11 @@ def main():
     print("\n# The names of the control characters.")
     controls = {name: number - 0xF000 for name, number in plain.items() if 0xF000 <= number < 0xF080 and len(name) > 1}
     print('ASCII = """\n' + wrapped(f"{name} {number:02x}" for name, number in controls.items()) + '\n"""')
-    print("\n# What the bytes from A0 to FF are in each character set.")
+    print("\n# The characters of the bytes 80 to FF in each character set.")
     print("BYTES = {")
     for charset in charsets():
         found = bytes_of(charset)
-        print(f'    "{charset}": """\n' + wrapped(f"{number:04x}" for number in found) + '\n""",', file=sys.stdout)
-        python = of_python(charset)
-        print(charset, python and [(hex(128 + i), hex(a), hex(b)) for i, (a, b) in enumerate(zip(found, python, strict=True)) if a != b], file=sys.stderr)
+        print(f'    "{charset}": """\n' + wrapped(f"{number:04x}" for number in found) + '\n""",')
     print("}")
     return 0
 

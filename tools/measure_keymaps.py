@@ -1,12 +1,12 @@
 #!/usr/bin/env python3
-"""Makes the figures of docs/guide/bring-your-keymap.md: how many keymaps of kbd, console-data and ckbcomp come in, and how.
+"""Makes the figures of docs/guide/bring-your-keymap.md: how many keymaps of kbd, console-data and ckbcomp come in.
 
 usage: tools/measure_keymaps.py [--install] [--vt PROGRAM] [--layouts NAME,NAME..]
 
-It compares every keymap below /usr/share/keymaps, and what ckbcomp(1) writes for each layout of X's list, as
-tools/compare_keymap.py does; then the dumps of 60 of the keymaps, taken evenly. --install first gets kbd, console-data and
-console-setup by apt-get, as root. Prints a line for each keymap that is neither the same nor the same but for what was
-listed, and then the figures. Status 1 means that one is different.
+It compares every keymap below /usr/share/keymaps, and the one that ckbcomp(1) writes for each layout of X's list, as
+tools/compare_keymap.py does; then the dumps of 60 of the keymaps, taken evenly. --install first gets kbd, console-data
+and console-setup by apt-get, as root. It prints a line for each keymap that is different, was refused, or was compared
+with a repaired copy, and then the figures. Status 1 means that one is different.
 """
 import argparse
 import collections
@@ -30,7 +30,9 @@ BACK = 60
 def install():
     """Gets the packages."""
     for words in (["apt-get", "update"], ["apt-get", "install", "-y", *PACKAGES]):
-        subprocess.run(words, check=True, env={"DEBIAN_FRONTEND": "noninteractive", "PATH": "/usr/sbin:/usr/bin:/sbin:/bin"})
+        subprocess.run(
+            words, check=True, env={"DEBIAN_FRONTEND": "noninteractive", "PATH": "/usr/sbin:/usr/bin:/sbin:/bin"}
+        )
 
 
 def versions():
@@ -62,21 +64,33 @@ def verdicts(program, actions, paths, judge):
         except (KeymapError, ProgramError) as error:
             verdict = Verdict("refused", f"not compared: {error}", {}, 0)
         if verdict.word in ("different", "refused") or "(loadkeys" in verdict.line:
-            print(f"{path}: {re.sub(': [^:]*$', '', verdict.line) if '(loadkeys' in verdict.line else verdict.line}", flush=True)
+            print(
+                f"{path}: {re.sub(': [^:]*$', '', verdict.line) if '(loadkeys' in verdict.line else verdict.line}",
+                flush=True,
+            )
         found.append(verdict)
     return found
 
 
 def grouped(name):
     """Returns a name, or the group that it is counted in."""
-    return re.sub(r"^Hex_[0-9A-F]$", "Hex_0 to Hex_F", re.sub(r"^Brl_\w+$", "Brl_*", re.sub(r"^Meta_.*", "Meta_ of past ASCII", name)))
+    return re.sub(
+        r"^Hex_[0-9A-F]$",
+        "Hex_0 to Hex_F",
+        re.sub(r"^Brl_\w+$", "Brl_*", re.sub(r"^Meta_.*", "Meta_ of past ASCII", name)),
+    )
 
 
 def figures(title, found):
     """Prints the figures of a set of keymaps."""
     words = collections.Counter(verdict.word for verdict in found)
     print(f"\n{title}: {len(found)} keymaps, {sum(verdict.entries for verdict in found)} entries that aren't holes")
-    for word, what in [("same", "same"), ("lost", "same but for what was listed"), ("different", "different"), ("refused", "not compared")]:
+    for word, what in [
+        ("same", "same"),
+        ("lost", "same but for what was listed"),
+        ("different", "different"),
+        ("refused", "not compared"),
+    ]:
         print(f"    {words[word]} {what}")
     entries, maps = collections.Counter(), collections.Counter()
     for verdict in found:
@@ -93,7 +107,9 @@ def figures(title, found):
 def main():
     parser = argparse.ArgumentParser(description="Makes the figures of docs/guide/bring-your-keymap.md.")
     parser.add_argument("--install", action="store_true", help="get kbd, console-data and console-setup by apt-get")
-    parser.add_argument("--vt", default=compare_keymap.VT, metavar="PROGRAM", help="the program vt (default: crates/vt/out/vt)")
+    parser.add_argument(
+        "--vt", default=compare_keymap.VT, metavar="PROGRAM", help="the program vt (default: crates/vt/out/vt)"
+    )
     parser.add_argument("--layouts", default="", metavar="NAMES", help="layouts for ckbcomp (default: all of X's list)")
     asked = parser.parse_args()
     try:

@@ -3,9 +3,10 @@
 
 usage: crates/vt/out/vt keys < FILE 2>&1 > /dev/null | tools/why.py FILE
 
-It reads vt's standard error on its own standard input, and FILE is what vt read. It knows the codes of keymaps, of sessions
-and tables in TOML, and of journals, and the reasons of `check`. For an unknown symbol it says what kbd has under that name
-and how to write it for vt. Status 0 means that it explained a line of vt, 1 that it found none, 2 that FILE can't be read.
+It reads vt's standard error on its own standard input, and FILE is the input that vt read. It knows the codes of
+keymaps, of sessions and tables in TOML, and of journals, and the reasons of `check`. For an unknown symbol it prints
+what kbd has under that name and how to write it for vt. Status 0 means that it explained a line of vt, 1 that it
+found none, 2 that FILE can't be read.
 """
 import difflib
 import re
@@ -61,7 +62,7 @@ REASONS = {
     6: "the certificate is not accepted at this item",
 }
 STATUSES = {
-    "usage": "the words are none of vt's commands: README.md, \"Forms of words\", has them",
+    "usage": 'the words are none of vt\'s commands: README.md, "Forms of words", has them',
     "read failed": "standard input can't be read",
     "write failed": "standard output or standard error can't be written: a full disk, or a reader that went away",
     "no memory": "memory ran out",
@@ -99,13 +100,14 @@ def about_action(name, number):
     """Returns what a symbol of kbd is and how vt has it."""
     found = keymap.action_of(number)
     if number in keymap.NEAR:
-        return f"kbd knows {name}, a key of the pad that vt doesn't have. Most programs see {keymap.NEAR[number]} for it."
+        return f"kbd knows {name}, a key of the pad that vt doesn't have: Linux types {keymap.NEAR[number]} for it."
     if found is None:
         return f"kbd knows {name}, and {keymap.reason_of(number)}: write VoidSymbol."
     symbol = keymap.name_of(found)
     if found[0] == keymap.CHARACTER and found[1] > 255:
         character = chr(found[1])
-        return f"kbd knows {name} as U+{found[1]:04X}{f' ({character})' if character.isprintable() else ''}. Write {symbol}."
+        shown = f" ({character})" if character.isprintable() else ""
+        return f"kbd knows {name} as U+{found[1]:04X}{shown}. Write {symbol}."
     return f"kbd knows {name}. vt's name for it is {symbol}."
 
 
@@ -121,7 +123,9 @@ def about_number(text):
     found = keymap.action_of(action)
     if found is None:
         return f"kbd takes {text} as an action, and {keymap.reason_of(action)}: write VoidSymbol."
-    return f"vt takes a number below 256, as a character. The action that kbd takes {text} for is {keymap.name_of(found)}."
+    return (
+        f"vt takes a number below 256, as a character. The action that kbd takes {text} for is {keymap.name_of(found)}."
+    )
 
 
 def about_symbol(word):
@@ -130,11 +134,17 @@ def about_symbol(word):
     if not name:
         return "A symbol has to stand here."
     if len(name) == 1 and ord(name) > 127:
-        return f"Write the character {name} as {plus}U+{ord(name):04X}." if ord(name) < 0x10000 else f"{name} is past U+FFFF."
+        return (
+            f"Write the character {name} as {plus}U+{ord(name):04X}."
+            if ord(name) < 0x10000
+            else f"{name} is past U+FFFF."
+        )
     if name[0].isdigit():
         return about_number(name)
     if re.match(r"[Uu]\+", name):
-        return "U+ takes four hexadecimal digits, of a character up to U+FFFF that is no surrogate; U is a capital letter."
+        return (
+            "U+ takes four hexadecimal digits, of a character up to U+FFFF that is no surrogate; U is a capital letter."
+        )
     number = kbd_tables.Compiler().named(name)
     if number is not None:
         if plus and number >= 0xF000 and number & 0xFF00 not in (kbd_tables.LATIN, kbd_tables.LETTER):
@@ -143,14 +153,29 @@ def about_symbol(word):
         return told.replace("Write U+", "Write +U+") if plus else told
     close = near(name, [other for other in ACTIONS if not other.startswith("+")]) or near(name, kbd_tables.CHARACTERS)
     hint = f" Is it {' or '.join(close)}?" if close else ""
-    return f"Neither vt nor kbd has a symbol {name}.{hint} Any character can be written as U+ and four hexadecimal digits."
+    return (
+        f"Neither vt nor kbd has a symbol {name}.{hint} Any character can be written as U+ and four hexadecimal digits."
+    )
 
 
 def about_word(word):
     """Returns a hint for a word that no line begins with."""
     if "=" in word and word != "=":
         return f"vt cuts words at blanks and tabs: write {' = '.join(part for part in word.split('=', 1)).strip()}."
-    keywords = ["keymaps", "keycode", "string", "compose", "include", "charset", "alt_is_meta", "strings", "as", "usual", "to", "for"]
+    keywords = [
+        "keymaps",
+        "keycode",
+        "string",
+        "compose",
+        "include",
+        "charset",
+        "alt_is_meta",
+        "strings",
+        "as",
+        "usual",
+        "to",
+        "for",
+    ]
     if word.lower() == "capsshift":
         return "kbd has a ninth modifier, capsshift, and vt has eight: take the line out."
     close = near(word, [*keywords, "plain", *kbd_tables.MODIFIERS[:8]])
@@ -201,7 +226,9 @@ def about_table(path, text, code, first, second):
         keys = TOP_KEYS if set(table) - set(TYPE_KEYS) or "mode" not in table else TYPE_KEYS
         yield f"The key is {keys[second - 1]}." if 0 < second <= len(keys) else ""
     elif code in (21, 22, 23, 25, 26, 29) and first:
-        yield f"It is in process {first}" + (f", item {second}." if code in (25, 26) else "." if code == 21 else f", key {second}.")
+        yield f"It is in process {first}" + (
+            f", item {second}." if code in (25, 26) else "." if code == 21 else f", key {second}."
+        )
     elif code == 27 and isinstance(table.get("keys"), str):
         items = table["keys"].split(" ")
         yield f"Item {second} of keys is {items[second - 1]!r}." if 0 < second <= len(items) else ""
@@ -218,7 +245,8 @@ def about_journal(path, text, code, line):
 
 def about_illegal(path, text, entry, reason):
     """Gives the lines about a journal that isn't a legal one."""
-    yield f"{path}: the journal isn't a legal one of the session at entry {entry}, counted from 0: {REASONS.get(reason, 'unknown')}"
+    told = REASONS.get(reason, "a reason that no page has")
+    yield f"{path}: the journal isn't a legal one of the session at entry {entry}, counted from 0: {told}"
     rows = text.split(b"\n")
     start = next((i for i, row in enumerate(rows) if row.startswith(b"%journal")), None)
     if start is not None and reason != 6 and start + 1 + entry < len(rows):
@@ -227,7 +255,9 @@ def about_illegal(path, text, entry, reason):
 
 def explained(path, text, err):
     """Gives the lines for the first line of vt on err, or nothing."""
-    found = re.search(r"^vt: (?:refused (\d{1,3}) at (\d{1,10}):(\d{1,10})|illegal (\d{1,10}) (\d{1,3})|(.*))$", err, re.M)
+    found = re.search(
+        r"^vt: (?:refused (\d{1,3}) at (\d{1,10}):(\d{1,10})|illegal (\d{1,10}) (\d{1,3})|(.*))$", err, re.M
+    )
     if not found:
         return
     code, line, column, entry, reason = (int(part) if part else 0 for part in found.groups()[:5])
@@ -254,7 +284,9 @@ def main():
             text = file.read()
         err = sys.stdin.buffer.read().decode("utf-8", "replace")
         lines = [line for line in explained(path, text, err) if line]
-        sys.stdout.buffer.write("".join(line + "\n" for line in lines or ["No line of vt stands on err."]).encode("utf-8", "replace"))
+        sys.stdout.buffer.write(
+            "".join(line + "\n" for line in lines or ["No line of vt stands on err."]).encode("utf-8", "replace")
+        )
         sys.stdout.buffer.flush()
     except (OSError, KeymapError) as error:
         sys.stderr.write(f"why.py: {error}\n")
