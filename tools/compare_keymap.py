@@ -54,8 +54,10 @@ def run(words, given):
 
 
 def code_of(text):
-    """Returns the number of a character as C spells it."""
-    return int(text[1:], 8) if text[0] == "\\" and text[1] in "01234567" else ord(text[-1])
+    """Returns the number of a character as loadkeys spells it in C: U+01FE and U+01FF stand as their low byte."""
+    if text[0] == "\\" and text[1] in "01234567":
+        return int(text[1:], 8)
+    return ord(text[-1]) + (0x100 if ord(text[-1]) > 127 else 0)
 
 
 def kbd_strings(printed):
@@ -140,12 +142,27 @@ def differences(theirs, ours, actions, listed):
                 lost.add((table, code))
             else:
                 lines.append(f"table {table}, keycode {code}: loadkeys has {number:#06x}, vt {found[0]} {found[1]}")
+    lost |= {("string", key) for key in theirs.strings if ("string", key) in listed}
     strings = {key: text for key, text in theirs.strings.items() if ("string", key) not in listed}
     if strings != ours.strings:
         lines.append(f"strings: loadkeys has {strings}, vt {ours.strings}")
-    if theirs.pairs[: keymap.PAIRS] != ours.pairs:
-        lines.append(f"pairs: loadkeys has {len(theirs.pairs)}, vt {len(ours.pairs)}, and they differ")
-    return lost, lines
+    return lost | pairs_lost(theirs.pairs, ours.pairs, listed, lines), lines
+
+
+def pairs_lost(theirs, ours, listed, lines):
+    """Returns the pairs that differ and were listed, and adds a line for each other one that differs."""
+    lost, left = set(), list(ours)
+    for i, pair in enumerate(theirs):
+        if ("left out", i) in listed:
+            lost.add(("left out", i))
+            continue
+        found = left.pop(0) if left else None
+        if found != pair and ("pair", i) in listed:
+            lost.add(("pair", i))
+        elif found != pair:
+            lines.append(f"pair {i + 1}: loadkeys has {pair}, vt {found}")
+    lines += [f"vt has the pair {pair}, and loadkeys has not" for pair in left]
+    return lost
 
 
 def repaired(text):

@@ -11,6 +11,7 @@ from kbd_text import KeymapError
 HOLE = 0xF200
 NARROWED = 'after charset "iso-8859-1" loadkeys puts another character here, that of the same byte in Latin-1'
 LATIN, META, LETTER = 0xF000, 0xF800, 0xFB00
+PREFIXES = {"Meta_": META, "dead2_": 0xFD00}
 MODIFIERS = ["shift", "altgr", "control", "alt", "shiftl", "shiftr", "ctrll", "ctrlr", "capsshift"]
 ALT = 8
 TABLES = 512
@@ -23,7 +24,7 @@ USUAL_PAIRS = (
 USUAL_NUMBERS = [17, 18, 19, 20, 21, 23, 24, 25, 26, 28, 29, 31, 32, 33, 34, 1, 2, 3, 4, 5, 6]
 
 Entry = collections.namedtuple("Entry", "action place name remark")
-Pair = collections.namedtuple("Pair", "accent base result place name")
+Pair = collections.namedtuple("Pair", "accent base result place name remark")
 
 
 def table_of(text):
@@ -115,11 +116,12 @@ class Compiler:
             return LATIN + ASCII[name]
         if name in ACTIONS:
             return ACTIONS[name]
-        if name.startswith("Meta_") and not name.startswith("Meta_", 5):
-            meant = self.named(name[5:])
+        prefix = next((prefix for prefix in PREFIXES if name.startswith(prefix)), "")
+        if prefix:
+            meant = self.named(name[len(prefix) :]) if not name[len(prefix) :].startswith(tuple(PREFIXES)) else None
             if meant is None or meant >= 0xF100:
                 return None
-            return META + (meant & 0xFF if meant >= LATIN else meant & 0x7F | 0x80)
+            return PREFIXES[prefix] + (meant & 0xFF if meant >= LATIN else meant & 0x7F | 0x80)
         return CHARACTERS_IN.get(self.charset, {}).get(name, CHARACTERS.get(name))
 
     def numbered(self, number):
@@ -291,7 +293,7 @@ class Compiler:
                     'loadkeys has usual pairs for "iso-8859-1" alone; others are in files, as include "compose.latin2"'
                 )
             for pair in usual_pairs():
-                self.pairs.append(Pair(*map(self.byte, pair), self.place, "compose as usual"))
+                self.pairs.append(Pair(*map(self.byte, pair), self.place, "compose as usual", ""))
             return
         accent, first = self.character(words)
         base, second = self.character(words)
@@ -300,7 +302,8 @@ class Compiler:
         result, third = self.character(words)
         if words:
             self.refuse(f"{words[0].text}: nothing may stand after a compose line")
-        self.pairs.append(Pair(accent, base, result, self.place, f"{first} {second} to {third}"))
+        remark = NARROWED if self.narrow and max(accent, base, result) > 0xFF else ""
+        self.pairs.append(Pair(accent, base, result, self.place, f"{first} {second} to {third}", remark))
 
     def line(self, line):
         """Takes one line of a keymap."""

@@ -14,6 +14,7 @@ import argparse
 import collections
 import os
 import pathlib
+import re
 import sys
 import unicodedata
 
@@ -56,6 +57,9 @@ REASONS = {
     0xD: "vt has dead keys of ` ' ^ ~ \" and , alone",
     0xE: "vt has no braille keys",
 }
+
+# Names that are counted together.
+GROUPS = {"Hex_[0-9A-F]": "Hex_0 to Hex_F", r"Brl_\w+": "Brl_blank to Brl_dot10", r"Meta_\w+": "Meta_ past ASCII"}
 
 Loss = collections.namedtuple("Loss", "place name reason entry")
 Converted = collections.namedtuple("Converted", "text losses notes entries")
@@ -174,8 +178,8 @@ class Converter:
         self.losses = []
         self.entries = 0
 
-    def lose(self, place, name, reason, entry=None):
-        """Lists something that vt has no place for."""
+    def lose(self, place, name, reason, entry):
+        """Lists an entry that vt has otherwise: a table and a keycode, a string and its key, or a pair and its number."""
         self.losses.append(Loss(place, name, reason, entry))
 
     def action(self, entry, table, code):
@@ -214,22 +218,26 @@ class Converter:
         """Gives the lines of the strings."""
         for key, (text, place, name) in sorted(self.tables.strings.items()):
             if len(text) > STRING:
-                self.lose(place, name, f"a string of {len(text)} bytes, and vt takes {STRING}: left out")
+                self.lose(
+                    place, name, f"a string of {len(text)} bytes, and vt takes {STRING}: left out", ("string", key)
+                )
             elif text:
                 yield f'string {name_of((4, key))} = "{quoted(text)}"'
 
     def pairs(self):
         """Gives the lines of the compose pairs, as many as vt takes."""
         count = 0
-        for pair in self.tables.pairs:
+        for i, pair in enumerate(self.tables.pairs):
             codes = pair[:3]
             if any(0xD800 <= code < 0xE000 for code in codes):
-                self.lose(pair.place, pair.name, "half of a pair of UTF-16 is no character: left out")
+                self.lose(pair.place, pair.name, "half of a pair of UTF-16 is no character: left out", ("left out", i))
                 continue
             count += 1
             if count > PAIRS:
-                self.lose(pair.place, pair.name, f"pair {count}, and vt takes {PAIRS}: left out")
+                self.lose(pair.place, pair.name, f"pair {count}, and vt takes {PAIRS}: left out", ("left out", i))
             else:
+                if pair.remark:
+                    self.lose(pair.place, pair.name, pair.remark, ("pair", i))
                 accent, base, result = map(spelled, codes)
                 yield f"compose {accent} {base} to {result}{shown([(CHARACTER, codes[2])])}"
 
@@ -251,7 +259,7 @@ def with_usual(tables):
     if not tables.strings:
         tables.strings.update((key, (text, tables.place, "")) for key, text in kbd_tables.usual_strings().items())
     if not tables.pairs:
-        tables.pairs += [kbd_tables.Pair(*pair, tables.place, "") for pair in kbd_tables.usual_pairs()]
+        tables.pairs += [kbd_tables.Pair(*pair, tables.place, "", "") for pair in kbd_tables.usual_pairs()]
 
 
 def convert(name, charset="", search=(), usual=False, text=None):
@@ -267,6 +275,11 @@ def convert(name, charset="", search=(), usual=False, text=None):
         with_usual(tables)
     converter = Converter(tables)
     made = converter.text(f"{path.name if text is None else 'Standard input'}, by tools/keymap.py")
+    has_accents = re.search(r"[ +](?:dead_\w+|Compose)\b", made)
+    if has_accents and not tables.pairs:
+        tables.notes.append(
+            f"{path}: dead keys, and no compose lines: --usual adds the pairs that a console starts with"
+        )
     return Converted(made, converter.losses, tables.notes, converter.entries)
 
 
@@ -277,18 +290,27 @@ def losses_by_line(losses):
         grouped[loss[:3]].append(loss.entry)
     for (place, name, reason), entries in grouped.items():
         codes = collections.defaultdict(list)
-        for table, code in filter(None, entries):
-            codes[code].append(table)
+        for table, code in entries:
+            if isinstance(table, int):
+                codes[code].append(table)
         where = "; ".join(
             f"keycode {code}, table{'s' * (len(of) > 1)} {ranges(sorted(of))}" for code, of in codes.items()
         )
         yield f"{place[0]}:{place[1]}: {name}: {reason}{f' ({where})' if where else ''}"
 
 
+def group_of(name):
+    """Returns a name, or the group that it is counted in."""
+    for pattern, group in GROUPS.items():
+        if re.fullmatch(pattern, name):
+            return group
+    return name
+
+
 def report(converted):
     """Returns what the conversion has to say on err."""
-    lines = [*converted.notes, *losses_by_line(converted.losses)]
-    counts = collections.Counter(loss.name for loss in converted.losses)
+    lines = [*losses_by_line(converted.losses), *converted.notes]
+    counts = collections.Counter(group_of(loss.name) for loss in converted.losses)
     if counts:
         names = ", ".join(f"{name} {count}" for name, count in counts.most_common())
         lines.append(f"keymap.py: {sum(counts.values())} of {converted.entries} entries are otherwise in vt: {names}")

@@ -15,7 +15,7 @@ import sys
 
 WIDTH = 116
 LOADKEYS = shutil.which("loadkeys") or "loadkeys"
-BY_RULE = re.compile(r"F\d+|Console_\d+|Meta_.*")
+BY_RULE = re.compile(r"F\d+|Console_\d+|Meta_.*|dead2_.*")
 
 
 def tables_of(text):

@@ -18,6 +18,7 @@ import sys
 import tempfile
 
 import compare_keymap
+import keymap
 from compare_keymap import ProgramError, Verdict
 from kbd_text import KeymapError
 
@@ -72,15 +73,6 @@ def verdicts(program, actions, paths, judge):
     return found
 
 
-def grouped(name):
-    """Returns a name, or the group that it is counted in."""
-    return re.sub(
-        r"^Hex_[0-9A-F]$",
-        "Hex_0 to Hex_F",
-        re.sub(r"^Brl_\w+$", "Brl_*", re.sub(r"^Meta_.*", "Meta_ of past ASCII", name)),
-    )
-
-
 def figures(title, found):
     """Prints the figures of a set of keymaps."""
     words = collections.Counter(verdict.word for verdict in found)
@@ -96,7 +88,7 @@ def figures(title, found):
     for verdict in found:
         names = collections.Counter()
         for name, count in verdict.names.items():
-            names[grouped(name)] += count
+            names[keymap.group_of(name)] += count
         entries.update(names)
         maps.update(names.keys())
     for name, count in sorted(entries.items(), key=lambda item: (-item[1], item[0])):
