@@ -1,8 +1,8 @@
 """Plays what a test gives a console as sessions of `vt play`, and gives what the console answered.
 
-A session has one console, number 1. Its writes have at most 4,096 bytes; a dump (vcs(4)) shows the screen, and a read the
-reports. A session holds 10,240 items a process and counts for at most 1,073,741,824 bytes, so what is too much for one is
-played as several, each from the start.
+A session has one console, number 1. Its writes have at most 4,096 bytes; a dump (vcs(4)) shows the screen, and a read
+the reports. A session holds 10,240 items a process and counts for at most 1,073,741,824 bytes, so what is too much for
+one is played as several, each from the start.
 """
 import subprocess
 
@@ -59,7 +59,8 @@ class Console:
         try:
             ran = subprocess.run([self.program, "play"], input=text, capture_output=True, timeout=SECONDS, check=False)
         except OSError as fault:
-            raise Stop(3, f"{self.program}: {reason(fault)}: --vt has the path of vt, rt run in crates/vt makes it") from None
+            advice = "--vt has the path of vt, and rt run in crates/vt makes it"
+            raise Stop(3, f"{self.program}: {reason(fault)}: {advice}") from None
         except subprocess.TimeoutExpired:
             raise Stop(3, f"{self.program} play didn't end within {SECONDS} s") from None
         if ran.returncode:
@@ -83,7 +84,8 @@ def session(rows, cols, items, keys_at):
         done += len(part)
         script = ",".join(f'"{item}"' for item in ["open 1", *part])
         processes.append(f"[[process]]\nhome = 1\nprivileged = true\nscript = [{script}]\n")
-    head = f"rows = {rows}\ncols = {cols}\nevents = 1000000\nbytes = 1073741824\nturns = [{','.join(map(str, turns))}]\n"
+    head = f"rows = {rows}\ncols = {cols}\nevents = 1000000\nbytes = 1073741824\n"
+    head += f"turns = [{','.join(map(str, turns))}]\n"
     if keys_at is not None:
         head += f"keys = '{KEYS}'\nkeymap = '''\n{KEYMAP}'''\n"
     return (head + "".join(processes)).encode()
@@ -106,7 +108,7 @@ def read_played(program, out, items):
 
 def bytes_of(answer):
     """The bytes of a dump, or of a read; a read of an empty queue has none."""
-    return bytes.fromhex(answer[6:].decode()) if answer.startswith(b"bytes ") and answer != b"bytes -" else b""
+    return bytes.fromhex(answer[6:].decode("ascii")) if answer.startswith(b"bytes ") and answer != b"bytes -" else b""
 
 
 def items_of(steps, reads):

@@ -1,8 +1,8 @@
 """Texts with backslashes, as the key scripts of record.py and the test files of expect.py have them.
 
-`\\e` is ESC, `\\a` BEL, `\\b` BS, `\\t` HT, `\\n` LF, `\\f` FF, `\\r` CR, `\\\\` a backslash and `\\"` a quotation mark. `\\xHH` is
-one byte, `\\x{H..}` a character by its code point, in UTF-8, and `\\cX` a key with Control: `\\cO` is 0F. Everything else
-stands for itself, in UTF-8.
+`\\e` is ESC, `\\a` BEL, `\\b` BS, `\\t` HT, `\\n` LF, `\\f` FF, `\\r` CR, `\\\\` a backslash and `\\"` a quotation mark.
+`\\xHH` is one byte, `\\x{H..}` a character by its code point, in UTF-8, and `\\cX` a key with Control: `\\cO` is 0F.
+Everything else stands for itself, in UTF-8.
 """
 import re
 

@@ -263,11 +263,15 @@ def run(words):
 
 
 def main():
+    sys.stdout.reconfigure(encoding="utf-8", errors="backslashreplace")
     try:
         return run(sys.argv[1:])
     except Stop as stop:
         print(f"expect.py: {stop}", file=sys.stderr)
         return stop.status
+    except (IndexError, struct.error, ValueError) as fault:
+        print(f"expect.py: what the program printed isn't of the form: {fault}", file=sys.stderr)
+        return 3
     except BrokenPipeError:
         sys.stdout = open(os.devnull, "w", encoding="utf-8")
         return 3

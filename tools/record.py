@@ -4,9 +4,9 @@
 usage: record.py R C [--keys FILE] [--out FILE] [--cast FILE] [--leave] [--limit S] [--trace] -- COMMAND ..
        record.py --from-cast FILE [--out FILE]
 
-The program runs on a terminal of R rows and C columns with TERM=linux. Its output, as the terminal's driver hands it on,
-goes to standard output or to --out, and with --cast as an asciinema recording (version 2) to another file too. Each line
-of a key script is one of these; empty lines and lines that begin with # are skipped:
+The program runs on a terminal of R rows and C columns with TERM=linux. Its output, as the terminal's driver hands it
+on, goes to standard output or to --out, and with --cast as an asciinema recording (version 2) to another file too.
+Each line of a key script is one of these; empty lines and lines that begin with # are skipped:
 
     type TEXT       types the text, in which backslashes stand for keys: \\r is Return, \\e Escape, \\cO Control and O
     wait TEXT       waits until the output has the text, after what the last wait found
@@ -20,10 +20,11 @@ The recording ends with the program. With --leave it ends with the script, as so
 --from-cast prints the output of an asciinema recording (version 1, 2 or 3) as a stream.
 
 Statuses: 0 the stream was written; 1 the words or a file aren't of the form, or a file can't be read or written; 2 the
-command can't be started; 3 the program died: by a signal, or before the script was over; 4 a wait never came; 5 the program
-didn't end within the limit. With 3, 4 and 5 the stream has what came until then.
+command can't be started; 3 the program died: by a signal, or before the script was over; 4 a wait never came; 5 the
+program didn't end within the limit. With 3, 4 and 5 the stream has what came until then.
 """
 import argparse
+import contextlib
 import os
 import pty
 import select
@@ -36,7 +37,7 @@ import time
 from fcntl import ioctl
 
 from casts import cast_of, stream_of
-from escapes import unescaped
+from escapes import escaped, unescaped
 from tool_files import Stop, reason, size, text_lines, write_file
 
 QUIET = 0.3
@@ -198,11 +199,9 @@ class Recording:
         for sign in (signal.SIGHUP, signal.SIGCONT, signal.SIGTERM, signal.SIGKILL):
             if self.program.poll() is not None:
                 break
-            os.killpg(self.program.pid, sign)
-            try:
+            with contextlib.suppress(OSError, subprocess.TimeoutExpired):
+                os.killpg(self.program.pid, sign)
                 self.program.wait(1 if sign != signal.SIGCONT else 0.5)
-            except subprocess.TimeoutExpired:
-                pass
         return status
 
 
@@ -215,7 +214,8 @@ def play(recording, path, steps, limit, trace):
             raise Stop(3, f"{path}:{place}: the program ended before this line was typed")
         if word == "wait" and not recording.wait(value, limit):
             why = "before the program ended" if recording.ended else f"within {limit:g} s"
-            raise Stop(4, f"{path}:{place}: {value!r} didn't come {why}")
+            end = escaped(bytes(recording.output[-60:]))
+            raise Stop(4, f'{path}:{place}: "{escaped(value)}" didn\'t come {why}; the output ends with "{end}"')
         if word == "sleep":
             recording.sleep(value)
         if word == "resize":
@@ -234,7 +234,8 @@ def record(given, command):
         if given.leave:
             recording.settle(given.limit)
         elif not recording.finish(given.limit):
-            fault = Stop(5, f"{command[0]}: didn't end within {given.limit:g} s: --leave or a longer --limit, if it needn't")
+            advice = "--leave ends the recording with the script, --limit S waits longer"
+            fault = Stop(5, f"{command[0]}: didn't end within {given.limit:g} s: {advice}")
     except Stop as stop:
         fault = stop
     finally:

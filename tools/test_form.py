@@ -1,7 +1,8 @@
 """Reads the files of expect.py: a size, what a console is given, and what it has to show then.
 
-A line is a comment (`#`), a title (`!`), a step or an assertion; blanks in front of it don't matter. Rows and columns are
-counted from 0. docs/guide/test-a-terminal-program.md has the form; a fault names the file, the line and what was wanted.
+A line is a comment (`#`), a title (`!`), a step or an assertion; blanks in front of it don't matter. Rows and columns
+are counted from 0. docs/guide/test-a-terminal-program.md has the form. A fault names the file, the line and what was
+wanted.
 """
 import pathlib
 import re
@@ -96,12 +97,14 @@ def attribute(text):
     """A colour of characters, one of the background, and styles; given as the numbers of SGR."""
     words = text.split()
     if len(words) < 2 or words[0] not in COLOURS or words[1] not in COLOURS:
-        raise ValueError(f"wanted two colours of {' '.join(COLOURS)}, the character's and the background's, found {text!r}")
+        colours = " ".join(COLOURS)
+        raise ValueError(f"wanted two colours of {colours}, the character's and the background's, found {text!r}")
     styles = words[2:]
     for word in styles:
         if word not in STYLES or styles.count(word) > 1:
             raise ValueError(f"wanted each of {' '.join(STYLES)} at most once behind the colours, found {word!r}")
-    return tuple([30 + COLOURS[words[0]], 40 + COLOURS[words[1]], *sorted(STYLES[word] for word in styles)]), " ".join(words)
+    numbers = [30 + COLOURS[words[0]], 40 + COLOURS[words[1]], *sorted(STYLES[word] for word in styles)]
+    return tuple(numbers), " ".join(words)
 
 
 def code_point(text):
@@ -148,12 +151,13 @@ def read_assertion(test, place, line):
     left, sign, right = (part.strip() for part in rest.partition("="))
     if kind == "screen":
         if rest.strip():
-            raise ValueError(f"wanted nothing behind ?screen, and its rows on the lines that follow, found {rest.strip()!r}")
+            raise ValueError(f"wanted nothing behind ?screen, and rows on the lines that follow, found {rest.strip()!r}")
         return Check(place, kind, (), [])
     if kind == "mode":
         return Check(place, kind, (left,), read_mode(left, right if sign else "on"))
     if kind not in ASSERTIONS:
-        raise ValueError(f"wanted ?screen, ?mode or one of {' '.join('?' + name for name in ASSERTIONS)}, found ?{kind[:20]}")
+        others = ", ".join("?" + name for name in ASSERTIONS)
+        raise ValueError(f"wanted ?screen, ?mode, {others}, found ?{kind[:20]}")
     if not sign:
         raise ValueError(f"wanted = and a value behind ?{kind}")
     find_place, find_value = ASSERTIONS[kind]
