@@ -272,12 +272,12 @@ def large(given):
     colour = lambda: rng.randrange(8)
     text = lambda: bytes(rng.choices(b"abc xyz", k=60))
     stream = b"".join(b"\x1b[3%d;4%dm%s\x1b[m\r\n" % (colour(), colour(), text()) for _ in range(20_000))[: 1 << 20]
-    kinds = ["?cursor = 24,0", "?row 3 = \"\"", "?cell 0,0 = U+0061", "?attr 2,3 = red black", "?output = \"\""]
+    kinds = ["?cursor = 24,0", '?row 3 = ""', "?cell 0,0 = U+0061", "?attr 2,3 = red black", '?output = ""']
+    kinds += ["?bells = 0", "?mode insert = off", "?screen"]
     lines = ["SIZE 25 80"]
     for i in range(1_000):
         first, last = (len(stream) * n // 1_000 for n in (i, i + 1))
-        kind = ("?bells = 0", "?mode insert = off")[i % 2] if i % 50 == 49 else kinds[i % 5]
-        lines += [f"FILE stream {first} {last}", kind]
+        lines += [f"FILE stream {first} {last}", kinds[i % len(kinds)]]
     with tempfile.TemporaryDirectory() as folder:
         path = pathlib.Path(folder) / "large.test"
         path.write_text("\n".join(lines), encoding="utf-8")

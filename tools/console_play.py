@@ -9,7 +9,7 @@ import subprocess
 from tool_files import Stop, reason
 
 SECONDS = 120
-ITEMS, PROCESSES = 10_000, 64
+ITEMS = 10_000
 MOST_CHARGE, MOST_ITEMS = 1_000_000_000, 400_000
 # The words of the two dumps and of a read, and what each counts for, with the `signals` behind it (docs/JOURNAL.md).
 ATTRIBUTES, CODES, REPORTS = "dump 1 1", "dump 2 1", "read 0 4096"
@@ -19,9 +19,8 @@ PIECE = 4_096
 # input queue holds 4,096 bytes.
 REPORTED_PIECE = 1_024
 
-# The keys of a probe: Return, Up, the 0 of the number pad, and an a that is held down.
-KEYS = "02 82 03 83 04 84 05 05 85"
-KEYMAP = "keycode 2 = Return\nkeycode 3 = Up\nkeycode 4 = KP_0\nkeycode 5 = a\n"
+# In a list of items: here the session's keyboard types its keys.
+TYPED = "keys"
 
 
 def write_of(text):
@@ -29,22 +28,11 @@ def write_of(text):
     return f"write 0 {text.encode().hex()}"
 
 
-# What is written behind the keys, to a screen of 4 by 4 cells; and whether the mode is on, by the column and row of the
-# cursor and the characters and attributes of the dump after it.
-PROBES = {
-    "reverse": ("\x1b[r\x1b[0;37;40m\x1b[2J", lambda x, y, cells: cells[1] == 0x70),
-    "display": ("\x1b[H\x01", lambda x, y, cells: x == 1),
-    "utf8": ("\x1b[3l\x1b[H\xe9", lambda x, y, cells: x == 1),
-    "insert": ("\x1b[2J\x1b[Hx\x1b[Hy", lambda x, y, cells: cells[2] != 0x20),
-    "autowrap": ("\x1b[2J\x1b[Habcde", lambda x, y, cells: cells[8] != 0x20),
-}
-
-
 class Played:
-    """What a session answered: its dumps and reads in order, and how often the bell rang."""
+    """What a session answered: its dumps and reads in order, how often the bell rang, and its text and journal."""
 
-    def __init__(self, answers, bells):
-        self.answers, self.bells = answers, bells
+    def __init__(self, session, out, answers, bells):
+        self.session, self.out, self.answers, self.bells = session, out, answers, bells
 
 
 class Console:
@@ -53,57 +41,60 @@ class Console:
     def __init__(self, program):
         self.program = program
 
-    def play(self, rows, cols, items, keys_at=None):
-        """Plays the items; with a number, the probe's keys are typed before the item of that number."""
-        text = session(rows, cols, items, keys_at)
+    def run(self, words, given):
+        """What the program prints."""
+        words = [str(self.program), *words]
         try:
-            ran = subprocess.run([self.program, "play"], input=text, capture_output=True, timeout=SECONDS, check=False)
+            ran = subprocess.run(words, input=given, capture_output=True, timeout=SECONDS, check=False)
         except OSError as fault:
             advice = "--vt has the path of vt, and rt run in crates/vt makes it"
             raise Stop(3, f"{self.program}: {reason(fault)}: {advice}") from None
         except subprocess.TimeoutExpired:
-            raise Stop(3, f"{self.program} play didn't end within {SECONDS} s") from None
+            raise Stop(3, f"{' '.join(words)} didn't end within {SECONDS} s") from None
         if ran.returncode:
             line = ran.stderr.decode("utf-8", "replace").strip()[:200]
-            raise Stop(3, f"{self.program} play ended with status {ran.returncode}: {line}")
-        return read_played(self.program, ran.stdout, items)
+            raise Stop(3, f"{' '.join(words)} ended with status {ran.returncode}: {line}")
+        return ran.stdout
+
+    def play(self, rows, cols, items, keys=("", "")):
+        """Plays the items; the keyboard has these scan bytes and this keymap, and types all of them at each TYPED."""
+        text = session(rows, cols, items, *keys)
+        out = self.run(["play"], text)
+        answers, bells = [], None
+        for line in out.split(b"\n"):
+            if line.startswith(b"%screen 1 "):
+                bells = int(line.rsplit(b" ", 1)[1])
+            call, _, answer = line.partition(b" = ")
+            words = call.split(b" ", 3)
+            if len(words) > 2 and words[2] in (b"dump", b"read"):
+                answers.append(answer)
+        if bells is None or len(answers) != sum(item in CHARGES for item in items):
+            raise Stop(3, f"{self.program} play printed no whole play")
+        return Played(text, out, answers, bells)
 
 
-def session(rows, cols, items, keys_at):
+def session(rows, cols, items, keys, keymap):
     """The text of a session: the items, shared out to as many processes as they need, one after another."""
-    parts = [items[at : at + ITEMS] for at in range(0, len(items), ITEMS)]
-    if keys_at is not None:
-        # so that a process ends before the keys
-        parts = [part for half in (items[:keys_at], items[keys_at:])
-                 for part in (half[at : at + ITEMS] for at in range(0, len(half), ITEMS))]  # fmt: skip
-    turns, processes, done = [], [], 0
-    for place, part in enumerate(parts, 1):
-        if keys_at is not None and done == keys_at:
-            turns += [0] * len(KEYS.split())
-        turns += [place] * (2 * len(part) + 2)
-        done += len(part)
-        script = ",".join(f'"{item}"' for item in ["open 1", *part])
-        processes.append(f"[[process]]\nhome = 1\nprivileged = true\nscript = [{script}]\n")
-    head = f"rows = {rows}\ncols = {cols}\nevents = 1000000\nbytes = 1073741824\n"
-    head += f"turns = [{','.join(map(str, turns))}]\n"
-    if keys_at is not None:
-        head += f"keys = '{KEYS}'\nkeymap = '''\n{KEYMAP}'''\n"
-    return (head + "".join(processes)).encode()
-
-
-def read_played(program, out, items):
-    """The answers of a play."""
-    answers, bells = [], None
-    for line in out.split(b"\n"):
-        if line.startswith(b"%screen 1 "):
-            bells = int(line.rsplit(b" ", 1)[1])
-        call, _, answer = line.partition(b" = ")
-        words = call.split(b" ", 3)
-        if len(words) > 2 and words[2] in (b"dump", b"read"):
-            answers.append(answer)
-    if bells is None or len(answers) != sum(item in CHARGES for item in items):
-        raise Stop(3, f"{program} play printed no whole play")
-    return Played(answers, bells)
+    turns, scripts, typed = [], [], 0
+    count = len(keys.split())
+    for item in items:
+        if item == TYPED:
+            turns.append("0," * count)
+            typed += 1
+            continue
+        if not scripts or len(scripts[-1]) > ITEMS:
+            scripts.append(["open 1"])
+            turns.append(f"{len(scripts)},{len(scripts)},")
+        scripts[-1].append(item)
+        turns.append(f"{len(scripts)},{len(scripts)},")
+    head = f"rows = {rows}\ncols = {cols}\nevents = 1000000\nbytes = 1073741824\nturns = [{''.join(turns)}]\n"
+    if typed:
+        head += f"keys = '{' '.join([keys] * typed)}'\nkeymap = '''\n{keymap}'''\n"
+    made = [head]
+    for script in scripts:
+        lines = ",".join(f'"{item}"' for item in script)
+        made.append(f"[[process]]\nhome = 1\nprivileged = true\nscript = [{lines}]\n")
+    return "".join(made).encode()
 
 
 def bytes_of(answer):
@@ -180,26 +171,3 @@ def play_batch(console, size, start, batch, views):
                 view.attributes = shown
             else:
                 view.codes = shown
-
-
-def probe(console, size, steps, view):
-    """Plays a test up to one place, and then looks what its keys and further writes do there: the modes and bells."""
-    items = [*items_of(steps, False), "activate 0 1", REPORTS]
-    keys_at = len(items)
-    items += [REPORTS, "resize 0 4 4"]
-    for text, _ in PROBES.values():
-        items += [write_of(text), ATTRIBUTES]
-    items += [write_of("\x1b[2;3r"), ATTRIBUTES]
-    played = console.play(*size, items, keys_at)
-    typed = bytes_of(played.answers[1])
-    dumps = [bytes_of(answer) for answer in played.answers[2:]]
-    view.bells = played.bells
-    view.modes = {
-        "newline": typed.startswith(b"\r\n"),
-        "cursor_keys": b"\x1bOA" in typed,
-        "keypad": b"\x1bOp" in typed,
-        "repeat": typed.endswith(b"aa"),
-        "origin": dumps[-1][3] == 1,
-    }
-    for (name, (_, holds)), dump in zip(PROBES.items(), dumps):
-        view.modes[name] = holds(dump[2], dump[3], dump[4:])

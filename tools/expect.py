@@ -33,6 +33,7 @@ import sys
 import unicodedata
 
 import console_play
+import console_probe
 from console_play import ATTRIBUTES, CODES
 from escapes import escaped
 from test_form import HALF, MODES, read_test
@@ -43,7 +44,8 @@ PROGRAM = pathlib.Path(__file__).resolve().parent.parent / "crates/vt/out/vt"
 VGA = ("black", "blue", "green", "cyan", "red", "magenta", "yellow", "white")
 # What an assertion looks at.
 LOOKS = {"row": [CODES], "screen": [CODES], "cell": [CODES], "attr": [ATTRIBUTES, CODES], "cursor": [ATTRIBUTES, CODES]}
-PROBED = ("mode", "bells")
+# What is asked on a second console.
+PROBED = {"mode": console_probe.ask_modes, "bells": console_probe.ask_bells}
 
 
 class Words(argparse.ArgumentParser):
@@ -203,10 +205,11 @@ def play_test(console, test, pool):
     jobs = []
     for start, batch in console_play.batches(sorted(kinds), parts):
         jobs.append(pool.submit(console_play.play_batch, console, test.start, start, batch, views))
-    for place in kinds:
-        if kinds[place] & set(PROBED):
-            jobs.append(pool.submit(console_play.probe, console, test.start, test.steps[:place], views[place]))
-    for job in jobs:
+    for kind, ask in PROBED.items():
+        places = [place for place in sorted(kinds) if kind in kinds[place]]
+        jobs.append(pool.submit(ask, console, test.steps, places, views))
+    left = {place for job in jobs for place in job.result() or ()}
+    for job in [pool.submit(console_probe.ask_alone, console, test.steps[:place], views[place]) for place in left]:
         job.result()
     return views
 
