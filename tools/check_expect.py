@@ -115,6 +115,10 @@ RUNS = [
     ("", ["3", "20", "--limit", "0.5", "--", "sleep", "20"], 5, "didn't end within 0.5 s"),
     ("wait go\n", ["3", "20", "--leave", "--", "sh", "-c", "echo go; sleep 20"], 0, ""),
     ("", ["3", "20", "--out", "/nosuch/file", "--", "true"], 1, "/nosuch/file: No such file"),
+    ("type hi\\r\nwait hi\nwait hi\n", ["3", "20", "--leave", "--", "cat"], 0, ""),
+    ("wait go\nresize 7 33\nwait 7 33\n", ["3", "20", "--leave", "--", "sh", "-c",
+        "trap 'stty size' WINCH; echo go; while :; do sleep 0.1; done"], 0, ""),
+    ("sleep 0.1\ntype \\cC\n", ["3", "20", "--", "sleep", "20"], 3, "was ended by signal 2"),
 ]  # fmt: skip
 
 

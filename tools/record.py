@@ -98,7 +98,10 @@ class Recording:
         self.events = []
         self.found = 0
         self.start = time.monotonic()
-        self.terminal, other = pty.openpty()
+        try:
+            self.terminal, other = pty.openpty()
+        except OSError as fault:
+            raise Stop(2, f"there is no terminal for {command[0]}: {reason(fault)}") from None
         self.set_size(rows, cols)
         env = {key: value for key, value in os.environ.items() if key not in ("LINES", "COLUMNS", "COLORTERM")}
         try:
