@@ -30,6 +30,8 @@ for probe, _ in PROBES.values():
 # A sequence that is whole, and no string's beginning.
 SEQUENCE = re.compile(rb"\x1b(?:\[[0-9;?]{0,200}[@-Z\\-~]|[ -/]{0,9}[0-OQ-WYZ\\`-~])")
 MARK = "getkd 0"
+# What one play is asked for: the dumps of so many places are well within a session's limits.
+MOST_PLACES = 1_000
 MOST_REVIEWED = 15_000_000
 
 

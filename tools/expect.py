@@ -207,7 +207,9 @@ def play_test(console, test, pool):
         jobs.append(pool.submit(console_play.play_batch, console, test.start, start, batch, views))
     for kind, ask in PROBED.items():
         places = [place for place in sorted(kinds) if kind in kinds[place]]
-        jobs.append(pool.submit(ask, console, test.steps, places, views))
+        for at in range(0, len(places), console_probe.MOST_PLACES):
+            some = places[at : at + console_probe.MOST_PLACES]
+            jobs.append(pool.submit(ask, console, test.steps, some, views))
     left = {place for job in jobs for place in job.result() or ()}
     for job in [pool.submit(console_probe.ask_alone, console, test.steps[:place], views[place]) for place in left]:
         job.result()

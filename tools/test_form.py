@@ -45,6 +45,7 @@ class Test:
         self.steps = []
         self.checks = []
         self.bytes = 0
+        self.files = {}
         self.title = None
 
     def write(self, given):
@@ -183,7 +184,10 @@ def read_stream(test, rest):
     found = re.fullmatch(r'(?:"([^"]+)"|([^"\s]\S*))(?:\s+([0-9]{1,9}))?(?:\s+([0-9]{1,9}))?\s*', rest)
     if not found:
         raise ValueError(f"wanted the name of a file, and then none, one or two numbers of bytes, found {rest!r}")
-    given = read_file(pathlib.Path(test.path).parent / (found[1] or found[2]), 2)
+    path = pathlib.Path(test.path).parent / (found[1] or found[2])
+    if path not in test.files:
+        test.files[path] = read_file(path, 2)
+    given = test.files[path]
     first, last = int(found[3] or 0), int(found[4] or len(given))
     if not first <= last <= len(given):
         raise ValueError(f"wanted two rising numbers up to {len(given)}, the file's bytes, found {first} {last}")
