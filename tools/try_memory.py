@@ -28,6 +28,18 @@ hooks = ['10 disp 0 1']
 home = 2
 script = ['open 2', 'activate 0 2', 'waitactive 0 2', 'say 0 hi']
 """
+HANDOVER = b"""rows = 2
+cols = 5
+consoles = [1, 2]
+[[process]]
+home = 1
+script = ['open 1', 'setmode 0 1 0 10 12 0', 'waitsignal']
+hooks = ['10 disp 0 1']
+[[process]]
+home = 2
+script = ['open 2', 'activate 0 2']
+"""
+COMPOSED = b"keymap = '''\ncompose as usual\nkeycode 40 = dead_acute\nkeycode 18 = e\n'''\nkeys = '28 a8 12 92'\n"
 TYPED = b"keymap = '''\nkeymaps 0-1,4\nkeycode 30 = a\nkeycode 42 = Shift\n'''\nkeys = '2a 1e 9e aa'\n"
 
 
@@ -39,6 +51,13 @@ def runs(program):
     yield "keys", ["keys"], KEYMAP
     yield "dumpkeys", ["dumpkeys"], KEYMAP
     yield "type", ["type"], TYPED
+    yield "an accent typed", ["type"], COMPOSED
+    handed_over = to_end(plain(program, ["play"], HANDOVER)[1])
+    yield "a handover played", ["play"], HANDOVER
+    yield "its journal checked", ["check"], HANDOVER + handed_over
+    yield "with two entries exchanged", ["check"], HANDOVER + exchanged(handed_over, 6)
+    yield "with another two", ["check"], HANDOVER + exchanged(handed_over, 7)
+    yield "without its last entry", ["check"], HANDOVER + shortened(handed_over)
     yield "a handshake played", ["play"], HANDSHAKE
     yield "its journal checked", ["check"], HANDSHAKE + to_end(played)
     yield "the example played", ["play"], session
@@ -56,6 +75,19 @@ def to_end(journal):
     """The journal itself, without the screens after it."""
     lines = journal.splitlines(keepends=True)
     return b"".join(lines[: next(n for n, line in enumerate(lines) if line.startswith((b"%end", b"%full"))) + 1])
+
+
+def exchanged(journal, i):
+    """The journal with entries i and i + 1 in the other order, counted from 0."""
+    lines = journal.splitlines(keepends=True)
+    return b"".join([*lines[: i + 1], lines[i + 2], lines[i + 1], *lines[i + 3 :]])
+
+
+def shortened(journal):
+    """The journal without its last entry, which counts for 64, and with the end of what is left."""
+    *entries, _, end = journal.splitlines(keepends=True)
+    _, events, counted = end.split()
+    return b"".join([*entries, b"%%end %d %d\n" % (int(events) - 1, int(counted) - 64)])
 
 
 def plain(program, words, given, more=None):

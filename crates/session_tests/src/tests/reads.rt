@@ -35,7 +35,7 @@ fn raced<R: Threads + Wait + Sync>(
 fn ends_in_fault(printed: &Printed) -> bool {
     printed.status == 2
         && printed.out.held().is_empty()
-        && printed.err.held() == b"vt: read failed\n"
+        && printed.err.held() == b"vt: read failed\n".as_slice()
 }
 
 fn fails_at<R: Threads + Wait + Sync>(
