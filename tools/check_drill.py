@@ -1,10 +1,11 @@
 #!/usr/bin/env python3
 """Compares `vt drill N SEED` with `vt play` of the same session, which is made here by the rules of docs/SESSIONS.md.
 
-What `play` prints of it has four of the five numbers: entries, what they count for, what the queues dropped, and the console
-in front. `vt check` has to find the journal legal, and `vt explain` and `vt review` find as many switches of the display in
-it as the drill counts. Ends with status 1 where something differs.
+What `play` prints of it has four of the five numbers: entries, what they count for, what the queues dropped, and the
+console in front. `vt check` has to find the journal legal, and `vt explain` and `vt review` find as many switches of the
+display in it as the drill counts. Ends with status 1 where something differs, and 2 if there is no program.
 """
+import os
 import pathlib
 import re
 import subprocess
@@ -101,6 +102,9 @@ def fault_of(n, seed):
 
 
 def main():
+    if not os.access(PROGRAM, os.X_OK):
+        print(f"check_drill.py: {PROGRAM}: no program is there (wanted: a built one)", file=sys.stderr)
+        return 2
     failed = 0
     for n, seed in DRILLS:
         why = fault_of(n, seed)

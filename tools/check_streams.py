@@ -4,16 +4,16 @@
 usage: check_streams.py [PROGRAM]
 
 - An error in the middle of the input: the master of a pseudoterminal whose other side wrote some bytes and was closed
-  gives them and then EIO (ptmx(4)); a directory fails at the first read (EISDIR). The status is 2, and nothing of the input
-  is printed. `drill` reads nothing, so that a source that fails is none of its.
+  gives them and then EIO; a directory fails at the first read, with EISDIR (read(2)). The status is 2, and nothing of the
+  input is printed. `drill` reads nothing, so that a source that fails is none of its business.
 - An interrupted call: a read or a write of a socket with a time limit ends with EINTR where the process is stopped and
   continued (signal(7), "Interruption of system calls and library functions by stop signals"). The program is stopped
   and continued while it waits, and the status is 0 with the whole text. That such a call is interrupted on this machine
   is tried first, on a call of the C library's; where it isn't, these runs are left out, and a line says so.
-- A full output: /dev/full, and a pipe whose reader is gone. The status is 3, with its line on err where that is not full.
+- A full output: /dev/full, and a pipe whose reader is gone. The status is 3, with its line on err unless err is full.
 
-Prints a line for each run that ends otherwise, and last 'N passed, M failed'; ends with status 1 if one fails, and 2 if there
-is no program.
+Prints a line for each run that ends otherwise, and last 'N passed, M failed'. Ends with status 1 if one fails, and 2 if
+there is no program.
 """
 import contextlib
 import os

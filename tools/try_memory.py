@@ -6,8 +6,9 @@ usage: try_memory.py [PROGRAM]
 Each run has to end as if nothing had been refused, or with status 4, that status's line on err, and on out a prefix of what
 is printed otherwise. The first four requests may be those of the words themselves, before there is a call to tell anything:
 then nothing is on err. Raced runs are left out: they may wait for ever. Wants a C compiler (cc), and isn't a part of the
-gate. Prints a line a run, and last 'N passed, M failed'; ends with status 1 if one fails.
+gate. Prints a line a run, and last 'N passed, M failed'; ends with status 1 if one fails, and 2 if there is no program.
 """
+import os
 import pathlib
 import subprocess
 import sys
@@ -98,6 +99,9 @@ def plain(program, words, given, more=None):
 
 def main():
     program = sys.argv[1] if len(sys.argv) > 1 else str(ROOT / "crates/vt/out/vt")
+    if not os.access(program, os.X_OK):
+        print(f"try_memory.py: {program}: no program is there (wanted: a built one)", file=sys.stderr)
+        return 2
     passed = failed = 0
     with tempfile.TemporaryDirectory() as folder:
         shim, count = f"{folder}/refuse_memory.so", f"{folder}/count"
