@@ -2,8 +2,8 @@
 """Compares `vt drill N SEED` with `vt play` of the same session, which is made here by the rules of docs/SESSIONS.md.
 
 What `play` prints of it has four of the five numbers: entries, what they count for, what the queues dropped, and the
-console in front. `vt check` has to find the journal legal, and `vt explain` and `vt review` find as many switches of the
-display in it as the drill counts. Ends with status 1 where something differs, and 2 if there is no program.
+console in front. `vt check` has to find the journal legal, and `vt explain` and `vt review` find as many switches of
+the display in it as the drill counts. Ends with status 1 where something differs, and 2 if there is no program.
 """
 import os
 import pathlib

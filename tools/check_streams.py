@@ -4,8 +4,8 @@
 usage: check_streams.py [PROGRAM]
 
 - An error in the middle of the input: the master of a pseudoterminal whose other side wrote some bytes and was closed
-  gives them and then EIO; a directory fails at the first read, with EISDIR (read(2)). The status is 2, and nothing of the
-  input is printed. `drill` reads nothing, so that a source that fails is none of its business.
+  gives them and then EIO; a directory fails at the first read, with EISDIR (read(2)). The status is 2, and nothing of
+  the input is printed. `drill` reads nothing, so that a source that fails changes nothing for it.
 - An interrupted call: a read or a write of a socket with a time limit ends with EINTR where the process is stopped and
   continued (signal(7), "Interruption of system calls and library functions by stop signals"). The program is stopped
   and continued while it waits, and the status is 0 with the whole text. That such a call is interrupted on this machine
@@ -185,9 +185,10 @@ def failing_writes(program):
     """The same of each run whose out or err is full or broken."""
     with open("/dev/full", "wb") as full:
         yield "/dev/full", ended(program, "screen 2 5", input=b"ab", stdout=full), WRITE_FAULT
-        ran = subprocess.run([program, "foo"], stdin=subprocess.DEVNULL, stdout=subprocess.PIPE, stderr=full, check=False)
+        streams = {"input": b"ab", "stdout": subprocess.PIPE, "stderr": full, "timeout": SECONDS, "check": False}
+        ran = subprocess.run([program, "foo"], **streams)
         yield "/dev/full as err", (ran.returncode, ran.stdout, b""), (3, b"", b"")
-        ran = subprocess.run([program, "screen", "1", "3"], input=b"ab", stdout=subprocess.PIPE, stderr=full, check=False)
+        ran = subprocess.run([program, "screen", "1", "3"], **streams)
         yield "/dev/full as an err without a line", (ran.returncode, ran.stdout, b""), (0, b"|ab |\n", b"")
     reader, writer = os.pipe()
     os.close(reader)
