@@ -11,15 +11,22 @@ use vt_io::{MemSource, OpenGate};
 // Line feeds that no single read takes whole.
 const FILL: usize = 70_000;
 
-// A session behind the line feeds, from a source that fails at these reads.
-fn source(alloc: Global, fails: &[u8]) -> Result<MemSource, NoMemory> {
-    let mut text = Bytes::with_room(alloc, FILL + HANDOVER.len())?;
+// A session behind the line feeds.
+fn text(alloc: Global) -> Result<Vec<u8>, NoMemory> {
+    let mut text = Vec::new(alloc);
     for _ in 0..FILL {
-        text.append(b"\n");
+        text.push(b'\n')?;
     }
-    text.append(HANDOVER.as_bytes());
+    text.extend_from_slice(HANDOVER.as_bytes())?;
+    Ok(text)
+}
+
+// A source of that text that fails at these reads.
+fn source(alloc: Global, fails: &[u8]) -> Result<MemSource, NoMemory> {
+    let given = text(alloc)?;
+    let bytes = Bytes::from_slice(alloc, given.as_slice())?;
     let fails = Bytes::from_slice(alloc, fails)?;
-    Ok(MemSource::new(text, fails))
+    Ok(MemSource::new(bytes, fails))
 }
 
 fn raced<R: Threads + Wait + Sync>(
