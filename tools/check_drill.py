@@ -1,9 +1,11 @@
 #!/usr/bin/env python3
 """Compares `vt drill N SEED` with `vt play` of the same session, which is made here by the rules of docs/SESSIONS.md.
 
-What `play` tells of it are four of the five numbers: entries, what they count for, what the queues dropped, and the console
-in front. `vt check` has to find the journal legal. Ends with status 1 where something differs.
+What `play` prints of it has four of the five numbers: entries, what they count for, what the queues dropped, and the
+console in front. `vt check` has to find the journal legal, and `vt explain` and `vt review` find as many switches of
+the display in it as the drill counts. Ends with status 1 where something differs, and 2 if there is no program.
 """
+import os
 import pathlib
 import re
 import subprocess
@@ -65,10 +67,19 @@ def run(words, given=b""):
     return subprocess.run([PROGRAM, *words], input=given, capture_output=True, timeout=60, check=False)
 
 
+def hops_of(given):
+    """How often the display changed hands in the journal after a session; None where two commands differ in that."""
+    explained = run(["explain"], given).stdout
+    reviewed = run(["review", "1", "0"], given).stdout
+    items = explained.count(b"\n") - 1
+    is_one_count = explained.startswith(b"%%explain %d\n" % items) and reviewed.count(b"\n") == items
+    return items if is_one_count else None
+
+
 def fault_of(n, seed):
     """What is wrong with this drill, or None."""
     drilled = run(["drill", str(n), str(seed)])
-    form = rb"events (\d+)\nbytes (\d+)\nhops \d+\ndropped (\d+)\ndisplay (\d+)\n"
+    form = rb"events (\d+)\nbytes (\d+)\nhops (\d+)\ndropped (\d+)\ndisplay (\d+)\n"
     told = re.fullmatch(form, drilled.stdout)
     if drilled.returncode or drilled.stderr or not told:
         return f"status {drilled.returncode}, {drilled.stdout[:100]!r}"
@@ -79,10 +90,11 @@ def fault_of(n, seed):
     events, counted = re.search(rb"\n%end (\d+) (\d+)\n", played.stdout).groups()
     dropped = sum(int(count) for count in re.findall(rb"\n%queue \d+ (\d+) ", played.stdout))
     display = re.search(rb"\n%display (\d+)\n", played.stdout)[1]
-    wanted = [int(events), int(counted), dropped, int(display)]
-    if [int(number) for number in told.groups()] != wanted:
-        return f"it tells {told.groups()}, and its session's play {wanted}"
     journal = played.stdout[: played.stdout.index(b"\n%display ") + 1]
+    hops = hops_of(text + journal)
+    wanted = [int(events), int(counted), hops, dropped, int(display)]
+    if [int(number) for number in told.groups()] != wanted:
+        return f"it prints {told.groups()}, and its session's play has {wanted}"
     judged = run(["check"], text + journal)
     if judged.stdout != b"legal %d\n" % int(events):
         return f"its journal is judged {judged.stdout + judged.stderr!r}"
@@ -90,6 +102,9 @@ def fault_of(n, seed):
 
 
 def main():
+    if not os.access(PROGRAM, os.X_OK):
+        print(f"check_drill.py: {PROGRAM}: no program is there (wanted: a built one)", file=sys.stderr)
+        return 2
     failed = 0
     for n, seed in DRILLS:
         why = fault_of(n, seed)

@@ -6,6 +6,11 @@ are defined. What carries it is groups with `; ` between: calls, a colon, and cl
 every one as an `ensures` or a `requires` in the crate's src/ ("its clause" is an `ensures` without a name, and of
 `Type::output` the text that `Display` promises of the type); or `type` and names of types. A definition is a file of the crate's specs/, or CRATE/specs/FILE of another one, with names in parentheses that
 stand in it. Checked too: each page docs/NAME.md that a page names is there.
+
+The table under `## Wrong bodies` has a row for each of the named wrong bodies, whose second column names edits, as
+CRATE/must-fail/NAME.edit, or tests: a file of a crate of tests with the test's name in parentheses, or `cases` with that of
+a case. Each has to be there; and every edit of every crate changes files of its src/ alone, since one of a definition or a
+proof shows nothing.
 Prints a line for each that is missing, and ends with status 1 if there is one.
 """
 import pathlib
@@ -15,6 +20,15 @@ import sys
 TOP = pathlib.Path(__file__).resolve().parent.parent
 NAMES = re.compile(r"`([^`]+)`")
 UNNAMED = "its clause"
+WRONG_BODIES = (
+    "Hop without release", "Death leaves the switch pending", "Wait that only polls", "Write that forgets the rest",
+    "Caps lock as shift", "Release looked up afresh", "Journal sorted by caller", "Two readers, same bytes",
+    "Lenient journal reader: a leading zero", "Lenient journal reader: two blanks", "Lost write",
+    "Release with nothing pending", "Constant answer: Usage", "Constant answer: ReadFault", "Constant answer: WriteFault",
+    "Constant answer: TooLong", "Constant answer: Refused", "Constant answer: JournalFull", "Constant answer: Illegal",
+    "Deaf worker: each act", "Deaf worker: it ends", "Race played on one thread", "Always out of memory",
+    "Display behind the lock", "A dump that writes one line with a single symbol",
+)  # fmt: skip
 
 
 def owners(line):
@@ -111,10 +125,48 @@ def missing_pages(page):
             yield f"{page.name}: no page {name}"
 
 
+def refusal_faults(cell):
+    """What is wrong with the edits and tests that a row of wrong bodies names."""
+    edits = re.findall(r"`(\w+/must-fail/\w+\.edit)`", cell)
+    tests = re.findall(r"`(\w+(?:/src/[\w/]+\.rt)?)` \(`([^`]+)`\)", cell)
+    if not edits and not tests:
+        yield f"no edit and no test: {cell}"
+    yield from (f"no edit {edit}" for edit in edits if not (TOP / "crates" / edit).exists())
+    for place, name in tests:
+        path = TOP / "crates" / (place if "/" in place else f"{place}/stdin")
+        wanted = rf"#\[test\]\nfn {name}\(" if "/" in place else rf"^case {re.escape(name)}$"
+        if not path.exists() or not re.search(wanted, path.read_text(encoding="utf-8"), re.M):
+            yield f"{place} has no {name}"
+
+
+def wrong_body_faults(page):
+    """Goes through the table of wrong bodies: each named one has a row, and what a row names is there."""
+    number, rows, is_there = 0, [], False
+    for number, line in enumerate(page.read_text(encoding="utf-8").splitlines(), 1):
+        is_there = line == "## Wrong bodies" or is_there and not line.startswith("## ")
+        cells = [it.strip() for it in line.strip().strip("|").split(" | ")]
+        if is_there and line.startswith("| ") and cells[0] != "wrong body":
+            rows.append(cells[0])
+            faults = refusal_faults(cells[1]) if len(cells) == 3 else ["a row of three columns is wanted"]
+            yield from (f"{page.name}:{number}: {fault}" for fault in faults)
+    for name in WRONG_BODIES:
+        if not any(row.startswith(name) for row in rows):
+            yield f"{page.name}: no row of the wrong body: {name}"
+
+
+def edit_faults():
+    """Each edit that changes something else than code."""
+    for edit in sorted((TOP / "crates").glob("*/must-fail/*.edit")):
+        for number, line in enumerate(edit.read_text(encoding="utf-8").splitlines(), 1):
+            if line.startswith("file: ") and not line.startswith("file: src/"):
+                yield f"{edit.relative_to(TOP)}:{number}: it changes {line[6:]}, which is no code"
+
+
 def main():
     pages = [TOP / "README.md", TOP / "CONTRIBUTING.md", *sorted((TOP / "docs").glob("*.md"))]
     faults = [fault for page in pages for fault in missing_pages(page)]
     faults += [fault for name in ("docs/PROVED.md", "README.md") for fault in page_faults(TOP / name)]
+    faults += [*wrong_body_faults(TOP / "docs/PROVED.md"), *edit_faults()]
     for fault in faults:
         print(fault)
     return 1 if faults else 0

@@ -6,8 +6,9 @@ usage: try_memory.py [PROGRAM]
 Each run has to end as if nothing had been refused, or with status 4, that status's line on err, and on out a prefix of what
 is printed otherwise. The first four requests may be those of the words themselves, before there is a call to tell anything:
 then nothing is on err. Raced runs are left out: they may wait for ever. Wants a C compiler (cc), and isn't a part of the
-gate. Prints a line a run, and last 'N passed, M failed'; ends with status 1 if one fails.
+gate. Prints a line a run, and last 'N passed, M failed'; ends with status 1 if one fails, and 2 if there is no program.
 """
+import os
 import pathlib
 import subprocess
 import sys
@@ -28,6 +29,18 @@ hooks = ['10 disp 0 1']
 home = 2
 script = ['open 2', 'activate 0 2', 'waitactive 0 2', 'say 0 hi']
 """
+HANDOVER = b"""rows = 2
+cols = 5
+consoles = [1, 2]
+[[process]]
+home = 1
+script = ['open 1', 'setmode 0 1 0 10 12 0', 'waitsignal']
+hooks = ['10 disp 0 1']
+[[process]]
+home = 2
+script = ['open 2', 'activate 0 2']
+"""
+COMPOSED = b"keymap = '''\ncompose as usual\nkeycode 40 = dead_acute\nkeycode 18 = e\n'''\nkeys = '28 a8 12 92'\n"
 TYPED = b"keymap = '''\nkeymaps 0-1,4\nkeycode 30 = a\nkeycode 42 = Shift\n'''\nkeys = '2a 1e 9e aa'\n"
 
 
@@ -39,6 +52,13 @@ def runs(program):
     yield "keys", ["keys"], KEYMAP
     yield "dumpkeys", ["dumpkeys"], KEYMAP
     yield "type", ["type"], TYPED
+    yield "an accent typed", ["type"], COMPOSED
+    handed_over = to_end(plain(program, ["play"], HANDOVER)[1])
+    yield "a handover played", ["play"], HANDOVER
+    yield "its journal checked", ["check"], HANDOVER + handed_over
+    yield "with two entries exchanged", ["check"], HANDOVER + exchanged(handed_over, 6)
+    yield "with another two", ["check"], HANDOVER + exchanged(handed_over, 7)
+    yield "without its last entry", ["check"], HANDOVER + shortened(handed_over)
     yield "a handshake played", ["play"], HANDSHAKE
     yield "its journal checked", ["check"], HANDSHAKE + to_end(played)
     yield "the example played", ["play"], session
@@ -58,6 +78,19 @@ def to_end(journal):
     return b"".join(lines[: next(n for n, line in enumerate(lines) if line.startswith((b"%end", b"%full"))) + 1])
 
 
+def exchanged(journal, i):
+    """The journal with entries i and i + 1 in the other order, counted from 0."""
+    lines = journal.splitlines(keepends=True)
+    return b"".join([*lines[: i + 1], lines[i + 2], lines[i + 1], *lines[i + 3 :]])
+
+
+def shortened(journal):
+    """The journal without its last entry, which counts for 64, and with the end of what is left."""
+    *entries, _, end = journal.splitlines(keepends=True)
+    _, events, counted = end.split()
+    return b"".join([*entries, b"%%end %d %d\n" % (int(events) - 1, int(counted) - 64)])
+
+
 def plain(program, words, given, more=None):
     """Status, out and err of a run with this environment."""
     ran = subprocess.run([program, *words], input=given, capture_output=True, timeout=SECONDS, env=more or {}, check=False)
@@ -66,6 +99,9 @@ def plain(program, words, given, more=None):
 
 def main():
     program = sys.argv[1] if len(sys.argv) > 1 else str(ROOT / "crates/vt/out/vt")
+    if not os.access(program, os.X_OK):
+        print(f"try_memory.py: {program}: no program is there (wanted: a built one)", file=sys.stderr)
+        return 2
     passed = failed = 0
     with tempfile.TemporaryDirectory() as folder:
         shim, count = f"{folder}/refuse_memory.so", f"{folder}/count"

@@ -14,6 +14,18 @@ home = 2
 script = ['open 2', 'activate 0 2']
 ";
 
+/// The same, but process 1 never lets the display go, and exits.
+pub const ABANDONED: &str = "rows = 2
+cols = 5
+consoles = [1, 2]
+[[process]]
+home = 1
+script = ['open 1', 'setmode 0 1 0 10 12 0']
+[[process]]
+home = 2
+script = ['open 2', 'activate 0 2']
+";
+
 /// A shell, and a display server that hands its console over.
 pub const ORDINARY: &str = "keys = '1e 9e 38 41 c1 b8 30 b0'
 keymap = '''

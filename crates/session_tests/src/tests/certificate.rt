@@ -1,19 +1,68 @@
-//! A session that was raced: its journal is one of many, and has a certificate all the same.
+//! Sessions that were raced: the journal is one of many, and has a certificate all the same.
 use session_run::race_tables;
 use session_text::{Session, read};
 use std::alloc::Global;
 use std::sync::Wait;
+use std::sync::atomic::AtomicBool;
+use std::sync::atomic::Ordering::SeqCst;
 use std::test::Fail;
+use std::thread;
 use std::thread::Threads;
-use test_sessions::ORDINARY;
-use vt_base::{Bytes, NoMemory};
-use vt_events::Entry;
-use vt_explain::{Explained, HopWhy, Judged, accept, explain, print_cert, read_cert};
-use vt_io::OpenGate;
+use test_sessions::{ABANDONED, HANDOVER, ORDINARY};
+use vt_base::{Bytes, CallerNo, NoMemory, Signal};
+use vt_events::{Entry, Event};
+use vt_explain::{Explained, HopCause, HopWhy, Judged, accept, explain, print_cert, read_cert};
+use vt_io::{Gate, OpenGate};
 use vt_journal::{Journal, Tail, parse, print};
 
-fn raced<R: Threads + Wait + Sync>(rt: &R, alloc: Global, s: &Session) -> Result<Journal, Fail> {
-    let run = race_tables(rt, alloc, s, &OpenGate)?;
+// How often a caller that is held looks again.
+const TURNS: u32 = 1_000_000;
+
+// Holds caller 2's call 2, which asks for the display, until caller 1 handles its switches, by its call 2; and caller
+// 1's call 4, by which it lets the display go at the earliest, or exits, until caller 2's call 2 is made.
+#[derive(Drop)]
+struct InOrder {
+    is_set: AtomicBool,
+    is_asked: AtomicBool,
+}
+
+impl InOrder {
+    fn new() -> InOrder {
+        InOrder {
+            is_set: AtomicBool::new(false),
+            is_asked: AtomicBool::new(false),
+        }
+    }
+}
+
+fn hold(came: &AtomicBool) {
+    for _ in 0..TURNS {
+        if came.load(SeqCst) {
+            return;
+        }
+        thread::yield_now();
+    }
+}
+
+impl Gate for InOrder {
+    fn before<R: Wait>(&self, _rt: &R, caller: CallerNo, seq: u32) {
+        match (caller.get(), seq) {
+            (1, 3) => self.is_set.store(true, SeqCst),
+            (2, 2) => hold(&self.is_set),
+            (2, 3) => self.is_asked.store(true, SeqCst),
+            (1, 4) => hold(&self.is_asked),
+            _ => (),
+        }
+    }
+}
+
+fn raced<G: Gate + Sync, R: Threads + Wait + Sync>(
+    rt: &R,
+    alloc: Global,
+    s: &Session,
+    gate: &G,
+) -> Result<Journal, Fail> {
+    let run = race_tables(rt, alloc, s, gate)?;
     journal(alloc, run.log.entries(), &run.tail())
 }
 
@@ -62,7 +111,67 @@ fn read_again(alloc: Global, c: &[HopWhy]) -> Result<Vec<HopWhy>, Fail> {
 #[test]
 fn a_raced_journal_is_explained(rt: HostRuntime) -> Result<(), Fail> {
     let session = read(rt.alloc(), ORDINARY.as_bytes())?;
-    let journal = raced(&rt, rt.alloc(), &session)?;
+    let journal = raced(&rt, rt.alloc(), &session, &OpenGate)?;
     assert!(rt; has_certificate(rt.alloc(), &session, &journal)?);
+    Ok(())
+}
+
+// Whether process 1 was asked, by signal 10, in an entry that activates a console.
+fn was_asked(entries: &[Entry], owner: CallerNo, asked: u32, signal: Signal) -> bool {
+    let is_activate = match entries.get(asked as usize) {
+        Some(entry) => matches!(entry.event, Event::Activate(..)),
+        None => false,
+    };
+    is_activate && owner.get() == 1 && signal.get() == 10
+}
+
+// Whether the one item is a release, or a death where it should be one.
+fn has_cause(c: &[HopWhy], entries: &[Entry], is_death: bool) -> bool {
+    let [why] = c else {
+        return false;
+    };
+    match why.cause {
+        HopCause::Free => false,
+        HopCause::Released {
+            owner,
+            asked,
+            signal,
+        } => !is_death && was_asked(entries, owner, asked, signal),
+        HopCause::Died {
+            owner,
+            asked,
+            signal,
+        } => is_death && was_asked(entries, owner, asked, signal),
+    }
+}
+
+fn is_explained(alloc: Global, s: &Session, j: &Journal, is_death: bool) -> Result<bool, Fail> {
+    match explain(alloc, s, j)? {
+        Explained::Cert(c) => {
+            Ok(has_cause(&c, j.entries.as_slice(), is_death) && is_accepted(alloc, s, j, &c)?)
+        }
+        Explained::Illegal { .. } => Ok(false),
+    }
+}
+
+// Whether the display leaves console 1 so in a race of the session behind the gate.
+fn leaves<R: Threads + Wait + Sync>(
+    rt: &R,
+    alloc: Global,
+    text: &str,
+    is_death: bool,
+) -> Result<bool, Fail> {
+    let session = read(alloc, text.as_bytes())?;
+    let gate = InOrder::new();
+    let journal = raced(rt, alloc, &session, &gate)?;
+    is_explained(alloc, &session, &journal, is_death)
+}
+
+#[test]
+fn a_raced_release_and_a_raced_death_are_explained(rt: HostRuntime) -> Result<(), Fail> {
+    let released = leaves(&rt, rt.alloc(), HANDOVER, false)?;
+    assert!(rt; released, "a release");
+    let died = leaves(&rt, rt.alloc(), ABANDONED, true)?;
+    assert!(rt; died, "a death");
     Ok(())
 }

@@ -2,8 +2,8 @@
 //! played on one thread fails here, and so does one whose threads ask the gate and then play serially.
 use super::printed::{in_order, race_text};
 use std::sync::Wait;
-use std::sync::atomic::AtomicBool;
 use std::sync::atomic::Ordering::SeqCst;
+use std::sync::atomic::{AtomicBool, AtomicU32};
 use std::test::Fail;
 use std::thread;
 use test_sessions::HANDOVER;
@@ -19,6 +19,7 @@ const TURNS: u32 = 1_000_000;
 struct TwoHolds {
     one_came: AtomicBool,
     two_came: AtomicBool,
+    holds: AtomicU32,
     failed: AtomicBool,
 }
 
@@ -27,11 +28,13 @@ impl TwoHolds {
         TwoHolds {
             one_came: AtomicBool::new(false),
             two_came: AtomicBool::new(false),
+            holds: AtomicU32::new(0),
             failed: AtomicBool::new(false),
         }
     }
 
     fn hold(&self, came: &AtomicBool) {
+        self.holds.fetch_add(1, SeqCst);
         for _ in 0..TURNS {
             if came.load(SeqCst) {
                 return;
@@ -60,6 +63,7 @@ impl Gate for TwoHolds {
 fn meeting(rt: HostRuntime) -> Result<(), Fail> {
     let gate = TwoHolds::new();
     let printed = race_text(&rt, rt.alloc(), HANDOVER.as_bytes(), &gate)?;
+    assert_eq!(rt; gate.holds.load(SeqCst), 2, "both holds were asked");
     assert!(rt; !gate.failed.load(SeqCst), "each hold ended");
     assert_eq!(rt; printed.status, 0);
     assert!(rt;

@@ -81,7 +81,8 @@ fn run_words<G: Gate + Sync, R: Threads + Wait + Sync>(
     run_from(rt, alloc, words, &mut src, gate)
 }
 
-fn run_from<G: Gate + Sync, R: Threads + Wait + Sync>(
+/// Runs the command of these words on what the source gives.
+pub fn run_from<G: Gate + Sync, R: Threads + Wait + Sync>(
     rt: &R,
     alloc: Global,
     words: &[String],

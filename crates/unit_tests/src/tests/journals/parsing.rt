@@ -104,3 +104,77 @@ fn tells_the_version(rt: HostRuntime) {
     let part = b"%journal 1";
     check(&rt, version_of(part).is_none(), part);
 }
+
+// The journal of a display that is handed over, in both versions.
+const HANDOVERS: &[&[u8]] = &[
+    b"%journal 1\n\
+    0 0 exit = ok\n\
+    1 0 open 1 = num 0\n\
+    2 0 open 2 = num 0\n\
+    1 1 signals = sigs 0\n\
+    2 1 signals = sigs 0\n\
+    1 2 setmode 0 1 0 10 12 0 = ok\n\
+    2 2 activate 0 2 = ok\n\
+    1 3 signals = sigs 512\n\
+    2 3 signals = sigs 0\n\
+    1 4 reldisp 0 1 = ok\n\
+    2 4 exit = ok\n\
+    1 5 waitsignal = wait\n\
+    1 6 waitend = err 4\n\
+    1 7 signals = sigs 0\n\
+    1 8 exit = ok\n\
+    %end 15 960\n",
+    b"%journal 2\n\
+    k0 0 exit = ok\n\
+    p1 0 open 1 = num 0\n\
+    p2 0 open 2 = num 0\n\
+    p1 1 signals = sigs 0\n\
+    p2 1 signals = sigs 0\n\
+    p1 2 setmode 0 1 0 10 12 0 = ok\n\
+    p2 2 activate 0 2 = ok\n\
+    p1 3 signals = sigs 512\n\
+    p2 3 signals = sigs 0\n\
+    p1 4 reldisp 0 1 = ok\n\
+    p2 4 exit = ok\n\
+    p1 5 waitsignal = wait\n\
+    p1 6 waitend = err 4\n\
+    p1 7 signals = sigs 0\n\
+    p1 8 exit = ok\n\
+    %end 15 960\n",
+];
+
+// The length of a first line.
+const FIRST: usize = 11;
+
+// The kind and the line of the fault of a text that is cut: of its first line, of a line that has no LF, or of the last
+// line, behind which there is none.
+fn fault_of_cut(text: &[u8]) -> (u16, u32) {
+    if text.len() < FIRST {
+        return (40, 0);
+    }
+    let mut lines = 0u32;
+    for b in text {
+        if *b == b'\n' {
+            lines = lines.saturating_add(1);
+        }
+    }
+    match text.last() {
+        Some(b'\n') => (42, lines),
+        _ => (41, lines.saturating_add(1)),
+    }
+}
+
+fn is_cut_refused(alloc: Global, text: &[u8]) -> Result<bool, NoMemory> {
+    let (kind, line) = fault_of_cut(text);
+    is_said(alloc, text, kind, line)
+}
+
+#[test]
+fn each_cut_has_its_fault(rt: HostRuntime) {
+    for text in HANDOVERS {
+        check_made(&rt, is_said(rt.alloc(), text, 0, 15), *text);
+        for n in 1..text.len() {
+            check_made(&rt, is_cut_refused(rt.alloc(), &text[..n]), n);
+        }
+    }
+}
