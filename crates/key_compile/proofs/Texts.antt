@@ -1,13 +1,17 @@
 -- Strings that are set one by one.
-use Rattle.std.proofs.Common.{◌≡◌, ℕ, ◌+◌, ◌<◌, ◌≤◌, cond, nat_lt, Option, Some, None, unwrap_or, List, [], ◌∷◌, ◌++◌, length, get_or, take, refl, sym, ap, ◌∙◌, inl, inr, arith}
+use Rattle.std.proofs.Common.{◌≡◌, ℕ, ◌+◌, ◌<◌, ◌≤◌, cond, nat_lt, Option, Some, None, unwrap_or, List, [], ◌∷◌, ◌++◌, length, get_or, take, refl, sym, ap, subst, ◌∙◌, inl, inr, arith}
 use Rattle.std.proofs.lemmas.Bool.{cases_lt, le-ltb, lt-ltb}
-use Rattle.std.proofs.lemmas.List.{get_or_past, take_more}
+use Rattle.std.proofs.lemmas.List.{get_or-map, get_or_past, take_more}
+use Rattle.std.specs.Fmt.{digits}
+use Rattle.std.specs.List.{slice_index_or}
 use Rattle.std.specs.Option.{option_or}
 use Rattle.key_tables.specs.Tables.{Tables, func_of}
 use Rattle.key_text.specs.KeymapLine.{KeymapLine}
+use Rattle.key_compile.specs.Pairs.{usual}
 use Rattle.key_compile.specs.Puts.{PutsTexts}
-use Rattle.key_compile.specs.Strings.{last_text, some_text, text_by, trimmed, usual_string}
-use Rattle.key_compile.specs.declared.usual.TheConstants.{USUAL_STRINGS}
+use Rattle.key_compile.specs.Strings.{last_text, some_text, text_by, usual_string, usual_texts}
+use Rattle.key_compile.specs.Usual.{UsualPairsAreKept, UsualStringsAreKept, trimmed}
+use Rattle.key_compile.specs.declared.usual.TheConstants.{USUAL_STRINGS, USUAL_STRING_COUNT}
 
 pub texts_same : (f g : ℕ → Option (List ℕ)) (old new : Tables) → ((i : ℕ) → f i ≡ g i) → PutsTexts f old new → PutsTexts g old new
 texts_same f g old new same puts = record {
@@ -42,13 +46,36 @@ last_more (m ∷ lines) l i = ap (λ x. option_or x (text_by m.telling i)) (last
 pub last_next : (lines : List KeymapLine) (k : ℕ) (d : KeymapLine) → k < length lines → (i : ℕ) → option_or (text_by (get_or lines k d).telling i) (last_text (take k lines) i) ≡ last_text (take (k + 1) lines) i
 last_next lines k d h i = sym (ap (λ ls. last_text ls i) (take_more lines k d h) ∙ last_more (take k lines) (get_or lines k d) i)
 
--- past the usual strings there are none
-past_usual : (j : ℕ) → 30 ≤ j → None ≡ usual_string j
-unfolding usual_string
-past_usual j h = sym (ap (λ row. some_text (trimmed row)) (get_or_past USUAL_STRINGS j [] h))
+pub rows-usual : UsualStringsAreKept
+unfolding usual_texts digits
+rows-usual = refl
 
-pub usual_all : (k : ℕ) → k ≡ 30 → (j : ℕ) → cond (nat_lt j k) (usual_string j) None ≡ usual_string j
-usual_all k e j = elim (cases_lt j 30) [
+length-rows : length USUAL_STRINGS ≡ USUAL_STRING_COUNT
+length-rows = refl
+
+length-usual : length usual_texts ≡ USUAL_STRING_COUNT
+unfolding usual_texts
+length-usual = refl
+
+pub usual_row : (i : ℕ) → i < USUAL_STRING_COUNT → some_text (trimmed (slice_index_or USUAL_STRINGS i [])) ≡ usual_string i
+unfolding usual_string
+usual_row i h =
+    let long : i < length USUAL_STRINGS = subst (λ (n : ℕ). i < n) (sym length-rows) h in
+    ap some_text (sym (get_or-map trimmed USUAL_STRINGS i [] [] long) ∙ ap (λ rows. get_or rows i []) rows-usual)
+
+pub pairs-usual : UsualPairsAreKept
+unfolding usual
+pairs-usual = refl
+
+-- past the usual strings there are none
+past_usual : (j : ℕ) → USUAL_STRING_COUNT ≤ j → None ≡ usual_string j
+unfolding usual_string
+past_usual j h =
+    let past : length usual_texts ≤ j = subst (λ (n : ℕ). n ≤ j) (sym length-usual) h in
+    sym (ap some_text (get_or_past usual_texts j [] past))
+
+pub usual_all : (k : ℕ) → k ≡ USUAL_STRING_COUNT → (j : ℕ) → cond (nat_lt j k) (usual_string j) None ≡ usual_string j
+usual_all k e j = elim (cases_lt j USUAL_STRING_COUNT) [
   | inl lt ↦ ap (λ b. cond b (usual_string j) None) (lt-ltb j k (omega arith))
   | inr ge ↦ ap (λ b. cond b (usual_string j) None) (le-ltb j k (omega arith)) ∙ past_usual j ge
 ]

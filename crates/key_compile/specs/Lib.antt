@@ -9,3 +9,4 @@ pub mod Pairs
 pub mod Puts
 pub mod Strings
 pub mod Union
+pub mod Usual

@@ -1,22 +1,34 @@
--- Function strings: the last string of a name decides.
-use Rattle.std.specs.Prelude.{ℕ, ◌==◌, not, cond, Option, Some, None, unwrap_or, List, [], ◌∷◌, take, slice_index_or}
-use Rattle.std.specs.List.{prefix_len}
+-- Function strings: the usual ones, and that the last string of a name decides.
+use Rattle.std.specs.Prelude.{ℕ, ◌==◌, cond, Option, Some, None, unwrap_or, List, [], ◌∷◌, ◌++◌, codes, map, slice_index_or}
+use Rattle.std.specs.Fmt.{decimal}
 use Rattle.std.specs.Option.{option_or}
 use Rattle.key_text.specs.KeymapLine.{Telling, KeymapLine, keymaps, keys, one, string, compose, alt_is_meta, usual_strings, usual_pairs}
-use Rattle.key_compile.specs.declared.usual.TheConstants.{USUAL_STRINGS}
-
--- the bytes of a row up to the first 0
-abbrev pub trimmed : List ℕ → List ℕ
-trimmed row = take (prefix_len (λ b. not (b == 0)) row) row
 
 -- a text, where it isn't empty
 abbrev pub some_text : List ℕ → Option (List ℕ)
 some_text [] = None
 some_text (b ∷ bs) = Some (b ∷ bs)
 
--- the usual string of a function key
+-- a text behind ESC and `[`
+abbrev pub escape : List ℕ → List ℕ
+escape text = 0x1B ∷ codes "[" ++ text
+
+-- ESC, `[`, a number and `~`
+abbrev pub tilde : ℕ → List ℕ
+tilde n = escape (decimal n ++ codes "~")
+
+-- the usual strings of the function keys in order: F1 to F20, Find to Next, Macro, Help and Do
+-- with none, and Pause
+unfoldable pub usual_texts : List (List ℕ)
+usual_texts =
+    map (λ letter. escape (codes "[" ++ letter ∷ [])) (codes "ABCDE")
+    ++ map tilde (17 ∷ 18 ∷ 19 ∷ 20 ∷ 21 ∷ 23 ∷ 24 ∷ 25 ∷ 26 ∷ 28 ∷ 29 ∷ 31 ∷ 32 ∷ 33 ∷ 34 ∷ [])
+    ++ map tilde (1 ∷ 2 ∷ 3 ∷ 4 ∷ 5 ∷ 6 ∷ [])
+    ++ escape (codes "M") ∷ [] ∷ [] ∷ escape (codes "P") ∷ []
+
+-- the usual string of a function key, if it has one
 unfoldable pub usual_string : ℕ → Option (List ℕ)
-usual_string i = some_text (trimmed (slice_index_or USUAL_STRINGS i []))
+usual_string i = some_text (slice_index_or usual_texts i [])
 
 -- what a line gives a function key, if it names it
 abbrev pub text_by : Telling → ℕ → Option (List ℕ)

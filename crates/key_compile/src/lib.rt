@@ -13,4 +13,4 @@ mod union;
 mod usual;
 
 pub use compiling::compile;
-pub use laws::{compiled_are_dumpable, one_value};
+pub use laws::{compiled_are_dumpable, one_value, usual_tables_are_kept};

@@ -53,7 +53,7 @@ fn put_usual_string(tables: &mut KeyTables, i: usize)
 }
 
 // The usual string of a function key, or no bytes.
-#[tactic(auto, unfolding(crate::specs::Strings::usual_string))]
+#[tactic(auto, using(crate::proofs::Texts::usual_row))]
 fn usual_text(i: usize) -> &'static [u8]
     requires { i < USUAL_STRING_COUNT }
     ensures value { some_text result.now ≡ usual_string i }

@@ -36,7 +36,7 @@ unfoldable are_words : List Symbol → Bool
 are_words rows = list_all (λ s. is_word_text s.name) rows
 
 symbols-words : are_words symbols ≡ true
-unfolding are_words symbols
+unfolding are_words symbols digits
 symbols-words = refl
 
 found-word : (rows : List Symbol) (test : Symbol → Bool) (other : List ℕ) → list_all (λ s. is_word_text s.name) rows ≡ true → is_word_text other ≡ true → is_word_text (unwrap_or (option_map (λ s. s.name) (find test rows)) other) ≡ true

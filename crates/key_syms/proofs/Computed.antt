@@ -1,36 +1,38 @@
 -- What is computed over the whole symbol table.
 use Rattle.std.proofs.Common.{◌≡◌, ℕ, ◌&&◌, Bool, true, false, leb, ltb, List, [], ◌∷◌, length, get_or, map, refl}
+use Rattle.std.specs.Fmt.{digits}
 use Rattle.std.specs.List.{list_all}
 use Rattle.key_syms.specs.Act.{act, is_action}
 use Rattle.key_syms.specs.Names.{same_act}
+use Rattle.key_syms.specs.Packed.{ActsArePacked, NamesArePacked}
 use Rattle.key_syms.specs.Symbols.{Symbol, symbols}
 use Rattle.key_syms.specs.declared.index.TheConstants.{KINDS, LENGTHS, ORDER, STARTS, VALUES}
-use Rattle.key_syms.specs.declared.table.TheConstants.{NAMES}
+use Rattle.key_syms.specs.declared.table.TheConstants.{NAMES, NAME_COUNT}
 use Rattle.key_syms.proofs.Ranks.{lie_at, rises, counts_among}
 
 unfoldable pub names : List (List ℕ)
 names = map (λ s. s.name) symbols
 
-pub length-symbols : length symbols ≡ 991
+pub length-symbols : length symbols ≡ NAME_COUNT
 unfolding symbols
 length-symbols = refl
 
-pub length-names : length names ≡ 991
+pub length-names : length names ≡ NAME_COUNT
 unfolding symbols names
 length-names = refl
 
 pub names-lie : lie_at names STARTS LENGTHS 0 NAMES ≡ true
-unfolding symbols names
+unfolding symbols names digits
 names-lie = refl
 
 pub names-rise : rises (map (λ p. get_or names p []) ORDER) ≡ true
-unfolding symbols names
+unfolding symbols names digits
 names-rise = refl
 
-pub ranks-within : list_all (λ p. ltb p 991) ORDER ≡ true
+pub ranks-within : list_all (λ p. ltb p NAME_COUNT) ORDER ≡ true
 ranks-within = refl
 
-pub ranks-all : counts_among 0 991 ORDER ≡ true
+pub ranks-all : counts_among 0 NAME_COUNT ORDER ≡ true
 ranks-all = refl
 
 -- the symbols have these kinds and values, which are actions, and short names of ASCII
@@ -43,5 +45,13 @@ acts_are (s ∷ rows) (k ∷ kinds) (v ∷ values) =
     && (list_all (λ b. ltb b 128) s.name && acts_are rows kinds values)))
 
 pub symbols-acts : acts_are symbols KINDS VALUES ≡ true
-unfolding symbols
+unfolding symbols digits
 symbols-acts = refl
+
+pub names-packed : NamesArePacked
+unfolding symbols digits
+names-packed = refl
+
+pub acts-packed : ActsArePacked
+unfolding symbols digits
+acts-packed = (refl, refl)

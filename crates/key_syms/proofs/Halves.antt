@@ -8,6 +8,7 @@ use Rattle.std.specs.Cmp.Lexicographic.{slice_cmp}
 use Rattle.std.specs.Ordering.{is_eq, nat_cmp, ordering_reverse}
 use Rattle.std.specs.declared.cmp.Ordering.TheVariants.{Less, Equal, Greater}
 use Rattle.key_syms.specs.Index.{name_at, place_of_rank}
+use Rattle.key_syms.specs.declared.table.TheConstants.{NAME_COUNT}
 use Rattle.key_syms.proofs.Places.{apart_from, rank-of, ranks-in_order}
 use Rattle.key_syms.proofs.Ranks.{IsBefore}
 
@@ -17,11 +18,11 @@ ranked rank = name_at (place_of_rank rank)
 -- the names of the ranks below low come before the name, and the name before those from high on
 pub record IsLeft (name : List ℕ) (low high : ℕ) : Type 0 where
   pub order : low ≤ high
-  pub bound : high ≤ 991
+  pub bound : high ≤ NAME_COUNT
   pub below : (rank : ℕ) → rank < low → IsBefore (ranked rank) name
-  pub above : (rank : ℕ) → high ≤ rank → rank < 991 → IsBefore name (ranked rank)
+  pub above : (rank : ℕ) → high ≤ rank → rank < NAME_COUNT → IsBefore name (ranked rank)
 
-pub all_left : (name : List ℕ) → IsLeft name 0 991
+pub all_left : (name : List ℕ) → IsLeft name 0 NAME_COUNT
 all_left name = record {
   order = omega arith;
   bound = omega arith;
@@ -29,7 +30,7 @@ all_left name = record {
   above = λ rank h k. absurd (omega arith);
 }
 
-upto_middle : (name : List ℕ) (middle : ℕ) → middle < 991 → IsBefore (ranked middle) name → (rank : ℕ) → rank < middle + 1 → IsBefore (ranked rank) name
+upto_middle : (name : List ℕ) (middle : ℕ) → middle < NAME_COUNT → IsBefore (ranked middle) name → (rank : ℕ) → rank < middle + 1 → IsBefore (ranked rank) name
 upto_middle name middle h before rank k = elim (cases_lt rank middle) [
   | inl lt ↦ nat_list_cmp_total.trans (ranked rank) (ranked middle) name (ranks-in_order rank middle lt h) before
   | inr ge ↦ let same : middle ≡ rank = omega arith in subst (λ (r : ℕ). IsBefore (ranked r) name) same before
@@ -43,7 +44,7 @@ left_above name low high middle left h k before = record {
   above = left.above;
 }
 
-from_middle : (name : List ℕ) (middle : ℕ) → middle < 991 → IsBefore name (ranked middle) → (rank : ℕ) → middle ≤ rank → rank < 991 → IsBefore name (ranked rank)
+from_middle : (name : List ℕ) (middle : ℕ) → middle < NAME_COUNT → IsBefore name (ranked middle) → (rank : ℕ) → middle ≤ rank → rank < NAME_COUNT → IsBefore name (ranked rank)
 from_middle name middle h after rank k within = elim (cases_lt middle rank) [
   | inl lt ↦ nat_list_cmp_total.trans name (ranked middle) (ranked rank) after (ranks-in_order middle rank lt within)
   | inr ge ↦ let same : middle ≡ rank = omega arith in subst (λ (r : ℕ). IsBefore name (ranked r)) same after
@@ -58,7 +59,7 @@ left_below name low high middle left h k after = record {
       (nat_list_cmp_total.antisymm name (ranked middle) ∙ ap ordering_reverse after);
 }
 
-pub none_left : (name : List ℕ) (low high : ℕ) → IsLeft name low high → high ≤ low → (place : ℕ) → place < 991 → name_at place ≡ name → ⊥
+pub none_left : (name : List ℕ) (low high : ℕ) → IsLeft name low high → high ≤ low → (place : ℕ) → place < NAME_COUNT → name_at place ≡ name → ⊥
 none_left name low high left done place h e =
     let rank = rank-of place h in
     let same : ranked rank.0 ≡ name = ap name_at rank.2 ∙ e in

@@ -1,6 +1,5 @@
 pub mod Computed
 pub mod Digits
-pub mod Families
 pub mod Halves
 pub mod Listed
 pub mod Named

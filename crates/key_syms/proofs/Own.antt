@@ -12,6 +12,7 @@ use Rattle.key_syms.specs.Laws.{CodePointsAreTheirOwn, NamesAreTheirOwn}
 use Rattle.key_syms.specs.Names.{code_name, code_point, first_name, hex4, hex_digit, listed, name_text, same_act, small_number, symbol, unlisted}
 use Rattle.key_syms.specs.Numbers.{digit_in, passing, spelled}
 use Rattle.key_syms.specs.Symbols.{Symbol, symbols}
+use Rattle.key_syms.specs.declared.table.TheConstants.{NAME_COUNT}
 use Rattle.key_syms.proofs.Computed.{length-symbols}
 use Rattle.key_syms.proofs.Listed.{find-at}
 use Rattle.key_syms.proofs.Named.{is_named, named_or_character}
@@ -132,7 +133,7 @@ found_back : (a : Act) (k : ℕ) → k < length symbols → same_act (row_at k).
 unfolding name_text symbol
 found_back a k h same before =
     let test : Symbol → Bool = λ s. same_act s.act a in
-    let place : k < 991 = subst (λ (n : ℕ). k < n) length-symbols h in
+    let place : k < NAME_COUNT = subst (λ (n : ℕ). k < n) length-symbols h in
     let name : first_name symbols a ≡ Some (row_at k).name = ap (option_map (λ (s : Symbol). s.name)) (find-at test symbols no_symbol k h same before) in
     let back : listed symbols (row_at k).name ≡ Some a =
     listed-found (row_at k).name k place (row-name k place) ∙ ap Some (sym (row k place).action ∙ same_act-true _ _ same) in

@@ -11,6 +11,7 @@ use Rattle.std.specs.declared.cmp.Ordering.TheVariants.{Less, Equal, Greater}
 use Rattle.std.specs.Cmp.Lexicographic.{slice_cmp}
 use Rattle.std.specs.List.{list_any, list_all}
 use Rattle.std.specs.Str.{bytes_eq}
+use Rattle.key_syms.specs.declared.table.TheConstants.{NAMES_SIZE}
 
 -- the names lie at these places of the text: `text` is what follows the first `from` bytes
 abbrev pub lie_at : List (List ℕ) → List ℕ → List ℕ → ℕ → List ℕ → Bool
@@ -18,7 +19,7 @@ lie_at [] starts lengths from text = true
 lie_at (name ∷ names) [] lengths from text = false
 lie_at (name ∷ names) (s ∷ starts) [] from text = false
 lie_at (name ∷ names) (s ∷ starts) (l ∷ lengths) from text =
-    leb from s && (leb (s + l) 7637 && (bytes_eq (take l (drop (s - from) text)) name
+    leb from s && (leb (s + l) NAMES_SIZE && (bytes_eq (take l (drop (s - from) text)) name
     && lie_at names starts lengths s (drop (s - from) text)))
 
 -- each text comes after the one before it
@@ -45,7 +46,7 @@ drop_further s from xs h = drop-drop (s - from) from xs ∙ ap (λ n. drop n xs)
 -- where a name lies, and that it ends within the text
 pub record LiesAt (text name : List ℕ) (start len : ℕ) : Type 0 where
   pub spells : take len (drop start text) ≡ name
-  pub within : start + len ≤ 7637
+  pub within : start + len ≤ NAMES_SIZE
 
 shorter : (k n : ℕ) → suc k < suc n → k < n
 shorter k n h = omega arith

@@ -11,6 +11,7 @@ use Rattle.key_syms.specs.Index.{name_at}
 use Rattle.key_syms.specs.Names.{first_name, listed, same_act}
 use Rattle.key_syms.specs.Symbols.{Symbol, symbols}
 use Rattle.key_syms.specs.declared.index.TheConstants.{KINDS, VALUES}
+use Rattle.key_syms.specs.declared.table.TheConstants.{NAME_COUNT}
 use Rattle.key_syms.proofs.Computed.{acts_are, length-symbols, names, symbols-acts}
 use Rattle.key_syms.proofs.Listed.{find-at, find-none}
 use Rattle.key_syms.proofs.Places.{name_at-names, names-apart}
@@ -64,17 +65,17 @@ acts_are-each (s ∷ rows) (x ∷ kinds) (v ∷ values) e (suc k) h =
     fewer : (k : ℕ) (rows : List Symbol) → suc k < suc (length rows) → k < length rows
     fewer k rows h = omega arith
 
-within : (place : ℕ) → place < 991 → place < length symbols
+within : (place : ℕ) → place < NAME_COUNT → place < length symbols
 within place h = subst (λ (n : ℕ). place < n) (sym length-symbols) h
 
-pub row : (place : ℕ) → place < 991 → IsRow (row_at place) (slice_index KINDS place) (slice_index VALUES place)
+pub row : (place : ℕ) → place < NAME_COUNT → IsRow (row_at place) (slice_index KINDS place) (slice_index VALUES place)
 row place h = acts_are-each symbols KINDS VALUES symbols-acts place (within place h)
 
-pub row-name : (place : ℕ) → place < 991 → name_at place ≡ (row_at place).name
+pub row-name : (place : ℕ) → place < NAME_COUNT → name_at place ≡ (row_at place).name
 unfolding names
 row-name place h = name_at-names place h ∙ get_or-map (λ (s : Symbol). s.name) symbols place no_symbol [] (within place h)
 
-pub act_is_action : (place : ℕ) → place < 991 → IsTrue (is_action (slice_index KINDS place) (slice_index VALUES place))
+pub act_is_action : (place : ℕ) → place < NAME_COUNT → IsTrue (is_action (slice_index KINDS place) (slice_index VALUES place))
 act_is_action place h = (row place h).known
 
 is_false : (b : Bool) → (b ≡ true → ⊥) → b ≡ false
@@ -82,44 +83,44 @@ is_false true h = absurd (h refl)
 is_false false h = refl
 
 -- a place below has another name
-another : (name : List ℕ) (place j : ℕ) → place < 991 → name_at place ≡ name → j < place → bytes_eq (row_at j).name name ≡ false
+another : (name : List ℕ) (place j : ℕ) → place < NAME_COUNT → name_at place ≡ name → j < place → bytes_eq (row_at j).name name ≡ false
 another name place j h e k =
     is_false _ (λ same.
     let texts : (row_at j).name ≡ name = (bytes_eq-Decides _ _).0 same in
     let equal : j ≡ place = names-apart j place (omega arith) h (row-name j (omega arith) ∙ texts ∙ sym e) in
     omega arith)
 
-pub listed-found : (name : List ℕ) (place : ℕ) → place < 991 → name_at place ≡ name → listed symbols name ≡ Some (act (slice_index KINDS place) (slice_index VALUES place))
+pub listed-found : (name : List ℕ) (place : ℕ) → place < NAME_COUNT → name_at place ≡ name → listed symbols name ≡ Some (act (slice_index KINDS place) (slice_index VALUES place))
 listed-found name place h e =
     let test : Symbol → Bool = λ s. bytes_eq s.name name in
     let there : test (row_at place) ≡ true = (bytes_eq-Decides _ _).1 (sym (row-name place h) ∙ e) in
     ap (option_map (λ (s : Symbol). s.act)) (find-at test symbols no_symbol place (within place h) there (λ j k. another name place j h e k))
     ∙ ap Some (row place h).action
 
-pub listed-missing : (name : List ℕ) → ((place : ℕ) → place < 991 → name_at place ≢ name) → listed symbols name ≡ None
+pub listed-missing : (name : List ℕ) → ((place : ℕ) → place < NAME_COUNT → name_at place ≢ name) → listed symbols name ≡ None
 listed-missing name h =
     let test : Symbol → Bool = λ s. bytes_eq s.name name in
     ap (option_map (λ (s : Symbol). s.act)) (find-none test symbols no_symbol (λ k q.
-    let in_table : k < 991 = subst (λ (n : ℕ). k < n) length-symbols q in
+    let in_table : k < NAME_COUNT = subst (λ (n : ℕ). k < n) length-symbols q in
     is_false _ (λ same. h k in_table (row-name k in_table ∙ (bytes_eq-Decides _ _).0 same))))
 
 -- the actions of the places below this one are others
 abbrev pub OthersBelow : Act → ℕ → Type 0
 OthersBelow a n = (j : ℕ) → j < n → same_act (act (slice_index KINDS j) (slice_index VALUES j)) a ≡ false
 
-other-row : (a : Act) (j : ℕ) → j < 991 → same_act (act (slice_index KINDS j) (slice_index VALUES j)) a ≡ false → same_act (row_at j).act a ≡ false
+other-row : (a : Act) (j : ℕ) → j < NAME_COUNT → same_act (act (slice_index KINDS j) (slice_index VALUES j)) a ≡ false → same_act (row_at j).act a ≡ false
 other-row a j h e = subst (λ (x : Act). same_act x a ≡ false) (sym (row j h).action) e
 
-pub first_name-found : (a : Act) (place : ℕ) → place < 991 → OthersBelow a place → act (slice_index KINDS place) (slice_index VALUES place) ≡ a → first_name symbols a ≡ Some (name_at place)
+pub first_name-found : (a : Act) (place : ℕ) → place < NAME_COUNT → OthersBelow a place → act (slice_index KINDS place) (slice_index VALUES place) ≡ a → first_name symbols a ≡ Some (name_at place)
 first_name-found a place h others e =
     let test : Symbol → Bool = λ s. same_act s.act a in
     let there : test (row_at place) ≡ true = same_act-refl _ _ ((row place h).action ∙ e) in
     ap (option_map (λ (s : Symbol). s.name)) (find-at test symbols no_symbol place (within place h) there (λ j k. other-row a j (omega arith) (others j k)))
     ∙ ap Some (sym (row-name place h))
 
-pub first_name-missing : (a : Act) → OthersBelow a 991 → first_name symbols a ≡ None
+pub first_name-missing : (a : Act) → OthersBelow a NAME_COUNT → first_name symbols a ≡ None
 first_name-missing a others =
     let test : Symbol → Bool = λ s. same_act s.act a in
     ap (option_map (λ (s : Symbol). s.name)) (find-none test symbols no_symbol (λ k q.
-    let in_table : k < 991 = subst (λ (n : ℕ). k < n) length-symbols q in
+    let in_table : k < NAME_COUNT = subst (λ (n : ℕ). k < n) length-symbols q in
     other-row a k in_table (others k in_table)))

@@ -13,7 +13,7 @@ mod symbol;
 mod table;
 
 pub use action::Action;
-pub use laws::{families_are_named, names_are_their_own};
+pub use laws::{names_are_their_own, numbers_are_kept, tables_are_packed};
 pub use name::name_of;
 pub use numeral::number;
 pub use pair::Pair;

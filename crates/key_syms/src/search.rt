@@ -2,7 +2,7 @@ ghost use Rattle.std.specs.Prelude.{◌≡◌, ◌≢◌, ℕ, ◌+◌, ◌<◌,
 ghost use Rattle.key_syms.specs.Index.{name_at, place_of_rank};
 
 use crate::index::{LENGTHS, ORDER, STARTS};
-use crate::table::{NAME_COUNT, NAMES};
+use crate::table::{NAME_COUNT, NAMES, NAMES_SIZE};
 use std::cmp::Ordering;
 
 /// The place of a name in the table, found by halving the names in their order.
@@ -77,7 +77,7 @@ fn length_at(place: usize) -> u8
 
 fn part_of_names(start: usize, end: usize) -> &'static [u8]
     requires order { start ≤ end }
-    requires within { end ≤ 7637 }
+    requires within { end ≤ NAMES_SIZE }
     ensures { result.now ≡ slice_range NAMES start end }
 {
     &NAMES[start..end]

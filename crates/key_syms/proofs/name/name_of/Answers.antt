@@ -1,6 +1,7 @@
 use Rattle.std.proofs.Common.{◌≡◌, ◌≤◌, ◌∙◌, IsTrue, List, ℕ, ltb, ap, length, subst, sym, unwrap_or, arith, below_more}
 use Rattle.std.specs.List.{list_all}
 use Rattle.key_syms.specs.Names.{code_name, name_text}
+use Rattle.key_syms.specs.declared.table.TheConstants.{NAME_COUNT}
 use Rattle.key_syms.proofs.Rows.{OthersBelow, first_name-found, first_name-missing, row, row-name, same_act-true}
 use Rattle.key_syms.proofs.name.name_of.Goals as goal
 
@@ -27,6 +28,6 @@ loop-place-preserved c =
 pub returns : goal.returns
 unfolding name_text
 returns c =
-    let ends : c.loop-place.place ≡ 991 = omega arith in
+    let ends : c.loop-place.place ≡ NAME_COUNT = omega arith in
     let missing = first_name-missing c.args.a (subst (λ (n : ℕ). OthersBelow c.args.a n) ends c.loop-place.invariant) in
     c.code_name.ensures ∙ sym (ap (λ name. unwrap_or name (code_name c.args.a)) missing)
