@@ -1,3 +1,6 @@
+mod Asking
+mod AskingTable
+mod AskingTexts
 mod Controls
 mod Cuts
 mod Feeds

@@ -1,4 +1,5 @@
 //! The laws of a run, which hold of every screen and every text.
+ghost use Rattle.vt_screen.specs.Asking.{RequestsAreFew};
 ghost use Rattle.vt_screen.specs.Halves.{TapesKeepHalves};
 ghost use Rattle.vt_screen.specs.Run.{AnyCut, PiecesAct, PiecesResume};
 ghost use Rattle.vt_screen.specs.Tape.{AnyTapeCut, StretchesRun};
@@ -35,3 +36,8 @@ pub fn tapes_keep_halves()
     edits_keep_halves();
     texts_spell_characters();
 }
+
+/// A text asks for another console at most once in four bytes, of which three may have come before.
+pub fn requests_are_few()
+    ensures { RequestsAreFew }
+{}
