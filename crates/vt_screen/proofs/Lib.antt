@@ -3,7 +3,9 @@ mod AskingTable
 mod AskingTexts
 mod Controls
 mod Cuts
+mod Edits
 mod Feeds
+mod FollowWide
 mod Fours
 mod Halved
 mod InsideTable

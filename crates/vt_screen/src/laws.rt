@@ -1,9 +1,10 @@
 //! The laws of a run, which hold of every screen and every text.
 ghost use Rattle.vt_screen.specs.Asking.{RequestsAreFew};
-ghost use Rattle.vt_screen.specs.Halves.{TapesKeepHalves};
+ghost use Rattle.vt_screen.specs.Halves.{HalvesFollowWide, TapesKeepHalves};
 ghost use Rattle.vt_screen.specs.Run.{AnyCut, PiecesAct, PiecesResume};
 ghost use Rattle.vt_screen.specs.Tape.{AnyTapeCut, StretchesRun};
 
+use vt_cells::columns_are_few;
 use vt_chars::unfinished_begins;
 use vt_grid::laws::edits_keep_halves;
 use vt_units::texts_spell_characters;
@@ -34,6 +35,15 @@ pub fn tapes_keep_halves()
     ensures { TapesKeepHalves }
 {
     edits_keep_halves();
+    texts_spell_characters();
+}
+
+/// In every screen that bytes and changes make of a start, a character of two columns stands left of
+/// each right half.
+pub fn halves_follow_wide()
+    ensures { HalvesFollowWide }
+{
+    columns_are_few();
     texts_spell_characters();
 }
 
