@@ -3,6 +3,7 @@ mod AskingTable
 mod AskingTexts
 mod Controls
 mod Cuts
+mod Cutting
 mod Edits
 mod Feeds
 mod FollowWide

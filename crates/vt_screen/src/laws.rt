@@ -1,7 +1,7 @@
 //! The laws of a run, which hold of every screen and every text.
 ghost use Rattle.vt_screen.specs.Asking.{RequestsAreFew};
 ghost use Rattle.vt_screen.specs.Halves.{HalvesFollowWide, TapesKeepHalves};
-ghost use Rattle.vt_screen.specs.Run.{AnyCut, PiecesAct, PiecesResume};
+ghost use Rattle.vt_screen.specs.Run.{AnyCut, PiecesAct, PiecesResume, TextsAreCut};
 ghost use Rattle.vt_screen.specs.Tape.{AnyTapeCut, StretchesRun};
 
 use vt_cells::columns_are_few;
@@ -51,3 +51,11 @@ pub fn halves_follow_wide()
 pub fn requests_are_few()
     ensures { RequestsAreFew }
 {}
+
+/// Every text is pieces and one last rest. What the text makes of a screen, and what it says, is what
+/// they come to, in order.
+pub fn texts_are_cut()
+    ensures { TextsAreCut }
+{
+    unfinished_begins();
+}
