@@ -1,5 +1,5 @@
 -- The rest that a text is read on from.
-use Rattle.std.proofs.Common.{◌≡◌, ℕ, Bool, false, List, [], ◌∷◌, refl, sym}
+use Rattle.std.proofs.Common.{◌≡◌, ℕ, false, List, [], ◌∷◌, refl, sym}
 use Rattle.std.proofs.lemmas.Bool.{cond-false, or_from, false≢true}
 use Rattle.vt_units.proofs.Openers.{in_string}
 use Rattle.vt_units.specs.Pieces.{is_left_out, read_on}

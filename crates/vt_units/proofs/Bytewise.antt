@@ -225,7 +225,7 @@ module _ {S : Type 0} (e : Effects S) where
           next-rest r.mode ∙ cond-false _ _ _ passes ∙ cond-false _ _ _ other in
           subst (λ x. Becomes x (step e b (reached s r)) s m (q ++ b ∷ []) (grown r b)) (sym now)
           (step-by s r r b (taken (then.Then.Unit Ignored) (fresh r.mode)) (settled-in ∙ ap kept (cond-false _ _ _ other))
-                (took-by r b (unfinished string) (in-rest r.mode) refl passes ∙ ap (λ x. joined_by x r b) there))
+          (took-by r b (unfinished string) (in-rest r.mode) refl passes ∙ ap (λ x. joined_by x r b) there))
 
       -- the rest that is left is the one that is read on
       left-by : (left other : Rest) → other ≡ left
@@ -275,8 +275,8 @@ module _ {S : Type 0} (e : Effects S) where
           subst (Becomes (reading m (q ++ b ∷ [])) (step e b (reached s r)) s m (q ++ b ∷ [])) (sym left)
           (subst (λ x. Becomes x (step e b (reached s r)) s m (q ++ b ∷ []) (grown r b)) (sym now)
           (step-by s r r b (taken (then.Then.Unit Ignored) (fresh r.mode))
-                (ap (λ x. settled_by x r (e.mode_of s) b) end-rest ∙ ap kept (cond-true _ _ _ sign))
-                (took-by r b (unfinished string_end) end-rest refl refl ∙ ap (λ x. joined_by x r b) there)))
+          (ap (λ x. settled_by x r (e.mode_of s) b) end-rest ∙ ap kept (cond-true _ _ _ sign))
+          (took-by r b (unfinished string_end) end-rest refl refl ∙ ap (λ x. joined_by x r b) there)))
 
     step-string : Becomes (reading m (q ++ b ∷ [])) (step e b (reached s r)) s m (q ++ b ∷ [])
         (read_on (reading m q) (e.mode_of s) r b)

@@ -1,7 +1,7 @@
-use Rattle.std.proofs.Common.{◌≡◌, ◌==◌, ◌&&◌, ◌+◌, ◌≤◌, ◌<◌, ◌∙◌, ℕ, Bool, true, false, List, length, drop, get_or, arith}
+use Rattle.std.proofs.Common.{◌==◌, ◌+◌, ◌≤◌, ◌<◌, ◌∙◌, ℕ, true, false, List, length, get_or, arith}
 use Rattle.std.proofs.lemmas.Bool.{eq-eqb}
 use Rattle.vt_units.proofs.BriefForms.{and_none, and_second, five_exact, not_eqb, number_last, number_parts}
-use Rattle.vt_units.specs.BriefForms.{begins_longer, ends_sgr, is_number_before, is_number_next}
+use Rattle.vt_units.specs.BriefForms.{ends_sgr}
 use Rattle.vt_units.proofs.Briefs.{five_are}
 use Rattle.vt_units.proofs.longer_ahead.five_numbers.Goals as goal
 

@@ -1,7 +1,6 @@
-use Rattle.std.proofs.Common.{◌≡◌, ◌==◌, ◌∙◌, get_or, arith}
+use Rattle.std.proofs.Common.{◌∙◌, get_or, arith}
 use Rattle.std.proofs.lemmas.Bool.{eq-eqb}
 use Rattle.vt_units.proofs.BriefForms.{not_eqb, three_exact}
-use Rattle.vt_units.specs.BriefForms.{begins_longer}
 use Rattle.vt_units.proofs.Briefs.{three_are}
 use Rattle.vt_units.proofs.longer_ahead.three_numbers.Goals as goal
 
