@@ -1,4 +1,4 @@
--- No half stands in column 0 or right of a half: each row of the effect table keeps that.
+-- What edits keep of each row of cells, each row of the effect table keeps.
 use Rattle.std.proofs.Common.{◌≡◌, ℕ, ◌+◌, ◌-◌, ◌==◌, ◌&&◌, ◌||◌, Bool, true, false, List, [], ◌∷◌, ◌++◌, take, drop, replicate, min, nat_lt, nat_le, refl, ap, cond}
 use Rattle.std.specs.Prelude.{All}
 use Rattle.std.proofs.lemmas.List.Elements.{All-append, All-drop, All-take}
@@ -6,8 +6,7 @@ use Rattle.vt_cells.specs.Width.{half, is_half}
 use Rattle.vt_cells.specs.declared.cell.Cell.{Cell}
 use Rattle.vt_chars.specs.Utf8.{within}
 use Rattle.vt_grid.specs.Grid.{cells_of_codes}
-use Rattle.vt_grid.specs.Halves.{ArePaired, IsPaired, IsPairedRow}
-use Rattle.vt_grid.specs.Laws.{EditsKeepHalves}
+use Rattle.vt_screen.proofs.Edits.{Each, Edits}
 use Rattle.vt_screen.specs.Cursor.{at_column, at_row, linefeed, moved, newline, placed, region_down, region_up, reverse_linefeed, tab}
 use Rattle.vt_cells.specs.Colours.{Rgb}
 use Rattle.vt_screen.specs.Effect.{control, control_sequence, count_of, escape, number_at, plain_escape, private_sequence}
@@ -22,333 +21,328 @@ abbrev pub NoHalves : List ℕ → Type 0
 NoHalves [] = Unit {0}
 NoHalves (code ∷ codes) = ((code == half) ≡ false) × NoHalves codes
 
--- the halves stand where they belong, and the user's table has none
-abbrev pub HasHalves : Screen → Type 0
-HasHalves s = IsPaired s.grid × NoHalves s.state.map
+module _ (Row : List Cell → Type 0) where
+  -- each row has it, and the user's table has no half
+  abbrev pub HasHalves : Screen → Type 0
+  HasHalves s = Each Row s.grid × NoHalves s.state.map
 
-either : (test : Bool) (s t : Screen) → HasHalves s → HasHalves t → HasHalves (cond test s t)
-either true s t first second = first
-either false s t first second = second
+  -- the cells of such a character have it
+  abbrev pub Draws : ℕ → ℕ → Type 0
+  Draws w code = (attr : ℕ) → Row (cells_of_codes (codes_drawn w code) attr)
 
-either-done : (test : Bool) (s t : Done) → HasHalves s.screen → HasHalves t.screen → HasHalves (cond test s t).screen
-either-done true s t first second = first
-either-done false s t first second = second
+  either : (test : Bool) (s t : Screen) → HasHalves s → HasHalves t → HasHalves (cond test s t)
+  either true s t first second = first
+  either false s t first second = second
 
-module _ (law : EditsKeepHalves) where
-  -- what moves the cursor and scrolls
-  region-up : (s : Screen) → HasHalves s → HasHalves (region_up s)
-  region-up s h = (law.scrolling_up s.grid s.state.top s.state.bottom 1 (blank_of s) h.0 refl, h.1)
+  either-done : (test : Bool) (s t : Done) → HasHalves s.screen → HasHalves t.screen → HasHalves (cond test s t).screen
+  either-done true s t first second = first
+  either-done false s t first second = second
 
-  region-down : (s : Screen) → HasHalves s → HasHalves (region_down s)
-  region-down s h = (law.scrolling_down s.grid s.state.top s.state.bottom 1 (blank_of s) h.0 refl, h.1)
+  module _ (law : Edits Row) where
+    -- what moves the cursor and scrolls
+    region-up : (s : Screen) → HasHalves s → HasHalves (region_up s)
+    region-up s h = (law.scrolling_up s.grid s.state.top s.state.bottom 1 (blank_of s) h.0 refl, h.1)
 
-  line-feed : (s : Screen) → HasHalves s → HasHalves (linefeed s)
-  line-feed s h =
-      either (s.state.y == s.state.bottom) (region_up s) (at_row (min (s.state.y + 1) (s.grid.rows - 1)) s) (region-up s h) h
+    region-down : (s : Screen) → HasHalves s → HasHalves (region_down s)
+    region-down s h = (law.scrolling_down s.grid s.state.top s.state.bottom 1 (blank_of s) h.0 refl, h.1)
 
-  reverse-line-feed : (s : Screen) → HasHalves s → HasHalves (reverse_linefeed s)
-  reverse-line-feed s h =
-      either (s.state.y == s.state.top) (region_down s) (at_row (s.state.y - 1) s) (region-down s h) h
+    line-feed : (s : Screen) → HasHalves s → HasHalves (linefeed s)
+    line-feed s h =
+        either (s.state.y == s.state.bottom) (region_up s) (at_row (min (s.state.y + 1) (s.grid.rows - 1)) s) (region-up s h) h
 
-  new-line : (s : Screen) → HasHalves s → HasHalves (newline s)
-  new-line s h =
-      line-feed (cond s.state.newline (at_column 0 s) s) (either s.state.newline (at_column 0 s) s h h)
+    reverse-line-feed : (s : Screen) → HasHalves s → HasHalves (reverse_linefeed s)
+    reverse-line-feed s h =
+        either (s.state.y == s.state.top) (region_down s) (at_row (s.state.y - 1) s) (region-down s h) h
 
-  -- what erases, inserts and deletes
-  line-erased : (x0 x1 : ℕ) (s : Screen) → HasHalves s → HasHalves (line_erased x0 x1 s)
-  line-erased x0 x1 s h = (law.erasing s.grid s.state.y x0 x1 (blank_of s) h.0 refl, h.1)
+    new-line : (s : Screen) → HasHalves s → HasHalves (newline s)
+    new-line s h =
+        line-feed (cond s.state.newline (at_column 0 s) s) (either s.state.newline (at_column 0 s) s h h)
 
-  cells-inserted : (n : ℕ) (s : Screen) → HasHalves s → HasHalves (cells_inserted n s)
-  cells-inserted n s h = (law.inserting s.grid s.state.y s.state.x _ n (blank_of s) h.0 refl, h.1)
+    -- what erases, inserts and deletes
+    line-erased : (x0 x1 : ℕ) (s : Screen) → HasHalves s → HasHalves (line_erased x0 x1 s)
+    line-erased x0 x1 s h = (law.erasing s.grid s.state.y x0 x1 (blank_of s) h.0 refl, h.1)
 
-  cells-deleted : (n : ℕ) (s : Screen) → HasHalves s → HasHalves (cells_deleted n s)
-  cells-deleted n s h = (law.deleting s.grid s.state.y s.state.x n (blank_of s) h.0 refl, h.1)
+    cells-inserted : (n : ℕ) (s : Screen) → HasHalves s → HasHalves (cells_inserted n s)
+    cells-inserted n s h = (law.inserting s.grid s.state.y s.state.x _ n (blank_of s) h.0 refl, h.1)
 
-  blank-rows : (n cols : ℕ) (c : Cell) → is_half c ≡ false → All IsPairedRow (replicate n (replicate cols c))
-  blank-rows n cols c none = law.filling n cols c none
+    cells-deleted : (n : ℕ) (s : Screen) → HasHalves s → HasHalves (cells_deleted n s)
+    cells-deleted n s h = (law.deleting s.grid s.state.y s.state.x n (blank_of s) h.0 refl, h.1)
 
-  rows-erased : (from count : ℕ) (s : Screen) → HasHalves s → HasHalves (rows_erased from count s)
-  unfolding rows_erased
-  rows-erased from count s h = (
-    All-append IsPairedRow (take from s.grid.cells)
-        (replicate count (replicate s.grid.cols (blank_of s)) ++ drop (from + count) s.grid.cells)
-        (All-take IsPairedRow from s.grid.cells h.0)
-        (All-append IsPairedRow (replicate count (replicate s.grid.cols (blank_of s))) (drop (from + count) s.grid.cells)
-        (blank-rows count s.grid.cols (blank_of s) refl) (All-drop IsPairedRow (from + count) s.grid.cells h.0)),
-    h.1,
-  )
+    blank-rows : (n cols : ℕ) (c : Cell) → is_half c ≡ false → All Row (replicate n (replicate cols c))
+    blank-rows n cols c none = law.filling n cols c none
 
-  line-end : (s : Screen) → HasHalves s → HasHalves (line_end_erased s)
-  line-end s h = line-erased s.state.x (s.grid.cols - 1) s h
+    rows-erased : (from count : ℕ) (s : Screen) → HasHalves s → HasHalves (rows_erased from count s)
+    unfolding rows_erased
+    rows-erased from count s h = (
+      All-append Row (take from s.grid.cells)
+          (replicate count (replicate s.grid.cols (blank_of s)) ++ drop (from + count) s.grid.cells)
+          (All-take Row from s.grid.cells h.0)
+          (All-append Row (replicate count (replicate s.grid.cols (blank_of s))) (drop (from + count) s.grid.cells)
+          (blank-rows count s.grid.cols (blank_of s) refl) (All-drop Row (from + count) s.grid.cells h.0)),
+      h.1,
+    )
 
-  line-start : (s : Screen) → HasHalves s → HasHalves (line_start_erased s)
-  line-start s h = line-erased 0 s.state.x s h
+    line-end : (s : Screen) → HasHalves s → HasHalves (line_end_erased s)
+    line-end s h = line-erased s.state.x (s.grid.cols - 1) s h
 
-  display-erased : (which : ℕ) (s : Screen) → HasHalves s → HasHalves (erase_display which s)
-  unfolding erase_display
-  display-erased which s h =
-      let low = line_end_erased s in
-      let high = line_start_erased s in
-      either (which == 0) (unwrapped (below_erased low)) _
-      (rows-erased (low.state.y + 1) (low.grid.rows - (low.state.y + 1)) low (line-end s h))
-      (either (which == 1) (unwrapped (above_erased high)) _
-      (rows-erased 0 high.state.y high (line-start s h))
-      (either (which == 2 || which == 3) (unwrapped (all_erased s)) s (rows-erased 0 s.grid.rows s h) h))
+    line-start : (s : Screen) → HasHalves s → HasHalves (line_start_erased s)
+    line-start s h = line-erased 0 s.state.x s h
 
-  row-erased : (which : ℕ) (s : Screen) → HasHalves s → HasHalves (erase_line which s)
-  unfolding erase_line
-  row-erased which s h =
-      either (which == 0) (unwrapped (line_end_erased s)) _ (line-end s h)
-      (either (which == 1) (unwrapped (line_start_erased s)) _ (line-start s h)
-      (either (which == 2) (unwrapped (line_erased 0 (s.grid.cols - 1) s)) s (line-erased 0 (s.grid.cols - 1) s h) h))
+    display-erased : (which : ℕ) (s : Screen) → HasHalves s → HasHalves (erase_display which s)
+    unfolding erase_display
+    display-erased which s h =
+        let low = line_end_erased s in
+        let high = line_start_erased s in
+        either (which == 0) (unwrapped (below_erased low)) _
+        (rows-erased (low.state.y + 1) (low.grid.rows - (low.state.y + 1)) low (line-end s h))
+        (either (which == 1) (unwrapped (above_erased high)) _
+        (rows-erased 0 high.state.y high (line-start s h))
+        (either (which == 2 || which == 3) (unwrapped (all_erased s)) s (rows-erased 0 s.grid.rows s h) h))
 
-  characters-erased : (n : ℕ) (s : Screen) → HasHalves s → HasHalves (erase_characters n s)
-  unfolding erase_characters
-  characters-erased n s h = line-erased s.state.x (min (s.state.x + n - 1) (s.grid.cols - 1)) s h
+    row-erased : (which : ℕ) (s : Screen) → HasHalves s → HasHalves (erase_line which s)
+    unfolding erase_line
+    row-erased which s h =
+        either (which == 0) (unwrapped (line_end_erased s)) _ (line-end s h)
+        (either (which == 1) (unwrapped (line_start_erased s)) _ (line-start s h)
+        (either (which == 2) (unwrapped (line_erased 0 (s.grid.cols - 1) s)) s (line-erased 0 (s.grid.cols - 1) s h) h))
 
-  characters-inserted : (n : ℕ) (s : Screen) → HasHalves s → HasHalves (insert_characters n s)
-  unfolding insert_characters
-  characters-inserted n s h = cells-inserted n s h
+    characters-erased : (n : ℕ) (s : Screen) → HasHalves s → HasHalves (erase_characters n s)
+    unfolding erase_characters
+    characters-erased n s h = line-erased s.state.x (min (s.state.x + n - 1) (s.grid.cols - 1)) s h
 
-  characters-deleted : (n : ℕ) (s : Screen) → HasHalves s → HasHalves (delete_characters n s)
-  unfolding delete_characters
-  characters-deleted n s h = cells-deleted n s h
+    characters-inserted : (n : ℕ) (s : Screen) → HasHalves s → HasHalves (insert_characters n s)
+    unfolding insert_characters
+    characters-inserted n s h = cells-inserted n s h
 
-  lines-inserted : (n : ℕ) (s : Screen) → HasHalves s → HasHalves (insert_lines n s)
-  unfolding insert_lines
-  lines-inserted n s h =
-      either (in_region s) _ s (law.scrolling_down s.grid s.state.y s.state.bottom n (blank_of s) h.0 refl, h.1) h
+    characters-deleted : (n : ℕ) (s : Screen) → HasHalves s → HasHalves (delete_characters n s)
+    unfolding delete_characters
+    characters-deleted n s h = cells-deleted n s h
 
-  lines-deleted : (n : ℕ) (s : Screen) → HasHalves s → HasHalves (delete_lines n s)
-  unfolding delete_lines
-  lines-deleted n s h =
-      either (in_region s) _ s (law.scrolling_up s.grid s.state.y s.state.bottom n (blank_of s) h.0 refl, h.1) h
+    lines-inserted : (n : ℕ) (s : Screen) → HasHalves s → HasHalves (insert_lines n s)
+    unfolding insert_lines
+    lines-inserted n s h =
+        either (in_region s) _ s (law.scrolling_down s.grid s.state.y s.state.bottom n (blank_of s) h.0 refl, h.1) h
 
-  -- what makes the screen anew
-  screen-reset : (s : Screen) → HasHalves s → HasHalves (reset s)
-  unfolding reset
-  screen-reset s h = (law.filling s.grid.rows s.grid.cols _ refl, h.1)
+    lines-deleted : (n : ℕ) (s : Screen) → HasHalves s → HasHalves (delete_lines n s)
+    unfolding delete_lines
+    lines-deleted n s h =
+        either (in_region s) _ s (law.scrolling_up s.grid s.state.y s.state.bottom n (blank_of s) h.0 refl, h.1) h
 
-  screen-aligned : (s : Screen) → HasHalves s → HasHalves (aligned s)
-  unfolding aligned
-  screen-aligned s h = (law.filling s.grid.rows s.grid.cols _ refl, h.1)
+    -- what makes the screen anew
+    screen-reset : (s : Screen) → HasHalves s → HasHalves (reset s)
+    unfolding reset
+    screen-reset s h = (law.filling s.grid.rows s.grid.cols _ refl, h.1)
 
-  -- printing
-  not-half : (code : ℕ) → (code == half) ≡ false → (attr : ℕ) → is_half (record { code = code; attr = attr }) ≡ false
-  not-half code is attr = is
+    screen-aligned : (s : Screen) → HasHalves s → HasHalves (aligned s)
+    unfolding aligned
+    screen-aligned s h = (law.filling s.grid.rows s.grid.cols _ refl, h.1)
 
-  drawn-paired : (w code attr : ℕ) → (code == half) ≡ false → ArePaired true (cells_of_codes (codes_drawn w code) attr)
-  drawn-paired w code attr is = by (w == 2)
-    where
-      by : (test : Bool) → ArePaired true (cells_of_codes (cond test (code ∷ half ∷ []) (code ∷ [])) attr)
-      by true = (is, (ap (λ (b : Bool). b && true) is, tt))
-      by false = (is, tt)
+    -- printing
+    put : (w code : ℕ) (s : Screen) → Draws w code → HasHalves s → HasHalves (put_here (codes_drawn w code) s)
+    put w code s is h =
+        (law.drawing s.grid s.state.y s.state.x (cells_of_codes (codes_drawn w code) (pen_byte s)) h.0 (is (pen_byte s)), h.1)
 
-  put : (w code : ℕ) (s : Screen) → (code == half) ≡ false → HasHalves s → HasHalves (put_here (codes_drawn w code) s)
-  put w code s is h =
-      (law.drawing s.grid s.state.y s.state.x (cells_of_codes (codes_drawn w code) (pen_byte s)) h.0 (drawn-paired w code (pen_byte s) is), h.1)
+    set-down : (w code : ℕ) (s : Screen) → Draws w code → HasHalves s → HasHalves (set_down w code s)
+    set-down w code s is h =
+        let there = wrapped w s in
+        let there_is : HasHalves there =
+        either (s.state.autowrap && (s.state.wrap || lacks_room w s)) (linefeed (at_column 0 s)) _ (line-feed (at_column 0 s) h)
+        (either (lacks_room w s) (at_column (s.grid.cols - w) s) s h h) in
+        put w code (opened w there) is (either there.state.insert (cells_inserted w there) there (cells-inserted w there there_is) there_is)
 
-  set-down : (w code : ℕ) (s : Screen) → (code == half) ≡ false → HasHalves s → HasHalves (set_down w code s)
-  set-down w code s is h =
-      let there = wrapped w s in
-      let there_is : HasHalves there =
-      either (s.state.autowrap && (s.state.wrap || lacks_room w s)) (linefeed (at_column 0 s)) _ (line-feed (at_column 0 s) h)
-      (either (lacks_room w s) (at_column (s.grid.cols - w) s) s h h) in
-      put w code (opened w there) is (either there.state.insert (cells_inserted w there) there (cells-inserted w there there_is) there_is)
+    pub printed-once : (w code : ℕ) (s : Screen) → Draws 1 0xFFFD → Draws w code → HasHalves s → HasHalves (print w code s)
+    unfolding print
+    printed-once w code s malformed is h =
+        either (w == 0) s _ h
+        (either (w == 2 && s.grid.cols == 1) (set_down 1 0xFFFD s) (set_down w code s) (set-down 1 0xFFFD s malformed h) (set-down w code s is h))
 
-  pub printed-once : (w code : ℕ) (s : Screen) → (code == half) ≡ false → HasHalves s → HasHalves (print w code s)
-  unfolding print
-  printed-once w code s is h =
-      either (w == 0) s _ h
-      (either (w == 2 && s.grid.cols == 1) (set_down 1 0xFFFD s) (set_down w code s) (set-down 1 0xFFFD s refl h) (set-down w code s is h))
+    -- what changes the state alone
+    cursor-moved : (y x : ℕ) (s : Screen) → HasHalves s → HasHalves (moved y x s)
+    unfolding moved
+    cursor-moved y x s h = h
 
-  -- what changes the state alone
-  cursor-moved : (y x : ℕ) (s : Screen) → HasHalves s → HasHalves (moved y x s)
-  unfolding moved
-  cursor-moved y x s h = h
+    cursor-placed : (y x : ℕ) (s : Screen) → HasHalves s → HasHalves (placed y x s)
+    unfolding placed moved
+    cursor-placed y x s h = h
 
-  cursor-placed : (y x : ℕ) (s : Screen) → HasHalves s → HasHalves (placed y x s)
-  unfolding placed moved
-  cursor-placed y x s h = h
+    tabbed : (s : Screen) → HasHalves s → HasHalves (tab s)
+    unfolding tab
+    tabbed s h = h
 
-  tabbed : (s : Screen) → HasHalves s → HasHalves (tab s)
-  unfolding tab
-  tabbed s h = h
+    invoked : (shift : ℕ) (display : Bool) (s : Screen) → HasHalves s → HasHalves (invoking shift display s)
+    unfolding invoking
+    invoked shift display s h = h
 
-  invoked : (shift : ℕ) (display : Bool) (s : Screen) → HasHalves s → HasHalves (invoking shift display s)
-  unfolding invoking
-  invoked shift display s h = h
+    coded : (last : ℕ) (s : Screen) → HasHalves s → HasHalves (with_coding last s)
+    unfolding with_coding
+    coded last s h = either (last == 0x40) _ _ h (either (last == 0x47) _ _ h (either (last == 0x38) _ s h h))
 
-  coded : (last : ℕ) (s : Screen) → HasHalves s → HasHalves (with_coding last s)
-  unfolding with_coding
-  coded last s h = either (last == 0x40) _ _ h (either (last == 0x47) _ _ h (either (last == 0x38) _ s h h))
+    first-set : (last : ℕ) (s : Screen) → HasHalves s → HasHalves (with_g0 last s)
+    unfolding with_g0
+    first-set last s h = h
 
-  first-set : (last : ℕ) (s : Screen) → HasHalves s → HasHalves (with_g0 last s)
-  unfolding with_g0
-  first-set last s h = h
+    second-set : (last : ℕ) (s : Screen) → HasHalves s → HasHalves (with_g1 last s)
+    unfolding with_g1
+    second-set last s h = h
 
-  second-set : (last : ℕ) (s : Screen) → HasHalves s → HasHalves (with_g1 last s)
-  unfolding with_g1
-  second-set last s h = h
+    stop-set : (s : Screen) → HasHalves s → HasHalves (set_stop s)
+    unfolding set_stop
+    stop-set s h = h
 
-  stop-set : (s : Screen) → HasHalves s → HasHalves (set_stop s)
-  unfolding set_stop
-  stop-set s h = h
+    stops-cleared : (which : ℕ) (s : Screen) → HasHalves s → HasHalves (clear_stops which s)
+    unfolding clear_stops
+    stops-cleared which s h = either (which == 0) _ _ h (either (which == 3) _ s h h)
 
-  stops-cleared : (which : ℕ) (s : Screen) → HasHalves s → HasHalves (clear_stops which s)
-  unfolding clear_stops
-  stops-cleared which s h = either (which == 0) _ _ h (either (which == 3) _ s h h)
+    keypad-set : (on : Bool) (s : Screen) → HasHalves s → HasHalves (with_keypad on s)
+    unfolding with_keypad
+    keypad-set on s h = h
 
-  keypad-set : (on : Bool) (s : Screen) → HasHalves s → HasHalves (with_keypad on s)
-  unfolding with_keypad
-  keypad-set on s h = h
+    each-keeps : (f : ℕ → Screen → Screen) → ((n : ℕ) (s : Screen) → HasHalves s → HasHalves (f n s))
+        → (numbers : List ℕ) (s : Screen) → HasHalves s → HasHalves (each f numbers s)
+    each-keeps f keeps [] s h = h
+    each-keeps f keeps (n ∷ numbers) s h = each-keeps f keeps numbers (f n s) (keeps n s h)
 
-  each-keeps : (f : ℕ → Screen → Screen) → ((n : ℕ) (s : Screen) → HasHalves s → HasHalves (f n s))
-      → (numbers : List ℕ) (s : Screen) → HasHalves s → HasHalves (each f numbers s)
-  each-keeps f keeps [] s h = h
-  each-keeps f keeps (n ∷ numbers) s h = each-keeps f keeps numbers (f n s) (keeps n s h)
+    mode-set : (on : Bool) (n : ℕ) (s : Screen) → HasHalves s → HasHalves (with_mode on n s)
+    unfolding with_mode
+    mode-set on n s h = either (n == 3) _ _ h (either (n == 4) _ _ h (either (n == 20) _ s h h))
 
-  mode-set : (on : Bool) (n : ℕ) (s : Screen) → HasHalves s → HasHalves (with_mode on n s)
-  unfolding with_mode
-  mode-set on n s h = either (n == 3) _ _ h (either (n == 4) _ _ h (either (n == 20) _ s h h))
+    private-mode-set : (on : Bool) (n : ℕ) (s : Screen) → HasHalves s → HasHalves (with_private_mode on n s)
+    unfolding with_private_mode
+    private-mode-set on n s h =
+        either (n == 1) _ _ h
+        (either (n == 5) _ _ h
+        (either (n == 6) _ _ (cursor-placed 0 0 _ h)
+        (either (n == 7) _ _ h
+        (either (n == 8) _ _ h
+        (either (n == 25) _ s h h)))))
 
-  private-mode-set : (on : Bool) (n : ℕ) (s : Screen) → HasHalves s → HasHalves (with_private_mode on n s)
-  unfolding with_private_mode
-  private-mode-set on n s h =
-      either (n == 1) _ _ h
-      (either (n == 5) _ _ h
-      (either (n == 6) _ _ (cursor-placed 0 0 _ h)
-      (either (n == 7) _ _ h
-      (either (n == 8) _ _ h
-      (either (n == 25) _ s h h)))))
+    region-set : (t b : ℕ) (s : Screen) → HasHalves s → HasHalves (with_region t b s)
+    unfolding with_region
+    region-set t b s h =
+        let last = cond (b == 0) s.grid.rows b in
+        either (nat_lt t last && nat_le last s.grid.rows) _ s (cursor-placed 0 0 _ h) h
 
-  region-set : (t b : ℕ) (s : Screen) → HasHalves s → HasHalves (with_region t b s)
-  unfolding with_region
-  region-set t b s h =
-      let last = cond (b == 0) s.grid.rows b in
-      either (nat_lt t last && nat_le last s.grid.rows) _ s (cursor-placed 0 0 _ h) h
+    pen-set : (params : List ℕ) (s : Screen) → HasHalves s → HasHalves (rendered params s)
+    unfolding rendered
+    pen-set params s h = h
 
-  pen-set : (params : List ℕ) (s : Screen) → HasHalves s → HasHalves (rendered params s)
-  unfolding rendered
-  pen-set params s h = h
+    saved : (s : Screen) → HasHalves s → HasHalves (save s)
+    unfolding save
+    saved s h = h
 
-  saved : (s : Screen) → HasHalves s → HasHalves (save s)
-  unfolding save
-  saved s h = h
+    restored : (s : Screen) → HasHalves s → HasHalves (restore s)
+    unfolding restore moved
+    restored s h = h
 
-  restored : (s : Screen) → HasHalves s → HasHalves (restore s)
-  unfolding restore moved
-  restored s h = h
+    pub coloured : (n : ℕ) (rgb : Rgb) (s : Screen) → HasHalves s → HasHalves (with_colour n rgb s)
+    unfolding with_colour
+    coloured n rgb s h = either (nat_lt n 16) _ s h h
 
-  pub coloured : (n : ℕ) (rgb : Rgb) (s : Screen) → HasHalves s → HasHalves (with_colour n rgb s)
-  unfolding with_colour
-  coloured n rgb s h = either (nat_lt n 16) _ s h h
+    pub colours-reset : (s : Screen) → HasHalves s → HasHalves (with_start_palette s)
+    unfolding with_start_palette
+    colours-reset s h = h
 
-  pub colours-reset : (s : Screen) → HasHalves s → HasHalves (with_start_palette s)
-  unfolding with_start_palette
-  colours-reset s h = h
+    -- what says something
+    device : (which : ℕ) (s : Screen) → HasHalves s → HasHalves (device_report which s).screen
+    unfolding device_report
+    device which s h = either-done (which == 0) _ (quiet s) h h
 
-  -- what says something
-  device : (which : ℕ) (s : Screen) → HasHalves s → HasHalves (device_report which s).screen
-  unfolding device_report
-  device which s h = either-done (which == 0) _ (quiet s) h h
+    status : (which : ℕ) (s : Screen) → HasHalves s → HasHalves (status_report which s).screen
+    unfolding status_report
+    status which s h = either-done (which == 5) _ _ h (either-done (which == 6) _ (quiet s) h h)
 
-  status : (which : ℕ) (s : Screen) → HasHalves s → HasHalves (status_report which s).screen
-  unfolding status_report
-  status which s h = either-done (which == 5) _ _ h (either-done (which == 6) _ (quiet s) h h)
+    lit : (which : ℕ) (s : Screen) → HasHalves s → HasHalves (lights which s).screen
+    unfolding lights
+    lit which s h =
+        either-done (which == 0) _ _ h
+        (either-done (which == 1) _ _ h (either-done (which == 2) _ _ h (either-done (which == 3) _ (quiet s) h h)))
 
-  lit : (which : ℕ) (s : Screen) → HasHalves s → HasHalves (lights which s).screen
-  unfolding lights
-  lit which s h =
-      either-done (which == 0) _ _ h
-      (either-done (which == 1) _ _ h (either-done (which == 2) _ _ h (either-done (which == 3) _ (quiet s) h h)))
+    setting : (which value : ℕ) (s : Screen) → HasHalves s → HasHalves (console_setting which value s).screen
+    unfolding console_setting
+    setting which value s h =
+        either-done (which == 1) _ _ (either (nat_lt value 16) _ s h h)
+        (either-done (which == 2) _ _ (either (nat_lt value 16) _ s h h)
+        (either-done (which == 8) _ _ h
+        (either-done (which == 12) _ _ (either-done (nat_le 1 value && nat_le value 63) _ (quiet s) h h)
+        (either-done (which == 15) _ (quiet s) h h))))
 
-  setting : (which value : ℕ) (s : Screen) → HasHalves s → HasHalves (console_setting which value s).screen
-  unfolding console_setting
-  setting which value s h =
-      either-done (which == 1) _ _ (either (nat_lt value 16) _ s h h)
-      (either-done (which == 2) _ _ (either (nat_lt value 16) _ s h h)
-      (either-done (which == 8) _ _ h
-      (either-done (which == 12) _ _ (either-done (nat_le 1 value && nat_le value 63) _ (quiet s) h h)
-      (either-done (which == 15) _ (quiet s) h h))))
+    -- the table
+    pub control-keeps : (code : ℕ) (s : Screen) → HasHalves s → HasHalves (control code s).screen
+    unfolding control
+    control-keeps code s h =
+        either-done (code == 0x07) _ _ h
+        (either-done (code == 0x08) _ _ h
+        (either-done (code == 0x09) _ _ (tabbed s h)
+        (either-done (within 0x0A 0x0C code) _ _ (new-line s h)
+        (either-done (code == 0x0D) _ _ h
+        (either-done (code == 0x0E) _ _ (invoked 1 true s h)
+        (either-done (code == 0x0F) _ (quiet s) (invoked 0 false s h) h))))))
 
-  -- the table
-  pub control-keeps : (code : ℕ) (s : Screen) → HasHalves s → HasHalves (control code s).screen
-  unfolding control
-  control-keeps code s h =
-      either-done (code == 0x07) _ _ h
-      (either-done (code == 0x08) _ _ h
-      (either-done (code == 0x09) _ _ (tabbed s h)
-      (either-done (within 0x0A 0x0C code) _ _ (new-line s h)
-      (either-done (code == 0x0D) _ _ h
-      (either-done (code == 0x0E) _ _ (invoked 1 true s h)
-      (either-done (code == 0x0F) _ (quiet s) (invoked 0 false s h) h))))))
+    plain-escape-keeps : (last : ℕ) (s : Screen) → HasHalves s → HasHalves (plain_escape last s).screen
+    unfolding plain_escape
+    plain-escape-keeps last s h =
+        either-done (last == 0x63) _ _ (screen-reset s h)
+        (either-done (last == 0x44) _ _ (line-feed s h)
+        (either-done (last == 0x45) _ _ (line-feed (at_column 0 s) h)
+        (either-done (last == 0x48) _ _ (stop-set s h)
+        (either-done (last == 0x4D) _ _ (reverse-line-feed s h)
+        (either-done (last == 0x5A) _ _ (device 0 s h)
+        (either-done (last == 0x37) _ _ (saved s h)
+        (either-done (last == 0x38) _ _ (restored s h)
+        (either-done (last == 0x3E) _ _ (keypad-set false s h)
+        (either-done (last == 0x3D) _ (quiet s) (keypad-set true s h) h)))))))))
 
-  plain-escape-keeps : (last : ℕ) (s : Screen) → HasHalves s → HasHalves (plain_escape last s).screen
-  unfolding plain_escape
-  plain-escape-keeps last s h =
-      either-done (last == 0x63) _ _ (screen-reset s h)
-      (either-done (last == 0x44) _ _ (line-feed s h)
-      (either-done (last == 0x45) _ _ (line-feed (at_column 0 s) h)
-      (either-done (last == 0x48) _ _ (stop-set s h)
-      (either-done (last == 0x4D) _ _ (reverse-line-feed s h)
-      (either-done (last == 0x5A) _ _ (device 0 s h)
-      (either-done (last == 0x37) _ _ (saved s h)
-      (either-done (last == 0x38) _ _ (restored s h)
-      (either-done (last == 0x3E) _ _ (keypad-set false s h)
-      (either-done (last == 0x3D) _ (quiet s) (keypad-set true s h) h)))))))))
+    pub escape-keeps : (mid last : ℕ) (s : Screen) → HasHalves s → HasHalves (escape mid last s).screen
+    unfolding escape
+    escape-keeps mid last s h =
+        either-done (mid == 0) _ _ (plain-escape-keeps last s h)
+        (either-done (mid == 0x25) _ _ (coded last s h)
+        (either-done (mid == 0x23) _ _ (either (last == 0x38) (aligned s) s (screen-aligned s h) h)
+        (either-done (mid == 0x28) _ _ (first-set last s h)
+        (either-done (mid == 0x29) _ (quiet s) (second-set last s h) h))))
 
-  pub escape-keeps : (mid last : ℕ) (s : Screen) → HasHalves s → HasHalves (escape mid last s).screen
-  unfolding escape
-  escape-keeps mid last s h =
-      either-done (mid == 0) _ _ (plain-escape-keeps last s h)
-      (either-done (mid == 0x25) _ _ (coded last s h)
-      (either-done (mid == 0x23) _ _ (either (last == 0x38) (aligned s) s (screen-aligned s h) h)
-      (either-done (mid == 0x28) _ _ (first-set last s h)
-      (either-done (mid == 0x29) _ (quiet s) (second-set last s h) h))))
+    pub private-keeps : (params : List ℕ) (last : ℕ) (s : Screen) → HasHalves s → HasHalves (private_sequence params last s).screen
+    unfolding private_sequence
+    private-keeps params last s h =
+        either-done (last == 0x68) _ _ (each-keeps (with_private_mode true) (private-mode-set true) params s h)
+        (either-done (last == 0x6C) _ (quiet s) (each-keeps (with_private_mode false) (private-mode-set false) params s h) h)
 
-  pub private-keeps : (params : List ℕ) (last : ℕ) (s : Screen) → HasHalves s → HasHalves (private_sequence params last s).screen
-  unfolding private_sequence
-  private-keeps params last s h =
-      either-done (last == 0x68) _ _ (each-keeps (with_private_mode true) (private-mode-set true) params s h)
-      (either-done (last == 0x6C) _ (quiet s) (each-keeps (with_private_mode false) (private-mode-set false) params s h) h)
-
-  pub sequence-keeps : (params : List ℕ) (last : ℕ) (s : Screen) → HasHalves s → HasHalves (control_sequence params last s).screen
-  unfolding control_sequence
-  sequence-keeps params last s h =
-      let n = count_of params in
-      let first = number_at params 0 in
-      let second = number_at params 1 in
-      let y = s.state.y in
-      let x = s.state.x in
-      either-done (last == 0x40) _ _ (characters-inserted n s h)
-      (either-done (last == 0x41) _ _ (cursor-moved (y - n) x s h)
-      (either-done (last == 0x42) _ _ (cursor-moved (y + n) x s h)
-      (either-done (last == 0x43) _ _ (cursor-moved y (x + n) s h)
-      (either-done (last == 0x44) _ _ (cursor-moved y (x - n) s h)
-      (either-done (last == 0x45) _ _ (cursor-moved (y + n) 0 s h)
-      (either-done (last == 0x46) _ _ (cursor-moved (y - n) 0 s h)
-      (either-done (last == 0x47) _ _ (cursor-moved y (n - 1) s h)
-      (either-done (last == 0x48) _ _ (cursor-placed (n - 1) (second - 1) s h)
-      (either-done (last == 0x4A) _ _ (display-erased first s h)
-      (either-done (last == 0x4B) _ _ (row-erased first s h)
-      (either-done (last == 0x4C) _ _ (lines-inserted n s h)
-      (either-done (last == 0x4D) _ _ (lines-deleted n s h)
-      (either-done (last == 0x50) _ _ (characters-deleted n s h)
-      (either-done (last == 0x58) _ _ (characters-erased n s h)
-      (either-done (last == 0x61) _ _ (cursor-moved y (x + n) s h)
-      (either-done (last == 0x63) _ _ (device first s h)
-      (either-done (last == 0x64) _ _ (cursor-placed (n - 1) x s h)
-      (either-done (last == 0x65) _ _ (cursor-moved (y + n) x s h)
-      (either-done (last == 0x66) _ _ (cursor-placed (n - 1) (second - 1) s h)
-      (either-done (last == 0x67) _ _ (stops-cleared first s h)
-      (either-done (last == 0x68) _ _ (each-keeps (with_mode true) (mode-set true) params s h)
-      (either-done (last == 0x6C) _ _ (each-keeps (with_mode false) (mode-set false) params s h)
-      (either-done (last == 0x6D) _ _ (pen-set params s h)
-      (either-done (last == 0x6E) _ _ (status first s h)
-      (either-done (last == 0x71) _ _ (lit first s h)
-      (either-done (last == 0x72) _ _ (region-set n second s h)
-      (either-done (last == 0x73) _ _ (saved s h)
-      (either-done (last == 0x75) _ _ (restored s h)
-      (either-done (last == 0x60) _ _ (cursor-moved y (n - 1) s h)
-      (either-done (last == 0x5D) _ (quiet s) (setting first second s h) h))))))))))))))))))))))))))))))
+    pub sequence-keeps : (params : List ℕ) (last : ℕ) (s : Screen) → HasHalves s → HasHalves (control_sequence params last s).screen
+    unfolding control_sequence
+    sequence-keeps params last s h =
+        let n = count_of params in
+        let first = number_at params 0 in
+        let second = number_at params 1 in
+        let y = s.state.y in
+        let x = s.state.x in
+        either-done (last == 0x40) _ _ (characters-inserted n s h)
+        (either-done (last == 0x41) _ _ (cursor-moved (y - n) x s h)
+        (either-done (last == 0x42) _ _ (cursor-moved (y + n) x s h)
+        (either-done (last == 0x43) _ _ (cursor-moved y (x + n) s h)
+        (either-done (last == 0x44) _ _ (cursor-moved y (x - n) s h)
+        (either-done (last == 0x45) _ _ (cursor-moved (y + n) 0 s h)
+        (either-done (last == 0x46) _ _ (cursor-moved (y - n) 0 s h)
+        (either-done (last == 0x47) _ _ (cursor-moved y (n - 1) s h)
+        (either-done (last == 0x48) _ _ (cursor-placed (n - 1) (second - 1) s h)
+        (either-done (last == 0x4A) _ _ (display-erased first s h)
+        (either-done (last == 0x4B) _ _ (row-erased first s h)
+        (either-done (last == 0x4C) _ _ (lines-inserted n s h)
+        (either-done (last == 0x4D) _ _ (lines-deleted n s h)
+        (either-done (last == 0x50) _ _ (characters-deleted n s h)
+        (either-done (last == 0x58) _ _ (characters-erased n s h)
+        (either-done (last == 0x61) _ _ (cursor-moved y (x + n) s h)
+        (either-done (last == 0x63) _ _ (device first s h)
+        (either-done (last == 0x64) _ _ (cursor-placed (n - 1) x s h)
+        (either-done (last == 0x65) _ _ (cursor-moved (y + n) x s h)
+        (either-done (last == 0x66) _ _ (cursor-placed (n - 1) (second - 1) s h)
+        (either-done (last == 0x67) _ _ (stops-cleared first s h)
+        (either-done (last == 0x68) _ _ (each-keeps (with_mode true) (mode-set true) params s h)
+        (either-done (last == 0x6C) _ _ (each-keeps (with_mode false) (mode-set false) params s h)
+        (either-done (last == 0x6D) _ _ (pen-set params s h)
+        (either-done (last == 0x6E) _ _ (status first s h)
+        (either-done (last == 0x71) _ _ (lit first s h)
+        (either-done (last == 0x72) _ _ (region-set n second s h)
+        (either-done (last == 0x73) _ _ (saved s h)
+        (either-done (last == 0x75) _ _ (restored s h)
+        (either-done (last == 0x60) _ _ (cursor-moved y (n - 1) s h)
+        (either-done (last == 0x5D) _ (quiet s) (setting first second s h) h))))))))))))))))))))))))))))))

@@ -1,6 +1,12 @@
+mod Asking
+mod AskingTable
+mod AskingTexts
 mod Controls
 mod Cuts
+mod Cutting
+mod Edits
 mod Feeds
+mod FollowWide
 mod Fours
 mod Halved
 mod InsideTable

@@ -1,17 +1,22 @@
--- No half stands in column 0 or right of a half, whatever a tape does to a start screen.
-use Rattle.std.proofs.Common.{◌≡◌, ℕ, zero, suc, ◌+◌, ◌-◌, ◌<◌, ◌≤◌, ◌==◌, Bool, true, false, List, [], ◌∷◌, map, refl, sym, subst, cond, arith, nat_lt, ltb-true}
+-- Where halves stand, whatever a tape does to a start screen.
+use Rattle.std.proofs.Common.{◌&&◌, ◌∙◌, ap, ◌≡◌, ℕ, zero, suc, ◌+◌, ◌-◌, ◌<◌, ◌≤◌, ◌==◌, Bool, true, false, List, [], ◌∷◌, map, refl, sym, subst, cond, arith, nat_lt, ltb-true}
 use Rattle.std.specs.Prelude.{All, slice_index}
 use Rattle.std.specs.List.{list_all, range_with_len}
-use Rattle.std.proofs.lemmas.Bool.{and_parts}
+use Rattle.std.proofs.lemmas.Bool.{and_parts, false≢true}
 use Rattle.std.proofs.lemmas.Bool.Decides.{nat_tests}
 use Rattle.std.proofs.lemmas.List.Elements.{All-head, All-tail}
 use Rattle.vt_cells.specs.Width.{columns, half}
+use Rattle.vt_cells.specs.declared.cell.Cell.{Cell}
 use Rattle.vt_chars.specs.CharMap.{char_of, font_place, graphic_of, graphics}
 use Rattle.vt_chars.specs.Utf8.{within}
+use Rattle.vt_grid.specs.Grid.{cells_of_codes}
+use Rattle.vt_grid.specs.Halves.{ArePaired, IsPairedRow}
 use Rattle.vt_grid.specs.Laws.{EditsKeepHalves}
-use Rattle.vt_screen.proofs.Halved.{HasHalves, NoHalves, coloured, colours-reset, control-keeps, escape-keeps, printed-once, private-keeps, sequence-keeps}
+use Rattle.vt_screen.proofs.Edits.{Each, Edits, paired-edits}
+use Rattle.vt_screen.proofs.FollowWide.{wide-edits}
+use Rattle.vt_screen.proofs.Halved.{Draws, HasHalves, NoHalves, coloured, colours-reset, control-keeps, escape-keeps, printed-once, private-keeps, sequence-keeps}
 use Rattle.vt_screen.specs.Effect.{control_sequence, effect, private_sequence}
-use Rattle.vt_screen.specs.Halves.{IsPlainTaped, TapesKeepHalves}
+use Rattle.vt_screen.specs.Halves.{FollowWide, HalvesFollowWide, IsPlainTaped, TapesKeepHalves}
 use Rattle.vt_screen.specs.Printing.{shown, table_of, toggled}
 use Rattle.vt_screen.specs.Run.{Drawn, drawing, having_said, start}
 use Rattle.vt_screen.specs.Screen.{Screen, blank_of, mode_of}
@@ -71,41 +76,46 @@ table-whole user table b h small =
     (either-code (table == 1) (graphic_of b) _ (graphic-whole b small)
     (either-code (table == 2) (font_place b) (slice_index user b) (below-half (font_place b) (omega (arith, small))) (no-half-at user b h)))
 
-shown-whole : (b : ℕ) (s : Screen) → b < 256 → HasHalves s → (shown b s == half) ≡ false
+shown-whole : (b : ℕ) (s : Screen) → b < 256 → NoHalves s.state.map → (shown b s == half) ≡ false
 unfolding shown
 shown-whole b s small h =
-    table-whole s.state.map (table_of s) (cond s.state.pen.toggle (toggled b) b) h.1
+    table-whole s.state.map (table_of s) (cond s.state.pen.toggle (toggled b) b) h
     (either-below s.state.pen.toggle (toggled b) b (toggled-below b small) small)
 
-module _ (law : EditsKeepHalves) where
-  unit-keeps : (b : ℕ) (u : units.Unit) (s : Screen) → b < 256 → PrintsOnly b u → HasHalves s → HasHalves (effect u s).screen
-  unit-keeps b (units.Unit.Char code) s small only h = printed-once law (columns code) code s (below-half code only) h
+module _ (Row : List Cell → Type 0) (law : Edits Row) (draws : (code : ℕ) → (code == half) ≡ false → Draws Row (columns code) code)
+    (draws_byte : (code : ℕ) → (code == half) ≡ false → Draws Row 1 code) where
+  malformed_draws : Draws Row 1 0xFFFD
+  malformed_draws = draws_byte 0xFFFD refl
+
+  unit-keeps : (b : ℕ) (u : units.Unit) (s : Screen) → b < 256 → PrintsOnly b u → HasHalves Row s → HasHalves Row (effect u s).screen
+  unit-keeps b (units.Unit.Char code) s small only h = printed-once Row law (columns code) code s malformed_draws (draws code (below-half code only)) h
   unit-keeps b (units.Unit.Byte x) s small only h =
-      printed-once law 1 (shown x s) s (shown-whole x s (subst (λ n. n < 256) (sym only) small) h) h
-  unit-keeps b (units.Unit.Control code) s small only h = control-keeps law code s h
-  unit-keeps b (units.Unit.Esc mid last) s small only h = escape-keeps law mid last s h
+      printed-once Row law 1 (shown x s) s malformed_draws
+      (draws_byte (shown x s) (shown-whole x s (subst (λ n. n < 256) (sym only) small) h.1)) h
+  unit-keeps b (units.Unit.Control code) s small only h = control-keeps Row law code s h
+  unit-keeps b (units.Unit.Esc mid last) s small only h = escape-keeps Row law mid last s h
   unit-keeps b (units.Unit.Csi private params last) s small only h = by private
     where
-      by : (test : Bool) → HasHalves (cond test (private_sequence params last s) (control_sequence params last s)).screen
-      by true = private-keeps law params last s h
-      by false = sequence-keeps law params last s h
-  unit-keeps b (units.Unit.Colour n rgb) s small only h = coloured law n rgb s h
-  unit-keeps b units.Unit.ColourReset s small only h = colours-reset law s h
+      by : (test : Bool) → HasHalves Row (cond test (private_sequence params last s) (control_sequence params last s)).screen
+      by true = private-keeps Row law params last s h
+      by false = sequence-keeps Row law params last s h
+  unit-keeps b (units.Unit.Colour n rgb) s small only h = coloured Row law n rgb s h
+  unit-keeps b units.Unit.ColourReset s small only h = colours-reset Row law s h
   unit-keeps b units.Unit.Ignored s small only h = h
 
-  then-keeps : (b : ℕ) (t : then.Then) (at : Drawn) → b < 256 → ThenPrints b t → HasHalves at.screen
-      → HasHalves (effect_of drawing t at).screen
+  then-keeps : (b : ℕ) (t : then.Then) (at : Drawn) → b < 256 → ThenPrints b t → HasHalves Row at.screen
+      → HasHalves Row (effect_of drawing t at).screen
   then-keeps b (then.Then.Unit u) at small only h = unit-keeps b u at.screen small only h
-  then-keeps b (then.Then.Act code) at small only h = control-keeps law code at.screen h
+  then-keeps b (then.Then.Act code) at small only h = control-keeps Row law code at.screen h
   then-keeps b then.Then.More at small only h = h
   then-keeps b then.Then.Dropped at small only h = h
 
-  bad-keeps : (bad : Bool) (at : Drawn) → HasHalves at.screen
-      → HasHalves (cond bad (drawing.on_unit (units.Unit.Char 0xFFFD) at) at).screen
-  bad-keeps true at h = printed-once law (columns 0xFFFD) 0xFFFD at.screen refl h
+  bad-keeps : (bad : Bool) (at : Drawn) → HasHalves Row at.screen
+      → HasHalves Row (cond bad (drawing.on_unit (units.Unit.Char 0xFFFD) at) at).screen
+  bad-keeps true at h = printed-once Row law (columns 0xFFFD) 0xFFFD at.screen malformed_draws (draws 0xFFFD refl) h
   bad-keeps false at h = h
 
-  change-keeps : (m : Change) (s : Screen) → IsPlainTaped (change m) → HasHalves s → HasHalves (changed m s)
+  change-keeps : (m : Change) (s : Screen) → IsPlainTaped (change m) → HasHalves Row s → HasHalves Row (changed m s)
   unfolding resized_to
   change-keeps (user_map words) s plain h = (h.0, words-kept words plain)
   change-keeps (palette colours) s plain h = h
@@ -113,8 +123,8 @@ module _ (law : EditsKeepHalves) where
       (law.resizing s.grid rows cols (lost_rows rows s) (blank_of s) h.0 refl, h.1)
 
   module _ (spell : TextsSpellCharacters) where
-    played-keeps : (item : Taped) (at : Reached Drawn) → IsPlainTaped item → HasHalves at.state.screen
-        → HasHalves (played item at).state.screen
+    played-keeps : (item : Taped) (at : Reached Drawn) → IsPlainTaped item → HasHalves Row at.state.screen
+        → HasHalves Row (played item at).state.screen
     played-keeps (byte b) at plain h =
         let m = mode_of at.state.screen in
         let read : Read = answer at.rest m b in
@@ -122,14 +132,44 @@ module _ (law : EditsKeepHalves) where
         (bad-keeps read.bad at.state h)
     played-keeps (change m) at plain h = change-keeps m at.state.screen plain h
 
-    tape-keeps : (tape : List Taped) (at : Reached Drawn) → All IsPlainTaped tape → HasHalves at.state.screen
-        → HasHalves (run_tape tape at).state.screen
+    tape-keeps : (tape : List Taped) (at : Reached Drawn) → All IsPlainTaped tape → HasHalves Row at.state.screen
+        → HasHalves Row (run_tape tape at).state.screen
     tape-keeps [] at plain h = h
     tape-keeps (item ∷ tape) at plain h =
         tape-keeps tape (played item at) (All-tail IsPlainTaped item tape plain)
         (played-keeps item at (All-head IsPlainTaped item tape plain) h)
 
-    pub tapes-keep-halves : TapesKeepHalves
-    tapes-keep-halves rows cols tape plain =
+    -- every tape keeps it, from a start on
+    pub tapes-keep : (rows cols : ℕ) (tape : List Taped) → All IsPlainTaped tape
+        → Each Row (run_tape tape (having_said [] (start rows cols))).state.screen.grid
+    tapes-keep rows cols tape plain =
         (tape-keeps tape (having_said [] (start rows cols)) plain
         (law.filling rows cols _ refl, places 256 0 (omega arith))).0
+
+-- no half stands in column 0 or right of a half
+paired-draws : (w code : ℕ) → (code == half) ≡ false → Draws IsPairedRow w code
+paired-draws w code is attr = by (w == 2)
+  where
+    by : (test : Bool) → ArePaired true (cells_of_codes (cond test (code ∷ half ∷ []) (code ∷ [])) attr)
+    by true = (is, (ap (λ (b : Bool). b && true) is, tt))
+    by false = (is, tt)
+
+pub tapes-keep-halves : EditsKeepHalves → TextsSpellCharacters → TapesKeepHalves
+tapes-keep-halves law spell rows cols tape plain =
+    tapes-keep IsPairedRow (paired-edits law) (λ code. paired-draws (columns code) code) (paired-draws 1) spell rows cols tape plain
+
+-- left of each half stands a character of two columns
+wide-draws : (code : ℕ) → (code == half) ≡ false → Draws (FollowWide false) (columns code) code
+wide-draws code is attr = by (columns code == 2) refl
+  where
+    by : (test : Bool) → (columns code == 2) ≡ test
+        → FollowWide false (cells_of_codes (cond test (code ∷ half ∷ []) (code ∷ [])) attr)
+    by true wide = ((λ e. absurd (false≢true (sym is ∙ e))), ((λ e. wide), tt))
+    by false wide = ((λ e. absurd (false≢true (sym is ∙ e))), tt)
+
+one-draws : (code : ℕ) → (code == half) ≡ false → Draws (FollowWide false) 1 code
+one-draws code is attr = ((λ e. absurd (false≢true (sym is ∙ e))), tt)
+
+pub halves-follow-wide : columns half ≡ 1 → TextsSpellCharacters → HalvesFollowWide
+halves-follow-wide narrow spell rows cols tape plain =
+    tapes-keep (FollowWide false) (wide-edits narrow) wide-draws one-draws spell rows cols tape plain

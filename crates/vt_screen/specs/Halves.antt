@@ -1,5 +1,7 @@
 -- Where the right halves of characters stand on a screen.
-use Rattle.std.specs.Prelude.{◌<◌, ℕ, List, [], All}
+use Rattle.std.specs.Prelude.{◌≡◌, ◌<◌, ◌==◌, ℕ, Bool, true, false, List, [], ◌∷◌, All}
+use Rattle.vt_cells.specs.Width.{columns, is_half}
+use Rattle.vt_cells.specs.declared.cell.Cell.{Cell}
 use Rattle.vt_grid.specs.Halves.{IsPaired}
 use Rattle.vt_screen.specs.Run.{having_said, start}
 use Rattle.vt_screen.specs.Tape.{Change, Taped, byte, change, palette, resize, run_tape, user_map}
@@ -19,3 +21,17 @@ abbrev pub TapesKeepHalves : Type 0
 TapesKeepHalves =
     (rows cols : ℕ) (tape : List Taped) → All IsPlainTaped tape
     → IsPaired (run_tape tape (having_said [] (start rows cols))).state.screen.grid
+
+-- each half among these cells follows the cell of a character of two columns. Whether they themselves
+-- follow one is given
+abbrev pub FollowWide : Bool → List Cell → Type 0
+FollowWide after_wide [] = Unit {0}
+FollowWide after_wide (c ∷ cells) =
+    (is_half c ≡ true → after_wide ≡ true) × FollowWide (columns c.code == 2) cells
+
+-- in every screen that bytes and changes make of a start, the cell of a character of two columns stands
+-- left of each half, in the same row
+abbrev pub HalvesFollowWide : Type 0
+HalvesFollowWide =
+    (rows cols : ℕ) (tape : List Taped) → All IsPlainTaped tape
+    → All (FollowWide false) (run_tape tape (having_said [] (start rows cols))).state.screen.grid.cells

@@ -1,3 +1,4 @@
+pub mod Asking
 pub mod Cursor
 pub mod Effect
 pub mod Erasing

@@ -5,7 +5,8 @@ use Rattle.vt_screen.specs.Effect.{control, effect}
 use Rattle.vt_screen.specs.Saying.{Done}
 use Rattle.vt_screen.specs.Screen.{Screen, mode_of, start_screen}
 use Rattle.vt_screen.specs.declared.out.Out.{Out}
-use Rattle.vt_units.specs.Pieces.{HasEffect, controls_of, text_of}
+use Rattle.vt_units.specs.Cutting.{IsCut, IsRest}
+use Rattle.vt_units.specs.Pieces.{HasEffect, controls_of, rest_with, text_of}
 use Rattle.vt_units.specs.Reading.{reading}
 use Rattle.vt_units.specs.Rest.{fresh, start_mode}
 use Rattle.vt_units.specs.Run.{Effects, Reached, reached, run}
@@ -68,8 +69,9 @@ abbrev pub PiecesAct : Type 0
 PiecesAct =
     (m : Reached Screen) (bytes : List ℕ) → m.rest.text ≡ []
     → let mode = mode_of m.state in
-    HasEffect drawing (reading mode (text_of mode [] bytes)) (controls_of mode [] bytes) (ran m bytes)
-    (record { screen = m.state; outs = [] })
+    let old : Drawn = record { screen = m.state; outs = [] } in
+    HasEffect drawing (reading mode (text_of mode [] bytes)) (controls_of mode [] bytes)
+    (rest_with drawing old (fresh mode) bytes) (ran m bytes) old
 
 -- the same of a piece whose first bytes are in the rest
 abbrev pub PiecesResume : Type 0
@@ -77,5 +79,11 @@ PiecesResume =
     (m : Reached Screen) (bytes : List ℕ) → IsUnfinished m.rest.mode m.rest.text
     → let mode = m.rest.mode in
     let text = m.rest.text in
-    HasEffect drawing (reading mode (text_of mode text bytes)) (controls_of mode text bytes) (ran m bytes)
-    (record { screen = m.state; outs = [] })
+    let old : Drawn = record { screen = m.state; outs = [] } in
+    HasEffect drawing (reading mode (text_of mode text bytes)) (controls_of mode text bytes)
+    (rest_with drawing old m.rest bytes) (ran m bytes) old
+
+-- every text is pieces and one last rest, and its run is what they come to
+abbrev pub TextsAreCut : Type 0
+TextsAreCut =
+    (m : Reached Screen) (bytes : List ℕ) → IsRest m.rest → IsCut drawing (having_said [] m) bytes (ran m bytes)

@@ -1,8 +1,10 @@
 //! The laws of a run, which hold of every screen and every text.
-ghost use Rattle.vt_screen.specs.Halves.{TapesKeepHalves};
-ghost use Rattle.vt_screen.specs.Run.{AnyCut, PiecesAct, PiecesResume};
+ghost use Rattle.vt_screen.specs.Asking.{RequestsAreFew};
+ghost use Rattle.vt_screen.specs.Halves.{HalvesFollowWide, TapesKeepHalves};
+ghost use Rattle.vt_screen.specs.Run.{AnyCut, PiecesAct, PiecesResume, TextsAreCut};
 ghost use Rattle.vt_screen.specs.Tape.{AnyTapeCut, StretchesRun};
 
+use vt_cells::columns_are_few;
 use vt_chars::unfinished_begins;
 use vt_grid::laws::edits_keep_halves;
 use vt_units::texts_spell_characters;
@@ -34,4 +36,26 @@ pub fn tapes_keep_halves()
 {
     edits_keep_halves();
     texts_spell_characters();
+}
+
+/// In every screen that bytes and changes make of a start, a character of two columns stands left of
+/// each right half.
+pub fn halves_follow_wide()
+    ensures { HalvesFollowWide }
+{
+    columns_are_few();
+    texts_spell_characters();
+}
+
+/// A text asks for another console at most once in four bytes, of which three may have come before.
+pub fn requests_are_few()
+    ensures { RequestsAreFew }
+{}
+
+/// Every text is pieces and one last rest. What the text makes of a screen, and what it says, is what
+/// they come to, in order.
+pub fn texts_are_cut()
+    ensures { TextsAreCut }
+{
+    unfinished_begins();
 }

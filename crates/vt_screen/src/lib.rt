@@ -19,7 +19,10 @@ mod text_laws;
 mod write;
 
 pub use emu::{BLANK, Emu, FEED_BYTES};
-pub use laws::{any_cut, pieces_draw, tapes_keep_halves, tapes_run};
+pub use laws::{
+    any_cut, halves_follow_wide, pieces_draw, requests_are_few, tapes_keep_halves, tapes_run,
+    texts_are_cut,
+};
 pub use listener::Listener;
 pub use out::Out;
 pub use outs::Outs;

@@ -2,6 +2,7 @@
 use Rattle.std.proofs.Common.{◌≡◌, ◌⊎◌, ℕ, ◌==◌, Bool, true, false, cond, List, [], ◌∷◌, ◌++◌, refl, sym, ap, ◌∙◌, subst, ⊎_elim, inl, inr}
 use Rattle.std.proofs.lemmas.Bool.{cases_Bool, cond-true, cond-false, eqb-true, or_cases, or_parts, false_from_ne_true, not-true, or_left, or_right, false≢true}
 use Rattle.std.proofs.lemmas.List.{append-nil, append_assoc}
+use Rattle.vt_units.proofs.Bases.{base, base-some, plain-read, unfinished-some}
 use Rattle.vt_units.proofs.Follows.{string_next}
 use Rattle.vt_units.proofs.Fronts.{each-push}
 use Rattle.vt_units.proofs.Openers.{in_string}
@@ -10,7 +11,7 @@ use Rattle.vt_units.proofs.Steps.{follows-reading}
 use Rattle.vt_units.proofs.Walks.{IsStringRest, acts-low, del-passes, interrupts-out, string-rest, string-text, whole-rest}
 use Rattle.vt_units.specs.Answer.{Settled, Taken, acts_in, goes_on, joined, joined_by, kept, settled, settled_by, taken, took, vanishes_in}
 use Rattle.vt_units.specs.Bytes.{acts, interrupts, is_swallowed}
-use Rattle.vt_units.specs.Pieces.{is_ignored_in, is_left_out}
+use Rattle.vt_units.specs.Pieces.{is_ignored_in, is_left_out, read_on}
 use Rattle.vt_units.specs.Reading.{Kind, Reading, unfinished, character, sequence, command, string, string_end, string_text, whole, dropped, none, reading}
 use Rattle.vt_units.specs.Rest.{Rest, fresh, grown}
 use Rattle.vt_units.specs.Run.{Effects, Reached, effect_of, effects_of, reached, step}
@@ -72,11 +73,12 @@ module _ {S : Type 0} (e : Effects S) where
       ⊎ (((k : Kind) × (reading m q ≡ unfinished k) × (in_string (unfinished k) ≡ false) × (r ≡ rest_of m q))
       ⊎ ((k : Kind) × (reading m q ≡ unfinished k) × (in_string (unfinished k) ≡ true) × IsStringRest r q))
 
-  abbrev pub Becomes : Reading → Reached S → S → Mode → List ℕ → Type 0
-  Becomes (whole u) at s m w = (n : Mode) × (at ≡ reached (e.on_unit u s) (fresh n))
-  Becomes dropped at s m w = (n : Mode) × (at ≡ reached s (fresh n))
-  Becomes (unfinished k) at s m w = (r : Rest) × (at ≡ reached s r) × St s r m w
-  Becomes none at s m w = ⊥
+  -- and this rest is left of it
+  abbrev pub Becomes : Reading → Reached S → S → Mode → List ℕ → Rest → Type 0
+  Becomes (whole u) at s m w left = at ≡ reached (e.on_unit u s) (fresh left.mode)
+  Becomes dropped at s m w left = at ≡ reached s (fresh left.mode)
+  Becomes (unfinished k) at s m w left = (at ≡ reached s left) × St s left m w
+  Becomes none at s m w left = ⊥
 
   step-by : (s : S) (r r' : Rest) (b : ℕ) (all : Taken) → settled r (e.mode_of s) b ≡ kept r'
       → took r' b ≡ all → step e b (reached s r) ≡ reached (effect_of e all.got s) all.rest
@@ -87,10 +89,10 @@ module _ {S : Type 0} (e : Effects S) where
 
   joined-becomes : (s : S) (r : Rest) (b : ℕ) (m : Mode) (w : List ℕ) (now : Reading) (at : Reached S)
       → at ≡ reached (effect_of e (joined_by now r b).got s) (joined_by now r b).rest → IsSome now
-      → ((k : Kind) → now ≡ unfinished k → St s (grown r b) m w) → Becomes now at s m w
-  joined-becomes s r b m w (whole u) at is some st = (r.mode, is)
-  joined-becomes s r b m w dropped at is some st = (r.mode, is)
-  joined-becomes s r b m w (unfinished k) at is some st = (grown r b, is, st k refl)
+      → ((k : Kind) → now ≡ unfinished k → St s (grown r b) m w) → Becomes now at s m w (grown r b)
+  joined-becomes s r b m w (whole u) at is some st = is
+  joined-becomes s r b m w dropped at is some st = is
+  joined-becomes s r b m w (unfinished k) at is some st = (is, st k refl)
   joined-becomes s r b m w none at is some st = absurd some
 
   -- a text that has grown by a byte, and its rest with it
@@ -103,7 +105,7 @@ module _ {S : Type 0} (e : Effects S) where
   step-plain : (s : S) (m : Mode) (q : List ℕ) (b : ℕ) (k : Kind) → reading m q ≡ unfinished k
       → in_string (unfinished k) ≡ false → is_left_out (reading m q) b ≡ false
       → IsSome (reading m (q ++ b ∷ []))
-      → Becomes (reading m (q ++ b ∷ [])) (step e b (reached s (rest_of m q))) s m (q ++ b ∷ [])
+      → Becomes (reading m (q ++ b ∷ [])) (step e b (reached s (rest_of m q))) s m (q ++ b ∷ []) (grown (rest_of m q) b)
   step-plain s m q b k is out part some =
       let apart : (acts_in (unfinished k) b ≡ false) × (is_ignored_in (unfinished k) b ≡ false) =
       or_parts _ _ (ap (λ r. is_left_out r b) (sym is) ∙ part) in
@@ -116,6 +118,7 @@ module _ {S : Type 0} (e : Effects S) where
 
   step-empty : (s : S) (r : Rest) (b : ℕ) → r.text ≡ [] → IsSome (reading (e.mode_of s) (b ∷ []))
       → Becomes (reading (e.mode_of s) (b ∷ [])) (step e b (reached s r)) s (e.mode_of s) (b ∷ [])
+      (grown (fresh (e.mode_of s)) b)
   step-empty s r b nothing some =
       let m : Mode = e.mode_of s in
       let left : settled r (e.mode_of s) b ≡ kept (fresh (e.mode_of s)) =
@@ -159,7 +162,7 @@ module _ {S : Type 0} (e : Effects S) where
       settled-in = ap (λ x. settled_by x r (e.mode_of s) b) (in-rest r.mode)
 
       step-swallowed : is_swallowed b ≡ true
-          → Becomes (reading m (q ++ b ∷ [])) (step e b (reached s r)) s m (q ++ b ∷ [])
+          → Becomes (reading m (q ++ b ∷ [])) (step e b (reached s r)) s m (q ++ b ∷ []) r
       step-swallowed swallows =
           let now : reading m (q ++ b ∷ []) ≡ unfinished string = next-text m ∙ cond-true _ _ _ swallows in
           let not_esc : (b == 0x1B) ≡ false = (or_parts _ _ (not-true _ swallows)).1 in
@@ -176,8 +179,7 @@ module _ {S : Type 0} (e : Effects S) where
             swallowed_left = swallowed_left;
             ends = inl nothing;
           } in
-          subst (λ x. Becomes x (step e b (reached s r)) s m (q ++ b ∷ [])) (sym now) (
-            r,
+          subst (λ x. Becomes x (step e b (reached s r)) s m (q ++ b ∷ []) r) (sym now) (
             step-by s r r b (taken then.Then.More r) (settled-in ∙ ap kept (cond-false _ _ _ not_esc))
                 (ap (λ x. cond (acts_in x b) (taken (then.Then.Act b) r) (cond (vanishes_in x b) (taken then.Then.More r) (joined r b))) (in-rest r.mode)
                 ∙ cond-true _ _ _ swallows),
@@ -186,6 +188,7 @@ module _ {S : Type 0} (e : Effects S) where
 
       step-esc : is_swallowed b ≡ false → (b == 0x1B) ≡ true
           → Becomes (reading m (q ++ b ∷ [])) (step e b (reached s r)) s m (q ++ b ∷ [])
+          (grown (record { mode = e.mode_of s; text = r.text }) b)
       step-esc passes esc =
           let n : Mode = e.mode_of s in
           let sign : b ≡ 0x1B = eqb-true b 0x1B esc in
@@ -206,8 +209,7 @@ module _ {S : Type 0} (e : Effects S) where
             swallowed_left = swallowed_left;
             ends = inr (ap (λ x. x ∷ []) sign);
           } in
-          subst (λ x. Becomes x (step e b (reached s r)) s m (q ++ b ∷ [])) (sym now) (
-            grown moded b,
+          subst (λ x. Becomes x (step e b (reached s r)) s m (q ++ b ∷ []) (grown moded b)) (sym now) (
             step-by s r moded b (taken then.Then.More (grown moded b)) (settled-in ∙ ap kept (cond-true _ _ _ esc))
                 (took-by moded b (unfinished string) (in-rest (e.mode_of s)) refl passes
                 ∙ ap (λ x. joined_by x moded b) there),
@@ -215,21 +217,36 @@ module _ {S : Type 0} (e : Effects S) where
           )
 
       step-ends : is_swallowed b ≡ false → (b == 0x1B) ≡ false
-          → Becomes (reading m (q ++ b ∷ [])) (step e b (reached s r)) s m (q ++ b ∷ [])
+          → Becomes (reading m (q ++ b ∷ [])) (step e b (reached s r)) s m (q ++ b ∷ []) (grown r b)
       step-ends passes other =
           let now : reading m (q ++ b ∷ []) ≡ whole Ignored =
           next-text m ∙ cond-false _ _ _ passes ∙ cond-false _ _ _ other in
           let there : reading r.mode (r.text ++ b ∷ []) ≡ whole Ignored =
           next-rest r.mode ∙ cond-false _ _ _ passes ∙ cond-false _ _ _ other in
-          subst (λ x. Becomes x (step e b (reached s r)) s m (q ++ b ∷ [])) (sym now) (
-            r.mode,
-            step-by s r r b (taken (then.Then.Unit Ignored) (fresh r.mode)) (settled-in ∙ ap kept (cond-false _ _ _ other))
-                (took-by r b (unfinished string) (in-rest r.mode) refl passes ∙ ap (λ x. joined_by x r b) there),
-          )
+          subst (λ x. Becomes x (step e b (reached s r)) s m (q ++ b ∷ []) (grown r b)) (sym now)
+          (step-by s r r b (taken (then.Then.Unit Ignored) (fresh r.mode)) (settled-in ∙ ap kept (cond-false _ _ _ other))
+          (took-by r b (unfinished string) (in-rest r.mode) refl passes ∙ ap (λ x. joined_by x r b) there))
+
+      -- the rest that is left is the one that is read on
+      left-by : (left other : Rest) → other ≡ left
+          → Becomes (reading m (q ++ b ∷ [])) (step e b (reached s r)) s m (q ++ b ∷ []) other
+          → Becomes (reading m (q ++ b ∷ [])) (step e b (reached s r)) s m (q ++ b ∷ []) left
+      left-by left other same is =
+          subst (Becomes (reading m (q ++ b ∷ [])) (step e b (reached s r)) s m (q ++ b ∷ [])) same is
+
+      read-in : read_on (reading m q) (e.mode_of s) r b ≡ read_on (unfinished string) (e.mode_of s) r b
+      read-in = ap (λ x. read_on x (e.mode_of s) r b) (in-text m)
 
       step-in : Becomes (reading m (q ++ b ∷ [])) (step e b (reached s r)) s m (q ++ b ∷ [])
-      step-in = ⊎_elim step-swallowed
-          (λ passes. ⊎_elim (step-esc passes) (step-ends passes) (cases_Bool (b == 0x1B)))
+          (read_on (reading m q) (e.mode_of s) r b)
+      step-in = ⊎_elim
+          (λ swallows. left-by _ r (sym (read-in ∙ cond-true (is_swallowed b) _ _ swallows)) (step-swallowed swallows))
+          (λ passes. ⊎_elim
+          (λ esc. left-by _ (grown (record { mode = e.mode_of s; text = r.text }) b)
+          (sym (read-in ∙ cond-false (is_swallowed b) _ _ passes ∙ cond-true (b == 0x1B) _ _ esc)) (step-esc passes esc))
+          (λ other. left-by _ (grown r b)
+          (sym (read-in ∙ cond-false (is_swallowed b) _ _ passes ∙ cond-false (b == 0x1B) _ _ other)) (step-ends passes other))
+          (cases_Bool (b == 0x1B)))
           (cases_Bool (is_swallowed b))
 
     -- behind its ESC
@@ -245,6 +262,7 @@ module _ {S : Type 0} (e : Effects S) where
       ends-now false is_c one = absurd one
 
       step-end : Becomes (reading m (q ++ b ∷ [])) (step e b (reached s r)) s m (q ++ b ∷ [])
+          (read_on (reading m q) (e.mode_of s) r b)
       step-end =
           let next : reading m (q ++ b ∷ []) ≡ cond (b == 0x5C) (whole Ignored) none =
           follows-reading m b q string_end end-text in
@@ -252,34 +270,59 @@ module _ {S : Type 0} (e : Effects S) where
           let now : reading m (q ++ b ∷ []) ≡ whole Ignored = next ∙ cond-true _ _ _ sign in
           let there : reading r.mode (r.text ++ b ∷ []) ≡ whole Ignored =
           follows-reading r.mode b r.text string_end end-rest ∙ cond-true _ _ _ sign in
-          subst (λ x. Becomes x (step e b (reached s r)) s m (q ++ b ∷ [])) (sym now) (
-            r.mode,
-            step-by s r r b (taken (then.Then.Unit Ignored) (fresh r.mode))
-                (ap (λ x. settled_by x r (e.mode_of s) b) end-rest ∙ ap kept (cond-true _ _ _ sign))
-                (took-by r b (unfinished string_end) end-rest refl refl ∙ ap (λ x. joined_by x r b) there),
-          )
+          let left : read_on (reading m q) (e.mode_of s) r b ≡ grown r b =
+          ap (λ x. read_on x (e.mode_of s) r b) end-text in
+          subst (Becomes (reading m (q ++ b ∷ [])) (step e b (reached s r)) s m (q ++ b ∷ [])) (sym left)
+          (subst (λ x. Becomes x (step e b (reached s r)) s m (q ++ b ∷ []) (grown r b)) (sym now)
+          (step-by s r r b (taken (then.Then.Unit Ignored) (fresh r.mode))
+          (ap (λ x. settled_by x r (e.mode_of s) b) end-rest ∙ ap kept (cond-true _ _ _ sign))
+          (took-by r b (unfinished string_end) end-rest refl refl ∙ ap (λ x. joined_by x r b) there)))
 
     step-string : Becomes (reading m (q ++ b ∷ [])) (step e b (reached s r)) s m (q ++ b ∷ [])
+        (read_on (reading m q) (e.mode_of s) r b)
     step-string = ⊎_elim step-in step-end st.ends
+
+  -- it is read as the text is
+  pub base-reads : (s : S) (r : Rest) (m : Mode) (q : List ℕ) → St s r m q
+      → reading (base r m q).mode (base r m q).text ≡ reading m q
+  base-reads s r m [] st = refl
+  base-reads s r m (x ∷ q) st = ⊎_elim
+      (λ (empty : (x ∷ q ≡ []) × (r.text ≡ []) × (m ≡ e.mode_of s)).
+      let nothing : x ∷ q ≡ [] = empty.0 in absurd (let none_is : ⊥ = cc in none_is))
+      (λ others. ⊎_elim
+      (λ (plain : (k : Kind) × (reading m (x ∷ q) ≡ unfinished k) × (in_string (unfinished k) ≡ false) × (r ≡ rest_of m (x ∷ q))).
+      ap (λ (z : Rest). reading z.mode z.text) plain.3)
+      (λ (strings : (k : Kind) × (reading m (x ∷ q) ≡ unfinished k) × (in_string (unfinished k) ≡ true) × IsStringRest r (x ∷ q)).
+      string-rest r (x ∷ q) strings.3 r.mode ∙ sym (string-text r (x ∷ q) strings.3 m))
+      others)
+      st
 
   -- a byte of the text
   pub step-text : (s : S) (r : Rest) (m : Mode) (q : List ℕ) (b : ℕ) → St s r m q
       → is_left_out (reading m q) b ≡ false → IsSome (reading m (q ++ b ∷ []))
       → Becomes (reading m (q ++ b ∷ [])) (step e b (reached s r)) s m (q ++ b ∷ [])
+      (read_on (reading m q) (e.mode_of s) (base r m q) b)
   step-text s r m q b st part some = ⊎_elim
       (λ (empty : (q ≡ []) × (r.text ≡ []) × (m ≡ e.mode_of s)).
       let here : IsSome (reading (e.mode_of s) (b ∷ [])) =
       subst (λ x. IsSome (reading x (b ∷ []))) empty.2
       (subst (λ xs. IsSome (reading m (xs ++ b ∷ []))) empty.0 some) in
-      subst (λ xs. Becomes (reading m (xs ++ b ∷ [])) (step e b (reached s r)) s m (xs ++ b ∷ [])) (sym empty.0)
-      (subst (λ x. Becomes (reading x (b ∷ [])) (step e b (reached s r)) s x (b ∷ [])) (sym empty.2)
+      subst (λ xs. Becomes (reading m (xs ++ b ∷ [])) (step e b (reached s r)) s m (xs ++ b ∷ [])
+      (read_on (reading m xs) (e.mode_of s) (base r m xs) b)) (sym empty.0)
+      (subst (λ x. Becomes (reading x (b ∷ [])) (step e b (reached s r)) s x (b ∷ []) (grown (fresh x) b)) (sym empty.2)
       (step-empty s r b empty.1 here)))
       (λ others. ⊎_elim
       (λ (plain : (k : Kind) × (reading m q ≡ unfinished k) × (in_string (unfinished k) ≡ false) × (r ≡ rest_of m q)).
-      subst (λ x. Becomes (reading m (q ++ b ∷ [])) (step e b (reached s x)) s m (q ++ b ∷ [])) (sym plain.3)
-      (step-plain s m q b plain.0 plain.1 plain.2 part some))
+      let left : read_on (reading m q) (e.mode_of s) (base r m q) b ≡ grown (rest_of m q) b =
+      (λ i. read_on (plain.1 i) (e.mode_of s) ((base-some r m q (unfinished-some m q plain.0 plain.1) ∙ plain.3) i) b)
+      ∙ plain-read plain.0 (e.mode_of s) (rest_of m q) b plain.2 (ap (λ x. is_left_out x b) (sym plain.1) ∙ part) in
+      subst (Becomes (reading m (q ++ b ∷ [])) (step e b (reached s r)) s m (q ++ b ∷ [])) (sym left)
+      (subst (λ x. Becomes (reading m (q ++ b ∷ [])) (step e b (reached s x)) s m (q ++ b ∷ []) (grown (rest_of m q) b)) (sym plain.3)
+      (step-plain s m q b plain.0 plain.1 plain.2 part some)))
       (λ (strings : (k : Kind) × (reading m q ≡ unfinished k) × (in_string (unfinished k) ≡ true) × IsStringRest r q).
-      step-string s r m q b strings.3 some)
+      subst (λ x. Becomes (reading m (q ++ b ∷ [])) (step e b (reached s r)) s m (q ++ b ∷ [])
+      (read_on (reading m q) (e.mode_of s) x b)) (sym (base-some r m q (unfinished-some m q strings.0 strings.1)))
+      (step-string s r m q b strings.3 some))
       others)
       st
 

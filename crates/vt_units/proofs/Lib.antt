@@ -14,9 +14,12 @@ mod Steps
 mod Completes
 mod Openers
 mod Walks
+mod Bases
+mod Broken
 mod Bytewise
 mod Piecewise
 pub mod Runs
+pub mod Cutting
 mod Drops
 mod Printables
 mod Lanes

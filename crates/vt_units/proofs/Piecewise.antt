@@ -4,10 +4,11 @@ use Rattle.std.proofs.lemmas.Bool.{cases_Bool, cond-true, cond-false, or_from, o
 use Rattle.std.proofs.lemmas.List.{append-nil, append_assoc}
 use Rattle.vt_chars.specs.Utf8.{UnfinishedBegins}
 use Rattle.vt_units.proofs.Begun.{opens-reading}
-use Rattle.vt_units.proofs.Bytewise.{Becomes, St, step-acts, step-ignored, step-text}
+use Rattle.vt_units.proofs.Bases.{base, base-some}
+use Rattle.vt_units.proofs.Bytewise.{Becomes, St, base-reads, step-acts, step-ignored, step-text}
 use Rattle.vt_units.proofs.Opens.{Goes, IsSome}
 use Rattle.vt_units.specs.Answer.{acts_in}
-use Rattle.vt_units.specs.Pieces.{acted, controls_of, is_ignored_in, is_left_out, text_of}
+use Rattle.vt_units.specs.Pieces.{acted, controls_of, is_ignored_in, is_left_out, read_on, rest_with, text_of}
 use Rattle.vt_units.specs.Reading.{Reading, unfinished, whole, dropped, none, reading}
 use Rattle.vt_units.specs.Rest.{Rest}
 use Rattle.vt_units.specs.Run.{Effects, Reached, reached, run, step}
@@ -55,38 +56,54 @@ module _ {S : Type 0} (e : Effects S) (law : UnfinishedBegins) where
   abbrev Walks : List ℕ → S → Rest → Mode → List ℕ → Type 0
   Walks bytes s r m q =
       Becomes e (reading m (text_of m q bytes)) (run e bytes (reached s r)) (acted e (controls_of m q bytes) s) m
-      (text_of m q bytes)
+      (text_of m q bytes) (rest_with e s (base r m q) bytes)
 
-  carry : (m : Mode) (w v : List ℕ) (at to : Reached S) (s t : S) → w ≡ v → at ≡ to → s ≡ t
-      → Becomes e (reading m w) at s m w → Becomes e (reading m v) to t m v
-  carry m w v at to s t same there state is =
-      subst (λ x. Becomes e (reading m v) to x m v) state
-      (subst (λ x. Becomes e (reading m v) x s m v) there
-      (subst (λ x. Becomes e (reading m x) at s m x) same is))
+  carry : (m : Mode) (w v : List ℕ) (at to : Reached S) (s t : S) (left now : Rest) → w ≡ v → at ≡ to → s ≡ t → left ≡ now
+      → Becomes e (reading m w) at s m w left → Becomes e (reading m v) to t m v now
+  carry m w v at to s t left now same there state rest is =
+      subst (Becomes e (reading m v) to t m v) rest
+      (subst (λ x. Becomes e (reading m v) to x m v left) state
+      (subst (λ x. Becomes e (reading m v) x s m v left) there
+      (subst (λ x. Becomes e (reading m x) at s m x left) same is)))
 
   stays : (s : S) (r : Rest) (m : Mode) (q : List ℕ) → St e s r m q → IsSome (reading m q)
-      → Becomes e (reading m q) (reached s r) s m q
+      → Becomes e (reading m q) (reached s r) s m q (base r m q)
   stays s r m q st some = ⊎_elim
       (λ (empty : (q ≡ []) × (r.text ≡ []) × (m ≡ e.mode_of s)).
       absurd (subst (λ xs. IsSome (reading m xs)) empty.0 some))
-      (λ others. ⊎_elim
-      (λ plain. subst (λ x. Becomes e x (reached s r) s m q) (sym plain.1) (r, refl, st))
-      (λ strings. subst (λ x. Becomes e x (reached s r) s m q) (sym strings.1) (r, refl, st))
-      others)
+      (λ others. subst (Becomes e (reading m q) (reached s r) s m q) (sym (base-some r m q (some-text some)))
+      (⊎_elim
+      (λ plain. subst (λ x. Becomes e x (reached s r) s m q r) (sym plain.1) (refl, st))
+      (λ strings. subst (λ x. Becomes e x (reached s r) s m q r) (sym strings.1) (refl, st))
+      others))
       st
+    where
+      some-text : IsSome (reading m q) → q ≡ [] → ⊥
+      some-text is nothing = subst (λ xs. IsSome (reading m xs)) nothing is
 
   -- nothing is left to be read behind a unit or a drop
-  over-walks : (m : Mode) (t bytes : List ℕ) (at : Reached S) (s : S) (n : Mode) → bytes ≡ [] → t ≢ []
-      → Becomes e (reading m t) at s m t
+  over-walks : (m : Mode) (t bytes : List ℕ) (at : Reached S) (s : S) (left : Rest) → bytes ≡ []
+      → Becomes e (reading m t) at s m t left
       → Becomes e (reading m (text_of m t bytes)) (run e bytes at) (acted e (controls_of m t bytes) s) m (text_of m t bytes)
-  over-walks m t bytes at s n nothing some is =
-      subst (λ xs. Becomes e (reading m (text_of m t xs)) (run e xs at) (acted e (controls_of m t xs) s) m (text_of m t xs))
+      (rest_with e s left bytes)
+  over-walks m t bytes at s left nothing is =
+      subst (λ xs. Becomes e (reading m (text_of m t xs)) (run e xs at) (acted e (controls_of m t xs) s) m (text_of m t xs)
+      (rest_with e s left xs))
       (sym nothing) is
 
   -- one byte more, where the bytes behind it are walked
   module _ (m : Mode) (b : ℕ) (bytes : List ℕ)
       (again : (s : S) (r : Rest) (q : List ℕ) → St e s r m q → IsSome (reading m (text_of m q bytes)) → Walks bytes s r m q)
       (s : S) (r : Rest) (q : List ℕ) (st : St e s r m q) (some : IsSome (reading m (text_of m q (b ∷ bytes)))) where
+    -- the rest with that byte, by the reading of the text
+    read-now : rest_with e s (base r m q) (b ∷ bytes)
+        ≡ rest_with e (cond (acts_in (reading m q) b) (e.on_control b s) s) (read_on (reading m q) (e.mode_of s) (base r m q) b) bytes
+    read-now = ap (λ now. rest_with e (cond (acts_in now b) (e.on_control b s) s) (read_on now (e.mode_of s) (base r m q) b) bytes)
+        (base-reads e s r m q st)
+
+    left-now : is_left_out (reading m q) b ≡ true → read_on (reading m q) (e.mode_of s) (base r m q) b ≡ base r m q
+    left-now out = cond-true _ _ _ (or_left _ _ out)
+
     acting : acts_in (reading m q) b ≡ true → Walks (b ∷ bytes) s r m q
     acting act =
         let out : is_left_out (reading m q) b ≡ true = or_left _ _ act in
@@ -94,10 +111,14 @@ module _ {S : Type 0} (e : Effects S) (law : UnfinishedBegins) where
         step-acts e s r m q b st act in
         let text : text_of m q (b ∷ bytes) ≡ text_of m q bytes = cond-true _ _ _ out in
         let controls : controls_of m q (b ∷ bytes) ≡ b ∷ controls_of m q bytes = cond-true _ _ _ act in
+        let state : cond (acts_in (reading m q) b) (e.on_control b s) s ≡ e.on_control b s = cond-true _ _ _ act in
+        let left : rest_with e s (base r m q) (b ∷ bytes) ≡ rest_with e (e.on_control b s) (base r m q) bytes =
+        read-now ∙ (λ i. rest_with e (state i) (left-now out i) bytes) in
         carry m (text_of m q bytes) (text_of m q (b ∷ bytes)) (run e bytes (reached (e.on_control b s) r))
         (run e bytes (step e b (reached s r))) (acted e (controls_of m q bytes) (e.on_control b s))
         (acted e (controls_of m q (b ∷ bytes)) s)
-        (sym text) (ap (run e bytes) (sym p.0)) (ap (λ xs. acted e xs s) (sym controls))
+        (rest_with e (e.on_control b s) (base r m q) bytes) (rest_with e s (base r m q) (b ∷ bytes))
+        (sym text) (ap (run e bytes) (sym p.0)) (ap (λ xs. acted e xs s) (sym controls)) (sym left)
         (again (e.on_control b s) r q p.1 (subst (λ xs. IsSome (reading m xs)) text some))
 
     ignoring : acts_in (reading m q) b ≡ false → is_ignored_in (reading m q) b ≡ true → Walks (b ∷ bytes) s r m q
@@ -106,10 +127,14 @@ module _ {S : Type 0} (e : Effects S) (law : UnfinishedBegins) where
         let text : text_of m q (b ∷ bytes) ≡ text_of m q bytes = cond-true _ _ _ out in
         let controls : controls_of m q (b ∷ bytes) ≡ controls_of m q bytes =
         cond-false _ _ _ act ∙ cond-true _ _ _ out in
+        let state : cond (acts_in (reading m q) b) (e.on_control b s) s ≡ s = cond-false _ _ _ act in
+        let left : rest_with e s (base r m q) (b ∷ bytes) ≡ rest_with e s (base r m q) bytes =
+        read-now ∙ (λ i. rest_with e (state i) (left-now out i) bytes) in
         carry m (text_of m q bytes) (text_of m q (b ∷ bytes)) (run e bytes (reached s r))
         (run e bytes (step e b (reached s r))) (acted e (controls_of m q bytes) s) (acted e (controls_of m q (b ∷ bytes)) s)
+        (rest_with e s (base r m q) bytes) (rest_with e s (base r m q) (b ∷ bytes))
         (sym text) (ap (run e bytes) (sym (step-ignored e s r m q b st act ignored)))
-        (ap (λ xs. acted e xs s) (sym controls))
+        (ap (λ xs. acted e xs s) (sym controls)) (sym left)
         (again s r q st (subst (λ xs. IsSome (reading m xs)) text some))
 
     growing : acts_in (reading m q) b ≡ false → is_ignored_in (reading m q) b ≡ false → Walks (b ∷ bytes) s r m q
@@ -125,33 +150,41 @@ module _ {S : Type 0} (e : Effects S) (law : UnfinishedBegins) where
         let here : IsSome (reading m (q ++ b ∷ [])) =
         front-some law m (q ++ b ∷ []) more.0 (some-more q b)
         (subst (λ xs. IsSome (reading m xs)) more.1 there) in
+        let state : cond (acts_in (reading m q) b) (e.on_control b s) s ≡ s = cond-false _ _ _ act in
+        let left : rest_with e s (base r m q) (b ∷ bytes) ≡ rest_with e s next bytes =
+        read-now ∙ ap (λ x. rest_with e x next bytes) state in
         carry m (text_of m (q ++ b ∷ []) bytes) (text_of m q (b ∷ bytes)) (run e bytes (step e b (reached s r)))
         (run e bytes (step e b (reached s r))) (acted e (controls_of m (q ++ b ∷ []) bytes) s)
         (acted e (controls_of m q (b ∷ bytes)) s)
-        (sym text) refl (ap (λ xs. acted e xs s) (sym controls))
+        (rest_with e s next bytes) (rest_with e s (base r m q) (b ∷ bytes))
+        (sym text) refl (ap (λ xs. acted e xs s) (sym controls)) (sym left)
         (by-reading (reading m (q ++ b ∷ [])) refl there (step-text e s r m q b st part here))
       where
+        next : Rest
+        next = read_on (reading m q) (e.mode_of s) (base r m q) b
+
         by-reading : (now : Reading) → reading m (q ++ b ∷ []) ≡ now
             → IsSome (reading m (text_of m (q ++ b ∷ []) bytes))
-            → Becomes e now (step e b (reached s r)) s m (q ++ b ∷ [])
+            → Becomes e now (step e b (reached s r)) s m (q ++ b ∷ []) next
             → Becomes e (reading m (text_of m (q ++ b ∷ []) bytes)) (run e bytes (step e b (reached s r)))
-            (acted e (controls_of m (q ++ b ∷ []) bytes) s) m (text_of m (q ++ b ∷ []) bytes)
-        by-reading (unfinished k) is is_some (rest, at, st_more) =
+            (acted e (controls_of m (q ++ b ∷ []) bytes) s) m (text_of m (q ++ b ∷ []) bytes) (rest_with e s next bytes)
+        by-reading (unfinished k) is is_some becomes =
             subst (λ x. Becomes e (reading m (text_of m (q ++ b ∷ []) bytes)) (run e bytes x)
-            (acted e (controls_of m (q ++ b ∷ []) bytes) s) m (text_of m (q ++ b ∷ []) bytes)) (sym at)
-            (again s rest (q ++ b ∷ []) st_more is_some)
+            (acted e (controls_of m (q ++ b ∷ []) bytes) s) m (text_of m (q ++ b ∷ []) bytes) (rest_with e s next bytes)) (sym becomes.0)
+            (subst (λ x. Becomes e (reading m (text_of m (q ++ b ∷ []) bytes)) (run e bytes (reached s next))
+            (acted e (controls_of m (q ++ b ∷ []) bytes) s) m (text_of m (q ++ b ∷ []) bytes) (rest_with e s x bytes))
+            (base-some next m (q ++ b ∷ []) (some-more q b))
+            (again s next (q ++ b ∷ []) becomes.1 is_some))
         by-reading (whole u) is is_some becomes =
-            over-walks m (q ++ b ∷ []) bytes (step e b (reached s r)) s becomes.0
+            over-walks m (q ++ b ∷ []) bytes (step e b (reached s r)) s next
             (over-alone law m (q ++ b ∷ []) bytes (some-more q b) (λ g. subst Goes is g)
             (λ x. ap (λ y. is_left_out y x) is) is_some)
-            (some-more q b)
-            (subst (λ x. Becomes e x (step e b (reached s r)) s m (q ++ b ∷ [])) (sym is) becomes)
+            (subst (λ x. Becomes e x (step e b (reached s r)) s m (q ++ b ∷ []) next) (sym is) becomes)
         by-reading dropped is is_some becomes =
-            over-walks m (q ++ b ∷ []) bytes (step e b (reached s r)) s becomes.0
+            over-walks m (q ++ b ∷ []) bytes (step e b (reached s r)) s next
             (over-alone law m (q ++ b ∷ []) bytes (some-more q b) (λ g. subst Goes is g)
             (λ x. ap (λ y. is_left_out y x) is) is_some)
-            (some-more q b)
-            (subst (λ x. Becomes e x (step e b (reached s r)) s m (q ++ b ∷ [])) (sym is) becomes)
+            (subst (λ x. Becomes e x (step e b (reached s r)) s m (q ++ b ∷ []) next) (sym is) becomes)
         by-reading none is is_some becomes = absurd becomes
 
     walk-more : Walks (b ∷ bytes) s r m q

@@ -1,13 +1,14 @@
 -- The laws of runs, for each state.
-use Rattle.std.proofs.Common.{◌≡◌, ℕ, true, List, [], ◌∷◌, ◌++◌, refl, ap, ◌∙◌, ⊎_elim, inl}
+use Rattle.std.proofs.Common.{◌≡◌, ℕ, true, List, subst, [], ◌∷◌, ◌++◌, refl, ap, ◌∙◌, ⊎_elim, inl}
 use Rattle.std.proofs.lemmas.Bool.{cond-true, cond-false}
 use Rattle.vt_chars.specs.Utf8.{UnfinishedBegins}
+use Rattle.vt_units.proofs.Bases.{base-some, unfinished-some}
 use Rattle.vt_units.proofs.Bytewise.{Becomes, grown-st}
 use Rattle.vt_units.proofs.Opens.{IsSome}
 use Rattle.vt_units.proofs.Piecewise.{walk}
 use Rattle.vt_units.specs.Answer.{Settled, goes_on, kept, settled, settled_by, took}
 use Rattle.vt_units.specs.Laws.{AreAlike, CharactersEnd, SequencesEnd, StringsEnd}
-use Rattle.vt_units.specs.Pieces.{HasEffect, acted, controls_of, text_of}
+use Rattle.vt_units.specs.Pieces.{HasEffect, acted, controls_of, rest_with, text_of}
 use Rattle.vt_units.specs.Reading.{Reading, sequence, command, unfinished, whole, dropped, none, reading}
 use Rattle.vt_units.specs.Rest.{Rest, fresh}
 use Rattle.vt_units.specs.Run.{Effects, Reached, reached, run, step}
@@ -22,29 +23,33 @@ any-cut e (x ∷ a) b at = any-cut e a b (step e x at)
 
 -- a piece from where no text is
 module _ {S : Type 0} (e : Effects S) (law : UnfinishedBegins) where
-  effect-by : (now : Reading) (controls : List ℕ) (after : Reached S) (s : S) (m : Mode) (w : List ℕ)
-      → (IsSome now → Becomes e now after (acted e controls s) m w) → HasEffect e now controls after s
-  effect-by (whole u) controls after s m w becomes = becomes tt
-  effect-by dropped controls after s m w becomes = becomes tt
-  effect-by (unfinished k) controls after s m w becomes =
-      let b : Becomes e (unfinished k) after (acted e controls s) m w = becomes tt in (b.0, b.1)
-  effect-by none controls after s m w becomes = tt
+  effect-by : (now : Reading) (controls : List ℕ) (left : Rest) (after : Reached S) (s : S) (m : Mode) (w : List ℕ)
+      → (IsSome now → Becomes e now after (acted e controls s) m w left) → HasEffect e now controls left after s
+  effect-by (whole u) controls left after s m w becomes = becomes tt
+  effect-by dropped controls left after s m w becomes = becomes tt
+  effect-by (unfinished k) controls left after s m w becomes = (becomes tt).0
+  effect-by none controls left after s m w becomes = tt
 
   pub piece-acts : (bytes : List ℕ) (s : S) (rest : Rest) → rest.text ≡ []
       → HasEffect e (reading (e.mode_of s) (text_of (e.mode_of s) [] bytes)) (controls_of (e.mode_of s) [] bytes)
-      (run e bytes (reached s rest)) s
+      (rest_with e s (fresh (e.mode_of s)) bytes) (run e bytes (reached s rest)) s
   piece-acts bytes s rest nothing =
       effect-by (reading (e.mode_of s) (text_of (e.mode_of s) [] bytes)) (controls_of (e.mode_of s) [] bytes)
+      (rest_with e s (fresh (e.mode_of s)) bytes)
       (run e bytes (reached s rest)) s (e.mode_of s) (text_of (e.mode_of s) [] bytes)
       (walk e law bytes (e.mode_of s) s rest [] (inl (refl, nothing, refl)))
 
   pub piece-resumes : (bytes : List ℕ) (s : S) (rest : Rest) → IsUnfinished rest.mode rest.text
       → HasEffect e (reading rest.mode (text_of rest.mode rest.text bytes)) (controls_of rest.mode rest.text bytes)
-      (run e bytes (reached s rest)) s
+      (rest_with e s rest bytes) (run e bytes (reached s rest)) s
   piece-resumes bytes s rest (k, is) =
       effect-by (reading rest.mode (text_of rest.mode rest.text bytes)) (controls_of rest.mode rest.text bytes)
+      (rest_with e s rest bytes)
       (run e bytes (reached s rest)) s rest.mode (text_of rest.mode rest.text bytes)
-      (walk e law bytes rest.mode s rest rest.text (grown-st e s rest.mode rest.text k is))
+      (λ some. subst (λ left. Becomes e (reading rest.mode (text_of rest.mode rest.text bytes)) (run e bytes (reached s rest))
+      (acted e (controls_of rest.mode rest.text bytes) s) rest.mode (text_of rest.mode rest.text bytes) (rest_with e s left bytes))
+      (base-some rest rest.mode rest.text (unfinished-some rest.mode rest.text k is))
+      (walk e law bytes rest.mode s rest rest.text (grown-st e s rest.mode rest.text k is) some))
 
 -- what a byte comes to, by what is left before it
 abbrev answer_of : Settled → ℕ → Read

@@ -34,6 +34,39 @@ abbrev pub begins_escape : List ℕ → Bool
 begins_escape (esc ∷ last ∷ more) = esc == 0x1B && within 0x30 0x4F last
 begins_escape text = false
 
+-- the end of SGR
+abbrev pub ends_sgr : List ℕ → Bool
+ends_sgr [] = false
+ends_sgr (last ∷ more) = last == 0x6D
+
+-- a semicolon, and such a number behind it
+abbrev pub is_number_next : (List ℕ → Bool) → List ℕ → Bool
+is_number_next holds [] = false
+is_number_next holds (b ∷ more) = b == 0x3B && is_number_before holds more
+
+-- ESC [, 38 or 48, and 5 or 2, with a semicolon behind each of the two
+abbrev pub begins_colour : List ℕ → Bool
+begins_colour text =
+    slice_index text 0 == 0x1B
+    && (slice_index text 1 == 0x5B
+    && (within 0x33 0x34 (slice_index text 2)
+    && (slice_index text 3 == 0x38
+    && (slice_index text 4 == 0x3B
+    && ((slice_index text 5 == 0x35 || slice_index text 5 == 0x32)
+    && slice_index text 6 == 0x3B)))))
+
+-- a colour by its index, 5, has one number more, and one by its parts has three
+abbrev pub ends_colour : ℕ → List ℕ → Bool
+ends_colour way text =
+    if way == 0x35 then is_number_before ends_sgr text
+    else is_number_before (is_number_next (is_number_next ends_sgr)) text
+
+-- SGR of one colour, in a text that has room for the longest such sequence
+abbrev pub begins_longer : List ℕ → Bool
+begins_longer text =
+    nat_le 19 (length text)
+    && (begins_colour text && ends_colour (slice_index text 5) (drop 7 text))
+
 -- such a control sequence stands at the front of the text, where nothing is pending
 abbrev pub brief_stands : Rest → List ℕ → Bool
 brief_stands rest text = if is_empty rest.text then begins_brief (take 256 text) else false
@@ -41,3 +74,7 @@ brief_stands rest text = if is_empty rest.text then begins_brief (take 256 text)
 -- such an escape sequence stands there
 abbrev pub escape_stands : Rest → List ℕ → Bool
 escape_stands rest text = if is_empty rest.text then begins_escape text else false
+
+-- such a sequence of SGR stands there
+abbrev pub longer_stands : Rest → List ℕ → Bool
+longer_stands rest text = if is_empty rest.text then begins_longer (take 256 text) else false

@@ -3,7 +3,7 @@ use Rattle.std.specs.Prelude.{◌≡◌, ◌⊎◌, ◌↔◌, ◌<◌, ◌≤�
 use Rattle.vt_units.specs.Ahead.{Sequence, taken_ahead}
 use Rattle.vt_units.specs.Answer.{answer, rest_after, settled}
 use Rattle.vt_units.specs.Bytes.{decodes, interrupts, is_control, is_printable}
-use Rattle.vt_units.specs.Pieces.{HasEffect, controls_of, text_of}
+use Rattle.vt_units.specs.Pieces.{HasEffect, controls_of, rest_with, text_of}
 use Rattle.vt_units.specs.Reading.{character, sequence, command, string_end, dropped, unfinished, none, reading, whole}
 use Rattle.vt_units.specs.Rest.{Rest, fresh}
 use Rattle.vt_units.specs.Run.{Effects, Reached, Runs, reached, run}
@@ -45,6 +45,7 @@ PiecesAct =
     (mode_of : List Event → Mode) (events : List Event) (rest : Rest) (bytes : List ℕ) → rest.text ≡ []
     → let m = mode_of events in
     HasEffect (gathering mode_of) (reading m (text_of m [] bytes)) (controls_of m [] bytes)
+    (rest_with (gathering mode_of) events (fresh m) bytes)
     (run (gathering mode_of) bytes (reached events rest)) events
 
 -- the answers and the rests are alike
@@ -78,7 +79,8 @@ PiecesResume =
     (mode_of : List Event → Mode) (events : List Event) (rest : Rest) (bytes : List ℕ)
     → IsUnfinished rest.mode rest.text
     → HasEffect (gathering mode_of) (reading rest.mode (text_of rest.mode rest.text bytes))
-    (controls_of rest.mode rest.text bytes) (run (gathering mode_of) bytes (reached events rest)) events
+    (controls_of rest.mode rest.text bytes) (rest_with (gathering mode_of) events rest bytes)
+    (run (gathering mode_of) bytes (reached events rest)) events
 
 -- a byte drops a sequence exactly where the text that it stands behind, with it, is a dropped one
 abbrev pub DropsExactly : Type 0

@@ -4,6 +4,7 @@ pub mod BriefForms
 pub mod Briefs
 pub mod Bytes
 pub mod Characters
+pub mod Cutting
 pub mod Laws
 pub mod Numbers
 pub mod Pieces

@@ -1,8 +1,9 @@
 -- A piece of text: the bytes of one unit, with what acted or was ignored among them.
 use Rattle.std.specs.Prelude.{◌≡◌, ℕ, Bool, false, ◌==◌, ◌||◌, List, [], ◌∷◌, ◌++◌, if◌then◌else◌}
 use Rattle.vt_units.specs.Answer.{acts_in}
-use Rattle.vt_units.specs.Reading.{Reading, sequence, whole, dropped, unfinished, none, reading}
-use Rattle.vt_units.specs.Rest.{Rest, fresh}
+use Rattle.vt_units.specs.Bytes.{is_swallowed}
+use Rattle.vt_units.specs.Reading.{Reading, sequence, string, whole, dropped, unfinished, none, reading}
+use Rattle.vt_units.specs.Rest.{Rest, fresh, grown}
 use Rattle.vt_units.specs.Run.{Effects, Reached, reached}
 use Rattle.vt_units.specs.declared.mode.Mode.{Mode}
 
@@ -34,11 +35,37 @@ abbrev pub acted : {S : Type 0} → Effects S → List ℕ → S → S
 acted e [] s = s
 acted e (c ∷ controls) s = acted e controls (e.on_control c s)
 
+-- a byte that a string swallows
+abbrev pub is_swallowed_in : Reading → ℕ → Bool
+is_swallowed_in (unfinished string) b = is_swallowed b
+is_swallowed_in r b = false
+
+-- the ESC that may end a string
+abbrev pub is_end_in : Reading → ℕ → Bool
+is_end_in (unfinished string) b = b == 0x1B
+is_end_in r b = false
+
+-- the rest with a byte more, where its text is read so: what acts, is ignored or is swallowed is kept
+-- nowhere; a string has the mode at the ESC that may end it, and so has the sequence that may begin there
+abbrev pub read_on : Reading → Mode → Rest → ℕ → Rest
+read_on now mode r b =
+    if is_left_out now b || is_swallowed_in now b then r
+    else if is_end_in now b then record { mode = mode; text = r.text ++ b ∷ [] }
+    else grown r b
+
+-- the rest with these bytes, from a state on: a control character among them acts on the state
+abbrev pub rest_with : {S : Type 0} → Effects S → S → Rest → List ℕ → Rest
+rest_with e s r [] = r
+rest_with e s r (b ∷ bytes) =
+    let now = reading r.mode r.text in
+    rest_with e (if acts_in now b then e.on_control b s else s) (read_on now (e.mode_of s) r b) bytes
+
 -- from s on, the bytes had the effects of the control characters among them, then that of the unit,
--- and no text is left. A sequence that is dropped has no effect of its own
-abbrev pub HasEffect : {S : Type 0} → Effects S → Reading → List ℕ → Reached S → S → Type 0
-HasEffect e (whole u) controls after s =
-    (m : Mode) × (after ≡ reached (e.on_unit u (acted e controls s)) (fresh m))
-HasEffect e dropped controls after s = (m : Mode) × (after ≡ reached (acted e controls s) (fresh m))
-HasEffect e (unfinished k) controls after s = (rest : Rest) × (after ≡ reached (acted e controls s) rest)
-HasEffect e none controls after s = Unit {0}
+-- and no text is left. A sequence that is dropped has no effect of its own. Of an unfinished text this
+-- rest is left; of a unit and of a drop its mode
+abbrev pub HasEffect : {S : Type 0} → Effects S → Reading → List ℕ → Rest → Reached S → S → Type 0
+HasEffect e (whole u) controls left after s =
+    after ≡ reached (e.on_unit u (acted e controls s)) (fresh left.mode)
+HasEffect e dropped controls left after s = after ≡ reached (acted e controls s) (fresh left.mode)
+HasEffect e (unfinished k) controls left after s = after ≡ reached (acted e controls s) left
+HasEffect e none controls left after s = Unit {0}

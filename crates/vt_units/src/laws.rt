@@ -1,4 +1,5 @@
 //! Laws of the definitions: nothing of the reader is in them.
+ghost use Rattle.vt_units.specs.Cutting.{TextsAreCut};
 ghost use Rattle.vt_units.specs.Laws.{AnyCut, CharactersEnd, ControlsAreUnits, DropsExactly, OneResult, PiecesAct, PiecesResume, PrintablesAreCharacters, SequencesAreUnits, SequencesEnd, StringsEnd, TextsSpellCharacters};
 ghost use Rattle.vt_units.specs.Units.{UnfinishedIsBefore};
 
@@ -60,3 +61,10 @@ pub fn sequences_are_units()
 pub fn texts_spell_characters()
     ensures { TextsSpellCharacters }
 {}
+
+/// Every text is pieces and one last rest, and its run is what they come to, in order.
+pub fn texts_are_cut()
+    ensures { TextsAreCut }
+{
+    unfinished_begins();
+}

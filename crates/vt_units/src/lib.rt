@@ -34,7 +34,8 @@ pub use brief::Brief;
 pub use codes::{Codes, MOST_CODES};
 pub use laws::{
     any_cut, controls_are_units, drops_exactly, ended_texts, one_result, pieces_act,
-    printables_are_characters, sequences_are_units, texts_spell_characters, unfinished_is_before,
+    printables_are_characters, sequences_are_units, texts_are_cut, texts_spell_characters,
+    unfinished_is_before,
 };
 pub use longer::Longer;
 pub use mode::Mode;

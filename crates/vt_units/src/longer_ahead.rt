@@ -1,6 +1,7 @@
 //! SGR that sets one colour, at the front of a text, read without a list of its parameters.
-ghost use Rattle.std.specs.Prelude.{◌≡◌, ◌≤◌, ◌<◌, ◌+◌, true, length, slice_index, Some, IfSome};
+ghost use Rattle.std.specs.Prelude.{◌≡◌, ◌≢◌, ◌≤◌, ◌<◌, ◌+◌, false, true, length, slice_index, take, Some, IfSome, MatchOption};
 ghost use Rattle.vt_units.specs.Ahead.{opened_ahead, sequence_ahead};
+ghost use Rattle.vt_units.specs.BriefForms.{begins_colour, begins_longer};
 ghost use Rattle.vt_units.specs.Briefs.{Begun, Goes, longer_in};
 ghost use Rattle.vt_units.specs.Bytes.{is_digit};
 
@@ -19,6 +20,8 @@ const LONGER_BYTES: usize = 19;
 pub(crate) fn longer_ahead(b: &[u8]) -> Option<Longer>
     ensures sequence { IfSome result (λ longer. sequence_ahead b.now ≡ Some (longer_in longer)) }
     ensures within { IfSome result (λ longer. longer.count ≤ length b.now) }
+    ensures exact { MatchOption result (begins_longer (take 256 b.now) ≡ false)
+        (λ _. begins_longer (take 256 b.now) ≡ true) }
 {
     opened_longer(&b[..b.len().min(SEQUENCE_BYTES)])
 }
@@ -28,6 +31,7 @@ fn opened_longer(b: &[u8]) -> Option<Longer>
     requires short { length b.now ≤ 256 }
     ensures sequence { IfSome result (λ longer. opened_ahead b.now ≡ Some (longer_in longer)) }
     ensures within { IfSome result (λ longer. longer.count ≤ length b.now) }
+    ensures exact { MatchOption result (begins_longer b.now ≡ false) (λ _. begins_longer b.now ≡ true) }
 {
     if b.len() < LONGER_BYTES || !begins_colour(b) {
         return None;
@@ -47,6 +51,7 @@ fn opened_longer(b: &[u8]) -> Option<Longer>
 #[inline(always)]
 fn begins_colour(b: &[u8]) -> bool
     requires { 19 ≤ length b.now }
+    ensures exact { result ≡ begins_colour b.now }
     ensures begins { result ≡ true → Begun b.now }
     ensures ground { result ≡ true → is_digit (slice_index b.now 2) ≡ true }
     ensures eight { result ≡ true → is_digit (slice_index b.now 3) ≡ true }
@@ -96,12 +101,17 @@ fn three_numbers(b: &[u8], first: u16, second: u16, third: u16, end: usize) -> O
     requires first { Goes b.now 0 2 first 4 }
     requires second { Goes b.now 0 5 second 6 }
     requires third { Goes b.now 0 7 third end }
+    requires colour { begins_colour b.now ≡ true }
+    requires way { slice_index b.now 5 ≡ 0x35 }
     requires one { slice_index b.now 4 ≡ 0x3B }
     requires two { slice_index b.now 6 ≡ 0x3B }
-    requires within { end + 1 ≤ length b.now }
+    requires few { end ≤ 10 }
+    requires stops { is_digit (slice_index b.now end) ≡ true → end ≡ 10 }
+    requires within { 19 ≤ length b.now }
     requires short { length b.now ≤ 256 }
     ensures sequence { IfSome result (λ longer. opened_ahead b.now ≡ Some (longer_in longer)) }
     ensures within { IfSome result (λ longer. longer.count ≤ length b.now) }
+    ensures exact { MatchOption result (begins_longer b.now ≡ false) (λ _. begins_longer b.now ≡ true) }
 {
     if b[end] != b'm' {
         return None;
@@ -124,13 +134,17 @@ fn five_numbers(b: &[u8], first: u16, second: u16, third: u16, end: usize) -> Op
     requires first { Goes b.now 0 2 first 4 }
     requires second { Goes b.now 0 5 second 6 }
     requires third { Goes b.now 0 7 third end }
+    requires colour { begins_colour b.now ≡ true }
+    requires way { slice_index b.now 5 ≢ 0x35 }
     requires one { slice_index b.now 4 ≡ 0x3B }
     requires two { slice_index b.now 6 ≡ 0x3B }
     requires few { end ≤ 10 }
+    requires stops { is_digit (slice_index b.now end) ≡ true → end ≡ 10 }
     requires within { 19 ≤ length b.now }
     requires short { length b.now ≤ 256 }
     ensures sequence { IfSome result (λ longer. opened_ahead b.now ≡ Some (longer_in longer)) }
     ensures within { IfSome result (λ longer. longer.count ≤ length b.now) }
+    ensures exact { MatchOption result (begins_longer b.now ≡ false) (λ _. begins_longer b.now ≡ true) }
 {
     if b[end] != b';' {
         return None;

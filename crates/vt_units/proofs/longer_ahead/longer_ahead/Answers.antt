@@ -1,6 +1,7 @@
-use Rattle.std.proofs.Common.{◌≡◌, ◌∙◌, ℕ, List, take, length, min, Option, Some, IfSome, subst, ap, arith}
+use Rattle.std.proofs.Common.{◌≡◌, ◌∙◌, ℕ, List, false, true, take, length, min, Option, Some, IfSome, MatchOption, subst, ap, arith}
 use Rattle.std.proofs.lemmas.List.{take_min}
 use Rattle.vt_units.specs.Ahead.{Sequence, opened_ahead, sequence_ahead}
+use Rattle.vt_units.specs.BriefForms.{begins_longer}
 use Rattle.vt_units.specs.Briefs.{longer_in}
 use Rattle.vt_units.proofs.longer_ahead.longer_ahead.Goals as goal
 
@@ -12,3 +13,11 @@ returns-clause-sequence c =
     ap (λ (k : ℕ). opened_ahead (take k text)) is ∙ ap opened_ahead (take_min 256 text) in
     subst (λ (found : Option Sequence). IfSome c.opened_longer.result (λ longer. found ≡ Some (longer_in longer)))
     same c.opened_longer.ensures.sequence
+
+pub returns-clause-exact : goal.returns-clause-exact
+returns-clause-exact c =
+    let text : List ℕ = c.args.b.now in
+    let is : c.min.result ≡ min 256 (length text) = omega arith in
+    let same : take c.min.result text ≡ take 256 text = ap (λ (k : ℕ). take k text) is ∙ take_min 256 text in
+    subst (λ (cut : List ℕ). MatchOption c.opened_longer.result (begins_longer cut ≡ false) (λ _. begins_longer cut ≡ true))
+    same c.opened_longer.ensures.exact
