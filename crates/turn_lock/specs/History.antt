@@ -32,10 +32,6 @@ module _ {W : Type 0} where
     pub within : word / 64 ≤ length log
     pub is : word_of before (take (word / 64) log) ≡ word
 
-  -- the word is that of a history that begins with what was seen
-  abbrev pub IsWordAfter : ℕ → List (Entry W) → ℕ → Type 0
-  IsWordAfter before seen word = (later : List (Entry W)) × (word ≡ word_of before (seen ++ later))
-
   -- the entries of each number have the sequence numbers 0, 1, 2 and so on
   abbrev pub IsCounted : List (Entry W) → Type 0
   IsCounted log =

@@ -147,17 +147,22 @@ pub record PartC {K W Z : Type 0} (seal : K → Option (Seal Z)) (joined : List 
       ⊎ ((i : ℕ) × (x : Joined W Z) × (get_elem? joined i ≡ some x)
       × (x.number ≡ z.by) × (x.seal ≡ Some z))
 
--- D: the words that passes have read
-pub record PartD {K W Z : Type 0} (before : ℕ) (joined : List (Joined W Z)) (log : List (Entry W))
-    (s : State (Option K) (View W Z)) : Type 0 where
+-- D: what holds of the history, and the words that passes have read, with their histories
+pub record PartD {K W Z : Type 0} (before : ℕ) (Right : List (Entry W) → Type 0)
+    (joined : List (Joined W Z)) (log : List (Entry W)) (s : State (Option K) (View W Z))
+    : Type 0 where
+  pub right : Right log
   pub shown : IsShown log
   pub known : EachView s.views (λ j v. IsLive v.role → IsWordIn before log v.known)
+  pub read : EachView s.views (λ j v. StartsWith log v.read)
   pub joined_known : EachJoined joined (λ x. IsWordIn before log x.known)
+  pub joined_read : EachJoined joined
+      (λ x. StartsWith log x.read × StartsWith log x.beside_read)
 
 -- the passes that were taken in, the history, and the four parts
 abbrev pub Rule : {K W Z : Type 0} → ℕ → (K → List (Entry W)) → (K → Option (Seal Z))
-    → State (Option K) (View W Z) → Type 0
-Rule {K} {W} {Z} before entries seal s =
+    → (List (Entry W) → Type 0) → State (Option K) (View W Z) → Type 0
+Rule {K} {W} {Z} before entries seal Right s =
     (joined : List (Joined W Z)) × (log : List (Entry W))
     × PartA joined s × PartB before entries log s
-    × PartC seal joined log s × PartD before joined log s
+    × PartC seal joined log s × PartD before Right joined log s

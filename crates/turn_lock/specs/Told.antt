@@ -7,7 +7,7 @@ use Rattle.turn_lock.specs.declared.entry.Entry.{Entry}
 use Rattle.turn_lock.specs.declared.seal.Seal.{Seal}
 use Rattle.turn_lock.specs.declared.view.View.{View}
 use Rattle.turn_lock.specs.declared.view.Joined.{Joined}
-use Rattle.turn_lock.specs.History.{StartsWith, IsWordIn, IsWordAfter, IsDisplay}
+use Rattle.turn_lock.specs.History.{StartsWith, IsWordIn, IsDisplay, word_of}
 use Rattle.turn_lock.specs.History.{IsCounted, IsShown}
 use Rattle.turn_lock.specs.Views.{among, joined_of, longer, made_of, ticket_of}
 use Rattle.turn_lock.specs.Views.{waiting, having, published, resting, reading}
@@ -19,14 +19,20 @@ pub record Finds {W Z : Type 0} (before : ℕ) (log : List (Entry W)) (seal : Op
   pub seen : StartsWith log v.seen
   pub mine : HasMine log v.role v.mine
   pub known : IsWordIn before log v.known
+  pub read : StartsWith log v.read
   pub stands : Stands seal log v
   pub own : KnowsOwn seal v
   pub counted : IsCounted log
   pub shown : IsShown log
 
--- what a word says to the pass that reads it
-pub record Reads {W Z : Type 0} (before word : ℕ) (v : View W Z) : Type 0 where
-  pub after : IsWordAfter before v.seen word
+-- what a word says to the pass that reads it: it is that of this history
+pub record Reads {W Z : Type 0} (before : ℕ) (Right : List (Entry W) → Type 0) (log : List (Entry W))
+    (word : ℕ) (v : View W Z) : Type 0 where
+  pub is : word ≡ word_of before log
+  pub count : word / 64 ≡ length log
+  pub right : Right log
+  pub after : StartsWith log v.seen
+  pub read : StartsWith log v.read
   pub seen : length v.seen ≤ word / 64
   pub known : v.known / 64 ≤ word / 64
   pub greatest : v.known ≤ word
@@ -65,8 +71,9 @@ module _ {K W Z : Type 0} where
   abbrev pub left : (K → Option (Seal Z)) → At K → Sat K W Z → ℕ → Sat K W Z → Type 0
   left seal st m n m' = (k : K) → m.1 ≡ (0, Some k) ∷ [] → m' ≡ (resting (seal k) m.0, [])
 
-  -- the longer of what the first pass and the one that it took in last had seen begins with both;
-  -- that one's number was made, and no other that was taken in has it
+  -- the longer of what the first pass and the one that it took in last had seen begins with both, and
+  -- so does the longer of the histories that they had read; that one's number was made, and no other
+  -- that was taken in has it
   abbrev pub compared : At K → Sat K W Z → ℕ → Sat K W Z → Type 0
   compared st m n m' =
       (m' ≡ m)
@@ -74,8 +81,12 @@ module _ {K W Z : Type 0} where
       → StartsWith (longer x.beside x.seen) x.beside
       × StartsWith (longer x.beside x.seen) x.seen)
       × ((x : Joined W Z) (xs : List (Joined W Z)) → joined_of m.0.role ≡ x ∷ xs
+      → StartsWith (longer x.beside_read x.read) x.beside_read
+      × StartsWith (longer x.beside_read x.read) x.read)
+      × ((x : Joined W Z) (xs : List (Joined W Z)) → joined_of m.0.role ≡ x ∷ xs
       → (among x.number (made_of m.0.role) ≡ true) × (has_joined x.number xs ≡ false))
 
   -- the pass read the word
-  abbrev pub read : ℕ → At K → Sat K W Z → ℕ → Sat K W Z → Type 0
-  read before st m n m' = (m' ≡ (reading n m.0, m.1)) × Reads before n m.0
+  abbrev pub read : ℕ → (List (Entry W) → Type 0) → At K → Sat K W Z → ℕ → Sat K W Z → Type 0
+  read before Right st m n m' =
+      (log : List (Entry W)) × (m' ≡ (reading log n m.0, m.1)) × Reads before Right log n m.0

@@ -74,12 +74,21 @@ module _ {W Z : Type 0} where
     seen = [];
     mine = [];
     known = before;
+    read = [];
     seal = None;
   }
 
   -- a pass that was taken in
   abbrev pub spent : View W Z
-  spent = record { role = Spent; stage = Idle; seen = []; mine = []; known = 0; seal = None }
+  spent = record {
+    role = Spent;
+    stage = Idle;
+    seen = [];
+    mine = [];
+    known = 0;
+    read = [];
+    seal = None;
+  }
 
   -- the first pass, once it made a pass with the number n
   abbrev pub with_number : ℕ → View W Z → View W Z
@@ -97,8 +106,10 @@ module _ {W Z : Type 0} where
     seen = w.seen;
     mine = w.mine;
     known = w.known;
+    read = w.read;
     seal = w.seal;
     beside = v.seen;
+    beside_read = v.read;
   }
 
   -- the first pass v, once it took in w
@@ -107,6 +118,7 @@ module _ {W Z : Type 0} where
     role = First (made_of v.role) (joining v w ∷ joined_of v.role);
     seen = longer v.seen w.seen;
     known = max v.known w.known;
+    read = longer v.read w.read;
     seal = either_seal v.seal w.seal;
   }
 
@@ -130,6 +142,6 @@ module _ {W Z : Type 0} where
   abbrev pub resting : Option (Seal Z) → View W Z → View W Z
   resting seal v = record v { stage = Idle; seal = seal }
 
-  -- the pass once it read this word
-  abbrev pub reading : ℕ → View W Z → View W Z
-  reading word v = record v { known = word }
+  -- the pass once it read this word, which is that of this history
+  abbrev pub reading : List (Entry W) → ℕ → View W Z → View W Z
+  reading log word v = record v { known = word; read = log }

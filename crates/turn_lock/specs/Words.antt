@@ -102,6 +102,7 @@ module _ {W Z : Type 0} where
     pub seen : StartsWith log x.seen
     pub mine : x.mine ≡ entries_by x.number log
     pub known : IsWordIn before log x.known
+    pub read : StartsWith log x.read
     pub met : Met seal log x.seal x.seen
 
   -- the caller that the seal names had met it as its pass was taken in

@@ -26,7 +26,7 @@ impl<K: Kept> TableRule<Option<K>, View<K::What, K::Stop>, ()> for Turns<K> {
     ghost use Rattle.turn_lock.specs.Rule.{Rule};
     ghost use Rattle.turn_lock.specs.Views.{newcomer};
 
-    ghost holds = { λ _. Rule K.before K.entries K.seal };
+    ghost holds = { λ _. Rule K.before K.entries K.seal K.right };
 
     ghost first = { λ _. newcomer K.before };
 }

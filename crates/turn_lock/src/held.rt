@@ -66,6 +66,7 @@ fn show<K: Kept, J: Adding<K::What>>(lock: &TurnLock<K>, pass: &mut Pass<K>, val
     requires adds { AddsNext (K.entries value.now) (view pass.old) }
     requires found { (view pass.old).seal ≡ None }
     requires front { front ≡ word_of K.before (K.entries value.now) }
+    requires right { K.right (K.entries value.now) }
     ensures own { HasTurnIn lock.now pass.new }
     ensures view { view pass.new ≡ published (K.entries value.now) (view pass.old) }
 {

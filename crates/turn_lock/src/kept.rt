@@ -15,6 +15,9 @@ pub trait Kept {
     // The display before the first entry.
     ghost before: { ℕ };
 
+    // What holds of every history that a value tells.
+    ghost right: { List (Entry Self.What) → Type 0 };
+
     ghost entries: { Self → List (Entry Self.What) };
 
     ghost seal: { Self → Option (Seal Self.Stop) };
@@ -23,7 +26,8 @@ pub trait Kept {
     /// one, or the display before the first where there is none.
     fn front(&self) -> u64
         requires { length (entries self.now) ≤ 2 ^ 57 }
-        ensures { result ≡ word_of before (entries self.now) };
+        ensures word { result ≡ word_of before (entries self.now) }
+        ensures right { right (entries self.now) };
 
     ghost display: { (0 < before) × (before < 64) };
 }

@@ -33,7 +33,7 @@ pub struct TurnLock<K: Kept> {
 impl<K: Kept> TurnLock<K> {
     ghost use Rattle.std.specs.Prelude.{ℕ, ◌/◌, ◌%◌, ◌≤◌, ◌^◌, true, false, List, [], ◌∷◌, length, IfOk};
     ghost use Rattle.std.specs.List.{All};
-    ghost use Rattle.turn_lock.specs.History.{StartsWith, IsWordAfter, IsWordIn, entries_by};
+    ghost use Rattle.turn_lock.specs.History.{StartsWith, IsWordIn, entries_by, word_of};
     ghost use Rattle.turn_lock.specs.History.{IsCounted, IsDisplay, IsShown};
     ghost use Rattle.turn_lock.specs.Rule.{Met};
     ghost use Rattle.turn_lock.specs.Views.{HasNumber, IsFirst, IsLive, among, joined_of, longer};
@@ -102,6 +102,8 @@ impl<K: Kept> TurnLock<K> {
         ensures view { view p.new ≡ both (view p.old) (view q) }
         ensures own_seen { StartsWith (view p.new).seen (view p.old).seen }
         ensures other_seen { StartsWith (view p.new).seen (view q).seen }
+        ensures own_read { StartsWith (view p.new).read (view p.old).read }
+        ensures other_read { StartsWith (view p.new).read (view q).read }
         ensures number { among (number_of (view q).role) (made_of (view p.old).role) ≡ true }
         ensures once { has_joined (number_of (view q).role) (joined_of (view p.old).role) ≡ false }
     {
@@ -122,7 +124,8 @@ impl<K: Kept> TurnLock<K> {
         self.board.shared.join_seat::<Glue>(&mut p.place, place);
     }
 
-    // Compares what the first pass and the one that it took in last had seen: one begins the other.
+    // Compares what the first pass and the one that it took in last had seen, and the histories that
+    // they had read: one begins the other.
     // Its number was made, and it alone has it.
     fn compare(&self, p: &mut Pass<K>)
         requires own { RestsIn self.now p.old }
@@ -133,6 +136,10 @@ impl<K: Kept> TurnLock<K> {
             → joined_of (view p.old).role ≡ x ∷ xs
             → StartsWith (longer x.beside x.seen) x.beside
             × StartsWith (longer x.beside x.seen) x.seen }
+        ensures read { (x : Joined K.What K.Stop) (xs : List (Joined K.What K.Stop))
+            → joined_of (view p.old).role ≡ x ∷ xs
+            → StartsWith (longer x.beside_read x.read) x.beside_read
+            × StartsWith (longer x.beside_read x.read) x.read }
         ensures alone { (x : Joined K.What K.Stop) (xs : List (Joined K.What K.Stop))
             → joined_of (view p.old).role ≡ x ∷ xs
             → (among x.number (made_of (view p.old).role) ≡ true)
@@ -153,6 +160,7 @@ impl<K: Kept> TurnLock<K> {
         ensures seen { StartsWith (K.entries (value_of result)) (view p.old).seen }
         ensures mine { HasMine (K.entries (value_of result)) (view p.old).role (view p.old).mine }
         ensures known { IsWordIn K.before (K.entries (value_of result)) (view p.old).known }
+        ensures read { StartsWith (K.entries (value_of result)) (view p.old).read }
         ensures stands { Stands (K.seal (value_of result)) (K.entries (value_of result)) (view p.old) }
         ensures named { KnowsOwn (K.seal (value_of result)) (view p.old) }
         ensures counted { IsCounted (K.entries (value_of result)) }
@@ -211,12 +219,16 @@ impl<K: Kept> TurnLock<K> {
         }
     }
 
-    /// The word of the history: it doesn't wait.
+    /// The word of the history, which the pass has read then: it doesn't wait.
     pub fn front(&self, p: &mut Pass<K>) -> u64
         requires { RestsIn self.now p.old }
         ensures own { RestsIn self.now p.new }
-        ensures view { view p.new ≡ reading result (view p.old) }
-        ensures word { IsWordAfter K.before (view p.old).seen result }
+        ensures view { view p.new ≡ reading (view p.new).read result (view p.old) }
+        ensures word { result ≡ word_of K.before (view p.new).read }
+        ensures count { result / 64 ≡ length (view p.new).read }
+        ensures right { K.right (view p.new).read }
+        ensures after { StartsWith (view p.new).read (view p.old).seen }
+        ensures read { StartsWith (view p.new).read (view p.old).read }
         ensures seen { length (view p.old).seen ≤ result / 64 }
         ensures known { (view p.old).known / 64 ≤ result / 64 }
         ensures greatest { (view p.old).known ≤ result }
@@ -232,6 +244,7 @@ impl<K: Kept> TurnLock<K> {
         requires all { AllJoined (view p).role }
         ensures seen { StartsWith (K.entries result) (view p).seen }
         ensures known { IsWordIn K.before (K.entries result) (view p).known }
+        ensures read { StartsWith (K.entries result) (view p).read }
         ensures met { Met (K.seal result) (K.entries result) (view p).seal (view p).seen }
         ensures joined { All (IsPartOf K.before (K.entries result) (K.seal result))
             (joined_of (view p).role) }
@@ -263,7 +276,7 @@ fn shut<K: Kept>(board: Board<K>, place: Place<K>) -> Closed<Option<K>, Global>
     ensures words { slots_len result.words ≡ board.shared.table_id.words }
     ensures slots { slots_len result.slots ≡ board.shared.table_id.slots }
     ensures full { IsFull result.words × IsFull result.slots }
-    ensures last { Final (Seen (Rule K.before K.entries K.seal) place.id place.me.0)
+    ensures last { Final (Seen (Rule K.before K.entries K.seal K.right) place.id place.me.0)
         (slots_items result.words) (slots_items result.slots) }
 {
     board.close_with(place)

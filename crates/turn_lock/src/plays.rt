@@ -62,7 +62,7 @@ impl<K: Kept> Play<Option<K>, View<K::What, K::Stop>> for Compare {
 pub(crate) struct Read;
 
 impl<K: Kept> Play<Option<K>, View<K::What, K::Stop>> for Read {
-    ghost then = { read K.before };
+    ghost then = { read K.before K.right };
 }
 
 pub(crate) struct Cut<J> {

@@ -49,6 +49,8 @@ impl Kept for Lines {
 
     ghost before = { 7 };
 
+    ghost right = { λ log. Unit {0} };
+
     ghost entries = { λ s.
         map (λ l. record { by = l.by; seq = l.seq; display = l.display; what = l.what }) s.lines.items };
 

@@ -10,9 +10,11 @@ pub struct Joined<W, Z> {
     pub seen: LinkedList<Entry<W>>,
     pub mine: LinkedList<Entry<W>>,
     pub known: u64,
+    pub read: LinkedList<Entry<W>>,
     pub seal: Option<Seal<Z>>,
-    /// What the first pass had seen at that time.
+    /// What the first pass had seen at that time, and the history that it had read.
     pub beside: LinkedList<Entry<W>>,
+    pub beside_read: LinkedList<Entry<W>>,
 }
 
 /// Whose pass it is.
@@ -47,6 +49,9 @@ pub struct View<W, Z> {
     /// pass that is split starts with that of the first pass, and the first pass takes the greater as
     /// it takes in another.
     pub known: u64,
+    /// The history whose word that is. A pass that is split starts with that of the first pass, and the
+    /// first pass takes the longer as it takes in another.
+    pub read: LinkedList<Entry<W>>,
     /// The seal, if this pass or one that it took in met it. A pass that is split has met none.
     pub seal: Option<Seal<Z>>,
 }

@@ -10,6 +10,6 @@ fetch_add-served-requires g c =
     let is = c.exchange-before.ensures.3 ∙ ap (λ cs. (v, (0, Some k) ∷ rest cs)) own.2 in (
       search rules,
       search rules,
-      leaves_ok g.K.Kept.before g.K.Kept.entries g.K.Kept.seal _ _ _ v k is own.1.0 own.1.1 own.3
+      leaves_ok g.K.Kept.before g.K.Kept.entries g.K.Kept.seal g.K.Kept.right _ _ _ v k is own.1.0 own.1.1 own.3
           c.requires.told c.requires.seal,
     )

@@ -6,5 +6,5 @@ pub load-requires : goal.load-requires
 load-requires g c = (
   search rules,
   search rules,
-  compares_ok g.K.Kept.before g.K.Kept.entries g.K.Kept.seal _ _ _ c.requires.first,
+  compares_ok g.K.Kept.before g.K.Kept.entries g.K.Kept.seal g.K.Kept.right _ _ _ c.requires.first,
 )

@@ -7,6 +7,6 @@ fetch_add-ticket-requires g
     c = (
       search rules,
       search rules,
-      draws_ok g.K.Kept.before g.K.Kept.entries g.K.Kept.seal _ _ _
+      draws_ok g.K.Kept.before g.K.Kept.entries g.K.Kept.seal g.K.Kept.right _ _ _
           c.requires.1.1 c.requires.1.2,
     )

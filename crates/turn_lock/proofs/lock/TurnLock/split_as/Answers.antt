@@ -13,6 +13,6 @@ split_seat-place-requires g c =
     c.requires.picked c.requires.fresh in (
       search rules,
       search rules,
-      splits_ok g.K.Kept.before g.K.Kept.entries g.K.Kept.seal _ v _
+      splits_ok g.K.Kept.before g.K.Kept.entries g.K.Kept.seal g.K.Kept.right _ v _
           c.requires.first c.requires.own.1.1 small fresh,
     )

@@ -10,7 +10,7 @@ load-requires g c =
     let same = c.loop.invariant.3 in let waits = ap (λ m. m.0.stage) same ∙ c.requires.ticket.2 in (
       search rules,
       search rules,
-      looks_ok g.K.Kept.before g.K.Kept.entries g.K.Kept.seal _ _ _
+      looks_ok g.K.Kept.before g.K.Kept.entries g.K.Kept.seal g.K.Kept.right _ _ _
           (waits ∙ ap (λ t. Waits t) (sym (ap ticket_of waits)))
           (subst IsLive (sym (ap (λ m. m.0.role) same)) c.requires.live),
     )
