@@ -3,12 +3,14 @@
 
 A public call is a `pub fn` that a user of the crate can name, one of a public trait of this repository, or such a trait's at a
 public type. A section `### CRATE` has a line `Laws: ..`, a table, or both, and each call stands once in them. A law gives
-nothing and changes nothing. A row has five cells: calls; whether they may wait (`no` exactly where the signature, with the
-head of its `impl`, has no `Wait`); whether they take memory (`no` exactly where it has no allocator, nor a `Seat`, which has
-one); the other answers, by clauses that every call of the row has ("its clause" has no name), or `none`, which no call that
+nothing and changes nothing. A row has five cells: calls; whether they may wait (`no` exactly if the signature, with the
+head of its `impl`, has neither `Wait` nor `Threads`); whether they take memory (`no` exactly where it has no allocator, nor
+a `Seat`, which has one); the other answers, by clauses that every call of the row has ("its clause" has no name), or `none`, which no call that
 gives an Option, a Result or a bool has; and what is lent, which is `nothing lent` exactly where nothing is lent to be changed. NoMemory has no clause; any other answer without
 one is "no clause". Every call of a cell with "no clause", and every call without an `ensures`, stands as `CRATE::CALL` under
 "What no clause says".
+README.md, docs/PROVED.md and this page each have one sentence "N calls may wait for ever: ..", up to a semicolon, with the
+calls whose rows say that they may.
 Prints a line for each fault, and ends with status 1 if there is one.
 """
 import re
@@ -23,6 +25,11 @@ HOLES = "## What no clause says"
 MISSING = "no clause"
 LENT_NOTHING = "nothing lent"
 ALLOCATOR = re.compile(r"alloc: |\bSeat<")
+WAITING = re.compile(r"\b(?:Wait|Threads)\b")
+MAY_WAIT = "may"
+WAIT_LISTS = ("README.md", "docs/PROVED.md", "docs/PROMISES.md")
+WAIT_LIST = re.compile(r"(\w+)\s+calls\s+may\s+wait\s+for\s+ever:([^;]*);")
+COUNTS = ("No", "One", "Two", "Three", "Four", "Five", "Six", "Seven", "Eight", "Nine", "Ten", "Eleven", "Twelve")
 
 
 def libraries():
@@ -104,7 +111,7 @@ def clause_faults(name, cell, clauses):
 def row_faults(name, signature, cells, clauses):
     waits, memory, answers, lent = cells
     arguments, _, result = signature.rpartition("->") if "->" in signature else (signature, "", "")
-    if (waits == "no") == bool(re.search(r"\bWait\b", signature)):
+    if (waits == "no") == bool(WAITING.search(signature)):
         yield f"{name}: whether it may wait"
     if (memory == "no") == bool(ALLOCATOR.search(arguments)):
         yield f"{name}: whether it takes memory"
@@ -130,6 +137,28 @@ def row_faults(name, signature, cells, clauses):
 def law_faults(name, signature):
     if "->" in signature or "&mut" in signature:
         yield f"{name} is no law"
+
+
+def waiting_calls(body):
+    """Gives the calls whose rows say that they may wait."""
+    rows = [[it.strip() for it in line.strip("|").split(" | ")] for line in body.splitlines() if line.startswith("| `")]
+    return {name for cells in rows if len(cells) > 1 and cells[1] == MAY_WAIT for name in NAMES.findall(cells[0])}
+
+
+def wait_list_faults(waiting):
+    """Compares the pages' sentences on the calls that may wait with those of the rows."""
+    for page in WAIT_LISTS:
+        found = WAIT_LIST.findall((TOP / page).read_text(encoding="utf-8"))
+        if len(found) != 1:
+            yield f"{page}: {len(found)} sentences \"N calls may wait for ever: ..;\", one is wanted"
+            continue
+        count, listed = found[0][0], NAMES.findall(found[0][1])
+        yield from (f"{page}: {name} may wait, and isn't in the list of the calls that may"
+                    for name in sorted(waiting - set(listed)))
+        yield from (f"{page}: {name} is listed among the calls that may wait, and its row says otherwise"
+                    for name in sorted(set(listed) - waiting))
+        if listed != list(dict.fromkeys(listed)) or count != dict(enumerate(COUNTS)).get(len(listed)):
+            yield f"{page}: the list of the calls that may wait has {len(listed)}, and the page counts {count}"
 
 
 def section_faults(crate, text, calls, holes):
@@ -171,6 +200,7 @@ def main():
         if names:
             faults += section_faults(crate, sections.pop(crate, ""), names, told)
     faults += [f"no library {crate}" for crate in sections]
+    faults += wait_list_faults(waiting_calls(body))
     every = {f"{crate}::{name}" for crate, names in calls.items() for name in names}
     faults += [f"no call {name}" for name in sorted(told - every)]
     for fault in faults:

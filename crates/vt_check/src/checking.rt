@@ -6,9 +6,10 @@ ghost use Rattle.vt_check.specs.Verdicts.{IsRightJournal, Judges};
 ghost use Rattle.vt_check.specs.declared.verdict.Verdict.{Verdict};
 ghost use Rattle.vt_check.specs.declared.verdict.Verdict.TheVariants as verdict;
 ghost use Rattle.vt_events.specs.declared.entry.Entry.{Entry};
-ghost use Rattle.vt_switch.specs.Law.{IsLawful};
+ghost use Rattle.vt_switch.specs.Law.{IsExplained, IsLawful};
 ghost use Rattle.vt_world.specs.History.{replay};
 ghost use Rattle.vt_world.specs.Laws.{moments};
+ghost use Rattle.vt_world.specs.State.{core};
 
 use crate::Verdict;
 use crate::judge::Judge;
@@ -29,6 +30,9 @@ pub fn check(alloc: Global, s: &Session, j: &Journal) -> Result<Verdict, NoMemor
         ↔ IsRightJournal (setup_of s.now) j.now.entries j.now.tail) }
     ensures lawful { IfOk result (λ v. v ≡ verdict.Legal
         → IsLawful (moments (start_of s.now) j.now.entries)) }
+    ensures explained { IfOk result (λ v. v ≡ verdict.Legal
+        → IsExplained (length j.now.entries) (core (replay (start_of s.now) j.now.entries))
+        (moments (start_of s.now) j.now.entries)) }
     ensures screens { IfOk result (λ v. v ≡ verdict.Legal
         → ShowsTapes s.now (replay (start_of s.now) j.now.entries) j.now.entries) }
 {

@@ -16,7 +16,7 @@ use Rattle.vt_tool.specs.declared.status.Status.{Status}
 use Rattle.vt_tool.specs.declared.status.Status.TheVariants.{Fine, Usage, ReadFault, WriteFault, NoMemory, Refused, TooLong, JournalFull, Illegal}
 
 -- two commands of the same words are one
-one_command : (known : List Form) (words : List (List ℕ)) (a b : Command)
+pub one_command : (known : List Form) (words : List (List ℕ)) (a b : Command)
     → command_of known words ≡ Some a → command_of known words ≡ Some b → a ≡ b
 one_command known words a b first second = cc
 

@@ -1,7 +1,10 @@
+mod Causes
 mod Checks
 mod Complete
 mod Cuts
+mod Displays
 mod Drawing
+mod Journals
 mod Keymaps
 mod Knows
 mod Made
@@ -15,7 +18,7 @@ mod Sessions
 mod Setups
 mod Statuses
 pub mod Streams
-mod TypeTables
 mod Typed
+mod TypeTables
 mod Upgraded
 mod Upgrades

@@ -1,7 +1,7 @@
 -- The commands: their words, what they read, and what they give (docs/PROGRAM.md). A new command has a
 -- row in the list of names and a case of Gives; where it has numbers, or reads in a way of its own, it
 -- also has a case of IsFit or of intake_of.
-use Rattle.std.specs.Prelude.{ℕ, List, [], ◌∷◌, ◌⊎◌, codes, ⊤}
+use Rattle.std.specs.Prelude.{ℕ, List, [], ◌∷◌, ◌++◌, ◌⊎◌, codes, ⊤}
 use Rattle.vt_tool.specs.Outcome.{Outcome}
 use Rattle.vt_tool.specs.Words.{Form, Rest, alone, form, with_two}
 use Rattle.vt_tool.specs.declared.command.Command.{Command}
@@ -48,26 +48,34 @@ rest_of two.Screen = with_two side side command.Screen
 rest_of two.Drill = with_two items_each seeds command.Drill
 rest_of two.Review = with_two kinds_heard consoles_heard command.Review
 
--- the names of the commands that need no threads
-abbrev pub serial_forms : List Form
-serial_forms =
+-- the names of the commands, in the order of the line of usage: those before and after `race`
+abbrev pub forms_before_race : List Form
+forms_before_race =
     form (codes "screen") (rest_of two.Screen)
     ∷ form (codes "keys") (alone command.Keys)
     ∷ form (codes "type") (alone command.Typing)
     ∷ form (codes "play") (alone command.Play)
-    ∷ form (codes "check") (alone command.Check)
+    ∷ []
+
+abbrev pub forms_after_race : List Form
+forms_after_race =
+    form (codes "check") (alone command.Check)
     ∷ form (codes "drill") (rest_of two.Drill)
-    ∷ form (codes "dumpkeys") (alone command.DumpKeys)
+    ∷ form (codes "upgrade") (alone command.Upgrade)
     ∷ form (codes "cook") (alone command.Cook)
+    ∷ form (codes "dumpkeys") (alone command.DumpKeys)
     ∷ form (codes "review") (rest_of two.Review)
     ∷ form (codes "explain") (alone command.Explain)
     ∷ form (codes "accept") (alone command.Accept)
-    ∷ form (codes "upgrade") (alone command.Upgrade)
     ∷ []
+
+-- the commands that need no threads
+abbrev pub serial_forms : List Form
+serial_forms = forms_before_race ++ forms_after_race
 
 -- all commands: `race` needs threads
 abbrev pub all_forms : List Form
-all_forms = form (codes "race") (alone command.Race) ∷ serial_forms
+all_forms = forms_before_race ++ form (codes "race") (alone command.Race) ∷ forms_after_race
 
 -- the command needs no threads
 abbrev pub IsSerial : Command → Type 0
@@ -100,15 +108,15 @@ intake_of other = ToEnd text_limit
 abbrev pub Gives : Command → List ℕ → Outcome → Type 0
 Gives (command.Screen rows cols) input outcome = GivesRows rows cols input outcome
 Gives command.Keys input outcome = GivesListing input outcome ⊎ GivesKeyFault input outcome
-Gives command.DumpKeys input outcome = GivesDump input outcome ⊎ GivesKeyFault input outcome
+Gives command.Typing input outcome = GivesTyped input outcome ⊎ GivesTableFault input outcome
 Gives command.Play input outcome = GivesPlayed input outcome ⊎ GivesSessionFault input outcome
+Gives command.Race input outcome = GivesRaced input outcome ⊎ GivesSessionFault input outcome
 Gives command.Check input outcome = GivesAsked asked.Verdict input outcome
+Gives (command.Drill n seed) input outcome = GivesDrill n seed outcome
+Gives command.Upgrade input outcome = GivesUpgraded input outcome
+Gives command.Cook input outcome = GivesCooked input outcome
+Gives command.DumpKeys input outcome = GivesDump input outcome ⊎ GivesKeyFault input outcome
 Gives (command.Review kinds console) input outcome =
     GivesAsked (asked.Review kinds console) input outcome
 Gives command.Explain input outcome = GivesAsked asked.Explanation input outcome
 Gives command.Accept input outcome = GivesAsked asked.Acceptance input outcome
-Gives command.Upgrade input outcome = GivesUpgraded input outcome
-Gives command.Cook input outcome = GivesCooked input outcome
-Gives command.Race input outcome = GivesRaced input outcome ⊎ GivesSessionFault input outcome
-Gives (command.Drill n seed) input outcome = GivesDrill n seed outcome
-Gives command.Typing input outcome = GivesTyped input outcome ⊎ GivesTableFault input outcome

@@ -1,5 +1,7 @@
 pub mod Commands
+pub mod Displays
 pub mod Input
+pub mod Journals
 pub mod Laws
 pub mod Outcome
 pub mod Reading

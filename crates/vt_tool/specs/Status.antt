@@ -19,7 +19,7 @@ number_of (Illegal index why) = 8
 -- the line on err, nothing where all went well
 abbrev pub line_of : Status → List ℕ
 line_of Fine = []
-line_of Usage = codes "vt: usage: screen R C | keys | type | play | race | check | drill N SEED | dumpkeys | cook | review K N | explain | accept | upgrade\n"
+line_of Usage = codes "vt: usage: screen R C | keys | type | play | race | check | drill N SEED | upgrade | cook | dumpkeys | review K N | explain | accept\n"
 line_of ReadFault = codes "vt: read failed\n"
 line_of WriteFault = codes "vt: write failed\n"
 line_of NoMemory = codes "vt: no memory\n"

@@ -1,16 +1,26 @@
-/// What the program is asked to do.
+/// What the program is asked to do, in the order of the line of usage.
 #[derive(Clone, Copy)]
 pub enum Command {
     /// The rows of a screen of this size after the input.
     Screen { rows: u8, cols: u8 },
     /// The listing of the tables of a keymap text.
     Keys,
-    /// The tables of a keymap text as a keymap text.
-    DumpKeys,
+    /// A line for each scan byte of the input's table, by the tables of its keymap.
+    Typing,
     /// The journal of the calls of the input, and the console after them.
     Play,
+    /// The journal of the calls of the input, made by threads, and the console after them.
+    Race,
     /// The verdict on the journal after the session of the input.
     Check,
+    /// Five numbers of a session of eight processes that is made from a seed, with `n` items each.
+    Drill { n: u32, seed: u64 },
+    /// The journal of version 1 that is the input, in version 2.
+    Upgrade,
+    /// The lines and signals that the input types, what is left of it, and its echo.
+    Cook,
+    /// The tables of a keymap text as a keymap text.
+    DumpKeys,
     /// What an ear is told of the journal after the session of the input: of these kinds of notices, a
     /// bit for each, and of this console, or of all where it is 0.
     Review { kinds: u8, console: u8 },
@@ -18,14 +28,4 @@ pub enum Command {
     Explain,
     /// Whether the text after session and journal of the input is the journal's certificate.
     Accept,
-    /// The journal of version 1 that is the input, in version 2.
-    Upgrade,
-    /// The journal of the calls of the input, made by threads, and the console after them.
-    Race,
-    /// Five numbers of a session of eight processes that is made from a seed, with `n` items each.
-    Drill { n: u32, seed: u64 },
-    /// The lines and signals that the input types, what is left of it, and its echo.
-    Cook,
-    /// A line for each scan byte of the input's table, by the tables of its keymap.
-    Typing,
 }

@@ -41,18 +41,18 @@ pub fn answer_to(alloc: Global, command: Command, input: &[u8]) -> Result<Answer
 {
     match command {
         Command::Keys => keys::answer(alloc, input),
-        Command::DumpKeys => dumpkeys::answer(alloc, input),
+        Command::Typing => typing::answer(alloc, input),
         Command::Play => play::answer(alloc, input),
         Command::Check => judging::answer(alloc, Asked::Verdict, input),
+        Command::Drill { n, seed } => drill::answer(alloc, n, seed),
+        Command::Upgrade => upgrade::answer(alloc, input),
+        Command::Cook => cook::answer(alloc, input),
+        Command::DumpKeys => dumpkeys::answer(alloc, input),
         Command::Review { kinds, console } => {
             judging::answer(alloc, Asked::Review { kinds, console }, input)
         }
         Command::Explain => judging::answer(alloc, Asked::Explanation, input),
         Command::Accept => judging::answer(alloc, Asked::Acceptance, input),
-        Command::Upgrade => upgrade::answer(alloc, input),
-        Command::Cook => cook::answer(alloc, input),
-        Command::Drill { n, seed } => drill::answer(alloc, n, seed),
-        Command::Typing => typing::answer(alloc, input),
         Command::Screen { .. } | Command::Race => unreachable!(),
     }
 }

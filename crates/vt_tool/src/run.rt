@@ -1,5 +1,6 @@
 ghost use Rattle.std.specs.Prelude.{map, string_bytes};
 ghost use Rattle.vt_tool.specs.Commands.{all_forms};
+ghost use Rattle.vt_tool.specs.Journals.{TellsDisplays};
 ghost use Rattle.vt_tool.specs.Run.{Completes, Holds, ProgramRun};
 
 use crate::command::Command;
@@ -14,6 +15,7 @@ use std::alloc::Global;
 use std::sync::Wait;
 use std::thread::Threads;
 use vt_io::{Gate, Sink, Source};
+use vt_world::{displays_are_lawful, refused_calls_change_nothing};
 
 /// Runs the command that the words spell, over the source and the sinks, `race` too: its callers have
 /// a thread each, and pass the gate before each call. Any other words are given to `vt_command`.
@@ -48,7 +50,20 @@ pub fn vt_run<S: Source, O: Sink, E: Sink, G: Gate + Sync, R: Threads + Wait + S
           out = record { told = O.held out.new; faults = O.faults out.new };
           err = record { told = E.held err.new; faults = E.faults err.new };
         }) result }
+    ensures displays { TellsDisplays all_forms (map string_bytes words.now)
+        (record {
+          src = record { told = S.left src.old; faults = S.faults src.old };
+          out = record { told = O.held out.old; faults = O.faults out.old };
+          err = record { told = E.held err.old; faults = E.faults err.old };
+        })
+        (record {
+          src = record { told = S.left src.new; faults = S.faults src.new };
+          out = record { told = O.held out.new; faults = O.faults out.new };
+          err = record { told = E.held err.new; faults = E.faults err.new };
+        }) result }
 {
+    displays_are_lawful();
+    refused_calls_change_nothing();
     if !is_race(words) {
         return vt_command(alloc, words, src, out, err);
     }

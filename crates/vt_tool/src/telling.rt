@@ -23,7 +23,7 @@ pub fn tell<E: Sink>(err: &mut E, first: Status) -> Status
         Status::Usage => say(
             err,
             first,
-            b"vt: usage: screen R C | keys | type | play | race | check | drill N SEED | dumpkeys | cook | review K N | explain | accept | upgrade\n",
+            b"vt: usage: screen R C | keys | type | play | race | check | drill N SEED | upgrade | cook | dumpkeys | review K N | explain | accept\n",
         ),
         Status::ReadFault => say(err, first, b"vt: read failed\n"),
         Status::WriteFault => say(err, first, b"vt: write failed\n"),

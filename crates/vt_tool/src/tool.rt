@@ -1,5 +1,6 @@
 ghost use Rattle.std.specs.Prelude.{map, string_bytes};
 ghost use Rattle.vt_tool.specs.Commands.{IsFit, IsSerial, TakesText, serial_forms};
+ghost use Rattle.vt_tool.specs.Journals.{TellsDisplays};
 ghost use Rattle.vt_tool.specs.Run.{Begins, Completes, Holds, ProgramRun};
 
 use crate::command::Command;
@@ -12,6 +13,7 @@ use crate::writing::give;
 use std::alloc::Global;
 use vt_base::Size;
 use vt_io::{Sink, Source};
+use vt_world::{displays_are_lawful, refused_calls_change_nothing};
 
 /// Runs the command that the words spell, over the source and the sinks: its text goes to `out`,
 /// and the line of a status other than Fine to `err`. It knows each command but `race`, which needs
@@ -45,7 +47,20 @@ pub fn vt_command<S: Source, O: Sink, E: Sink>(
           out = record { told = O.held out.new; faults = O.faults out.new };
           err = record { told = E.held err.new; faults = E.faults err.new };
         }) result }
+    ensures displays { TellsDisplays serial_forms (map string_bytes words.now)
+        (record {
+          src = record { told = S.left src.old; faults = S.faults src.old };
+          out = record { told = O.held out.old; faults = O.faults out.old };
+          err = record { told = E.held err.old; faults = E.faults err.old };
+        })
+        (record {
+          src = record { told = S.left src.new; faults = S.faults src.new };
+          out = record { told = O.held out.new; faults = O.faults out.new };
+          err = record { told = E.held err.new; faults = E.faults err.new };
+        }) result }
 {
+    displays_are_lawful();
+    refused_calls_change_nothing();
     let first = begin(alloc, words, src, out);
     tell(err, first)
 }

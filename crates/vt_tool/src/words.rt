@@ -16,16 +16,16 @@ pub fn parse_words(words: &[String]) -> Option<Command>
     match name.as_str() {
         "screen" => two_numbers(WithTwo::Screen, others),
         "keys" => alone(Command::Keys, others),
-        "dumpkeys" => alone(Command::DumpKeys, others),
         "type" => alone(Command::Typing, others),
         "play" => alone(Command::Play, others),
         "check" => alone(Command::Check, others),
+        "drill" => two_numbers(WithTwo::Drill, others),
+        "upgrade" => alone(Command::Upgrade, others),
         "cook" => alone(Command::Cook, others),
+        "dumpkeys" => alone(Command::DumpKeys, others),
         "review" => two_numbers(WithTwo::Review, others),
         "explain" => alone(Command::Explain, others),
         "accept" => alone(Command::Accept, others),
-        "upgrade" => alone(Command::Upgrade, others),
-        "drill" => two_numbers(WithTwo::Drill, others),
         _ => None,
     }
 }
@@ -37,8 +37,13 @@ pub fn is_race(words: &[String]) -> bool
     ensures other { result ≡ false → command_of serial_forms (map string_bytes words.now)
         ≡ command_of all_forms (map string_bytes words.now) }
 {
-    let [name] = words else { return false };
-    name.as_str() == "race"
+    let Some((name, others)) = words.split_first() else {
+        return false;
+    };
+    match name.as_str() {
+        "race" => others.is_empty(),
+        _ => false,
+    }
 }
 
 fn alone(command: Command, words: &[String]) -> Option<Command>

@@ -35,6 +35,10 @@ pub returns-clause-lawful : goal.returns-clause-lawful
 returns-clause-lawful c = λ is.
     c.displays_are_lawful.ensures.lawful (start_of c.args.s.now) c.args.j.now.entries (start c)
 
+pub returns-clause-explained : goal.returns-clause-explained
+returns-clause-explained c = λ is.
+    c.displays_are_lawful.ensures.waiting (start_of c.args.s.now) c.args.j.now.entries (start c)
+
 pub returns-clause-screens : goal.returns-clause-screens
 returns-clause-screens c = λ is n within.
     c.screens_are_tapes.ensures.screens (start_of c.args.s.now) c.args.j.now.entries (start c) n within

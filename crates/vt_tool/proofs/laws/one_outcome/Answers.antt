@@ -15,17 +15,17 @@ returns c = one
         → Gives asked input b → a ≡ b
     one (command.Screen rows cols) serial input a b x y = x ∙ sym y
     one command.Keys serial input a b x y = one-keys c.one_value.ensures input a b x y
-    one command.DumpKeys serial input a b x y = one-dump c.one_value.ensures input a b x y
+    one command.Typing serial input a b x y = one-typed c.one_value.ensures input a b x y
     one command.Play serial input a b x y =
         one-played c.one_session.ensures c.one_value.ensures c.serial_laws.ensures.one
         c.meant_laws.ensures.replay input a b x y
+    one command.Race serial input a b x y = absurd serial
     one command.Check serial input a b x y = c.one_check.ensures input a b x y
+    one (command.Drill n seed) serial input a b x y =
+        one-drill c.one_value.ensures c.serial_laws.ensures.one c.meant_laws.ensures.replay n seed a b x y
+    one command.Upgrade serial input a b x y = one-upgraded c.one_journal.ensures.one input a b x y
+    one command.Cook serial input a b x y = x ∙ sym y
+    one command.DumpKeys serial input a b x y = one-dump c.one_value.ensures input a b x y
     one (command.Review kinds console) serial input a b x y = c.one_review.ensures kinds console input a b x y
     one command.Explain serial input a b x y = c.one_explain.ensures input a b x y
     one command.Accept serial input a b x y = c.one_accept.ensures input a b x y
-    one command.Upgrade serial input a b x y = one-upgraded c.one_journal.ensures.one input a b x y
-    one command.Race serial input a b x y = absurd serial
-    one (command.Drill n seed) serial input a b x y =
-        one-drill c.one_value.ensures c.serial_laws.ensures.one c.meant_laws.ensures.replay n seed a b x y
-    one command.Cook serial input a b x y = x ∙ sym y
-    one command.Typing serial input a b x y = one-typed c.one_value.ensures input a b x y
