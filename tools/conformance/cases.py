@@ -12,6 +12,8 @@ from .states import COLUMNS, OWN, ROWS, STATES, before
 COUNT = 3000
 RECORDINGS = ("listing", "pager", "editor", "monitor", "dialog", "progress")
 OWN_CLASSES = {"many": "over 16 parameters"}
+# The sequences after which blanks stand, or in which blanks come in by what is written after them.
+BLANKING = {"ICH", "ED", "EL", "IL", "DL", "DCH", "ECH", "DECSTBM", "DECALN", "default-pair"}
 
 
 def paragraph(of_page, *own):
@@ -23,7 +25,8 @@ def paragraph(of_page, *own):
 def tried(sequence, name, state, *own):
     """A case of a sequence in a state of the screen."""
     data = before(state, sequence.at) + sequence.before + sequence.data + sequence.probe
-    return Case(f"{name}/{state}", paragraph(sequence.of_page, sequence.own, OWN.get(state), *own), ROWS, COLUMNS, data)
+    rule = OWN.get(state) if state != "pen" or sequence.name in BLANKING else None
+    return Case(f"{name}/{state}", paragraph(sequence.of_page, sequence.own, rule, *own), ROWS, COLUMNS, data)
 
 
 def numeric_cases():
