@@ -1,9 +1,9 @@
 """Asks a console for its modes and for the count of its bells, which no call of a session answers alone.
 
-A mode is asked by what it does: keys are typed, further text is written, and dumps show what came of both. That is done on a
-second console, which is given the same bytes: modes and bells don't depend on a screen's size or cells. Bells are
-those of a review of the journal (`vt review`), in which no write has two BEL. If a text isn't finished at a place, or much
-too long for a review, the bytes before it are played once more, alone.
+A mode is asked by what it does: keys are typed, further text is written, and dumps show what came of both. That is
+done on a second console, which is given the same bytes: modes and bells don't depend on a screen's size or cells. Bells
+are those of a review of the journal (`vt review`), in which no write has two BEL. If a text isn't finished at a place,
+or too long for a review, the bytes before it are played once more, alone.
 """
 import bisect
 import re
@@ -36,7 +36,11 @@ MOST_REVIEWED = 15_000_000
 
 
 def is_whole(text):
-    """Whether a text can't end in an unfinished character, sequence or string: what follows its last ESC is told by itself."""
+    """Whether a text ends on the ground for certain, by its last ESC and the bytes after it.
+
+    An ESC ends whatever was unfinished. So it is enough that a whole sequence begins there, that no byte after it can begin
+    another one, and that the characters after it are whole.
+    """
     at = text.rfind(b"\x1b")
     sequence = SEQUENCE.match(text, at) if at >= 0 else None
     rest = text[sequence.end() if sequence else 0 :] if sequence or at < 0 else b"\x9b"
