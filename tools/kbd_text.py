@@ -10,12 +10,13 @@ import lzma
 import os
 import pathlib
 import re
+import zlib
 
 # Where kbd and console-data keep keymaps, and below these the folders of what a keymap includes.
 FOLDERS = ["/usr/share/keymaps", "/usr/share/kbd/keymaps", "/lib/kbd/keymaps"]
 COMMON = ["include", "i386/include", "mac/include"]
 OPENERS = {"": open, ".gz": gzip.open, ".bz2": bz2.open, ".xz": lzma.open}
-DEEPEST = 20
+DEEPEST, MOST_FILES = 20, 1000
 MOST_BYTES = 1 << 24
 
 Word = collections.namedtuple("Word", "kind value text")
@@ -139,11 +140,12 @@ def keymap_path(name, search):
     return None
 
 
-def lines_of(path, search, text=None, depth=0):
+def lines_of(path, search, text=None, depth=0, files=None):
     """Gives the lines of a keymap; an include line is replaced by the lines of its file."""
+    files = [] if files is None else files
     try:
         text = read(path) if text is None else text
-    except (OSError, EOFError, lzma.LZMAError, ValueError) as error:
+    except (OSError, EOFError, lzma.LZMAError, zlib.error, ValueError) as error:
         raise KeymapError(path, 0, f"can't be read: {error}") from error
     for line in words_of(text, path):
         words = line.words
@@ -154,12 +156,15 @@ def lines_of(path, search, text=None, depth=0):
             raise KeymapError(path, line.number, "include takes the name of a file in double quotes")
         if depth == DEEPEST:
             raise KeymapError(path, line.number, f"includes are more than {DEEPEST} deep")
+        if len(files) == MOST_FILES:
+            raise KeymapError(path, line.number, f"more than {MOST_FILES} files are included")
         name = words[1].value
         found = None if "\0" in name or not name else included_path(name, path, search)
         if not found:
             raise KeymapError(
                 path, line.number, f'include "{name}": there is no such file near {path} or in kbd\'s folders'
             )
-        yield from lines_of(found, search, None, depth + 1)
+        files.append(found)
+        yield from lines_of(found, search, None, depth + 1, files)
         if words[2:]:
             yield Line(words[2:], path, line.number)

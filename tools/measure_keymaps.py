@@ -1,16 +1,19 @@
 #!/usr/bin/env python3
 """Makes the figures of docs/guide/bring-your-keymap.md: how many keymaps of kbd, console-data and ckbcomp come in.
 
-usage: tools/measure_keymaps.py [--install] [--vt PROGRAM] [--layouts NAME,NAME..]
+usage: tools/measure_keymaps.py [--install] [--vt PROGRAM] [--jobs N] [--layouts NAME,NAME..]
 
-It compares every keymap below /usr/share/keymaps, and the one that ckbcomp(1) writes for each layout of X's list, as
-tools/compare_keymap.py does; then the dumps of 60 of the keymaps, taken evenly. --install first gets kbd, console-data
-and console-setup by apt-get, as root. It prints a line for each keymap that is different, was refused, or was compared
-with a repaired copy, and then the figures. Status 1 means that one is different.
+It compares every keymap below /usr/share/keymaps, as tools/compare_keymap.py does; then the dumps of 60 of them, taken
+evenly; `compose as usual` in each character set of kbd, and each file of compose pairs; and what ckbcomp(1) writes for
+each layout of X's list. --install first gets kbd, console-data and console-setup by apt-get, as root, and --jobs
+compares so many at once. It prints a line for each keymap that is different, was refused, or was compared with a repaired copy,
+and then the figures. Status 1 means that one is different.
 """
 import argparse
 import collections
+import concurrent.futures
 import datetime
+import functools
 import pathlib
 import re
 import subprocess
@@ -18,6 +21,7 @@ import sys
 import tempfile
 
 import compare_keymap
+import kbd_names
 import keymap
 from compare_keymap import ProgramError, Verdict
 from kbd_text import KeymapError
@@ -56,25 +60,42 @@ def written_by_ckbcomp(names, folder):
         yield path
 
 
-def verdicts(program, actions, paths, judge):
-    """Returns the verdict on each keymap; prints those that say more than same."""
-    found = []
-    for path in paths:
+def composed(folder):
+    """Gives keymaps with `compose as usual` in each character set, and with each file of compose pairs."""
+    for charset in ["iso-8859-1", *kbd_names.BYTES]:
+        path = pathlib.Path(folder) / f"usual {charset}"
+        path.write_text(f'charset "{charset}"\nkeymaps 0\nkeycode 3 = a\ncompose as usual\n')
+        yield path
+    for file in sorted(KEYMAPS.glob("**/*compose.*.inc.gz")):
+        name = file.name.removesuffix(".inc.gz")
+        kind = name.partition(".")[2].replace("8859_", "latin").removeprefix("latin") or "1"
+        path = pathlib.Path(folder) / name
+        path.write_text(f'charset "iso-8859-{kind}"\nkeymaps 0\nkeycode 3 = a\ninclude "{name}"\n')
+        yield path
+
+
+def verdicts(judge, paths, jobs):
+    """Returns the verdict on each keymap; prints those that were refused, are different, or took a repair."""
+
+    def one(path):
         try:
-            verdict = judge(program, actions, str(path))
+            return path, judge(str(path))
         except (KeymapError, ProgramError) as error:
-            verdict = Verdict("refused", f"not compared: {error}", {}, 0)
+            return path, Verdict("refused", f"not compared: {error}", {}, 0)
+
+    found = []
+    with concurrent.futures.ThreadPoolExecutor(jobs) as pool:
+        judged = list(pool.map(one, paths))
+    for path, verdict in judged:
         if verdict.word in ("different", "refused") or "(loadkeys" in verdict.line:
-            print(
-                f"{path}: {re.sub(': [^:]*$', '', verdict.line) if '(loadkeys' in verdict.line else verdict.line}",
-                flush=True,
-            )
+            line = re.sub(": [^:]*$", "", verdict.line) if "(loadkeys" in verdict.line else verdict.line
+            print(f"{path}: {line}", flush=True)
         found.append(verdict)
     return found
 
 
 def figures(title, found):
-    """Prints the figures of a set of keymaps."""
+    """Prints the figures of a set of keymaps, and returns their verdicts."""
     words = collections.Counter(verdict.word for verdict in found)
     print(f"\n{title}: {len(found)} keymaps, {sum(verdict.entries for verdict in found)} entries that aren't holes")
     for word, what in [
@@ -94,6 +115,7 @@ def figures(title, found):
     for name, count in sorted(entries.items(), key=lambda item: (-item[1], item[0])):
         print(f"    | `{name}` | {count} | {maps[name]} |")
     print(f"    {sum(entries.values())} entries listed", flush=True)
+    return found
 
 
 def main():
@@ -102,27 +124,29 @@ def main():
     parser.add_argument(
         "--vt", default=compare_keymap.VT, metavar="PROGRAM", help="the program vt (default: crates/vt/out/vt)"
     )
+    parser.add_argument("--jobs", default=1, type=int, metavar="N", help="compare so many at once (default: 1)")
     parser.add_argument("--layouts", default="", metavar="NAMES", help="layouts for ckbcomp (default: all of X's list)")
     asked = parser.parse_args()
     try:
         if asked.install:
             install()
-        actions = compare_keymap.same_actions(asked.vt)
+        same = (asked.vt, compare_keymap.same_actions(asked.vt))
+        judge = functools.partial(compare_keymap.compare, *same)
+        judge_back = functools.partial(compare_keymap.compare_back, *same)
         paths = sorted(KEYMAPS.glob("**/*.kmap.gz"))
         print(f"{datetime.date.today()}: {versions()}", flush=True)
-        found = verdicts(asked.vt, actions, paths, compare_keymap.compare)
+        found = figures("kbd and console-data", verdicts(judge, paths, asked.jobs))
         taken = [path for path, verdict in zip(paths, found, strict=True) if verdict.word != "refused"]
-        back = verdicts(asked.vt, actions, taken[:: max(1, len(taken) // BACK)][:BACK], compare_keymap.compare_back)
+        taken = taken[:: max(1, len(taken) // BACK)][:BACK]
+        found += figures("dumps read by loadkeys", verdicts(judge_back, taken, asked.jobs))
         with tempfile.TemporaryDirectory() as folder:
+            found += figures("compose pairs", verdicts(judge, composed(folder), asked.jobs))
             written = written_by_ckbcomp(asked.layouts.split(",") if asked.layouts else layouts(), folder)
-            made = verdicts(asked.vt, actions, written, compare_keymap.compare)
+            found += figures("ckbcomp", verdicts(judge, written, asked.jobs))
     except (OSError, ProgramError, subprocess.CalledProcessError) as error:
         sys.stderr.write(f"measure_keymaps.py: {error}\n")
         return 3
-    figures("kbd and console-data", found)
-    figures("dumps read by loadkeys", back)
-    figures("ckbcomp", made)
-    return 1 if any(verdict.word == "different" for verdict in [*found, *back, *made]) else 0
+    return 1 if any(verdict.word == "different" for verdict in found) else 0
 
 
 if __name__ == "__main__":

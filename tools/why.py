@@ -80,13 +80,19 @@ def word_at(line, column):
     return (quoted[0] if quoted else re.split(rb"[ \t\r\n]", rest, maxsplit=1)[0]).decode("utf-8", "replace")
 
 
+def printable(line):
+    """Returns a line as a terminal can show it: a character that can't be printed is a question mark."""
+    text = line.decode("utf-8", "replace").rstrip("\r")
+    return "".join(c if c.isprintable() or c == "\t" else "?" for c in text)
+
+
 def marked(text, line, column):
     """Gives a line of the input, and below it a mark under the word at a column."""
     lines = text.split(b"\n")
     shown = lines[line - 1] if 0 < line <= len(lines) else b""
     front = shown[: column - 1].decode("utf-8", "replace")
     blanks = "".join("\t" if c == "\t" else " " for c in front)
-    yield "    " + shown.decode("utf-8", "replace").rstrip("\r")
+    yield "    " + printable(shown)
     yield "    " + blanks + "^" * max(1, len(word_at(shown, column)))
 
 
@@ -250,7 +256,7 @@ def about_illegal(path, text, entry, reason):
     rows = text.split(b"\n")
     start = next((i for i, row in enumerate(rows) if row.startswith(b"%journal")), None)
     if start is not None and reason != 6 and start + 1 + entry < len(rows):
-        yield "    " + rows[start + 1 + entry].decode("utf-8", "replace")
+        yield "    " + printable(rows[start + 1 + entry])
 
 
 def explained(path, text, err):
