@@ -3,7 +3,7 @@
 
 usage: tools/compare_keymap.py [--vt PROGRAM] [--back] [--charset C] [--search DIR]... FILE...
 
-It prints a line for each FILE: `same`; `same but for N entries` that tools/keymap.py listed, by name; or `different`,
+It prints a line for each FILE: `same`; `same except for N entries` that tools/keymap.py listed, by name; or `different`,
 with the first twenty differences. --back goes the other way: loadkeys reads the dump that `vt dumpkeys` makes of the
 converted keymap, and its tables have to be those that `vt keys` lists. If loadkeys refuses a keymap, a repaired copy
 is compared, and the line names the repair. The tool doesn't take from tools/keymap.py which number of kbd is which
@@ -223,7 +223,7 @@ def compare(program, actions, name, charset="", search=()):
     names = names_lost(converted.losses, lost)
     by_name = ", ".join(f"{name} {count}" for name, count in names.most_common())
     line = (
-        f"same but for {len(lost)} {'entry' if len(lost) == 1 else 'entries'}{note}: {by_name}"
+        f"same except for {len(lost)} {'entry' if len(lost) == 1 else 'entries'}{note}: {by_name}"
         if lost
         else f"same{note}"
     )

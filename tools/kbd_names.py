@@ -1,4 +1,4 @@
-"""What the symbols and the character sets of kbd 2.5.1 stand for. Written by tools/list_kbd_names.py."""
+"""The meanings of the symbols and the character sets of kbd 2.5.1. Written by tools/list_kbd_names.py."""
 
 # The names of characters past ASCII, each before its number.
 CHARACTERS = """
@@ -146,7 +146,7 @@ upsilonaccent 03cd upsilondiaeresis 03cb upsilondiaeresisaccent 03b0 uring 016f 
 yacute 00fd ydiaeresis 00ff yen 00a5 yod 05d9 zabovedot 017c zacute 017a zayin 05d6 zcaron 017e zeta 03b6
 """
 
-# The names of characters that a character set has otherwise.
+# The names that have another meaning in a character set.
 CHARACTERS_IN = {
     "iso-8859-7": """
 mu 03bc
@@ -169,7 +169,7 @@ Left 601 Macro 11a Next 119 Num_Lock 208 PageDown 119 PageUp 118 Pause 11d Prior
 SAK 20f SAlt c03 SAltGr c01 SCapsShift c08 SControl c02 SCtrl c02 SCtrlL c06 SCtrlR c07 SShift c00 SShiftL c04
 SShiftR c05 Scroll_Backward 20b Scroll_Forward 20a Scroll_Lock 209 Select 117 Shift 700 ShiftL 704 ShiftL_Lock a04
 ShiftR 705 ShiftR_Lock a05 Shift_L 704 Shift_Lock a00 Shift_R 705 Show_Memory 203 Show_Registers 202 Show_State 204
-Spawn_Console 212 Uncaps_Shift 708 Up 603 VoidSymbol 200 dead2_ d80 dead_abovecomma 414 dead_abovedot 408
+Spawn_Console 212 Uncaps_Shift 708 Up 603 VoidSymbol 200 dead_abovecomma 414 dead_abovedot 408
 dead_abovereversedcomma 415 dead_abovering 409 dead_acute 401 dead_belowcomma 418 dead_belowdot 410 dead_breve 403
 dead_caron 402 dead_cedilla 405 dead_circumflex 402 dead_currency 419 dead_diaeresis 404 dead_doubleacute 403
 dead_doublegrave 416 dead_grave 400 dead_greek 41a dead_hook 411 dead_horn 412 dead_invertedbreve 417 dead_iota 40d
@@ -190,7 +190,7 @@ parenleft 28 parenright 29 percent 25 period 2e plus 2b question 3f quotedbl 22 
 slash 2f space 20 three 33 tilde 7e two 32 underscore 5f zero 30
 """
 
-# What the bytes from A0 to FF are in each character set.
+# The characters of the bytes 80 to FF in each character set.
 BYTES = {
     "iso-8859-2": """
 0080 0081 0082 0083 0084 0085 0086 0087 0088 0089 008a 008b 008c 008d 008e 008f 0090 0091 0092 0093 0094 0095 0096

@@ -1,7 +1,8 @@
 """Compiles the lines of a keymap as loadkeys(1) of kbd does: tables of actions, strings and compose pairs.
 
 A part of tools/keymap.py. An action is a number as `loadkeys --mktable` prints it: below F000 a character of Unicode,
-from F000 on a type in the third digit and a value in the last two. Each entry keeps its place in the text.
+from F000 to FFFF a type in the second digit and a value in the last two. From 10000 on it is a character from F000 on, which
+loadkeys doesn't take. Each entry keeps its place in the text.
 """
 import collections
 
@@ -10,7 +11,7 @@ from kbd_text import KeymapError
 
 HOLE = 0xF200
 NARROWED = 'after charset "iso-8859-1" loadkeys puts another character here, that of the same byte in Latin-1'
-LATIN, META, LETTER = 0xF000, 0xF800, 0xFB00
+LATIN, META, LETTER, WIDE = 0xF000, 0xF800, 0xFB00, 0x10000
 PREFIXES = {"Meta_": META, "dead2_": 0xFD00}
 MODIFIERS = ["shift", "altgr", "control", "alt", "shiftl", "shiftr", "ctrll", "ctrlr", "capsshift"]
 ALT = 8
@@ -147,7 +148,7 @@ class Compiler:
         elif word.kind == "number":
             action = self.numbered(word.value)
         elif word.kind == "unicode":
-            action = word.value if word.value >= 0x80 else LATIN + word.value
+            action = word.value + (LATIN if word.value < 0x80 else 0 if word.value < LATIN else WIDE)
         if action is None:
             self.refuse(f"{spelled}: kbd has no such symbol")
         return (self.letter(action, word.kind) if is_letter else action), spelled
@@ -155,7 +156,7 @@ class Compiler:
     def letter(self, action, kind):
         """Returns the letter of a character; kbd has letters of Latin-1 alone, and leaves others as they are."""
         code = action & 0xFF
-        if action & 0xFF00 == LATIN:
+        if action & ~0xFF == LATIN:
             return LETTER + code
         if action < 0x100 and kind != "number":
             return LETTER + code
@@ -175,7 +176,7 @@ class Compiler:
             return
         self.maps[table][code] = entry
         other = table | ALT
-        is_ascii = entry.action & 0xFF00 in (LATIN, LETTER) and entry.action & 0xFF < 128
+        is_ascii = entry.action & ~0xFF in (LATIN, LETTER) and entry.action & 0xFF < 128
         if self.alt_is_meta and other != table and is_ascii and other in self.maps and code not in self.maps[other]:
             self.set(other, code, entry._replace(action=META + (entry.action & 0xFF)))
 
@@ -209,7 +210,7 @@ class Compiler:
         entries = []
         while words:
             action, name = self.symbol(words)
-            narrowed = self.narrow and 0xFF < action < 0xF000
+            narrowed = self.narrow and (0xFF < action < LATIN or action >= WIDE)
             entries.append(Entry(action, self.place, name, NARROWED if narrowed else ""))
         if table is None:
             self.whole_line(code, entries)
@@ -239,7 +240,7 @@ class Compiler:
             entry = self.maps[declared[0] if self.has_keymaps else 0].get(code)
             if not entry:
                 continue
-            value, is_letter = entry.action & 0xFF, entry.action & 0xFF00 in (LATIN, LETTER)
+            value, is_letter = entry.action & 0xFF, entry.action & ~0xFF in (LATIN, LETTER)
             is_letter = is_letter and chr(value).isascii() and chr(value).isalpha()
             for table in declared:
                 if is_letter and (table == 0 or code not in self.maps[table]):
@@ -252,7 +253,7 @@ class Compiler:
         if not words:
             self.refuse("string takes the name of a function key")
         action, name = self.symbol(words)
-        if action & 0xFF00 != 0xF100:
+        if action & ~0xFF != 0xF100:
             self.refuse(f"{name}: no function key")
         if len(words) != 2 or words[0].text != "=" or words[1].kind != "text":
             self.refuse("string takes a name, = and a text in double quotes")
@@ -269,9 +270,9 @@ class Compiler:
                 return self.wide_character(word)
             return self.byte(ord(word.value)), word.text
         action, name = self.symbol(words)
-        if action >= 0xF000 and action & 0xFF00 not in (LATIN, LETTER):
+        if LATIN <= action < WIDE and action & ~0xFF not in (LATIN, LETTER):
             self.refuse(f"{name}: no character")
-        return (action if action < 0xF000 else action & 0xFF), name
+        return (action & 0xFF if LATIN <= action < WIDE else action & 0xFFFF), name
 
     def wide_character(self, word):
         """Returns a character in quotes that is UTF-8, which kbd doesn't take."""
@@ -338,7 +339,7 @@ class Compiler:
             table |= weights[texts.pop(0)]
             words.pop(0)
         if not texts or texts[0] != "keycode":
-            self.refuse(f"{words[0].text if words else 'the end of the line'}: no line of a keymap goes so")
+            self.refuse(f"{words[0].text if words else 'the end of the line'}: a line of a keymap can't begin so")
         self.key(words[1:], table)
 
 

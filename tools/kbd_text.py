@@ -79,7 +79,7 @@ def words_of(text, path):
     while at < len(text):
         found = WORD.match(text, at)
         if not found:
-            raise KeymapError(path, line, f"{text[at : at + 12]!r}: no word of a keymap begins so")
+            raise KeymapError(path, line, f"{text[at : at + 12]!r}: a word of a keymap can't begin so")
         kind, part = found.lastgroup, found[0]
         at = found.end()
         if kind == "end":

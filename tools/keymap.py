@@ -72,8 +72,9 @@ SPECIALS = {
 
 def action_of(number):
     """Returns vt's kind and value of an action of kbd, or None if vt has none."""
-    if number < 0xF000:
-        return None if 0xD800 <= number < 0xE000 else (CHARACTER, number)
+    if number < kbd_tables.LATIN or number >= kbd_tables.WIDE:
+        code = number & 0xFFFF
+        return None if 0xD800 <= code < 0xE000 else (CHARACTER, code)
     kind, value = number >> 8 & 0xF, number & 0xFF
     if kind == SPECIAL:
         return SPECIALS.get(number)
@@ -86,7 +87,7 @@ def action_of(number):
 def reason_of(number):
     """Returns why vt has no place for an action of kbd."""
     if number < 0xF000:
-        return "half of a pair of UTF-16 is no character"
+        return "a surrogate is no character"
     return REASONS.get(number >> 8 & 0xF, "vt has no such action")
 
 
@@ -179,7 +180,7 @@ class Converter:
         self.entries = 0
 
     def lose(self, place, name, reason, entry):
-        """Lists an entry that vt has otherwise: a table and a keycode, a string and its key, or a pair and its number."""
+        """Lists an entry that differs in vt: a table and a keycode, a string and its key, or a pair and its number."""
         self.losses.append(Loss(place, name, reason, entry))
 
     def action(self, entry, table, code):
@@ -230,7 +231,7 @@ class Converter:
         for i, pair in enumerate(self.tables.pairs):
             codes = pair[:3]
             if any(0xD800 <= code < 0xE000 for code in codes):
-                self.lose(pair.place, pair.name, "half of a pair of UTF-16 is no character: left out", ("left out", i))
+                self.lose(pair.place, pair.name, "a surrogate is no character: left out", ("left out", i))
                 continue
             count += 1
             if count > PAIRS:
@@ -308,12 +309,12 @@ def group_of(name):
 
 
 def report(converted):
-    """Returns what the conversion has to say on err."""
+    """Returns the lines on err: what was lost, notes, and the numbers by name."""
     lines = [*losses_by_line(converted.losses), *converted.notes]
     counts = collections.Counter(group_of(loss.name) for loss in converted.losses)
     if counts:
         names = ", ".join(f"{name} {count}" for name, count in counts.most_common())
-        lines.append(f"keymap.py: {sum(counts.values())} of {converted.entries} entries are otherwise in vt: {names}")
+        lines.append(f"keymap.py: {sum(counts.values())} of {converted.entries} entries differ in vt: {names}")
     return "".join(line + "\n" for line in lines)
 
 

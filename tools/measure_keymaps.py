@@ -100,7 +100,7 @@ def figures(title, found):
     print(f"\n{title}: {len(found)} keymaps, {sum(verdict.entries for verdict in found)} entries that aren't holes")
     for word, what in [
         ("same", "same"),
-        ("lost", "same but for what was listed"),
+        ("lost", "same except for listed entries"),
         ("different", "different"),
         ("refused", "not compared"),
     ]:

@@ -153,7 +153,7 @@ def about_symbol(word):
         )
     number = kbd_tables.Compiler().named(name)
     if number is not None:
-        if plus and number >= 0xF000 and number & 0xFF00 not in (kbd_tables.LATIN, kbd_tables.LETTER):
+        if plus and number >= 0xF000 and number & ~0xFF not in (kbd_tables.LATIN, kbd_tables.LETTER):
             return f"+ stands before characters alone. {about_action(name, number)}"
         told = about_action(name, number)
         return told.replace("Write U+", "Write +U+") if plus else told
