@@ -6,8 +6,8 @@ usage: check_expect.py [--vt PATH] [--seconds S] [--damaged N] [--only KIND]
 The ten files hold, and wrong.test prints wrong.tap. Each file that isn't of the form is refused with its line;
 record.py ends with its status for each way in which a program can fail. Some hundreds of damaged files end with a
 status and a message, and never with a traceback. A file with 1,000 assertions over a stream of 1 MiB takes at most S
-seconds (5) of processor time. The commands of the guide print what it shows, if less is installed. Prints a line a
-kind and last 'N passed, M failed'; ends with status 1 if one fails.
+seconds (5) of processor time. The commands of the guide print what it shows, if less is installed, and the test files
+want what pyte shows, if that is. Prints a line a kind and last 'N passed, M failed'; ends with status 1 if one fails.
 """
 import argparse
 import json
@@ -27,6 +27,8 @@ ROOT = pathlib.Path(__file__).resolve().parent.parent
 TOOLS, TESTS = ROOT / "tools", ROOT / "examples/tests"
 GUIDE = ROOT / "docs/guide/test-a-terminal-program.md"
 SECONDS = 60
+# pyte draws vttest's frame otherwise than vttest's own text describes it.
+DRAWN_OTHERWISE = ["vttest.test:13: ?screen"]
 
 # Test files that are refused: the text, the line, and what the message has.
 REFUSED_TESTS = [
@@ -125,8 +127,8 @@ RUNS = [
 def run(words, folder=ROOT):
     """Runs a tool; nothing where it doesn't end."""
     try:
-        return subprocess.run(
-            [sys.executable, *map(str, words)], cwd=folder, capture_output=True, timeout=SECONDS, check=False)  # fmt: skip
+        words = [sys.executable, *map(str, words)]
+        return subprocess.run(words, cwd=folder, capture_output=True, timeout=SECONDS, check=False)
     except subprocess.TimeoutExpired:
         return None
 
@@ -164,6 +166,20 @@ def held(given):
     if not why and ran.stdout != (TESTS / "wrong.tap").read_bytes():
         why = ran.stdout.decode("utf-8", "replace")
     yield f"wrong.test: {why}" if why else None
+
+
+def judged():
+    """What the test files want is what pyte shows, except the screen that it draws otherwise; None without pyte."""
+    names = sorted(path.name for path in TESTS.glob("*.test"))
+    for python in (sys.executable, "/usr/bin/python3"):
+        words = [python, TOOLS / "judge_by_pyte.py", *names]
+        ran = subprocess.run(words, cwd=TESTS, capture_output=True, timeout=SECONDS, check=False)
+        if ran.returncode != 5:
+            break
+    else:
+        return None
+    differ = [line for line in ran.stdout.decode().splitlines()[:-1] if not line.startswith("wrong.test:")]
+    return [None if ran.returncode == 1 and differ == DRAWN_OTHERWISE else f"{differ} {ran.stderr.decode()}"]
 
 
 def refused(rows, name, words, status):
@@ -218,7 +234,7 @@ def casts():
 
 def damaged(given, count):
     """Damaged files of each kind: each run ends with a status of the tool's."""
-    cast = '{"version": 2, "width": 20, "height": 3}\n[0.1, "o", "hi \\u001b[1m"]\n[0.2, "r", "30x4"]\n[0.3, "o", "on"]\n'
+    cast = '{"version": 2, "width": 20, "height": 3}\n[0.1, "o", "hi \\u001b[1m"]\n[0.2, "r", "30x4"]\n'
     seeds = {
         "test": [path.read_bytes() for path in sorted(TESTS.glob("*.test"))],
         "keys": [path.read_bytes() for path in sorted(TESTS.glob("*.keys"))],
@@ -229,7 +245,7 @@ def damaged(given, count):
         "keys": lambda path: [TOOLS / "record.py", "3", "20", "--limit", "0.2", "--keys", path, "--", "cat"],
         "cast": lambda path: [TOOLS / "record.py", "--from-cast", path],
     }
-    pieces = [b'"', b"\\", b"=", b"|", b"?", b"x 9", b",", b"\n", b"\xff", b"\0", b"-1", b"9" * 11, b"[", b"}", b"U+", b"\\x{"]
+    pieces = [b'"', b"\\", b"=", b"|", b"?", b"x 9", b",", b"\n", b"\xff", b"\0", b"-1", b"9" * 11, b"[", b"U+", b"\\x{"]
     for i in range(count):
         rng = random.Random(f"damaged {i}")
         kind = ("test", "cast", "test", "keys")[i % 4]
@@ -314,13 +330,14 @@ def main():
         "damaged files": damaged(given, given.damaged),
         "1,000 assertions": large(given),
     }
-    if shutil.which("less"):
-        kinds["the guide"] = guided(given)
-    else:
-        print("the guide: left out, since less isn't there")
+    kinds["the guide"] = guided(given) if shutil.which("less") else None
+    kinds["judged by pyte"] = judged()
     passed = failed = 0
     for kind, results in kinds.items():
         if given.only not in (None, kind):
+            continue
+        if results is None:
+            print(f"{kind}: left out, since it isn't installed here")
             continue
         results = list(results)
         bad = [why for why in results if why]
