@@ -17,6 +17,7 @@ const STEP: usize = 4_096;
 pub fn make_room(alloc: Global, text: &mut Bytes, n: usize) -> Result<(), NoMemory>
     ensures bytes { text.new.bytes ≡ text.old.bytes }
     ensures ok { OnOk result (n ≤ text.new.room) }
+    ensures err { OnErr result (text.new ≡ text.old) }
 {
     if n <= text.room() {
         return Ok(());
@@ -29,6 +30,7 @@ pub fn make_room(alloc: Global, text: &mut Bytes, n: usize) -> Result<(), NoMemo
 fn take_room(alloc: Global, text: &mut Bytes, n: usize) -> Result<(), NoMemory>
     ensures bytes { text.new.bytes ≡ text.old.bytes }
     ensures ok { OnOk result (n ≤ text.new.room) }
+    ensures err { OnErr result (text.new ≡ text.old) }
 {
     text.grow(alloc, n.max(STEP))
 }
@@ -38,6 +40,7 @@ fn take_room(alloc: Global, text: &mut Bytes, n: usize) -> Result<(), NoMemory>
 pub fn add(alloc: Global, text: &mut Bytes, b: &[u8]) -> Result<(), NoMemory>
     ensures ok { OnOk result (text.new.bytes ≡ text.old.bytes ++ b.now) }
     ensures err { OnErr result (text.new.bytes ≡ text.old.bytes) }
+    ensures room { OnErr result (text.new.room ≡ text.old.room) }
 {
     make_room(alloc, text, b.len())?;
     text.append(b);
@@ -57,6 +60,7 @@ pub fn add_number(alloc: Global, text: &mut Bytes, n: u64) -> Result<(), NoMemor
 pub fn add_word(alloc: Global, text: &mut Bytes, word: &[u8]) -> Result<(), NoMemory>
     ensures ok { OnOk result (text.new.bytes ≡ text.old.bytes ++ 0x20 ∷ word.now) }
     ensures err { OnErr result (text.new.bytes ≡ text.old.bytes) }
+    ensures room { OnErr result (text.new.room ≡ text.old.room) }
 {
     make_room(alloc, text, 1 + word.len())?;
     text.push(b' ');
@@ -76,6 +80,7 @@ pub fn add_end(alloc: Global, text: &mut Bytes) -> Result<(), NoMemory>
 pub fn add_next(alloc: Global, text: &mut Bytes, n: u64) -> Result<(), NoMemory>
     ensures ok { OnOk result (text.new.bytes ≡ text.old.bytes ++ 0x20 ∷ decimal n) }
     ensures err { OnErr result (text.new.bytes ≡ text.old.bytes) }
+    ensures room { OnErr result (text.new.room ≡ text.old.room) }
 {
     if n < 10 {
         return add(alloc, text, &[b' ', b'0' + n as u8]);
@@ -105,6 +110,7 @@ pub fn add_next(alloc: Global, text: &mut Bytes, n: u64) -> Result<(), NoMemory>
 fn add_long(alloc: Global, text: &mut Bytes, n: u64) -> Result<(), NoMemory>
     ensures ok { OnOk result (text.new.bytes ≡ text.old.bytes ++ 0x20 ∷ decimal n) }
     ensures err { OnErr result (text.new.bytes ≡ text.old.bytes) }
+    ensures room { OnErr result (text.new.room ≡ text.old.room) }
 {
     let mut buffer = Buffer::new();
     add_word(alloc, text, buffer.format(n).as_bytes())

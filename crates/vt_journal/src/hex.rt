@@ -11,6 +11,7 @@ use vt_base::{Bytes, NoMemory};
 pub fn add_hex(alloc: Global, text: &mut Bytes, b: &[u8]) -> Result<(), NoMemory>
     ensures ok { OnOk result (text.new.bytes ≡ text.old.bytes ++ hex_text b.now) }
     ensures err { OnErr result (text.new.bytes ≡ text.old.bytes) }
+    ensures room { OnErr result (text.new.room ≡ text.old.room) }
 {
     if b.is_empty() {
         return add(alloc, text, b"-");

@@ -10,7 +10,7 @@ ghost use Rattle.vt_journal.specs.Says.{IsFitEntry, IsFitTail};
 ghost use Rattle.vt_journal.specs.Text.{Begins, spaced};
 ghost use Rattle.vt_journal.specs.Words.{IsFit, event_words, held_words, reply_words};
 
-use crate::adding::{add, add_bytes, add_end, add_named, add_next};
+use crate::adding::{add, add_bytes, add_end, add_named, add_next, make_room};
 use crate::callers::add_caller;
 use crate::parts::Parts;
 use crate::{Full, Tail};
@@ -19,7 +19,7 @@ use vt_base::{Bytes, NoMemory};
 use vt_events::{Entry, Event, Reply};
 
 /// Adds the journal text, in that version, of the entries and of how they end. What is printed is fit to
-/// be read again.
+/// be read again. It is made as a text of its own, so that without memory the lent one is unchanged, its room too.
 pub fn print(
     alloc: Global,
     entries: &[Entry],
@@ -31,16 +31,20 @@ pub fn print(
     requires callers { version ≡ 1 → All (λ entry. entry.caller ≤ processes) entries.now }
     ensures ok { OnOk result
         (rest.new.bytes ≡ rest.old.bytes ++ journal_text version entries.now end.now) }
-    ensures err { OnErr result (rest.new.bytes ≡ rest.old.bytes) }
+    ensures err { OnErr result (rest.new ≡ rest.old) }
     ensures fit { OnOk result (All (IsFitEntry version) (map plain_entry entries.now)) }
     ensures end { OnOk result (IsFitTail end.now) }
 {
-    let before = rest.as_slice().len();
-    let added = add_lines(alloc, entries, version, end, rest);
-    if added.is_err() {
-        rest.truncate(before);
+    let mut text = Bytes::new(alloc);
+    add_lines(alloc, entries, version, end, &mut text)?;
+    if rest.as_slice().is_empty() {
+        // It holds nothing that would have to be copied.
+        *rest = text;
+        return Ok(());
     }
-    added
+    make_room(alloc, rest, text.as_slice().len())?;
+    rest.append(text.as_slice());
+    Ok(())
 }
 
 fn add_lines(
