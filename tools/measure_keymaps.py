@@ -48,8 +48,9 @@ def versions():
 
 def layouts():
     """Returns the layouts of X's list."""
-    part = re.search(r"^! layout\n(.*?)^!", LAYOUTS.read_text(encoding="utf-8"), re.M | re.S)[1]
-    return [line.split()[0] for line in part.splitlines() if line.strip() and line.split()[0] != "custom"]
+    part = re.search(r"^! layout\n(.*?)^!", LAYOUTS.read_text(encoding="utf-8"), re.M | re.S)
+    lines = part[1].splitlines() if part else []
+    return [line.split()[0] for line in lines if line.strip() and line.split()[0] != "custom"]
 
 
 def written_by_ckbcomp(names, folder):
