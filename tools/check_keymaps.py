@@ -15,6 +15,7 @@ It needs neither kbd nor its keymaps. Prints a line for each fault and last 'N p
 """
 import argparse
 import gzip
+import itertools
 import pathlib
 import random
 import re
@@ -63,6 +64,23 @@ EXPLAINED = [
     ('include "pc"\n', ["tools/keymap.py"]),
     ("capsshift keycode 3 = a\n", ["vt has eight"]),
     ("keycode 30 = a\nkeymaps 0\n", ["put all keymaps lines in front"]),
+]
+
+# Keymaps, and the entries that vt lists of the converted ones, as loadkeys makes them: table, keycode, kind, value.
+MADE = [
+    ("keymaps 0-1\nkeycode 3 = U+FDFC U+00FF\n", "0 3 1 65020, 1 3 1 255"),
+    ('charset "iso-8859-2"\nkeymaps 0-2\nkeycode 3 = 0xb1 +aogonek +adiaeresis\n', "0 3 1 261, 1 3 1 261, 2 3 2 228"),
+    ('charset "iso-8859-7"\nkeymaps 0-1\nkeycode 3 = mu 0xec\n', "0 3 1 956, 1 3 1 956"),
+    ("keymaps 0-2\nkeycode 3 = 0x0d22 0x0305 dead_caron\n", "0 3 7 4, 1 3 5 5, 2 3 7 2"),
+    ("keymaps 0-2\nkeycode 3 = AltL dead2_quotedbl Spawn_Console\n", "0 3 8 3, 1 3 7 4, 2 3 12 8"),
+    ("keymaps 0,5,8,16\nkeycode 3 = a\n", "0 3 2 97, 5 3 1 1, 8 3 3 97, 16 3 2 97"),
+    ("keymaps 0-1\nkeycode 3 = F1\nkeycode 3 = one two\n", "0 3 1 49, 1 3 1 50"),
+    ("keymaps 0-1\nkeycode 4 = F1 F2\nkeycode 4 = F3\n", "0 4 4 2, 1 4 4 2"),
+    ("keymaps 0,8\nkeycode 3 = Tab VoidSymbol\nalt_is_meta\nkeycode 4 = Tab\n", "0 3 1 9, 0 4 1 9, 8 4 3 9"),
+    (
+        "keycode 3 = one two\nshiftl keycode 3=F9\nkeycode 4 = F1\n",
+        "0 3 1 49, 0 4 4 0, 1 3 1 50, 1 4 4 0, 16 3 4 8, 16 4 4 0",
+    ),
 ]
 
 # Keymaps of which something is lost: the text, and the parts of the line that lists it.
@@ -186,6 +204,14 @@ def program_faults(count):
         yield None if is_right else f"program {i}: ended with {ran.returncode}: {ran.stderr[-200:]!r}"
 
 
+def made_faults(program):
+    """Gives a fault, or None, for each keymap that has to give certain entries."""
+    for text, wanted in MADE:
+        printed = compare_keymap.run([program, "keys"], keymap.convert("text", text=text).text.encode())
+        found = ", ".join(line.removeprefix("map ") for line in printed.splitlines() if line.startswith("map "))
+        yield None if found == wanted else f"{text!r}: made {found}, and not {wanted}"
+
+
 def lost_faults():
     """Gives a fault, or None, for each keymap of which something is lost."""
     for text, parts in LOST:
@@ -273,16 +299,21 @@ def main():
     groups = [
         example_faults(asked.vt),
         name_faults(),
+        made_faults(asked.vt),
         lost_faults(),
         refused_faults(),
         why_faults(asked.vt),
         page_faults(),
     ]
-    for group in [*groups, program_faults(asked.count // 20), damage_faults(asked.vt, asked.count)]:
-        for fault in group:
+    groups += [program_faults(asked.count // 20), damage_faults(asked.vt, asked.count)]
+    try:
+        for fault in itertools.chain.from_iterable(groups):
             passed, failed = passed + (not fault), failed + bool(fault)
             if fault:
                 print(fault)
+    except (KeymapError, compare_keymap.ProgramError, OSError, subprocess.TimeoutExpired) as error:
+        print(f"the check ended early: {error}")
+        failed += 1
     print(f"{passed} passed, {failed} failed")
     return 1 if failed or not passed else 0
 

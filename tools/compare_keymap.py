@@ -74,6 +74,14 @@ def kbd_tables_of(text, path=None):
     """Returns what loadkeys makes of a text, or of a file."""
     words = ["loadkeys", "-u", "--mktable", *([str(path)] if path else [])]
     printed = run(words, None if path else text)
+    try:
+        return tables_in(printed)
+    except (TypeError, ValueError, KeyError) as error:
+        raise ProgramError("loadkeys prints tables in a form that this tool doesn't know") from error
+
+
+def tables_in(printed):
+    """Returns the tables, strings and pairs that `loadkeys --mktable` prints."""
     arrays = {
         name: [int(number, 16) for number in re.findall(r"0x[0-9a-f]+", numbers)]
         for name, numbers in re.findall(r"short (\w+)\[NR_KEYS\] = \{(.*?)\}", printed, re.S)

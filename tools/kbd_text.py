@@ -26,7 +26,7 @@ WORD = re.compile(
     r"""(?P<join>\\\r?\n)|(?P<end>\r?\n)|(?P<blank>[ \t]+)|(?P<comment>[!#][^\n]*)
     |(?P<unicode>U\+[0-9a-fA-F]{4,})|(?P<number>0[xX][0-9a-fA-F]+|[0-9]+)
     |(?P<name>[aA][lL][tT][-_][iI][sS][-_][mM][eE][tT][aA]|[A-Za-z][A-Za-z0-9_]*)
-    |(?P<text>"(?:[^"\\]|\\.)*")|(?P<character>'(?:\\[0-7]{1,3}|\\.|[^'\\\n]+|')')|(?P<sign>[=+,-])""",
+    |(?P<text>"(?:[^"\\]|\\.)*")|(?P<character>'(?:\\[0-7]{1,3}|\\.|[^'\\\n]+|'|\\)')|(?P<sign>[=+,-])""",
     re.X | re.S,
 )
 ESCAPE = re.compile(r"\\([0-7]{1,3}|.)", re.S)

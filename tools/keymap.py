@@ -163,7 +163,7 @@ def key_lines(code, column, tables):
 
 def quoted(text):
     """Returns bytes as a quoted text of a keymap."""
-    return "".join(chr(c) if 32 <= c < 127 and c not in b'"\\' else f"\\{c:03o}" for c in text)
+    return "".join(chr(c) if 32 <= c < 127 and c not in b"\"'\\" else f"\\{c:03o}" for c in text)
 
 
 def spelled(code):

@@ -79,7 +79,8 @@ def wrapped(words):
     return "\n".join(lines)
 
 
-def main():
+def write():
+    """Writes the module."""
     names = known_names()
     plain = meanings(names, "")
     characters = {name: number for name, number in plain.items() if number < 0xF000}
@@ -105,6 +106,14 @@ def main():
         found = bytes_of(charset)
         print(f'    "{charset}": """\n' + wrapped(f"{number:04x}" for number in found) + '\n""",')
     print("}")
+
+
+def main():
+    try:
+        write()
+    except (OSError, TypeError) as error:
+        sys.stderr.write(f"list_kbd_names.py: loadkeys and dumpkeys don't answer as those of kbd 2.5.1: {error}\n")
+        return 1
     return 0
 
 

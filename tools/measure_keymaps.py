@@ -48,8 +48,9 @@ def versions():
 
 def layouts():
     """Returns the layouts of X's list."""
-    part = re.search(r"^! layout\n(.*?)^!", LAYOUTS.read_text(encoding="utf-8"), re.M | re.S)[1]
-    return [line.split()[0] for line in part.splitlines() if line.strip() and line.split()[0] != "custom"]
+    part = re.search(r"^! layout\n(.*?)^!", LAYOUTS.read_text(encoding="utf-8"), re.M | re.S)
+    lines = part[1].splitlines() if part else []
+    return [line.split()[0] for line in lines if line.strip() and line.split()[0] != "custom"]
 
 
 def written_by_ckbcomp(names, folder):
@@ -69,7 +70,7 @@ def composed(folder):
     for file in sorted(KEYMAPS.glob("**/*compose.*.inc.gz")):
         name = file.name.removesuffix(".inc.gz")
         kind = name.partition(".")[2].replace("8859_", "latin").removeprefix("latin") or "1"
-        path = pathlib.Path(folder) / name
+        path = pathlib.Path(folder) / f"with {name}"
         path.write_text(f'charset "iso-8859-{kind}"\nkeymaps 0\nkeycode 3 = a\ninclude "{name}"\n')
         yield path
 
@@ -92,6 +93,11 @@ def verdicts(judge, paths, jobs):
             print(f"{path}: {line}", flush=True)
         found.append(verdict)
     return found
+
+
+def is_taken_by_both(verdict):
+    """Returns whether the converter and loadkeys both take a keymap as it stands."""
+    return verdict.word != "refused" and "(loadkeys" not in verdict.line
 
 
 def figures(title, found):
@@ -136,7 +142,7 @@ def main():
         paths = sorted(KEYMAPS.glob("**/*.kmap.gz"))
         print(f"{datetime.date.today()}: {versions()}", flush=True)
         found = figures("kbd and console-data", verdicts(judge, paths, asked.jobs))
-        taken = [path for path, verdict in zip(paths, found, strict=True) if verdict.word != "refused"]
+        taken = [path for path, verdict in zip(paths, found, strict=True) if is_taken_by_both(verdict)]
         taken = taken[:: max(1, len(taken) // BACK)][:BACK]
         found += figures("dumps read by loadkeys", verdicts(judge_back, taken, asked.jobs))
         with tempfile.TemporaryDirectory() as folder:
