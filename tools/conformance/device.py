@@ -1,6 +1,7 @@
 """The real Linux console: a case is written to /dev/ttyN and read from /dev/vcsaN and /dev/vcsuN, as root."""
 import fcntl
 import os
+import re
 import select
 import struct
 import termios
@@ -15,6 +16,10 @@ VT_DISALLOCATE = 0x5608
 WAIT = 0.05
 
 
+# Sequences that change more of the machine than their console: the blanking of all of them, and which is in front.
+MACHINE_WIDE = re.compile(rb"\x1b\[(9|12|13|14|15)(;[0-9]*)*\]")
+
+
 class Device:
     """A console that isn't in front: each case gets it anew, in its own size."""
 
@@ -25,14 +30,16 @@ class Device:
             raise Fault(f"{self.name}: root was wanted, who may write to a console that isn't the user's own")
         for path in ("/dev/tty0", self.path("tty"), self.path("vcsa"), self.path("vcsu")):
             if not os.path.exists(path):
-                raise Fault(f"{self.name}: {path} was wanted, and there is none")
+                raise Fault(f"{self.name}: {path} was wanted, and there is none: the console has to be allocated before")
 
     def path(self, kind):
         """The file of this console."""
         return f"/dev/{kind}{self.number}"
 
     def ask(self, case):
-        """What stands after one case: all but the bells."""
+        """What stands after one case: all but the bells, and nothing of a case that would change the machine."""
+        if MACHINE_WIDE.search(case.data):
+            return {}
         try:
             return self.answer(case)
         except (OSError, termios.error) as fault:
