@@ -34,7 +34,7 @@ abbrev core_of : Display → List Bool → Core
 core_of display live = record { display = display; live = live }
 
 -- another at the place of p, who lives if p did
-with_kept : (callers : Callers) (p : ℕ) (new : Process) → new.live ≡ (caller_at callers p).live
+pub with_kept : (callers : Callers) (p : ℕ) (new : Process) → new.live ≡ (caller_at callers p).live
     → lives (with_caller callers p new) ≡ lives callers
 with_kept callers p new same =
     map-set_same (λ (caller : Process). caller.live) callers.list p new no_caller same
@@ -43,14 +43,14 @@ with_kept callers p new same =
 abbrev all_waiting : (Waiting → Waiting) → List Process → List Process
 all_waiting ends list = map (λ (process : Process). with_waiting process (ends process.waiting)) list
 
-waiting_kept : (ends : Waiting → Waiting) (list : List Process)
+pub waiting_kept : (ends : Waiting → Waiting) (list : List Process)
     → map (λ (caller : Process). caller.live) (all_waiting ends list)
     ≡ map (λ (caller : Process). caller.live) list
 waiting_kept ends [] = refl
 waiting_kept ends (process ∷ list) =
     ap (λ (live : List Bool). process.live ∷ live) (waiting_kept ends list)
 
-filled_kept : (b : Bool) (n : ℕ) (callers : Callers)
+pub filled_kept : (b : Bool) (n : ℕ) (callers : Callers)
     → lives (cond b (filled n callers) callers) ≡ lives callers
 filled_kept true n callers = waiting_kept (succeeded (is_for_input n)) callers.list
 filled_kept false n callers = refl
@@ -76,7 +76,7 @@ abbrev all_lives_after : List Mark → List Bool → List Bool
 all_lives_after [] live = live
 all_lives_after (m ∷ told) live = all_lives_after told (lives_after m live)
 
-hears : (m : Mark) (callers : Callers) → lives (heard_by m callers) ≡ lives_after m (lives callers)
+pub hears : (m : Mark) (callers : Callers) → lives (heard_by m callers) ≡ lives_after m (lives callers)
 hears (mark.Asked n) callers = refl
 hears (mark.Raised p signal) callers =
     with_kept callers p (signalled (caller_at callers p) signal) refl

@@ -1,16 +1,13 @@
 -- The display law of histories from a start.
-use Rattle.std.proofs.Common.{◌≡◌, ℕ, Bool, true, false, true≢false, cond, List, [], ◌∷◌, length, map, get_or, zero, suc, Option, Some, None, is_some, refl, sym, ap, subst, subst₂, ◌∙◌}
-use Rattle.std.specs.List.{range_with_len}
-use Rattle.vt_base.specs.ConsoleSet.{is_among}
+use Rattle.std.proofs.Common.{◌≡◌, ℕ, true, false, List, [], ◌∷◌, length, suc, None, refl, sym, ap, subst, subst₂, ◌∙◌}
 use Rattle.vt_events.specs.declared.entry.Entry.{Entry}
 use Rattle.vt_events.specs.declared.event.Event.{Event}
 use Rattle.vt_procs.specs.Tickets.{settled}
-use Rattle.vt_procs.specs.declared.proc_start.ProcStart.{ProcStart}
-use Rattle.vt_switch.specs.Display.{fresh, or_fresh, owner_of}
+use Rattle.vt_procs.specs.Callers.{callers_of}
 use Rattle.vt_switch.specs.Law.{AllOrdered, DisplayLaw, IsExplained, OwnersLive, OwnersStayLive, TargetLaw}
 use Rattle.vt_switch.specs.Moments.{Core, after_entries, all_after, is_ordered}
-use Rattle.vt_switch.specs.declared.console.Console.{Console}
 use Rattle.vt_world.proofs.Cores.{deeds_core, same_core, settled_kept}
+use Rattle.vt_world.proofs.Owners.{first-owners}
 use Rattle.vt_world.proofs.Orders.{acts_ordered, row_ordered}
 use Rattle.vt_world.proofs.Steps.{by_step}
 use Rattle.vt_world.specs.Acts.{all_acts, event_acts, history_acts}
@@ -19,10 +16,8 @@ use Rattle.vt_world.specs.Heard.{cleared}
 use Rattle.vt_world.specs.History.{replay}
 use Rattle.vt_world.specs.Laws.{ActsMakeCores, DisplaysAreLawful, DisplaysAreLawfulFrom, IsStart, OwnersAreLive, TargetsAreExplained, moments}
 use Rattle.vt_world.specs.Rows.{row}
-use Rattle.vt_world.specs.Start.{opening}
 use Rattle.vt_world.specs.State.{WorldState, core}
 use Rattle.vt_world.specs.Step.{Outcome, step}
-use Rattle.key_tables.specs.Tables.{Tables}
 
 pub acts-make-cores : ActsMakeCores
 acts-make-cores w p e =
@@ -66,44 +61,22 @@ acts_length w [] = refl
 acts_length w (entry ∷ entries) =
     ap suc (acts_length (step w entry.caller entry.event).world entries)
 
--- at a start every console is fresh
-fresh_if : (b : Bool) → or_fresh (cond b (Some fresh) None) ≡ fresh
-fresh_if true = refl
-fresh_if false = refl
-
-all_fresh : (consoles : ℕ) (numbers : List ℕ) (c : ℕ)
-    → or_fresh (get_or (map (λ n. cond (is_among consoles n) (Some fresh) None) numbers) c None)
-    ≡ fresh
-all_fresh consoles [] c = refl
-all_fresh consoles (n ∷ numbers) zero = fresh_if (is_among consoles n)
-all_fresh consoles (n ∷ numbers) (suc c) = all_fresh consoles numbers c
-
-nobody : {X : Type 0} (p : ℕ) → None ≡ Some p → X
-nobody p same = absurd (true≢false (sym (ap (λ (o : Option ℕ). is_some o) same)))
-
-opening_owners : (rows cols consoles front keyboards : ℕ) (processes : List ProcStart) (tables : Tables)
-    → OwnersLive (core (opening rows cols consoles front keyboards processes tables))
-opening_owners rows cols consoles front keyboards processes tables c p owned =
-    nobody p
-    (sym (ap (λ (place : Console). owner_of place.handling)
-    (all_fresh consoles (range_with_len 0 64) c))
-    ∙ owned)
-
 start_owners : (w : WorldState) → IsStart w → OwnersLive (core w)
 start_owners w start =
     subst (λ (x : WorldState). OwnersLive (core x)) (sym start.opened)
-    (opening_owners start.rows start.cols start.consoles start.front start.keyboards start.processes start.tables)
+    (first-owners start.consoles start.front (callers_of start.keyboards start.processes))
 
 nothing_waits : (w : WorldState) → IsStart w → w.display.pending ≡ None
 nothing_waits w start = ap (λ (x : WorldState). x.display.pending) start.opened
 
-pub displays-are-lawful-from : DisplayLaw → DisplaysAreLawfulFrom
-displays-are-lawful-from law w entries owners nothing =
+pub displays-are-lawful-from : DisplayLaw → (w : WorldState) → OwnersLive (core w)
+    → DisplaysAreLawfulFrom w
+displays-are-lawful-from law w owners nothing entries =
     law (core w) (history_acts w entries) owners nothing (history_ordered w entries)
 
 pub displays-are-lawful : DisplayLaw → DisplaysAreLawful
 displays-are-lawful law w entries start =
-    displays-are-lawful-from law w entries (start_owners w start) (nothing_waits w start)
+    displays-are-lawful-from law w (start_owners w start) (nothing_waits w start) entries
 
 pub targets-are-explained : TargetLaw → TargetsAreExplained
 targets-are-explained law w entries start =

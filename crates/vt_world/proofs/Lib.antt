@@ -12,6 +12,7 @@ mod Masks
 mod Moments
 mod Opening
 mod Orders
+mod Owners
 mod Places
 mod Quiet
 mod Refused

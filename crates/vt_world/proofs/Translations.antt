@@ -1,5 +1,5 @@
 -- All keyboards have one translation.
-use Rattle.std.proofs.Common.{◌≡◌, ◌⊎◌, ℕ, zero, suc, Bool, true, false, inl, inr, ⊎_elim, List, [], ◌∷◌, ◌++◌, flat_map, map, replicate, filter, Option, Some, None, refl, sym, ap, ◌∙◌, subst}
+use Rattle.std.proofs.Common.{◌≡◌, ℕ, zero, suc, Bool, true, false, List, [], ◌∷◌, ◌++◌, flat_map, map, filter, Option, Some, None, refl, sym, ap, ◌∙◌, subst}
 use Rattle.std.proofs.lemmas.Bool.{and_from, and_parts, false≢true}
 use Rattle.std.proofs.lemmas.List.Folds.{list_all-append}
 use Rattle.std.specs.List.{list_all, range_with_len}
@@ -30,7 +30,7 @@ use Rattle.vt_world.specs.State.{WorldState, core}
 use Rattle.vt_world.specs.Step.{Outcome, step}
 use Rattle.vt_world.specs.StepLaws.{IsOneTranslation, OneTranslation, translations}
 use Rattle.vt_world.specs.Terminals.{said_of, terminal_at}
-use Rattle.vt_world.specs.Typing.{ends_of, key_deeds, key_on, key_out_deeds, read_by, read_deeds, scan_deeds, scanner_of, sent, spawn_deeds, users}
+use Rattle.vt_world.specs.Typing.{ends_of, key_deeds, key_on, key_out_deeds, read_by, read_deeds, scanner_of, sent, spawn_deeds, users}
 use Rattle.vt_world.specs.Wanted.{wanted_in}
 
 -- most deeds leave the scanners

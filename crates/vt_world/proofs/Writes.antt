@@ -1,8 +1,10 @@
 -- A text that is run on a console piece by piece.
-use Rattle.std.proofs.Common.{◌≡◌, ℕ, zero, suc, List, [], ◌∷◌, ◌++◌, length, get_or, set, Option, Some, None, true, leb, refl, sym, ap, ◌∙◌, append-nil}
+use Rattle.std.proofs.Common.{◌≡◌, ◌≤◌, ℕ, zero, suc, ◌+◌, ◌*◌, cond, take, arith, List, [], ◌∷◌, ◌++◌, length, get_or, set, Option, Some, None, true, leb, refl, sym, ap, ◌∙◌, append-nil}
 use Rattle.std.proofs.lemmas.Grind.{flat_map-append}
+use Rattle.std.proofs.lemmas.List.Sums.{sum_by-append, sum_by-take-le}
 use Rattle.std.specs.List.{flat_map}
 use Rattle.std.specs.Prelude.{Ok, option_map}
+use Rattle.vt_screen.specs.Asking.{RequestsAreFew, asks, requests}
 use Rattle.vt_screen.specs.Run.{AnyCut, said}
 use Rattle.vt_screen.specs.declared.out.Out.{Out}
 use Rattle.vt_screen.specs.declared.out.Out.TheVariants as outs
@@ -158,6 +160,38 @@ ran-append law w c a b =
     ∙ heard-append c said_a said_b (done drawn (Own (Writes c b)))
     ∙ (λ i. heard c (said-append law c a b w.terminals i)
     (record w { terminals = written-append law c a b w.terminals i }))
+
+-- what two texts ask for, and no more, is asked for by both together
+requests-append : (xs ys : List Out) → requests (xs ++ ys) ≡ requests xs + requests ys
+requests-append xs ys = sum_by-append (λ (o : Out). cond (asks o) 1 0) xs ys
+
+-- what a text asks for behind another one, the whole asks for
+pub ran-asks : AnyCut → (w : WorldState) (c : ℕ) (a b : List ℕ)
+    → requests (said_of (terminal_at w.terminals c) a)
+    + requests (said_of (terminal_at (ran w c a).terminals c) b)
+    ≡ requests (said_of (terminal_at w.terminals c) (a ++ b))
+ran-asks law w c a b =
+    let drawn : WorldState = done w (Own (Writes c a)) in
+    let said_a : List Out = said_of (terminal_at w.terminals c) a in
+    ap (λ ts. requests said_a + requests (said_of (terminal_at ts c) b))
+    (heard-terminals c said_a drawn)
+    ∙ sym (requests-append said_a (said_of (terminal_at drawn.terminals c) b))
+    ∙ ap requests (said-append law c a b w.terminals)
+
+-- a text asks for few consoles, where it is written to one that has a terminal or to one that hasn't
+pub asks-few : RequestsAreFew → (o : Option TerminalState) (bytes : List ℕ)
+    → 4 * requests (said_of o bytes) ≤ length bytes + 3
+asks-few law None bytes = omega arith
+asks-few law (Some t) bytes = law t.machine bytes
+
+-- the first of several things that are said ask for no more than all
+pub front-asks : (i : ℕ) (all : List Out) → requests (take i all) ≤ requests all
+front-asks i all = sum_by-take-le (λ (o : Out). cond (asks o) 1 0) all i
+
+-- one thing more is said
+pub one-more-asks : (xs : List Out) (x : Out)
+    → requests (xs ++ x ∷ []) ≡ requests xs + requests (x ∷ [])
+one-more-asks xs x = requests-append xs (x ∷ [])
 
 -- a write that isn't refused
 pub write-has : (w : WorldState) (p fd : ℕ) (b : Text) (c : ℕ) (text : List ℕ) (w' : WorldState)

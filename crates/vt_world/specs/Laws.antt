@@ -57,12 +57,10 @@ abbrev pub DisplaysAreLawful : Type 0
 DisplaysAreLawful =
     (w : WorldState) (entries : List Entry) → IsStart w → IsLawful (moments w entries)
 
--- and so in every history from a console on which whoever handles switches lives, and nothing waits
--- for the display
-abbrev pub DisplaysAreLawfulFrom : Type 0
-DisplaysAreLawfulFrom =
-    (w : WorldState) (entries : List Entry) → OwnersLive (core w) → w.display.pending ≡ None
-    → IsLawful (moments w entries)
+-- and so in every history from this console, if nothing waits for the display there
+abbrev pub DisplaysAreLawfulFrom : WorldState → Type 0
+DisplaysAreLawfulFrom w =
+    w.display.pending ≡ None → (entries : List Entry) → IsLawful (moments w entries)
 
 -- what waits for the display after a history from a start was asked for in it
 abbrev pub TargetsAreExplained : Type 0

@@ -3,6 +3,7 @@ use Rattle.std.specs.Prelude.{◌≡◌, ℕ, Bool, List, Option, is_some, map}
 use Rattle.vt_procs.specs.Callers.{Callers, caller_at}
 use Rattle.vt_procs.specs.Tickets.{is_open}
 use Rattle.vt_switch.specs.Display.{Display}
+use Rattle.vt_switch.specs.Law.{OwnersLive}
 use Rattle.vt_switch.specs.Moments.{Core}
 use Rattle.vt_switch.specs.declared.mark.Mark.{Mark}
 use Rattle.vt_world.specs.Terminals.{TerminalState}
@@ -28,8 +29,11 @@ pub record WorldState : Type 0 where
   pub trace : Trace
 
 -- the display, and which callers live
+abbrev pub core_of : Display → Callers → Core
+core_of d callers = record { display = d; live = map (λ caller. caller.live) callers.list }
+
 abbrev pub core : WorldState → Core
-core w = record { display = w.display; live = map (λ caller. caller.live) w.callers.list }
+core w = core_of w.display w.callers
 
 -- p has a ticket that is open
 abbrev pub is_waiting : WorldState → ℕ → Bool
@@ -41,3 +45,9 @@ AreAllocated terminals d = map is_some terminals ≡ map is_some d.consoles
 
 abbrev pub HasTerminals : WorldState → Type 0
 HasTerminals w = AreAllocated w.terminals w.display
+
+-- what holds of a world at every time: the consoles that have a terminal are those that are
+-- allocated, and whoever handles the switches of a console lives
+pub record IsWorld (terminals : List (Option TerminalState)) (d : Display) (callers : Callers) : Type 0 where
+  pub alike : AreAllocated terminals d
+  pub owners : OwnersLive (core_of d callers)

@@ -4,6 +4,7 @@ ghost use Rattle.vt_world.specs.Laws.{ActsAreCalls, ActsMakeCores, DisplaysAreLa
 ghost use Rattle.vt_world.specs.RefusalLaws.{BrokenWaitsAreTaken, LaterAnswersStay, RefusalsCanGo, RefusalsChangeNothing};
 ghost use Rattle.vt_world.specs.StepLaws.{NobodyWaitsAtStart, OneTranslation, SizesStay, TerminalsStay, TicketsAreCalled};
 
+use crate::World;
 use vt_screen::tapes_run;
 use vt_switch::{each_hop_was_allowed, each_target_was_asked_for};
 
@@ -29,11 +30,13 @@ pub fn displays_are_lawful()
     each_target_was_asked_for();
 }
 
-/// Why the display changed hands in every history from a console that needs not be a start.
-pub fn displays_are_lawful_from()
-    ensures { DisplaysAreLawfulFrom }
+/// Why the display changed hands in every history from a console that needs not be a start, if nothing
+/// waits for the display there.
+pub fn displays_are_lawful_from(w: &World)
+    ensures { DisplaysAreLawfulFrom w.now }
 {
     each_hop_was_allowed();
+    w.owners_live();
 }
 
 /// What the traces of a history tell of the display, who is asked and where it goes, and how the

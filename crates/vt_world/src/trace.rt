@@ -6,9 +6,12 @@ use std::marker::Model;
 use vt_base::NoMemory;
 use vt_switch::Mark;
 
-/// The room for the marks of one event: each byte of a write asks for at most one console, and a
+/// The room for marks that is taken at the start.
+const TRACE_ROOM: usize = 4_096;
+
+/// The most marks of one event: a write asks for at most 1,024 consoles, once in four bytes, and a
 /// request makes at most three marks.
-pub(crate) const TRACE_MARKS: usize = 12_288;
+pub(crate) const MOST_MARKS: usize = 3_072;
 
 /// What the last event told, and how often the display switched since the start.
 #[derive(Drop)]
@@ -25,7 +28,7 @@ impl Model for Trace {
 
     ghost view = { λ t. record { marks = t.marks.items; hops = t.hops } };
 
-    ghost invariant = { λ t. (12288 ≤ vec_capacity t.marks) × (vec_len t.marks ≤ 12288) };
+    ghost invariant = { λ t. (4096 ≤ vec_capacity t.marks) × (vec_len t.marks ≤ 3072) };
 }
 
 impl Trace {
@@ -34,7 +37,7 @@ impl Trace {
         ensures marks { IfOk result (λ trace. trace.marks ≡ []) }
         ensures hops { IfOk result (λ trace. trace.hops ≡ 0) }
     {
-        let marks = Vec::with_capacity(alloc, TRACE_MARKS)?;
+        let marks = Vec::with_capacity(alloc, TRACE_ROOM)?;
         Ok(Trace { marks, hops: 0 })
     }
 
@@ -48,7 +51,7 @@ impl Trace {
 
     /// Tells a mark.
     pub(crate) fn push(&mut self, m: &Mark)
-        requires { length self.old.marks < TRACE_MARKS }
+        requires { length self.old.marks < MOST_MARKS }
         ensures { self.new ≡ with_mark m.now self.old }
     {
         self.hops = hops_after(m, self.hops);
@@ -59,7 +62,7 @@ impl Trace {
     /// The marks in order.
     pub(crate) fn marks(&self) -> &[Mark]
         ensures items { result.now ≡ self.now.marks }
-        ensures few { length result.now ≤ 12288 }
+        ensures few { length result.now ≤ 3072 }
     {
         self.marks.as_slice()
     }

@@ -1,10 +1,11 @@
 ghost use Rattle.std.specs.Prelude.{◌≡◌, ◌≤◌, IfOk, is_some, length, option_copied};
 ghost use Rattle.vt_procs.specs.Callers.{IsFitCount, console_of};
 ghost use Rattle.vt_switch.specs.Display.{is_allocated};
+ghost use Rattle.vt_switch.specs.Law.{OwnersLive};
 ghost use Rattle.vt_base.specs.ConsoleSet.{IsFitSet};
 ghost use Rattle.vt_world.specs.Inputs.{input_at};
 ghost use Rattle.vt_world.specs.Start.{opening};
-ghost use Rattle.vt_world.specs.State.{is_waiting};
+ghost use Rattle.vt_world.specs.State.{core, is_waiting};
 ghost use Rattle.vt_world.specs.Terminals.{bells_of, machine_of, terminal_at};
 
 use crate::board::Board;
@@ -52,9 +53,9 @@ impl Model for World {
       trace = w.trace;
     } };
 
-    ghost use Rattle.vt_world.specs.State.{AreAllocated};
+    ghost use Rattle.vt_world.specs.State.{IsWorld};
 
-    ghost invariant = { λ w. AreAllocated w.terminals w.switch };
+    ghost invariant = { λ w. IsWorld w.terminals w.switch w.procs };
 }
 
 impl World {
@@ -80,6 +81,13 @@ impl World {
             trace,
             kept: None,
         })
+    }
+
+    /// Whoever handles the switches of a console lives, at the start and after every call.
+    pub fn owners_live(&self)
+        ensures { OwnersLive (core self.now) }
+    {
+        let _ = &self.switch;
     }
 
     /// The console that has the display.
@@ -129,7 +137,7 @@ impl World {
     /// before the first one, or where it was refused.
     pub fn trace(&self) -> &[Mark]
         ensures marks { result.now ≡ self.now.trace.marks }
-        ensures few { length result.now ≤ 12288 }
+        ensures few { length result.now ≤ 3072 }
     {
         self.trace.marks()
     }

@@ -10,17 +10,18 @@ ghost use Rattle.vt_world.specs.State.{core};
 ghost use Rattle.vt_world.specs.Refusals.{is_taken};
 
 use crate::World;
-use crate::trace::TRACE_MARKS;
+use crate::trace::MOST_MARKS;
 use vt_base::{CallerNo, ConsoleNo, VtMode};
-use vt_switch::{Asked, Hop};
+use vt_switch::{Asked, Hop, each_target_was_asked_for};
 
 impl World {
     /// Requests the display for the console, if that is allocated.
     pub(crate) fn request(&mut self, n: ConsoleNo)
-        requires { length self.old.trace.marks + 3 ≤ TRACE_MARKS }
+        requires { length self.old.trace.marks + 3 ≤ MOST_MARKS }
         ensures state { self.new ≡ done self.old (By (Request n)) }
         ensures room { length self.new.trace.marks ≤ length self.old.trace.marks + 3 }
     {
+        each_target_was_asked_for();
         let allocated = self.switch.allocated(n);
         let asked = self.switch.request(n);
         if !allocated {
@@ -36,10 +37,11 @@ impl World {
 
     /// The answer of `p` for the console, and whether it makes sense.
     pub(crate) fn release_console(&mut self, c: ConsoleNo, p: CallerNo, arg: u16) -> bool
-        requires { length self.old.trace.marks + 2 ≤ TRACE_MARKS }
+        requires { length self.old.trace.marks + 2 ≤ MOST_MARKS }
         ensures accepted { result ≡ is_taken (released self.old.display c p arg) }
         ensures state { self.new ≡ done self.old (By (Release c p arg)) }
     {
+        each_target_was_asked_for();
         match self.switch.release(c, p, arg) {
             Ok(hop) => {
                 self.hopped_if(&hop);
@@ -56,6 +58,7 @@ impl World {
         ensures accepted { result ≡ is_taken (mode_answer (handling_of p m)) }
         ensures state { self.new ≡ done self.old (By (SetMode c p m)) }
     {
+        each_target_was_asked_for();
         self.switch.set_mode(c, p, m).is_ok()
     }
 
@@ -63,6 +66,7 @@ impl World {
     pub(crate) fn show(&mut self, c: ConsoleNo, graphics: bool)
         ensures { self.new ≡ done self.old (By (SetKd c graphics)) }
     {
+        each_target_was_asked_for();
         self.switch.set_kd(c, graphics);
     }
 
@@ -70,15 +74,17 @@ impl World {
     pub(crate) fn lock(&mut self, on: bool)
         ensures { self.new ≡ done self.old (By (Lock on)) }
     {
+        each_target_was_asked_for();
         self.switch.set_lock(on);
     }
 
     /// The end of a caller.
     pub(crate) fn end(&mut self, p: CallerNo)
-        requires { length self.old.trace.marks + 3 ≤ TRACE_MARKS }
+        requires { length self.old.trace.marks + 3 ≤ MOST_MARKS }
         ensures state { self.new ≡ done self.old (By (End p)) }
         ensures room { length self.new.trace.marks ≤ length self.old.trace.marks + 3 }
     {
+        each_target_was_asked_for();
         let hop = self.switch.leave(p);
         self.hear_end(p);
         self.hopped_if(&hop);
@@ -86,7 +92,7 @@ impl World {
 
     // The display changed hands, if it did.
     fn hopped_if(&mut self, hop: &Option<Hop>)
-        requires { length self.old.trace.marks + 2 ≤ TRACE_MARKS }
+        requires { length self.old.trace.marks + 2 ≤ MOST_MARKS }
         ensures state { self.new ≡ tell self.old (hop_marks (core self.old) hop.now) }
         ensures room { length self.new.trace.marks ≤ length self.old.trace.marks + 2 }
     {

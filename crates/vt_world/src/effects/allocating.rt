@@ -10,6 +10,7 @@ ghost use Rattle.vt_world.specs.Refusals.{is_in_use};
 use crate::World;
 use vt_base::{CONSOLES, ConsoleNo};
 use vt_grid::Grid;
+use vt_switch::each_target_was_asked_for;
 
 impl World {
     /// Allocates the console, if it isn't yet, with a start screen on this grid.
@@ -18,6 +19,7 @@ impl World {
             → HasSize (extent self.old.rows self.old.cols) grid.old }
         ensures { self.new ≡ all_done self.old (allocating c []) }
     {
+        each_target_was_asked_for();
         if self.switch.allocated(c) {
             return;
         }
@@ -54,6 +56,7 @@ impl World {
         requires { is_held self.old.display c ≡ false }
         ensures { self.new ≡ all_done self.old (freeing c) }
     {
+        each_target_was_asked_for();
         self.switch.free(c);
         self.terminals.end(c);
         self.inputs.clear(c);

@@ -6,14 +6,14 @@ ghost use Rattle.vt_world.specs.Deeds.{Asks, done};
 ghost use Rattle.vt_world.specs.Wanted.{downwards, falling, upwards, wanted_in};
 
 use crate::World;
-use crate::trace::TRACE_MARKS;
+use crate::trace::MOST_MARKS;
 use crate::wanted::Wanted;
 use vt_base::ConsoleNo;
 
 impl World {
     /// Requests the console that is wanted, if it is one.
     pub(crate) fn ask(&mut self, wanted: Wanted)
-        requires { length self.old.trace.marks + 3 ≤ TRACE_MARKS }
+        requires { length self.old.trace.marks + 3 ≤ MOST_MARKS }
         ensures state { self.new ≡ done self.old (Asks wanted) }
         ensures room { length self.new.trace.marks ≤ length self.old.trace.marks + 3 }
     {

@@ -5,7 +5,7 @@ ghost use Rattle.vt_switch.specs.Acts.{End};
 ghost use Rattle.vt_world.specs.Typing.{attention_deeds, sent, spawn_deeds, uses};
 
 use crate::World;
-use crate::trace::TRACE_MARKS;
+use crate::trace::MOST_MARKS;
 use vt_base::{CallerNo, ConsoleNo, PROCESSES, Signal};
 
 /// SIGKILL, which ends its process (signal(7)).
@@ -17,7 +17,7 @@ const PLACES: usize = PROCESSES + 1;
 impl World {
     /// A signal is sent.
     pub(crate) fn send(&mut self, p: CallerNo, signal: Signal)
-        requires { length self.old.trace.marks + 3 ≤ TRACE_MARKS }
+        requires { length self.old.trace.marks + 3 ≤ MOST_MARKS }
         ensures state { self.new ≡ done self.old (sent p signal) }
     {
         if signal.get() == KILL {
@@ -29,7 +29,7 @@ impl World {
 
     /// The key signal goes to who accepts it.
     pub(crate) fn send_key_signal(&mut self)
-        requires { length self.old.trace.marks + 3 ≤ TRACE_MARKS }
+        requires { length self.old.trace.marks + 3 ≤ MOST_MARKS }
         ensures { self.new ≡ all_done self.old (spawn_deeds self.old.callers.accepter) }
     {
         if let Some((p, signal)) = self.procs.accepter() {
@@ -52,7 +52,7 @@ impl World {
     // The end of the caller of a number, if it uses the console.
     fn end_user(&mut self, p: usize, uses: bool)
         requires number { p ≤ 64 }
-        requires room { length self.old.trace.marks + 3 ≤ TRACE_MARKS }
+        requires room { length self.old.trace.marks + 3 ≤ MOST_MARKS }
         ensures state { self.new ≡ (if uses then done self.old (By (End p)) else self.old) }
         ensures room { length self.new.trace.marks ≤ length self.old.trace.marks + 3 }
     {

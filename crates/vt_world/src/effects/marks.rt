@@ -1,28 +1,30 @@
 //! Marks: what the callers learn of what happens to the display and to each other, and how it is
 //! told.
 ghost use Rattle.std.specs.Prelude.{◌≡◌, ◌+◌, ◌<◌, ◌≤◌, length, Some};
+ghost use Rattle.vt_switch.specs.Law.{OwnersLive};
 ghost use Rattle.vt_switch.specs.Moments.{hop_marks, raise};
 ghost use Rattle.vt_switch.specs.declared.mark.Mark.{Mark};
 ghost use Rattle.vt_world.specs.Heard.{heard, tell};
 ghost use Rattle.vt_world.specs.State.{core};
 
 use crate::World;
-use crate::trace::TRACE_MARKS;
+use crate::trace::MOST_MARKS;
 use vt_base::{CallerNo, ConsoleNo, Signal};
 use vt_switch::{Handling, Hop, Mark};
 
 impl World {
     /// The display was requested for the console.
     pub(crate) fn hear_asked(&mut self, n: ConsoleNo)
-        requires { length self.old.trace.marks < TRACE_MARKS }
+        requires { length self.old.trace.marks < MOST_MARKS }
         ensures { self.new ≡ heard self.old (Mark.Asked n) }
     {
         self.trace.push(&Mark::Asked(n));
     }
 
-    /// The caller died.
+    /// The caller died, which handles the switches of no console.
     pub(crate) fn hear_end(&mut self, p: CallerNo)
-        requires { length self.old.trace.marks < TRACE_MARKS }
+        requires room { length self.old.trace.marks < MOST_MARKS }
+        requires owners { OwnersLive (core (heard self.old (Mark.Ended p))) }
         ensures { self.new ≡ heard self.old (Mark.Ended p) }
     {
         self.procs.end(p);
@@ -31,7 +33,7 @@ impl World {
 
     /// The display changed hands.
     fn hear_hop(&mut self, hop: &Hop)
-        requires { length self.old.trace.marks < TRACE_MARKS }
+        requires { length self.old.trace.marks < MOST_MARKS }
         ensures { self.new ≡ heard self.old (Mark.Hopped hop.now) }
     {
         self.procs.shown(hop.to);
@@ -40,7 +42,7 @@ impl World {
 
     /// A signal is raised to a caller, if it lives.
     pub(crate) fn raise(&mut self, p: CallerNo, signal: Signal)
-        requires { length self.old.trace.marks < TRACE_MARKS }
+        requires { length self.old.trace.marks < MOST_MARKS }
         ensures state { self.new ≡ tell self.old (raise (core self.old) p signal) }
         ensures room { length self.new.trace.marks ≤ length self.old.trace.marks + 1 }
     {
@@ -52,7 +54,7 @@ impl World {
 
     /// The display changed hands, and the process that handles the new front is told by its signal.
     pub(crate) fn hopped(&mut self, hop: &Hop)
-        requires { length self.old.trace.marks + 2 ≤ TRACE_MARKS }
+        requires { length self.old.trace.marks + 2 ≤ MOST_MARKS }
         ensures state { self.new ≡ tell self.old (hop_marks (core self.old) (Some hop.now)) }
         ensures room { length self.new.trace.marks ≤ length self.old.trace.marks + 2 }
     {

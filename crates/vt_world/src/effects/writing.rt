@@ -1,14 +1,16 @@
 //! What a text does that is written to a console.
-ghost use Rattle.std.specs.Prelude.{◌≡◌, ◌≤◌, ◌+◌, ◌*◌, [], length};
+ghost use Rattle.std.specs.Prelude.{◌≡◌, ◌≤◌, ◌+◌, ◌*◌, [], ◌∷◌, length};
 ghost use Rattle.std.specs.List.{flat_map};
+ghost use Rattle.vt_screen.specs.Asking.{requests};
 ghost use Rattle.vt_world.specs.Deeds.{all_done};
 ghost use Rattle.vt_world.specs.Rows.{out_deeds, write_deeds};
+ghost use Rattle.vt_world.specs.Terminals.{said_of, terminal_at};
 
 use crate::World;
-use crate::trace::TRACE_MARKS;
+use crate::trace::MOST_MARKS;
 use crate::wanted::Wanted;
 use vt_base::ConsoleNo;
-use vt_screen::{FEED_BYTES, Out, Outs, any_cut};
+use vt_screen::{FEED_BYTES, Out, Outs, any_cut, requests_are_few};
 
 impl World {
     /// Runs a text on a console, and does what it says.
@@ -18,6 +20,7 @@ impl World {
         ensures { self.new ≡ all_done self.old (write_deeds self.old c b.now) }
     {
         any_cut();
+        requests_are_few();
         let mut outs = Outs::new();
         let mut at = b.len().min(FEED_BYTES);
         self.run_piece(c, &b[..at], &mut outs);
@@ -31,9 +34,11 @@ impl World {
     // Runs at most 64 bytes on a console, and does what they say. What stands in `outs` is forgotten.
     fn run_piece(&mut self, c: ConsoleNo, b: &[u8], outs: &mut Outs)
         requires short { length b.now ≤ 64 }
-        requires room { length self.old.trace.marks + 3 * length b.now ≤ TRACE_MARKS }
+        requires room { length self.old.trace.marks
+            + 3 * requests (said_of (terminal_at self.old.terminals c) b.now) ≤ MOST_MARKS }
         ensures state { self.new ≡ all_done self.old (write_deeds self.old c b.now) }
-        ensures room { length self.new.trace.marks ≤ length self.old.trace.marks + 3 * length b.now }
+        ensures room { length self.new.trace.marks ≤ length self.old.trace.marks
+            + 3 * requests (said_of (terminal_at self.old.terminals c) b.now) }
     {
         outs.clear();
         self.terminals.write(c, b, outs);
@@ -42,9 +47,10 @@ impl World {
 
     // What a text says on a console, in order.
     fn take_outs(&mut self, c: ConsoleNo, outs: &[Out])
-        requires { length self.old.trace.marks + 3 * length outs.now ≤ TRACE_MARKS }
+        requires { length self.old.trace.marks + 3 * requests outs.now ≤ MOST_MARKS }
         ensures state { self.new ≡ all_done self.old (flat_map (out_deeds c) outs.now) }
-        ensures room { length self.new.trace.marks ≤ length self.old.trace.marks + 3 * length outs.now }
+        ensures room { length self.new.trace.marks
+            ≤ length self.old.trace.marks + 3 * requests outs.now }
     {
         for out in outs {
             self.take_out(c, out);
@@ -52,9 +58,10 @@ impl World {
     }
 
     fn take_out(&mut self, c: ConsoleNo, out: &Out)
-        requires { length self.old.trace.marks + 3 ≤ TRACE_MARKS }
+        requires { length self.old.trace.marks + 3 * requests (out.now ∷ []) ≤ MOST_MARKS }
         ensures state { self.new ≡ all_done self.old (out_deeds c out.now) }
-        ensures room { length self.new.trace.marks ≤ length self.old.trace.marks + 3 }
+        ensures room { length self.new.trace.marks
+            ≤ length self.old.trace.marks + 3 * requests (out.now ∷ []) }
     {
         match out {
             Out::Report(text) => self.put(c, text.as_slice()),

@@ -1,19 +1,29 @@
-use Rattle.std.proofs.Common.{refl, ap, ◌∙◌}
+use Rattle.std.proofs.Common.{sym, ap, ◌∙◌}
+use Rattle.vt_procs.specs.Callers.{Callers, ended}
 use Rattle.vt_switch.specs.Acts.{End}
 use Rattle.vt_switch.specs.Display.{Display}
 use Rattle.vt_switch.specs.declared.mark.Mark.TheVariants as mark
 use Rattle.vt_world.specs.Deeds.{acted}
 use Rattle.vt_world.specs.Heard.{heard}
-use Rattle.vt_world.specs.State.{WorldState}
+use Rattle.vt_world.specs.State.{WorldState, core_of}
 use Rattle.vt_world.specs.contracts.world.World.{the_view}
 use Rattle.vt_world.proofs.Lives.{end-told}
-use Rattle.vt_world.proofs.Stays.{still_alike}
+use Rattle.vt_world.proofs.Owners.{after-act, end-core, given-back}
 use Rattle.vt_world.proofs.world.World.end.Goals as goal
 
 pub invariant_of-self : goal.invariant_of-self
 invariant_of-self c =
-    still_alike c.self.inside.terminals c.self.inside.switch c.leave-hop.new.self
-    (End c.args.p) refl c.leave-hop.ensures.state c.self.invariant
+    given-back c.each_target_was_asked_for.ensures.owners c.self.inside.terminals c.self.inside.switch
+    c.leave-hop.new.self c.self.inside.procs c.args.p c.leave-hop.ensures.state c.self.invariant
+
+pub hear_end-requires-clause-owners : goal.hear_end-requires-clause-owners
+hear_end-requires-clause-owners c =
+    let callers : Callers = c.self.inside.procs in
+    after-act c.each_target_was_asked_for.ensures.owners (core_of c.self.inside.switch callers)
+    (core_of c.leave-hop.new.self (ended c.args.p callers)) (End c.args.p)
+    (end-core c.self.inside.switch callers c.args.p
+    ∙ ap (λ (d : Display). core_of d (ended c.args.p callers)) (sym c.leave-hop.ensures.state))
+    c.self.invariant.owners
 
 pub returns-clause-state : goal.returns-clause-state
 returns-clause-state c =

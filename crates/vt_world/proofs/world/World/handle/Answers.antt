@@ -1,9 +1,14 @@
-use Rattle.std.proofs.Common.{refl}
+use Rattle.std.proofs.Common.{refl, ap, ◌∙◌}
+use Rattle.vt_procs.specs.Callers.{is_live}
 use Rattle.vt_switch.specs.Acts.{SetMode}
-use Rattle.vt_world.proofs.Stays.{still_alike}
+use Rattle.vt_world.specs.State.{WorldState}
+use Rattle.vt_world.proofs.Owners.{set-mode, still-world}
 use Rattle.vt_world.proofs.world.World.handle.Goals as goal
 
 pub invariant_of-self : goal.invariant_of-self
 invariant_of-self c =
-    still_alike c.self.inside.terminals c.self.inside.switch c.set_mode.new.self
-    (SetMode c.args.c c.args.p c.args.m) refl c.set_mode.ensures.state c.self.invariant
+    still-world c.each_target_was_asked_for.ensures.owners c.self.inside.terminals c.self.inside.switch
+    c.set_mode.new.self c.self.inside.procs (SetMode c.args.c c.args.p c.args.m) refl
+    (set-mode c.self.inside.switch c.self.inside.procs c.args.c c.args.p c.args.m
+    (ap (λ (w : WorldState). is_live w.callers c.args.p) c.self.view_is ∙ c.requires))
+    c.set_mode.ensures.state c.self.invariant
