@@ -1,10 +1,12 @@
 """The real Linux console: a case is written to /dev/ttyN and read from /dev/vcsaN and /dev/vcsuN, as root."""
+import errno
 import fcntl
 import os
 import re
 import select
 import struct
 import termios
+import time
 import tty
 import unicodedata
 
@@ -13,8 +15,7 @@ from .forms import Fault
 from .judge import HALF, runs_of, text_of
 
 VT_DISALLOCATE = 0x5608
-WAIT = 0.05
-
+WAIT, TRIES = 0.05, 40
 
 # Sequences that change more of the machine than their console: the blanking of all of them, and which is in front.
 MACHINE_WIDE = re.compile(rb"\x1b\[(9|12|13|14|15)(;[0-9]*)*\]")
@@ -47,15 +48,12 @@ class Device:
 
     def answer(self, case):
         """Frees the console, opens it anew, writes the case and reads what stands."""
-        front = os.open("/dev/tty0", os.O_WRONLY | os.O_NOCTTY)
-        try:
-            fcntl.ioctl(front, VT_DISALLOCATE, self.number)
-        finally:
-            os.close(front)
+        self.free()
         console = os.open(self.path("tty"), os.O_RDWR | os.O_NOCTTY | os.O_NONBLOCK)
         try:
             tty.setraw(console)
             fcntl.ioctl(console, termios.TIOCSWINSZ, struct.pack("4H", case.rows, case.columns, 0, 0))
+            self.codes()  # from the first time on the console keeps characters, and not only what its font shows
             for piece in case.pieces():
                 write_all(console, piece)
             reports = b""
@@ -63,11 +61,34 @@ class Device:
                 reports += os.read(console, 4096)
             with open(self.path("vcsa"), "rb") as file:
                 shown = file.read()
-            with open(self.path("vcsu"), "rb") as file:
-                codes = file.read()
+            codes = self.codes()
         finally:
             os.close(console)
         return self.told(case, shown, codes, reports)
+
+    def free(self):
+        """Frees the console, which takes a moment to be free after it was closed."""
+        front = os.open("/dev/tty0", os.O_WRONLY | os.O_NOCTTY)
+        try:
+            for left in range(TRIES, 0, -1):
+                try:
+                    return fcntl.ioctl(front, VT_DISALLOCATE, self.number)
+                except OSError as fault:
+                    if fault.errno != errno.EBUSY or left == 1:
+                        raise
+                    time.sleep(WAIT)
+        finally:
+            os.close(front)
+
+    def codes(self):
+        """The characters, or None while text isn't UTF-8: the console doesn't know them then."""
+        try:
+            with open(self.path("vcsu"), "rb") as file:
+                return file.read()
+        except OSError as fault:
+            if fault.errno == errno.ENODATA:
+                return None
+            raise
 
     def told(self, case, shown, codes, reports):
         """The answer, by what the three files gave."""
@@ -75,17 +96,18 @@ class Device:
         if (rows, columns) != (case.rows, case.columns):
             wanted = f"{case.rows} rows and {case.columns} columns were wanted"
             raise CaseFault(f"refuses: {wanted}, and there are {rows} and {columns}")
+        answer = {
+            "cursor": [row, column], "attributes": runs_of(shown[5::2], columns), "reports": reports.decode("latin-1"),
+        }  # fmt: skip
+        if codes is None:
+            return answer
         # Its second cell of a wide character is a blank.
         cells = [int.from_bytes(codes[at : at + 4], "little") for at in range(0, len(codes), 4)]
         for place in range(1, len(cells)):
             before = chr(cells[place - 1] % HALF)
             if place % columns and cells[place] == 32 and unicodedata.east_asian_width(before) in "WF":
                 cells[place] = HALF
-        text = text_of(b"".join(cell.to_bytes(4, "little") for cell in cells), rows, columns)
-        return {
-            "text": text, "cursor": [row, column], "attributes": runs_of(shown[5::2], columns),
-            "reports": reports.decode("latin-1"),
-        }  # fmt: skip
+        return {**answer, "text": text_of(b"".join(cell.to_bytes(4, "little") for cell in cells), rows, columns)}
 
     def answers(self, cases):
         """The answer or the `CaseFault` of each case, in their order."""
