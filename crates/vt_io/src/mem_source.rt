@@ -1,4 +1,4 @@
-ghost use Rattle.std.specs.Prelude.{Some, ◌≡◌};
+ghost use Rattle.std.specs.Prelude.{Some, ◌≡◌, OnOk};
 ghost use Rattle.std.specs.Io.{ReadsAtMost};
 ghost use Rattle.std.specs.Io.KnownBytes.{ReadConsumes};
 ghost use Rattle.vt_io.specs.Faults.{HasCause};
@@ -52,6 +52,7 @@ impl Source for MemSource {
         ensures bytes { ReadConsumes (Some self.old.left) (Some self.new.left) result buf.new }
         ensures buffer { FillsFront result buf.old buf.new }
         ensures cause { HasCause self.old.faults self.new.faults result }
+        ensures kept { OnOk result (self.new.faults ≡ self.old.faults) }
         ensures exact { Reads self.old self.new buf.old buf.new result }
     {
         if self.fails.take_flag() {

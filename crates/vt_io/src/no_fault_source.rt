@@ -1,4 +1,4 @@
-ghost use Rattle.std.specs.Prelude.{Some, ◌≡◌, ◌++◌, length, take, drop, min, IsOkAnd};
+ghost use Rattle.std.specs.Prelude.{Some, ℕ, ◌≡◌, ◌++◌, length, take, drop, min, IsOkAnd, OnOk};
 ghost use Rattle.std.specs.Io.{ReadsAtMost};
 ghost use Rattle.std.specs.Io.KnownBytes.{ReadConsumes};
 ghost use Rattle.vt_io.specs.Faults.{HasCause};
@@ -44,6 +44,7 @@ impl Source for NoFaultSource {
         ensures bytes { ReadConsumes (Some self.old) (Some self.new) result buf.new }
         ensures buffer { FillsFront result buf.old buf.new }
         ensures cause { HasCause 0 0 result }
+        ensures kept { OnOk result (◌≡◌ {A = ℕ} 0 0) }
         ensures exact { IsOkAnd result (λ n. (n ≡ min (length buf.old) (length self.old))
             × (buf.new ≡ take n self.old ++ drop n buf.old)
             × (self.new ≡ drop n self.old)) }

@@ -1,4 +1,4 @@
-ghost use Rattle.std.specs.Prelude.{None, ◌≡◌, ◌≤◌, IfSome, MatchResult, length};
+ghost use Rattle.std.specs.Prelude.{None, ◌≡◌, ◌≤◌, IfSome, MatchResult, OnOk, length};
 ghost use Rattle.std.specs.Io.{ReadsAtMost};
 ghost use Rattle.std.specs.Io.KnownBytes.{ReadConsumes};
 ghost use Rattle.vt_io.specs.Faults.{HasCause, one_more};
@@ -56,6 +56,7 @@ impl<R: Read> Source for StdSource<R> {
         ensures bytes { ReadConsumes None None result buf.new }
         ensures buffer { FillsFront result buf.old buf.new }
         ensures cause { HasCause self.old self.new result }
+        ensures kept { OnOk result (self.new ≡ self.old) }
         ensures count { MatchResult result
             (λ _. self.new ≡ self.old)
             (λ _. self.new ≡ one_more self.old) }

@@ -38,6 +38,12 @@ EndsStreaming src src' emu emu' End = DrawsAll src src' emu emu'
 EndsStreaming src src' emu emu' Fault = DrawsToFault src src' emu emu'
 EndsStreaming src src' emu emu' TooLong = DrawsToLimit src src' emu emu'
 
+-- the source's count of faults: it rose at a fault, and no read failed before another end
+abbrev pub CountsFault : ℕ → ℕ → Streamed → Type 0
+CountsFault before now End = now ≡ before
+CountsFault before now Fault = Rose before now
+CountsFault before now TooLong = now ≡ before
+
 -- of a source that tells its bytes and doesn't fail, these say which end it is
 abbrev pub EndsByLength : Stream → Stream → Streamed → Type 0
 EndsByLength src src' end =

@@ -1,5 +1,5 @@
 ghost use Rattle.std.specs.Prelude.{◌≡◌, ◌≤◌, length};
-ghost use Rattle.vt_tool.specs.Streaming.{EndsByLength, EndsStreaming};
+ghost use Rattle.vt_tool.specs.Streaming.{CountsFault, EndsByLength, EndsStreaming};
 
 use crate::intake::SCREEN_LIMIT;
 use crate::streamed::Streamed;
@@ -17,6 +17,7 @@ pub fn screen_stream<S: Source>(src: &mut S, emu: &mut Emu, buf: &mut [u8]) -> S
     ensures exact { EndsByLength
         (record { told = S.left src.old; faults = S.faults src.old })
         (record { told = S.left src.new; faults = S.faults src.new }) result }
+    ensures count { CountsFault (S.faults src.old) (S.faults src.new) result }
 {
     any_cut();
     let mut left = SCREEN_LIMIT;
