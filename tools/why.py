@@ -204,8 +204,11 @@ def keymap_hint(code, word, line):
 def about_keymap(path, text, code, line, column):
     """Gives the lines about a fault of a keymap."""
     lines = text.split(b"\n")
-    shown = lines[line - 1] if line <= len(lines) else b""
     yield f"{path}:{line}:{column}: {KEYMAP_CODES[code]} (code {code})"
+    if line > len(lines):
+        yield f"{path} has {len(lines)} lines: is it what vt read?"
+        return
+    shown = lines[line - 1] if line else b""
     yield from marked(text, line, column)
     hint = keymap_hint(code, word_at(shown, column), shown)
     if hint:
