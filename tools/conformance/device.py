@@ -53,7 +53,7 @@ class Device:
         try:
             tty.setraw(console)
             fcntl.ioctl(console, termios.TIOCSWINSZ, struct.pack("4H", case.rows, case.columns, 0, 0))
-            self.codes()  # from the first time on the console keeps characters, and not only what its font shows
+            self.codes()  # from the first time on the console keeps characters, beside what its font shows of them
             for piece in case.pieces():
                 write_all(console, piece)
             reports = b""
