@@ -31,7 +31,7 @@ class Device:
             raise Fault(f"{self.name}: root was wanted, who may write to a console that isn't the user's own")
         for path in ("/dev/tty0", self.path("tty"), self.path("vcsa"), self.path("vcsu")):
             if not os.path.exists(path):
-                raise Fault(f"{self.name}: {path} was wanted, and there is none: the console has to be allocated before")
+                raise Fault(f"{self.name}: {path} of an allocated console was wanted, and there is none")
 
     def path(self, kind):
         """The file of this console."""
@@ -53,7 +53,7 @@ class Device:
         try:
             tty.setraw(console)
             fcntl.ioctl(console, termios.TIOCSWINSZ, struct.pack("4H", case.rows, case.columns, 0, 0))
-            self.codes()  # from the first time on the console keeps characters, and not only what its font shows
+            self.codes()  # from the first time on the console keeps characters, beside what its font shows of them
             for piece in case.pieces():
                 write_all(console, piece)
             reports = b""
