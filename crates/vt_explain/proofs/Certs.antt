@@ -6,7 +6,7 @@ use Rattle.std.proofs.lemmas.List.Concat.{flat_map-append}
 use Rattle.std.proofs.lemmas.List.Elements.{All-head, All-push, All-tail}
 use Rattle.vt_explain.proofs.Clear.{some_line}
 use Rattle.vt_explain.proofs.Items.{head_line_once, item_line_once}
-use Rattle.vt_explain.specs.CertText.{Begins, CertSays, IsFit, IsNoHead, IsNoItem, OneCert, PrintedIsRead, ReadIsPrinted, cert_text, head_words, item_lines, item_words}
+use Rattle.vt_explain.specs.CertText.{Begins, CertSays, IsFit, IsNoHead, IsNoItem, OneCert, PrintedIsRead, ReadIsPrinted, cert_text, head_words, item_lines, item_words, line_number}
 use Rattle.vt_explain.specs.CertText.CertSays.{BadHead, BadLine, OtherCount, Whole}
 use Rattle.vt_explain.specs.Reading.{IsFaultAt, IsSaid}
 use Rattle.vt_explain.specs.declared.cert_error.CertError.{CertError}
@@ -37,8 +37,8 @@ same_front (w ∷ c) (x ∷ d) u v fit_c fit_d none_u none_v same =
 -- what follows the items, where no item does
 data Follows (count : ℕ) (c : List HopWhy) (u : List ℕ) : Result (List HopWhy) ℕ → Type 0 where
   Ends : u ≡ [] → count ≡ length c → Follows count c u (Ok c)
-  Fails : u ≢ [] → Follows count c u (Err (length c + 2))
-  Differs : u ≡ [] → count ≢ length c → Follows count c u (Err (length c + 1))
+  Fails : u ≢ [] → Follows count c u (Err (line_number (length c + 2)))
+  Differs : u ≡ [] → count ≢ length c → Follows count c u (Err (line_number (length c + 1)))
 
 follows_once : (count : ℕ) (c : List HopWhy) (u : List ℕ) (a b : Result (List HopWhy) ℕ)
     → Follows count c u a → Follows count c u b → a ≡ b
@@ -65,9 +65,9 @@ said text a (Whole c begins) =
     Has (length c) c [] (Ok c) begins no_item_none (Ends refl refl)
 said text a (BadHead none) = Lacks none
 said text a (BadLine count c rest begins some none) =
-    Has count c rest (Err (length c + 2)) begins none (Fails some)
+    Has count c rest (Err (line_number (length c + 2))) begins none (Fails some)
 said text a (OtherCount count c begins isnt) =
-    Has count c [] (Err (length c + 1)) begins no_item_none (Differs refl isnt)
+    Has count c [] (Err (line_number (length c + 1))) begins no_item_none (Differs refl isnt)
 
 said_once : (text : List ℕ) (a b : Result (List HopWhy) ℕ) → Said text a → Said text b → a ≡ b
 said_once text a b (Lacks none) (Lacks other) = refl
@@ -143,7 +143,7 @@ begun whole text count c rest head is so_far = record {
 
 -- a fault is told
 pub reads_fault : (e : CertError) (line : ℕ)
-    (says : Result (List HopWhy) ℕ → Type 0) → IsFaultAt line e → says (Err line)
+    (says : Result (List HopWhy) ℕ → Type 0) → IsFaultAt line e → says (Err (line_number line))
     → IsSaid e says
 reads_fault (errors.Fault at) line says is holds = subst (λ n. says (Err n)) (sym is) holds
-reads_fault errors.NoMemory line says is holds = tt
+reads_fault errors.NoMemory line says is holds = absurd is

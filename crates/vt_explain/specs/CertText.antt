@@ -1,5 +1,5 @@
 -- The text of a certificate, and what a text says as one. This project's own.
-use Rattle.std.specs.Prelude.{◌≡◌, ◌≢◌, ◌≤◌, ⊤, ℕ, ◌+◌, List, [], ◌∷◌, ◌++◌, Result, Ok, Err, codes, decimal, length, map}
+use Rattle.std.specs.Prelude.{◌≡◌, ◌≢◌, ◌≤◌, ⊤, ℕ, ◌+◌, List, [], ◌∷◌, ◌++◌, Result, Ok, Err, codes, decimal, length, map, min}
 use Rattle.std.specs.List.{All, flat_map}
 use Rattle.vt_explain.specs.declared.hop_cause.HopCause.{HopCause}
 use Rattle.vt_explain.specs.declared.hop_cause.HopCause.TheVariants as why
@@ -67,13 +67,17 @@ IsNoHead text =
 abbrev pub IsNoItem : List ℕ → Type 0
 IsNoItem text = (w : HopWhy) (rest : List ℕ) → IsFit w → text ≢ line_text (item_words w) ++ rest
 
+-- the number by which a fault names a line: the greatest one for each line past it
+abbrev pub line_number : ℕ → ℕ
+line_number line = min line 4294967295
+
 -- what the text says: the items, where it is their text; else the number of the first line that isn't of
 -- the form, or of the last line, where lines are missing or too many
 pub data CertSays (text : List ℕ) : Result (List HopWhy) ℕ → Type 0 where
   Whole : (c : List HopWhy) → Begins text (length c) c [] → CertSays text (Ok c)
   BadHead : IsNoHead text → CertSays text (Err 1)
-  BadLine : (count : ℕ) (c : List HopWhy) (rest : List ℕ) → Begins text count c rest → rest ≢ [] → IsNoItem rest → CertSays text (Err (length c + 2))
-  OtherCount : (count : ℕ) (c : List HopWhy) → Begins text count c [] → count ≢ length c → CertSays text (Err (length c + 1))
+  BadLine : (count : ℕ) (c : List HopWhy) (rest : List ℕ) → Begins text count c rest → rest ≢ [] → IsNoItem rest → CertSays text (Err (line_number (length c + 2)))
+  OtherCount : (count : ℕ) (c : List HopWhy) → Begins text count c [] → count ≢ length c → CertSays text (Err (line_number (length c + 1)))
 
 -- a text says one thing only
 abbrev pub OneCert : Type 0

@@ -1,6 +1,7 @@
 -- What the reading of a certificate's text returns. This project's own.
 use Rattle.std.specs.Prelude.{◌≡◌, ⊤, ℕ, List, Result, Ok, Err}
 use Rattle.std.specs.declared.vec.Vec.{Vec}
+use Rattle.vt_explain.specs.CertText.{line_number}
 use Rattle.vt_explain.specs.declared.cert_error.CertError.{CertError}
 use Rattle.vt_explain.specs.declared.cert_error.CertError.TheVariants as errors
 use Rattle.vt_explain.specs.declared.hop_why.HopWhy.{HopWhy}
@@ -15,7 +16,7 @@ abbrev pub Reads : {A : Type 0} → Result (Vec HopWhy A) CertError → (Result 
 Reads (Ok c) says = says (Ok c.items)
 Reads (Err e) says = IsSaid e says
 
--- the error names that line, unless memory ran out
+-- the error is the fault that names that line
 abbrev pub IsFaultAt : ℕ → CertError → Type 0
-IsFaultAt line (errors.Fault at) = at ≡ line
-IsFaultAt line errors.NoMemory = ⊤
+IsFaultAt line (errors.Fault at) = at ≡ line_number line
+IsFaultAt line errors.NoMemory = ⊥

@@ -16,7 +16,7 @@ use vt_journal::cut_line;
 const MOST: usize = 4_294_967_295;
 
 /// What the text says as a certificate, which is the one spelling of its items; or the number of its
-/// first line that isn't of the form.
+/// first line that isn't of the form, which is 4,294,967,295 for each line past that one.
 pub fn read_cert(alloc: Global, text: &[u8]) -> Result<Vec<HopWhy>, CertError>
     ensures says { Reads result (CertSays text.now) }
     ensures one { (said : Result (List HopWhy) ℕ) → CertSays text.now said
@@ -103,12 +103,10 @@ fn push(items: &mut Vec<HopWhy>, item: HopWhy) -> Result<(), NoMemory>
     Ok(())
 }
 
-// A fault in that line. A line past the greatest number is never reached: its text has no room.
+// A fault in that line. Of a line past the greatest number it names that number.
 fn fault_at(line: usize) -> CertError
     ensures { IsFaultAt line result }
 {
-    if MOST < line {
-        return CertError::NoMemory;
-    }
-    CertError::Fault { line: line as u32 }
+    let line = line.min(MOST) as u32;
+    CertError::Fault { line }
 }
