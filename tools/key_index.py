@@ -202,8 +202,9 @@ def index(found):
     starts = [sum(len(name) + 1 for name in names[:place]) for place in range(len(names))]
     order = sorted(range(len(names)), key=lambda place: names[place].encode())
     return (
-        "//! Where the names of the symbol table lie, their order, and what they stand for. Written by tools/key_index.py,\n"
-        "//! and proved to be of the definition.\n\nuse crate::table::NAME_COUNT;\n"
+        "//! Where the names of the symbol table lie, their order, and what they stand for. "
+        "Written by tools/key_index.py,\n//! and proved to be of the definition.\n"
+        "\nuse crate::table::NAME_COUNT;\n"
         + static("Where each name starts in the table's text.", "STARTS", "u16", starts)
         + static("How many bytes each name has.", "LENGTHS", "u8", map(len, names))
         + static("The places of the names, in the order of their bytes.", "ORDER", "u16", order)
