@@ -10,6 +10,7 @@ pub record Between (v w : PassView) : Type 0 where
   pub hub : w.hub ≡ v.hub
   pub number : w.number ≡ v.number
   pub known : w.known ≡ v.known
+  pub read : w.read ≡ v.read
   pub mine : w.mine ≡ v.mine
   pub stop : w.stop ≡ v.stop
   pub later : List Entry

@@ -1,11 +1,12 @@
 -- Histories as the lock carries them, against those of the journal.
-use Rattle.std.proofs.Common.{◌≡◌, ℕ, zero, suc, ◌+◌, ◌*◌, ◌/◌, ◌<◌, arith, Bool, true, false, cond, ◌==◌, List, [], ◌∷◌, ◌++◌, length, take, refl, ap, ◌∙◌, length-append}
-use Rattle.std.proofs.lemmas.List.{length-take-le, map-append, take-append-le}
-use Rattle.turn_lock.specs.History.{IsWordIn, display_after, entries_by, word_of}
+use Rattle.std.proofs.Common.{◌≡◌, ℕ, zero, suc, ◌+◌, ◌*◌, ◌/◌, ◌%◌, ◌<◌, arith, Bool, true, false, cond, ◌==◌, List, [], ◌∷◌, ◌++◌, length, take, refl, sym, ap, ◌∙◌, subst, length-append}
+use Rattle.std.proofs.lemmas.List.{append_assoc, length-map, length-take-le, map-append, take-append-le}
+use Rattle.std.proofs.Math.Seq.{take-append_seam}
+use Rattle.turn_lock.specs.History.{IsWordIn, StartsWith, display_after, entries_by, word_of}
 use Rattle.vt_events.specs.declared.entry.Entry.{Entry}
-use Rattle.vt_hub.specs.Histories.{IsRead, made_by}
-use Rattle.vt_hub.specs.Carrying.{Carried, display_of, plain, carried, carried_entry}
-use Rattle.vt_world.specs.History.{replay}
+use Rattle.vt_hub.specs.Histories.{BeginsWith, IsRead, made_by}
+use Rattle.vt_hub.specs.Carrying.{Carried, IsCarried, display_of, plain, carried, carried_entry}
+use Rattle.vt_world.specs.History.{IsLegal, replay}
 use Rattle.vt_world.specs.State.{WorldState}
 use Rattle.vt_world.specs.Step.{step}
 
@@ -61,6 +62,58 @@ made-carried n w (e ∷ es) =
 
 pub plain-more : (xs ys : List Carried) → plain (xs ++ ys) ≡ plain xs ++ plain ys
 plain-more xs ys = map-append (λ (e : Carried). e.what) xs ys
+
+-- a beginning of what the lock carries begins the journal
+pub plain-begins : (log xs : List Carried) → StartsWith log xs → BeginsWith (plain log) (plain xs)
+plain-begins log xs is = (plain is.0, ap plain is.1 ∙ plain-more xs is.0)
+
+pub begins-plain : (w : WorldState) (es : List Entry) (xs : List Carried)
+    → StartsWith (carried w es) xs → BeginsWith es (plain xs)
+begins-plain w es xs is =
+    subst (λ (l : List Entry). BeginsWith l (plain xs)) (plain-carried w es)
+    (plain-begins (carried w es) xs is)
+
+-- and one that is longer
+pub begins-more : (longer es xs more : List Entry) → longer ≡ es ++ more → BeginsWith es xs
+    → BeginsWith longer xs
+begins-more longer es xs more is begins = (
+  begins.0 ++ more,
+  is ∙ (ap (λ (l : List Entry). l ++ more) begins.1 ∙ append_assoc xs begins.0 more),
+)
+
+-- the journal of a shared value is carried
+pub is-carried : (w : WorldState) (es : List Entry) → IsLegal w es → display_of w ≡ w.display.front
+    → IsCarried w (carried w es)
+is-carried w es legal first = record {
+  is = ap (carried w) (sym (plain-carried w es));
+  legal = subst (IsLegal w) (sym (plain-carried w es)) legal;
+  first = first;
+}
+
+-- the word of what is carried
+pub word-shown : (w : WorldState) (log : List Carried) (word : ℕ) → IsCarried w log
+    → word ≡ word_of (display_of w) log → word / 64 ≡ length log
+    → (word ≡ 64 * length (plain log) + (replay w (plain log)).display.front)
+    × (word % 64 ≡ (replay w (plain log)).display.front)
+word-shown w log word right is count =
+    let shown : display_after (display_of w) log ≡ (replay w (plain log)).display.front =
+    ap (λ n. display_after n log) right.first
+    ∙ (ap (display_after w.display.front) right.is ∙ display-carried w (plain log)) in
+    let long : length (plain log) ≡ length log = length-map log (λ (e : Carried). e.what) in
+    (omega (arith, is, shown, long), omega (arith, is, shown, count))
+
+-- it is a word of every history that begins so
+pub word-stands : (w : WorldState) (read history : List Entry) (word : ℕ)
+    → word / 64 ≡ length read → word % 64 ≡ (replay w read).display.front
+    → BeginsWith history read → IsRead w history word
+word-stands w read history word count shown begins =
+    let taken : take (word / 64) history ≡ read =
+    ap (λ n. take n history) count
+    ∙ (ap (take (length read)) begins.1 ∙ take-append_seam read begins.0) in
+    let long = ap length begins.1 ∙ length-append read begins.0 in record {
+      within = omega (arith, count, long);
+      shown = shown ∙ ap (λ (l : List Entry). (replay w l).display.front) (sym taken);
+    }
 
 -- a display from 1 to 63 is the one that the lock begins with
 pub first-display : (w : WorldState) → 0 < w.display.front → w.display.front < 64

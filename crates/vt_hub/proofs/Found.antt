@@ -16,12 +16,12 @@ use Rattle.vt_events.specs.declared.entry.Entry.{Entry}
 use Rattle.vt_events.specs.declared.event.Event.{Event}
 use Rattle.vt_events.specs.declared.reply.Reply.{Reply}
 use Rattle.vt_hub.specs.Answers.{Called, Stopped, Waited}
-use Rattle.vt_hub.specs.Histories.{IsRead, awaits, made_by}
+use Rattle.vt_hub.specs.Histories.{BeginsWith, IsRead, awaits, made_by}
 use Rattle.vt_hub.specs.Places.{known_by}
 use Rattle.vt_hub.specs.Shared.{Enters, IsSound, SharedView, Stops, Waits}
 use Rattle.vt_hub.specs.Carrying.{Carried, display_of, plain, carried, carried_entry}
 use Rattle.vt_hub.specs.Views.{PassView}
-use Rattle.vt_hub.proofs.Carried.{first-display, front_after, made-carried, plain-more, plain-carried, read-carried, carried-more, word-grown, word-carried}
+use Rattle.vt_hub.proofs.Carried.{begins-more, begins-plain, first-display, front_after, made-carried, plain-more, plain-carried, read-carried, carried-more, word-grown, word-carried}
 use Rattle.vt_hub.proofs.Lists.{made-own}
 use Rattle.vt_journal.specs.Room.{full_at, has_room}
 use Rattle.vt_journal.specs.declared.full.Full.{Full}
@@ -39,6 +39,7 @@ pub record Found (start : WorldState) (most : Limits) (number seq : ℕ) (v : Vi
   pub begins : StartsWith (carried start s.log.entries) v.seen
   pub owns : HasMine (carried start s.log.entries) v.role v.mine
   pub reads : IsWordIn (display_of start) (carried start s.log.entries) v.known
+  pub looked : StartsWith (carried start s.log.entries) v.read
   pub stands : Stands s.stop (carried start s.log.entries) v
   pub knows : KnowsOwn s.stop v
 
@@ -48,10 +49,11 @@ pub found-from : (start : WorldState) (most : Limits) (number seq : ℕ) (v : Vi
     → seq ≡ length v.mine → StartsWith (carried start old.log.entries) v.seen
     → HasMine (carried start old.log.entries) v.role v.mine
     → IsWordIn (display_of start) (carried start old.log.entries) v.known
+    → StartsWith (carried start old.log.entries) v.read
     → Stands old.stop (carried start old.log.entries) v → KnowsOwn old.stop v
     → Found start most number seq v s
-found-from start most number seq v old s same sound named counted begins owns reads stands
-    knows = record {
+found-from start most number seq v old s same sound named counted begins owns reads looked
+    stands knows = record {
       sound = sound;
       named = named;
       counted = counted;
@@ -61,6 +63,8 @@ found-from start most number seq v old s same sound named counted begins owns re
           owns;
       reads = subst (λ (o : SharedView).
           IsWordIn (display_of start) (carried start o.log.entries) v.known) (sym same) reads;
+      looked = subst (λ (o : SharedView). StartsWith (carried start o.log.entries) v.read) (sym same)
+          looked;
       stands = subst (λ (o : SharedView). Stands o.stop (carried start o.log.entries) v) (sym same)
           stands;
       knows = subst (λ (o : SharedView). KnowsOwn o.stop v) (sym same) knows;
@@ -72,6 +76,7 @@ pub record Left (hub : TableId) (number : ℕ) (v : View Entry Full) (seen mine 
   pub hub_is : w.hub ≡ hub
   pub number_is : w.number ≡ number
   pub known_is : w.known ≡ v.known
+  pub read_is : w.read ≡ plain v.read
   pub seen_is : w.seen ≡ seen
   pub mine_is : w.mine ≡ mine
   pub stop_is : w.stop ≡ stop
@@ -136,6 +141,10 @@ module _ (start : WorldState) (most : Limits) (number seq : ℕ) (v : View Entry
       sym (plain-carried start s.log.entries)
       ∙ (ap plain found.begins.1 ∙ plain-more v.seen found.begins.0)
 
+  -- what it had read of the history stands
+  pub kept : BeginsWith s.log.entries (plain v.read)
+  kept = begins-plain start s.log.entries v.read found.looked
+
   pub read : IsRead start s.log.entries v.known
   read = read-carried start s.log.entries v.known first found.reads
 
@@ -185,6 +194,7 @@ module _ (start : WorldState) (most : Limits) (number seq : ℕ) (v : View Entry
         hub = left.hub_is;
         number = left.number_is;
         known = left.known_is;
+        read = left.read_is;
         between = later;
         entry = entry;
         seen = whole ∙ ap (λ (l : List Entry). l ++ entry ∷ []) seen;
@@ -212,6 +222,7 @@ module _ (start : WorldState) (most : Limits) (number seq : ℕ) (v : View Entry
             (sym (ap (carried start) enters.entries ∙ carried-more start es entry))
             (word-grown (display_of start) (carried start es)
             (carried_entry (front_after start es entry) entry ∷ []) v.known found.reads)));
+        kept = begins-more w.seen es (plain v.read) (entry ∷ []) whole kept;
       }
 
   own_charge : (s' : SharedView) (e : Event) (full : Full) (stops : Stops number e s s' full)
@@ -239,6 +250,7 @@ module _ (start : WorldState) (most : Limits) (number seq : ℕ) (v : View Entry
         hub = left.hub_is;
         number = left.number_is;
         known = left.known_is;
+        read = left.read_is;
         mine = left.mine_is;
         later = later;
         seen = left.seen_is ∙ seen;
@@ -261,6 +273,7 @@ module _ (start : WorldState) (most : Limits) (number seq : ℕ) (v : View Entry
         goes = ap (λ (x : WorldState). is_waiting x stops.by)
             (ap (replay start) (sym same) ∙ sym sound.replayed) ∙ right.goes;
         word = subst (λ (l : List Entry). IsRead start l v.known) (sym left.seen_is) read;
+        kept = subst (λ (l : List Entry). BeginsWith l (plain v.read)) (sym left.seen_is) kept;
       }
 
   pub waited : (hub : TableId) (s' : SharedView) (w : PassView) → Waits number s s'
@@ -271,6 +284,7 @@ module _ (start : WorldState) (most : Limits) (number seq : ℕ) (v : View Entry
     hub = left.hub_is;
     number = left.number_is;
     known = left.known_is;
+    read = left.read_is;
     mine = left.mine_is;
     later = later;
     seen = left.seen_is ∙ seen;
@@ -327,6 +341,8 @@ module _ (start : WorldState) (most : Limits) (number seq : ℕ) (v : View Entry
             number_is = refl;
             known_is = ap (λ (x : View Entry Full). x.known) after-whole
                 ∙ ap (λ (x : View Entry Full). x.known) has;
+            read_is = ap (λ (x : View Entry Full). plain x.read) after-whole
+                ∙ ap (λ (x : View Entry Full). plain x.read) has;
             seen_is = ap (λ (x : View Entry Full). plain x.seen) after-whole
                 ∙ plain-carried start s'.log.entries;
             mine_is = ap plain after-mine ∙ plain-more v.mine (entry_carried ∷ []);
@@ -349,6 +365,7 @@ module _ (start : WorldState) (most : Limits) (number seq : ℕ) (v : View Entry
             hub_is = home;
             number_is = refl;
             known_is = ap (λ (x : View Entry Full). x.known) left-whole;
+            read_is = ap (λ (x : View Entry Full). plain x.read) left-whole;
             seen_is = same-seen;
             mine_is = ap (λ (x : View Entry Full). plain x.mine) left-whole;
             stop_is = ap (λ (x : View Entry Full). x.seal) left-whole;
@@ -360,6 +377,7 @@ module _ (start : WorldState) (most : Limits) (number seq : ℕ) (v : View Entry
             hub_is = home;
             number_is = refl;
             known_is = ap (λ (x : View Entry Full). x.known) left-whole;
+            read_is = ap (λ (x : View Entry Full). plain x.read) left-whole;
             seen_is = same-seen;
             mine_is = ap (λ (x : View Entry Full). plain x.mine) left-whole;
             stop_is = ap (λ (x : View Entry Full). x.seal) left-whole

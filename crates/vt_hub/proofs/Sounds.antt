@@ -102,6 +102,7 @@ module _ (start : WorldState) (most : Limits) (v w : SharedView) (p seq : ℕ) (
         display_high = sound.display_high;
         shown_low = low;
         shown_high = high;
+        lawful = sound.lawful;
         tickets = λ q opened. ap (λ (l : List Entry). awaits (made_by q l)) more
             ∙ waits called free q opened;
         stops = λ z is. let bad : None ≡ Some z = sym goes_on ∙ is in absurd cc;

@@ -12,7 +12,8 @@ use Rattle.turn_lock.specs.declared.view.Joined.{Joined}
 use Rattle.turn_lock.specs.declared.view.View.{View}
 use Rattle.atomic_table.specs.Seated.{TableId}
 use Rattle.vt_events.specs.declared.entry.Entry.{Entry}
-use Rattle.vt_hub.specs.Closed.{BeginsWith, IsPart, IsStopped, IsWhole}
+use Rattle.vt_hub.specs.Closed.{IsPart, IsStopped, IsWhole}
+use Rattle.vt_hub.specs.Histories.{BeginsWith}
 use Rattle.vt_hub.specs.Places.{joined_by, kept_by}
 use Rattle.vt_hub.specs.Shared.{IsSound, IsStop, SharedView}
 use Rattle.vt_hub.specs.Carrying.{Carried, display_of, plain, carried}
@@ -23,8 +24,10 @@ use Rattle.vt_journal.specs.Log.{Logged}
 use Rattle.vt_journal.specs.Room.{IsWithin, full_at, has_room}
 use Rattle.vt_journal.specs.declared.full.Full.{Full}
 use Rattle.vt_journal.specs.declared.limits.Limits.{Limits}
-use Rattle.vt_world.specs.Laws.{DisplaysAreLawfulFrom}
+use Rattle.vt_world.specs.Laws.{ScreensAreTapes}
 use Rattle.vt_world.specs.State.{WorldState, is_waiting}
+use Rattle.vt_world.specs.Tapes.{screen_of, tape_of}
+use Rattle.vt_world.specs.Terminals.{machine_of, terminal_at}
 
 module _ {A B : Type 0} where
   -- what holds of each of a list holds of each of its images
@@ -57,6 +60,7 @@ pub record KnownAt (before : ℕ) (log : List Carried) (seal : Option (Seal Full
     : Type 0 where
   pub seen : StartsWith log v.seen
   pub known : IsWordIn before log v.known
+  pub read : StartsWith log v.read
   pub joined : All (IsPartOf before log seal) (joined_of v.role)
   pub named : NamesJoined seal (joined_of v.role)
   pub unmade : (n : ℕ) → among n (made_of v.role) ≡ false → entries_by n log ≡ []
@@ -92,6 +96,7 @@ module _ (start : WorldState) (most : Limits) (hub : TableId) (stands : List Sta
     seen = begins x.seen is.seen;
     mine = ap plain is.mine ∙ made-carried x.number start s.log.entries;
     word = read-carried start s.log.entries x.known first is.known;
+    read = begins x.read is.read;
     met = λ z has. ⊎_elim
         (λ unmet. let bad : None ≡ Some z = sym unmet ∙ has in absurd cc)
         (λ m. (
@@ -159,10 +164,10 @@ module _ (start : WorldState) (most : Limits) (hub : TableId) (stands : List Sta
   pub whole : (world : WorldState) (l : Logged) (stop : Option Full) → world ≡ s.world
       → l ≡ s.log → stop ≡ stop_of s.stop → IsWithin most s.log.entries
       → ((n : ℕ) → among n (made_of v.role) ≡ is_made (stand_at stands n))
-      → DisplaysAreLawfulFrom
+      → ScreensAreTapes
       → IsWhole start most (kept_by hub stands v) world l stop
   unfolding log
-  whole world l stop same_world same_log same_stop within made lawful =
+  whole world l stop same_world same_log same_stop within made tapes =
       subst (λ (t : Option Full). IsWhole start most (kept_by hub stands v) world l t)
       (sym same_stop)
       (subst (λ (t : Logged). IsWhole start most (kept_by hub stands v) world t (stop_of s.stop))
@@ -180,10 +185,16 @@ module _ (start : WorldState) (most : Limits) (hub : TableId) (stands : List Sta
         within = within;
         seen = begins v.seen known_at.seen;
         word = read-carried start s.log.entries v.known first known_at.known;
+        read = begins v.read known_at.read;
         parts = parts;
         unmade = λ n at. sym (made-carried n start s.log.entries)
             ∙ ap plain (known_at.unmade n (made n ∙ ap is_made at));
         stops = stops;
         unstopped = (unstopped-all, all-unstopped);
-        lawful = lawful start s.log.entries;
+        lawful = λ nothing. sound.lawful nothing s.log.entries;
+        screens = λ opens c low.
+            ap (λ (w : WorldState). machine_of (terminal_at w.terminals c)) sound.replayed
+            ∙ (tapes start s.log.entries opens c low
+            ∙ ap (λ (w : WorldState). option_map (screen_of w.rows w.cols) (tape_of c start s.log.entries))
+            (sym opens.opened));
       }

@@ -6,7 +6,7 @@ use Rattle.vt_events.specs.Plain.{plain_reply}
 use Rattle.vt_events.specs.declared.entry.Entry.{Entry}
 use Rattle.vt_events.specs.declared.event.Event.{Event}
 use Rattle.vt_events.specs.declared.reply.Reply.{Reply}
-use Rattle.vt_hub.specs.Histories.{IsRead, awaits, made_by}
+use Rattle.vt_hub.specs.Histories.{BeginsWith, IsRead, awaits, made_by}
 use Rattle.vt_hub.specs.Views.{PassView}
 use Rattle.vt_hub.specs.declared.answer.Answer.{Answer}
 use Rattle.vt_hub.specs.declared.answer.Answer.TheVariants as answer
@@ -24,6 +24,7 @@ pub record Called (start : WorldState) (most : Limits) (e : Event) (v w : PassVi
   pub hub : w.hub ≡ v.hub
   pub number : w.number ≡ v.number
   pub known : w.known ≡ v.known
+  pub read : w.read ≡ v.read
   -- what others entered since
   pub between : List Entry
   pub entry : Entry
@@ -41,6 +42,8 @@ pub record Called (start : WorldState) (most : Limits) (e : Event) (v w : PassVi
   pub met : v.stop ≡ None
   pub goes_on : w.stop ≡ None
   pub word : IsRead start w.seen v.known
+  -- what the pass had read of the history stands
+  pub kept : BeginsWith w.seen v.read
 
 -- the call e of the pass v found the hub stopped, or no room, which stops it: w is the pass after it,
 -- which has seen the history that stands, and it made no entry
@@ -48,6 +51,7 @@ pub record Stopped (start : WorldState) (most : Limits) (e : Event) (v w : PassV
   pub hub : w.hub ≡ v.hub
   pub number : w.number ≡ v.number
   pub known : w.known ≡ v.known
+  pub read : w.read ≡ v.read
   pub mine : w.mine ≡ v.mine
   -- what others entered since
   pub later : List Entry
@@ -65,6 +69,8 @@ pub record Stopped (start : WorldState) (most : Limits) (e : Event) (v w : PassV
   pub charge : v.stop ≡ None → by ≡ v.number → full.charge ≡ charge_of e
   pub goes : is_waiting (replay start w.seen) by ≡ false
   pub word : IsRead start w.seen v.known
+  -- what the pass had read of the history stands
+  pub kept : BeginsWith w.seen v.read
 
 -- what the call e of the pass v answers
 abbrev pub Answers : WorldState → Limits → Event → PassView → PassView → Answer → Type 0
@@ -76,6 +82,7 @@ pub record Waited (start : WorldState) (v w : PassView) : Type 0 where
   pub hub : w.hub ≡ v.hub
   pub number : w.number ≡ v.number
   pub known : w.known ≡ v.known
+  pub read : w.read ≡ v.read
   pub mine : w.mine ≡ v.mine
   pub later : List Entry
   pub seen : w.seen ≡ v.seen ++ later

@@ -1,7 +1,8 @@
 -- Histories as the lock carries them: each entry with the display after it. This project's own.
-use Rattle.std.specs.Prelude.{ℕ, min, max, List, [], ◌∷◌, map}
+use Rattle.std.specs.Prelude.{◌≡◌, ℕ, min, max, List, [], ◌∷◌, map}
 use Rattle.turn_lock.specs.declared.entry.Entry as logged
 use Rattle.vt_events.specs.declared.entry.Entry.{Entry}
+use Rattle.vt_world.specs.History.{IsLegal}
 use Rattle.vt_world.specs.State.{WorldState}
 use Rattle.vt_world.specs.Step.{step}
 
@@ -26,3 +27,9 @@ carried w (e ∷ es) =
 -- the entries without their displays
 abbrev pub plain : List Carried → List Entry
 plain es = map (λ (e : Carried). e.what) es
+
+-- these are the entries of a legal history from this world, each with the display after it
+pub record IsCarried (start : WorldState) (log : List Carried) : Type 0 where
+  pub is : log ≡ carried start (plain log)
+  pub legal : IsLegal start (plain log)
+  pub first : display_of start ≡ start.display.front

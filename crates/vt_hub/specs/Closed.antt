@@ -1,23 +1,21 @@
 -- What a closed hub gives. This project's own.
-use Rattle.std.specs.Prelude.{◌≡◌, ◌↔◌, ℕ, List, [], ◌++◌, Option, Some, None, slice_get, false}
+use Rattle.std.specs.Prelude.{◌≡◌, ◌<◌, ◌↔◌, ℕ, List, [], Option, Some, None, option_map, slice_get, false}
 use Rattle.std.specs.List.{All}
 use Rattle.turn_lock.specs.declared.seal.Seal.{Seal}
 use Rattle.vt_events.specs.declared.entry.Entry.{Entry}
-use Rattle.vt_hub.specs.Histories.{IsFree, IsRead, made_by}
+use Rattle.vt_hub.specs.Histories.{BeginsWith, IsFree, IsRead, made_by}
 use Rattle.vt_hub.specs.Views.{PassView, StewardView, stand_at}
 use Rattle.vt_hub.specs.declared.stand.Stand.TheVariants.{Unmade}
 use Rattle.vt_journal.specs.Log.{Logged}
 use Rattle.vt_journal.specs.Room.{IsWithin, full_at, has_room}
 use Rattle.vt_journal.specs.declared.full.Full.{Full}
 use Rattle.vt_journal.specs.declared.limits.Limits.{Limits}
-use Rattle.vt_switch.specs.Law.{IsLawful, OwnersLive}
+use Rattle.vt_switch.specs.Law.{IsLawful}
 use Rattle.vt_world.specs.History.{IsLegal, replay}
-use Rattle.vt_world.specs.Laws.{moments}
-use Rattle.vt_world.specs.State.{WorldState, core, is_waiting}
-
--- the history begins with these entries
-abbrev pub BeginsWith : List Entry → List Entry → Type 0
-BeginsWith history seen = (later : List Entry) × (history ≡ seen ++ later)
+use Rattle.vt_world.specs.Laws.{IsStart, moments}
+use Rattle.vt_world.specs.State.{WorldState, is_waiting}
+use Rattle.vt_world.specs.Tapes.{screen_of, tape_of}
+use Rattle.vt_world.specs.Terminals.{machine_of, terminal_at}
 
 -- what a pass that was taken in knew is so: its entries are all of its number, and a stop that it met
 -- is the one that stands, where it had seen everything
@@ -25,6 +23,7 @@ pub record IsPart (start : WorldState) (history : List Entry) (stop : Option Ful
   pub seen : BeginsWith history x.seen
   pub mine : x.mine ≡ made_by x.number history
   pub word : IsRead start history x.known
+  pub read : BeginsWith history x.read
   pub met : (z : Seal Full) → x.stop ≡ Some z → (stop ≡ Some z.what) × (x.seen ≡ history)
 
 -- the hub stopped here: by the call of a pass that has met it and was taken in, whose caller has no
@@ -48,6 +47,7 @@ pub record IsWhole (start : WorldState) (most : Limits) (s : StewardView) (world
   pub within : IsWithin most log.entries
   pub seen : BeginsWith log.entries s.seen
   pub word : IsRead start log.entries s.known
+  pub read : BeginsWith log.entries s.read
   pub parts : All (IsPart start log.entries stop) s.joined
   -- a number of which no pass was made has no entry
   pub unmade : (n : ℕ) → stand_at s.stands n ≡ Unmade → made_by n log.entries ≡ []
@@ -55,5 +55,9 @@ pub record IsWhole (start : WorldState) (most : Limits) (s : StewardView) (world
   -- it didn't stop exactly where no pass met a stop
   pub unstopped : (stop ≡ None) ↔ All (λ x. x.stop ≡ None) s.joined
   -- the display law, where nothing waited for the display of the world that was opened
-  pub lawful : OwnersLive (core start) → start.display.pending ≡ None
-      → IsLawful (moments start log.entries)
+  pub lawful : start.display.pending ≡ None → IsLawful (moments start log.entries)
+  -- the screen law, where the world that was opened was a start: the screen of each console, with the
+  -- rest of its text, is its tape, run from the start screen
+  pub screens : IsStart start → (c : ℕ) → c < 64
+      → machine_of (terminal_at world.terminals c)
+      ≡ option_map (screen_of start.rows start.cols) (tape_of c start log.entries)

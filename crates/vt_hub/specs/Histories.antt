@@ -1,5 +1,5 @@
 -- Histories of a shared console, and what is known of them. This project's own.
-use Rattle.std.specs.Prelude.{◌≡◌, ℕ, ◌/◌, ◌%◌, ◌≤◌, ◌==◌, Bool, false, List, [], ◌∷◌, filter, length, take, Some, slice_get}
+use Rattle.std.specs.Prelude.{◌≡◌, ℕ, ◌/◌, ◌%◌, ◌≤◌, ◌==◌, Bool, false, List, [], ◌∷◌, ◌++◌, filter, length, take, Some, slice_get}
 use Rattle.vt_events.specs.Waits.{is_wait}
 use Rattle.vt_events.specs.declared.entry.Entry.{Entry}
 use Rattle.vt_world.specs.History.{replay}
@@ -17,6 +17,10 @@ waits_by known (entry ∷ entries) = waits_by (is_wait entry.reply) entries
 -- the last of these entries was answered "wait"
 abbrev pub awaits : List Entry → Bool
 awaits entries = waits_by false entries
+
+-- the history begins with these entries
+abbrev pub BeginsWith : List Entry → List Entry → Type 0
+BeginsWith history seen = (later : List Entry) × (history ≡ seen ++ later)
 
 -- no entry stands where its caller's ticket is open
 abbrev pub IsFree : WorldState → List Entry → Type 0

@@ -22,6 +22,7 @@ known_by hub number v = record {
   seen = plain v.seen;
   mine = plain v.mine;
   known = v.known;
+  read = plain v.read;
   stop = v.seal;
 }
 
@@ -33,6 +34,7 @@ joined_by hub x = record {
   seen = plain x.seen;
   mine = plain x.mine;
   known = x.known;
+  read = plain x.read;
   stop = x.seal;
 }
 
@@ -43,6 +45,7 @@ kept_by hub stands v = record {
   stands = stands;
   seen = plain v.seen;
   known = v.known;
+  read = plain v.read;
   joined = map (joined_by hub) (joined_of v.role);
 }
 

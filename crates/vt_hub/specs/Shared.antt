@@ -14,6 +14,7 @@ use Rattle.vt_journal.specs.Room.{full_at, has_room}
 use Rattle.vt_journal.specs.declared.full.Full.{Full}
 use Rattle.vt_journal.specs.declared.limits.Limits.{Limits}
 use Rattle.vt_world.specs.History.{IsLegal, replay}
+use Rattle.vt_world.specs.Laws.{DisplaysAreLawfulFrom}
 use Rattle.vt_world.specs.State.{WorldState, is_waiting}
 
 -- the world, the log, and where the hub stopped
@@ -40,6 +41,8 @@ pub record IsSound (start : WorldState) (most : Limits) (v : SharedView) : Type 
   pub display_high : start.display.front < 64
   pub shown_low : 0 < v.world.display.front
   pub shown_high : v.world.display.front < 64
+  -- the display law of every history from the world that was opened
+  pub lawful : DisplaysAreLawfulFrom start
   -- who has an open ticket was answered "wait" last
   pub tickets : (p : ℕ) → is_waiting v.world p ≡ true → awaits (made_by p v.log.entries) ≡ true
   pub stops : (z : Seal Full) → v.stop ≡ Some z → IsStop most v.world v.log.entries z

@@ -9,23 +9,26 @@ use Rattle.vt_journal.specs.declared.full.Full.{Full}
 use Rattle.vt_world.specs.State.{WorldState}
 
 -- which hub made the pass; its caller; the history as far as the pass has seen it; the entries that it
--- made; the greatest word that it has read; where the hub stopped, and by whose call, if it has met
--- that
+-- made; the greatest word that it has read, and the history of that word; where the hub stopped, and by
+-- whose call, if it has met that
 pub record PassView : Type 0 where
   pub hub : TableId
   pub number : ℕ
   pub seen : List Entry
   pub mine : List Entry
   pub known : ℕ
+  pub read : List Entry
   pub stop : Option (Seal Full)
 
 -- which hub it is of; where the pass of each number is; the history as far as the steward has seen
--- it; a word of it; and the passes that were taken in, the newest first, as they were then
+-- it; the greatest word of it that was read, and the history of that word; and the passes that were
+-- taken in, the newest first, as they were then
 pub record StewardView : Type 0 where
   pub hub : TableId
   pub stands : List Stand
   pub seen : List Entry
   pub known : ℕ
+  pub read : List Entry
   pub joined : List PassView
 
 -- where the pass of number n is
@@ -54,6 +57,7 @@ opened start hub = record {
   stands = replicate 68 Unmade;
   seen = [];
   known = start.display.front;
+  read = [];
   joined = [];
 }
 
@@ -69,5 +73,6 @@ new_pass n s = record {
   seen = s.seen;
   mine = [];
   known = s.known;
+  read = s.read;
   stop = None;
 }

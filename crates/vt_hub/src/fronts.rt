@@ -7,13 +7,15 @@ use vt_journal::Full;
 
 impl<J: Opening> Kept for Shared<J> {
     ghost use Rattle.std.proofs.Common.{arith};
-    ghost use Rattle.vt_hub.specs.Carrying.{display_of, carried};
+    ghost use Rattle.vt_hub.specs.Carrying.{IsCarried, display_of, carried};
 
     type What = Entry;
 
     type Stop = Full;
 
     ghost before = { display_of J.start };
+
+    ghost right = { IsCarried J.start };
 
     ghost entries = { λ s. carried J.start s.log.entries };
 

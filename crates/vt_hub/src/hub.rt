@@ -1,10 +1,12 @@
-ghost use Rattle.std.specs.Prelude.{◌≡◌, ◌≤◌, ◌/◌, ◌%◌, ◌∷◌, ℕ, None, false, length, IfOk, slice_set, count_by};
+ghost use Rattle.std.specs.Prelude.{◌≡◌, ◌≤◌, ◌+◌, ◌*◌, ◌/◌, List, ◌∷◌, ℕ, max, None, false, length, IfOk, slice_set, count_by};
+ghost use Rattle.vt_events.specs.declared.entry.Entry.{Entry};
 ghost use Rattle.vt_events.specs.declared.event.Event.TheVariants as event;
 ghost use Rattle.vt_hub.specs.Answers.{Answers, Turns};
 ghost use Rattle.vt_hub.specs.Closed.{IsWhole};
-ghost use Rattle.vt_hub.specs.Histories.{awaits};
+ghost use Rattle.vt_hub.specs.Histories.{BeginsWith, IsRead, awaits};
 ghost use Rattle.vt_hub.specs.Views.{is_made, is_out, new_pass, opened, stand_at, with_pass};
 ghost use Rattle.vt_hub.specs.declared.stand.Stand.TheVariants.{Home};
+ghost use Rattle.vt_world.specs.History.{IsLegal, replay};
 ghost use Rattle.vt_world.specs.Spare.{Fits};
 ghost use Rattle.vt_world.specs.State.{is_waiting};
 ghost use Rattle.vt_world.specs.Refusals.{ends_wait};
@@ -25,7 +27,7 @@ use turn_lock::TurnLock;
 use vt_base::{CallerNo, ConsoleNo, NoMemory, Size};
 use vt_events::Event;
 use vt_journal::{Limits, Log};
-use vt_world::{Spare, World, displays_are_lawful_from};
+use vt_world::{Spare, World, screens_are_tapes};
 
 /// One console for callers in several threads. Contracts see which hub it is.
 #[derive(Drop)]
@@ -106,13 +108,19 @@ impl<J: Opening> Hub<J> {
         }
     }
 
-    /// Takes in a pass.
+    /// Takes in a pass. The steward has then seen the longer history of both, and read the longer, so
+    /// that passes which are made later begin there.
     pub fn join(&self, s: &mut Steward<J>, p: Pass<J>)
         requires own { s.old.hub ≡ self.now }
         requires other { p.hub ≡ self.now }
         ensures hub { s.new.hub ≡ s.old.hub }
         ensures stands { s.new.stands ≡ slice_set s.old.stands p.number Home }
         ensures joined { s.new.joined ≡ p ∷ s.old.joined }
+        ensures own_seen { BeginsWith s.new.seen s.old.seen }
+        ensures other_seen { BeginsWith s.new.seen p.seen }
+        ensures known { s.new.known ≡ max s.old.known p.known }
+        ensures own_read { BeginsWith s.new.read s.old.read }
+        ensures other_read { BeginsWith s.new.read p.read }
     {
         let Pass {
             place,
@@ -198,15 +206,22 @@ impl<J: Opening> Hub<J> {
         }
     }
 
-    /// The display, after as much of the history as was entered by now, without waiting: no less than
-    /// this pass has seen, and no less than it has read before.
+    /// The display after all of the history that was entered by now, without waiting. What the pass has
+    /// seen and what it had read begin that history, and every history that the pass sees later begins
+    /// with it.
     pub fn display_now(&self, p: &mut Pass<J>) -> ConsoleNo
         requires own { p.old.hub ≡ self.now }
-        ensures display { result ≡ p.new.known % 64 }
-        ensures rest { p.new ≡ record p.old { known = p.new.known } }
-        ensures seen { length p.old.seen ≤ p.new.known / 64 }
+        ensures legal { IsLegal J.start p.new.read }
+        ensures shown { result ≡ (replay J.start p.new.read).display.front }
+        ensures seen { BeginsWith p.new.read p.old.seen }
+        ensures read { BeginsWith p.new.read p.old.read }
+        ensures word { p.new.known ≡ 64 * length p.new.read + result }
+        ensures rest { p.new ≡ record p.old { known = p.new.known; read = p.new.read } }
         ensures later { p.old.known / 64 ≤ p.new.known / 64 }
         ensures greatest { p.old.known ≤ p.new.known }
+        // Every later history has that beginning with this display, also behind a later answer.
+        ensures stands { (history : List Entry) → BeginsWith history p.new.read
+            → IsRead J.start history p.new.known }
     {
         let word = self.lock.front(&mut p.place);
         ConsoleNo::new((word % 64) as u16).unwrap()
@@ -218,7 +233,7 @@ impl<J: Opening> Hub<J> {
         requires all { count_by is_out s.stands ≡ 0 }
         ensures { IsWhole J.start J.limits s result.world result.log result.stop }
     {
-        displays_are_lawful_from();
+        screens_are_tapes();
         let Hub {
             lock,
             bells: _,

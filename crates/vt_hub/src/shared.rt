@@ -14,7 +14,9 @@ use turn_lock::Seal;
 use vt_base::CallerNo;
 use vt_events::{Entry, Event, charge};
 use vt_journal::{Full, Log};
-use vt_world::{Spare, World, legal_grows, sizes_stay, tickets_are_called};
+use vt_world::{
+    Spare, World, displays_are_lawful_from, legal_grows, sizes_stay, tickets_are_called,
+};
 
 /// What lies under the lock: the world after the entries of the log, and where the hub stopped.
 #[derive(Drop)]
@@ -51,6 +53,7 @@ impl<J: Opening> Shared<J> {
         ensures stop { result.stop ≡ None }
     {
         legal_grows();
+        displays_are_lawful_from(&world);
         let _front = world.display().get();
         Shared {
             world,

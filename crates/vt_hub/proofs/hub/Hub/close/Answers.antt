@@ -25,6 +25,7 @@ returns g c =
     let known_at : KnownAt (display_of start) (carried start s.log.entries) s.stop v = record {
       seen = c.close-shared.ensures.seen;
       known = c.close-shared.ensures.known;
+      read = c.close-shared.ensures.read;
       joined = c.close-shared.ensures.joined;
       named = c.close-shared.ensures.named;
       unmade = c.close-shared.ensures.unmade;
@@ -42,4 +43,4 @@ returns g c =
     c.s.view_is
     (whole start most hub c.s.inside.stands v s c.sound.ensures known_at c.parts-world.result.0 l
     c.parts-world.result.2 c.parts-world.ensures.world c.parts-world.ensures.log
-    c.parts-world.ensures.stop within c.s.invariant.made c.displays_are_lawful_from.ensures)
+    c.parts-world.ensures.stop within c.s.invariant.made c.screens_are_tapes.ensures.screens)

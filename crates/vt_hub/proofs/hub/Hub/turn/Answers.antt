@@ -20,7 +20,7 @@ call-answer-requires-clause-number g c =
     (found-from g.J.Opening.start g.J.Opening.limits c.p.inside.number c.p.inside.seq
     (view c.p.inside.place) c.enter-held.result.value c.value-shared.result.now
     c.value-shared.ensures.value c.sound.ensures c.p.invariant.named c.p.invariant.counted
-    c.enter-held.ensures.seen c.enter-held.ensures.mine c.enter-held.ensures.known
+    c.enter-held.ensures.seen c.enter-held.ensures.mine c.enter-held.ensures.known c.enter-held.ensures.read
     c.enter-held.ensures.stands c.enter-held.ensures.named)
 
 pub publish-requires-clause-adds : goal.publish-requires-clause-adds
@@ -34,7 +34,7 @@ publish-requires-clause-adds g c =
     (view c.p.inside.place) old old refl
     (subst (λ (s : SharedView). IsSound start g.J.Opening.limits s) given c.sound.ensures)
     c.p.invariant.named c.p.invariant.counted c.enter-held.ensures.seen c.enter-held.ensures.mine
-    c.enter-held.ensures.known c.enter-held.ensures.stands c.enter-held.ensures.named in
+    c.enter-held.ensures.known c.enter-held.ensures.read c.enter-held.ensures.stands c.enter-held.ensures.named in
     subst (AddsNext (carried start c.call-answer.new.self.log.entries))
     (sym c.enter-held.ensures.view.1)
     (adds start g.J.Opening.limits c.p.inside.number c.p.inside.seq (view c.p.inside.place) old
@@ -62,7 +62,7 @@ overflow_add-p g c =
     (found-from g.J.Opening.start g.J.Opening.limits c.p.inside.number c.p.inside.seq
     (view c.p.inside.place) c.enter-held.result.value c.value-shared.result.now
     c.value-shared.ensures.value c.sound.ensures c.p.invariant.named c.p.invariant.counted
-    c.enter-held.ensures.seen c.enter-held.ensures.mine c.enter-held.ensures.known
+    c.enter-held.ensures.seen c.enter-held.ensures.mine c.enter-held.ensures.known c.enter-held.ensures.read
     c.enter-held.ensures.stands c.enter-held.ensures.named) in
     omega (
       arith,
@@ -82,7 +82,7 @@ invariant_of-p g c =
     found-from start most c.p.inside.number c.p.inside.seq before old old refl
     (subst (λ (s : SharedView). IsSound start most s) given c.sound.ensures)
     c.p.invariant.named c.p.invariant.counted c.enter-held.ensures.seen c.enter-held.ensures.mine
-    c.enter-held.ensures.known c.enter-held.ensures.stands c.enter-held.ensures.named in
+    c.enter-held.ensures.known c.enter-held.ensures.read c.enter-held.ensures.stands c.enter-held.ensures.named in
     let hub : TableId = lock_named c.p.inside.place in
     let own : name c.self.inside.lock ≡ hub =
     c.self.view_is ∙ (sym c.requires.own ∙ sym (ap (λ (q : PassView). q.hub) c.p.view_is)) in
@@ -122,7 +122,7 @@ returns-in-Done g c =
     found-from start most c.p.inside.number c.p.inside.seq before old old refl
     (subst (λ (s : SharedView). IsSound start most s) given c.sound.ensures)
     c.p.invariant.named c.p.invariant.counted c.enter-held.ensures.seen c.enter-held.ensures.mine
-    c.enter-held.ensures.known c.enter-held.ensures.stands c.enter-held.ensures.named in
+    c.enter-held.ensures.known c.enter-held.ensures.read c.enter-held.ensures.stands c.enter-held.ensures.named in
     let hub : TableId = lock_named c.p.inside.place in
     let own : name c.self.inside.lock ≡ hub =
     c.self.view_is ∙ (sym c.requires.own ∙ sym (ap (λ (q : PassView). q.hub) c.p.view_is)) in
@@ -154,7 +154,7 @@ returns-in-Full g c =
     found-from start most c.p.inside.number c.p.inside.seq before old old refl
     (subst (λ (s : SharedView). IsSound start most s) given c.sound.ensures)
     c.p.invariant.named c.p.invariant.counted c.enter-held.ensures.seen c.enter-held.ensures.mine
-    c.enter-held.ensures.known c.enter-held.ensures.stands c.enter-held.ensures.named in
+    c.enter-held.ensures.known c.enter-held.ensures.read c.enter-held.ensures.stands c.enter-held.ensures.named in
     let hub : TableId = lock_named c.p.inside.place in
     let own : name c.self.inside.lock ≡ hub =
     c.self.view_is ∙ (sym c.requires.own ∙ sym (ap (λ (q : PassView). q.hub) c.p.view_is)) in
@@ -180,7 +180,7 @@ returns-in-Waits g c =
     found-from start most c.p.inside.number c.p.inside.seq before old old refl
     (subst (λ (s : SharedView). IsSound start most s) given c.sound.ensures)
     c.p.invariant.named c.p.invariant.counted c.enter-held.ensures.seen c.enter-held.ensures.mine
-    c.enter-held.ensures.known c.enter-held.ensures.stands c.enter-held.ensures.named in
+    c.enter-held.ensures.known c.enter-held.ensures.read c.enter-held.ensures.stands c.enter-held.ensures.named in
     let hub : TableId = lock_named c.p.inside.place in
     let own : name c.self.inside.lock ≡ hub =
     c.self.view_is ∙ (sym c.requires.own ∙ sym (ap (λ (q : PassView). q.hub) c.p.view_is)) in
