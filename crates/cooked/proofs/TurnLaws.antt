@@ -14,7 +14,7 @@ use Rattle.vt_events.specs.declared.event.Event.TheVariants as event
 use Rattle.vt_events.specs.declared.reply.Reply.{Reply}
 use Rattle.vt_events.specs.declared.reply.Reply.TheVariants as reply
 use Rattle.vt_hub.specs.Answers.{Called, Stopped}
-use Rattle.vt_hub.specs.Histories.{IsRead, awaits, waits_by}
+use Rattle.vt_hub.specs.Histories.{BeginsWith, IsRead, awaits, waits_by}
 use Rattle.vt_hub.specs.Views.{PassView}
 use Rattle.vt_journal.specs.declared.full.Full.{Full}
 use Rattle.vt_journal.specs.declared.limits.Limits.{Limits}
@@ -41,6 +41,7 @@ pub record Came (u v : PassView) (made : List Entry) : Type 0 where
   pub hub : v.hub ≡ u.hub
   pub number : v.number ≡ u.number
   pub known : v.known ≡ u.known
+  pub read : v.read ≡ u.read
   pub mine : v.mine ≡ u.mine ++ made
   pub later : List Entry
   pub seen : v.seen ≡ u.seen ++ later
@@ -50,6 +51,7 @@ came-here v = record {
   hub = refl;
   number = refl;
   known = refl;
+  read = refl;
   mine = sym (append-nil v.mine);
   later = [];
   seen = sym (append-nil v.seen);
@@ -60,6 +62,7 @@ came-on start u v made g = record {
   hub = g.hub;
   number = g.number;
   known = g.known;
+  read = g.read;
   mine = g.mine;
   later = g.later;
   seen = g.seen;
@@ -71,6 +74,7 @@ goes-done start most e u v w made place r came called = record {
   hub = called.hub ∙ came.hub;
   number = called.number ∙ came.number;
   known = called.known ∙ came.known;
+  read = called.read ∙ came.read;
   mine =
       called.mine
       ∙ ap (λ es. es ++ called.entry ∷ []) came.mine
@@ -84,6 +88,7 @@ goes-done start most e u v w made place r came called = record {
   own = called.own;
   legal = called.legal;
   word = subst (λ k. IsRead start w.seen k) (sym called.known) called.word;
+  kept = subst (λ k. BeginsWith w.seen k) (sym called.read) called.kept;
 }
 
 goes-full : (start : WorldState) (most : Limits) (e : Event) (u v w : PassView) (made : List Entry) (full : Full)
@@ -92,6 +97,7 @@ goes-full start most e u v w made full came stopped = record {
   hub = stopped.hub ∙ came.hub;
   number = stopped.number ∙ came.number;
   known = stopped.known ∙ came.known;
+  read = stopped.read ∙ came.read;
   mine = stopped.mine ∙ came.mine ∙ ap (λ es. u.mine ++ es) (sym (append-nil made));
   later = came.later ++ stopped.later;
   seen =
@@ -101,6 +107,7 @@ goes-full start most e u v w made full came stopped = record {
   own = stopped.own;
   legal = stopped.legal;
   word = subst (λ k. IsRead start w.seen k) (sym stopped.known) stopped.word;
+  kept = subst (λ k. BeginsWith w.seen k) (sym stopped.read) stopped.kept;
 }
 
 -- a call of a read of one is answered by a byte or an error

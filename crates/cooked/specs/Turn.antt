@@ -7,7 +7,7 @@ use Rattle.vt_events.specs.declared.event.Event.TheVariants as event
 use Rattle.vt_events.specs.declared.reply.Reply.{Reply}
 use Rattle.vt_events.specs.declared.reply.Reply.TheVariants as reply
 use Rattle.vt_base.specs.declared.errno.Errno.{Errno}
-use Rattle.vt_hub.specs.Histories.{IsRead, awaits, made_by}
+use Rattle.vt_hub.specs.Histories.{BeginsWith, IsRead, awaits, made_by}
 use Rattle.vt_hub.specs.Views.{PassView}
 use Rattle.vt_journal.specs.declared.full.Full.{Full}
 use Rattle.vt_world.specs.History.{IsLegal}
@@ -92,12 +92,14 @@ pub record GoesOn (start : WorldState) (v w : PassView) (made : List Entry) : Ty
   pub hub : w.hub ≡ v.hub
   pub number : w.number ≡ v.number
   pub known : w.known ≡ v.known
+  pub read : w.read ≡ v.read
   pub mine : w.mine ≡ v.mine ++ made
   pub later : List Entry
   pub seen : w.seen ≡ v.seen ++ later
   pub own : w.mine ≡ made_by w.number w.seen
   pub legal : IsLegal start w.seen
   pub word : IsRead start w.seen w.known
+  pub kept : BeginsWith w.seen w.read
 
 -- a whole turn, with the pass before and after it
 pub record Turns (start : WorldState) (fd : ℕ) (old new : Typing) (turn : Turn) (v w : PassView) : Type 0 where
