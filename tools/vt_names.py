@@ -8,18 +8,18 @@ import re
 SOURCE = pathlib.Path(__file__).resolve().parent.parent / "crates/key_syms/src"
 
 
+def numbers(index, name):
+    """Returns the numbers of an array of the index."""
+    return [int(word) for word in re.search(rf"pub static {name}: [^=]*= \[(.*?)\];", index, re.S)[1].split(",") if word.strip()]
+
+
 def read():
     """Returns the kind and the value of each name, in the table's order."""
     table = (SOURCE / "table.rt").read_text(encoding="utf-8")
-    kinds = dict(re.findall(r"pub const (\w+): u8 = (\d+);", (SOURCE / "kind.rt").read_text(encoding="utf-8")))
-    runs = re.findall(r"Run \{ kind: kind::(\w+), first: (\w+) \}", table)
+    index = (SOURCE / "index.rt").read_text(encoding="utf-8")
     text = re.search(r'pub static NAMES.*?\*b"(.*?)";', table, re.S)[1]
-    lines = [line.split() for line in re.sub(r"\\\n *", "", text).split("\\n") if line.strip()]
-    return {
-        name: (int(kinds[kind]), int(first, 0) + place)
-        for (kind, first), names in zip(runs, lines, strict=True)
-        for place, name in enumerate(names)
-    }
+    names = re.sub(r"\\\n *", "", text).split()
+    return dict(zip(names, zip(numbers(index, "KINDS"), numbers(index, "VALUES"), strict=True), strict=True))
 
 
 ACTIONS = read()
