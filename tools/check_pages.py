@@ -1,12 +1,13 @@
 #!/usr/bin/env python3
-"""Checks that the pages say what the built program does.
+"""Checks that the examples of the pages print what the pages show.
 
-In README.md and docs/*.md an indented line `$ COMMAND` that calls crates/vt/out/vt, or shows a file of examples/, is run
-from the top of the repository, and the indented lines after it have to be what it prints; a line `..` stands for any
-lines. So is each line `$ COMMAND` of an example in man/, where `vt` is that program; the examples of a session and of a
-keymap there have to be taken. The journal's lines that docs/TOUR.md quotes have to stand in examples/tour.journal, in
-the same order.
-Prints a line for each difference, and ends with status 1 if there is one.
+In README.md and the pages of docs/ and docs/guide/ each indented line `$ COMMAND` is run from the top of the repository, and the
+indented lines after it have to be what it prints; a line `..` stands for any lines. So is each line `$ COMMAND` of an example in
+man/, where `vt` is crates/vt/out/vt; the examples of a session and of a keymap there have to be accepted, and each command of vt(1)
+has an example. The lines of a journal that docs/TOUR.md quotes have to stand in examples/tour.journal, in the same order.
+docs/guide/test-a-terminal-program.md is run by tools/check_expect.py, and the programs of docs/guide/embed-a-crate.md by
+tools/check_snippets.py.
+Prints a line for each difference. The status is 1 if there is one, and 2 if the program isn't built.
 """
 import os
 import pathlib
@@ -15,7 +16,10 @@ import subprocess
 import sys
 
 TOP = pathlib.Path(__file__).resolve().parent.parent
-IS_RUN = re.compile(r"crates/vt/out/vt|\bexamples/")
+PROGRAM = TOP / "crates/vt/out/vt"
+SECONDS = 60
+# Pages whose commands another check runs, in a folder of their own.
+RUN_ELSEWHERE = ("test-a-terminal-program.md", "embed-a-crate.md")
 
 
 def examples(text):
@@ -32,7 +36,7 @@ def examples(text):
 
 
 def fits(lines, printed):
-    """Tells whether the lines are what was printed, but for empty ones; `..` stands for any lines."""
+    """Whether the lines are what was printed, empty ones left out; `..` stands for any lines."""
     pattern = "".join("(?:.*\n)*?" if line == ".." else re.escape(line.rstrip()) + "\n" for line in lines if line.strip())
     return re.fullmatch(pattern, "".join(line.rstrip() + "\n" for line in printed if line.strip())) is not None
 
@@ -40,17 +44,19 @@ def fits(lines, printed):
 def differences(page, examples_of_page):
     path = f"{TOP}/crates/vt/out:{os.environ['PATH']}"
     for command, lines in examples_of_page:
-        ran = subprocess.run(
-            ["bash", "-c", command], cwd=TOP, env={**os.environ, "PATH": path}, capture_output=True, timeout=60, check=False
-        )
+        run = {"cwd": TOP, "env": {**os.environ, "PATH": path}, "stdin": subprocess.DEVNULL, "capture_output": True}
+        try:
+            ran = subprocess.run(["bash", "-c", command], timeout=SECONDS, check=False, **run)
+        except subprocess.TimeoutExpired:
+            yield f"{page.name}: `{command}` runs for over {SECONDS} seconds"
+            continue
         printed = (ran.stdout + ran.stderr).decode("utf-8", "replace").splitlines()
         if not fits(lines, printed):
             yield f"{page.name}: `{command}` prints something else:\n" + "\n".join(printed[:12])
 
 
 def page_faults(page):
-    found = examples(page.read_text(encoding="utf-8"))
-    return differences(page, [it for it in found if IS_RUN.search(it[0])])
+    return differences(page, examples(page.read_text(encoding="utf-8")))
 
 
 # The command that takes what a page of man/ shows without one.
@@ -64,8 +70,8 @@ def manual_faults(page):
             command, *lines = block[2:].splitlines()
             yield from differences(page, [(command, lines)])
         elif page.name in TAKEN_BY:
-            words = [f"{TOP}/crates/vt/out/vt", TAKEN_BY[page.name]]
-            ran = subprocess.run(words, input=block.encode(), capture_output=True, timeout=60, check=False)
+            words = [PROGRAM, TAKEN_BY[page.name]]
+            ran = subprocess.run(words, input=block.encode(), capture_output=True, timeout=SECONDS, check=False)
             if ran.returncode:
                 yield f"{page.name}: its example is refused: {ran.stderr.decode('utf-8', 'replace')}"
 
@@ -85,11 +91,26 @@ def tour_faults():
             left = left[left.index(quoted[1]) + 1 :]
 
 
+def command_faults(page):
+    """Gives a fault for each command of vt(1) without an example."""
+    text = page.read_text(encoding="utf-8")
+    commands = re.findall(r"^\.It Nm Cm (\w+)", text, re.M)
+    shown = re.search(r"^\.Sh EXAMPLES\n((?:(?!\.Sh ).*\n)*)", text, re.M)
+    for command in commands:
+        if not re.search(rf"\bvt {command}\b", shown[1] if shown else ""):
+            yield f"{page.name}: the command {command} has no example"
+
+
 def main():
-    pages = [TOP / "README.md", *sorted((TOP / "docs").glob("*.md"))]
+    if not PROGRAM.exists():
+        print(f"{PROGRAM.relative_to(TOP)} is missing: `rt run` in crates/vt builds it (README.md, \"Install\")")
+        return 2
+    pages = [TOP / "README.md", *sorted((TOP / "docs").glob("*.md")), *sorted((TOP / "docs/guide").glob("*.md"))]
+    pages = [page for page in pages if page.name not in RUN_ELSEWHERE]
     manuals = sorted((TOP / "man").glob("*"))
     faults = [fault for page in pages for fault in page_faults(page)]
     faults += [fault for page in manuals for fault in manual_faults(page)] + list(tour_faults())
+    faults += command_faults(TOP / "man/vt.1")
     for fault in faults:
         print(fault)
     return 1 if faults else 0

@@ -9,7 +9,7 @@ a `Seat`, which has one); the other answers, by clauses that every call of the r
 gives an Option, a Result or a bool has; and what is lent, which is `nothing lent` exactly where nothing is lent to be changed. NoMemory has no clause; any other answer without
 one is "no clause". Every call of a cell with "no clause", and every call without an `ensures`, stands as `CRATE::CALL` under
 "What no clause says".
-README.md, docs/PROVED.md and this page each have one sentence "N calls may wait for ever: ..", up to a semicolon, with the
+docs/PROVED.md and this page each have one sentence "N calls may wait for ever: ..", up to a semicolon, with the
 calls whose rows say that they may.
 Prints a line for each fault, and ends with status 1 if there is one.
 """
@@ -27,7 +27,7 @@ LENT_NOTHING = "nothing lent"
 ALLOCATOR = re.compile(r"alloc: |\bSeat<")
 WAITING = re.compile(r"\b(?:Wait|Threads)\b")
 MAY_WAIT = "may"
-WAIT_LISTS = ("README.md", "docs/PROVED.md", "docs/PROMISES.md")
+WAIT_LISTS = ("docs/PROVED.md", "docs/PROMISES.md")
 WAIT_LIST = re.compile(r"(\w+)\s+calls\s+may\s+wait\s+for\s+ever:([^;]*);")
 COUNTS = ("No", "One", "Two", "Three", "Four", "Five", "Six", "Seven", "Eight", "Nine", "Ten", "Eleven", "Twelve")
 

@@ -1,5 +1,5 @@
 #!/usr/bin/env python3
-"""Checks that what docs/PROVED.md and README.md cite of the proofs exists.
+"""Checks that what docs/PROVED.md cites of the proofs exists.
 
 A section `### CRATE`, or `### TITLE: CRATE`, has tables of three columns: what holds, what carries it, and where its words
 are defined. What carries it is groups with `; ` between: calls, a colon, and clauses, of which every call of the group has
@@ -163,9 +163,9 @@ def edit_faults():
 
 
 def main():
-    pages = [TOP / "README.md", TOP / "CONTRIBUTING.md", *sorted((TOP / "docs").glob("*.md"))]
+    pages = [TOP / "README.md", TOP / "CONTRIBUTING.md", *sorted((TOP / "docs").rglob("*.md"))]
     faults = [fault for page in pages for fault in missing_pages(page)]
-    faults += [fault for name in ("docs/PROVED.md", "README.md") for fault in page_faults(TOP / name)]
+    faults += [*page_faults(TOP / "docs/PROVED.md")]
     faults += [*wrong_body_faults(TOP / "docs/PROVED.md"), *edit_faults()]
     for fault in faults:
         print(fault)

@@ -1,0 +1,81 @@
+#!/usr/bin/env python3
+"""Counts forms of words that make the pages hard to read, and fails above a limit for each page.
+
+usage: tools/check_words.py [--counts]
+
+The forms are those of PATTERNS: things that tell or say, "what" as a noun, "but" for except, "where" for if, a page named
+without a link, and lines of over 120 characters. Code and what stands in backquotes don't count, nor does the length of a row
+of a table. A page may have a form as often as LIMITS says; OLD_PAGES lists the pages that aren't rewritten yet, each with
+limits of its own, in the order of PATTERNS. `--counts` prints what each page has. Status 1 means that a page is over a limit,
+or that a page of OLD_PAGES is gone.
+"""
+import pathlib
+import re
+import sys
+
+sys.dont_write_bytecode = True
+
+from check_links import TOP, pages  # noqa: E402: after the line that keeps tools/ clean
+
+LONGEST = 120
+PATTERNS = {
+    "a thing that tells": re.compile(r"\b(?:tell|tells|told|telling)\b", re.I),
+    "a thing that says": re.compile(r"\b(?:say|says|said|saying)\b", re.I),
+    "what as a noun": re.compile(r"(?:^|[.;:] )(?:- )?What [a-z' ]+\b(?:is|are|isn't|has|have|does|do|comes|stands|was|were)\b(?!.*\?)"),
+    "but for except": re.compile(
+        r"\bbut for\b|\b(?:all|any|anything|each|every|everything|nobody|none|nothing|no)\b(?: \w+)? but\b"
+        r"|\bof other \w+ but\b|\band all but\b",
+        re.I,
+    ),
+    "where for if": re.compile(r"\bexactly where\b|(?:^|[.;:] )Where\b|, where (?:it|there|that|they|he|she|nobody|no)\b"),
+    "who as a noun": re.compile(r"\b(?:whoever|by who|to who|for who|of who)\b|(?:^|[.;:] )Who [a-z]+s\b(?!.*\?)", re.I),
+    "scope by denial": re.compile(r"\bspoken of\b|\bsays nothing of\b|\bnothing is said of\b|\byields to\b|\bspeaks? of\b", re.I),
+    "a page without a link": re.compile(r"(?<![(\w/])docs/[\w/-]+\.md\b"),
+    "a long line": None,
+}
+# How often a rewritten page may have each form, in the order of PATTERNS.
+LIMITS = (0, 1, 0, 0, 3, 0, 0, 0, 0)
+# Pages that aren't rewritten yet.
+OLD_PAGES = {
+}
+
+
+def lines_of(text):
+    """Gives the lines outside code, and of a table, each without what stands in backquotes."""
+    is_code = False
+    for line in text.splitlines():
+        if line.startswith("```"):
+            is_code = not is_code
+        elif not is_code and not line.startswith("    "):
+            yield line, re.sub(r"`[^`]*`", "``", line)
+
+
+def counts(page):
+    """Gives how often the page has each form."""
+    lines = list(lines_of(page.read_text(encoding="utf-8")))
+    found = [sum(len(form.findall(bare)) for _, bare in lines) for form in PATTERNS.values() if form]
+    return [*found, sum(len(line) > LONGEST and not line.startswith("|") for line, _ in lines)]
+
+
+def main():
+    over = []
+    seen = set()
+    for page in pages():
+        name = str(page.relative_to(TOP))
+        seen.add(name)
+        found, limits = counts(page), OLD_PAGES.get(name, LIMITS)
+        if "--counts" in sys.argv[1:]:
+            print(f"{name}: " + ", ".join(map(str, found)))
+        for form, number, limit in zip(PATTERNS, found, limits):
+            if number > limit:
+                over.append(f"{name}: {form}: {number}, at most {limit}")
+    over += [f"{name}: no such page; take it out of OLD_PAGES" for name in OLD_PAGES if name not in seen]
+    if "--counts" in sys.argv[1:]:
+        return 0
+    for line in over:
+        print(line)
+    return 1 if over else 0
+
+
+if __name__ == "__main__":
+    sys.exit(main())
