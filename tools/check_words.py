@@ -41,12 +41,12 @@ OLD_PAGES = {
 
 
 def lines_of(text):
-    """Gives the lines outside code, and of a table, each without what stands in backquotes."""
+    """Gives the lines outside code and headings, each as it is and without what stands in backquotes."""
     is_code = False
     for line in text.splitlines():
         if line.startswith("```"):
             is_code = not is_code
-        elif not is_code and not line.startswith("    "):
+        elif not is_code and not line.startswith(("    ", "#")):
             yield line, re.sub(r"`[^`]*`", "``", line)
 
 
