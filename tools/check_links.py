@@ -1,16 +1,16 @@
 #!/usr/bin/env python3
 """Checks the links of every Markdown page: the file is there, and so is the heading that a link names.
 
-A link is `[text](target)` outside code. Its target is a path from the page's folder, a heading as `#words-of-it`, or both; an
-address with a scheme, as https:, is not looked up. Prints a line for each link that leads nowhere, and ends with status 1 if
-there is one.
+A link is `[text](target)` outside code. Its target is a path from the page's folder, a heading as `#words-of-it`, or
+both; an address with a scheme, as https:, is not looked up. Prints a line for each link that leads nowhere, and ends
+with status 1 if there is one.
 """
 import pathlib
 import re
 import sys
 
 TOP = pathlib.Path(__file__).resolve().parent.parent
-LINK = re.compile(r"(?<!!)\[(?:[^\]\[]|`[^`]*`)*\]\(([^()\s]+)\)")
+LINK = re.compile(r"(?<!!)\[(?:[^\]\[`]|`[^`]*`)*\]\(([^()\s]+)\)")
 IS_ADDRESS = re.compile(r"[a-z]+:")
 LEFT_OUT = ("out", ".git", "node_modules")
 
@@ -23,13 +23,13 @@ def pages():
 
 
 def prose(text):
-    """Gives each line outside code with its number, without what stands in backquotes."""
-    is_code = False
-    for number, line in enumerate(text.splitlines(), 1):
-        if line.startswith("```"):
-            is_code = not is_code
-        elif not is_code and not line.startswith("    "):
-            yield number, line
+    """Gives the text with each line of code empty, so that a link may go over the end of a line."""
+    is_code, lines = False, []
+    for line in text.splitlines():
+        is_fence = line.startswith("```")
+        is_code ^= is_fence
+        lines.append("" if is_fence or is_code or line.startswith("    ") else line)
+    return "\n".join(lines)
 
 
 def slug(heading):
@@ -38,22 +38,21 @@ def slug(heading):
 
 
 def headings(page):
-    found = (re.match(r"#+ (.*)", line) for _, line in prose(page.read_text(encoding="utf-8")))
-    return {slug(it[1]) for it in found if it}
+    return {slug(it) for it in re.findall(r"^#+ (.*)", prose(page.read_text(encoding="utf-8")), re.M)}
 
 
 def faults(page):
-    for number, line in prose(page.read_text(encoding="utf-8")):
-        for target in LINK.findall(line):
-            if IS_ADDRESS.match(target):
-                continue
-            path, _, heading = target.partition("#")
-            file = (page.parent / path).resolve() if path else page
-            place = f"{page.relative_to(TOP)}:{number}"
-            if not file.exists():
-                yield f"{place}: {target}: no such file"
-            elif heading and (file.suffix != ".md" or heading not in headings(file)):
-                yield f"{place}: {target}: no such heading"
+    text = prose(page.read_text(encoding="utf-8"))
+    for link in LINK.finditer(text):
+        if IS_ADDRESS.match(link[1]):
+            continue
+        path, _, heading = link[1].partition("#")
+        file = (page.parent / path).resolve() if path else page
+        place = f"{page.relative_to(TOP)}:{text.count(chr(10), 0, link.start()) + 1}"
+        if not file.exists():
+            yield f"{place}: {link[1]}: no such file"
+        elif heading and (file.suffix != ".md" or heading not in headings(file)):
+            yield f"{place}: {link[1]}: no such heading"
 
 
 def main():

@@ -1,13 +1,13 @@
 #!/usr/bin/env python3
 """Checks that the examples of the pages print what the pages show.
 
-In README.md and the pages of docs/ and docs/guide/ each indented line `$ COMMAND` is run from the top of the repository, and the
-indented lines after it have to be what it prints; a line `..` stands for any lines. So is each line `$ COMMAND` of an example in
-man/, where `vt` is crates/vt/out/vt; the examples of a session and of a keymap there have to be accepted, and each command of vt(1)
-has an example. The lines of a journal that docs/TOUR.md quotes have to stand in examples/tour.journal, in the same order.
-docs/guide/test-a-terminal-program.md is run by tools/check_expect.py, and the programs of docs/guide/embed-a-crate.md by
-tools/check_snippets.py.
-Prints a line for each difference. The status is 1 if there is one, and 2 if the program isn't built.
+In README.md and the pages of docs/ and docs/guide/ each indented line `$ COMMAND` is run from the top of the
+repository, and the indented lines after it have to be what it prints; a line `..` stands for any lines. So is each
+line `$ COMMAND` of an example in man/, where `vt` is crates/vt/out/vt; the examples of a session and of a keymap there
+have to be accepted, and each command of vt(1) has an example. The lines of a journal that docs/TOUR.md quotes have to
+stand in examples/tour.journal, in the same order. docs/guide/test-a-terminal-program.md is run by
+tools/check_expect.py, and the programs of docs/guide/embed-a-crate.md by tools/check_snippets.py. Prints a line for
+each difference. The status is 1 if there is one, and 2 if the program isn't built.
 """
 import os
 import pathlib

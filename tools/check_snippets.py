@@ -3,17 +3,17 @@
 
 usage: tools/check_snippets.py [--no-run]
 
-On the pages of PAGES each indented block without a `$` follows a paragraph that names a file in backquotes, as its last one, and
-ends with a colon:
+On the pages of PAGES each indented block without a `$` follows a paragraph that names a file in backquotes, as its
+last one, and ends with a colon:
 
-- A file of crates/: the block's lines stand in that file, one after another, apart from their indentation; a line `..` stands for
-  any lines.
+- A file of crates/: the block's lines stand in that file, one after another, apart from their indentation; a line `..`
+  stands for any lines.
 - Any other path: the block is that file, in an empty folder in which the page's commands are run, with `~/vt` for this
   repository. An indented line `$ COMMAND` is run there, and the lines after it are what it prints on standard output.
 - A block after a paragraph without a file is for the reader alone. It may have no line of Rattle.
 
-Prints a line for each difference, and ends with status 1 if there is one. The commands need `rt`; without it, and with `--no-run`,
-none is run.
+Prints a line for each difference, and ends with status 1 if there is one. The commands need `rt`; without it, and with
+`--no-run`, none is run.
 """
 import os
 import pathlib

@@ -3,11 +3,11 @@
 
 usage: tools/check_words.py [--counts]
 
-The forms are those of PATTERNS: things that tell or say, "what" as a noun, "but" for except, "where" for if, a page named
-without a link, and lines of over 120 characters. Code and what stands in backquotes don't count, nor does the length of a row
-of a table. A page may have a form as often as LIMITS says; OLD_PAGES lists the pages that aren't rewritten yet, each with
-limits of its own, in the order of PATTERNS. `--counts` prints what each page has. Status 1 means that a page is over a limit,
-or that a page of OLD_PAGES is gone.
+The forms are those of PATTERNS: things that tell or say, "what" as a noun, "but" for except, "where" for if, a page
+named without a link, and lines of over 120 characters. Code, headings and text in backquotes don't count, nor does the
+length of a row of a table. LIMITS has how often a page may have each form. OLD_PAGES lists the pages that aren't
+rewritten yet, each with limits of its own. Both are in the order of PATTERNS. `--counts` prints the counts of each
+page. Status 1 means that a page is over a limit, or that a page of OLD_PAGES is gone.
 """
 import pathlib
 import re
@@ -21,22 +21,36 @@ LONGEST = 120
 PATTERNS = {
     "a thing that tells": re.compile(r"\b(?:tell|tells|told|telling)\b", re.I),
     "a thing that says": re.compile(r"\b(?:say|says|said|saying)\b", re.I),
-    "what as a noun": re.compile(r"(?:^|[.;:] )(?:- )?What [a-z' ]+\b(?:is|are|isn't|has|have|does|do|comes|stands|was|were)\b(?!.*\?)"),
+    "what as a noun": re.compile(
+        r"(?:^|[.;:] )(?:- )?What [a-z' ]+\b(?:is|are|isn't|has|have|does|do|comes|stands|was|were)\b(?!.*\?)"
+    ),
     "but for except": re.compile(
         r"\bbut for\b|\b(?:all|any|anything|each|every|everything|nobody|none|nothing|no)\b(?: \w+)? but\b"
         r"|\bof other \w+ but\b|\band all but\b",
         re.I,
     ),
     "where for if": re.compile(r"\bexactly where\b|(?:^|[.;:] )Where\b|, where (?:it|there|that|they|he|she|nobody|no)\b"),
-    "who as a noun": re.compile(r"\b(?:whoever|by who|to who|for who|of who)\b|(?:^|[.;:] )Who [a-z]+s\b(?!.*\?)", re.I),
-    "scope by denial": re.compile(r"\bspoken of\b|\bsays nothing of\b|\bnothing is said of\b|\byields to\b|\bspeaks? of\b", re.I),
+    "who as a noun": re.compile(
+        r"\b(?:whoever|by who|to who|for who|of who)\b|(?:^|[.;:] )Who [a-z]+s\b(?!.*\?)", re.I
+    ),
+    "scope by denial": re.compile(
+        r"\bspoken of\b|\bsays nothing of\b|\bnothing is said of\b|\byields to\b|\bspeaks? of\b", re.I
+    ),
     "a page without a link": re.compile(r"(?<![(\w/])docs/[\w/-]+\.md\b"),
     "a long line": None,
 }
 # How often a rewritten page may have each form, in the order of PATTERNS.
-LIMITS = (0, 1, 0, 0, 3, 0, 0, 0, 0)
+LIMITS = (0, 1, 0, 0, 1, 0, 0, 0, 0)
 # Pages that aren't rewritten yet.
 OLD_PAGES = {
+    "CONTRIBUTING.md": (10, 12, 5, 4, 8, 4, 4, 24, 55),
+    "docs/ARCHITECTURE.md": (8, 16, 4, 4, 7, 5, 5, 6, 50),
+    "docs/DECISIONS.md": (40, 55, 6, 6, 4, 8, 6, 6, 144),
+    "docs/LOCK.md": (21, 9, 6, 4, 5, 5, 5, 4, 28),
+    "docs/PERFORMANCE.md": (13, 14, 16, 16, 7, 4, 6, 6, 200),
+    "docs/PROMISES.md": (10, 12, 9, 8, 12, 4, 5, 6, 32),
+    "docs/PROVED.md": (14, 41, 5, 12, 24, 7, 5, 7, 17),
+    "docs/guide/test-a-terminal-program.md": (4, 4, 4, 4, 4, 4, 4, 4, 30),
 }
 
 

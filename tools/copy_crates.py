@@ -3,10 +3,10 @@
 
 usage: tools/copy_crates.py NAME.. TO
 
-TO is the folder of your repository, which may be empty or new. Each crate goes to TO/crates/NAME without its `out` folder, and
-its line of crates.txt to the end of TO/crates.txt. If a crate may wait or start threads, TO/HANDLES is written too. Prints a
-line for each crate. Nothing is copied if a crate or its line is there already and differs, or if a name is unknown: the
-message names it, and the status is 1. A crate that is there and is the same stays.
+TO is the folder of your repository, which may be empty or new. Each crate goes to TO/crates/NAME without its `out`
+folder, and its line of crates.txt to the end of TO/crates.txt. If a crate may wait or start threads, TO/HANDLES is
+written too. Prints a line for each crate. Nothing is copied if a crate or its line is there already and differs, or if
+a name is unknown: the message names it, and the status is 1. A crate that is there and is the same stays.
 """
 import filecmp
 import pathlib
