@@ -4,10 +4,11 @@
 In README.md and the pages of docs/ and docs/guide/ each indented line `$ COMMAND` is run from the top of the
 repository, and the indented lines after it have to be what it prints; a line `..` stands for any lines. So is each
 line `$ COMMAND` of an example in man/, where `vt` is crates/vt/out/vt; the examples of a session and of a keymap there
-have to be accepted, and each command of vt(1) has an example. The lines of a journal that docs/TOUR.md quotes have to
-stand in examples/tour.journal, in the same order. docs/guide/test-a-terminal-program.md is run by
-tools/check_expect.py, and the programs of docs/guide/embed-a-crate.md by tools/check_snippets.py. Prints a line for
-each difference. The status is 1 if there is one, and 2 if the program isn't built.
+have to be accepted, and each command of vt(1) has an example. docs/codes.md has a row for each code of tools/why.py.
+The lines of a journal that docs/TOUR.md quotes have to stand in examples/tour.journal, in the same order.
+docs/guide/test-a-terminal-program.md is run by tools/check_expect.py, and the programs of docs/guide/embed-a-crate.md
+by tools/check_snippets.py. Prints a line for each difference. The status is 1 if there is one, and 2 if the program
+isn't built.
 """
 import os
 import pathlib
@@ -37,8 +38,8 @@ def examples(text):
 
 def fits(lines, printed):
     """Whether the lines are what was printed, empty ones left out; `..` stands for any lines."""
-    pattern = "".join("(?:.*\n)*?" if line == ".." else re.escape(line.rstrip()) + "\n" for line in lines if line.strip())
-    return re.fullmatch(pattern, "".join(line.rstrip() + "\n" for line in printed if line.strip())) is not None
+    parts = ["(?:.*\n)*?" if line == ".." else re.escape(line.rstrip()) + "\n" for line in lines if line.strip()]
+    return re.fullmatch("".join(parts), "".join(line.rstrip() + "\n" for line in printed if line.strip())) is not None
 
 
 def differences(page, examples_of_page):
@@ -101,6 +102,14 @@ def command_faults(page):
             yield f"{page.name}: the command {command} has no example"
 
 
+def code_faults():
+    """Gives a fault for each code that tools/why.py explains and docs/codes.md has no row for."""
+    explained = re.findall(r"^    (\d+): ", (TOP / "tools/why.py").read_text(encoding="utf-8"), re.M)
+    listed = re.findall(r"^\| (\d+) \|", (TOP / "docs/codes.md").read_text(encoding="utf-8"), re.M)
+    for code in sorted(set(explained) - set(listed), key=int):
+        yield f"codes.md: code {code} has no row"
+
+
 def main():
     if not PROGRAM.exists():
         print(f"{PROGRAM.relative_to(TOP)} is missing: `rt run` in crates/vt builds it (README.md, \"Install\")")
@@ -110,7 +119,7 @@ def main():
     manuals = sorted((TOP / "man").glob("*"))
     faults = [fault for page in pages for fault in page_faults(page)]
     faults += [fault for page in manuals for fault in manual_faults(page)] + list(tour_faults())
-    faults += command_faults(TOP / "man/vt.1")
+    faults += [*command_faults(TOP / "man/vt.1"), *code_faults()]
     for fault in faults:
         print(fault)
     return 1 if faults else 0
