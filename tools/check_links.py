@@ -1,9 +1,9 @@
 #!/usr/bin/env python3
-"""Checks the links of every Markdown page: the file is there, and so is the heading that a link names.
+"""Checks the links of every Markdown page: files and headings are there, and links from README.md lead to every page.
 
 A link is `[text](target)` outside code. Its target is a path from the page's folder, a heading as `#words-of-it`, or
-both; an address with a scheme, as https:, is not looked up. Prints a line for each link that leads nowhere, and ends
-with status 1 if there is one.
+both; an address with a scheme, as https:, is not looked up. Prints a line for each link that leads nowhere and for each
+page that no link leads to, and ends with status 1 if there is one.
 """
 import pathlib
 import re
@@ -55,8 +55,22 @@ def faults(page):
             yield f"{place}: {link[1]}: no such heading"
 
 
+def reached():
+    """Gives the pages that links lead to from README.md."""
+    found, left = set(), [TOP / "README.md"]
+    while left:
+        page = left.pop()
+        if page in found or page.suffix != ".md" or not page.exists():
+            continue
+        found.add(page)
+        links = (it[1].partition("#")[0] for it in LINK.finditer(prose(page.read_text(encoding="utf-8"))))
+        left += [(page.parent / path).resolve() for path in links if path and not IS_ADDRESS.match(path)]
+    return found
+
+
 def main():
     found = [fault for page in pages() for fault in faults(page)]
+    found += [f"{page.relative_to(TOP)}: no link from README.md leads there" for page in set(pages()) - reached()]
     for fault in found:
         print(fault)
     return 1 if found else 0
