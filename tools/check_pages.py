@@ -20,7 +20,7 @@ TOP = pathlib.Path(__file__).resolve().parent.parent
 PROGRAM = TOP / "crates/vt/out/vt"
 SECONDS = 60
 # Pages whose commands another check runs, in a folder of their own.
-RUN_ELSEWHERE = ("test-a-terminal-program.md", "embed-a-crate.md")
+RUN_ELSEWHERE = ("test-a-terminal-program.md", "embed-a-crate.md", "display-server.md")
 
 
 def examples(text):
