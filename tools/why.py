@@ -11,7 +11,11 @@ found none, 2 that FILE can't be read.
 import difflib
 import re
 import sys
-import tomllib
+
+try:
+    import tomllib
+except ModuleNotFoundError:
+    sys.exit("why.py: needs Python 3.11 or later, which has tomllib")
 
 import kbd_tables
 import keymap
