@@ -7,7 +7,8 @@ The forms are those of PATTERNS: things that tell or say, "what" as a noun, "but
 named without a link, and lines of over 120 characters. Code, headings and text in backquotes don't count, nor does the
 length of a row of a table. LIMITS has how often a page may have each form. OLD_PAGES lists the pages that aren't
 rewritten yet, each with limits of its own. Both are in the order of PATTERNS. `--counts` prints the counts of each
-page. Status 1 means that a page is over a limit, or that a page of OLD_PAGES is gone.
+page. Status 1 means that a page is over a limit, that README.md has over 100 lines, or that a page of OLD_PAGES is
+gone.
 """
 import pathlib
 import re
@@ -18,6 +19,7 @@ sys.dont_write_bytecode = True
 from check_links import TOP, pages  # noqa: E402: after the line that keeps tools/ clean
 
 LONGEST = 120
+README_LINES = 100
 PATTERNS = {
     "a thing that tells": re.compile(r"\b(?:tell|tells|told|telling)\b", re.I),
     "a thing that says": re.compile(r"\b(?:say|says|said|saying)\b", re.I),
@@ -29,7 +31,9 @@ PATTERNS = {
         r"|\bof other \w+ but\b|\band all but\b",
         re.I,
     ),
-    "where for if": re.compile(r"\bexactly where\b|(?:^|[.;:] )Where\b|, where (?:it|there|that|they|he|she|nobody|no)\b"),
+    "where for if": re.compile(
+        r"\bexactly where\b|(?:^|[.;:] )Where\b|, where (?:it|there|that|they|he|she|nobody|no)\b"
+    ),
     "who as a noun": re.compile(
         r"\b(?:whoever|by who|to who|for who|of who)\b|(?:^|[.;:] )Who [a-z]+s\b(?!.*\?)", re.I
     ),
@@ -83,6 +87,9 @@ def main():
         for form, number, limit in zip(PATTERNS, found, limits):
             if number > limit:
                 over.append(f"{name}: {form}: {number}, at most {limit}")
+    lines = len((TOP / "README.md").read_text(encoding="utf-8").splitlines())
+    if lines > README_LINES:
+        over.append(f"README.md: lines: {lines}, at most {README_LINES}")
     over += [f"{name}: no such page; take it out of OLD_PAGES" for name in OLD_PAGES if name not in seen]
     if "--counts" in sys.argv[1:]:
         return 0
