@@ -1,16 +1,14 @@
 -- Rows that are made blank by their numbers.
-use Rattle.std.proofs.Common.{◌≡◌, ℕ, zero, suc, ◌+◌, ◌-◌, ◌<◌, ◌≤◌, List, [], ◌∷◌, ◌++◌, length, take, drop, set, get_or, refl, sym, ap, ◌∙◌, subst, arith, rules}
-use Rattle.std.proofs.lemmas.List.{places, same_lists, length-append, length-map, length-set, length-take-le, length-drop, get_or-drop, take_more}
+use Rattle.std.proofs.Common.{◌≡◌, ℕ, zero, suc, ◌+◌, ◌-◌, ◌<◌, ◌≤◌, List, [], ◌∷◌, ◌++◌, length, take, drop, replicate, map, set, get_or, refl, sym, ap, ◌∙◌, subst, arith, rules}
+use Rattle.std.proofs.lemmas.List.{places, same_lists, length-append, length-map, length-set, length-take-le, length-drop, length-replicate, get_or-drop, get_or-map, get_or-replicate, take_more}
 use Rattle.vt_grid.proofs.Naming.{IsNaming-set, named-set}
 use Rattle.vt_grid.proofs.Scrolls.{cleared_more, cleared_none}
 use Rattle.vt_grid.proofs.Turns.{IsPlace}
-use Rattle.vt_grid.specs.Line.{Line, blank_line}
-use Rattle.vt_grid.specs.Ring.{Shelf, IsNaming, cut_all, named, shelf_at}
+use Rattle.vt_grid.proofs.Parts.{map_onto_more}
+use Rattle.vt_grid.specs.Line.{Line, blank_line, cut_at}
+use Rattle.vt_grid.specs.Ring.{Shelf, IsNaming, blank_slot, cut_all, named, no_shelf, shelf_at}
 use Rattle.vt_grid.specs.Store.{cleared, turned}
 use Rattle.vt_cells.specs.declared.cell.Cell.{Cell}
-
-abbrev blank_shelf : Cell → Shelf → Shelf
-blank_shelf c shelf = record shelf { line = blank_line c }
 
 -- one row is cleared as it is set
 pub cleared_one : (from : ℕ) (line : Line) (lines : List Line) → from < length lines
@@ -24,14 +22,14 @@ pub length-cut_all : (order : List ℕ) (c : Cell) (shelves : List Shelf)
     → length (cut_all order c shelves) ≡ length shelves
 length-cut_all [] c shelves = refl
 length-cut_all (p ∷ order) c shelves =
-    length-cut_all order c (set shelves p (blank_shelf c (shelf_at shelves p)))
-    ∙ length-set shelves p (blank_shelf c (shelf_at shelves p))
+    length-cut_all order c (set shelves p (blank_slot c (shelf_at shelves p)))
+    ∙ length-set shelves p (blank_slot c (shelf_at shelves p))
 
 pub cut_all-append : (front back : List ℕ) (c : Cell) (shelves : List Shelf)
     → cut_all back c (cut_all front c shelves) ≡ cut_all (front ++ back) c shelves
 cut_all-append [] back c shelves = refl
 cut_all-append (p ∷ front) back c shelves =
-    cut_all-append front back c (set shelves p (blank_shelf c (shelf_at shelves p)))
+    cut_all-append front back c (set shelves p (blank_slot c (shelf_at shelves p)))
 
 length-named : (order : List ℕ) (shelves : List Shelf) → length (named shelves order) ≡ length order
 length-named order shelves = length-map {B = Line} order (λ p. (shelf_at shelves p).line)
@@ -92,7 +90,7 @@ module _ (rows cols : ℕ) (order : List ℕ) (shelves : List Shelf)
         let before = clears i (omega arith) in
         let next : suc i ≡ i + 1 = omega arith in
         let p : ℕ = get_or order (from + i) 0 in
-        let shelf : Shelf = blank_shelf c (shelf_at (now i) p) in
+        let shelf : Shelf = blank_slot c (shelf_at (now i) p) in
         let p_in : p < rows = naming.within (from + i) (omega arith) in
         let more : now (suc i) ≡ set (now i) p shelf =
         ap now next
@@ -110,3 +108,47 @@ module _ (rows cols : ℕ) (order : List ℕ) (shelves : List Shelf)
               ∙ cleared_more from i (blank_line c) (named shelves order) tall
               ∙ ap (λ (n : ℕ). cleared from n (blank_line c) (named shelves order)) (sym next),
         )
+
+-- all rows, where each is made blank: one more is
+pub blank_more : (c : Cell) (shelves now : List Shelf) (i : ℕ) (old new : Shelf) → i < length shelves
+    → now ≡ map (blank_slot c) (take i shelves) ++ drop i shelves → old ≡ get_or now i old
+    → new ≡ record old { line = cut_at 0 c old.line }
+    → set now i new ≡ map (blank_slot c) (take (i + 1) shelves) ++ drop (i + 1) shelves
+blank_more c shelves now i old new i_in now_is old_is new_is =
+    let front : List Shelf = map (blank_slot c) (take i shelves) in
+    let len : length front ≡ i =
+    length-map (take i shelves) (blank_slot c) ∙ length-take-le i shelves (omega arith) in
+    let read : old ≡ get_or shelves i old =
+    old_is ∙ ap (λ (all : List Shelf). get_or all i old) now_is ∙ grind (arith, places, len) in
+    let slot : new ≡ blank_slot c old = new_is in
+    (λ j. set (now_is j) i (slot j))
+    ∙ map_onto_more (blank_slot c) shelves shelves i old i_in refl read
+
+module _ (rows cols : ℕ) (order : List ℕ) (shelves : List Shelf)
+    (naming : IsNaming rows cols order shelves) (c : Cell)
+  where
+    at-blank : (p : ℕ) → p < rows
+        → shelf_at (map (blank_slot c) shelves) p ≡ blank_slot c (shelf_at shelves p)
+    at-blank p p_in = get_or-map (blank_slot c) shelves p no_shelf no_shelf (omega (arith, naming.count))
+
+    pub IsNaming-blank : IsNaming rows cols order (map (blank_slot c) shelves)
+    IsNaming-blank =
+        record {
+          numbers = naming.numbers;
+          count = length-map shelves (blank_slot c) ∙ naming.count;
+          within = naming.within;
+          once = naming.once;
+          room = λ p p_in. ap (λ (r : Shelf). r.room) (at-blank p p_in) ∙ naming.room p p_in;
+          short = λ p p_in. rw (at-blank p p_in) (omega arith);
+        }
+
+    pub named-blank : named (map (blank_slot c) shelves) order ≡ replicate rows (blank_line c)
+    named-blank =
+        let line : ℕ → Line = λ p. (shelf_at (map (blank_slot c) shelves) p).line in
+        same_lists _ _
+        (length-map order line ∙ naming.numbers ∙ sym (length-replicate rows (blank_line c)))
+        (λ y d y_in.
+        let y_rows : y < rows = omega (arith, length-map {B = Line} order line, naming.numbers) in
+        get_or-map line order y 0 d (omega (arith, naming.numbers))
+        ∙ ap (λ (r : Shelf). r.line) (at-blank (get_or order y 0) (naming.within y y_rows))
+        ∙ sym (get_or-replicate rows y (blank_line c) d y_rows))

@@ -7,6 +7,7 @@ mod Joins
 mod Laid
 mod Lays
 mod Naming
+pub mod Narrow
 mod Paired
 mod Parts
 mod Runs

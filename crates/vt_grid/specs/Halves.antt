@@ -48,3 +48,11 @@ IsPairedRow row = ArePaired true row
 
 abbrev pub IsPaired : Sheet → Type 0
 IsPaired s = All IsPairedRow s.cells
+
+-- no cell of the row is the right half of a character. No public clause names this, nor the next one
+abbrev pub IsNarrowRow : List Cell → Type 0
+IsNarrowRow row = All (λ c. is_half c ≡ false) row
+
+-- no cell is
+abbrev pub IsNarrow : Sheet → Type 0
+IsNarrow s = All IsNarrowRow s.cells

@@ -1,6 +1,8 @@
 -- A row of which only the first cells are stored.
-use Rattle.std.specs.Prelude.{ℕ, ◌+◌, ◌-◌, List, [], ◌++◌, length, take, drop, replicate, slice_index_or}
+use Rattle.std.specs.Prelude.{◌≡◌, ℕ, ◌+◌, ◌-◌, false, List, [], ◌++◌, length, take, drop, replicate, slice_index_or}
+use Rattle.vt_cells.specs.Width.{is_half}
 use Rattle.vt_grid.specs.Grid.{overlaid}
+use Rattle.vt_grid.specs.Halves.{IsNarrowRow}
 use Rattle.vt_cells.specs.declared.cell.Cell.{Cell}
 
 -- the cells that are stored, from left to right, and the cell that stands for all further ones
@@ -47,3 +49,7 @@ removed_at x count c line =
 -- the first cells are those of another row, so many
 abbrev pub covered : ℕ → Line → Line → Line
 covered count over line = written 0 (take count (cells_of count over)) line
+
+-- no cell is the right half of a character, stored or not. No public clause names this
+abbrev pub IsNarrowLine : Line → Type 0
+IsNarrowLine line = IsNarrowRow line.stored × (is_half line.rest ≡ false)

@@ -1,6 +1,6 @@
 -- How a store names its rows by numbers. No public clause names this.
-use Rattle.std.specs.Prelude.{◌≡◌, ℕ, ◌<◌, ◌≤◌, ◌==◌, List, [], ◌∷◌, length, map, slice_index, slice_index_or, slice_set, count_by}
-use Rattle.vt_grid.specs.Line.{Line, blank_line}
+use Rattle.std.specs.Prelude.{◌≡◌, ℕ, ◌<◌, ◌≤◌, ◌==◌, List, [], ◌∷◌, length, map, slice_index, slice_index_or, slice_set, count_by, All}
+use Rattle.vt_grid.specs.Line.{IsNarrowLine, Line, blank_line}
 use Rattle.vt_grid.specs.Store.{no_line}
 use Rattle.vt_cells.specs.declared.cell.Cell.{Cell}
 
@@ -21,11 +21,19 @@ shelf_at shelves p = slice_index_or shelves p no_shelf
 abbrev pub named : List Shelf → List ℕ → List Line
 named shelves order = map (λ p. (shelf_at shelves p).line) order
 
+-- this row, where it stores no cell: each of its cells is c
+abbrev pub blank_slot : Cell → Shelf → Shelf
+blank_slot c shelf = record shelf { line = blank_line c }
+
 -- the rows of these numbers store no cell: each of their cells is c
 abbrev pub cut_all : List ℕ → Cell → List Shelf → List Shelf
 cut_all [] c shelves = shelves
 cut_all (p ∷ order) c shelves =
-    cut_all order c (slice_set shelves p (record (shelf_at shelves p) { line = blank_line c }))
+    cut_all order c (slice_set shelves p (blank_slot c (shelf_at shelves p)))
+
+-- no cell of any row is the right half of a character
+abbrev pub AreNarrow : List Shelf → Type 0
+AreNarrow shelves = All (λ shelf. IsNarrowLine shelf.line) shelves
 
 -- the numbers 0, 1, 2 and so on, so many
 pub record IsRising (n : ℕ) (order : List ℕ) : Type 0 where

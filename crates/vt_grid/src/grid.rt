@@ -1,9 +1,8 @@
-ghost use Rattle.std.specs.Prelude.{◌≡◌, ◌<◌, ◌≤◌, ◌+◌, length, take, IfOk};
-ghost use Rattle.vt_grid.specs.Grid.{HasCellAt, IsFull, cells_of_codes, deleted, erased, filled, inserted, resized, row_at, scrolled_down, scrolled_up, with_cell, with_run};
+ghost use Rattle.std.specs.Prelude.{◌≡◌, ◌<◌, ◌≤◌, ◌+◌, take, IfOk};
+ghost use Rattle.vt_grid.specs.Grid.{HasCellAt, IsFull, deleted, erased, filled, inserted, resized, row_at, scrolled_down, scrolled_up, with_cell, with_run};
 ghost use Rattle.vt_grid.specs.Halves.{parted_rows};
 ghost use Rattle.vt_grid.specs.Store.{scroll_steps};
 
-use crate::edits::{copy_row, delete, erase, insert, move_up, put_run, scroll_down};
 use crate::resize::copy_cells;
 use crate::row_cells::RowCells;
 use crate::rows::{RowStore, Steps};
@@ -12,12 +11,13 @@ use std::marker::{Brand, Model};
 use std::mem;
 use std::sync::ledger::{Blank, Ledger};
 use vt_base::{NoMemory, Size};
-use vt_cells::Cell;
+use vt_cells::{Cell, HALF};
 
 /// The cells of a screen: rows and columns are counted from 0, from the top left.
 #[derive(Drop)]
 pub struct Grid {
-    store: RowStore,
+    // `halves.rt` uses it too.
+    pub(crate) store: RowStore,
 }
 
 impl Model for Grid {
@@ -82,26 +82,15 @@ impl Grid {
         ensures { self.new ≡ with_cell self.old y x c }
     {
         self.store.stays_fit();
-        put_run::<u32, Brand>(&mut self.store, y, x, &[c.code], c.attr, Blank::new(1));
+        self.store
+            .put_run::<u32>(y, x, &[c.code], c.attr, c.code != HALF);
     }
 
-    /// Sets the cells from column `x` on, one for each byte: its code is the byte.
-    #[inline(always)]
-    pub fn put_bytes(&mut self, y: u8, x: u8, bytes: &[u8], attr: u8)
-        requires row { y < self.old.rows }
-        requires columns { x + length bytes.now ≤ self.old.cols }
-        ensures { self.new ≡ with_run self.old y x (cells_of_codes bytes.now attr) }
+    /// Makes every cell `c`.
+    pub fn fill(&mut self, c: Cell)
+        ensures { self.new ≡ filled self.old.rows self.old.cols c }
     {
-        put_run::<u8, Brand>(&mut self.store, y, x, bytes, attr, Blank::new(1));
-    }
-
-    /// Sets the cells from column `x` on, one for each code.
-    pub fn put_codes(&mut self, y: u8, x: u8, codes: &[u32], attr: u8)
-        requires row { y < self.old.rows }
-        requires columns { x + length codes.now ≤ self.old.cols }
-        ensures { self.new ≡ with_run self.old y x (cells_of_codes codes.now attr) }
-    {
-        put_run::<u32, Brand>(&mut self.store, y, x, codes, attr, Blank::new(1));
+        self.store.fill_all(c);
     }
 
     /// Moves the rows `top` to `bottom`, both included, up by `n`, or by their number where `n` is
@@ -129,11 +118,7 @@ impl Grid {
         ensures grid { self.new ≡ scrolled_up self.old top bottom n c }
         ensures steps { steps.new ≤ steps.old + scroll_steps self.old.rows top bottom n }
     {
-        self.store.stays_fit();
-        let height = bottom - top + 1;
-        let count = n.min(u16::from(height)) as u8;
-        move_up(&mut self.store, top, bottom, count, steps);
-        self.store.clear(bottom + 1 - count, count, c, steps);
+        self.store.scroll_up(top, bottom, n, c, steps);
     }
 
     /// Does what [`Grid::scroll_up`] does, but down.
@@ -142,8 +127,7 @@ impl Grid {
         requires row { bottom < self.old.rows }
         ensures { self.new ≡ scrolled_down self.old top bottom n c }
     {
-        self.store.stays_fit();
-        scroll_down::<Brand>(&mut self.store, top, bottom, n, c, Blank::new(1));
+        self.store.scroll_down(top, bottom, n, c);
     }
 
     /// Makes the cells from column `x0` to `x1`, both included, `c`.
@@ -153,7 +137,7 @@ impl Grid {
         requires column { x1 < self.old.cols }
         ensures { self.new ≡ erased self.old y x0 x1 c }
     {
-        erase::<Brand>(&mut self.store, y, x0, x1, c, Blank::new(1));
+        self.store.erase(y, x0, x1, c);
     }
 
     /// Puts `n` cells `c` in at column `x`. The row's rest moves right, and what passes the end is
@@ -163,7 +147,7 @@ impl Grid {
         requires column { x < self.old.cols }
         ensures { self.new ≡ inserted self.old y x n c }
     {
-        insert::<Brand>(&mut self.store, y, x, n, c, Blank::new(1));
+        self.store.insert(y, x, n, c);
     }
 
     /// Takes `n` cells out at column `x`. The row's rest moves left, and the end is filled with
@@ -173,7 +157,7 @@ impl Grid {
         requires column { x < self.old.cols }
         ensures { self.new ≡ deleted self.old y x n c }
     {
-        delete::<Brand>(&mut self.store, y, x, n, c, Blank::new(1));
+        self.store.delete(y, x, n, c);
     }
 
     /// Becomes `fresh`, with the old cell of row `y + skip` copied to row `y` where both are, and
@@ -210,41 +194,13 @@ impl Grid {
         requires old_columns { cols ≤ old.now.cols }
         ensures { self.new ≡ with_run self.old y 0 (take cols (row_at old.now from)) }
     {
-        copy_row::<Brand>(&mut self.store, y, &old.store, from, cols, Blank::new(1));
+        self.store.copy_row(y, &old.store, from, cols);
     }
 }
 
 // Scrolls up, with a counter of its own.
-fn scroll_up_alone<L: Ledger>(grid: &mut Grid, top: u8, bottom: u8, n: u16, c: Cell, blank: Blank)
-    requires name { blank.name ≡ L.name }
-    requires parts { blank.parts ≡ L.parts }
-    requires some { 0 < blank.parts }
-    requires order { top ≤ bottom }
-    requires row { bottom < grid.old.rows }
-    ensures { grid.new ≡ scrolled_up grid.old top bottom n c }
-{
-    if bottom - top == grid.size().rows - 1 {
-        scroll_rows_up::<L>(grid, top, bottom, n, c, blank);
-    } else {
-        scroll_some_up::<L>(grid, top, bottom, n, c, blank);
-    }
-}
-
-// Does the same where these aren't all rows, out of line: then a scroll of all saves no registers.
-#[inline(never)]
-fn scroll_some_up<L: Ledger>(grid: &mut Grid, top: u8, bottom: u8, n: u16, c: Cell, blank: Blank)
-    requires name { blank.name ≡ L.name }
-    requires parts { blank.parts ≡ L.parts }
-    requires some { 0 < blank.parts }
-    requires order { top ≤ bottom }
-    requires row { bottom < grid.old.rows }
-    ensures { grid.new ≡ scrolled_up grid.old top bottom n c }
-{
-    scroll_rows_up::<L>(grid, top, bottom, n, c, blank);
-}
-
 #[inline(always)]
-fn scroll_rows_up<L: Ledger>(grid: &mut Grid, top: u8, bottom: u8, n: u16, c: Cell, blank: Blank)
+fn scroll_up_alone<L: Ledger>(grid: &mut Grid, top: u8, bottom: u8, n: u16, c: Cell, blank: Blank)
     requires name { blank.name ≡ L.name }
     requires parts { blank.parts ≡ L.parts }
     requires some { 0 < blank.parts }

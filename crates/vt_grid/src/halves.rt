@@ -1,5 +1,7 @@
 //! Characters of two columns: a border between the halves of one makes both spaces.
-ghost use Rattle.std.specs.Prelude.{◌≡◌, ◌<◌, ◌≤◌, ◌+◌, Some, false, true, length, slice_get};
+ghost use Rattle.std.specs.List.{list_all};
+ghost use Rattle.std.specs.Prelude.{◌≡◌, ◌<◌, ◌≤◌, ◌+◌, ◌==◌, Some, false, not, true, length, slice_get};
+ghost use Rattle.vt_cells.specs.Width.{half, is_plain};
 ghost use Rattle.vt_grid.specs.Grid.{cells_of_codes, row_at};
 ghost use Rattle.vt_grid.specs.Halves.{drawn, parted, parted_at, parted_between, spaced};
 
@@ -9,17 +11,22 @@ use vt_cells::{Cell, HALF};
 impl Grid {
     /// Parts row `y` before column `x`: a character that stands on both sides of that border becomes
     /// two spaces in its colours.
+    #[tactic(auto, using(crate::proofs::Narrow::parted_same))]
     pub fn part(&mut self, y: u8, x: u8)
         requires row { y < self.old.rows }
         requires column { x ≤ self.old.cols }
         ensures { self.new ≡ parted_at self.old y x }
     {
+        if self.store.is_narrow() {
+            return;
+        }
         if self.splits(y, x) {
             self.space(y, x);
         }
     }
 
     /// Sets the cells from column `x` on, one for each byte, and parts what stood there in part.
+    #[inline(always)]
     pub fn draw_bytes(&mut self, y: u8, x: u8, bytes: &[u8], attr: u8)
         requires row { y < self.old.rows }
         requires columns { x + length bytes.now ≤ self.old.cols }
@@ -27,10 +34,24 @@ impl Grid {
     {
         self.stays_full();
         self.part_ends(y, x, x + bytes.len() as u8);
-        self.put_bytes(y, x, bytes, attr);
+        self.store.put_run(y, x, bytes, attr, true);
+    }
+
+    /// Sets the cells from column `x` on, one for each plain code, and parts what stood there in part.
+    #[inline(always)]
+    pub fn draw_plain(&mut self, y: u8, x: u8, codes: &[u32], attr: u8)
+        requires plain { list_all is_plain codes.now ≡ true }
+        requires row { y < self.old.rows }
+        requires columns { x + length codes.now ≤ self.old.cols }
+        ensures { self.new ≡ drawn self.old y x (cells_of_codes codes.now attr) }
+    {
+        self.stays_full();
+        self.part_ends(y, x, x + codes.len() as u8);
+        self.store.put_run(y, x, codes, attr, true);
     }
 
     /// Sets the cells from column `x` on, one for each code, and parts what stood there in part.
+    #[inline(always)]
     pub fn draw_codes(&mut self, y: u8, x: u8, codes: &[u32], attr: u8)
         requires row { y < self.old.rows }
         requires columns { x + length codes.now ≤ self.old.cols }
@@ -38,20 +59,23 @@ impl Grid {
     {
         self.stays_full();
         self.part_ends(y, x, x + codes.len() as u8);
-        self.put_codes(y, x, codes, attr);
+        let narrow = self.store.is_narrow() && are_narrow(codes);
+        self.store.put_run(y, x, codes, attr, narrow);
     }
 
     // Parts row `y` before column `x`, and then before column `end`.
     #[inline(always)]
+    #[tactic(auto, using(crate::proofs::Narrow::parted_between_same))]
     fn part_ends(&mut self, y: u8, x: u8, end: u8)
         requires row { y < self.old.rows }
         requires column { x ≤ self.old.cols }
         requires end { end ≤ self.old.cols }
         ensures { self.new ≡ parted_between self.old y x end }
     {
-        if self.splits(y, x) || self.splits(y, end) {
-            self.part_both(y, x, end);
+        if self.store.is_narrow() {
+            return;
         }
+        self.part_both(y, x, end);
     }
 
     #[inline(never)]
@@ -129,4 +153,11 @@ fn spaced(c: Cell) -> Cell
         code: u32::from(b' '),
         attr: c.attr,
     }
+}
+
+// Whether no code is that of a right half.
+fn are_narrow(codes: &[u32]) -> bool
+    ensures { result ≡ list_all (λ code. not (code == half)) codes.now }
+{
+    codes.iter().all(|code| *code != HALF)
 }

@@ -3,7 +3,6 @@
 
 mod changes;
 mod code;
-mod edits;
 mod grid;
 mod halves;
 mod kept;

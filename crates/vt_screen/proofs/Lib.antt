@@ -12,7 +12,7 @@ mod Halved
 mod InsideTable
 mod Hearing
 mod Insides
-mod Narrow
+mod Prefixes
 mod Printed
 mod PutBack
 mod Scrolled

@@ -11,10 +11,10 @@ use Rattle.vt_cells.specs.Width.{is_half}
 use Rattle.vt_cells.specs.declared.cell.Cell.{Cell}
 use Rattle.vt_grid.specs.Grid.{IsFull, Sheet, filled, row_at, with_cell, with_run}
 use Rattle.vt_grid.specs.Laws.{RunOfMore, RunOfNone}
-use Rattle.vt_screen.proofs.Narrow.{filled_narrow, run_narrow}
+use Rattle.vt_grid.proofs.Narrow.{filled_narrow, run_narrow}
 use Rattle.vt_screen.proofs.Printed.{AllPrintable}
 use Rattle.vt_screen.proofs.TextSteps.{at}
-use Rattle.vt_screen.specs.Narrow.{IsNarrow}
+use Rattle.vt_grid.specs.Halves.{IsNarrow}
 use Rattle.vt_screen.specs.Screen.{start_blank, start_screen, start_state}
 use Rattle.vt_screen.specs.TextRows.{all_cells, start_cell}
 use Rattle.vt_units.specs.Bytes.{is_printable}

@@ -9,9 +9,9 @@ use Rattle.vt_cells.specs.declared.cell.Cell.{Cell}
 use Rattle.vt_grid.specs.Grid.{IsFull, Sheet, row_at, scrolled_up, with_cell, with_run}
 use Rattle.vt_grid.specs.Halves.{drawn}
 use Rattle.vt_grid.specs.Laws.{RunOfMore, RunOfNone}
-use Rattle.vt_screen.proofs.Narrow.{parted_between_same, scrolled_up_narrow}
+use Rattle.vt_grid.proofs.Narrow.{parted_between_same, scrolled_up_narrow}
 use Rattle.vt_screen.specs.Cursor.{at_column, at_row, linefeed, region_up}
-use Rattle.vt_screen.specs.Narrow.{IsNarrow}
+use Rattle.vt_grid.specs.Halves.{IsNarrow}
 use Rattle.vt_screen.specs.Printing.{opened, print, print_character, put_here}
 use Rattle.vt_screen.specs.Screen.{Screen, erased_byte, printed_byte, start_blank, start_state}
 use Rattle.vt_screen.specs.TextRows.{start_cell, state_at}

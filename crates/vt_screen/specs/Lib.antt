@@ -6,7 +6,6 @@ pub mod Halves
 pub mod Hearing
 pub mod Inside
 pub mod Kept
-pub mod Narrow
 pub mod Printing
 pub mod Run
 pub mod SavedCursor

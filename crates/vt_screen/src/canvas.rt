@@ -21,7 +21,6 @@ mod saves;
 mod sequences;
 mod settings;
 
-use crate::board::Board;
 use crate::{BLANK, Out, Outs, ScreenState};
 use std::marker::Model;
 use vt_cells::{Cell, Palette};
@@ -31,7 +30,7 @@ use vt_units::{Mode, Unit};
 /// A screen, and what each unit does to it.
 #[derive(Drop)]
 pub struct Canvas {
-    grid: Board,
+    grid: Grid,
     state: ScreenState,
     // The attribute byte of what the pen prints.
     attr: u8,
@@ -56,7 +55,8 @@ impl Canvas {
     pub fn new(grid: Grid) -> Canvas
         ensures { result ≡ start_screen grid.rows grid.cols }
     {
-        let grid = Board::filled(grid, BLANK);
+        let mut grid = grid;
+        grid.fill(BLANK);
         let state = ScreenState::start(grid.size().rows);
         Canvas {
             grid,
@@ -71,7 +71,7 @@ impl Canvas {
         ensures cells { result.now ≡ self.now.grid }
         ensures whole { IsWhole self.now }
     {
-        self.grid.grid()
+        &self.grid
     }
 
     /// The state beside the cells.

@@ -169,6 +169,7 @@ impl Emu {
         ensures run { run drawing (take result b.now) (having_said outs.old self.old)
             ≡ having_said outs.new self.new }
         ensures few { length outs.new ≤ length outs.old + result }
+        ensures one { length outs.new ≤ length outs.old + 1 }
     {
         let count = self.print_front(b);
         if count > 0 {
@@ -204,6 +205,7 @@ impl Emu {
         ensures run { run drawing (take result b.now) (having_said outs.old self.old)
             ≡ having_said outs.new self.new }
         ensures few { length outs.new ≤ length outs.old + result }
+        ensures one { length outs.new ≤ length outs.old + 1 }
     {
         let count = self.take_run(b, outs);
         if count > 0 {
@@ -222,6 +224,7 @@ impl Emu {
         ensures run { run drawing (take result b.now) (having_said outs.old self.old)
             ≡ having_said outs.new self.new }
         ensures few { length outs.new ≤ length outs.old + result }
+        ensures one { length outs.new ≤ length outs.old + 1 }
     {
         match b[0] {
             0x1B => self.obey_brief(b, outs),

@@ -1,7 +1,6 @@
 //! The escape machine: it reads text byte by byte and keeps the screen that the text makes.
 #![tactic(auto)]
 
-mod board;
 mod canvas;
 pub mod cursor_laws;
 mod emu;

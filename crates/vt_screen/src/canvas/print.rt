@@ -198,6 +198,7 @@ impl Canvas {
     }
 
     // Puts the cells of these codes at the cursor, and moves the cursor on.
+    #[inline(always)]
     fn put_codes(&mut self, codes: &[u32])
         requires { self.old.state.x + length codes.now ≤ self.old.grid.cols }
         ensures { self.new ≡ put_here codes.now self.old }

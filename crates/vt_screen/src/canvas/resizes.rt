@@ -20,7 +20,9 @@ impl Canvas {
         self.state.wrap = false;
         self.state.top = 0;
         self.state.bottom = size.rows - 1;
-        let old = self.grid.resize(fresh, skip, blank);
+        let mut fresh = fresh;
+        fresh.fill(blank);
+        let old = self.grid.resized_parted_into(fresh, skip);
         self.grid.stays_full();
         old
     }

@@ -15,6 +15,7 @@ impl Emu {
         ensures run { run drawing (take result b.now) (having_said outs.old self.old)
             ≡ having_said outs.new self.new }
         ensures few { length outs.new ≤ length outs.old + result }
+        ensures one { length outs.new ≤ length outs.old + 1 }
     {
         sequences_are_units();
         match self.pending.take_brief(self.canvas.mode(), b) {
@@ -35,6 +36,7 @@ impl Emu {
         ensures run { run drawing (take result b.now) (having_said outs.old self.old)
             ≡ having_said outs.new self.new }
         ensures few { length outs.new ≤ length outs.old + result }
+        ensures one { length outs.new ≤ length outs.old + 1 }
     {
         sequences_are_units();
         match self.pending.take_escape(self.canvas.mode(), b) {
@@ -54,6 +56,7 @@ impl Emu {
         ensures run { run drawing (take result b.now) (having_said outs.old self.old)
             ≡ having_said outs.new self.new }
         ensures few { length outs.new ≤ length outs.old + result }
+        ensures one { length outs.new ≤ length outs.old + 1 }
     {
         sequences_are_units();
         match self.pending.take_longer(self.canvas.mode(), b) {
@@ -74,6 +77,7 @@ impl Emu {
         ensures run { run drawing (take result b.now) (having_said outs.old self.old)
             ≡ having_said outs.new self.new }
         ensures few { length outs.new ≤ length outs.old + result }
+        ensures one { length outs.new ≤ length outs.old + 1 }
     {
         sequences_are_units();
         let mut params = Params::new();

@@ -30,16 +30,11 @@ pub fn make(grid: &mut Grid, edit: Edit) -> bool {
     let fill = letter(b'-');
     match edit {
         Edit::Put(y, x, code, attr) if y < rows && x < cols => grid.put(y, x, Cell { code, attr }),
+        Edit::Fill => grid.fill(fill),
         Edit::Bytes(y, x, text) if y < rows && usize::from(x) + text.len() <= most => {
-            grid.put_bytes(y, x, text, 0x07);
-        }
-        Edit::Codes(y, x, text) if y < rows && usize::from(x) + text.len() <= most => {
-            grid.put_codes(y, x, text, 0x07);
-        }
-        Edit::DrawnBytes(y, x, text) if y < rows && usize::from(x) + text.len() <= most => {
             grid.draw_bytes(y, x, text, 0x07);
         }
-        Edit::DrawnCodes(y, x, text) if y < rows && usize::from(x) + text.len() <= most => {
+        Edit::Codes(y, x, text) if y < rows && usize::from(x) + text.len() <= most => {
             grid.draw_codes(y, x, text, 0x07);
         }
         Edit::Part(y, x) if y < rows && x <= cols => grid.part(y, x),

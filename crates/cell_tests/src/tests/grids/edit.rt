@@ -3,14 +3,13 @@
 pub enum Edit {
     /// A row, a column, and the code and the attribute byte of the cell that is put there.
     Put(u8, u8, u32, u8),
-    /// A row, a column, and the bytes that are put from there on.
+    /// Every cell.
+    Fill,
+    /// A row, a column, and the bytes that are drawn from there on: they part the characters that they
+    /// cut.
     Bytes(u8, u8, &'static [u8]),
     /// The same of codes.
     Codes(u8, u8, &'static [u32]),
-    /// The same of bytes that are drawn: they part the characters that they cut.
-    DrawnBytes(u8, u8, &'static [u8]),
-    /// The same of codes that are drawn.
-    DrawnCodes(u8, u8, &'static [u32]),
     /// A row, and the column at which it is parted.
     Part(u8, u8),
     /// The first and the last row of a region, and by how much it scrolls up.

@@ -68,8 +68,8 @@ fn parts_at_a_half_alone(rt: HostRuntime) {
 
 // A byte and a character that are drawn over a half, and the row after each.
 const DRAWN: &[(Edit, &str)] = &[
-    (Edit::DrawnBytes(0, 1, b"x"), "| xa |\n"),
-    (Edit::DrawnCodes(0, 0, &[0xE9]), "|\u{E9} a |\n"),
+    (Edit::Bytes(0, 1, b"x"), "| xa |\n"),
+    (Edit::Codes(0, 0, &[0xE9]), "|\u{E9} a |\n"),
 ];
 
 fn draws(alloc: Global, edit: Edit, wanted: &str) -> Result<bool, NoMemory> {
@@ -81,6 +81,30 @@ fn draws(alloc: Global, edit: Edit, wanted: &str) -> Result<bool, NoMemory> {
 fn draws_over_a_half(rt: HostRuntime) {
     for (edit, wanted) in DRAWN {
         check_made(&rt, draws(rt.alloc(), *edit, wanted), *wanted);
+    }
+}
+
+// What is done to a row after a Han character is drawn in it, on a grid that had no half, and the row
+// then.
+const DRAWN_FIRST: &[(Edit, &str)] = &[
+    (Edit::Part(0, 1), "|    |\n"),
+    (Edit::Bytes(0, 1, b"x"), "| x  |\n"),
+    (Edit::Codes(0, 0, &[0xE9]), "|\u{E9}   |\n"),
+    (Edit::Fill, "|----|\n"),
+];
+
+// Whether the row is so, on a grid that was filled before the character was drawn.
+fn parts_a_drawn_half(alloc: Global, edit: Edit, wanted: &str) -> Result<bool, NoMemory> {
+    let mut grid = row(alloc)?;
+    grid.fill(of(0x20, 0x07));
+    let drawn = calls::make(&mut grid, Edit::Codes(0, 0, &[0x4E2D, HALF]));
+    Ok(drawn && is_edited(alloc, &mut grid, edit, wanted))
+}
+
+#[test]
+fn parts_a_half_that_was_drawn(rt: HostRuntime) {
+    for (edit, wanted) in DRAWN_FIRST {
+        check_made(&rt, parts_a_drawn_half(rt.alloc(), *edit, wanted), *wanted);
     }
 }
 

@@ -1,6 +1,6 @@
 use Rattle.std.proofs.Common.{◌≡◌, ◌<◌, ◌≤◌, ℕ, List, length, take, ap, ◌∙◌, arith}
 use Rattle.std.proofs.lemmas.List.{length-take, length-take-le}
-use Rattle.vt_screen.proofs.Narrow.{prefix_all}
+use Rattle.vt_screen.proofs.Prefixes.{prefix_all}
 use Rattle.vt_screen.proofs.Spread.{plain-front, put-narrow}
 use Rattle.vt_cells.specs.Width.{is_plain}
 use Rattle.vt_screen.specs.Printing.{put_here}

@@ -1,7 +1,10 @@
-use Rattle.std.proofs.Common.{◌≡◌, List, replicate, refl, subst, sym, ap, ◌∙◌, arith}
+use Rattle.std.proofs.Common.{◌≡◌, List, replicate, false, refl, subst, sym, ap, ◌∙◌, arith}
+use Rattle.std.proofs.lemmas.Bool.Decides.{nat_tests}
+use Rattle.std.proofs.lemmas.List.Elements.{All-nil, All-replicate}
+use Rattle.vt_cells.specs.Width.{is_half}
 use Rattle.vt_grid.proofs.Naming.{IsNaming-new, named-new}
-use Rattle.vt_grid.specs.Line.{Line, blank_line}
-use Rattle.vt_grid.specs.Ring.{Shelf, IsNaming, named}
+use Rattle.vt_grid.specs.Line.{IsNarrowLine, Line, blank_line}
+use Rattle.vt_grid.specs.Ring.{AreNarrow, IsNaming, Shelf, named}
 use Rattle.vt_grid.proofs.rows.store.RowStore.blank.Goals as goal
 
 -- a row of the new store
@@ -15,10 +18,16 @@ rows-is c =
 
 pub invariant_of-result : goal.invariant_of-result
 unfolding shelf
-invariant_of-result c =
-    subst (IsNaming c.args.size.rows c.args.size.cols c.in_ok-ring.ring) (sym (rows-is c))
-    (IsNaming-new c.args.size.rows c.args.size.cols c.in_ok-ring.ring (shelf c) c.in_ok-ring.ensures
-    refl (omega arith))
+invariant_of-result c = (
+  subst (IsNaming c.args.size.rows c.args.size.cols c.in_ok-ring.ring) (sym (rows-is c))
+      (IsNaming-new c.args.size.rows c.args.size.cols c.in_ok-ring.ring (shelf c) c.in_ok-ring.ensures
+      refl (omega arith)),
+  λ is.
+      let one : is_half c.args.c ≡ false = grind (arith, nat_tests) in
+      subst AreNarrow (sym (rows-is c))
+      (All-replicate (λ slot. IsNarrowLine slot.line) c.args.size.rows (shelf c)
+      (All-nil (λ cell. is_half cell ≡ false), one)),
+)
 
 pub returns : goal.returns
 unfolding shelf

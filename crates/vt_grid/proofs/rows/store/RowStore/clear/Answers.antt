@@ -1,8 +1,9 @@
 use Rattle.std.proofs.Common.{◌≡◌, ℕ, ◌+◌, ◌≤◌, List, length, take, drop, sym, ap, ◌∙◌, subst, arith}
 use Rattle.std.proofs.lemmas.List.{with_items_is}
 use Rattle.vt_grid.proofs.Clears.{cleared_one, clears, length-cut_all}
+use Rattle.vt_grid.proofs.Narrow.{cut_all-narrow}
 use Rattle.vt_grid.specs.Line.{Line, blank_line}
-use Rattle.vt_grid.specs.Ring.{IsNaming, Shelf, cut_all, named}
+use Rattle.vt_grid.specs.Ring.{AreNarrow, IsNaming, Shelf, cut_all, named}
 use Rattle.vt_grid.specs.Store.{Store, cleared}
 use Rattle.vt_grid.proofs.rows.store.RowStore.clear.Goals as goal
 
@@ -28,9 +29,14 @@ invariant_of-self g c =
     ap length new ∙ length-cut_all part c.args.c kept in
     let within : c.args.from + c.args.count ≤ rows =
     omega (arith, c.requires, ap (λ (s : Store). s.rows) c.self.view_is) in
-    subst (λ (shelves : List Shelf). IsNaming rows cols order shelves)
-    (sym (with_items_is c.self.inside.rows c.clear_rows.new.rows (len ∙ omega arith) ∙ new))
-    (clears rows cols order kept c.self.invariant c.args.c c.args.from c.args.count within).0
+    let now = sym (with_items_is c.self.inside.rows c.clear_rows.new.rows (len ∙ omega arith) ∙ new) in (
+      subst (λ (shelves : List Shelf). IsNaming rows cols order shelves) now
+          (clears rows cols order kept c.self.invariant.0 c.args.c c.args.from c.args.count within).0,
+      (λ is.
+          subst AreNarrow now
+          (cut_all-narrow part c.args.c kept (c.stays_narrow-self-inside.ensures.one is)
+          (c.self.invariant.1 (c.stays_narrow-self-inside.ensures.before is)))),
+    )
 
 pub returns-clause-rows : goal.returns-clause-rows
 returns-clause-rows g c =
@@ -50,6 +56,6 @@ returns-clause-rows g c =
       cols = cols;
       lines = (ap (λ (shelves : List Shelf). named shelves order)
           (with_items_is c.self.inside.rows c.clear_rows.new.rows (len ∙ omega arith) ∙ new)
-          ∙ (clears rows cols order kept c.self.invariant c.args.c c.args.from c.args.count within).1) i;
+          ∙ (clears rows cols order kept c.self.invariant.0 c.args.c c.args.from c.args.count within).1) i;
     })
     ∙ ap (λ (s : Store). record s { lines = cleared c.args.from c.args.count (blank_line c.args.c) s.lines }) c.self.view_is

@@ -8,11 +8,12 @@ use Rattle.vt_grid.specs.Store.{Store, part_turned}
 use Rattle.vt_grid.proofs.rows.store.RowStore.rotate.Goals as goal
 
 pub invariant_of-self : goal.invariant_of-self
-invariant_of-self g c =
-    IsNaming-moved _ _ c.self.inside.ring c.self.inside.rows.items c.self.invariant
-    c.rotate.new.self
-    (subst (IsPermutation c.self.inside.ring) (sym c.rotate.ensures.numbers)
-    (IsPermutation-part_turned c.args.top c.args.bottom c.args.n c.self.inside.ring (omega arith) (omega (arith, c.self.invariant.numbers, ap (λ (s : Store). s.rows) c.self.view_is))))
+invariant_of-self g c = (
+  IsNaming-moved _ _ c.self.inside.ring c.self.inside.rows.items c.self.invariant.0 c.rotate.new.self
+      (subst (IsPermutation c.self.inside.ring) (sym c.rotate.ensures.numbers)
+      (IsPermutation-part_turned c.args.top c.args.bottom c.args.n c.self.inside.ring (omega arith) (omega (arith, c.self.invariant.0.numbers, ap (λ (s : Store). s.rows) c.self.view_is)))),
+  c.self.invariant.1,
+)
 
 pub returns-clause-rows : goal.returns-clause-rows
 returns-clause-rows g c =

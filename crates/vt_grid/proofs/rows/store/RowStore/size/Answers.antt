@@ -6,4 +6,4 @@ use Rattle.vt_grid.proofs.rows.store.RowStore.size.Goals as goal
 pub returns-clause-fit : goal.returns-clause-fit
 returns-clause-fit c =
     subst IsFit c.self.view_is
-    (IsFit-named _ _ c.self.inside.ring c.self.inside.rows.items c.self.invariant)
+    (IsFit-named _ _ c.self.inside.ring c.self.inside.rows.items c.self.invariant.0)

@@ -8,11 +8,12 @@ use Rattle.vt_grid.specs.Store.{Store, turned}
 use Rattle.vt_grid.proofs.rows.store.RowStore.turn.Goals as goal
 
 pub invariant_of-self : goal.invariant_of-self
-invariant_of-self g c =
-    IsNaming-moved _ _ c.self.inside.ring c.self.inside.rows.items c.self.invariant
-    c.turn.new.self
-    (subst (IsPermutation c.self.inside.ring) (sym c.turn.ensures)
-    (IsPermutation-turned c.args.n c.self.inside.ring))
+invariant_of-self g c = (
+  IsNaming-moved _ _ c.self.inside.ring c.self.inside.rows.items c.self.invariant.0 c.turn.new.self
+      (subst (IsPermutation c.self.inside.ring) (sym c.turn.ensures)
+      (IsPermutation-turned c.args.n c.self.inside.ring)),
+  c.self.invariant.1,
+)
 
 pub returns-clause-rows : goal.returns-clause-rows
 returns-clause-rows g c =

@@ -1,4 +1,0 @@
-use Rattle.vt_grid.proofs.grid.Grid.put.Given as goal
-
-abbrev pub ghosts-put_run : goal.ghosts-put_run
-ghosts-put_run a = record { name = a.blank.name; parts = a.blank.parts }
