@@ -1,5 +1,5 @@
 -- The runs of a row: cells beside each other that are drawn as one text.
-use Rattle.std.specs.Prelude.{ℕ, Bool, ◌==◌, ◌&&◌, ◌||◌, not, List, [], ◌∷◌, if◌then◌else◌}
+use Rattle.std.specs.Prelude.{Bool, ◌==◌, ◌&&◌, ◌||◌, not, List, [], ◌∷◌, if◌then◌else◌}
 use Rattle.vt_cells.specs.Width.{columns, is_half}
 use Rattle.vt_cells.specs.declared.cell.Cell.{Cell}
 

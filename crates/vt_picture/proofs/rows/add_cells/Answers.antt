@@ -1,4 +1,4 @@
-use Rattle.std.proofs.Common.{List, drop, take, arith}
+use Rattle.std.proofs.Common.{List, drop, take}
 use Rattle.vt_cells.specs.declared.cell.Cell.{Cell}
 use Rattle.vt_grid.specs.Grid.{row_at}
 use Rattle.vt_picture.specs.Characters.{cell_text}
