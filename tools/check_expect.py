@@ -1,7 +1,7 @@
 #!/usr/bin/env python3
 """Checks record.py and expect.py: the test files of examples/tests, what each refuses, and how long a large file takes.
 
-usage: check_expect.py [--vt PATH] [--seconds S] [--damaged N] [--only KIND]
+usage: check_expect.py [--vt PATH] [--picture PATH] [--seconds S] [--damaged N] [--only KIND]
 
 The ten files hold, and wrong.test prints wrong.tap. Each file that isn't of the form is refused with its line;
 record.py ends with its status for each way in which a program can fail. Some hundreds of damaged files end with a
@@ -271,7 +271,12 @@ def guided(given):
         at = pathlib.Path(folder)
         for name, block in files:
             (at / name).write_text(re.sub("(?m)^ {4}", "", block), encoding="utf-8")
-        for name, target in (("vt", given.vt or ROOT / "crates/vt/out/vt"), ("record.py", TOOLS / "record.py")):
+        targets = {
+            "vt": given.vt or ROOT / "crates/vt/out/vt",
+            "picture": given.picture or ROOT / "crates/example_picture/out/example_picture",
+            "record.py": TOOLS / "record.py",
+        }
+        for name, target in targets.items():
             (at / name).symlink_to(pathlib.Path(target).resolve())
         (at / "expect.py").write_text(f'#!/bin/sh\nexec {TOOLS}/expect.py --vt {at}/vt "$@"\n', encoding="utf-8")
         (at / "expect.py").chmod(0o755)
@@ -315,6 +320,7 @@ def large(given):
 def main():
     form = argparse.ArgumentParser(description=__doc__, formatter_class=argparse.RawDescriptionHelpFormatter)
     form.add_argument("--vt", metavar="PATH")
+    form.add_argument("--picture", metavar="PATH")
     form.add_argument("--seconds", metavar="S", type=float, default=5.0)
     form.add_argument("--damaged", metavar="N", type=int, default=200)
     form.add_argument("--only", metavar="KIND")

@@ -1,0 +1,2 @@
+mod RunEnds
+mod Texts

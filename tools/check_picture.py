@@ -1,0 +1,333 @@
+#!/usr/bin/env python3
+"""Checks the pictures that crates/example_picture draws, by what SVG and docs/SCREEN.md want of them.
+
+usage: check_picture.py [--picture PATH] [--vt PATH] [--browser PATH] [--streams N]
+
+- Pictures of small texts have the colours, classes, places and characters that docs/SCREEN.md gives these texts.
+- Pictures of the recordings of examples/, of each byte, and of N random streams (40) are well-formed XML. In each the
+  rectangles cover every row from the first column to the last, each text stands on its rectangle, the texts of a row
+  are the row that `vt screen` prints, and the title and the description have the size.
+- The picture that README.md shows is that of its recording.
+- Words that aren't rows and columns, a read that fails and a write that fails end with a status and its line.
+- Chromium draws one picture without a window, and pixels of it have the colours of its cells. If Chromium isn't
+  installed, a line names this check as skipped.
+
+Prints a line for each check that fails and last 'N passed, M failed'. Ends with status 1 if one fails, and with 2 if a
+program is missing.
+"""
+import argparse
+import os
+import pathlib
+import random
+import shutil
+import struct
+import subprocess
+import sys
+import tempfile
+import xml.etree.ElementTree as ElementTree
+import zlib
+
+ROOT = pathlib.Path(__file__).resolve().parent.parent
+SVG = "{http://www.w3.org/2000/svg}"
+WIDTH, HEIGHT = 8, 16
+SECONDS = 60
+BROWSERS = ["chromium", "chromium-browser", "google-chrome"]
+
+# The colours 0 to 15 of the console in their order, red 1 and blue 4 (docs/SCREEN.md): 170 for a part, and bright
+# ones 255 for a part and 85 for the others.
+COLOURS = [
+    "#000000", "#aa0000", "#00aa00", "#aaaa00", "#0000aa", "#aa00aa", "#00aaaa", "#aaaaaa",
+    "#555555", "#ff5555", "#55ff55", "#ffff55", "#5555ff", "#ff55ff", "#55ffff", "#ffffff",
+]
+BLACK, RED, GREEN, YELLOW, BLUE, WHITE = (COLOURS[n] for n in (0, 1, 2, 3, 4, 7))
+BRIGHT_WHITE, GREY = COLOURS[15], COLOURS[8]
+
+# A text, and the texts of the first row: column, cells, characters, the colours of the character and of the
+# background, and the class. The screens have 10 columns and one row, and their cursor is hidden.
+ROWS = [
+    (b"", [(0, 10, " " * 10, WHITE, BLACK, None)]),
+    (b"a<b&c>d\"'", [(0, 10, "a<b&c>d\"' ", WHITE, BLACK, None)]),
+    (b"\x1b[31mab\x1b[m", [(0, 2, "ab", RED, BLACK, None), (2, 8, " " * 8, WHITE, BLACK, None)]),
+    (b"\x1b[34;43mab", [(0, 2, "ab", BLUE, YELLOW, None), (2, 8, " " * 8, WHITE, BLACK, None)]),
+    (b"\x1b[31;44;7mab", [(0, 2, "ab", BLUE, RED, None), (2, 8, " " * 8, WHITE, BLACK, None)]),
+    (b"\x1b[1mab", [(0, 2, "ab", BRIGHT_WHITE, BLACK, "bold"), (2, 8, " " * 8, WHITE, BLACK, None)]),
+    (b"\x1b[5mab", [(0, 2, "ab", WHITE, BLACK, "blink"), (2, 8, " " * 8, WHITE, BLACK, None)]),
+    (b"\x1b[1;5mab", [(0, 2, "ab", BRIGHT_WHITE, BLACK, "bold blink"), (2, 8, " " * 8, WHITE, BLACK, None)]),
+    (b"\x1b[2mab", [(0, 2, "ab", GREY, BLACK, None), (2, 8, " " * 8, WHITE, BLACK, None)]),
+    (b"\x1b[4mab", [(0, 2, "ab", BRIGHT_WHITE, BLACK, "bold"), (2, 8, " " * 8, WHITE, BLACK, None)]),
+    (b"\x1b[3mab", [(0, 2, "ab", GREEN, BLACK, None), (2, 8, " " * 8, WHITE, BLACK, None)]),
+    (b"\x1b[?5h\x1b[31mab", [(0, 2, "ab", BLACK, RED, None), (2, 8, " " * 8, BLACK, WHITE, None)]),
+    (b"\x1b]P1123456\x1b[31mab", [(0, 2, "ab", "#123456", BLACK, None), (2, 8, " " * 8, WHITE, BLACK, None)]),
+    (b"\x1b]P0ABCDEFab", [(0, 10, "ab" + " " * 8, WHITE, "#abcdef", None)]),
+    ("a\u4e2db".encode(), [(0, 1, "a", WHITE, BLACK, None), (1, 2, "\u4e2d", WHITE, BLACK, None),
+                           (3, 7, "b" + " " * 6, WHITE, BLACK, None)]),
+    (b"\x1b%@\x1b[3h\x01\x1b[3l\x1b%G", [(0, 10, "\ufffd" + " " * 9, WHITE, BLACK, None)]),
+    ("\ufffe\uffff".encode(), [(0, 10, "\ufffd\ufffd" + " " * 8, WHITE, BLACK, None)]),
+]
+
+# A text, the left and upper edge and the colour of the cursor, and what the description has of it.
+CURSORS = [
+    (b"ab\n", (2 * WIDTH, HEIGHT + 14, WHITE), "The cursor is in row 2 and column 3."),
+    (b"\x1b[31mab\x1b[D", (WIDTH, 14, RED), "The cursor is in row 1 and column 2."),
+    (b"\x1b[?5h", (0, 14, BLACK), "The cursor is in row 1 and column 1."),
+    (b"\x1b[?25l", None, "The cursor is hidden."),
+]
+
+# The picture that a browser draws: 2 rows and 4 columns. Row 0 has a red, a green and a bright block and the cursor's
+# cell; row 1 has a wide character on blue, a reversed space, and a space on a colour of a palette that was set.
+DRAWN = b"\x1b]P5123456\x1b[41m \x1b[42m \x1b[0;1m\xe2\x96\x88\x1b[m\r\n\x1b[44m\xe4\xb8\xad\x1b[0;7m \x1b[0;45m \x1b[m\x1b[1;4H"
+# Row, column, the place in the cell, and the colour there.
+PIXELS = [
+    (0, 0, (4, 8), RED), (0, 1, (4, 8), GREEN), (0, 2, (4, 8), BRIGHT_WHITE), (0, 3, (4, 8), BLACK),
+    (0, 3, (4, 15), WHITE), (0, 3, (0, 13), BLACK), (1, 0, (0, 0), BLUE), (1, 1, (7, 0), BLUE),
+    (1, 2, (4, 8), WHITE), (1, 3, (4, 8), "#123456"),
+]
+
+# The pictures that pages show: the file, the recording, its rows and columns.
+STORED = [("docs/monitor.svg", "examples/recordings/monitor", "25", "80")]
+
+
+class Check:
+    """Counts what holds, and prints what doesn't."""
+
+    def __init__(self):
+        self.passed = self.failed = 0
+
+    def holds(self, is_so, what):
+        """One check."""
+        if is_so:
+            self.passed += 1
+        else:
+            self.failed += 1
+            print(f"failed: {what}")
+
+
+def run(words, given=b"", **streams):
+    """Status, out and err of a program."""
+    options = {"stdout": subprocess.PIPE, **streams}
+    if "stdin" not in options:
+        options["input"] = given
+    ran = subprocess.run(words, stderr=subprocess.PIPE, timeout=SECONDS, check=False, **options)
+    return ran.returncode, ran.stdout or b"", ran.stderr
+
+
+def shapes(picture):
+    """The elements of a picture, or none if it isn't well-formed XML or not an SVG element."""
+    try:
+        top = ElementTree.fromstring(picture)
+    except ElementTree.ParseError as fault:
+        print(f"not well-formed: {fault}")
+        return None
+    return list(top) if top.tag == SVG + "svg" else None
+
+
+def cells_of(units, size):
+    """How many cells a number of units is; -1 if that isn't whole."""
+    return int(units) // size if int(units) % size == 0 else -1
+
+
+def drawn_rows(elements):
+    """For each row its texts: column, cells, characters, the two colours, and the class. Each follows its rectangle."""
+    rows, box = {}, None
+    for element in elements:
+        if element.tag == SVG + "rect":
+            box = element.attrib
+        elif element.tag == SVG + "text":
+            letters = element.attrib
+            y = cells_of(box["y"], HEIGHT)
+            x, count = cells_of(box["x"], WIDTH), cells_of(box["width"], WIDTH)
+            fits = (letters["x"], letters["textLength"]) == (box["x"], box["width"])
+            stands = int(letters["y"]) == HEIGHT * y + 12 and box["height"] == str(HEIGHT)
+            if fits and stands:
+                text = (x, count, element.text or "", letters["fill"], box["fill"], letters.get("class"))
+                rows.setdefault(y, []).append(text)
+    return rows
+
+
+def check_rows(check, program):
+    """The small texts."""
+    for given, wanted in ROWS:
+        status, picture, _ = run([program, "1", "10"], given + b"\x1b[?25l")
+        elements = shapes(picture) if status == 0 else None
+        found = drawn_rows(elements).get(0) if elements else None
+        check.holds(found == wanted, f"{given!r}: wanted {wanted}, found {found}")
+
+
+def check_cursors(check, program):
+    """The cursor and its words."""
+    for given, wanted, words in CURSORS:
+        _, picture, _ = run([program, "2", "5"], given)
+        elements = shapes(picture) or []
+        after = [element.attrib for element in elements if element.tag == SVG + "rect"][-1]
+        found = (int(after["x"]), int(after["y"]), after["fill"]) if after["height"] == "2" else None
+        check.holds(found == wanted, f"{given!r}: wanted the cursor {wanted}, found {found}")
+        said = "".join(element.text for element in elements if element.tag == SVG + "desc")
+        check.holds(said == f"A text console of 2 rows and 5 columns. {words}", f"{given!r}: the description is {said!r}")
+
+
+def random_stream(number):
+    """Bytes that print, colour, move, erase and set modes, by a number."""
+    chance = random.Random(number)
+    parts = []
+    for _ in range(chance.randrange(20, 400)):
+        kind = chance.randrange(8)
+        if kind < 2:
+            parts.append(bytes(chance.randrange(32, 127) for _ in range(chance.randrange(12))))
+        elif kind == 2:
+            parts.append(chr(chance.choice([0xE9, 0x2500, 0x4E2D, 0xAC00, 0x1F600, 0x301, 0xFFFE, 0x85])).encode())
+        elif kind == 3:
+            parts.append(b"\x1b[%d;%dm" % (chance.randrange(10), chance.randrange(30, 48)))
+        elif kind == 4:
+            parts.append(b"\x1b[%d;%dH" % (chance.randrange(30), chance.randrange(90)))
+        elif kind == 5:
+            parts.append(b"\x1b[%d%c" % (chance.randrange(4), chance.choice(b"JKPX@LM")))
+        elif kind == 6:
+            parts.append(chance.choice([b"\x1b[?5h", b"\x1b[?25l", b"\x1b[?25h", b"\x1b]P%c%06x" % (
+                chance.choice(b"0123456789abcdef"), chance.randrange(1 << 24)), b"\r\n", b"\x1b[3h\x02\x1b[3l"]))
+        else:
+            parts.append(bytes(chance.randrange(256) for _ in range(chance.randrange(6))))
+    return b"".join(parts)
+
+
+def streams(count):
+    """Names, rows, columns and bytes."""
+    for path in sorted((ROOT / "examples/recordings").glob("*.rows")):
+        yield path.stem, 25, 80, path.with_suffix("").read_bytes()
+    for byte in range(256):
+        yield f"byte {byte:02x}", 2, 5, b"\x1b[3h" + bytes([byte]) + b"a"
+    yield "the largest screen", 255, 255, b"\x1b[32m#" * 70000
+    yield "the smallest screen", 1, 1, b"ab"
+    for number in range(count):
+        chance = random.Random(-number - 1)
+        yield f"random stream {number}", chance.randrange(1, 40), chance.randrange(1, 100), random_stream(number)
+
+
+def is_row(texts, wanted, cols):
+    """The texts cover a row of so many columns, and are this row of `vt screen`, which prints ? for what isn't text."""
+    at = 0
+    for x, count, _, _, _, _ in texts:
+        if x != at or count < 1:
+            return False
+        at += count
+    found = "".join(text for _, _, text, _, _, _ in texts)
+    signs = [a == b or (a == "\ufffd" and b in "?\ufffe\uffff") for a, b in zip(found, wanted)]
+    return at == cols and len(found) == len(wanted) and all(signs)
+
+
+def check_streams(check, program, vt, count):
+    """Many screens."""
+    for name, rows, cols, given in streams(count):
+        size = [str(rows), str(cols)]
+        status, picture, _ = run([program, *size], given)
+        elements = shapes(picture) if status == 0 else None
+        if elements is None:
+            check.holds(False, f"{name}: no picture, status {status}")
+            continue
+        shown = [line[1:-1] for line in run([vt, "screen", *size], given)[1].decode().split("\n")[:-1]]
+        drawn = drawn_rows(elements)
+        wrong = [y for y in range(rows) if not is_row(drawn.get(y, []), shown[y], cols)]
+        check.holds(sorted(drawn) == list(range(rows)) and not wrong, f"{name}: rows that aren't as shown: {wrong[:5]}")
+        words = f"{rows} rows and {cols} columns"
+        heads = [element.text for element in elements[:2]]
+        check.holds(heads[0] == f"A screen of {words}" and heads[1].startswith(f"A text console of {words}. "),
+                    f"{name}: the title and the description are {heads}")
+
+
+def check_stored(check, program):
+    """The pictures of pages."""
+    for path, stream, *size in STORED:
+        _, picture, _ = run([program, *size], (ROOT / stream).read_bytes())
+        check.holds(picture == (ROOT / path).read_bytes(), f"{path} isn't the picture of {stream}")
+
+
+def check_endings(check, program):
+    """The statuses."""
+    usage = (1, b"", b"picture: usage: picture R C\n")
+    for words in ["", "1", "0 1", "1 0", "256 1", "1 256", "1 2 3", "a b", "+1 2", "-1 2", "1" * 40 + " 2", "1 2 " + "3" * 40]:
+        check.holds(run([program, *words.split()]) == usage, f"picture {words}: not refused as usage")
+    folder = os.open(ROOT, os.O_RDONLY)
+    found = run([program, "2", "5"], stdin=folder)
+    os.close(folder)
+    check.holds(found == (2, b"", b"picture: read failed\n"), f"a read that fails: {found}")
+    with open("/dev/full", "wb") as full:
+        found = run([program, "2", "5"], b"a", stdout=full)
+    check.holds(found == (3, b"", b"picture: write failed\n"), f"a write that fails: {found}")
+
+
+def pixels_of(image):
+    """The rows of an image in PNG (ISO/IEC 15948) with 8 bits for a part, each pixel its parts."""
+    at, packed, head = 8, b"", None
+    while at < len(image):
+        length, kind = struct.unpack(">I4s", image[at:at + 8])
+        if kind == b"IHDR":
+            head = struct.unpack(">IIBBBBB", image[at + 8:at + 8 + length])
+        elif kind == b"IDAT":
+            packed += image[at + 8:at + 8 + length]
+        at += length + 12
+    width, height, depth, colour = head[:4]
+    parts = {2: 3, 6: 4}[colour]
+    assert depth == 8 and head[6] == 0
+    given, line, rows = zlib.decompress(packed), bytes(width * parts), []
+    for y in range(height):
+        start = y * (width * parts + 1)
+        kind, coded, now = given[start], given[start + 1:start + 1 + width * parts], bytearray()
+        for i, byte in enumerate(coded):
+            left = now[i - parts] if i >= parts else 0
+            up, corner = line[i], line[i - parts] if i >= parts else 0
+            now.append((byte + (0, left, up, (left + up) // 2, paeth(left, up, corner))[kind]) % 256)
+        line = bytes(now)
+        rows.append([line[i:i + parts] for i in range(0, len(line), parts)])
+    return rows
+
+
+def paeth(left, up, corner):
+    """The nearest of three neighbours to their plane (ISO/IEC 15948, 9.4)."""
+    return min((left, up, corner), key=lambda part: abs(left + up - corner - part))
+
+
+def check_browser(check, program, browser):
+    """The pixels of a picture that a browser draws."""
+    _, picture, _ = run([program, "2", "4"], DRAWN)
+    with tempfile.TemporaryDirectory() as folder:
+        source, image = pathlib.Path(folder, "picture.svg"), pathlib.Path(folder, "picture.png")
+        source.write_bytes(picture)
+        run([browser, "--headless", "--no-sandbox", "--disable-gpu", "--hide-scrollbars", "--force-device-scale-factor=1",
+             f"--user-data-dir={folder}/profile", "--window-size=200,200", f"--screenshot={image}", source.as_uri()])
+        rows = pixels_of(image.read_bytes()) if image.exists() else None
+    check.holds(rows is not None, f"{browser} draws no image")
+    for y, x, (across, down), wanted in PIXELS if rows else []:
+        found = "#" + rows[HEIGHT * y + down][WIDTH * x + across][:3].hex()
+        check.holds(found == wanted, f"row {y}, column {x}, pixel {across},{down}: wanted {wanted}, found {found}")
+    letters = rows and {bytes(pixel[:3]).hex() for line in rows[HEIGHT:2 * HEIGHT] for pixel in line[:2 * WIDTH]}
+    check.holds(letters and len(letters) > 1, "the wide character isn't drawn")
+
+
+def main():
+    """Runs the checks."""
+    parser = argparse.ArgumentParser(usage=__doc__.split("usage: ")[1].split("\n")[0])
+    parser.add_argument("--picture", default=str(ROOT / "crates/example_picture/out/example_picture"))
+    parser.add_argument("--vt", default=str(ROOT / "crates/vt/out/vt"))
+    parser.add_argument("--browser")
+    parser.add_argument("--streams", type=int, default=40)
+    given = parser.parse_args()
+    for program in [given.picture, given.vt]:
+        if not os.access(program, os.X_OK):
+            print(f"check_picture.py: {program}: no such program", file=sys.stderr)
+            return 2
+    check = Check()
+    check_rows(check, given.picture)
+    check_cursors(check, given.picture)
+    check_streams(check, given.picture, given.vt, given.streams)
+    check_stored(check, given.picture)
+    check_endings(check, given.picture)
+    browser = given.browser or next(filter(None, map(shutil.which, BROWSERS)), None)
+    if browser:
+        check_browser(check, given.picture, browser)
+    else:
+        print("skipped: the pixels of a picture, since Chromium isn't installed")
+    print(f"{check.passed} passed, {check.failed} failed")
+    return 1 if check.failed else 0
+
+
+if __name__ == "__main__":
+    sys.exit(main())
