@@ -55,7 +55,8 @@ impl<'a, K: Kept> Held<'a, K> {
         let before = shared.exchange(&mut pass.place, SLOT, Some(value));
         let None = before else { unreachable!() };
         let served = shared.fetch_add::<Leave>(&mut pass.place, SERVING, 1);
-        lock.ring(served.wrapping_add(1));
+        lock.bells.ring(served.wrapping_add(1));
+        lock.door.call(served);
     }
 }
 

@@ -1,7 +1,9 @@
 //! A ticket lock that carries one history: who enters finds all that was published, and adds to it.
 #![tactic(auto)]
 
+mod bells;
 mod board;
+mod door;
 mod entry;
 mod held;
 mod kept;

@@ -3,30 +3,30 @@ ghost use Rattle.std.specs.Mem.Slots.{slots_items, slots_len, IsFull};
 ghost use Rattle.atomic_table.specs.Table.{Final, Seen};
 ghost use Rattle.turn_lock.specs.Rule.{Rule};
 
+use crate::bells::Bells;
 use crate::board::{Board, FRONT, NEXT, Place, SERVING, SLOT};
+use crate::door::Door;
 use crate::held::Held;
 use crate::kept::Kept;
 use crate::pass::Pass;
 use crate::plays::{Compare, Cut, Draw, Glue, Look, Picked, Read};
 use atomic_table::{Closed, Table};
-use crossbeam_utils::sync::{EventCount, Key};
+use crossbeam_utils::sync::Key;
 use std::alloc::Global;
 use std::hint;
 use std::marker::Brand;
 use std::sync::Wait;
 use vt_base::NoMemory;
 
-/// Tickets that are this many apart share a bell.
-const BELLS: usize = 128;
-
-/// How often a caller looks before it sleeps at its ticket's bell.
+/// How often a caller looks before it sleeps: at the door, and again at the bell of its ticket.
 const LOOKS: u32 = 20;
 
 /// The lock, with the value under it.
 #[derive(Drop)]
 pub struct TurnLock<K: Kept> {
     pub(crate) board: Board<K>,
-    pub(crate) bells: Vec<EventCount>,
+    pub(crate) bells: Bells,
+    pub(crate) door: Door,
     ghost sized: { (board.shared.table_id.words ≡ 3) × (board.shared.table_id.slots ≡ 1) },
 }
 
@@ -55,12 +55,13 @@ impl<K: Kept> TurnLock<K> {
         ensures pass { IfOk result (λ made. RestsIn made.0 made.1) }
         ensures view { IfOk result (λ made. view made.1 ≡ newcomer K.before) }
     {
-        let bells = bells(alloc)?;
+        let bells = Bells::hang(alloc)?;
+        let door = Door::hang(alloc)?;
         let front = value.front();
         let mut slots = Vec::new(alloc);
         slots.push(Some(value))?;
         match Table::new(alloc, &[0, 0, front], slots, &()) {
-            Ok((board, place)) => Ok((TurnLock { board, bells }, Pass { place })),
+            Ok((board, place)) => Ok((TurnLock { board, bells, door }, Pass { place })),
             Err(_) => Err(NoMemory),
         }
     }
@@ -166,12 +167,51 @@ impl<K: Kept> TurnLock<K> {
         ensures counted { IsCounted (K.entries (value_of result)) }
         ensures shown { IsShown (K.entries (value_of result)) }
     {
+        self.stand_aside(rt);
         let ticket = self.board.shared.fetch_add::<Draw>(&mut p.place, NEXT, 1);
         let value = self.take(rt, &mut p.place, ticket);
         Held {
             lock: self,
             pass: p,
             value,
+        }
+    }
+
+    // Looks whether the lock is free, and waits at the door if it isn't.
+    fn stand_aside<R: Wait>(&self, rt: &R) {
+        for _ in 0..LOOKS {
+            if !self.is_busy() {
+                return;
+            }
+            hint::spin_loop();
+        }
+        let number = self.door.number();
+        // If no ticket is out, no other caller needs to come and leave: this one does the call.
+        if let Some(served) = self.idle() {
+            self.door.call(served);
+        }
+        self.door.wait(rt, number);
+    }
+
+    // Whether a ticket is out, or the callers stand aside for one that was called in.
+    fn is_busy(&self) -> bool {
+        // It is read before `serving`, so the ticket that is served is no earlier.
+        let since = self.door.since();
+        match self.idle() {
+            Some(served) => self.door.is_due(served.wrapping_sub(since)),
+            None => true,
+        }
+    }
+
+    // The ticket that is served next, if none is out.
+    fn idle(&self) -> Option<u64> {
+        // `serving` is read first: if `next` differs from it, whoever has that ticket leaves after this look
+        // began.
+        let served = self.board.shared.peek(SERVING);
+        if self.board.shared.peek(NEXT) == served {
+            Some(served)
+        } else {
+            None
         }
     }
 
@@ -208,15 +248,7 @@ impl<K: Kept> TurnLock<K> {
         if looks < LOOKS {
             return None;
         }
-        let bell = self.bells.get((ticket % BELLS as u64) as usize)?;
-        Some(bell.prepare_wait())
-    }
-
-    // Wakes who waits at the bell of this ticket.
-    pub(crate) fn ring(&self, ticket: u64) {
-        if let Some(bell) = self.bells.get((ticket % BELLS as u64) as usize) {
-            bell.notify_all();
-        }
+        self.bells.announced(ticket)
     }
 
     /// The word of the history, which the pass has read then: it doesn't wait.
@@ -260,14 +292,6 @@ impl<K: Kept> TurnLock<K> {
         closed.free();
         value
     }
-}
-
-fn bells(alloc: Global) -> Result<Vec<EventCount>, NoMemory> {
-    let mut bells = Vec::with_capacity(alloc, BELLS)?;
-    for _ in 0..BELLS {
-        bells.push(EventCount::new())?;
-    }
-    Ok(bells)
 }
 
 // Ends the sharing of the table: what the pass knows stands in its last state.
