@@ -245,8 +245,9 @@ def check_endings(check, program):
     usage = (1, b"", b"picture: usage: picture R C\n")
     for words in ["", "1", "0 1", "1 0", "256 1", "1 256", "1 2 3", "a b", "+1 2", "-1 2", "1" * 40 + " 2", "1 2 " + "3" * 40]:
         check.holds(run([program, *words.split()]) == usage, f"picture {words}: not refused as usage")
-    with open(os.open(ROOT, os.O_RDONLY), "rb", buffering=0) as folder:
-        found = run([program, "2", "5"], stdin=folder)
+    folder = os.open(ROOT, os.O_RDONLY)
+    found = run([program, "2", "5"], stdin=folder)
+    os.close(folder)
     check.holds(found == (2, b"", b"picture: read failed\n"), f"a read that fails: {found}")
     with open("/dev/full", "wb") as full:
         found = run([program, "2", "5"], b"a", stdout=full)
