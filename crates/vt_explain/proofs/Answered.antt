@@ -4,14 +4,11 @@ use Rattle.std.specs.Prelude.{slice_get}
 use Rattle.std.proofs.lemmas.Bool.{cases_lt}
 use Rattle.std.proofs.lemmas.Option.{none-some, slice_get_past, slice_get_within}
 use Rattle.session_order.specs.Ends.{Setup}
-use Rattle.session_order.specs.Sessions.{start_of}
-use Rattle.session_text.specs.Sessions.{SessionView}
-use Rattle.vt_base.specs.ConsoleSet.{IsFitSet}
 use Rattle.vt_check.specs.Verdicts.{Judges, OneVerdict}
 use Rattle.vt_check.specs.declared.verdict.Verdict.{Verdict}
 use Rattle.vt_check.specs.declared.verdict.Verdict.TheVariants as verdict
 use Rattle.vt_events.specs.declared.entry.Entry.{Entry}
-use Rattle.vt_explain.proofs.Certified.{certificates_are_good, one_first_bad}
+use Rattle.vt_explain.proofs.Certified.{certificate_is, certificates_are_good, good_is_found, one_first_bad}
 use Rattle.vt_explain.proofs.Places.{HasAt, get_some, same_lists}
 use Rattle.vt_explain.specs.Accepting.{Accepts, Compares, DiffersAt, OneAcceptance}
 use Rattle.vt_explain.specs.Certificates.{Good, IsCertificate, IsFirstBad}
@@ -20,7 +17,8 @@ use Rattle.vt_explain.specs.declared.judged.Judged.{Judged}
 use Rattle.vt_explain.specs.declared.judged.Judged.TheVariants as judged
 use Rattle.vt_journal.specs.declared.tail.Tail.{Tail}
 use Rattle.vt_switch.specs.Moments.{Moment}
-use Rattle.vt_world.specs.Laws.{IsStart, moments}
+use Rattle.vt_switch.specs.News.{OneNewsIsTold}
+use Rattle.vt_world.specs.Laws.{moments}
 
 abbrev is_legal : Verdict → Bool
 is_legal verdict.Legal = true
@@ -52,19 +50,21 @@ one-acceptance law o entries end c (judged.Illegal index why) (judged.No j) is a
 one-acceptance law o entries end c (judged.Illegal i why) (judged.Illegal j other) is also =
     ap as_judged (law o entries end (verdict.Illegal i why) (verdict.Illegal j other) is also)
 
--- the certificate, which each good item stands in
-pub record IsFound (h : List Moment) (made : List HopWhy) : Type 0 where
-  pub cert : IsCertificate h made
-  pub good : (k : ℕ) (w : HopWhy) → Good h k w → slice_get made k ≡ Some w
+-- each good item stands in the certificate
+stands : OneNewsIsTold → (h : List Moment) (made : List HopWhy) → IsCertificate h made
+    → (k : ℕ) (w : HopWhy) → Good h k w → slice_get made k ≡ Some w
+stands law h made cert k w good =
+    ap (λ (items : List HopWhy). slice_get items k) (certificate_is law h made cert)
+    ∙ good_is_found law h k w good
 
-first_bad : (h : List Moment) (made c : List HopWhy) (index : ℕ) → IsFound h made
+first_bad : OneNewsIsTold → (h : List Moment) (made c : List HopWhy) (index : ℕ) → IsCertificate h made
     → DiffersAt made c index → IsFirstBad h c index
-first_bad h made c index found differs = record {
-  before = λ k w less is. found.cert.items k w (differs.before k less ∙ is);
+first_bad law h made c index cert differs = record {
+  before = λ k w less is. cert.items k w (differs.before k less ∙ is);
   within = differs.within;
-  here = λ w is good. differs.here (found.good index w good ∙ sym is);
+  here = λ w is good. differs.here (stands law h made cert index w good ∙ sym is);
   missing = λ end. ⊎_elim
-      (λ less. omega (arith, less, end, found.cert.count))
+      (λ less. omega (arith, less, end, cert.count))
       (λ past.
       absurd
       (differs.here
@@ -74,28 +74,14 @@ first_bad h made c index found differs = record {
 }
 
 -- what is made is compared
-pub compared : (o : Setup) (entries : List Entry) (end : Tail) (made c : List HopWhy) (j : Judged)
-    → Judges o entries end verdict.Legal → IsFound (moments o.start entries) made
+pub compared : OneNewsIsTold → (o : Setup) (entries : List Entry) (end : Tail) (made c : List HopWhy) (j : Judged)
+    → Judges o entries end verdict.Legal → IsCertificate (moments o.start entries) made
     → Compares made c j → Accepts o entries end c j
-compared o entries end made c judged.Yes legal found same =
-    (legal, subst (IsCertificate (moments o.start entries)) same found.cert)
-compared o entries end made c (judged.No index) legal found differs =
-    (legal, first_bad (moments o.start entries) made c index found differs)
-compared o entries end made c (judged.Illegal index why) legal found none = absurd none
-
--- a session begins at a start of the console
-pub is_start : (s : SessionView) → IsFitSet s.config.consoles s.config.front → IsStart (start_of s)
-is_start s fit = record {
-  rows = s.config.size.rows;
-  cols = s.config.size.cols;
-  consoles = s.config.consoles;
-  front = s.config.front;
-  keyboards = s.config.keyboards;
-  processes = s.config.procs;
-  tables = s.tables;
-  fit = fit;
-  opened = refl;
-}
+compared law o entries end made c judged.Yes legal cert same =
+    (legal, subst (IsCertificate (moments o.start entries)) same cert)
+compared law o entries end made c (judged.No index) legal cert differs =
+    (legal, first_bad law (moments o.start entries) made c index cert differs)
+compared law o entries end made c (judged.Illegal index why) legal cert none = absurd none
 
 -- lists that agree at all places
 pub same_all : (made c : List HopWhy) (n : ℕ) → length made ≤ n → length c ≤ length made

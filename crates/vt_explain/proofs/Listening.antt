@@ -1,10 +1,11 @@
 -- How the items of a history are found, entry by entry and mark by mark.
-use Rattle.std.proofs.Common.{◌≡◌, ◌≢◌, ◌≤◌, ℕ, zero, suc, ◌+◌, cond, List, [], ◌∷◌, ◌++◌, length, take, Option, Some, None, refl, sym, ap, ◌∙◌, arith}
-use Rattle.std.specs.Prelude.{count_by, slice_get}
+use Rattle.std.proofs.Common.{◌≡◌, ◌≢◌, ◌≤◌, ℕ, ◌+◌, cond, List, [], ◌∷◌, ◌++◌, length, Option, Some, None, refl, sym, ap, subst, ◌∙◌, arith}
+use Rattle.std.specs.Prelude.{count_by}
 use Rattle.std.proofs.lemmas.Bool.{ne_eqb}
-use Rattle.std.proofs.lemmas.Option.{none-some, same_Some}
+use Rattle.std.proofs.lemmas.List.{length_push}
+use Rattle.vt_check.specs.Watching.{IsNextEntry}
 use Rattle.vt_explain.proofs.Places.{count_more}
-use Rattle.vt_explain.specs.Finding.{Known, asked_by, hear, hear_all, is_at, item_of, known, news_after, raised}
+use Rattle.vt_explain.specs.Finding.{HasRead, Known, asked_by, hear, hear_all, is_at, item_of, known, news_after, raised}
 use Rattle.vt_events.specs.declared.entry.Entry.{Entry}
 use Rattle.vt_switch.specs.Acts.{SwitchAct}
 use Rattle.vt_switch.specs.Moments.{Core, Moment, core_after, marks, with_acts}
@@ -13,7 +14,7 @@ use Rattle.vt_switch.specs.declared.hop.Hop.{Hop}
 use Rattle.vt_switch.specs.declared.mark.Mark.{Mark}
 use Rattle.vt_switch.specs.declared.mark.Mark.TheVariants as mark
 use Rattle.vt_world.specs.Acts.{event_acts}
-use Rattle.vt_world.specs.History.{ReplayGrows, replay}
+use Rattle.vt_world.specs.History.{replay}
 use Rattle.vt_world.specs.Laws.{MomentsGrow, TracesTellNews, moments}
 use Rattle.vt_world.specs.State.{WorldState, core}
 use Rattle.vt_world.specs.Step.{step}
@@ -31,46 +32,18 @@ acts_heard i k (act ∷ acts) h =
     acts_heard i (core_after k act) acts (record { entry = i; before = k; act = act } ∷ h)
     ∙ sym (hear_append i (news (marks k act)) (news_of (core_after k act) acts) (known h))
 
-pub next_take : {A : Type 0} (xs : List A) (i : ℕ) (x : A) → slice_get xs i ≡ Some x
-    → take (i + 1) xs ≡ take i xs ++ x ∷ []
-next_take {A = A} xs i x is = ap (λ n. take n xs) (let one : i + 1 ≡ suc i = omega arith in one) ∙ more xs i is
-  where
-    more : (list : List A) (k : ℕ) → slice_get list k ≡ Some x
-        → take (suc k) list ≡ take k list ++ x ∷ []
-    more [] k is = absurd (none-some x is)
-    more (y ∷ list) zero is = ap (λ z. z ∷ []) (same_Some y x is)
-    more (y ∷ list) (suc k) is = ap (λ rest. y ∷ rest) (more list k is)
-
-pub length_take : {A : Type 0} (xs : List A) (i : ℕ) (x : A) → slice_get xs i ≡ Some x
-    → length (take i xs) ≡ i
-length_take [] i x is = absurd (none-some x is)
-length_take (y ∷ xs) zero x is = refl
-length_take (y ∷ xs) (suc i) x is = ap suc (length_take xs i x is)
-
 -- one entry more
-pub next_known : TracesTellNews → MomentsGrow → (w v : WorldState) (entries : List Entry) (i : ℕ)
-    (entry : Entry) (k : Known) → slice_get entries i ≡ Some entry
-    → v ≡ replay w (take i entries) → k ≡ known (moments w (take i entries))
-    → hear_all i (news (step v entry.caller entry.event).world.trace.marks) k
-    ≡ known (moments w (take (i + 1) entries))
-next_known tells grow w v entries i entry k is at k_is =
-    let front : List Entry = take i entries in
-    let acts : List SwitchAct = event_acts (replay w front) entry.caller entry.event in
-    ap (λ told. hear_all i told k) (tells v entry.caller entry.event)
-    ∙ (λ j. hear_all i (news_of (core (at j)) (event_acts (at j) entry.caller entry.event)) (k_is j))
-    ∙ sym (acts_heard i (core (replay w front)) acts (moments w front))
-    ∙ ap (λ n. known (with_acts n (core (replay w front)) acts (moments w front)))
-    (sym (length_take entries i entry is))
-    ∙ ap known (sym (grow w front entry))
-    ∙ ap (λ list. known (moments w list)) (sym (next_take entries i entry is))
-
-pub next_replay : ReplayGrows → (w v : WorldState) (entries : List Entry) (i : ℕ) (entry : Entry)
-    → slice_get entries i ≡ Some entry → v ≡ replay w (take i entries)
-    → (step v entry.caller entry.event).world ≡ replay w (take (i + 1) entries)
-next_replay grow w v entries i entry is at =
-    ap (λ (x : WorldState). (step x entry.caller entry.event).world) at
-    ∙ sym (grow w (take i entries) entry)
-    ∙ ap (replay w) (sym (next_take entries i entry is))
+next_known : TracesTellNews → MomentsGrow → (start : WorldState) (before : List Entry) (entry : Entry) (k : Known)
+    → k ≡ known (moments start before)
+    → hear_all (length before) (news (step (replay start before) entry.caller entry.event).world.trace.marks) k
+    ≡ known (moments start (before ++ entry ∷ []))
+next_known tells grow start before entry k is =
+    let w : WorldState = replay start before in
+    let acts : List SwitchAct = event_acts w entry.caller entry.event in
+    ap (λ told. hear_all (length before) told k) (tells w entry.caller entry.event)
+    ∙ ap (hear_all (length before) (news_of (core w) acts)) is
+    ∙ sym (acts_heard (length before) (core w) acts (moments start before))
+    ∙ ap known (sym (grow start before entry))
 
 -- what is told in an entry has no items of another
 none_else : (at j : ℕ) → at ≢ j → (told : List News) (k : Known)
@@ -89,6 +62,24 @@ pub still_none : (at j : ℕ) (told : List News) (k : Known) → at + 1 ≤ j
     → count_by (is_at j) k.items ≡ 0 → count_by (is_at j) (hear_all at told k).items ≡ 0
 still_none at j told k above none =
     none_else at j (λ same. omega (arith, above, same)) told k ∙ none
+
+-- what was read of the entries before, and of the next one
+pub next_read : TracesTellNews → MomentsGrow → (start : WorldState) (before : List Entry) (place : ℕ)
+    (entry : Entry) (after : WorldState) (told : List Mark) (old new : Known) → HasRead start before old
+    → IsNextEntry start before place entry after → told ≡ after.trace.marks
+    → new ≡ hear_all place (news told) old → HasRead start (before ++ entry ∷ []) new
+next_read tells grow start before place entry after told old new was next trace heard =
+    let same = trace ∙ ap (λ (w : WorldState). w.trace.marks) next.after_is in
+    record {
+      known_is =
+          heard
+          ∙ (λ j. hear_all (next.place_is j) (news (same j)) old)
+          ∙ next_known tells grow start before entry old was.known_is;
+      fresh = λ j above.
+          subst (λ (k : Known). count_by (is_at j) k.items ≡ 0) (sym heard)
+          (still_none place j (news told) old (omega (arith, above, length_push before entry, next.place_is))
+          (was.fresh j (omega (arith, above, length_push before entry))));
+    }
 
 -- a mark more
 raised_next : (at p signal : ℕ) (asked : Option ℕ) (rest : List Mark) (k : Known)

@@ -1,6 +1,7 @@
 -- How the items of hops are found, entry by entry: each takes its cause from what was asked last. This
 -- project's own.
-use Rattle.std.specs.Prelude.{ℕ, ◌==◌, Bool, List, [], ◌∷◌, ◌++◌, count_by, Option, Some, None}
+use Rattle.std.specs.Prelude.{◌≡◌, ◌≤◌, ℕ, ◌==◌, Bool, List, [], ◌∷◌, ◌++◌, count_by, length, Option, Some, None}
+use Rattle.vt_events.specs.declared.entry.Entry.{Entry}
 use Rattle.vt_explain.specs.declared.hop_cause.HopCause.{HopCause}
 use Rattle.vt_explain.specs.declared.hop_cause.HopCause.TheVariants as why
 use Rattle.vt_explain.specs.declared.hop_why.HopWhy.{HopWhy}
@@ -12,6 +13,8 @@ use Rattle.vt_switch.specs.declared.cause.Cause.TheVariants as cause
 use Rattle.vt_switch.specs.declared.hop.Hop.{Hop}
 use Rattle.vt_switch.specs.declared.mark.Mark.{Mark}
 use Rattle.vt_switch.specs.declared.mark.Mark.TheVariants as mark
+use Rattle.vt_world.specs.Laws.{moments}
+use Rattle.vt_world.specs.State.{WorldState}
 
 -- the items so far, and who was asked last
 pub record Known : Type 0 where
@@ -65,3 +68,8 @@ news_after (Some n) told = news (mark.Asked n ∷ told)
 abbrev pub known : List Moment → Known
 known [] = record { items = []; last = None }
 known (m ∷ earlier) = hear_all m.entry (news (trace m)) (known earlier)
+
+-- what is known is what these entries tell, from this console on; no item is of a later entry
+pub record HasRead (start : WorldState) (entries : List Entry) (k : Known) : Type 0 where
+  pub known_is : k ≡ known (moments start entries)
+  pub fresh : (j : ℕ) → length entries ≤ j → count_by (is_at j) k.items ≡ 0

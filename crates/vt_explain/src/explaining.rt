@@ -1,10 +1,10 @@
 //! The certificate of a journal, found and judged.
-ghost use Rattle.std.specs.Prelude.{◌≡◌, ◌≤◌, ℕ, List, Some, IfOk, slice_get};
+ghost use Rattle.std.specs.Prelude.{◌≡◌, List, IfOk};
 ghost use Rattle.session_order.specs.Sessions.{setup_of, start_of};
 ghost use Rattle.vt_check.specs.Verdicts.{Judges};
 ghost use Rattle.vt_check.specs.declared.verdict.Verdict.{Verdict};
 ghost use Rattle.vt_explain.specs.Accepting.{Accepts, IfCert, verdict_of};
-ghost use Rattle.vt_explain.specs.Certificates.{Good, IsCertificate};
+ghost use Rattle.vt_explain.specs.Certificates.{IsCertificate};
 ghost use Rattle.vt_explain.specs.declared.hop_why.HopWhy.{HopWhy};
 ghost use Rattle.vt_explain.specs.declared.judged.Judged.{Judged};
 ghost use Rattle.vt_explain.specs.declared.judged.Judged.TheVariants as judged;
@@ -12,17 +12,16 @@ ghost use Rattle.vt_switch.specs.Law.{IsLawful};
 ghost use Rattle.vt_world.specs.Laws.{moments};
 
 use crate::comparing::compare;
-use crate::entries::read_all;
 use crate::laws::{certificates_explain, one_acceptance};
 use crate::reader::Reader;
 use crate::{Explained, HopWhy, Judged};
+use session_order::session_laws;
 use session_text::Session;
 use std::alloc::Global;
 use vt_base::NoMemory;
-use vt_check::{Verdict, check};
+use vt_check::{Verdict, one_verdict, watch};
 use vt_journal::Journal;
 use vt_switch::acts_tell_one_thing;
-use vt_world::{World, displays_are_lawful};
 
 /// Why the display changed hands in the journal, hop by hop, where it is legal: the one certificate of
 /// its hops.
@@ -37,12 +36,13 @@ pub fn explain(alloc: Global, s: &Session, j: &Journal) -> Result<Explained, NoM
         → IsCertificate (moments (start_of s.now) j.now.entries) other → other ≡ c)) }
 {
     certificates_explain();
-    let verdict = check(alloc, s, j)?;
+    acts_tell_one_thing();
+    one_verdict();
+    session_laws(s);
+    let mut reader = Reader::new(alloc);
+    let verdict = watch(alloc, s, j, &mut reader)?;
     match verdict {
-        Verdict::Legal => {
-            let reader = read_session(alloc, s, j)?;
-            Ok(Explained::Cert(reader.into_items()))
-        }
+        Verdict::Legal => Ok(Explained::Cert(reader.into_items())),
         Verdict::Illegal { index, why } => Ok(Explained::Illegal { index, why }),
     }
 }
@@ -66,27 +66,13 @@ pub fn accept(alloc: Global, s: &Session, j: &Journal, c: &[HopWhy]) -> Result<J
 fn judge_items(alloc: Global, s: &Session, j: &Journal, c: &[HopWhy]) -> Result<Judged, NoMemory>
     ensures { IfOk result (Accepts (setup_of s.now) j.now.entries j.now.tail c.now) }
 {
-    let verdict = check(alloc, s, j)?;
-    match verdict {
-        Verdict::Legal => {
-            let reader = read_session(alloc, s, j)?;
-            let judged = compare(reader.items(), c)?;
+    acts_tell_one_thing();
+    let explained = explain(alloc, s, j)?;
+    match explained {
+        Explained::Cert(items) => {
+            let judged = compare(items.as_slice(), c)?;
             Ok(judged)
         }
-        Verdict::Illegal { index, why } => Ok(Judged::Illegal { index, why }),
+        Explained::Illegal { index, why } => Ok(Judged::Illegal { index, why }),
     }
-}
-
-// Reads the journal's entries, from the console that the session begins with.
-fn read_session(alloc: Global, s: &Session, j: &Journal) -> Result<Reader, NoMemory>
-    ensures cert { IfOk result
-        (λ r. IsCertificate (moments (start_of s.now) j.now.entries) r.items) }
-    ensures good { IfOk result (λ r. (k : ℕ) (w : HopWhy)
-        → Good (moments (start_of s.now) j.now.entries) k w → slice_get r.items k ≡ Some w) }
-{
-    acts_tell_one_thing();
-    displays_are_lawful();
-    let world = World::start(alloc, s.config(), s.key_tables())?;
-    let reader = read_all(alloc, world, j.entries.as_slice())?;
-    Ok(reader)
 }

@@ -4,7 +4,6 @@
 
 mod cert_error;
 mod comparing;
-mod entries;
 mod error_text;
 mod explained;
 mod explaining;

@@ -9,7 +9,10 @@ use crate::{HopCause, HopWhy};
 use std::alloc::Global;
 use std::marker::Model;
 use vt_base::{ConsoleNo, NoMemory, Signal};
+use vt_check::Witness;
+use vt_events::Entry;
 use vt_switch::{Cause, Hop, Mark};
+use vt_world::{World, traces_tell_news};
 
 /// The items of the hops that were read, and who was asked last to let the display go.
 #[derive(Drop)]
@@ -35,13 +38,6 @@ impl Reader {
             made: Vec::new(alloc),
             last: None,
         }
-    }
-
-    /// The items, in the order of the hops.
-    pub(crate) fn items(&self) -> &[HopWhy]
-        ensures { result.now ≡ self.now.items }
-    {
-        self.made.as_slice()
     }
 
     /// The items, in the order of the hops.
@@ -89,6 +85,24 @@ impl Reader {
     {
         let item = item_of(at, nth, hop, &self.last);
         self.made.extend_from_slice(&[item])?;
+        Ok(())
+    }
+}
+
+impl Witness for Reader {
+    ghost use Rattle.vt_explain.specs.Finding.{HasRead};
+
+    ghost saw = { λ first start entries now. HasRead start entries now };
+
+    fn see(
+        &mut self,
+        _alloc: Global,
+        place: u32,
+        _entry: &Entry,
+        after: &World,
+    ) -> Result<(), NoMemory> {
+        traces_tell_news();
+        self.read(place, after.trace())?;
         Ok(())
     }
 }

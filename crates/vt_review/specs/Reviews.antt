@@ -1,14 +1,17 @@
 -- What a review of a journal gives. This project's own.
-use Rattle.std.specs.Prelude.{◌≡◌, ⊤, List}
+use Rattle.std.specs.Prelude.{◌≡◌, ⊤, ℕ, List}
 use Rattle.session_order.specs.Sessions.{start_of}
 use Rattle.session_text.specs.Sessions.{SessionView}
 use Rattle.vt_check.specs.declared.verdict.Verdict.{Verdict}
 use Rattle.vt_check.specs.declared.verdict.Verdict.TheVariants as verdict
+use Rattle.vt_events.specs.declared.entry.Entry.{Entry}
 use Rattle.vt_journal.specs.declared.journal.Journal.{Journal}
 use Rattle.vt_review.specs.Announcements.{review_text}
 use Rattle.vt_review.specs.declared.ear_table.EarTable.{EarTable}
 use Rattle.vt_review.specs.declared.reviewed.Reviewed.{Reviewed}
 use Rattle.vt_review.specs.declared.reviewed.Reviewed.TheVariants as reviewed
+use Rattle.vt_world.specs.History.{replay}
+use Rattle.vt_world.specs.State.{WorldState}
 
 -- the verdict that it stands on
 abbrev pub verdict_of : Reviewed → Verdict
@@ -20,3 +23,8 @@ abbrev pub TellsHistory : SessionView → Journal → List EarTable → Reviewed
 TellsHistory s j tables (reviewed.Text text) =
     text.bytes ≡ review_text tables 0 (start_of s) j.entries
 TellsHistory s j tables (reviewed.Illegal index why) = ⊤
+
+-- a reviewer has told these ears of the entries, from this console on, and has the console behind them
+pub record HasReviewed (tables : List EarTable) (start : WorldState) (entries : List Entry) (behind : WorldState) (text : List ℕ) : Type 0 where
+  pub behind_is : behind ≡ replay start entries
+  pub text_is : text ≡ review_text tables 0 start entries

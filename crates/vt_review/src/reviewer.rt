@@ -1,7 +1,7 @@
-//! The lines of a history, entry by entry.
-ghost use Rattle.std.specs.Prelude.{◌≡◌, ◌≤◌, ◌++◌, ℕ, IfOk, OnOk, length};
+//! What ears are told of a history, entry by entry.
+ghost use Rattle.std.specs.Prelude.{◌≡◌, ◌≤◌, ◌++◌, [], ℕ, OnOk};
 ghost use Rattle.std.specs.List.{flat_map};
-ghost use Rattle.vt_review.specs.Announcements.{entry_lines, left_by, review_text, rows_told};
+ghost use Rattle.vt_review.specs.Announcements.{entry_lines, left_by, rows_told};
 ghost use Rattle.vt_review.specs.Lines.{ear_lines};
 ghost use Rattle.vt_review.specs.Seen.{IsLeft, OthersAreLeft};
 ghost use Rattle.vt_world.specs.Terminals.{terminal_at};
@@ -12,41 +12,67 @@ use crate::touching::touched;
 use crate::{Ear, Listener};
 use std::alloc::Global;
 use vt_base::{Bytes, ConsoleNo, NoMemory};
+use vt_check::Witness;
 use vt_events::Entry;
-use vt_world::{World, spare_for, terminals_stay};
+use vt_world::{World, legal_grows, terminals_stay};
 
-/// What these ears are told of the entries, from this console on. It is given twice: one goes ahead,
-/// and the other is behind it by an entry, to compare.
-pub(crate) fn review_entries<F: Listener>(
-    alloc: Global,
+/// What the ears were told so far, and the console as it was before the entry that comes next.
+#[derive(Drop)]
+pub(crate) struct Reviewer<'a, F: Listener> {
     behind: World,
-    ahead: World,
-    entries: &[Entry],
-    ears: &[Ear<F>],
-) -> Result<Bytes, NoMemory>
-    requires few { length entries.now ≤ 1_000_000 }
-    requires same { behind ≡ ahead }
-    ensures { IfOk result (λ text. text.bytes ≡ review_text ears.now 0 ahead entries.now) }
-{
-    let mut behind = behind;
-    let mut ahead = ahead;
-    let mut text = Bytes::new(alloc);
-    for i in 0..entries.len() {
-        let entry = &entries[i];
-        replay(alloc, &mut ahead, entry)?;
-        tell_entry(alloc, &mut text, ears, i as u32, &behind, &ahead, entry)?;
-        replay(alloc, &mut behind, entry)?;
-    }
-    Ok(text)
+    text: Bytes,
+    ears: &'a [Ear<F>],
 }
 
-// Does the event of the entry.
-fn replay(alloc: Global, world: &mut World, entry: &Entry) -> Result<(), NoMemory>
-    ensures { OnOk result (world.new ≡ left_by world.old entry.now) }
-{
-    let spare = spare_for(alloc, &entry.event, world.size())?;
-    let _answer = world.step(entry.caller, &entry.event, spare);
-    Ok(())
+impl<'a, F: Listener> Reviewer<'a, F> {
+    /// Nothing was told yet, from this console on.
+    pub(crate) fn new(alloc: Global, behind: World, ears: &'a [Ear<F>]) -> Reviewer<'a, F>
+        ensures behind { result.behind ≡ behind }
+        ensures text { result.text.bytes ≡ [] }
+        ensures ears { result.ears.now ≡ ears.now }
+    {
+        Reviewer {
+            behind,
+            text: Bytes::new(alloc),
+            ears,
+        }
+    }
+
+    /// What the ears were told.
+    pub(crate) fn into_text(self) -> Bytes
+        ensures { result ≡ self.entry.text }
+    {
+        self.text
+    }
+}
+
+impl<F: Listener> Witness for Reviewer<'_, F> {
+    ghost use Rattle.std.specs.Prelude.{◌≡◌};
+    ghost use Rattle.vt_review.specs.Reviews.{HasReviewed};
+
+    ghost saw = { λ first start entries now. (now.ears.now ≡ first.ears.now)
+        × HasReviewed now.ears.now start entries now.behind now.text.bytes };
+
+    fn see(
+        &mut self,
+        alloc: Global,
+        place: u32,
+        entry: &Entry,
+        after: &World,
+    ) -> Result<(), NoMemory> {
+        legal_grows();
+        tell_entry(
+            alloc,
+            &mut self.text,
+            self.ears,
+            place,
+            &self.behind,
+            after,
+            entry,
+        )?;
+        let _answer = self.behind.call(alloc, entry.caller, &entry.event)?;
+        Ok(())
+    }
 }
 
 // Adds the lines of entry `e`, with the console before and after it.

@@ -1,5 +1,5 @@
 //! The rows of a screen, compared with those of one before.
-ghost use Rattle.std.specs.Prelude.{◌≡◌, ◌<◌, ◌++◌, true, false, bytes_eq, IfOk, IfSome, IfNone, IsTrue, OnOk, map, option_copied, slice_get};
+ghost use Rattle.std.specs.Prelude.{◌≡◌, ◌<◌, ◌++◌, true, false, bytes_eq, IfOk, IfSome, IfNone, OnOk, map, option_copied, slice_get};
 ghost use Rattle.std.specs.List.{flat_map};
 ghost use Rattle.vt_dump.specs.Rows.{row_text};
 ghost use Rattle.vt_grid.specs.Grid.{row_at};
@@ -11,7 +11,6 @@ use crate::notices::tell_row;
 use crate::{Ear, Listener};
 use std::alloc::Global;
 use vt_base::{Bytes, ConsoleNo, NoMemory};
-use vt_cells::Cell;
 use vt_dump::text_row;
 use vt_grid::Grid;
 
@@ -68,7 +67,7 @@ fn changed_row(alloc: Global, before: &Grid, after: &Grid, y: u8) -> Result<Opti
     ensures old { IfOk result (λ row. IfNone row
         (bytes_eq (row_text (row_at before.now y)) (row_text (row_at after.now y)) ≡ true)) }
 {
-    if has_same_cells(before, after, y) {
+    if before.is_row_same(after, y) {
         return Ok(None);
     }
     let old = text_row(alloc, before, y)?;
@@ -77,28 +76,4 @@ fn changed_row(alloc: Global, before: &Grid, after: &Grid, y: u8) -> Result<Opti
         return Ok(None);
     }
     Ok(Some(new))
-}
-
-// Whether the cells of the row at `y` are the same in both.
-fn has_same_cells(before: &Grid, after: &Grid, y: u8) -> bool
-    requires was { y < before.now.rows }
-    requires is { y < after.now.rows }
-    ensures { IsTrue result → row_at before.now y ≡ row_at after.now y }
-{
-    let cols = after.size().cols;
-    if before.size().cols != cols {
-        return false;
-    }
-    for x in 0..cols {
-        if !is_same(before.at(y, x), after.at(y, x)) {
-            return false;
-        }
-    }
-    true
-}
-
-fn is_same(a: Cell, b: Cell) -> bool
-    ensures { IsTrue result → a ≡ b }
-{
-    a.code == b.code && a.attr == b.attr
 }

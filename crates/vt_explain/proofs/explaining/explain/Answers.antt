@@ -1,16 +1,54 @@
-use Rattle.std.proofs.Common.{◌∙◌, subst}
-use Rattle.session_order.specs.Sessions.{setup_of}
+use Rattle.std.proofs.Common.{◌≡◌, List, sym, ap, subst, ◌∙◌}
+use Rattle.std.specs.Prelude.{count_by}
+use Rattle.session_order.specs.Sessions.{setup_of, start_of}
 use Rattle.vt_check.specs.Verdicts.{Judges}
+use Rattle.vt_explain.proofs.Certified.{certificate_is, found_is}
+use Rattle.vt_explain.specs.Certificates.{IsCertificate}
+use Rattle.vt_explain.specs.Finding.{Known, is_at, known}
+use Rattle.vt_switch.specs.Law.{IsLawful}
+use Rattle.vt_switch.specs.Moments.{Moment}
+use Rattle.vt_world.specs.Laws.{moments}
 use Rattle.vt_explain.proofs.explaining.explain.Goals as goal
 
-pub returns-in_ok-reader-in-Legal-clause-judges : goal.returns-in_ok-reader-in-Legal-clause-judges
-returns-in_ok-reader-in-Legal-clause-judges c =
+abbrev history : goal.After-into_items → List Moment
+history c = moments (start_of c.args.s.now) c.args.j.now.entries
+
+found : (c : goal.After-into_items) → c.into_items.result.items ≡ (known (history c)).items
+found c =
+    c.into_items.ensures ∙ ap (λ (k : Known). k.items) (c.in_ok-verdict.ensures.saw c.in-Legal.is).known_is
+
+lawful : (c : goal.After-into_items) → IsLawful (history c)
+lawful c =
+    let right =
+    (c.one_verdict.ensures.right (setup_of c.args.s.now) c.args.j.now.entries c.args.j.now.tail
+    c.in_ok-verdict.verdict c.in_ok-verdict.ensures.judges).0 c.in-Legal.is in
+    (c.session_laws.ensures.right c.args.j.now.entries c.args.j.now.tail right.legal right.follows right.ends).lawful
+
+pub watch-requires : goal.watch-requires
+watch-requires c = record {
+  known_is = c.new-reader.ensures;
+  fresh = λ j above. ap (λ (k : Known). count_by (is_at j) k.items) c.new-reader.ensures;
+}
+
+pub returns-in-Legal-clause-judges : goal.returns-in-Legal-clause-judges
+returns-in-Legal-clause-judges c =
     subst (Judges (setup_of c.args.s.now) c.args.j.now.entries c.args.j.now.tail) c.in-Legal.is
     c.in_ok-verdict.ensures.judges
 
-pub returns-in_ok-reader-in-Legal-clause-verdict : goal.returns-in_ok-reader-in-Legal-clause-verdict
-returns-in_ok-reader-in-Legal-clause-verdict c = λ v is.
-    c.in_ok-verdict.ensures.one v is ∙ c.in-Legal.is
+pub returns-in-Legal-clause-verdict : goal.returns-in-Legal-clause-verdict
+returns-in-Legal-clause-verdict c = λ v is.
+    c.one_verdict.ensures.one (setup_of c.args.s.now) c.args.j.now.entries c.args.j.now.tail v
+    c.in_ok-verdict.verdict is c.in_ok-verdict.ensures.judges
+    ∙ c.in-Legal.is
+
+pub returns-in-Legal-clause-cert : goal.returns-in-Legal-clause-cert
+returns-in-Legal-clause-cert c =
+    subst (IsCertificate (history c)) (sym (found c))
+    (found_is c.acts_tell_one_thing.ensures.news c.acts_tell_one_thing.ensures.hop (history c) (lawful c))
+
+pub returns-in-Legal-clause-only : goal.returns-in-Legal-clause-only
+returns-in-Legal-clause-only c = λ other is.
+    certificate_is c.acts_tell_one_thing.ensures.news (history c) other is ∙ sym (found c)
 
 pub returns-in-Illegal-clause-judges : goal.returns-in-Illegal-clause-judges
 returns-in-Illegal-clause-judges c =
@@ -19,4 +57,6 @@ returns-in-Illegal-clause-judges c =
 
 pub returns-in-Illegal-clause-verdict : goal.returns-in-Illegal-clause-verdict
 returns-in-Illegal-clause-verdict c = λ v is.
-    c.in_ok-verdict.ensures.one v is ∙ c.in-Illegal.is
+    c.one_verdict.ensures.one (setup_of c.args.s.now) c.args.j.now.entries c.args.j.now.tail v
+    c.in_ok-verdict.verdict is c.in_ok-verdict.ensures.judges
+    ∙ c.in-Illegal.is
