@@ -95,7 +95,7 @@ def definition_faults(crate, cell):
             continue
         text = path.read_text(encoding="utf-8")
         for name in NAMES.findall(names):
-            if not re.search(rf"^\s*(?:(?:abbrev|record|data|pub|inductive|opaque) +)+{re.escape(name)}\b", text, re.M):
+            if not re.search(rf"^\s*(?:(?:abbrev|unfoldable|record|data|pub|inductive|opaque) +)+{re.escape(name)}\b", text, re.M):
                 yield f"{file} defines no {name}"
 
 
