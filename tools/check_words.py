@@ -47,11 +47,6 @@ PATTERNS = {
 LIMITS = (0, 1, 0, 0, 1, 0, 0, 0, 0)
 # Pages that aren't rewritten yet.
 OLD_PAGES = {
-    "CONTRIBUTING.md": (10, 12, 5, 4, 8, 4, 4, 24, 55),
-    "docs/ARCHITECTURE.md": (8, 16, 4, 4, 7, 5, 5, 6, 50),
-    "docs/DECISIONS.md": (40, 55, 6, 6, 4, 8, 6, 6, 144),
-    "docs/LOCK.md": (21, 9, 6, 4, 5, 5, 5, 4, 28),
-    "docs/PERFORMANCE.md": (13, 14, 16, 16, 7, 4, 6, 6, 200),
     "docs/PROMISES.md": (10, 12, 9, 8, 12, 4, 5, 6, 32),
     "docs/PROVED.md": (14, 41, 5, 12, 24, 7, 5, 7, 17),
     "docs/guide/test-a-terminal-program.md": (4, 4, 4, 4, 4, 4, 4, 4, 30),
