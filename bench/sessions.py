@@ -25,8 +25,9 @@ WORDS = [
 ]
 
 
-def session(processes, items, seed, out, events=1_000_000):
-    """Writes a session of so many processes, with so many script items each, to this file."""
+def session(processes, items, seed, out, events=1_000_000, deaths=False):
+    """Writes a session of so many processes, with so many script items each, to this file. With deaths some calls kill
+    a process, and some processes leave at signal 12."""
     draw = random.Random(seed)
     keys = " ".join("1e 9e" for _ in range(min(items, 100_000) // 2))
     print(f"consoles = [{', '.join(str(n) for n in range(1, CONSOLES + 1))}]", file=out)
@@ -40,8 +41,11 @@ def session(processes, items, seed, out, events=1_000_000):
             words = draw.choice(WORDS).format(
                 text=text, n=draw.randrange(1, CONSOLES + 1), v=draw.randrange(8),
                 p=draw.randrange(1, processes + 1), s=draw.choice([10, 12]))
+            if deaths and draw.random() < 0.05:
+                words = f"kill {draw.randrange(1, processes + 1)} 9"
             print(f"'{words}',", file=out)
-        print("]\nhooks = ['10 disp 0 1', '12 disp 0 2']", file=out)
+        leaves = deaths and draw.random() < 0.3
+        print(f"]\nhooks = ['10 disp 0 1', '12 {'leave' if leaves else 'disp 0 2'}']", file=out)
 
 
 def main():
