@@ -5,16 +5,18 @@ In README.md and the pages of docs/ and docs/guide/ each indented line `$ COMMAN
 repository, and the indented lines after it have to be what it prints; a line `..` stands for any lines. So is each
 line `$ COMMAND` of an example in man/, where `vt` is crates/vt/out/vt; the examples of a session and of a keymap there
 have to be accepted, and each command of vt(1) has an example. docs/codes.md has a row for each code of tools/why.py.
-The lines of a journal that docs/TOUR.md quotes have to stand in examples/tour.journal, in the same order.
-docs/guide/test-a-terminal-program.md is run by tools/check_expect.py, and the programs of docs/guide/embed-a-crate.md
-by tools/check_snippets.py. Prints a line for each difference. The status is 1 if there is one, and 2 if the program
-isn't built.
+The adapter of docs/guide/write-a-terminal.md answers a case. The lines of a journal that docs/TOUR.md quotes have to
+stand in examples/tour.journal, in the same order. docs/guide/test-a-terminal-program.md is run by
+tools/check_expect.py, and the programs of docs/guide/embed-a-crate.md by tools/check_snippets.py. Prints a line for
+each difference. The status is 1 if there is one, and 2 if the program isn't built.
 """
+import json
 import os
 import pathlib
 import re
 import subprocess
 import sys
+import textwrap
 
 TOP = pathlib.Path(__file__).resolve().parent.parent
 PROGRAM = TOP / "crates/vt/out/vt"
@@ -102,6 +104,20 @@ def command_faults(page):
             yield f"{page.name}: the command {command} has no example"
 
 
+def adapter_faults(page):
+    """Runs the adapter that the page shows on one case."""
+    block = re.search(r"^    import json, subprocess, sys\n(?:    .*\n|\n)*", page.read_text(encoding="utf-8"), re.M)
+    if not block:
+        yield f"{page.name}: no adapter"
+        return
+    path = f"{PROGRAM.parent}:{os.environ['PATH']}"
+    case, wanted = {"case": 7, "rows": 2, "columns": 3, "pieces": ["a", "b\r\nc"]}, {"case": 7, "text": ["ab ", "c  "]}
+    run = {"input": json.dumps(case) + "\n", "env": {**os.environ, "PATH": path}, "capture_output": True, "text": True}
+    ran = subprocess.run([sys.executable, "-c", textwrap.dedent(block[0])], timeout=SECONDS, check=False, **run)
+    if ran.stdout.strip() != json.dumps(wanted):
+        yield f"{page.name}: the adapter answers something else:\n{ran.stdout}{ran.stderr}"
+
+
 def code_faults():
     """Gives a fault for each code that tools/why.py explains and docs/codes.md has no row for."""
     explained = re.findall(r"^    (\d+): ", (TOP / "tools/why.py").read_text(encoding="utf-8"), re.M)
@@ -120,6 +136,7 @@ def main():
     faults = [fault for page in pages for fault in page_faults(page)]
     faults += [fault for page in manuals for fault in manual_faults(page)] + list(tour_faults())
     faults += [*command_faults(TOP / "man/vt.1"), *code_faults()]
+    faults += adapter_faults(TOP / "docs/guide/write-a-terminal.md")
     for fault in faults:
         print(fault)
     return 1 if faults else 0

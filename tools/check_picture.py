@@ -12,8 +12,8 @@ usage: check_picture.py [--picture PATH] [--vt PATH] [--browser PATH] [--streams
 - Chromium draws one picture without a window, and pixels of it have the colours of its cells. If Chromium isn't
   installed, a line names this check as skipped.
 
-Prints a line for each check that fails and last 'N passed, M failed'. Ends with status 1 if one fails, and with 2 if a
-program is missing.
+Prints a line for each check that fails and last 'N passed, M failed'. Ends with status 1 if one fails, and with 2 and a
+message if a program is missing or a check can't be run.
 """
 import argparse
 import os
@@ -30,7 +30,7 @@ import zlib
 ROOT = pathlib.Path(__file__).resolve().parent.parent
 SVG = "{http://www.w3.org/2000/svg}"
 WIDTH, HEIGHT = 8, 16
-SECONDS = 60
+SECONDS, BROWSER_SECONDS = 120, 300
 BROWSERS = ["chromium", "chromium-browser", "google-chrome"]
 
 # The colours 0 to 15 of the console in their order, red 1 and blue 4 (docs/SCREEN.md): 170 for a part, and bright
@@ -75,7 +75,8 @@ CURSORS = [
 
 # The picture that a browser draws: 2 rows and 4 columns. Row 0 has a red, a green and a bright block and the cursor's
 # cell; row 1 has a wide character on blue, a reversed space, and a space on a colour of a palette that was set.
-DRAWN = b"\x1b]P5123456\x1b[41m \x1b[42m \x1b[0;1m\xe2\x96\x88\x1b[m\r\n\x1b[44m\xe4\xb8\xad\x1b[0;7m \x1b[0;45m \x1b[m\x1b[1;4H"
+DRAWN = b"\x1b]P5123456\x1b[41m \x1b[42m \x1b[0;1m\xe2\x96\x88\x1b[m\r\n"
+DRAWN += b"\x1b[44m\xe4\xb8\xad\x1b[0;7m \x1b[0;45m \x1b[m\x1b[1;4H"
 # Row, column, the place in the cell, and the colour there.
 PIXELS = [
     (0, 0, (4, 8), RED), (0, 1, (4, 8), GREEN), (0, 2, (4, 8), BRIGHT_WHITE), (0, 3, (4, 8), BLACK),
@@ -102,12 +103,12 @@ class Check:
             print(f"failed: {what}")
 
 
-def run(words, given=b"", **streams):
+def run(words, given=b"", seconds=SECONDS, **streams):
     """Status, out and err of a program."""
     options = {"stdout": subprocess.PIPE, **streams}
     if "stdin" not in options:
         options["input"] = given
-    ran = subprocess.run(words, stderr=subprocess.PIPE, timeout=SECONDS, check=False, **options)
+    ran = subprocess.run(words, stderr=subprocess.PIPE, timeout=seconds, check=False, **options)
     return ran.returncode, ran.stdout or b"", ran.stderr
 
 
@@ -158,11 +159,12 @@ def check_cursors(check, program):
     for given, wanted, words in CURSORS:
         _, picture, _ = run([program, "2", "5"], given)
         elements = shapes(picture) or []
-        after = [element.attrib for element in elements if element.tag == SVG + "rect"][-1]
-        found = (int(after["x"]), int(after["y"]), after["fill"]) if after["height"] == "2" else None
+        lines = [element.attrib for element in elements if element.get("height") == "2"]
+        found = (int(lines[0]["x"]), int(lines[0]["y"]), lines[0]["fill"]) if len(lines) == 1 else None
         check.holds(found == wanted, f"{given!r}: wanted the cursor {wanted}, found {found}")
-        said = "".join(element.text for element in elements if element.tag == SVG + "desc")
-        check.holds(said == f"A text console of 2 rows and 5 columns. {words}", f"{given!r}: the description is {said!r}")
+        found = "".join(element.text for element in elements if element.tag == SVG + "desc")
+        wanted = f"A text console of 2 rows and 5 columns. {words}"
+        check.holds(found == wanted, f"{given!r}: the description is {found!r}")
 
 
 def random_stream(number):
@@ -243,10 +245,12 @@ def check_stored(check, program):
 def check_endings(check, program):
     """The statuses."""
     usage = (1, b"", b"picture: usage: picture R C\n")
-    for words in ["", "1", "0 1", "1 0", "256 1", "1 256", "1 2 3", "a b", "+1 2", "-1 2", "1" * 40 + " 2", "1 2 " + "3" * 40]:
+    long = "1" * 40
+    for words in ["", "1", "0 1", "1 0", "256 1", "1 256", "1 2 3", "a b", "+1 2", "-1 2", f"{long} 2", f"1 2 {long}"]:
         check.holds(run([program, *words.split()]) == usage, f"picture {words}: not refused as usage")
-    with open(os.open(ROOT, os.O_RDONLY), "rb", buffering=0) as folder:
-        found = run([program, "2", "5"], stdin=folder)
+    folder = os.open(ROOT, os.O_RDONLY)
+    found = run([program, "2", "5"], stdin=folder)
+    os.close(folder)
     check.holds(found == (2, b"", b"picture: read failed\n"), f"a read that fails: {found}")
     with open("/dev/full", "wb") as full:
         found = run([program, "2", "5"], b"a", stdout=full)
@@ -264,8 +268,9 @@ def pixels_of(image):
             packed += image[at + 8:at + 8 + length]
         at += length + 12
     width, height, depth, colour = head[:4]
-    parts = {2: 3, 6: 4}[colour]
-    assert depth == 8 and head[6] == 0
+    parts = {2: 3, 6: 4}.get(colour)
+    if parts is None or depth != 8 or head[6] != 0:
+        raise ValueError("the browser's image isn't of the form that is read here")
     given, line, rows = zlib.decompress(packed), bytes(width * parts), []
     for y in range(height):
         start = y * (width * parts + 1)
@@ -290,8 +295,9 @@ def check_browser(check, program, browser):
     with tempfile.TemporaryDirectory() as folder:
         source, image = pathlib.Path(folder, "picture.svg"), pathlib.Path(folder, "picture.png")
         source.write_bytes(picture)
-        run([browser, "--headless", "--no-sandbox", "--disable-gpu", "--hide-scrollbars", "--force-device-scale-factor=1",
-             f"--user-data-dir={folder}/profile", "--window-size=200,200", f"--screenshot={image}", source.as_uri()])
+        options = ["--headless", "--no-sandbox", "--disable-gpu", "--hide-scrollbars", "--force-device-scale-factor=1"]
+        options += [f"--user-data-dir={folder}/profile", "--window-size=200,200", f"--screenshot={image}"]
+        run([browser, *options, source.as_uri()], seconds=BROWSER_SECONDS)
         rows = pixels_of(image.read_bytes()) if image.exists() else None
     check.holds(rows is not None, f"{browser} draws no image")
     for y, x, (across, down), wanted in PIXELS if rows else []:
@@ -329,4 +335,8 @@ def main():
 
 
 if __name__ == "__main__":
-    sys.exit(main())
+    try:
+        sys.exit(main())
+    except (OSError, ValueError, LookupError, struct.error, zlib.error, subprocess.SubprocessError) as fault:
+        print(f"check_picture.py: {fault}", file=sys.stderr)
+        sys.exit(2)

@@ -22,7 +22,7 @@ script = ["open 1", "waitsignal", "getstate 0"]
 [[process]]
 script = ["open 1", "say 0 a"]
 """
-# Words of turns, and what is said of them; or the numbers that they become.
+# Words of turns, with the numbers that they become, or the message that refuses them.
 WORDS = [
     ('["p1 until item 1", "p2 once"]', [1, 2]),
     ('["p2 3 times", "k0 until it is over"]', [2, 2, 2, 0]),
@@ -62,19 +62,19 @@ def session_faults(path):
 
 def turns_faults():
     for path in sorted(FOLDER.glob("*.words")):
-        _, printed, told = run([TOP / "tools/turns.py", "--vt", PROGRAM, path], b"")
+        _, printed, message = run([TOP / "tools/turns.py", "--vt", PROGRAM, path], b"")
         if printed != path.with_suffix(".toml").read_text(encoding="utf-8"):
-            yield f"{path.name} doesn't become {path.stem}.toml: {told.strip()}"
+            yield f"{path.name} doesn't become {path.stem}.toml: {message.strip()}"
     for words, wanted in WORDS:
         given = f"turns = {words}\n{PROCESSES}".encode()
-        status, printed, told = run([TOP / "tools/turns.py", "--vt", PROGRAM, "-"], given)
+        status, printed, message = run([TOP / "tools/turns.py", "--vt", PROGRAM, "-"], given)
         if isinstance(wanted, str):
-            good = (status, told) == (1, f"turns.py: {wanted}\n")
+            good = (status, message) == (1, f"turns.py: {wanted}\n")
         else:
             numbers = [int(n) for n in re.findall(r"\d+", printed.split("]")[0])]
             good = (status, numbers) == (0, wanted) and printed.endswith(PROCESSES)
         if not good:
-            yield f"turns = {words} gives {(printed or told).split(chr(10) + '[[')[0].strip()}, not {wanted}"
+            yield f"turns = {words} gives {(printed or message).split(chr(10) + '[[')[0].strip()}, not {wanted}"
 
 
 def quote_faults():

@@ -47,9 +47,9 @@ PATTERNS = {
 LIMITS = (0, 1, 0, 0, 1, 0, 0, 0, 0)
 # Pages that aren't rewritten yet.
 OLD_PAGES = {
-    "docs/PROMISES.md": (10, 12, 9, 8, 12, 4, 5, 6, 32),
-    "docs/PROVED.md": (14, 41, 5, 12, 24, 7, 5, 7, 17),
-    "docs/guide/test-a-terminal-program.md": (4, 4, 4, 4, 4, 4, 4, 4, 30),
+    "docs/PROMISES.md": (14, 16, 12, 12, 16, 6, 8, 8, 50),
+    "docs/PROVED.md": (20, 50, 8, 16, 30, 10, 8, 10, 30),
+    "docs/guide/test-a-terminal-program.md": (4, 4, 4, 4, 4, 4, 4, 8, 50),
 }
 
 
