@@ -9,5 +9,6 @@ pub mod Races
 pub mod Progress
 pub mod Rounds
 pub mod Standings
+pub mod Starts
 pub mod Steps
 pub mod Turns

@@ -1,10 +1,18 @@
--- Where a session begins, and what its consoles show. This project's own.
-use Rattle.std.specs.Prelude.{◌≡◌, ℕ, ◌<◌, List, option_map}
-use Rattle.session_order.specs.Ends.{Setup}
+-- Where a session begins, and what every right history of it keeps to. This project's own.
+use Rattle.std.specs.Prelude.{◌≡◌, ℕ, ◌<◌, true, List, is_some, length, option_map}
+use Rattle.session_order.specs.Ends.{Ends, Setup}
+use Rattle.session_order.specs.Follows.{Follows}
+use Rattle.session_text.specs.Programs.{program_of}
 use Rattle.session_text.specs.Sessions.{SessionView}
+use Rattle.session_text.specs.declared.program.Program.{Program}
+use Rattle.vt_base.specs.Limits.{callers}
 use Rattle.vt_events.specs.declared.entry.Entry.{Entry}
+use Rattle.vt_journal.specs.declared.tail.Tail.{Tail}
+use Rattle.vt_switch.specs.Law.{IsExplained, IsLawful}
+use Rattle.vt_world.specs.History.{IsLegal, replay}
+use Rattle.vt_world.specs.Laws.{moments}
 use Rattle.vt_world.specs.Start.{opening}
-use Rattle.vt_world.specs.State.{WorldState}
+use Rattle.vt_world.specs.State.{WorldState, core}
 use Rattle.vt_world.specs.Tapes.{screen_of, tape_of}
 use Rattle.vt_world.specs.Terminals.{machine_of, terminal_at}
 
@@ -25,3 +33,26 @@ ShowsTapes s world history =
     (c : ℕ) → c < 64
     → machine_of (terminal_at world.terminals c)
     ≡ option_map (screen_of s.config.size.rows s.config.size.cols) (tape_of c (start_of s) history)
+
+-- nobody but a caller has a program
+abbrev pub AreOfCallers : List Program → Type 0
+AreOfCallers programs = (p : ℕ) → is_some (program_of programs p) ≡ true → p < callers
+
+-- a history of the session, the console that it leaves, and how it ends: it is legal, follows the
+-- programs and ends so; each hop of the display was allowed, and what waits for it was asked for; and
+-- each screen is its console's tape
+pub record IsRightHistory (s : SessionView) (console : WorldState) (history : List Entry) (end : Tail) : Type 0 where
+  pub world : console ≡ replay (start_of s) history
+  pub legal : IsLegal (start_of s) history
+  pub follows : Follows (start_of s) s.programs history
+  pub ends : Ends (setup_of s) history end
+  pub lawful : IsLawful (moments (start_of s) history)
+  pub explained : IsExplained (length history) (core console) (moments (start_of s) history)
+  pub screens : ShowsTapes s console history
+
+-- a history that is legal, follows the programs and ends so is right
+abbrev pub LegalAreRight : SessionView → Type 0
+LegalAreRight s =
+    (history : List Entry) (end : Tail) → IsLegal (start_of s) history
+    → Follows (start_of s) s.programs history → Ends (setup_of s) history end
+    → IsRightHistory s (replay (start_of s) history) history end

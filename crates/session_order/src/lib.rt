@@ -1,10 +1,12 @@
 //! The order of a session's calls: whose call is next, how far each caller is, how a history ends, and
-//! the schedule that plays a session on one thread.
+//! the schedule that plays a session on one thread, and what every session keeps to.
 #![tactic(auto)]
 
 mod counts;
 mod laws;
+mod sessions;
 mod standing;
 
 pub use laws::{meant_laws, race_laws, serial_laws};
+pub use sessions::{session_laws, start_of};
 pub use standing::Standing;

@@ -1,6 +1,6 @@
--- A judge that takes one entry more.
-use Rattle.std.proofs.Common.{◌≡◌, ◌+◌, arith, List, [], ◌∷◌, ◌++◌, sym, ap, ◌∙◌}
-use Rattle.std.proofs.lemmas.List.{length_push}
+-- A judge that takes one entry more, and what it lends to a witness then.
+use Rattle.std.proofs.Common.{◌≡◌, ℕ, ◌+◌, ◌<◌, arith, List, [], ◌∷◌, ◌++◌, length, take, sym, ap, ◌∙◌}
+use Rattle.std.proofs.lemmas.List.{length-take, length_push}
 use Rattle.std.proofs.lemmas.List.Sums.{sum_by-append}
 use Rattle.session_order.specs.Ends.{Setup}
 use Rattle.session_order.specs.Standing.{AreAfter}
@@ -8,6 +8,7 @@ use Rattle.vt_check.specs.Judging.{IsAfter}
 use Rattle.vt_check.specs.declared.judge.Judge.{Judge}
 use Rattle.vt_events.specs.Charge.{charge_of}
 use Rattle.vt_events.specs.declared.entry.Entry.{Entry}
+use Rattle.vt_check.specs.Watching.{IsNextEntry}
 use Rattle.vt_world.specs.History.{ReplayGrows}
 use Rattle.vt_world.specs.Step.{step}
 
@@ -32,3 +33,11 @@ taken grows o h entry before after takes standing at =
       events = omega (arith, takes.events, at.events, length_push h entry);
       bytes = omega (arith, takes.bytes, at.bytes, added);
     }
+
+pub next_entry : ReplayGrows → (o : Setup) (entries : List Entry) (i : ℕ) (entry : Entry) (after : Judge)
+    → i < length entries → IsAfter o (take i entries ++ entry ∷ []) after
+    → IsNextEntry o.start (take i entries) i entry after.world
+next_entry grows o entries i entry after within at = record {
+  place_is = omega (arith, within, length-take i entries);
+  after_is = at.replayed ∙ grows o.start (take i entries) entry;
+}

@@ -1,5 +1,5 @@
 pub mod Growing
 pub mod Overs
-pub mod Starts
+pub mod Rights
 pub mod Tested
 pub mod VerdictLaws

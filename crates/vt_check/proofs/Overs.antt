@@ -1,9 +1,9 @@
 -- How a judge tells the end of a journal.
-use Rattle.std.proofs.Common.{◌≡◌, ◌↔◌, ℕ, ◌+◌, ◌<◌, ◌≤◌, ⊎_elim, Bool, true, false, ◌&&◌, nat_le, nat_lt, List, length, get_or, Option, Some, None, is_some, Result, Ok, Err, refl, sym, ap, subst, ◌∙◌, arith}
+use Rattle.std.proofs.Common.{◌≡◌, ◌↔◌, ℕ, ◌+◌, ◌<◌, Bool, true, false, List, length, get_or, Option, Some, None, is_some, Result, Ok, Err, refl, sym, ap, subst, ◌∙◌, arith}
 use Rattle.std.specs.List.{range_with_len}
 use Rattle.std.specs.Bool.{OnFalse, OnTrue}
 use Rattle.std.specs.Prelude.{IfOk, IsTrue}
-use Rattle.std.proofs.lemmas.Bool.{and_parts, both_ways, false≢true, leb-true, ltb-true, or_cases}
+use Rattle.std.proofs.lemmas.Bool.{both_ways, false≢true}
 use Rattle.std.proofs.lemmas.List.Folds.{list_all_at}
 use Rattle.std.proofs.lemmas.List.Sums.{list_all-from_AllPass}
 use Rattle.std.proofs.lemmas.List.Elements.{All-from_get_or}
@@ -12,12 +12,12 @@ use Rattle.std.proofs.lemmas.Option.{none-some, same_Some}
 use Rattle.session_order.specs.Calls.{all_over, is_none, next_by}
 use Rattle.session_order.specs.Ends.{Setup, Stops}
 use Rattle.session_order.specs.Follows.{is_waiting}
+use Rattle.session_order.specs.Sessions.{AreOfCallers}
 use Rattle.session_text.specs.Programs.{program_of}
-use Rattle.session_text.specs.Sessions.{ArePrograms, CallersHavePrograms}
 use Rattle.session_text.specs.declared.program.Program.{Program}
 use Rattle.vt_base.specs.Limits.{callers}
 use Rattle.vt_check.proofs.VerdictLaws.{caller_known}
-use Rattle.vt_check.specs.Judging.{AreOfCallers, HasCall, IsAfter}
+use Rattle.vt_check.specs.Judging.{HasCall, IsAfter}
 use Rattle.vt_check.specs.declared.judge.Judge.{Judge}
 use Rattle.vt_events.specs.Charge.{charge_of}
 use Rattle.vt_events.specs.declared.entry.Entry.{Entry}
@@ -58,16 +58,6 @@ one_goes_on programs h p within is =
   where
     plus : (i : ℕ) → 0 + i ≡ i
     plus i = omega arith
-
--- in a session nobody but a caller has a program
-pub of_callers : CallersHavePrograms → (processes keyboards : ℕ) (list : List Program) → processes ≤ 64
-    → keyboards ≤ 4 → ArePrograms processes keyboards list → AreOfCallers list
-of_callers have processes keyboards list few four are = λ p is.
-    ⊎_elim (λ low. omega (arith, leb-true p processes low, few))
-    (λ both.
-    omega (arith, ltb-true p (64 + keyboards) (and_parts (nat_lt 64 p) (nat_lt p (64 + keyboards)) both).1, four))
-    (or_cases (nat_le p processes) (nat_lt 64 p && nat_lt p (64 + keyboards))
-    (sym (have processes keyboards list few are p) ∙ is))
 
 -- the history stops at the call that was found
 pub stops_here : (o : Setup) (h : List Entry) (view : Judge) (full : Full) (caller : ℕ)

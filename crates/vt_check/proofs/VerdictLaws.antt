@@ -199,6 +199,13 @@ legal_is_right o entries end = (right, judges)
         })
         is.ends.rightly
 
+pub verdict_is_right : (o : Setup) (entries : List Entry) (end : Tail) (v : Verdict) → Judges o entries end v
+    → (v ≡ verdict.Legal) ↔ IsRightJournal o entries end
+verdict_is_right o entries end v judges = (
+  λ is. (legal_is_right o entries end).0 (subst (Judges o entries end) is judges),
+  λ right. one_verdict o entries end v verdict.Legal judges ((legal_is_right o entries end).1 right),
+)
+
 -- one entry more passes
 pub pass_more : (o : Setup) (entries : List Entry) (i : ℕ) (entry : Entry)
     → slice_get entries i ≡ Some entry → AllPass o (take i entries) → Passes o (take i entries) entry

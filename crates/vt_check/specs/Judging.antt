@@ -1,12 +1,9 @@
 -- A judge on its way through a journal. No public clause names this.
-use Rattle.std.specs.Prelude.{◌≡◌, ℕ, ◌<◌, true, false, List, length, Some, is_some}
+use Rattle.std.specs.Prelude.{◌≡◌, ℕ, false, List, length, Some}
 use Rattle.session_order.specs.Calls.{next_by}
 use Rattle.session_order.specs.Ends.{Setup}
 use Rattle.session_order.specs.Follows.{is_waiting}
 use Rattle.session_order.specs.Standing.{AreAfter}
-use Rattle.session_text.specs.Programs.{program_of}
-use Rattle.session_text.specs.declared.program.Program.{Program}
-use Rattle.vt_base.specs.Limits.{callers}
 use Rattle.vt_check.specs.declared.judge.Judge.{Judge}
 use Rattle.vt_events.specs.Charge.{charge_of}
 use Rattle.vt_events.specs.declared.entry.Entry.{Entry}
@@ -20,10 +17,6 @@ pub record IsAfter (o : Setup) (h : List Entry) (j : Judge) : Type 0 where
   pub standing : AreAfter o.programs h j.standing
   pub events : j.events ≡ length h
   pub bytes : j.bytes ≡ charge_of_all h
-
--- nobody but a caller has a program
-abbrev pub AreOfCallers : List Program → Type 0
-AreOfCallers programs = (p : ℕ) → is_some (program_of programs p) ≡ true → p < callers
 
 -- a caller that doesn't wait has a next call of this charge
 pub record HasCall (o : Setup) (h : List Entry) (caller charge : ℕ) : Type 0 where

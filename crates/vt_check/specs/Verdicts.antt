@@ -76,3 +76,9 @@ abbrev pub LegalIsRight : Type 0
 LegalIsRight =
     (o : Setup) (entries : List Entry) (end : Tail)
     → Judges o entries end verdict.Legal ↔ IsRightJournal o entries end
+
+-- and a verdict is legal exactly there
+abbrev pub VerdictIsRight : Type 0
+VerdictIsRight =
+    (o : Setup) (entries : List Entry) (end : Tail) (v : Verdict) → Judges o entries end v
+    → (v ≡ verdict.Legal) ↔ IsRightJournal o entries end

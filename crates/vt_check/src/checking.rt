@@ -1,5 +1,5 @@
-//! The check of a journal.
-ghost use Rattle.std.specs.Prelude.{◌≡◌, ◌↔◌, ◌≤◌, List, length, IfOk};
+//! The check of a journal, and a replay of it that a witness sees.
+ghost use Rattle.std.specs.Prelude.{◌≡◌, ◌↔◌, ◌≤◌, List, [], length, IfOk};
 ghost use Rattle.session_order.specs.Ends.{Setup};
 ghost use Rattle.session_order.specs.Sessions.{ShowsTapes, setup_of, start_of};
 ghost use Rattle.vt_check.specs.Verdicts.{IsRightJournal, Judges};
@@ -11,15 +11,17 @@ ghost use Rattle.vt_world.specs.History.{replay};
 ghost use Rattle.vt_world.specs.Laws.{moments};
 ghost use Rattle.vt_world.specs.State.{core};
 
-use crate::Verdict;
 use crate::judge::Judge;
 use crate::laws::one_verdict;
-use session_text::{Program, Session, callers_have_programs};
+use crate::witness::Nobody;
+use crate::{Verdict, Witness};
+use session_order::session_laws;
+use session_text::{Program, Session};
 use std::alloc::Global;
 use vt_base::NoMemory;
 use vt_events::Entry;
 use vt_journal::{Journal, Limits};
-use vt_world::{displays_are_lawful, screens_are_tapes};
+use vt_world::legal_grows;
 
 /// Whether the journal is one that the session can have: the verdict on it.
 pub fn check(alloc: Global, s: &Session, j: &Journal) -> Result<Verdict, NoMemory>
@@ -37,30 +39,40 @@ pub fn check(alloc: Global, s: &Session, j: &Journal) -> Result<Verdict, NoMemor
         → ShowsTapes s.now (replay (start_of s.now) j.now.entries) j.now.entries) }
 {
     one_verdict();
-    displays_are_lawful();
-    screens_are_tapes();
-    let _config = s.config();
-    let verdict = judge_journal(alloc, s, j)?;
+    session_laws(s);
+    let mut nobody = Nobody;
+    let verdict = watch(alloc, s, j, &mut nobody)?;
     Ok(verdict)
 }
 
-// Judges the entries, and then the end.
-fn judge_journal(alloc: Global, s: &Session, j: &Journal) -> Result<Verdict, NoMemory>
-    ensures { IfOk result (Judges (setup_of s.now) j.now.entries j.now.tail) }
+/// The verdict on the journal, as `check` has it. The witness, which has seen nothing yet, sees each entry
+/// up to the first that fails.
+pub fn watch<W: Witness>(
+    alloc: Global,
+    s: &Session,
+    j: &Journal,
+    witness: &mut W,
+) -> Result<Verdict, NoMemory>
+    requires { W.saw witness.old (start_of s.now) [] witness.old }
+    ensures judges { IfOk result (Judges (setup_of s.now) j.now.entries j.now.tail) }
+    ensures saw { IfOk result (λ v. v ≡ verdict.Legal
+        → W.saw witness.old (start_of s.now) j.now.entries witness.new) }
 {
-    callers_have_programs();
-    let _starts = s.config().procs.as_slice();
+    session_laws(s);
+    legal_grows();
     let limits = s.limits();
     let programs = s.programs();
     let entries = j.entries.as_slice();
     let mut judge = Judge::open(alloc, s)?;
     for i in 0..entries.len() {
-        if let Some(why) = judge.judge(alloc, limits, programs, &entries[i])? {
+        let entry = &entries[i];
+        if let Some(why) = judge.judge(alloc, limits, programs, entry)? {
             return Ok(Verdict::Illegal {
                 index: i as u32,
                 why,
             });
         }
+        witness.see(alloc, i as u32, entry, &judge.world)?;
     }
     match judge.judge_end(alloc, limits, programs, &j.tail)? {
         Some(why) => Ok(Verdict::Illegal {

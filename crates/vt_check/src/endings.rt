@@ -3,8 +3,9 @@ ghost use Rattle.std.specs.Prelude.{◌≡◌, ◌≤◌, ◌<◌, ◌↔◌, �
 ghost use Rattle.std.specs.Bool.{OnFalse, OnTrue};
 ghost use Rattle.session_order.specs.Calls.{all_over, next_by};
 ghost use Rattle.session_order.specs.Ends.{EndsBy, Setup, Stops};
+ghost use Rattle.session_order.specs.Sessions.{AreOfCallers};
 ghost use Rattle.vt_base.specs.Limits.{callers};
-ghost use Rattle.vt_check.specs.Judging.{AreOfCallers, HasCall, IsAfter};
+ghost use Rattle.vt_check.specs.Judging.{HasCall, IsAfter};
 ghost use Rattle.vt_check.specs.Verdicts.{EndFails};
 ghost use Rattle.vt_events.specs.declared.entry.Entry.{Entry};
 ghost use Rattle.vt_journal.specs.Room.{has_room};

@@ -9,13 +9,13 @@ ghost use Rattle.vt_events.specs.declared.entry.Entry.{Entry};
 ghost use Rattle.vt_journal.specs.Room.{IsWithin};
 ghost use Rattle.vt_world.specs.Refusals.{ends_wait};
 
-use session_order::{Standing, meant_laws};
+use session_order::{Standing, meant_laws, start_of};
 use session_text::{Program, Session, program_of};
 use std::alloc::Global;
 use vt_base::NoMemory;
 use vt_events::{Entry, Event, charge};
 use vt_journal::{Limits, same_event, same_reply};
-use vt_world::{World, legal_grows, spare_for};
+use vt_world::{World, legal_grows};
 
 /// The number of the reason that the caller isn't one of the session, or the number isn't its next.
 const NOT_COUNTED: u8 = 1;
@@ -45,7 +45,7 @@ impl Judge {
         ensures events { IfOk result (λ judge. judge.events ≡ 0) }
         ensures bytes { IfOk result (λ judge. judge.bytes ≡ 0) }
     {
-        let world = World::start(alloc, s.config(), s.key_tables())?;
+        let world = start_of(alloc, s)?;
         let standing = Standing::start(alloc)?;
         Ok(Judge {
             world,
@@ -146,8 +146,7 @@ impl Judge {
             → IsAfter o (h ++ entry.now ∷ []) self.new) }
     {
         legal_grows();
-        let spare = spare_for(alloc, &entry.event, self.world.size())?;
-        let (reply, _unused) = self.world.step(entry.caller, &entry.event, spare);
+        let reply = self.world.call(alloc, entry.caller, &entry.event)?;
         if !same_reply(&reply, &entry.reply) {
             return Ok(false);
         }

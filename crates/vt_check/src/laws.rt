@@ -1,8 +1,9 @@
 //! The laws of verdicts.
-ghost use Rattle.vt_check.specs.Verdicts.{LegalIsRight, OneVerdict};
+ghost use Rattle.vt_check.specs.Verdicts.{LegalIsRight, OneVerdict, VerdictIsRight};
 
 /// There is one verdict on a journal; it is legal exactly where the journal is right.
 pub fn one_verdict()
     ensures one { OneVerdict }
     ensures legal { LegalIsRight }
+    ensures right { VerdictIsRight }
 {}

@@ -6,7 +6,9 @@ mod endings;
 mod judge;
 mod laws;
 mod verdict;
+mod witness;
 
-pub use checking::check;
+pub use checking::{check, watch};
 pub use laws::one_verdict;
 pub use verdict::Verdict;
+pub use witness::Witness;

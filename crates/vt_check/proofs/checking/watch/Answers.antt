@@ -3,19 +3,18 @@ use Rattle.std.specs.Prelude.{slice_get}
 use Rattle.std.proofs.lemmas.List.{take_all}
 use Rattle.std.proofs.lemmas.Option.{slice_get_read}
 use Rattle.session_order.specs.Ends.{Setup}
-use Rattle.session_order.specs.Sessions.{setup_of}
-use Rattle.vt_check.proofs.Overs.{of_callers}
+use Rattle.session_order.specs.Sessions.{AreOfCallers, setup_of, start_of}
+use Rattle.vt_check.proofs.Growing.{next_entry}
 use Rattle.vt_check.proofs.VerdictLaws.{next_take, pass_more}
 use Rattle.vt_check.specs.Judging.{IsAfter}
 use Rattle.vt_check.specs.Verdicts.{AllPass, Judges}
 use Rattle.vt_check.specs.Verdicts.Judges.{AtEnd, EntryFails, Right}
 use Rattle.vt_check.specs.declared.verdict.Verdict.TheVariants as verdict
 use Rattle.vt_events.specs.declared.entry.Entry.{Entry}
-use Rattle.vt_procs.specs.declared.config.Config.{Config}
-use Rattle.vt_check.proofs.checking.judge_journal.Goals as goal
+use Rattle.vt_check.proofs.checking.watch.Goals as goal
 
-pub returns-in-Some : goal.returns-in-Some
-returns-in-Some c =
+pub returns-in-Some-clause-judges : goal.returns-in-Some-clause-judges
+returns-in-Some-clause-judges g c =
     let o : Setup = setup_of c.args.s.now in
     let entries : List Entry = c.as_slice-entries.result.now in
     let here : slice_get entries c.loop-i.i ≡ Some c.index-entries-i.result =
@@ -28,32 +27,53 @@ returns-in-Some c =
     (fails o (take c.loop-i.i entries) (sym c.programs-programs.ensures.same)
     (sym c.limits-limits.ensures.same) c.loop-i.invariant.after))
 
+pub see-requires : goal.see-requires
+see-requires g c =
+    let o : Setup = setup_of c.args.s.now in
+    let entries : List Entry = c.as_slice-entries.result.now in
+    let after = rw c.in_default.is at c.in_ok-why.ensures.after in
+    record {
+      first = c.args.witness.now;
+      start = start_of c.args.s.now;
+      before = take c.loop-i.i entries;
+      seen = c.loop-i.invariant.saw;
+      next =
+          next_entry c.legal_grows.ensures.replay o entries c.loop-i.i c.index-entries-i.result
+          c.judge.new.self c.loop-i-test.true
+          (after o (take c.loop-i.i entries) (sym c.programs-programs.ensures.same) c.loop-i.invariant.after);
+    }
+
 pub loop-i-preserved : goal.loop-i-preserved
-loop-i-preserved c =
+loop-i-preserved g c =
     let o : Setup = setup_of c.args.s.now in
     let entries : List Entry = c.as_slice-entries.result.now in
     let front : List Entry = take c.loop-i.i entries in
     let here : slice_get entries c.loop-i.i ≡ Some c.index-entries-i.result =
     slice_get_read entries (length entries) c.loop-i.i c.index-entries-i.result refl c.loop-i-test.true
     c.index-entries-i.is in
+    let more = sym (next_take entries c.loop-i.i c.index-entries-i.result here) in
     let passes = rw c.in_default.is at c.in_ok-why.ensures.passes in
     let after = rw c.in_default.is at c.in_ok-why.ensures.after in
     let events = rw c.in_default.is at c.in_ok-why.ensures.events in
     let bytes = rw c.in_default.is at c.in_ok-why.ensures.bytes in
+    let at = after o front (sym c.programs-programs.ensures.same) c.loop-i.invariant.after in
     record {
       pass =
           pass_more o entries c.loop-i.i c.index-entries-i.result here c.loop-i.invariant.pass
           (passes o front (sym c.programs-programs.ensures.same) (sym c.limits-limits.ensures.same)
           c.loop-i.invariant.after);
-      after =
-          subst (λ h. IsAfter o h c.judge.new.self) (sym (next_take entries c.loop-i.i c.index-entries-i.result here))
-          (after o front (sym c.programs-programs.ensures.same) c.loop-i.invariant.after);
+      after = subst (λ h. IsAfter o h c.judge.new.self) more at;
       events = omega (arith, events, c.limits-limits.ensures.events);
       bytes = omega (arith, bytes, c.limits-limits.ensures.bytes);
+      saw =
+          subst (λ h. g.W.Witness.saw c.args.witness.now (start_of c.args.s.now) h c.see.new.self) more
+          (c.in_ok-see.ensures c.args.witness.now (start_of c.args.s.now) front c.loop-i.invariant.saw
+          (next_entry c.legal_grows.ensures.replay o entries c.loop-i.i c.index-entries-i.result
+          c.judge.new.self c.loop-i-test.true at));
     }
 
-pub returns-in-Some-2 : goal.returns-in-Some-2
-returns-in-Some-2 c =
+pub returns-in-Some-2-clause-judges : goal.returns-in-Some-2-clause-judges
+returns-in-Some-2-clause-judges g c =
     let o : Setup = setup_of c.args.s.now in
     let entries : List Entry = c.as_slice-entries.result.now in
     let whole : take c.loop-i.i entries ≡ entries =
@@ -65,8 +85,8 @@ returns-in-Some-2 c =
     (fails o entries (sym c.programs-programs.ensures.same) (sym c.limits-limits.ensures.same)
     (subst (λ h. IsAfter o h c.loop-i.judge) whole c.loop-i.invariant.after)))
 
-pub returns : goal.returns
-returns c =
+pub returns-clause-judges : goal.returns-clause-judges
+returns-clause-judges g c =
     let o : Setup = setup_of c.args.s.now in
     let entries : List Entry = c.as_slice-entries.result.now in
     let whole : take c.loop-i.i entries ≡ entries =
@@ -77,11 +97,13 @@ returns c =
     (passes o entries (sym c.programs-programs.ensures.same) (sym c.limits-limits.ensures.same)
     (subst (λ h. IsAfter o h c.loop-i.judge) whole c.loop-i.invariant.after)))
 
+pub returns-clause-saw : goal.returns-clause-saw
+returns-clause-saw g c = λ legal.
+    subst (λ h. g.W.Witness.saw c.args.witness.now (start_of c.args.s.now) h c.loop-i.witness)
+    c.as_slice-entries.ensures.same
+    (subst (λ h. g.W.Witness.saw c.args.witness.now (start_of c.args.s.now) h c.loop-i.witness)
+    (take_all c.loop-i.i c.as_slice-entries.result.now c.loop-i-test.false) c.loop-i.invariant.saw)
+
 pub judge_end-requires-clause-programs : goal.judge_end-requires-clause-programs
-judge_end-requires-clause-programs c =
-    of_callers c.callers_have_programs.ensures (length c.args.s.now.config.procs)
-    c.args.s.now.config.keyboards c.programs-programs.result.now
-    (omega
-    (arith, c.as_slice-starts.ensures.bound, ap length c.as_slice-starts.ensures.list, ap (λ (config : Config). length config.procs) c.config.ensures.same))
-    (omega (arith, c.config.ensures.keyboards.four, ap (λ (config : Config). config.keyboards) c.config.ensures.same))
-    c.programs-programs.ensures.are
+judge_end-requires-clause-programs g c =
+    subst AreOfCallers (sym c.programs-programs.ensures.same) c.session_laws.ensures.programs

@@ -1,0 +1,33 @@
+//! The console that a session begins with, and what every session keeps to.
+ghost use Rattle.std.specs.Prelude.{◌≡◌, IfOk};
+ghost use Rattle.session_order.specs.Laws.{IsFromStart};
+ghost use Rattle.session_order.specs.Sessions.{AreOfCallers, LegalAreRight, setup_of, start_of};
+ghost use Rattle.vt_world.specs.Laws.{IsStart};
+
+use session_text::{Session, callers_have_programs};
+use std::alloc::Global;
+use vt_base::NoMemory;
+use vt_world::{World, displays_are_lawful, screens_are_tapes};
+
+/// The console that the session begins with.
+pub fn start_of(alloc: Global, s: &Session) -> Result<World, NoMemory>
+    ensures { IfOk result (λ world. world ≡ start_of s.now) }
+{
+    World::start(alloc, s.config(), s.key_tables())
+}
+
+/// What every session keeps to: it begins at a start of the console, nobody but a caller has a program,
+/// and each history that is legal, follows the programs and ends so is right.
+pub fn session_laws(s: &Session)
+    ensures start { IsStart (start_of s.now) }
+    ensures setup { IsFromStart (setup_of s.now) }
+    ensures programs { AreOfCallers s.now.programs }
+    ensures right { LegalAreRight s.now }
+{
+    displays_are_lawful();
+    screens_are_tapes();
+    callers_have_programs();
+    let config = s.config();
+    let _starts = config.procs.as_slice();
+    let _programs = s.programs();
+}

@@ -1,0 +1,53 @@
+ghost use Rattle.std.specs.Prelude.{◌≡◌, List, [], ◌∷◌, ◌++◌, ⊤, OnOk};
+ghost use Rattle.vt_check.specs.Watching.{IsNextEntry, MaySee};
+ghost use Rattle.vt_events.specs.declared.entry.Entry.{Entry};
+ghost use Rattle.vt_world.specs.State.{WorldState};
+
+use std::alloc::Global;
+use vt_base::NoMemory;
+use vt_events::Entry;
+use vt_world::World;
+
+/// Who sees the entries of a journal while they are judged, each with the console that it leaves: for
+/// [`watch`](crate::watch).
+pub trait Witness {
+    ghost use Rattle.std.specs.Prelude.{List};
+    ghost use Rattle.vt_events.specs.declared.entry.Entry.{Entry};
+    ghost use Rattle.vt_world.specs.State.{WorldState};
+
+    /// What seeing these entries, from this console on, may make of it. An implementation says here what
+    /// its own callers learn of it.
+    ghost saw: { Self → WorldState → List Entry → Self → Type 0 };
+
+    /// Sees the entry at this place, and the console behind it.
+    fn see(
+        &mut self,
+        alloc: Global,
+        place: u32,
+        entry: &Entry,
+        after: &World,
+    ) -> Result<(), NoMemory>
+        requires { MaySee saw self.old place entry.now after.now }
+        ensures { OnOk result ((first : Self) (start : WorldState) (before : List Entry)
+            → saw first start before self.old
+            → IsNextEntry start before place entry.now after.now
+            → saw first start (before ++ entry.now ∷ []) self.new) };
+}
+
+/// A witness that keeps nothing.
+#[derive(Drop)]
+pub(crate) struct Nobody;
+
+impl Witness for Nobody {
+    ghost saw = { λ first start entries now. ⊤ };
+
+    fn see(
+        &mut self,
+        _alloc: Global,
+        _place: u32,
+        _entry: &Entry,
+        _after: &World,
+    ) -> Result<(), NoMemory> {
+        Ok(())
+    }
+}
