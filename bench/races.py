@@ -25,6 +25,7 @@ every caller has made its first call; and the longest of the whole journal.
 import contextlib
 import os
 import random
+import signal
 import statistics
 import subprocess
 import sys
@@ -100,7 +101,8 @@ def soak(program, races, seed):
         made, ended = race(program, what, write)
         entries += made
         full += ended
-    print(f"{races + 1} races, {entries:,} entries, {full} journals full")
+        if n % 100 == 99 or n + 1 == races:
+            print(f"{n + 2:,} races, {entries:,} entries, {full} journals full", flush=True)
 
 
 def writers(processes, out, events):
@@ -226,6 +228,7 @@ def main():
         sys.exit(__doc__)
     if not os.access(words[1], os.X_OK):
         sys.exit(f"{words[1]}: no program that runs")
+    signal.signal(signal.SIGTERM, lambda *_: sys.exit(143))     # so that the processes beside it end too
     with beside(busy):
         print(f"{time.strftime('%d %B %Y %H:%M UTC', time.gmtime())}, {os.cpu_count()} processors, "
               f"load {os.getloadavg()[0]:.1f}, {busy} busy", flush=True)
