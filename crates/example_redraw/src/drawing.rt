@@ -1,0 +1,25 @@
+//! What an input makes of a screen, as the text that draws it again.
+
+use std::alloc::Global;
+use vt_base::{Bytes, NoMemory, Size};
+use vt_grid::Grid;
+use vt_redraw::{redraw, redrawable};
+use vt_screen::{BLANK, Emu};
+
+/// The text that draws a screen again, if there is one.
+#[derive(Drop)]
+pub enum Drawing {
+    Text(Bytes),
+    /// No text draws the screen.
+    Refused,
+}
+
+/// Runs the input on a screen of this size, and draws what it makes.
+pub fn drawn(alloc: Global, size: Size, input: &[u8]) -> Result<Drawing, NoMemory> {
+    let mut emu = Emu::new(Grid::blank(alloc, size, BLANK)?);
+    emu.write(input);
+    if !redrawable(&emu) {
+        return Ok(Drawing::Refused);
+    }
+    Ok(Drawing::Text(redraw(alloc, &emu)?))
+}

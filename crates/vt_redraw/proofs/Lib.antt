@@ -1,0 +1,17 @@
+mod Alike
+mod Counts
+mod Does
+mod Glyphs
+mod Joins
+mod Keeps
+mod Moves
+mod Numbers
+mod Overlays
+mod Paints
+mod Palettes
+mod Pens
+mod Prints
+mod Redrawing
+mod Rows
+mod Sheets
+mod States

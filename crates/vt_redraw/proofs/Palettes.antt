@@ -1,0 +1,212 @@
+-- The text of the palette.
+use Rattle.std.proofs.Common.{◌≡◌, ℕ, ◌+◌, ◌/◌, ◌%◌, ◌<◌, ◌≤◌, ◌==◌, ◌&&◌, ◌||◌, Bool, true, false, List, [], ◌∷◌, ◌++◌, length, refl, sym, subst, ap, ◌∙◌, append_assoc, append-nil, arith}
+use Rattle.std.specs.Prelude.{All, if◌then◌else◌, slice_set}
+use Rattle.std.specs.List.{list_all, range_with_len}
+use Rattle.std.proofs.lemmas.Bool.{and_left, and_parts, cond-true, cond-false, eqb-true, le-ltb, lt-ltb}
+use Rattle.std.proofs.lemmas.Bool.Decides.{nat_tests}
+use Rattle.std.proofs.lemmas.List.{length-append, set_at}
+use Rattle.std.proofs.lemmas.List.Elements.{All-head, All-tail}
+use Rattle.std.proofs.lemmas.List.Folds.{list_all-append}
+use Rattle.vt_cells.specs.Colours.{Rgb, start_palette}
+use Rattle.vt_redraw.proofs.Does.{Does, does-nothing, does-then, does-to}
+use Rattle.vt_redraw.proofs.Numbers.{below-holds}
+use Rattle.vt_redraw.specs.Sequences.{colour_text, hex_digit, hex_digits, start_palette_text}
+use Rattle.vt_redraw.specs.State.{colours_from, is_same_colour, palette_text}
+use Rattle.vt_screen.specs.Effect.{effect}
+use Rattle.vt_screen.specs.Run.{Drawn, PiecesAct, drawing, listed, ran}
+use Rattle.vt_screen.specs.Saying.{Done, quiet}
+use Rattle.vt_screen.specs.Screen.{Screen, mode_of, with_state}
+use Rattle.vt_screen.specs.Settings.{with_colour, with_start_palette}
+use Rattle.vt_units.specs.Answer.{acts_in}
+use Rattle.vt_units.specs.Bytes.{acts, is_hex}
+use Rattle.vt_units.specs.Pieces.{HasEffect, controls_of, is_left_out, rest_with, text_of}
+use Rattle.vt_units.specs.Reading.{Reading, behind, command, front, palette_ends, reading, unfinished, whole}
+use Rattle.vt_units.specs.Rest.{Rest, fresh}
+use Rattle.vt_units.specs.Run.{Reached, reached}
+use Rattle.vt_units.specs.Sequences.{hex_pair, hex_value}
+use Rattle.vt_units.specs.declared.mode.Mode.{Mode}
+use Rattle.vt_units.specs.declared.unit.Unit as units
+use Rattle.vt_units.specs.declared.unit.Unit.TheVariants.{Colour, ColourReset}
+
+-- a text of a unit without a control character in it
+piece-does : PiecesAct → (text : List ℕ) (u : units.Unit) → ((m : Mode) → reading m (text_of m [] text) ≡ whole u)
+    → ((m : Mode) → controls_of m [] text ≡ []) → (s t : Screen) → effect u s ≡ quiet t → Does text s t
+piece-does law text u reads acts_none s t is = record {
+  does =
+      λ m.
+      let now : Mode = mode_of s in
+      let at : Reached Screen = reached s (fresh m) in
+      let first : Drawn = record { screen = s; outs = [] } in
+      let left : Rest = rest_with drawing first (fresh now) text in
+      let effect_is : HasEffect drawing (reading now (text_of now [] text)) (controls_of now [] text) left (ran at text) first = law at text refl in
+      let all : HasEffect drawing (whole u) [] left (ran at text) first =
+      subst (λ (controls : List ℕ). HasEffect drawing (whole u) controls left (ran at text) first) (acts_none now)
+      (subst (λ (r : Reading). HasEffect drawing r (controls_of now [] text) left (ran at text) first) (reads now) effect_is) in (
+        left.mode,
+        all ∙ ap (λ (d : Done). reached (record { screen = d.screen; outs = [] ++ listed d.said }) (fresh left.mode)) is,
+      );
+}
+
+front-hex : (p : ℕ → Bool) (xs : List ℕ) → list_all p xs ≡ true → front p xs ≡ xs
+front-hex p [] all = refl
+front-hex p (x ∷ xs) all =
+    let parts = and_parts (p x) (list_all p xs) all in
+    cond-true (p x) _ _ parts.0 ∙ ap (λ (ys : List ℕ). x ∷ ys) (front-hex p xs parts.1)
+
+behind-hex : (p : ℕ → Bool) (xs : List ℕ) → list_all p xs ≡ true → behind p xs ≡ []
+behind-hex p [] all = refl
+behind-hex p (x ∷ xs) all =
+    let parts = and_parts (p x) (list_all p xs) all in
+    cond-true (p x) _ _ parts.0 ∙ behind-hex p xs parts.1
+
+-- ESC ] P and digits
+abbrev opened : List ℕ → List ℕ
+opened ds = 0x1B ∷ 0x5D ∷ 0x50 ∷ ds
+
+opened-reads : (m : Mode) (ds : List ℕ) → list_all is_hex ds ≡ true → length ds ≤ 7
+    → reading m (opened ds) ≡ palette_ends m ds []
+opened-reads m ds all few =
+    cond-false _ _ _ (and_left _ _ (le-ltb 256 (length (opened ds)) (omega (arith, few))))
+    ∙ (λ i. palette_ends m (front-hex is_hex ds all i) (behind-hex is_hex ds all i))
+
+-- fewer than seven are no unit yet
+goes-on : (m : Mode) (ds : List ℕ) → list_all is_hex ds ≡ true → length ds < 7 → reading m (opened ds) ≡ unfinished command
+goes-on m ds all few =
+    opened-reads m ds all (omega (arith, few)) ∙ cond-true _ _ _ (lt-ltb (length ds) 7 few)
+
+no-control : (d : ℕ) → is_hex d ≡ true → acts d ≡ false
+no-control d is = and_left _ _ (le-ltb d 0x20 (let low : 0x20 ≤ d = grind (arith, nat_tests, is) in low))
+
+stays : (m : Mode) (ds : List ℕ) (d : ℕ) → list_all is_hex ds ≡ true → is_hex d ≡ true → length ds < 7
+    → is_left_out (reading m (opened ds)) d ≡ false
+stays m ds d all is few =
+    ap (λ (r : Reading). is_left_out r d) (goes-on m ds all few) ∙ ap (λ (t : Bool). t || false) (no-control d is)
+
+one-more : (ds : List ℕ) (d : ℕ) → list_all is_hex ds ≡ true → is_hex d ≡ true → list_all is_hex (ds ++ d ∷ []) ≡ true
+one-more ds d all is =
+    list_all-append is_hex ds (d ∷ []) ∙ (λ i. all i && (is i && true))
+
+text-goes : (m : Mode) (todo ds : List ℕ) → list_all is_hex ds ≡ true → list_all is_hex todo ≡ true
+    → length ds + length todo ≤ 7 → text_of m (opened ds) todo ≡ opened (ds ++ todo)
+text-goes m [] ds all others few = ap opened (sym (append-nil ds))
+text-goes m (d ∷ todo) ds all others few =
+    let parts = and_parts (is_hex d) (list_all is_hex todo) others in
+    cond-false _ _ _ (stays m ds d all parts.0 (omega (arith, few)))
+    ∙ text-goes m todo (ds ++ d ∷ []) (one-more ds d all parts.0) parts.1 (omega (arith, few, length-append ds (d ∷ [])))
+    ∙ ap opened (append_assoc ds (d ∷ []) todo)
+
+no-controls : (m : Mode) (todo ds : List ℕ) → list_all is_hex ds ≡ true → list_all is_hex todo ≡ true
+    → length ds + length todo ≤ 7 → controls_of m (opened ds) todo ≡ []
+no-controls m [] ds all others few = refl
+no-controls m (d ∷ todo) ds all others few =
+    let parts = and_parts (is_hex d) (list_all is_hex todo) others in
+    cond-false _ _ _ (ap (λ (r : Reading). acts_in r d) (goes-on m ds all (omega (arith, few))) ∙ no-control d parts.0)
+    ∙ cond-false _ _ _ (stays m ds d all parts.0 (omega (arith, few)))
+    ∙ no-controls m todo (ds ++ d ∷ []) (one-more ds d all parts.0) parts.1 (omega (arith, few, length-append ds (d ∷ [])))
+
+reads-back : ℕ → Bool
+reads-back n = is_hex (hex_digit n) && hex_value (hex_digit n) == n
+
+all-read : list_all reads-back (range_with_len 0 16) ≡ true
+unfolding reads-back
+all-read = refl
+
+digit : (n : ℕ) → n < 16 → (is_hex (hex_digit n) ≡ true) × (hex_value (hex_digit n) ≡ n)
+unfolding reads-back
+digit n h =
+    let parts = and_parts (is_hex (hex_digit n)) (hex_value (hex_digit n) == n) (below-holds reads-back 16 all-read n h) in (
+      parts.0,
+      eqb-true (hex_value (hex_digit n)) n parts.1,
+    )
+
+pair : (n : ℕ) → n < 256 → hex_pair (hex_digit (n / 16)) (hex_digit (n % 16)) ≡ n
+pair n h =
+    let high = digit (n / 16) (omega (arith, h)) in
+    let low = digit (n % 16) (omega arith) in
+    omega (arith, high.1, low.1)
+
+abbrev IsColour : Rgb → Type 0
+IsColour rgb = (rgb.0 < 256) × (rgb.1 < 256) × (rgb.2 < 256)
+
+module _ (law : PiecesAct) where
+  start-does : (s : Screen) → Does start_palette_text s (with_start_palette s)
+  unfolding start_palette_text
+  start-does s = piece-does law _ ColourReset (λ m. refl) (λ m. refl) s _ refl
+
+  colour-does : (n : ℕ) (rgb : Rgb) → n < 16 → IsColour rgb → (s : Screen) → Does (colour_text n rgb) s (with_colour n rgb s)
+  unfolding colour_text
+  colour-does n (r, g, b) h is s =
+      let ds : List ℕ = hex_digit n ∷ hex_digits r (hex_digits g (hex_digits b [])) in
+      let hex : list_all is_hex ds ≡ true =
+      λ i. (digit n h).0 i && ((digit (r / 16) (omega (arith, is.0))).0 i && ((digit (r % 16) (omega arith)).0 i
+      && ((digit (g / 16) (omega (arith, is.1))).0 i && ((digit (g % 16) (omega arith)).0 i
+      && ((digit (b / 16) (omega (arith, is.2))).0 i && ((digit (b % 16) (omega arith)).0 i && true)))))) in
+      piece-does law (opened ds) (Colour n (r, g, b))
+      (λ m.
+      ap (reading m) (text-goes m ds [] refl hex (omega arith))
+      ∙ opened-reads m ds hex (omega arith)
+      ∙ (λ i. whole (Colour ((digit n h).1 i) (pair r is.0 i, pair g is.1 i, pair b is.2 i))))
+      (λ m. no-controls m ds [] refl hex (omega arith)) s _ refl
+
+  colour-set : (front starts : List Rgb) (start rgb : Rgb) (s : Screen) → s.state.palette ≡ front ++ start ∷ starts
+      → length front < 16
+      → with_colour (length front) rgb s ≡ with_state s (record s.state { palette = front ++ rgb ∷ starts })
+  unfolding with_colour
+  colour-set front starts start rgb s now few =
+      cond-true _ _ _ (lt-ltb (length front) 16 few)
+      ∙ (λ i. with_state s (record s.state { palette = slice_set (now i) (length front) rgb }))
+      ∙ ap (λ (p : List Rgb). with_state s (record s.state { palette = p })) (set_at front start starts rgb (length front) refl)
+
+  -- colours from a number on
+  Coloured : List Rgb → List Rgb → Type 0
+  Coloured starts colours =
+      (before : List Rgb) (s : Screen) → s.state.palette ≡ before ++ starts
+      → length before + length colours ≤ 16 → length starts ≡ length colours → All IsColour colours
+      → Does (colours_from (length before) starts colours) s (with_state s (record s.state { palette = before ++ colours }))
+
+  colour-first : (start rgb : Rgb) (starts colours : List Rgb) → Coloured starts colours → Coloured (start ∷ starts) (rgb ∷ colours)
+  unfolding Coloured
+  colour-first start rgb starts colours others before s now few count all = by (is_same_colour start rgb) refl
+    where
+      Next : Screen → Type 0
+      Next t = Does (colours_from (length before + 1) starts colours) t (with_state t (record t.state { palette = before ++ rgb ∷ colours }))
+
+      next : (t : Screen) → t.state.palette ≡ before ++ rgb ∷ starts → Next t
+      next t is =
+          subst (λ (n : ℕ). Does (colours_from n starts colours) t (with_state t (record t.state { palette = before ++ rgb ∷ colours })))
+          (length-append before (rgb ∷ []))
+          (subst (λ (p : List Rgb). Does (colours_from (length (before ++ rgb ∷ [])) starts colours) t (with_state t (record t.state { palette = p })))
+          (append_assoc before (rgb ∷ []) colours)
+          (others (before ++ rgb ∷ []) t (is ∙ sym (append_assoc before (rgb ∷ []) starts))
+          (omega (arith, few, length-append before (rgb ∷ []))) (omega (arith, count)) (All-tail IsColour rgb colours all)))
+
+      same-colour : (a b : Rgb) → is_same_colour a b ≡ true → a ≡ b
+      same-colour (r, g, b) (x, y, z) is =
+          let last = and_parts (r == x && g == y) (b == z) is in
+          let first = and_parts (r == x) (g == y) last.0 in
+          λ i. (eqb-true r x first.0 i, eqb-true g y first.1 i, eqb-true b z last.1 i)
+
+      by : (t : Bool) → is_same_colour start rgb ≡ t
+          → Does ((if t then [] else colour_text (length before) rgb) ++ colours_from (length before + 1) starts colours) s
+          (with_state s (record s.state { palette = before ++ rgb ∷ colours }))
+      by true test = next s (now ∙ ap (λ (c : Rgb). before ++ c ∷ starts) (same-colour start rgb test))
+      by false test =
+          does-then
+          (does-to (colour-does (length before) rgb (omega (arith, few)) (All-head IsColour rgb colours all) s) (colour-set before starts start rgb s now (omega (arith, few))))
+          (next (with_state s (record s.state { palette = before ++ rgb ∷ starts })) refl)
+
+  colours-do : (starts colours : List Rgb) → Coloured starts colours
+  unfolding Coloured
+  colours-do [] [] before s now few count all =
+      does-to (does-nothing s) (ap (λ (p : List Rgb). with_state s (record s.state { palette = p })) now)
+  colours-do [] (rgb ∷ colours) before s now few count all = absurd (omega (arith, count))
+  colours-do (start ∷ starts) [] before s now few count all = absurd (omega (arith, count))
+  colours-do (start ∷ starts) (rgb ∷ colours) before s now few count all =
+      colour-first start rgb starts colours (colours-do starts colours) before s now few count all
+
+  pub palette-does : (colours : List Rgb) → length colours ≡ 16 → All IsColour colours → (s : Screen)
+      → Does (palette_text colours) s (with_state s (record s.state { palette = colours }))
+  unfolding with_start_palette Coloured
+  palette-does colours count all s =
+      does-then (start-does s)
+      (colours-do start_palette colours [] (with_state s (record s.state { palette = start_palette })) refl (omega (arith, count)) (omega (arith, count)) all)

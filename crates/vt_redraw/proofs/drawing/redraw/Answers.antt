@@ -1,0 +1,9 @@
+use Rattle.std.proofs.Common.{List, ℕ, sym, subst}
+use Rattle.vt_redraw.specs.Redraw.{Redraws}
+use Rattle.vt_redraw.proofs.drawing.redraw.Goals as goal
+
+pub returns-clause-again : goal.returns-clause-again
+returns-clause-again c =
+    λ other whole size.
+    subst (λ (text : List ℕ). Redraws c.args.emu.now.state other text) (sym c.in_ok-text.ensures)
+    (c.screens_redraw.ensures.screens c.args.emu.now.state other c.stays_stored.ensures whole size c.requires)

@@ -1,0 +1,30 @@
+-- What a text that is written behind a screen makes of one that was drawn again.
+use Rattle.std.specs.Prelude.{◌≡◌, ℕ, Bool, ◌≤◌, List, length, take}
+use Rattle.vt_redraw.specs.Redraw.{IsStored, redrawn_on}
+use Rattle.vt_screen.specs.Run.{ran}
+use Rattle.vt_screen.specs.Screen.{Screen, with_state}
+use Rattle.vt_units.specs.Rest.{fresh}
+use Rattle.vt_units.specs.Run.{reached}
+use Rattle.vt_units.specs.declared.mode.Mode.{Mode}
+
+-- the screen with other tab stops
+abbrev pub with_stops : List Bool → Screen → Screen
+with_stops stops s = with_state s (record s.state { stops = stops })
+
+-- the second screen is the first, but for tab stops past the columns
+pub record IsAlike (s t : Screen) : Type 0 where
+  pub stops : List Bool
+  pub is : t ≡ with_stops stops s
+  pub same : take s.grid.cols stops ≡ take s.grid.cols s.state.stops
+  pub many : s.grid.cols ≤ length stops
+  pub all : s.grid.cols ≤ length s.state.stops
+  pub few : s.grid.cols ≤ 255
+
+-- where both have the same user's table, every text behind a screen and behind the one that was drawn again makes the same
+-- cells and the same state, but for tab stops past the columns, says the same, and leaves the same text pending
+abbrev pub TextsFollow : Type 0
+TextsFollow =
+    (s other : Screen) (m : Mode) (bytes : List ℕ) → IsStored s → s.state.map ≡ other.state.map
+    → let first = ran (reached s (fresh m)) bytes in
+    let again = ran (reached (redrawn_on other s) (fresh m)) bytes in
+    IsAlike first.state.screen again.state.screen × (again.state.outs ≡ first.state.outs) × (again.rest ≡ first.rest)

@@ -1,0 +1,92 @@
+//! The whole text of a screen.
+ghost use Rattle.std.specs.Prelude.{◌≡◌, ◌<◌, ◌≤◌, ◌++◌, IfOk, IsTrue, OnOk};
+ghost use Rattle.vt_redraw.specs.Cells.{changed_rows};
+ghost use Rattle.vt_redraw.specs.Drawable.{is_redrawable};
+ghost use Rattle.vt_redraw.specs.Redraw.{IsSameSize, Redraws, changes_of, redraw_of};
+ghost use Rattle.vt_screen.specs.Screen.{IsWhole, Screen};
+
+use crate::cells::add_row;
+use crate::laws::screens_redraw;
+use crate::modes::{add_clearing, add_setting};
+use crate::state::add_state;
+use crate::stored::stays_stored;
+use std::alloc::Global;
+use vt_base::{Bytes, NoMemory};
+use vt_grid::Grid;
+use vt_screen::{BLANK, Emu};
+
+/// The text that draws the screen again on any screen of its size on which no text is pending, whatever that one
+/// shows and whatever state it is in: its cells, cursor, pen, modes, region, tab stops, tables, palette and what is
+/// saved. The tab stops past the last column and the user's table don't come back. Every byte belongs to a control
+/// sequence, a control character or a character of the screen. This project's own.
+pub fn redraw(alloc: Global, emu: &Emu) -> Result<Bytes, NoMemory>
+    requires { IsTrue (is_redrawable emu.now.state) }
+    ensures text { IfOk result (λ text. text.bytes ≡ redraw_of emu.now.state) }
+    ensures again { IfOk result
+        (λ text. (other : Screen) → IsWhole other → IsSameSize other.grid emu.now.state.grid
+        → Redraws emu.now.state other text.bytes) }
+{
+    screens_redraw();
+    stays_stored(emu);
+    let text = whole_text(alloc, emu)?;
+    Ok(text)
+}
+
+/// The text that draws the screen again on any screen of these cells on which no text is pending: the rows that differ
+/// ([`Grid::is_row_same`]), and the state. What comes back is what comes back by [`redraw`]. This project's own.
+pub fn redraw_changes(alloc: Global, old: &Grid, emu: &Emu) -> Result<Bytes, NoMemory>
+    requires size { IsSameSize old.now emu.now.state.grid }
+    requires redrawable { IsTrue (is_redrawable emu.now.state) }
+    ensures text { IfOk result (λ text. text.bytes ≡ changes_of old.now emu.now.state) }
+    ensures again { IfOk result
+        (λ text. (other : Screen) → IsWhole other → other.grid ≡ old.now
+        → Redraws emu.now.state other text.bytes) }
+{
+    screens_redraw();
+    stays_stored(emu);
+    let text = changes_text(alloc, old, emu)?;
+    Ok(text)
+}
+
+#[tactic(auto, unfolding(crate::specs::Redraw::redraw_of))]
+fn whole_text(alloc: Global, emu: &Emu) -> Result<Bytes, NoMemory>
+    requires { IsTrue (is_redrawable emu.now.state) }
+    ensures { IfOk result (λ text. text.bytes ≡ redraw_of emu.now.state) }
+{
+    let mut text = Bytes::new(alloc);
+    let blank = Grid::blank(alloc, emu.grid().size(), BLANK)?;
+    add_setting(alloc, &mut text)?;
+    add_clearing(alloc, &mut text)?;
+    add_changed_rows(alloc, &mut text, &blank, emu.grid())?;
+    add_state(alloc, &mut text, emu)?;
+    Ok(text)
+}
+
+#[tactic(auto, unfolding(crate::specs::Redraw::changes_of))]
+fn changes_text(alloc: Global, old: &Grid, emu: &Emu) -> Result<Bytes, NoMemory>
+    requires size { IsSameSize old.now emu.now.state.grid }
+    requires redrawable { IsTrue (is_redrawable emu.now.state) }
+    ensures { IfOk result (λ text. text.bytes ≡ changes_of old.now emu.now.state) }
+{
+    let mut text = Bytes::new(alloc);
+    add_setting(alloc, &mut text)?;
+    add_changed_rows(alloc, &mut text, old, emu.grid())?;
+    add_state(alloc, &mut text, emu)?;
+    Ok(text)
+}
+
+// Adds the rows that differ.
+fn add_changed_rows(alloc: Global, text: &mut Bytes, old: &Grid, g: &Grid) -> Result<(), NoMemory>
+    requires { IsSameSize old.now g.now }
+    ensures { OnOk result (text.new.bytes
+        ≡ text.old.bytes ++ changed_rows 0 old.now.cells g.now.cells) }
+{
+    g.stays_full();
+    old.stays_full();
+    for y in 0..g.size().rows {
+        if !old.is_row_same(g, y) {
+            add_row(alloc, text, g, y)?;
+        }
+    }
+    Ok(())
+}

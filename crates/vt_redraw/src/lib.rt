@@ -1,0 +1,17 @@
+//! A screen as a text that draws it again, on any screen of its size.
+#![tactic(auto)]
+
+mod cells;
+mod drawable;
+mod drawing;
+mod laws;
+mod modes;
+mod palette;
+mod pen;
+mod sequences;
+mod state;
+mod stored;
+
+pub use drawable::redrawable;
+pub use drawing::{redraw, redraw_changes};
+pub use laws::{screens_redraw, texts_follow};

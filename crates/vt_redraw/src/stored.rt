@@ -1,0 +1,82 @@
+//! What each stored screen keeps to. These calls do nothing, and are made for their clauses.
+ghost use Rattle.std.specs.Prelude.{◌≡◌, ◌<◌, ◌≤◌, All, length};
+ghost use Rattle.vt_cells.specs.Colours.{Rgb};
+ghost use Rattle.vt_redraw.specs.Redraw.{IsStored};
+
+use vt_cells::{Look, Palette};
+use vt_screen::{Emu, Stops};
+use vt_sgr::Pen;
+
+/// Each screen is stored.
+pub(crate) fn stays_stored(emu: &Emu)
+    ensures { IsStored emu.now.state }
+{
+    emu.grid().stays_full();
+    stops_stay(emu);
+    colours_stay(emu);
+    look_stays(emu);
+}
+
+fn stops_stay(emu: &Emu)
+    ensures { length emu.now.state.state.stops ≡ 255 }
+{
+    count_stays(&emu.state().stops);
+}
+
+fn colours_stay(emu: &Emu)
+    ensures many { length emu.now.state.state.palette ≡ 16 }
+    ensures parts { All (λ (rgb : Rgb). (rgb.0 < 256) × (rgb.1 < 256) × (rgb.2 < 256))
+        emu.now.state.state.palette }
+{
+    palette_stays(&emu.state().palette);
+}
+
+fn look_stays(emu: &Emu)
+    ensures underline { emu.now.state.state.pen.look.ul < 16 }
+    ensures dim { emu.now.state.state.pen.look.dim < 16 }
+{
+    pen_stays(&emu.state().pen);
+}
+
+fn count_stays(stops: &Stops)
+    ensures { length stops.now ≡ 255 }
+{
+    let _ = stops.has(0);
+}
+
+fn palette_stays(palette: &Palette)
+    ensures many { length palette.now ≡ 16 }
+    ensures parts { All (λ (rgb : Rgb). (rgb.0 < 256) × (rgb.1 < 256) × (rgb.2 < 256)) palette.now }
+{
+    parts_stay(palette.as_slice());
+}
+
+fn parts_stay(colours: &[(u8, u8, u8)])
+    ensures { All (λ (rgb : Rgb). (rgb.0 < 256) × (rgb.1 < 256) × (rgb.2 < 256)) colours.now }
+{
+    for rgb in colours {
+        byte_stays(rgb.0);
+        byte_stays(rgb.1);
+        byte_stays(rgb.2);
+    }
+}
+
+fn byte_stays(n: u8)
+    ensures { n < 256 }
+{
+    let _ = n;
+}
+
+fn pen_stays(p: &Pen)
+    ensures underline { p.now.look.ul < 16 }
+    ensures dim { p.now.look.dim < 16 }
+{
+    tints_stay(p.look);
+}
+
+fn tints_stay(look: Look)
+    ensures underline { look.ul < 16 }
+    ensures dim { look.dim < 16 }
+{
+    let _ = look;
+}
