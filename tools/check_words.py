@@ -47,11 +47,6 @@ PATTERNS = {
 LIMITS = (0, 1, 0, 0, 1, 0, 0, 0, 0)
 # Pages that aren't rewritten yet.
 OLD_PAGES = {
-    "CONTRIBUTING.md": (10, 12, 5, 4, 8, 4, 4, 24, 60),
-    "docs/ARCHITECTURE.md": (10, 20, 6, 6, 9, 6, 6, 8, 60),
-    "docs/DECISIONS.md": (50, 65, 8, 8, 8, 10, 8, 8, 180),
-    "docs/LOCK.md": (25, 15, 8, 6, 8, 6, 6, 6, 50),
-    "docs/PERFORMANCE.md": (20, 20, 20, 20, 10, 6, 8, 8, 220),
     "docs/PROMISES.md": (14, 16, 12, 12, 16, 6, 8, 8, 50),
     "docs/PROVED.md": (20, 50, 8, 16, 30, 10, 8, 10, 30),
     "docs/guide/test-a-terminal-program.md": (4, 4, 4, 4, 4, 4, 4, 8, 50),
