@@ -95,11 +95,7 @@ def definition_faults(crate, cell):
             continue
         text = path.read_text(encoding="utf-8")
         for name in NAMES.findall(names):
-<<<<<<< HEAD
             if not re.search(rf"^\s*(?:(?:abbrev|record|data|pub|inductive|opaque|unfoldable) +)+{re.escape(name)}\b", text, re.M):
-=======
-            if not re.search(rf"^\s*(?:(?:abbrev|unfoldable|record|data|pub|inductive|opaque) +)+{re.escape(name)}\b", text, re.M):
->>>>>>> 574613a3380ffab7167dbc4b64f3a8f31bf985e1
                 yield f"{file} defines no {name}"
 
 
