@@ -1,5 +1,5 @@
 #!/usr/bin/env python3
-"""Plays test files on the console of `vt`, and tells whether it shows what they want.
+"""Plays test files on the console of `vt`, and reports which assertions hold.
 
 usage: expect.py [--vt PATH] FILE.test ..
 
@@ -12,7 +12,7 @@ A file has steps and assertions, a line each, in the form of libvterm's tests; r
     ?row N = "text"         the row, without the blanks at its end
     ?screen                 the rows that follow between bars, one a line; all further rows are blank
     ?cursor = R,C
-    ?cell R,C = U+XXXX      the cell's code point; half is the right half of a wide character
+    ?cell R,C = U+41        the cell's code point; half is the right half of a wide character
     ?attr R,C = FG BG ..    colours, and bold dim italic underline blink reverse, as far as they are on
     ?output = "text"        what the console reported since the last ?output
     ?bells = N              how often the bell rang
