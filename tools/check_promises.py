@@ -183,12 +183,12 @@ def section_faults(crate, text, calls, holes):
             faults = row_faults(name, signature, cells[1:], clauses) if is_row else law_faults(name, signature)
             yield from (f"{crate}: {fault}" for fault in faults)
             if is_row and MISSING in line and f"{crate}::{name}" not in holes:
-                yield f"{crate}: {name} isn't told of under \"{HOLES[3:]}\""
+                yield f"{crate}: {name} isn't named under \"{HOLES[3:]}\""
     yield from (f"{crate}: no row of {name}" for name in calls if name not in listed)
     yield from (f"{crate}: two rows of {name}" for name in sorted(set(listed)) if listed.count(name) > 1)
     for name, (_, clauses) in calls.items():
         if not clauses and f"{crate}::{name}" not in holes:
-            yield f"{crate}: {name} has no clause, and isn't told of under \"{HOLES[3:]}\""
+            yield f"{crate}: {name} has no clause, and isn't named under \"{HOLES[3:]}\""
 
 
 def main():
