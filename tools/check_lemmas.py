@@ -5,7 +5,7 @@ usage: tools/check_lemmas.py [--list]
 
 A proof of one crate names a module of another crate's proofs by a line `use Rattle.CRATE.proofs.MODULE`, and a function
 by `CRATE::proofs::MODULE::LEMMA` in its `tactic`. The list is the table under "Lemmas that are cited across crates" in
-docs/ARCHITECTURE.md: a row has the crate that cites, the crate that is cited, and the modules of its proofs. The
+docs/contributing/architecture.md: a row has the crate that cites, the crate that is cited, and the modules of its proofs. The
 modules of std aren't listed. Prints a line for each row that is missing, for each that no file needs, and for each that
 isn't of this form; then the status is 1. `--list` prints the rows as they have to be.
 """
@@ -14,7 +14,7 @@ import re
 import sys
 
 TOP = pathlib.Path(__file__).resolve().parent.parent
-PAGE = TOP / "docs/ARCHITECTURE.md"
+PAGE = TOP / "docs/contributing/architecture.md"
 HEADING = "## Lemmas that are cited across crates"
 CITED = re.compile(r"(?:\bRattle\.|(?<!\w))(\w+)(?:\.|::)proofs((?:(?:\.|::)\w+)+)")
 ROW = re.compile(r"\| `(\w+)` \| `(\w+)` \| (`[\w.]+`(?:, `[\w.]+`)*) \|")

@@ -2,16 +2,19 @@
 """Checks the links of every Markdown page: files and headings are there, and links from README.md lead to every page.
 
 A link is `[text](target)` outside code. Its target is a path from the page's folder, a heading as `#words-of-it`, or
-both; an address with a scheme, as https:, is not looked up. Prints a line for each link that leads nowhere and for each
-page that no link leads to, and ends with status 1 if there is one.
+both; an address with a scheme, as https:, is not looked up. Each path of a page under docs/, in any file that git
+keeps (a crate's comment, a tool, a manual page), has to lead to one. Prints a line for each link or path that leads
+nowhere and for each page that no link leads to, and ends with status 1 if there is one.
 """
 import pathlib
 import re
+import subprocess
 import sys
 
 TOP = pathlib.Path(__file__).resolve().parent.parent
 LINK = re.compile(r"(?<!!)\[(?:[^\]\[`]|`[^`]*`)*\]\(([^()\s]+)\)")
 IS_ADDRESS = re.compile(r"[a-z]+:")
+PATH = re.compile(r"(?<![\w/.-])docs/[\w/-]+\.md\b")
 LEFT_OUT = ("out", ".git", "node_modules")
 
 
@@ -55,6 +58,16 @@ def faults(page):
             yield f"{place}: {link[1]}: no such heading"
 
 
+def path_faults():
+    """Gives a fault for each path of a page, in any file that git keeps, which is no page."""
+    listed = subprocess.run(["git", "ls-files", "-z"], cwd=TOP, capture_output=True, text=True, check=True).stdout
+    for name in filter(None, listed.split("\0")):
+        file = TOP / name
+        text = file.read_bytes().decode("utf-8", "replace") if file.is_file() else ""
+        for number, line in enumerate(text.splitlines(), 1):
+            yield from (f"{name}:{number}: no page {it}" for it in PATH.findall(line) if not (TOP / it).exists())
+
+
 def reached():
     """Gives the pages that links lead to from README.md."""
     found, left = set(), [TOP / "README.md"]
@@ -69,7 +82,7 @@ def reached():
 
 
 def main():
-    found = [fault for page in pages() for fault in faults(page)]
+    found = [*(fault for page in pages() for fault in faults(page)), *path_faults()]
     found += [f"{page.relative_to(TOP)}: no link from README.md leads there" for page in set(pages()) - reached()]
     for fault in found:
         print(fault)

@@ -1,11 +1,11 @@
 #!/usr/bin/env python3
 """Checks that the examples of the pages print what the pages show.
 
-In README.md and the pages of docs/ and docs/guide/ each indented line `$ COMMAND` is run from the top of the
+In README.md and the pages of docs/ each indented line `$ COMMAND` is run from the top of the
 repository, and the indented lines after it have to be what it prints; a line `..` stands for any lines. So is each
 line `$ COMMAND` of an example in man/, where `vt` is crates/vt/out/vt; the examples of a session and of a keymap there
 have to be accepted, and each command of vt(1) has an example. docs/codes.md has a row for each code of tools/why.py.
-The adapter of docs/guide/write-a-terminal.md answers a case. The lines of a journal that docs/TOUR.md quotes have to
+The adapter of docs/guide/write-a-terminal.md answers a case. The lines of a journal that docs/guide/tour.md quotes have to
 stand in examples/tour.journal, in the same order. docs/guide/test-a-terminal-program.md is run by
 tools/check_expect.py, and the programs of docs/guide/embed-a-crate.md by tools/check_snippets.py. Prints a line for
 each difference. The status is 1 if there is one, and 2 if the program isn't built.
@@ -80,7 +80,7 @@ def manual_faults(page):
 
 
 def tour_faults():
-    page, journal = TOP / "docs/TOUR.md", TOP / "examples/tour.journal"
+    page, journal = TOP / "docs/guide/tour.md", TOP / "examples/tour.journal"
     if not page.exists():
         return
     left = journal.read_text(encoding="utf-8").splitlines()
@@ -89,7 +89,7 @@ def tour_faults():
         if not quoted:
             continue
         if quoted[1] not in left:
-            yield f"TOUR.md: the journal has no line `{quoted[1]}` there"
+            yield f"tour.md: the journal has no line `{quoted[1]}` there"
         else:
             left = left[left.index(quoted[1]) + 1 :]
 
@@ -130,7 +130,7 @@ def main():
     if not PROGRAM.exists():
         print(f"{PROGRAM.relative_to(TOP)} is missing: `rt run` in crates/vt builds it (README.md, \"Install\")")
         return 2
-    pages = [TOP / "README.md", *sorted((TOP / "docs").glob("*.md")), *sorted((TOP / "docs/guide").glob("*.md"))]
+    pages = [TOP / "README.md", *sorted((TOP / "docs").rglob("*.md"))]
     pages = [page for page in pages if page.name not in RUN_ELSEWHERE]
     manuals = sorted((TOP / "man").glob("*"))
     faults = [fault for page in pages for fault in page_faults(page)]

@@ -1,5 +1,5 @@
 #!/usr/bin/env python3
-"""Checks docs/PROMISES.md against the public calls of the libraries that crates.txt lists.
+"""Checks docs/proofs/promises.md against the public calls of the libraries that crates.txt lists.
 
 A public call is a `pub fn` that a user of the crate can name, one of a public trait of this repository, or such a trait's at a
 public type. A section `### CRATE` has a line `Laws: ..`, a table, or both, and each call stands once in them. A law gives
@@ -9,7 +9,7 @@ a `Seat`, which has one); the other answers, by clauses that every call of the r
 gives an Option, a Result or a bool has; and what is lent, which is `nothing lent` exactly where nothing is lent to be changed. NoMemory has no clause; any other answer without
 one is "no clause". Every call of a cell with "no clause", and every call without an `ensures`, stands as `CRATE::CALL` under
 "What no clause says".
-docs/PROVED.md and this page each have one sentence "N calls may wait for ever: ..", up to a semicolon, with the
+docs/proofs/proved.md and this page each have one sentence "N calls may wait for ever: ..", up to a semicolon, with the
 calls whose rows say that they may.
 Prints a line for each fault, and ends with status 1 if there is one.
 """
@@ -20,14 +20,14 @@ sys.dont_write_bytecode = True
 
 from check_proved import NAMES, TOP, UNNAMED, owners  # noqa: E402: after the line that keeps tools/ clean
 
-PAGE = TOP / "docs" / "PROMISES.md"
+PAGE = TOP / "docs/proofs/promises.md"
 HOLES = "## What no clause says"
 MISSING = "no clause"
 LENT_NOTHING = "nothing lent"
 ALLOCATOR = re.compile(r"alloc: |\bSeat<")
 WAITING = re.compile(r"\b(?:Wait|Threads)\b")
 MAY_WAIT = "may"
-WAIT_LISTS = ("docs/PROVED.md", "docs/PROMISES.md")
+WAIT_LISTS = ("docs/proofs/proved.md", "docs/proofs/promises.md")
 WAIT_LIST = re.compile(r"(\w+)\s+calls\s+may\s+wait\s+for\s+ever:([^;]*);")
 COUNTS = ("No", "One", "Two", "Three", "Four", "Five", "Six", "Seven", "Eight", "Nine", "Ten", "Eleven", "Twelve")
 

@@ -1,11 +1,11 @@
 #!/usr/bin/env python3
-"""Checks that what docs/PROVED.md cites of the proofs exists.
+"""Checks that what docs/proofs/proved.md cites of the proofs exists.
 
 A section `### CRATE`, or `### TITLE: CRATE`, has tables of three columns: what holds, what carries it, and where its words
 are defined. What carries it is groups with `; ` between: calls, a colon, and clauses, of which every call of the group has
 every one as an `ensures` or a `requires` in the crate's src/ ("its clause" is an `ensures` without a name, and of
 `Type::output` the text that `Display` promises of the type); or `type` and names of types. A definition is a file of the crate's specs/, or CRATE/specs/FILE of another one, with names in parentheses that
-stand in it. Checked too: each page docs/NAME.md that a page names is there.
+stand in it.
 
 The table under `## Wrong bodies` has a row for each of the named wrong bodies, whose second column names edits, as
 CRATE/must-fail/NAME.edit, or tests: a file of a crate of tests with the test's name in parentheses, or `cases` with that of
@@ -119,12 +119,6 @@ def page_faults(page):
         yield from (f"{page.name}:{number}: {crate}: {fault}" for fault in faults)
 
 
-def missing_pages(page):
-    for name in sorted(set(re.findall(r"\bdocs/\w+\.md", page.read_text(encoding="utf-8")))):
-        if not (TOP / name).exists():
-            yield f"{page.name}: no page {name}"
-
-
 def refusal_faults(cell):
     """What is wrong with the edits and tests that a row of wrong bodies names."""
     edits = re.findall(r"`(\w+/must-fail/\w+\.edit)`", cell)
@@ -163,10 +157,8 @@ def edit_faults():
 
 
 def main():
-    pages = [TOP / "README.md", TOP / "CONTRIBUTING.md", *sorted((TOP / "docs").rglob("*.md"))]
-    faults = [fault for page in pages for fault in missing_pages(page)]
-    faults += [*page_faults(TOP / "docs/PROVED.md")]
-    faults += [*wrong_body_faults(TOP / "docs/PROVED.md"), *edit_faults()]
+    faults = [*page_faults(TOP / "docs/proofs/proved.md")]
+    faults += [*wrong_body_faults(TOP / "docs/proofs/proved.md"), *edit_faults()]
     for fault in faults:
         print(fault)
     return 1 if faults else 0

@@ -47,8 +47,8 @@ PATTERNS = {
 LIMITS = (0, 1, 0, 0, 1, 0, 0, 0, 0)
 # Pages that aren't rewritten yet.
 OLD_PAGES = {
-    "docs/PROMISES.md": (14, 16, 12, 12, 16, 6, 8, 8, 50),
-    "docs/PROVED.md": (20, 50, 8, 16, 30, 10, 8, 10, 30),
+    "docs/proofs/promises.md": (14, 16, 12, 12, 16, 6, 8, 8, 50),
+    "docs/proofs/proved.md": (20, 50, 8, 16, 30, 10, 8, 10, 30),
     "docs/guide/test-a-terminal-program.md": (4, 4, 4, 4, 4, 4, 4, 8, 50),
 }
 
