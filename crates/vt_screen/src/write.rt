@@ -1,5 +1,6 @@
-ghost use Rattle.std.specs.Prelude.{◌≡◌};
-ghost use Rattle.vt_screen.specs.Run.{after};
+//! A text of any length.
+ghost use Rattle.std.specs.Prelude.{◌≡◌, ◌≤◌, [], length, take};
+ghost use Rattle.vt_screen.specs.Run.{after, said};
 
 use crate::{Emu, Outs, any_cut};
 
@@ -16,5 +17,22 @@ impl Emu {
             let count = self.take_next(rest, &mut outs);
             rest = &rest[count..];
         }
+    }
+
+    /// Runs a text of any length on the screen until it says something beside the screen, or to its
+    /// end. The answer is how many bytes were run; what they say is then alone in `outs`.
+    pub fn write_until(&mut self, b: &[u8], outs: &mut Outs) -> usize
+        ensures within { result ≤ length b.now }
+        ensures screen { self.new ≡ after self.old (take result b.now) }
+        ensures outs { outs.new ≡ said self.old (take result b.now) }
+        ensures one { length outs.new ≤ 1 }
+        ensures all { outs.new ≡ [] → result ≡ length b.now }
+    {
+        outs.clear();
+        let mut at = 0;
+        while at < b.len() && outs.as_slice().len() == 0 {
+            at += self.take_front(&b[at..], outs);
+        }
+        at
     }
 }
