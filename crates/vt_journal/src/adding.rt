@@ -51,6 +51,7 @@ pub fn add(alloc: Global, text: &mut Bytes, b: &[u8]) -> Result<(), NoMemory>
 pub fn add_number(alloc: Global, text: &mut Bytes, n: u64) -> Result<(), NoMemory>
     ensures ok { OnOk result (text.new.bytes ≡ text.old.bytes ++ decimal n) }
     ensures err { OnErr result (text.new.bytes ≡ text.old.bytes) }
+    ensures room { OnErr result (text.new.room ≡ text.old.room) }
 {
     let mut buffer = Buffer::new();
     add(alloc, text, buffer.format(n).as_bytes())

@@ -31,7 +31,7 @@ pub fn are_numbered(entries: &[Entry]) -> bool
     true
 }
 
-/// Adds the word of the caller.
+/// Adds the word of the caller, in that version.
 pub fn add_caller(
     alloc: Global,
     text: &mut Bytes,
@@ -40,6 +40,7 @@ pub fn add_caller(
 ) -> Result<(), NoMemory>
     ensures ok { OnOk result (text.new.bytes ≡ text.old.bytes ++ caller_word version caller) }
     ensures err { OnErr result (text.new.bytes ≡ text.old.bytes) }
+    ensures room { OnErr result (text.new.room ≡ text.old.room) }
     ensures known { caller < callers }
 {
     let n = caller.get();
@@ -56,6 +57,7 @@ pub fn add_caller(
 fn add_lettered(alloc: Global, text: &mut Bytes, letter: u8, n: u16) -> Result<(), NoMemory>
     ensures ok { OnOk result (text.new.bytes ≡ text.old.bytes ++ letter ∷ decimal n) }
     ensures err { OnErr result (text.new.bytes ≡ text.old.bytes) }
+    ensures room { OnErr result (text.new.room ≡ text.old.room) }
 {
     if n < 10 {
         return add(alloc, text, &[letter, b'0' + n as u8]);
@@ -75,6 +77,7 @@ fn add_lettered(alloc: Global, text: &mut Bytes, letter: u8, n: u16) -> Result<(
 fn add_lettered_long(alloc: Global, text: &mut Bytes, letter: u8, n: u16) -> Result<(), NoMemory>
     ensures ok { OnOk result (text.new.bytes ≡ text.old.bytes ++ letter ∷ decimal n) }
     ensures err { OnErr result (text.new.bytes ≡ text.old.bytes) }
+    ensures room { OnErr result (text.new.room ≡ text.old.room) }
 {
     let mut buffer = Buffer::new();
     let digits = buffer.format(n).as_bytes();

@@ -35,7 +35,7 @@ mod tail_lines;
 mod words;
 
 pub use adding::{add, add_next};
-pub use callers::are_numbered;
+pub use callers::{add_caller, are_numbered};
 pub use cut::{Cut, cut_line};
 pub use entries::Entries;
 pub use first::version_of;
@@ -49,7 +49,7 @@ pub use limits::Limits;
 pub use log::Log;
 pub use numbers::take_number;
 pub use parsing::parse;
-pub use printing::print;
+pub use printing::{add_event, add_reply, print};
 pub use reading::read_event;
 pub use same::{same_event, same_reply};
 pub use tail::Tail;

@@ -133,8 +133,8 @@ fn add_tail(alloc: Global, text: &mut Bytes, end: &Tail) -> Result<(), NoMemory>
     }
 }
 
-// The words of a call, each behind a blank.
-fn add_event(alloc: Global, text: &mut Bytes, e: &Event) -> Result<(), NoMemory>
+/// Adds the words of a call, each behind a blank. What is added is fit to be read again.
+pub fn add_event(alloc: Global, text: &mut Bytes, e: &Event) -> Result<(), NoMemory>
     ensures ok { OnOk result (text.new.bytes ≡ text.old.bytes ++ spaced (event_words e.now)) }
     ensures kept { Begins text.old.bytes text.new.bytes }
     ensures fit { OnOk result (IsFit (plain_event e.now)) }
@@ -158,8 +158,8 @@ fn add_held(alloc: Global, text: &mut Bytes, held: Option<&[u8]>) -> Result<(), 
     }
 }
 
-// The words of an answer, each behind a blank.
-fn add_reply(alloc: Global, text: &mut Bytes, r: &Reply) -> Result<(), NoMemory>
+/// Adds the words of an answer, each behind a blank. What is added is fit to be read again.
+pub fn add_reply(alloc: Global, text: &mut Bytes, r: &Reply) -> Result<(), NoMemory>
     ensures ok { OnOk result (text.new.bytes ≡ text.old.bytes ++ spaced (reply_words r.now)) }
     ensures kept { Begins text.old.bytes text.new.bytes }
     ensures fit { OnOk result (IsFitReply (plain_reply r.now)) }

@@ -57,6 +57,14 @@ impl Procs {
         waited_of(&self.callers[usize::from(p.get())].waiting)
     }
 
+    /// What stands of the wait of `p`: none, open and for what, or how it ended.
+    pub fn wait_of(&self, p: CallerNo) -> Waiting
+        ensures { result ≡ (caller_at self.now p).waiting }
+    {
+        let caller = &self.callers[usize::from(p.get())];
+        caller.waiting
+    }
+
     /// Tells `p` of its ticket, which is gone then unless it is open.
     pub fn collect(&mut self, p: CallerNo) -> Waited
         requires { is_live self.old p ≡ true }

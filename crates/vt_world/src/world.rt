@@ -1,6 +1,6 @@
 ghost use Rattle.std.specs.Prelude.{◌≡◌, ◌≤◌, IfOk, is_some, length, option_copied};
-ghost use Rattle.vt_procs.specs.Callers.{IsFitCount, console_of};
-ghost use Rattle.vt_switch.specs.Display.{is_allocated};
+ghost use Rattle.vt_procs.specs.Callers.{IsFitCount, caller_at, console_of};
+ghost use Rattle.vt_switch.specs.Display.{console, is_allocated, owner_of};
 ghost use Rattle.vt_switch.specs.Law.{OwnersLive};
 ghost use Rattle.vt_base.specs.ConsoleSet.{IsFitSet};
 ghost use Rattle.vt_world.specs.Inputs.{input_at};
@@ -18,7 +18,7 @@ use std::alloc::Global;
 use std::marker::Model;
 use vt_base::{CallerNo, ConsoleNo, NoMemory, Size};
 use vt_grid::Grid;
-use vt_procs::{Config, Procs, Waited};
+use vt_procs::{Config, Procs, Waited, Waiting};
 use vt_screen::Emu;
 use vt_switch::{Mark, Switch};
 
@@ -161,5 +161,26 @@ impl World {
         ensures { result ≡ is_waiting self.now p }
     {
         self.procs.ticket(p) == Waited::Still
+    }
+
+    /// What stands of the caller's wait: none, open and for what, or how it ended.
+    pub fn wait_of(&self, p: CallerNo) -> Waiting
+        ensures { result ≡ (caller_at self.now.callers p).waiting }
+    {
+        self.procs.wait_of(p)
+    }
+
+    /// The console that waits for the display.
+    pub fn pending_console(&self) -> Option<ConsoleNo>
+        ensures { result ≡ self.now.display.pending }
+    {
+        self.switch.pending()
+    }
+
+    /// The process that handles the switches of the console.
+    pub fn owner(&self, c: ConsoleNo) -> Option<CallerNo>
+        ensures { result ≡ owner_of (console self.now.display c).handling }
+    {
+        self.switch.owner(c)
     }
 }
