@@ -13,7 +13,7 @@ mod streams;
 use answers::add_answer;
 use case::Case;
 use std::io;
-use std::io::{BufRead, BufReader, ErrorKind, Write};
+use std::io::{BufRead, BufReader, Write};
 
 fn main(rt: HostRuntime) -> io::Result<()> {
     let alloc = rt.alloc();
@@ -21,9 +21,7 @@ fn main(rt: HostRuntime) -> io::Result<()> {
     let mut text = Vec::new(alloc);
     for line in BufReader::new(alloc, rt.reader())?.lines(alloc) {
         text.clear();
-        if add_answer(alloc, &mut case, line?.as_str(), &mut text).is_err() {
-            return Err(io::Error::from(ErrorKind::OutOfMemory));
-        }
+        add_answer(alloc, &mut case, line?.as_str(), &mut text)?;
         io::writer(&rt).write_all(text.as_slice())?;
     }
     Ok(())

@@ -15,7 +15,7 @@ use opening::started;
 use sharing::shared;
 use std::alloc::Global;
 use std::io;
-use std::io::{ErrorKind, Read, Write};
+use std::io::{Read, Write};
 use std::sync::Wait;
 use std::thread::Threads;
 use telling::told;
@@ -25,10 +25,8 @@ fn main(rt: HostRuntime) -> io::Result<()> {
     let alloc = rt.alloc();
     let mut text = Vec::new(alloc);
     rt.reader().read_to_end(&mut text)?;
-    match lines_of(&rt, alloc, text.as_slice()) {
-        Ok(lines) => io::writer(&rt).write_all(lines.as_slice()),
-        Err(NoMemory) => Err(io::Error::from(ErrorKind::OutOfMemory)),
-    }
+    let lines = lines_of(&rt, alloc, text.as_slice())?;
+    io::writer(&rt).write_all(lines.as_slice())
 }
 
 fn lines_of<R: Threads + Wait + Sync>(

@@ -9,7 +9,7 @@ mod typing;
 use keymap::{Keymap, compiled};
 use std::alloc::Global;
 use std::io;
-use std::io::{ErrorKind, Read, Write};
+use std::io::{Read, Write};
 use telling::add_refusal;
 use typing::add_typed;
 use vt_base::{Bytes, NoMemory};
@@ -18,10 +18,8 @@ fn main(rt: HostRuntime) -> io::Result<()> {
     let alloc = rt.alloc();
     let mut text = Vec::new(alloc);
     rt.reader().read_to_end(&mut text)?;
-    match typed(alloc, text.as_slice()) {
-        Ok(lines) => io::writer(&rt).write_all(lines.as_slice()),
-        Err(NoMemory) => Err(io::Error::from(ErrorKind::OutOfMemory)),
-    }
+    let lines = typed(alloc, text.as_slice())?;
+    io::writer(&rt).write_all(lines.as_slice())
 }
 
 // A line for each scan byte, or the fault of the keymap.

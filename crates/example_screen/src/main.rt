@@ -7,14 +7,12 @@ mod telling;
 
 use drawing::drawn;
 use std::io;
-use std::io::{ErrorKind, Read, Write};
+use std::io::{Read, Write};
 
 fn main(rt: HostRuntime) -> io::Result<()> {
     let alloc = rt.alloc();
     let mut text = Vec::new(alloc);
     rt.reader().read_to_end(&mut text)?;
-    match drawn(alloc, text.as_slice()) {
-        Ok(lines) => io::writer(&rt).write_all(lines.as_slice()),
-        Err(_) => Err(io::Error::from(ErrorKind::OutOfMemory)),
-    }
+    let lines = drawn(alloc, text.as_slice())?;
+    io::writer(&rt).write_all(lines.as_slice())
 }

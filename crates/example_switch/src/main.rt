@@ -9,15 +9,12 @@ mod telling;
 
 use asking::ask_for_each;
 use std::io;
-use std::io::{ErrorKind, Read, Write};
-use vt_base::NoMemory;
+use std::io::{Read, Write};
 
 fn main(rt: HostRuntime) -> io::Result<()> {
     let alloc = rt.alloc();
     let mut text = Vec::new(alloc);
     rt.reader().read_to_end(&mut text)?;
-    match ask_for_each(alloc, text.as_slice()) {
-        Ok(lines) => io::writer(&rt).write_all(lines.as_slice()),
-        Err(NoMemory) => Err(io::Error::from(ErrorKind::OutOfMemory)),
-    }
+    let lines = ask_for_each(alloc, text.as_slice())?;
+    io::writer(&rt).write_all(lines.as_slice())
 }

@@ -1,8 +1,11 @@
-ghost use Rattle.std.specs.Prelude.{Some, codes};
+ghost use Rattle.std.specs.Prelude.{◌≡◌, Some, codes};
+ghost use Rattle.std.specs.IoError.{error_kind};
+ghost use Rattle.std.specs.declared.io.ErrorKind.TheVariants.{OutOfMemory};
 
 use std::alloc::{AllocError, AllocFailed};
 use std::error::Error;
-use std::fmt;
+use std::io::ErrorKind;
+use std::{fmt, io};
 
 /// Memory ran out. Only a call that takes the allocator answers so.
 #[derive(Clone, Copy, Debug, PartialEq, Eq)]
@@ -27,5 +30,14 @@ impl From<AllocError> for NoMemory {
 impl<T: Drop> From<AllocFailed<T>> for NoMemory {
     fn from(_error: AllocFailed<T>) -> NoMemory {
         NoMemory
+    }
+}
+
+/// So that `?` works in a `main` that gives an `io::Result`.
+impl From<NoMemory> for io::Error {
+    ghost from_gives = { λ _ e. error_kind e ≡ OutOfMemory };
+
+    fn from(_error: NoMemory) -> io::Error {
+        io::Error::from(ErrorKind::OutOfMemory)
     }
 }
