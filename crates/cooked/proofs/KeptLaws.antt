@@ -2,7 +2,7 @@
 use Rattle.std.proofs.Common.{◌≡◌, ◌≢◌, ◌⊎◌, ⊎_elim, inl, inr, ℕ, zero, suc, ◌<◌, Bool, true, false, cond, ◌==◌, not, List, [], ◌∷◌, ◌++◌, refl, sym, ap, ◌∙◌, subst, append_assoc}
 use Rattle.std.proofs.lemmas.Bool.{cases_Bool, cases_eq, cond-true, cond-false, eq-eqb, ne_eqb}
 use Rattle.cooked.specs.Cooked.{ends_open}
-use Rattle.cooked.specs.Kept.{Reading, but_last, is_erase, read, read_all, read_data}
+use Rattle.cooked.specs.KeptText.{Reading, but_last, is_erase, read_character, read_all, read_data}
 use Rattle.vt_chars.specs.Characters.{AsciiCuts, ByteMore, characters, is_part, with_byte}
 
 -- the characters that are kept
@@ -61,17 +61,17 @@ less-data c kr ks dr (suc ds) less = ⊎_elim
     ))
     less
 
-less-more : (e : ℕ) (c : List ℕ) (r s : Reading) → Less r s → Less (read e c r) (read e c s)
+less-more : (e : ℕ) (c : List ℕ) (r s : Reading) → Less r s → Less (read_character e c r) (read_character e c s)
 less-more e c r s less = ⊎_elim
     (λ (is : is_erase e c ≡ true).
-    subst (λ q. Less q (read e c s)) (sym (cond-true _ _ _ is))
+    subst (λ q. Less q (read_character e c s)) (sym (cond-true _ _ _ is))
     (subst (λ q. Less (record { kept = r.kept; debt = suc r.debt }) q) (sym (cond-true _ _ _ is))
     (⊎_elim
     (λ none. inl (none.0, none.1, ap suc none.2))
     (λ some. inr (some.0, some.1, ap suc some.2))
     less)))
     (λ (other : is_erase e c ≡ false).
-    subst (λ q. Less q (read e c s)) (sym (cond-false _ _ _ other))
+    subst (λ q. Less q (read_character e c s)) (sym (cond-false _ _ _ other))
     (subst (λ q. Less (read_data c r.kept r.debt) q) (sym (cond-false _ _ _ other))
     (less-data c r.kept s.kept r.debt s.debt less)))
     (cases_Bool (is_erase e c))
@@ -98,8 +98,8 @@ data-passes : (c d : List ℕ) (kept : List (List ℕ)) (debt : ℕ)
 data-passes c d kept zero = refl
 data-passes c d kept (suc debt) = refl
 
-read-passes : (e : ℕ) (c d : List ℕ) (r : Reading) → read e c (with_kept r d) ≡ with_kept (read e c r) d
-read-passes e c d r = by_test (is_erase e c)
+read_character-passes : (e : ℕ) (c d : List ℕ) (r : Reading) → read_character e c (with_kept r d) ≡ with_kept (read_character e c r) d
+read_character-passes e c d r = by_test (is_erase e c)
   where
     by_test : (test : Bool)
         → cond test (record { kept = r.kept ++ d ∷ []; debt = suc r.debt }) (read_data c (r.kept ++ d ∷ []) r.debt)
@@ -111,7 +111,7 @@ data-more : (e : ℕ) (cs : List (List ℕ)) (d : List ℕ) → is_erase e d ≡
     → read_all e (cs ++ d ∷ []) ≡ with_kept (read_all e cs) d
 data-more e [] d other = cond-false _ _ _ other
 data-more e (c ∷ cs) d other =
-    ap (read e c) (data-more e cs d other) ∙ read-passes e c d (read_all e cs)
+    ap (read_character e c) (data-more e cs d other) ∙ read_character-passes e c d (read_all e cs)
 
 kept-more : (e : ℕ) (cs : List (List ℕ)) (d : List ℕ) → is_erase e d ≡ false
     → kept_by e (cs ++ d ∷ []) ≡ kept_by e cs ++ d ∷ []

@@ -4,7 +4,7 @@ use Rattle.std.proofs.lemmas.Bool.{and_parts, cases_Bool, cond-true, cond-false,
 use Rattle.std.proofs.lemmas.Bool.Decides.{nat_tests}
 use Rattle.std.specs.List.{list_all}
 use Rattle.cooked.specs.Kinds.{kind, kind_of}
-use Rattle.cooked.specs.Termios.{IsValid, all_differ, heard, may_be_named, named_bytes}
+use Rattle.cooked.specs.Termios.{IsValid, all_differ, mapped_byte, may_be_named, named_bytes}
 use Rattle.cooked.specs.declared.kind.Kind.{Kind}
 use Rattle.cooked.specs.declared.kind.Kind.TheVariants.{Interrupt, Quit, Kill, Erase, Eof, End, Data}
 use Rattle.cooked.specs.declared.termios.Termios.{Termios}
@@ -61,18 +61,18 @@ by-chain : (t : Termios) (b : ℕ)
 unfolding chain
 by-chain t b = refl
 
-heard-feed : (t : Termios) (b : ℕ) → (t.icrnl && b == 0x0D) ≡ true → (heard t b ≡ 0x0A) × (b ≡ 0x0D)
-heard-feed t b is = (cond-true _ _ _ is, eqb-true b 0x0D (and_parts t.icrnl (b == 0x0D) is).1)
+mapped_byte-feed : (t : Termios) (b : ℕ) → (t.icrnl && b == 0x0D) ≡ true → (mapped_byte t b ≡ 0x0A) × (b ≡ 0x0D)
+mapped_byte-feed t b is = (cond-true _ _ _ is, eqb-true b 0x0D (and_parts t.icrnl (b == 0x0D) is).1)
 
 -- an erase is the erase byte as it was typed
 pub erase-is : (t : Termios) (b : ℕ) → IsValid t → kind t b ≡ Erase → b ≡ t.erase
 erase-is t b valid is =
     let e = erase-byte t valid in
-    let counts : heard t b ≡ t.erase =
-    eqb-true (heard t b) t.erase (erase-in _ _ _ _ (heard t b == t.erase) _ _ (sym (by-chain t (heard t b)) ∙ is)) in
+    let counts : mapped_byte t b ≡ t.erase =
+    eqb-true (mapped_byte t b) t.erase (erase-in _ _ _ _ (mapped_byte t b == t.erase) _ _ (sym (by-chain t (mapped_byte t b)) ∙ is)) in
     ⊎_elim
     (λ (feed : (t.icrnl && b == 0x0D) ≡ true).
-    absurd (e.no_feed (sym counts ∙ (heard-feed t b feed).0)))
+    absurd (e.no_feed (sym counts ∙ (mapped_byte-feed t b feed).0)))
     (λ (other : (t.icrnl && b == 0x0D) ≡ false). sym (cond-false _ _ _ other) ∙ counts)
     (cases_Bool (t.icrnl && b == 0x0D))
 
@@ -80,13 +80,13 @@ erase-is t b valid is =
 pub data-differs : (t : Termios) (b : ℕ) → IsValid t → t.icanon ≡ true → kind t b ≡ Data → b ≢ t.erase
 data-differs t b valid canonical is same =
     let e = erase-byte t valid in
-    let counts : (heard t b == t.erase) ≡ false =
-    data-in _ _ (not t.icanon) _ (heard t b == t.erase) _ _ (ap not canonical) (sym (by-chain t (heard t b)) ∙ is) in
+    let counts : (mapped_byte t b == t.erase) ≡ false =
+    data-in _ _ (not t.icanon) _ (mapped_byte t b == t.erase) _ _ (ap not canonical) (sym (by-chain t (mapped_byte t b)) ∙ is) in
     ⊎_elim
     (λ (feed : (t.icrnl && b == 0x0D) ≡ true).
-    e.no_return (sym same ∙ (heard-feed t b feed).1))
+    e.no_return (sym same ∙ (mapped_byte-feed t b feed).1))
     (λ (other : (t.icrnl && b == 0x0D) ≡ false).
-    false≢true (sym counts ∙ eq-eqb (heard t b) t.erase (cond-false _ _ _ other ∙ same)))
+    false≢true (sym counts ∙ eq-eqb (mapped_byte t b) t.erase (cond-false _ _ _ other ∙ same)))
     (cases_Bool (t.icrnl && b == 0x0D))
 
 canonical-in : (i q r k e f n : Bool) → chain i q r k e f n ≡ Erase → r ≡ false
@@ -100,4 +100,4 @@ canonical-in false false true k e f n is = absurd (let wrong : ⊥ = cc in wrong
 pub erase-canonical : (t : Termios) (b : ℕ) → kind t b ≡ Erase → t.icanon ≡ true
 erase-canonical t b is =
     not-false t.icanon
-    (canonical-in _ _ (not t.icanon) _ _ _ _ (sym (by-chain t (heard t b)) ∙ is))
+    (canonical-in _ _ (not t.icanon) _ _ _ _ (sym (by-chain t (mapped_byte t b)) ∙ is))

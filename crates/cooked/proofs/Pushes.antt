@@ -2,9 +2,9 @@
 use Rattle.std.proofs.Common.{◌≡◌, ℕ, Bool, true, false, cond, List, [], ◌∷◌, ◌++◌, take, refl, sym, ap, ◌∙◌, append_assoc}
 use Rattle.std.proofs.lemmas.List.{append-nil}
 use Rattle.cooked.proofs.FreshLaws.{fresh-more}
-use Rattle.cooked.specs.Echo.{echoed}
+use Rattle.cooked.specs.Echo.{echo_of}
 use Rattle.cooked.specs.Fresh.{after_last, ends, fresh, most}
-use Rattle.cooked.specs.Given.{given}
+use Rattle.cooked.specs.Given.{items_after}
 use Rattle.cooked.specs.Laws.{ListIsItsPushes, OneMore, Pushed, nothing_pushed, push, pushes}
 use Rattle.cooked.specs.Whole.{all_echo, all_items, each}
 use Rattle.cooked.specs.declared.termios.Termios.{Termios}
@@ -22,8 +22,8 @@ each-more f before (x ∷ xs) b =
 pub one-more : OneMore
 one-more t bytes b = record {
   left = fresh-more t bytes b;
-  items = each-more (λ before b. given t (fresh t before) b) [] bytes b;
-  echo = each-more (λ before b. echoed t (fresh t before) b) [] bytes b;
+  items = each-more (λ before b. items_after t (fresh t before) b) [] bytes b;
+  echo = each-more (λ before b. echo_of t (fresh t before) b) [] bytes b;
 }
 
 -- what stands after all the bytes

@@ -15,13 +15,13 @@ use Rattle.vt_events.specs.declared.event.Event.{Event}
 use Rattle.vt_events.specs.declared.event.Event.TheVariants as event
 use Rattle.vt_events.specs.declared.reply.Reply.{Reply}
 use Rattle.vt_events.specs.declared.reply.Reply.TheVariants as reply
-use Rattle.vt_world.specs.Heard.{cleared}
+use Rattle.vt_world.specs.Heard.{without_marks}
 use Rattle.vt_world.specs.History.{IsLegal, replay}
 use Rattle.vt_world.specs.Inputs.{input_at}
 use Rattle.vt_world.specs.Refusals.{Refusal, common_refusals, first_refusal, is_empty, needs_open, needs_sense, own_refusals, refusal, target, transfer_limit}
 use Rattle.vt_world.specs.Rows.{row}
 use Rattle.vt_world.specs.State.{WorldState}
-use Rattle.vt_world.specs.Step.{answered, effect_after, effect_of, step}
+use Rattle.vt_world.specs.Step.{outcome_of_row, row_result_after, row_result, step}
 use Rattle.cooked.specs.Turn.{ReadAnswer, WriteAnswer}
 
 -- where nothing refuses, the first of some refusals doesn't
@@ -41,40 +41,40 @@ front-answer most queue some bytes =
     (omega (arith, long), omega (arith, long))
 
 pub read-answer : (w : WorldState) (p fd most : ℕ) → ReadAnswer most (step w p (event.ReadIn fd most)).reply
-read-answer w p fd most = by_common (first_refusal (common_refusals (cleared w) p (event.ReadIn fd most)))
+read-answer w p fd most = by_common (first_refusal (common_refusals (without_marks w) p (event.ReadIn fd most)))
   where
-    by_own : (o : Option Errno) → first_refusal (own_refusals (cleared w) p (event.ReadIn fd most)) ≡ o
-        → ReadAnswer most (answered (effect_of (cleared w) o (row (cleared w) p (event.ReadIn fd most)))).reply
+    by_own : (o : Option Errno) → first_refusal (own_refusals (without_marks w) p (event.ReadIn fd most)) ≡ o
+        → ReadAnswer most (outcome_of_row (row_result (without_marks w) o (row (without_marks w) p (event.ReadIn fd most)))).reply
     by_own (Some errno) is = tt
     by_own None is =
-        let here : WorldState = cleared w in
+        let here : WorldState = without_marks w in
         let makes_sense : Bool = nat_le 1 most && nat_le most transfer_limit in
         let empty : Refusal = refusal (is_empty here (target here p fd)) Again in
         let open_fd = none-first (needs_open here p fd) (needs_sense makes_sense ∷ empty ∷ []) is in
         let sense = none-first (needs_sense makes_sense) (empty ∷ []) open_fd.1 in
         let some = none-first empty [] sense.1 in
-        let queue : List ℕ = (input_at (cleared w).inputs (target (cleared w) p fd)).queue.bytes in
+        let queue : List ℕ = (input_at (without_marks w).inputs (target (without_marks w) p fd)).queue.bytes in
         let least : 1 ≤ most = leb-true 1 most (and_parts (nat_le 1 most) (nat_le most transfer_limit) (not-false makes_sense sense.0)).0 in
         let filled : length queue ≡ 0 → ⊥ = eqb-false (length queue) 0 some.0 in
         front-answer most queue least (omega (arith, filled))
 
     by_common : (o : Option Errno)
-        → ReadAnswer most (answered (effect_after (cleared w) p (event.ReadIn fd most) o)).reply
+        → ReadAnswer most (outcome_of_row (row_result_after (without_marks w) p (event.ReadIn fd most) o)).reply
     by_common (Some errno) = tt
-    by_common None = by_own (first_refusal (own_refusals (cleared w) p (event.ReadIn fd most))) refl
+    by_common None = by_own (first_refusal (own_refusals (without_marks w) p (event.ReadIn fd most))) refl
 
 pub write-answer : (w : WorldState) (p fd : ℕ) (b : Text) → WriteAnswer (step w p (event.Write fd b)).reply
-write-answer w p fd b = by_common (first_refusal (common_refusals (cleared w) p (event.Write fd b)))
+write-answer w p fd b = by_common (first_refusal (common_refusals (without_marks w) p (event.Write fd b)))
   where
     by_own : (o : Option Errno)
-        → WriteAnswer (answered (effect_of (cleared w) o (row (cleared w) p (event.Write fd b)))).reply
+        → WriteAnswer (outcome_of_row (row_result (without_marks w) o (row (without_marks w) p (event.Write fd b)))).reply
     by_own (Some errno) = tt
     by_own None = tt
 
     by_common : (o : Option Errno)
-        → WriteAnswer (answered (effect_after (cleared w) p (event.Write fd b) o)).reply
+        → WriteAnswer (outcome_of_row (row_result_after (without_marks w) p (event.Write fd b) o)).reply
     by_common (Some errno) = tt
-    by_common None = by_own (first_refusal (own_refusals (cleared w) p (event.Write fd b)))
+    by_common None = by_own (first_refusal (own_refusals (without_marks w) p (event.Write fd b)))
 
 -- the last entry of a legal history has the answer of the console
 last-answer : (P : Reply → Type 0) (start : WorldState) (before : List Entry) (entry : Entry) (e : Event)

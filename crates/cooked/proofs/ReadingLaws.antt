@@ -3,9 +3,9 @@ use Rattle.std.proofs.Common.{◌≡◌, ⊎_elim, ℕ, List, [], ◌∷◌, ◌
 use Rattle.std.proofs.lemmas.List.{append-nil}
 use Rattle.std.specs.Prelude.{Option}
 use Rattle.cooked.proofs.Pushes.{fresh-none, one-more}
-use Rattle.cooked.specs.Cooked.{Typing, typing}
+use Rattle.cooked.specs.Cooked.{Typing, make_typing}
 use Rattle.cooked.specs.Fresh.{fresh}
-use Rattle.cooked.specs.Given.{Item, given, items_of}
+use Rattle.cooked.specs.Given.{Item, items_after, items_of}
 use Rattle.cooked.specs.Reading.{Lead, Made, TurnsRead, bytes_read, items_given, read_by}
 use Rattle.cooked.specs.Turn.{Echoes, MetFull, ReadsOne, Refused, Turns, Typed, Untyped, Wrote}
 use Rattle.cooked.specs.Whole.{all_items}
@@ -111,8 +111,8 @@ typed-adds fd t before old new turn made at typed =
       items =
           more.items
           ∙ ap (λ is. all_items t before ++ is)
-          (ap (λ f. given t f b) (sym at.fresh)
-          ∙ ap (λ x. given x old.fresh b) (sym at.termios)
+          (ap (λ f. items_after t f b) (sym at.fresh)
+          ∙ ap (λ x. items_after x old.fresh b) (sym at.termios)
           ∙ sym typed.gave);
     })
 
@@ -183,7 +183,7 @@ come-on start t before v p (s ∷ more) w q at lead =
 
 pub turns-read : TurnsRead
 turns-read start t p turns w q lead =
-    let came = come-on start t [] (typing t [] []) p turns w q (record { termios = refl; fresh = sym (fresh-none t) }) lead in
+    let came = come-on start t [] (make_typing t [] []) p turns w q (record { termios = refl; fresh = sym (fresh-none t) }) lead in
     record {
       made = came.made;
       mine = came.mine;

@@ -3,7 +3,7 @@ use Rattle.std.proofs.Common.{◌≡◌, ℕ, suc, ◌+◌, ◌-◌, ◌≤◌, 
 use Rattle.std.proofs.lemmas.List.{drop-append-le, length-drop, length-take, take_all, take-append-le, take-append-drop}
 use Rattle.std.proofs.Math.Seq.{drop-append_seam, take-append_seam}
 use Rattle.std.specs.List.{concat}
-use Rattle.cooked.specs.Kept.{but_last, last_of}
+use Rattle.cooked.specs.KeptText.{but_last, last_of}
 use Rattle.cooked.specs.Sizes.{IsLastSize, parts, total, with_joined}
 
 pub total-more : (sizes : List ℕ) (n : ℕ) → total (sizes ++ n ∷ []) ≡ total sizes + n

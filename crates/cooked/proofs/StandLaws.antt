@@ -7,12 +7,12 @@ use Rattle.std.specs.List.{concat}
 use Rattle.cooked.proofs.FreshLaws.{fresh-added, fresh-ended}
 use Rattle.cooked.proofs.KeptLaws.{kept-data, kept-erase, with_data}
 use Rattle.cooked.proofs.KindLaws.{data-differs, erase-byte, erase-is}
-use Rattle.cooked.specs.Cooked.{Stands, Typing, ends_open, typing}
+use Rattle.cooked.specs.Cooked.{Stands, Typing, ends_open, make_typing}
 use Rattle.cooked.specs.Fresh.{fresh}
-use Rattle.cooked.specs.Kept.{but_last, kept, last_of}
+use Rattle.cooked.specs.KeptText.{but_last, kept_characters, last_of}
 use Rattle.cooked.specs.Kinds.{ends_line, kind, kind_of}
 use Rattle.cooked.specs.Sizes.{with_joined, with_put}
-use Rattle.cooked.specs.Termios.{heard}
+use Rattle.cooked.specs.Termios.{mapped_byte}
 use Rattle.cooked.specs.declared.kind.Kind.{Kind}
 use Rattle.cooked.specs.declared.kind.Kind.TheVariants.{Erase, Data}
 use Rattle.cooked.specs.declared.termios.Termios.{Termios}
@@ -98,13 +98,13 @@ module _ (t : Termios) (typed later : Text) (held : List (List ℕ)) (line : Tex
       (omega (arith, stands.typed_room, room))
 
   -- what is held stands for it, where it is what is kept
-  later-stands : (now : List (List ℕ)) → now ≡ kept t (typed.bytes ++ b ∷ [])
+  later-stands : (now : List (List ℕ)) → now ≡ kept_characters t (typed.bytes ++ b ∷ [])
       → length (concat now) ≤ length typed.bytes + 1 → length now ≤ length typed.bytes + 1
       → Stands t later now line
   later-stands now is few fewer = record {
     valid = stands.valid;
     stays = subst (λ bs. fresh t bs ≡ bs) (sym bytes) fresh-later;
-    held_are = is ∙ ap (kept t) (sym bytes);
+    held_are = is ∙ ap (kept_characters t) (sym bytes);
     bytes = omega (arith, few, one-more);
     characters = omega (arith, fewer, one-more);
     typed_room = omega (arith, stands.typed_room, room, one-more);
@@ -112,17 +112,17 @@ module _ (t : Termios) (typed later : Text) (held : List (List ℕ)) (line : Tex
   }
 
   pub put-stands : ByteMore → AsciiCuts → kind t b ≡ Data → (joins : Bool)
-      → joins ≡ (ends_open t.erase typed.bytes && is_part (last_of (kept t typed.bytes) ++ b ∷ []))
+      → joins ≡ (ends_open t.erase typed.bytes && is_part (last_of (kept_characters t typed.bytes) ++ b ∷ []))
       → Stands t later (with_put joins held b) line
   put-stands byte_more ascii_cuts is joins test =
       later-stands (with_put joins held b)
       (ap (λ j. with_put j held b) test
-      ∙ ap (λ cs. with_put (ends_open t.erase typed.bytes && is_part (last_of (kept t typed.bytes) ++ b ∷ [])) cs b) stands.held_are
+      ∙ ap (λ cs. with_put (ends_open t.erase typed.bytes && is_part (last_of (kept_characters t typed.bytes) ++ b ∷ [])) cs b) stands.held_are
       ∙ sym
       (kept-data ascii_cuts byte_more t.erase typed.bytes b
       (erase-byte t stands.valid).low
       (data-differs t b stands.valid canonical is)
-      ∙ with-data-is (ends_open t.erase typed.bytes) (kept t typed.bytes) b))
+      ∙ with-data-is (ends_open t.erase typed.bytes) (kept_characters t typed.bytes) b))
       (omega (arith, ap length (put-bytes joins held b), length-append (concat held) (b ∷ []), stands.bytes))
       (omega (arith, put-count joins held b, stands.characters))
 
@@ -132,7 +132,7 @@ module _ (t : Termios) (typed later : Text) (held : List (List ℕ)) (line : Tex
       later-stands (but_last held)
       (ap but_last stands.held_are
       ∙ sym (kept-erase ascii_cuts t.erase typed.bytes (erase-byte t stands.valid).low)
-      ∙ ap (λ x. kept t (typed.bytes ++ x ∷ [])) (sym byte))
+      ∙ ap (λ x. kept_characters t (typed.bytes ++ x ∷ [])) (sym byte))
       (omega (arith, but-last-bytes held, stands.bytes))
       (omega (arith, but-last-count held, stands.characters))
 
@@ -150,8 +150,8 @@ with-line t typed held line later stands room = record {
 }
 
 -- a byte that ends what was typed, by its kind as it was found
-pub pushed-ended : (t : Termios) (f line : List ℕ) (v : Typing) (b h : ℕ) (k : Kind) → typing t f line ≡ v
-    → h ≡ heard t b → k ≡ kind_of t h → ends_line k ≡ true → fresh v.termios (v.fresh ++ b ∷ []) ≡ []
+pub pushed-ended : (t : Termios) (f line : List ℕ) (v : Typing) (b h : ℕ) (k : Kind) → make_typing t f line ≡ v
+    → h ≡ mapped_byte t b → k ≡ kind_of t h → ends_line k ≡ true → fresh v.termios (v.fresh ++ b ∷ []) ≡ []
 pushed-ended t f line v b h k view heard_as found ends =
     ap (λ (x : Typing). fresh x.termios (x.fresh ++ b ∷ [])) (sym view)
     ∙ fresh-ended t f b (ap ends_line (ap (kind_of t) (sym heard_as) ∙ sym found) ∙ ends)

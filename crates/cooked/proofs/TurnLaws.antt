@@ -21,10 +21,10 @@ use Rattle.vt_journal.specs.declared.limits.Limits.{Limits}
 use Rattle.vt_world.specs.History.{IsLegal}
 use Rattle.vt_world.specs.State.{WorldState}
 use Rattle.cooked.proofs.ReadLaws.{legal-read, legal-write}
-use Rattle.cooked.specs.Cooked.{Typing, typing}
-use Rattle.cooked.specs.Echo.{echoed}
+use Rattle.cooked.specs.Cooked.{Typing, make_typing}
+use Rattle.cooked.specs.Echo.{echo_of}
 use Rattle.cooked.specs.Fresh.{fresh}
-use Rattle.cooked.specs.Given.{given, items_of, line_in}
+use Rattle.cooked.specs.Given.{items_after, items_of, line_in}
 use Rattle.cooked.specs.Turn.{Echoes, GoesOn, MetFull, Meets, ReadAnswer, ReadResult, Reads, ReadsByte, ReadsNone, Refused, Refuses, Turns, Writes, Wrote, stop_of}
 use Rattle.cooked.specs.declared.given.Given.TheVariants as answer
 use Rattle.cooked.specs.declared.stop.Stop.{Stop}
@@ -241,20 +241,20 @@ writes-full start most fd bytes sent v w full some stopped = record {
   free = λ met. absurd (none-some _ (sym met ∙ stopped.met));
 }
 
-typing-is : (v : Typing) (t : Termios) (f line : List ℕ) → v.termios ≡ t → v.fresh ≡ f → v.line ≡ line
-    → v ≡ typing t f line
-typing-is v t f line termios typed given_line =
-    ap (λ x. typing x v.fresh v.line) termios
-    ∙ ap (λ x. typing t x v.line) typed
-    ∙ ap (typing t f) given_line
+make_typing-is : (v : Typing) (t : Termios) (f line : List ℕ) → v.termios ≡ t → v.fresh ≡ f → v.line ≡ line
+    → v ≡ make_typing t f line
+make_typing-is v t f line termios typed given_line =
+    ap (λ x. make_typing x v.fresh v.line) termios
+    ∙ ap (λ x. make_typing t x v.line) typed
+    ∙ ap (make_typing t f) given_line
 
 -- a read of a byte, its push, and the write of its echo
 pub typed-turn : (start : WorldState) (fd : ℕ) (old new : Typing) (turn : Turn) (v u w : PassView) (byte : ℕ) (echo : List ℕ)
     → ReadsByte start fd v u byte → new.termios ≡ old.termios
     → new.fresh ≡ fresh old.termios (old.fresh ++ byte ∷ [])
-    → new.line ≡ line_in (given old.termios old.fresh byte)
-    → items_of turn.given new.line ≡ given old.termios old.fresh byte
-    → echo ≡ echoed old.termios old.fresh byte
+    → new.line ≡ line_in (items_after old.termios old.fresh byte)
+    → items_of turn.given new.line ≡ items_after old.termios old.fresh byte
+    → echo ≡ echo_of old.termios old.fresh byte
     → Writes start fd echo u w turn.stop
     → Turns start fd old new turn v w
 typed-turn start fd old new turn v u w byte echo reads termios typed given_line gave shown writes = record {
@@ -267,8 +267,8 @@ typed-turn start fd old new turn v u w byte echo reads termios typed given_line 
     writes = writes.made;
     made_are = refl;
     pushed =
-        typing-is new old.termios (fresh old.termios (old.fresh ++ byte ∷ []))
-        (line_in (given old.termios old.fresh byte)) termios typed given_line;
+        make_typing-is new old.termios (fresh old.termios (old.fresh ++ byte ∷ []))
+        (line_in (items_after old.termios old.fresh byte)) termios typed given_line;
     gave = gave;
     echoes = subst (λ bs. Echoes fd bs writes.made turn.stop) shown writes.echoes;
   });

@@ -1,6 +1,6 @@
 //! What is echoed of a byte.
 ghost use Rattle.std.specs.Prelude.{◌≡◌, ◌≤◌, [], ◌++◌, length};
-ghost use Rattle.cooked.specs.Echo.{caret, columns_of, columns_shown, newline, shown, wiped};
+ghost use Rattle.cooked.specs.Echo.{caret, columns_of, columns_shown, newline, data_echo, erase_echo};
 
 use crate::echo_bytes::EchoBytes;
 use crate::termios::{Termios, is_control};
@@ -30,9 +30,9 @@ pub fn caret(b: u8, echo: &mut EchoBytes)
 }
 
 /// Data as it is shown.
-pub fn shown(t: &Termios, b: u8, echo: &mut EchoBytes)
+pub fn data_echo(t: &Termios, b: u8, echo: &mut EchoBytes)
     requires { echo.old ≡ [] }
-    ensures { echo.new ≡ shown t.now b }
+    ensures { echo.new ≡ data_echo t.now b }
 {
     if b == 0x0A {
         newline(t, echo);
@@ -44,10 +44,10 @@ pub fn shown(t: &Termios, b: u8, echo: &mut EchoBytes)
 }
 
 /// Goes back over columns and wipes them.
-pub fn wiped(columns: u8, echo: &mut EchoBytes)
+pub fn erase_echo(columns: u8, echo: &mut EchoBytes)
     requires empty { echo.old ≡ [] }
     requires few { columns ≤ 2 }
-    ensures { echo.new ≡ wiped columns }
+    ensures { echo.new ≡ erase_echo columns }
 {
     if 1 <= columns {
         wipe_one(echo);
@@ -59,7 +59,7 @@ pub fn wiped(columns: u8, echo: &mut EchoBytes)
 
 fn wipe_one(echo: &mut EchoBytes)
     requires { length echo.old ≤ 3 }
-    ensures { echo.new ≡ echo.old ++ wiped 1 }
+    ensures { echo.new ≡ echo.old ++ erase_echo 1 }
 {
     echo.push(0x08);
     echo.push(0x20);

@@ -10,7 +10,7 @@ use Rattle.key_text.specs.KeymapLine.{KeymapLine}
 use Rattle.key_compile.specs.Pairs.{usual}
 use Rattle.key_compile.specs.Puts.{PutsTexts}
 use Rattle.key_compile.specs.Strings.{last_text, some_text, text_by, usual_string, usual_texts}
-use Rattle.key_compile.specs.Usual.{UsualPairsAreKept, UsualStringsAreKept, trimmed}
+use Rattle.key_compile.specs.Usual.{UsualPairsAreKept, UsualStringsAreKept, bytes_before_zero}
 use Rattle.key_compile.specs.declared.usual.TheConstants.{USUAL_STRINGS, USUAL_STRING_COUNT}
 
 pub texts_same : (f g : ℕ → Option (List ℕ)) (old new : Tables) → ((i : ℕ) → f i ≡ g i) → PutsTexts f old new → PutsTexts g old new
@@ -57,11 +57,11 @@ length-usual : length usual_texts ≡ USUAL_STRING_COUNT
 unfolding usual_texts
 length-usual = refl
 
-pub usual_row : (i : ℕ) → i < USUAL_STRING_COUNT → some_text (trimmed (slice_index_or USUAL_STRINGS i [])) ≡ usual_string i
+pub usual_row : (i : ℕ) → i < USUAL_STRING_COUNT → some_text (bytes_before_zero (slice_index_or USUAL_STRINGS i [])) ≡ usual_string i
 unfolding usual_string
 usual_row i h =
     let long : i < length USUAL_STRINGS = subst (λ (n : ℕ). i < n) (sym length-rows) h in
-    ap some_text (sym (get_or-map trimmed USUAL_STRINGS i [] [] long) ∙ ap (λ rows. get_or rows i []) rows-usual)
+    ap some_text (sym (get_or-map bytes_before_zero USUAL_STRINGS i [] [] long) ∙ ap (λ rows. get_or rows i []) rows-usual)
 
 pub pairs-usual : UsualPairsAreKept
 unfolding usual

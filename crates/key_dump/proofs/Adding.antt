@@ -7,7 +7,7 @@ use Rattle.std.specs.Option.{option_map, option_map_or}
 use Rattle.key_syms.specs.Act.{Act}
 use Rattle.key_tables.specs.Tables.{IsMap, IsWhole, Tables, entry_of, exists_in, hole, map_of}
 use Rattle.key_dump.specs.Dump.{Modifier, entry_rows, row_text, rows_from, table_numbers, table_rows}
-use Rattle.key_dump.specs.Spaced.{spaced}
+use Rattle.key_dump.specs.Spaced.{blank_after_each}
 
 pub flat_map-append : {X Y : Type 0} (f : X → List Y) (xs ys : List X) → flat_map f (xs ++ ys) ≡ flat_map f xs ++ flat_map f ys
 flat_map-append f [] ys = refl
@@ -82,25 +82,25 @@ eight_more start a b c d e f g h u v w x y z k l p q r s t o m n =
     two_more start a h u (v ++ (w ++ (x ++ (y ++ (z ++ (k ++ l)))))) p (seven_more a b c d e f g h v w x y z k l q r s t o m n)
 
 -- words with blanks between, of which the first ones have one after each
-pub join-spaced : (ws : List (List ℕ)) (w : List ℕ) (vs : List (List ℕ)) → join_with_byte 0x20 (ws ++ w ∷ vs) ≡ spaced ws ++ join_with_byte 0x20 (w ∷ vs)
-join-spaced [] w vs = refl
-join-spaced (x ∷ []) w vs =
+pub join-blank_after_each : (ws : List (List ℕ)) (w : List ℕ) (vs : List (List ℕ)) → join_with_byte 0x20 (ws ++ w ∷ vs) ≡ blank_after_each ws ++ join_with_byte 0x20 (w ∷ vs)
+join-blank_after_each [] w vs = refl
+join-blank_after_each (x ∷ []) w vs =
     sym (ap (λ t. t ++ join_with_byte 0x20 (w ∷ vs)) (append-nil (x ++ 0x20 ∷ [])) ∙ append_assoc x (0x20 ∷ []) (join_with_byte 0x20 (w ∷ vs)))
-join-spaced (x ∷ y ∷ ys) w vs =
-    ap (λ rest. x ++ (0x20 ∷ rest)) (join-spaced (y ∷ ys) w vs)
-    ∙ sym (append_assoc (x ++ 0x20 ∷ []) (spaced (y ∷ ys)) (join_with_byte 0x20 (w ∷ vs))
-    ∙ append_assoc x (0x20 ∷ []) (spaced (y ∷ ys) ++ join_with_byte 0x20 (w ∷ vs)))
+join-blank_after_each (x ∷ y ∷ ys) w vs =
+    ap (λ rest. x ++ (0x20 ∷ rest)) (join-blank_after_each (y ∷ ys) w vs)
+    ∙ sym (append_assoc (x ++ 0x20 ∷ []) (blank_after_each (y ∷ ys)) (join_with_byte 0x20 (w ∷ vs))
+    ∙ append_assoc x (0x20 ∷ []) (blank_after_each (y ∷ ys) ++ join_with_byte 0x20 (w ∷ vs)))
 
 -- the words of the modifiers that pass, one after another
 abbrev pub spaced_each : (Modifier → Bool) → List Modifier → List ℕ
 spaced_each test [] = []
 spaced_each test (m ∷ ms) = cond (test m) (m.word ++ codes " ") [] ++ spaced_each test ms
 
-pub spaced-each : (test : Modifier → Bool) (ms : List Modifier) → spaced (map (λ m. m.word) (filter test ms)) ≡ spaced_each test ms
-spaced-each test [] = refl
-spaced-each test (m ∷ ms) = by_test (spaced-each test ms) (test m)
+pub blank_after_each-each : (test : Modifier → Bool) (ms : List Modifier) → blank_after_each (map (λ m. m.word) (filter test ms)) ≡ spaced_each test ms
+blank_after_each-each test [] = refl
+blank_after_each-each test (m ∷ ms) = by_test (blank_after_each-each test ms) (test m)
   where
-    by_test : spaced (map (λ m. m.word) (filter test ms)) ≡ spaced_each test ms → (b : Bool) → spaced (map (λ m. m.word) (cond b (m ∷ filter test ms) (filter test ms))) ≡ cond b (m.word ++ codes " ") [] ++ spaced_each test ms
+    by_test : blank_after_each (map (λ m. m.word) (filter test ms)) ≡ spaced_each test ms → (b : Bool) → blank_after_each (map (λ m. m.word) (cond b (m ∷ filter test ms) (filter test ms))) ≡ cond b (m.word ++ codes " ") [] ++ spaced_each test ms
     by_test rest true = ap (λ t. (m.word ++ codes " ") ++ t) rest
     by_test rest false = rest
 

@@ -18,7 +18,7 @@ use Rattle.key_dump.specs.Dump.{rows_from}
 use Rattle.key_dump.proofs.Adding.{flat_map-append}
 use Rattle.key_dump.proofs.DumpSays.{entry_tellings, string_tellings, table_tellings, tables_telling}
 use Rattle.key_dump.proofs.DumpTables.{AreDumped, any-dumped, items-any, tables-any}
-use Rattle.key_dump.proofs.Tellings.{decided-last, last-append, last-at, last_by, no-last, no-pairs, or-none, pairs-tellings, tellings_of, text-last}
+use Rattle.key_dump.proofs.Tellings.{last_action-last, last-append, last-at, last_by, no-last, no-pairs, or-none, pairs-tellings, tellings_of, text-last}
 
 -- lines of entries that give nothing
 entry-last : {X : Type 0} (f : Telling → Option X) (t c : ℕ) (a : Act) → f (one t c a) ≡ None → last_by f (entry_tellings t c a) ≡ None
@@ -103,7 +103,7 @@ entry-is : (lines : List KeymapLine) (tables : Tables) (t c : ℕ) (map : List A
 unfolding entry_in line_entry
 entry-is lines tables t c map are low small e is =
     ap (λ b. cond (b && (leb 8 t && ltb t 16) && is_declared lines (t - 8)) (meta_over (line_entry lines (t - 8) c) (line_entry lines t c)) (line_entry lines t c)) (no-alt lines tables are)
-    ∙ ap (λ a. unwrap_or a hole) (decided-last (union_of lines) t c lines ∙ decided-is (union_of lines) lines tables t c map are low small e is.full)
+    ∙ ap (λ a. unwrap_or a hole) (last_action-last (union_of lines) t c lines ∙ decided-is (union_of lines) lines tables t c map are low small e is.full)
     ∙ entry-back (union_of lines) t c (get_or map c hole) (is.known c hole (let full = is.full in omega (arith, full, small)))
 
 pub entries-are : (lines : List KeymapLine) (tables : Tables) (t c : ℕ) → AreDumped lines tables → t < 256 → c < 256 → entry_of tables t c ≡ cond (exists_in tables t) (Some (entry_in lines t c)) None

@@ -9,7 +9,7 @@ use Rattle.key_syms.specs.Kinds.{HOLE}
 use Rattle.key_syms.specs.Laws.{CodePointsAreTheirOwn, NamesAreTheirOwn}
 use Rattle.key_syms.specs.declared.pair.Pair.{Pair}
 use Rattle.key_tables.specs.Tables.{IsMap, IsWhole, Tables, exists_in, hole}
-use Rattle.key_text.specs.Lines.{marked}
+use Rattle.key_text.specs.Lines.{table_marks}
 use Rattle.key_text.specs.KeymapLine.{Telling, compose, is_real, keymaps, one, string}
 use Rattle.key_compile.specs.Dumpable.{is_dumpable}
 use Rattle.key_dump.specs.Dump.{dump_rows, entry_rows, entry_words, pair_words, rows_from, string_rows, table_numbers, table_rows}
@@ -41,7 +41,7 @@ item_tellings tables =
 
 -- what the line of the tables that exist tells
 abbrev pub tables_telling : Tables → Telling
-tables_telling tables = keymaps (marked (map only (table_numbers tables)))
+tables_telling tables = keymaps (table_marks (map only (table_numbers tables)))
 
 -- what the lines of a dump tell
 abbrev pub dump_tellings : Tables → List Telling
@@ -117,7 +117,7 @@ numbers-some tables tall some =
     (list_any_at (exists_in tables) (range_with_len 0 256) k 0 (omega (arith, length-range_with_len 0 256, low))
     (ap (exists_in tables) (get_or-range_with_len 0 256 k 0 low ∙ (let e : 0 + k ≡ k = omega arith in e)) ∙ found.2))
 
-keymaps-say : (ns : List ℕ) → 0 < length ns → are_small ns ≡ true → Says (join_with_byte 0x20 (codes "keymaps" ∷ join_with_byte 0x2C (map decimal ns) ∷ [])) (keymaps (marked (map only ns)))
+keymaps-say : (ns : List ℕ) → 0 < length ns → are_small ns ≡ true → Says (join_with_byte 0x20 (codes "keymaps" ∷ join_with_byte 0x2C (map decimal ns) ∷ [])) (keymaps (table_marks (map only ns)))
 keymaps-say [] some small = absurd (omega arith)
 keymaps-say (n ∷ ns) some small = keymaps_says n ns small
 

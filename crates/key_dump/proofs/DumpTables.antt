@@ -8,7 +8,7 @@ use Rattle.key_syms.specs.Act.{Act}
 use Rattle.key_syms.specs.Kinds.{HOLE}
 use Rattle.key_syms.specs.declared.pair.Pair.{Pair}
 use Rattle.key_tables.specs.Tables.{IsWhole, Tables, exists_in, hole}
-use Rattle.key_text.specs.Lines.{covers, marked}
+use Rattle.key_text.specs.Lines.{covers, table_marks}
 use Rattle.key_text.specs.KeymapLine.{Telling, KeymapLine, compose, one, string}
 use Rattle.key_compile.specs.Union.{in_union, is_declared, is_keymaps, is_usual_table, modifies_table, names_table}
 use Rattle.key_dump.specs.Dump.{rows_from, table_numbers}
@@ -95,8 +95,8 @@ kept-at kept t h = by_test (kept t) refl
         (ap (λ n. kept n && (leb n t && leb t n)) (get_or-range_with_len 0 256 t 0 h ∙ (let e : 0 + t ≡ t = omega arith in e)) ∙ passes e)
     by_test false e = not-kept kept t e (range_with_len 0 256)
 
-mark-at : (tables : Tables) (t : ℕ) → t < 256 → get_or (marked (map only (table_numbers tables))) t false ≡ exists_in tables t
-unfolding marked table_numbers
+mark-at : (tables : Tables) (t : ℕ) → t < 256 → get_or (table_marks (map only (table_numbers tables))) t false ≡ exists_in tables t
+unfolding table_marks table_numbers
 mark-at tables t h =
     get_or-map-range_with_len (λ t. list_any (covers t) (map only (filter (exists_in tables) (range_with_len 0 256)))) 0 256 t t false h (let e : 0 + t ≡ t = omega arith in e)
     ∙ any-map t (filter (exists_in tables) (range_with_len 0 256))
@@ -137,9 +137,9 @@ declared-is lines tables t are h =
     named : list_any (λ l. names_table t l.telling) lines ≡ exists_in tables t
     named =
         any-dumped (names_table t) lines tables are
-        ∙ ap (λ b. get_or (marked (map only (table_numbers tables))) t false || b)
+        ∙ ap (λ b. get_or (table_marks (map only (table_numbers tables))) t false || b)
         (items-any (names_table t) tables (tables-any (names_table t) tables (λ t c a. refl)) (λ i text. refl) (λ pair. refl))
-        ∙ or-false (get_or (marked (map only (table_numbers tables))) t false)
+        ∙ or-false (get_or (table_marks (map only (table_numbers tables))) t false)
         ∙ mark-at tables t h
 
     by_test : (b : Bool) → exists_in tables t ≡ b → (b || list_any (modifies_table t) (dump_tellings tables)) ≡ b

@@ -9,7 +9,7 @@ use Rattle.key_syms.specs.Laws.{NamesAreTheirOwn}
 use Rattle.key_syms.specs.Names.{name_text}
 use Rattle.key_text.specs.Fault.{fault, ◌>>=◌}
 use Rattle.key_text.specs.FaultKinds.{UNKNOWN_WORD}
-use Rattle.key_text.specs.Fields.{code_at, ended, keyword_at, symbol_at}
+use Rattle.key_text.specs.Fields.{code_at, end_of_line, keyword_at, symbol_at}
 use Rattle.key_text.specs.Lines.{alt_is_meta_line, charset_line, compose_line, include_line, keymaps_line, keys_line, modified_by, modified_line, modifiers_at, modifiers_by, string_line, tells, usual_strings_line, weight_of}
 use Rattle.key_text.specs.KeymapLine.{one}
 use Rattle.key_text.specs.Words.{bytes, next, spot}
@@ -18,7 +18,7 @@ use Rattle.key_text.specs.declared.placed.Placed.{Placed}
 use Rattle.key_dump.specs.Dump.{Modifier, entry_words, modifier, modifier_words, modifiers}
 use Rattle.key_dump.proofs.NamedWords.{decimal-word, name-word}
 use Rattle.key_dump.proofs.NextWord.{is_word_text, length-bytes}
-use Rattle.key_dump.proofs.ReadFields.{Reads, code-read, ended-read, keyword-read, next-is, symbol-read, tail, word-of}
+use Rattle.key_dump.proofs.ReadFields.{Reads, code-read, end_of_line-read, keyword-read, next-is, symbol-read, tail, word-of}
 use Rattle.key_dump.proofs.RowsSay.{line_with, says_by, weight-by, weight_by, word-row}
 use Rattle.key_dump.proofs.TextRows.{Says, is_row}
 
@@ -156,7 +156,7 @@ length-tail (m ∷ ms) ws =
     let both = length-append m.word (tail (map (λ m. m.word) ms ++ ws)) in
     omega arith
 
-modified-by : (weight : ℕ) (end : Place) (items : List Placed) (table code : ℕ) (a : Act) (p q r s : List Placed) → modifiers_at (length items + 1) weight end items ≡ Ok (table, p) → code_at end p ≡ Ok (code, q) → keyword_at (codes "=") end q ≡ Ok r → symbol_at end r ≡ Ok (a, s) → ended s ≡ Ok tt → modified_line weight end items ≡ Ok (tells (one table code a))
+modified-by : (weight : ℕ) (end : Place) (items : List Placed) (table code : ℕ) (a : Act) (p q r s : List Placed) → modifiers_at (length items + 1) weight end items ≡ Ok (table, p) → code_at end p ≡ Ok (code, q) → keyword_at (codes "=") end q ≡ Ok r → symbol_at end r ≡ Ok (a, s) → end_of_line s ≡ Ok tt → modified_line weight end items ≡ Ok (tells (one table code a))
 unfolding modified_line
 modified-by weight end items table code a p q r s e1 e2 e3 e4 e5 = rw (e1, e2, e3, e4, e5) refl
 
@@ -171,7 +171,7 @@ modified-read own ms weight end items c a good some small action e =
     let code = code-read end table.left c (codes "=" ∷ name_text a ∷ []) some small table.leaves in
     let equals = keyword-read (codes "=") end code.left (name_text a ∷ []) refl refl code.leaves in
     let only = symbol-read own end equals.left a [] action equals.leaves in
-    modified-by weight end items (together weight ms) c a table.left code.left equals.left only.left table.is code.is equals.is only.is (ended-read only.left only.leaves)
+    modified-by weight end items (together weight ms) c a table.left code.left equals.left only.left table.is code.is equals.is only.is (end_of_line-read only.left only.leaves)
 
 by_words : NamesAreTheirOwn → (t c : ℕ) (a : Act) (ms : List Modifier) → are_of t ms ≡ true → 1 ≤ c → c < 256 → IsTrue (is_action a.kind a.value) → Says (join_with_byte 0x20 (map (λ m. m.word) ms ++ codes "keycode" ∷ decimal c ∷ codes "=" ∷ name_text a ∷ [])) (one t c a)
 by_words own t c a [] are some small action = cc

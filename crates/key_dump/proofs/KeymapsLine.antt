@@ -7,8 +7,8 @@ use Rattle.std.proofs.lemmas.List.Folds.{list_all-append}
 use Rattle.std.specs.List.{join_with_byte, list_all}
 use Rattle.key_text.specs.Fault.{◌>>=◌}
 use Rattle.key_text.specs.FaultKinds.{UNKNOWN_WORD}
-use Rattle.key_text.specs.Fields.{ended}
-use Rattle.key_text.specs.Lines.{before, comma, dash, in_order, keymaps_line, marked, pieces, range_by, range_of, ranges_of, table_of, tables_in, tells, with_byte}
+use Rattle.key_text.specs.Fields.{end_of_line}
+use Rattle.key_text.specs.Lines.{before, comma, dash, in_order, keymaps_line, table_marks, pieces, range_by, range_of, ranges_of, table_of, tables_in, tells, with_byte}
 use Rattle.key_text.specs.KeymapLine.{keymaps}
 use Rattle.key_text.specs.Words.{bytes, next}
 use Rattle.key_text.specs.declared.keymaps_line.TableRange.{TableRange}
@@ -16,7 +16,7 @@ use Rattle.key_text.specs.declared.placed.Place.{Place}
 use Rattle.key_text.specs.declared.placed.Placed.{Placed}
 use Rattle.key_dump.proofs.NamedWords.{decimal-digits, decimal-word, is_digit}
 use Rattle.key_dump.proofs.NextWord.{is_word_byte, is_word_text, word_text-all}
-use Rattle.key_dump.proofs.ReadFields.{ended-read, next-is, number-ranged, word-of}
+use Rattle.key_dump.proofs.ReadFields.{end_of_line-read, next-is, number-number_in_range, word-of}
 use Rattle.key_dump.proofs.RowsSay.{says_by, word-row}
 use Rattle.key_dump.proofs.TextRows.{Says, is_row}
 
@@ -70,7 +70,7 @@ range-is word n h =
     let len = length text in
     ap (range_by word text) (no_dash text (decimal-digits n h))
     ∙ ap (λ t. table_of word t >>= λ low. cond (len == len) (Ok (only low)) (table_of word (drop (len + 1) text) >>= λ high. in_order word low high)) (take-length text)
-    ∙ ap (λ read. read >>= λ low. cond (len == len) (Ok (only low)) (table_of word (drop (len + 1) text) >>= λ high. in_order word low high)) (number-ranged 0 word n text refl (omega arith) h)
+    ∙ ap (λ read. read >>= λ low. cond (len == len) (Ok (only low)) (table_of word (drop (len + 1) text) >>= λ high. in_order word low high)) (number-number_in_range 0 word n text refl (omega arith) h)
     ∙ ap (λ t. cond t (Ok (only n)) (table_of word (drop (len + 1) text) >>= λ high. in_order word n high)) (eq-eqb len len refl)
 
 ranges-are : (word : List Placed) (ns : List ℕ) → are_small ns ≡ true → ranges_of word (map decimal ns) ≡ Ok (map only ns)
@@ -112,23 +112,23 @@ joined-word n ns e =
     word-from (join_with_byte 0x2C (map decimal (n ∷ ns)))
     (some_joined n ns (ltb-true n 256 (and_parts (ltb n 256) (are_small ns) e).0)) (joined-bytes (n ∷ ns) e)
 
-keymaps-by : (end : Place) (items w left : List Placed) (marks : List Bool) → next UNKNOWN_WORD end items ≡ Ok (w, left) → tables_in w (bytes w) ≡ Ok marks → ended left ≡ Ok tt → keymaps_line end items ≡ Ok (tells (keymaps marks))
+keymaps-by : (end : Place) (items w left : List Placed) (marks : List Bool) → next UNKNOWN_WORD end items ≡ Ok (w, left) → tables_in w (bytes w) ≡ Ok marks → end_of_line left ≡ Ok tt → keymaps_line end items ≡ Ok (tells (keymaps marks))
 unfolding keymaps_line
 keymaps-by end items w left marks e1 e2 e3 = rw (e1, e2, e3) refl
 
-tables-are : (word : List Placed) (n : ℕ) (ns : List ℕ) (text : List ℕ) → are_small (n ∷ ns) ≡ true → text ≡ join_with_byte 0x2C (map decimal (n ∷ ns)) → tables_in word text ≡ Ok (marked (map only (n ∷ ns)))
+tables-are : (word : List Placed) (n : ℕ) (ns : List ℕ) (text : List ℕ) → are_small (n ∷ ns) ≡ true → text ≡ join_with_byte 0x2C (map decimal (n ∷ ns)) → tables_in word text ≡ Ok (table_marks (map only (n ∷ ns)))
 tables-are word n ns text small e =
-    ap (λ ps. ranges_of word ps >>= λ ranges. Ok (marked ranges)) (ap pieces e ∙ pieces-join n ns small)
-    ∙ ap (λ read. read >>= λ ranges. Ok (marked ranges)) (ranges-are word (n ∷ ns) small)
+    ap (λ ps. ranges_of word ps >>= λ ranges. Ok (table_marks ranges)) (ap pieces e ∙ pieces-join n ns small)
+    ∙ ap (λ read. read >>= λ ranges. Ok (table_marks ranges)) (ranges-are word (n ∷ ns) small)
 
 -- the row of some tables
-pub keymaps_says : (n : ℕ) (ns : List ℕ) → are_small (n ∷ ns) ≡ true → Says (join_with_byte 0x20 (codes "keymaps" ∷ join_with_byte 0x2C (map decimal (n ∷ ns)) ∷ [])) (keymaps (marked (map only (n ∷ ns))))
+pub keymaps_says : (n : ℕ) (ns : List ℕ) → are_small (n ∷ ns) ≡ true → Says (join_with_byte 0x20 (codes "keymaps" ∷ join_with_byte 0x2C (map decimal (n ∷ ns)) ∷ [])) (keymaps (table_marks (map only (n ∷ ns))))
 keymaps_says n ns small =
     let text = join_with_byte 0x2C (map decimal (n ∷ ns)) in
     let is_word = joined-word n ns small in
-    says_by (codes "keymaps") (text ∷ []) (keymaps (marked (map only (n ∷ ns)))) refl
+    says_by (codes "keymaps") (text ∷ []) (keymaps (table_marks (map only (n ∷ ns)))) refl
     (and_from (is_row text) true (word-row text is_word) refl)
     (λ end word left leaves.
     let w = word-of left text [] leaves is_word in
-    keymaps-by end left w.word w.left (marked (map only (n ∷ ns))) (next-is UNKNOWN_WORD end left text [] w)
-    (tables-are w.word n ns (bytes w.word) small w.spells) (ended-read w.left w.leaves))
+    keymaps-by end left w.word w.left (table_marks (map only (n ∷ ns))) (next-is UNKNOWN_WORD end left text [] w)
+    (tables-are w.word n ns (bytes w.word) small w.spells) (end_of_line-read w.left w.leaves))

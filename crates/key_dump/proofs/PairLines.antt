@@ -6,7 +6,7 @@ use Rattle.std.specs.Str.{str_eq_ignore_ascii_case}
 use Rattle.key_syms.specs.Act.{is_character}
 use Rattle.key_syms.specs.Laws.{CodePointsAreTheirOwn}
 use Rattle.key_syms.specs.declared.pair.Pair.{Pair}
-use Rattle.key_text.specs.Fields.{character_at, ended, keyword_at}
+use Rattle.key_text.specs.Fields.{character_at, end_of_line, keyword_at}
 use Rattle.key_text.specs.Lines.{compose_line, is_next, is_next_by, pair_line, pair_of, tells, usual_pairs_line}
 use Rattle.key_text.specs.KeymapLine.{compose, is_real}
 use Rattle.key_text.specs.Words.{bytes}
@@ -14,11 +14,11 @@ use Rattle.key_text.specs.declared.placed.Place.{Place}
 use Rattle.key_text.specs.declared.placed.Placed.{Placed}
 use Rattle.key_dump.specs.Dump.{code_point, pair_words}
 use Rattle.key_dump.proofs.NamedWords.{code_point-word}
-use Rattle.key_dump.proofs.ReadFields.{character-read, ended-read, keyword-read, tail, word-of}
+use Rattle.key_dump.proofs.ReadFields.{character-read, end_of_line-read, keyword-read, tail, word-of}
 use Rattle.key_dump.proofs.RowsSay.{says_by, word-row}
 use Rattle.key_dump.proofs.TextRows.{Says, is_row}
 
-pair-by : (end : Place) (items : List Placed) (a b c : ℕ) (p q r s : List Placed) → character_at end items ≡ Ok (a, p) → character_at end p ≡ Ok (b, q) → keyword_at (codes "to") end q ≡ Ok r → character_at end r ≡ Ok (c, s) → ended s ≡ Ok tt → pair_line end items ≡ Ok (tells (compose (pair_of a b c)))
+pair-by : (end : Place) (items : List Placed) (a b c : ℕ) (p q r s : List Placed) → character_at end items ≡ Ok (a, p) → character_at end p ≡ Ok (b, q) → keyword_at (codes "to") end q ≡ Ok r → character_at end r ≡ Ok (c, s) → end_of_line s ≡ Ok tt → pair_line end items ≡ Ok (tells (compose (pair_of a b c)))
 unfolding pair_line
 pair-by end items a b c p q r s e1 e2 e3 e4 e5 = rw (e1, e2, e3, e4, e5) refl
 
@@ -37,7 +37,7 @@ compose-read own end items a b c good_a good_b good_c e =
     let to = keyword-read (codes "to") end base.left (code_point c ∷ []) refl refl base.leaves in
     let result = character-read own end to.left c [] good_c to.leaves in
     ap (λ t. cond t (usual_pairs_line end items) (pair_line end items)) (not_as items a (code_point b ∷ codes "to" ∷ code_point c ∷ []) e)
-    ∙ pair-by end items a b c accent.left base.left to.left result.left accent.is base.is to.is result.is (ended-read result.left result.leaves)
+    ∙ pair-by end items a b c accent.left base.left to.left result.left accent.is base.is to.is result.is (end_of_line-read result.left result.leaves)
 
 -- the row of a pair
 pub pair_says : CodePointsAreTheirOwn → (pair : Pair) → is_real pair ≡ true → Says (join_with_byte 0x20 (pair_words pair)) (compose pair)

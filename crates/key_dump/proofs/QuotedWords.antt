@@ -6,19 +6,19 @@ use Rattle.std.proofs.lemmas.List.{drop-map}
 use Rattle.std.proofs.lemmas.List.Elements.{All-head, All-tail}
 use Rattle.std.specs.List.{flat_map, list_all, prefix_len}
 use Rattle.std.specs.Option.{option_and_then, option_map, option_map_or}
-use Rattle.key_text.specs.Quoted.{before_rest, between, closed, escape_in, first_of, is_octal, letter_escape, octal_len, octal_value, text_of, unescaped, unescaped_whole}
+use Rattle.key_text.specs.Quoted.{before_rest, text_between, text_before_quote, escape_in, first_of, is_octal, letter_escape, octal_len, octal_value, text_of, unescaped_bytes, unescaped_whole}
 use Rattle.key_text.specs.Quoted as quoted_texts
 use Rattle.key_text.specs.Rows.{backslash}
 use Rattle.key_text.specs.Words.{bytes, close_at, is_bare, is_quote, quoted_len, word_at, word_in, word_len}
 use Rattle.key_text.specs.declared.placed.Placed.{Placed}
-use Rattle.key_dump.specs.Dump.{escaped, is_plain, octal_escape, quoted}
+use Rattle.key_dump.specs.Dump.{escape_of, is_plain, octal_escape, quoted_text}
 use Rattle.key_dump.proofs.NextWord.{WordIs, bare-none, is_behind, is_seen, length-bytes, prefix_len-bytes, seen-ascii, word_at-behind, word_in-is}
 use Rattle.key_dump.proofs.ReadFields.{tail, tail-behind}
 use Rattle.key_dump.proofs.TextRows.{goes_on, is_row, row-append}
 
 -- the text as it stands between the quotes
 abbrev pub inner : List ℕ → List ℕ
-inner text = flat_map escaped text
+inner text = flat_map escape_of text
 
 -- where a quoted text is closed, by its bytes
 abbrev pub close_by : ℕ → Bool → List ℕ → Option ℕ
@@ -115,37 +115,37 @@ escape-read b x y z rest are h =
     ∙ ap (λ v. cond (leb v 255) (Some (v, 3)) None) are.value
     ∙ ap (λ t. cond t (Some (b, 3)) None) (le-leb b 255 (omega arith))
 
-unescaped_none : (n : ℕ) → unescaped n [] ≡ Some []
+unescaped_none : (n : ℕ) → unescaped_bytes n [] ≡ Some []
 unescaped_none zero = refl
 unescaped_none (suc n) = refl
 
-unescaped-plain : (n b : ℕ) (bs : List ℕ) → is_plain b ≡ true → unescaped (suc n) (b ∷ bs) ≡ option_map (λ more. b ∷ more) (unescaped n bs)
-unescaped-plain n b bs e =
-    ap (λ t. option_and_then (before_rest (unescaped n)) (cond t (option_map (λ e. (e.0, drop e.1 bs)) (escape_in bs)) (Some (b, bs)))) (plain-no_backslash b e)
+unescaped_bytes-plain : (n b : ℕ) (bs : List ℕ) → is_plain b ≡ true → unescaped_bytes (suc n) (b ∷ bs) ≡ option_map (λ more. b ∷ more) (unescaped_bytes n bs)
+unescaped_bytes-plain n b bs e =
+    ap (λ t. option_and_then (before_rest (unescaped_bytes n)) (cond t (option_map (λ e. (e.0, drop e.1 bs)) (escape_in bs)) (Some (b, bs)))) (plain-no_backslash b e)
 
-unescaped-escape : (n b : ℕ) (bs : List ℕ) → b < 256 → unescaped (suc n) (octal_escape b ++ bs) ≡ option_map (λ more. b ∷ more) (unescaped n bs)
-unescaped-escape n b bs h =
+unescaped_bytes-escape : (n b : ℕ) (bs : List ℕ) → b < 256 → unescaped_bytes (suc n) (octal_escape b ++ bs) ≡ option_map (λ more. b ∷ more) (unescaped_bytes n bs)
+unescaped_bytes-escape n b bs h =
     let x = 0x30 + b / 64 in
     let y = 0x30 + b / 8 % 8 in
     let z = 0x30 + b % 8 in
-    ap (λ e. option_and_then (before_rest (unescaped n)) (option_map (λ e. (e.0, drop e.1 (x ∷ y ∷ z ∷ bs))) e)) (escape-read b x y z bs (digits-of b h) h)
+    ap (λ e. option_and_then (before_rest (unescaped_bytes n)) (option_map (λ e. (e.0, drop e.1 (x ∷ y ∷ z ∷ bs))) e)) (escape-read b x y z bs (digits-of b h) h)
 
 -- what is escaped is read back
-unescaped-inner : (text : List ℕ) (n : ℕ) → length text ≤ n → AreBytes text → unescaped n (inner text) ≡ Some text
-unescaped-inner [] n h are = unescaped_none n
-unescaped-inner (b ∷ bs) zero h are = absurd (omega arith)
-unescaped-inner (b ∷ bs) (suc n) h are =
-    by_test (All-head (λ b. b < 256) b bs are) (unescaped-inner bs n (omega arith) (All-tail (λ b. b < 256) b bs are)) (is_plain b) refl
+unescaped_bytes-inner : (text : List ℕ) (n : ℕ) → length text ≤ n → AreBytes text → unescaped_bytes n (inner text) ≡ Some text
+unescaped_bytes-inner [] n h are = unescaped_none n
+unescaped_bytes-inner (b ∷ bs) zero h are = absurd (omega arith)
+unescaped_bytes-inner (b ∷ bs) (suc n) h are =
+    by_test (All-head (λ b. b < 256) b bs are) (unescaped_bytes-inner bs n (omega arith) (All-tail (λ b. b < 256) b bs are)) (is_plain b) refl
   where
-    by_test : b < 256 → unescaped n (inner bs) ≡ Some bs → (t : Bool) → is_plain b ≡ t → unescaped (suc n) (cond t (b ∷ []) (octal_escape b) ++ inner bs) ≡ Some (b ∷ bs)
-    by_test h more true e = unescaped-plain n b (inner bs) e ∙ ap (option_map (λ more. b ∷ more)) more
-    by_test h more false e = unescaped-escape n b (inner bs) h ∙ ap (option_map (λ more. b ∷ more)) more
+    by_test : b < 256 → unescaped_bytes n (inner bs) ≡ Some bs → (t : Bool) → is_plain b ≡ t → unescaped_bytes (suc n) (cond t (b ∷ []) (octal_escape b) ++ inner bs) ≡ Some (b ∷ bs)
+    by_test h more true e = unescaped_bytes-plain n b (inner bs) e ∙ ap (option_map (λ more. b ∷ more)) more
+    by_test h more false e = unescaped_bytes-escape n b (inner bs) h ∙ ap (option_map (λ more. b ∷ more)) more
 
 length-inner : (text : List ℕ) → length text ≤ length (inner text)
 length-inner [] = omega arith
 length-inner (b ∷ bs) =
     let more = length-inner bs in
-    let both = length-append (escaped b) (inner bs) in
+    let both = length-append (escape_of b) (inner bs) in
     let some = some_escaped (is_plain b) in
     omega arith
   where
@@ -153,18 +153,18 @@ length-inner (b ∷ bs) =
     some_escaped true = omega arith
     some_escaped false = omega arith
 
-escaped-computed : agree_below (λ b. is_row (escaped b) && list_all is_seen (escaped b)) (λ b. true) 256 ≡ true
-escaped-computed = refl
+escape_of-computed : agree_below (λ b. is_row (escape_of b) && list_all is_seen (escape_of b)) (λ b. true) 256 ≡ true
+escape_of-computed = refl
 
 inner-row : (text : List ℕ) → AreBytes text → is_row (inner text) ≡ true
 inner-row [] are = refl
 inner-row (b ∷ bs) are =
-    row-append (escaped b) (inner bs)
-    (and_parts (is_row (escaped b)) (list_all is_seen (escaped b)) (agree_below_at (λ b. is_row (escaped b) && list_all is_seen (escaped b)) (λ b. true) 256 b escaped-computed (All-head (λ b. b < 256) b bs are))).0
+    row-append (escape_of b) (inner bs)
+    (and_parts (is_row (escape_of b)) (list_all is_seen (escape_of b)) (agree_below_at (λ b. is_row (escape_of b) && list_all is_seen (escape_of b)) (λ b. true) 256 b escape_of-computed (All-head (λ b. b < 256) b bs are))).0
     (inner-row bs (All-tail (λ b. b < 256) b bs are))
 
-pub quoted-row : (text : List ℕ) → AreBytes text → is_row (quoted text) ≡ true
-quoted-row text are = quote-row (inner text ++ codes "\"") (row-append (inner text) (codes "\"") (inner-row text are) refl)
+pub quoted_text-row : (text : List ℕ) → AreBytes text → is_row (quoted_text text) ≡ true
+quoted_text-row text are = quote-row (inner text ++ codes "\"") (row-append (inner text) (codes "\"") (inner-row text are) refl)
   where
     quote-row : (row : List ℕ) → is_row row ≡ true → is_row (0x22 ∷ row) ≡ true
     quote-row [] e = refl
@@ -188,41 +188,41 @@ quoted-len text rest p ps quote e are =
     ap (λ q. cond (is_quote q) (suc (option_map_or suc (close_at q false ps) (length ps))) 0) quote
     ∙ ap (λ close. suc (option_map_or suc close (length ps))) (closes text rest ps e are)
 
-length-quoted : (text : List ℕ) → length (quoted text) ≡ suc (suc (length (inner text)))
-length-quoted text = let both = length-append (inner text) (codes "\"") in omega arith
+length-quoted_text : (text : List ℕ) → length (quoted_text text) ≡ suc (suc (length (inner text)))
+length-quoted_text text = let both = length-append (inner text) (codes "\"") in omega arith
 
-word-len : (text rest : List ℕ) (p : Placed) (ps : List Placed) → p.byte ≡ 0x22 → bytes ps ≡ inner text ++ 0x22 ∷ rest → bytes (p ∷ ps) ≡ quoted text ++ rest → is_behind rest ≡ true → AreBytes text → word_len (p ∷ ps) ≡ length (quoted text)
+word-len : (text rest : List ℕ) (p : Placed) (ps : List Placed) → p.byte ≡ 0x22 → bytes ps ≡ inner text ++ 0x22 ∷ rest → bytes (p ∷ ps) ≡ quoted_text text ++ rest → is_behind rest ≡ true → AreBytes text → word_len (p ∷ ps) ≡ length (quoted_text text)
 word-len text rest p ps quote e all behind are =
-    let n = length (quoted text) in
-    let len : quoted_len (p ∷ ps) ≡ n = quoted-len text rest p ps quote e are ∙ sym (length-quoted text) in
+    let n = length (quoted_text text) in
+    let len : quoted_len (p ∷ ps) ≡ n = quoted-len text rest p ps quote e are ∙ sym (length-quoted_text text) in
     let none : prefix_len (λ (q : Placed). is_bare q.byte) (drop n (p ∷ ps)) ≡ 0 =
     prefix_len-bytes is_bare (drop n (p ∷ ps))
-    ∙ ap (prefix_len is_bare) (sym (drop-map (λ (q : Placed). q.byte) n (p ∷ ps)) ∙ ap (drop n) all ∙ drop-append_seam (quoted text) rest)
+    ∙ ap (prefix_len is_bare) (sym (drop-map (λ (q : Placed). q.byte) n (p ∷ ps)) ∙ ap (drop n) all ∙ drop-append_seam (quoted_text text) rest)
     ∙ bare-none rest behind in
     ap (λ m. m + prefix_len (λ (q : Placed). is_bare q.byte) (drop m (p ∷ ps))) len
     ∙ (let sum : n + prefix_len (λ (q : Placed). is_bare q.byte) (drop n (p ∷ ps)) ≡ n = omega arith in sum)
 
-quoted_in : (text rest : List ℕ) (p : Placed) (ps : List Placed) → p.byte ≡ 0x22 → bytes ps ≡ inner text ++ 0x22 ∷ rest → bytes (p ∷ ps) ≡ quoted text ++ rest → is_behind rest ≡ true → AreBytes text → WordIs (word_in (p ∷ ps)) (quoted text) rest
+quoted_in : (text rest : List ℕ) (p : Placed) (ps : List Placed) → p.byte ≡ 0x22 → bytes ps ≡ inner text ++ 0x22 ∷ rest → bytes (p ∷ ps) ≡ quoted_text text ++ rest → is_behind rest ≡ true → AreBytes text → WordIs (word_in (p ∷ ps)) (quoted_text text) rest
 quoted_in text rest p ps quote e all behind are =
-    word_in-is (p ∷ ps) (quoted text) rest all (word-len text rest p ps quote e all behind are)
-    (let len = length-quoted text in λ (none : length (quoted text) ≡ 0). omega arith)
-    (seen-ascii (quoted text) (row-seen (quoted text) (quoted-row text are)))
+    word_in-is (p ∷ ps) (quoted_text text) rest all (word-len text rest p ps quote e all behind are)
+    (let len = length-quoted_text text in λ (none : length (quoted_text text) ≡ 0). omega arith)
+    (seen-ascii (quoted_text text) (row-seen (quoted_text text) (quoted_text-row text are)))
 
 -- the next word is a text between quotes
-pub quoted-of : (items : List Placed) (text : List ℕ) (ws : List (List ℕ)) → bytes items ≡ tail (quoted text ∷ ws) → AreBytes text → WordIs (word_at items) (quoted text) (tail ws)
-quoted-of [] text ws e are = absurd (cc)
-quoted-of (p ∷ []) text ws e are = absurd (cc)
-quoted-of (p ∷ q ∷ qs) text ws e are =
+pub quoted_text-of : (items : List Placed) (text : List ℕ) (ws : List (List ℕ)) → bytes items ≡ tail (quoted_text text ∷ ws) → AreBytes text → WordIs (word_at items) (quoted_text text) (tail ws)
+quoted_text-of [] text ws e are = absurd (cc)
+quoted_text-of (p ∷ []) text ws e are = absurd (cc)
+quoted_text-of (p ∷ q ∷ qs) text ws e are =
     let blank : p.byte ≡ 0x20 = cc in
-    let all : bytes (q ∷ qs) ≡ quoted text ++ tail ws = cc in
+    let all : bytes (q ∷ qs) ≡ quoted_text text ++ tail ws = cc in
     let quote : q.byte ≡ 0x22 = cc in
     let more : bytes qs ≡ (inner text ++ codes "\"") ++ tail ws = cc in
-    subst (λ read. WordIs read (quoted text) (tail ws))
+    subst (λ read. WordIs read (quoted_text text) (tail ws))
     (sym (word_at-behind p (q ∷ qs) 0x22 ((inner text ++ codes "\"") ++ tail ws) blank all refl))
     (quoted_in text (tail ws) q qs quote (more ∙ behind_quote text (tail ws)) all (tail-behind ws) are)
 
 -- the word stands for its text
-pub text-of : (word : List Placed) (text : List ℕ) → bytes word ≡ quoted text → AreBytes text → text_of word ≡ Some text
+pub text-of : (word : List Placed) (text : List ℕ) → bytes word ≡ quoted_text text → AreBytes text → text_of word ≡ Some text
 unfolding text_of
 text-of [] text e are = absurd (cc)
 text-of (p ∷ ps) text e are =
@@ -234,9 +234,9 @@ text-of (p ∷ ps) text e are =
     (let same = ap length more in
     let one = length-bytes ps in
     let both = length-append (inner text) (codes "\"") in omega arith) in
-    ap (λ b. option_and_then unescaped_whole (cond (b == 0x22) (closed ps (close_at 0x22 false ps)) None)) quote
-    ∙ ap (λ close. option_and_then unescaped_whole (closed ps close)) (closes text [] ps more are)
+    ap (λ b. option_and_then unescaped_whole (cond (b == 0x22) (text_before_quote ps (close_at 0x22 false ps)) None)) quote
+    ∙ ap (λ close. option_and_then unescaped_whole (text_before_quote ps close)) (closes text [] ps more are)
     ∙ ap (λ t. option_and_then unescaped_whole (cond t (Some (take n (bytes ps))) None)) len
     ∙ ap (λ bs. unescaped_whole (take n bs)) more
     ∙ ap unescaped_whole (take-append_seam (inner text) (codes "\""))
-    ∙ unescaped-inner text n (length-inner text) are
+    ∙ unescaped_bytes-inner text n (length-inner text) are

@@ -10,9 +10,9 @@ use Rattle.key_syms.specs.Names.{name_text, symbol}
 use Rattle.key_syms.specs.Numbers.{number_of}
 use Rattle.key_text.specs.Fault.{fault, ◌>>=◌}
 use Rattle.key_text.specs.FaultKinds.{OUT_OF_RANGE, UNKNOWN_SYMBOL, UNKNOWN_WORD, WRONG_COUNT}
-use Rattle.key_text.specs.Fields.{action_of, character_at, character_by, character_in, code_at, ended, function_at, function_by, good, is_quoted, keyword_at, known, named_character, ranged, real, symbol_at}
+use Rattle.key_text.specs.Fields.{action_of, character_at, character_by, character_in, code_at, end_of_line, function_at, function_by, good, is_quoted, keyword_at, symbol_action, named_character, number_in_range, real, symbol_at}
 use Rattle.key_text.specs.Quoted.{character_of}
-use Rattle.key_text.specs.Words.{bytes, is_quote, is_word, next, spot, taken, word_at}
+use Rattle.key_text.specs.Words.{bytes, is_quote, is_word, next, spot, required_word, word_at}
 use Rattle.key_text.specs.declared.fault.KeyFault.{KeyFault}
 use Rattle.key_text.specs.declared.placed.Place.{Place}
 use Rattle.key_text.specs.declared.placed.Placed.{Placed}
@@ -47,7 +47,7 @@ pub record ReadsOn (read : Result (List Placed) KeyFault) (words : List (List �
 
 pub next-is : (kind : ℕ) (end : Place) (items : List Placed) (text rest : List ℕ) (w : WordIs (word_at items) text rest) → next kind end items ≡ Ok (w.word, w.left)
 unfolding next
-next-is kind end items text rest w = ap (taken kind end) w.found ∙ w.good
+next-is kind end items text rest w = ap (required_word kind end) w.found ∙ w.good
 
 -- the next word of a row that has words left
 pub word-of : (items : List Placed) (text : List ℕ) (ws : List (List ℕ)) → bytes items ≡ tail (text ∷ ws) → is_word_text text ≡ true → WordIs (word_at items) text (tail ws)
@@ -66,16 +66,16 @@ keyword-read text end items ws word same e =
       leaves = w.leaves;
     }
 
-ranged-is : (low high : ℕ) (word : List Placed) (n : ℕ) → low ≤ n → n ≤ high → ranged low high word (Some n) ≡ Ok n
-ranged-is low high word n h k =
+number_in_range-is : (low high : ℕ) (word : List Placed) (n : ℕ) → low ≤ n → n ≤ high → number_in_range low high word (Some n) ≡ Ok n
+number_in_range-is low high word n h k =
     ap (λ b. cond b (Ok n) (Err (fault OUT_OF_RANGE (spot word)))) (and_from (leb low n) (leb n high) (le-leb low n h) (le-leb n high k))
 
 -- the number of a word
-pub number-ranged : (low : ℕ) (word : List Placed) (n : ℕ) (text : List ℕ) → text ≡ decimal n → low ≤ n → n < 256 → ranged low 255 word (number_of text) ≡ Ok n
-number-ranged low word n text e h k =
-    ap (λ t. ranged low 255 word (number_of t)) e
-    ∙ ap (ranged low 255 word) (decimal-number n k)
-    ∙ ranged-is low 255 word n h (omega arith)
+pub number-number_in_range : (low : ℕ) (word : List Placed) (n : ℕ) (text : List ℕ) → text ≡ decimal n → low ≤ n → n < 256 → number_in_range low 255 word (number_of text) ≡ Ok n
+number-number_in_range low word n text e h k =
+    ap (λ t. number_in_range low 255 word (number_of t)) e
+    ∙ ap (number_in_range low 255 word) (decimal-number n k)
+    ∙ number_in_range-is low 255 word n h (omega arith)
 
 pub code-read : (end : Place) (items : List Placed) (c : ℕ) (ws : List (List ℕ)) → 1 ≤ c → c < 256 → bytes items ≡ tail (decimal c ∷ ws) → Reads (code_at end items) c ws
 unfolding code_at
@@ -84,13 +84,13 @@ code-read end items c ws some small e =
     record {
       left = w.left;
       is =
-          ap (λ read. read >>= λ v. ranged 1 255 v.0 (number_of (bytes v.0)) >>= λ n. Ok (n, v.1)) (next-is UNKNOWN_WORD end items (decimal c) (tail ws) w)
-          ∙ ap (λ read. read >>= λ n. Ok (n, w.left)) (number-ranged 1 w.word c (bytes w.word) w.spells some small);
+          ap (λ read. read >>= λ v. number_in_range 1 255 v.0 (number_of (bytes v.0)) >>= λ n. Ok (n, v.1)) (next-is UNKNOWN_WORD end items (decimal c) (tail ws) w)
+          ∙ ap (λ read. read >>= λ n. Ok (n, w.left)) (number-number_in_range 1 w.word c (bytes w.word) w.spells some small);
       leaves = w.leaves;
     }
 
 action-of : (word : List Placed) (text : List ℕ) (a : Act) → bytes word ≡ text → symbol text ≡ Some a → action_of word ≡ Ok a
-action-of word text a e own = ap (λ t. known word (symbol t)) e ∙ ap (known word) own
+action-of word text a e own = ap (λ t. symbol_action word (symbol t)) e ∙ ap (symbol_action word) own
 
 pub symbol-read : NamesAreTheirOwn → (end : Place) (items : List Placed) (a : Act) (ws : List (List ℕ)) → IsTrue (is_action a.kind a.value) → bytes items ≡ tail (name_text a ∷ ws) → Reads (symbol_at end items) a ws
 unfolding symbol_at
@@ -143,7 +143,7 @@ character-read own end items n ws good_code e =
       leaves = w.leaves;
     }
 
-pub ended-read : (items : List Placed) → bytes items ≡ [] → ended items ≡ Ok tt
-unfolding ended word_at
-ended-read [] e = refl
-ended-read (p ∷ ps) e = cc
+pub end_of_line-read : (items : List Placed) → bytes items ≡ [] → end_of_line items ≡ Ok tt
+unfolding end_of_line word_at
+end_of_line-read [] e = refl
+end_of_line-read (p ∷ ps) e = cc

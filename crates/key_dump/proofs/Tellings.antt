@@ -5,7 +5,7 @@ use Rattle.std.proofs.lemmas.List.Folds.{list_any-append}
 use Rattle.std.specs.List.{flat_map, list_any}
 use Rattle.std.specs.Option.{option_or}
 use Rattle.key_text.specs.KeymapLine.{Telling, KeymapLine}
-use Rattle.key_compile.specs.Entries.{decided, gives}
+use Rattle.key_compile.specs.Entries.{last_action, gives}
 use Rattle.key_compile.specs.Pairs.{pairs_by, pairs_in}
 use Rattle.key_compile.specs.Strings.{last_text, text_by}
 use Rattle.key_dump.specs.Dump.{rows_from}
@@ -117,9 +117,9 @@ pub any-tellings : (test : Telling → Bool) (lines : List KeymapLine) → list_
 any-tellings test [] = refl
 any-tellings test (l ∷ ls) = ap (λ t. test l.telling || t) (any-tellings test ls)
 
-pub decided-last : (union : List ℕ) (t c : ℕ) (lines : List KeymapLine) → decided union lines t c ≡ last_by (λ telling. gives union telling t c) (tellings_of lines)
-decided-last union t c [] = refl
-decided-last union t c (l ∷ ls) = ap (λ a. option_or a (gives union l.telling t c)) (decided-last union t c ls)
+pub last_action-last : (union : List ℕ) (t c : ℕ) (lines : List KeymapLine) → last_action union lines t c ≡ last_by (λ telling. gives union telling t c) (tellings_of lines)
+last_action-last union t c [] = refl
+last_action-last union t c (l ∷ ls) = ap (λ a. option_or a (gives union l.telling t c)) (last_action-last union t c ls)
 
 pub text-last : (i : ℕ) (lines : List KeymapLine) → last_text lines i ≡ last_by (λ telling. text_by telling i) (tellings_of lines)
 text-last i [] = refl

@@ -4,7 +4,7 @@ use Rattle.std.specs.Prelude.{filter, find, slice_set}
 use Rattle.std.specs.List.{list_any}
 use Rattle.std.specs.Option.{option_map}
 use Rattle.key_machine.specs.Held.{downs, downs_from, holds_modifier}
-use Rattle.key_machine.specs.Keys.{Down, down_as, is_before, is_key, is_modifier, recorded, with_key, without_key}
+use Rattle.key_machine.specs.Keys.{Down, down_as, is_before, is_key, is_modifier, recorded_action, with_key, without_key}
 use Rattle.key_machine.proofs.Places.{after, before, elsewhere, here, not-after, not-before}
 use Rattle.key_syms.specs.Act.{Act}
 
@@ -113,10 +113,10 @@ any-from [] n v = refl
 any-from (None ∷ entries) n v = any-from entries (n + 1) v
 any-from (Some a ∷ entries) n v = rw (any-from entries (n + 1) v) refl
 
-pub recorded-downs : (entries : List (Option Act)) (from code : ℕ) → code < 256
-    → recorded (downs entries) from code ≡ get_or entries (256 * from + code) None
-unfolding recorded downs
-recorded-downs entries from code low = found-at entries 0 (256 * from + code) from code low (omega arith)
+pub recorded_action-downs : (entries : List (Option Act)) (from code : ℕ) → code < 256
+    → recorded_action (downs entries) from code ≡ get_or entries (256 * from + code) None
+unfolding recorded_action downs
+recorded_action-downs entries from code low = found-at entries 0 (256 * from + code) from code low (omega arith)
 
 pub with_key-downs : (entries : List (Option Act)) (from code : ℕ) (a : Act) → code < 256
     → 256 * from + code < length entries
@@ -138,4 +138,4 @@ unfolding downs
 any-downs entries v = any-from entries 0 v
 
 -- what a proof about the entries needs
-pub ruleset entries_as_keys = (recorded-downs, with_key-downs, without_key-downs)
+pub ruleset entries_as_keys = (recorded_action-downs, with_key-downs, without_key-downs)

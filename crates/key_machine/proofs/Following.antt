@@ -5,10 +5,10 @@ use Rattle.std.specs.Option.{option_map, option_or}
 use Rattle.std.proofs.lemmas.Bool.{and_parts, cases_Bool, cases_order, eqb-true, false≢true}
 use Rattle.std.proofs.lemmas.List.Folds.{find-append}
 use Rattle.key_machine.proofs.Places.{both-other, both-same, first-after, first-before, second-after, second-before}
-use Rattle.key_machine.specs.Keys.{Down, Keys, State, down_as, is_before, is_key, recorded, weight_of, with_key, without_key, without_keyboard}
+use Rattle.key_machine.specs.Keys.{Down, Keys, State, down_as, is_before, is_key, recorded_action, weight_of, with_key, without_key, without_keyboard}
 use Rattle.key_machine.specs.Histories.{looked_up}
 use Rattle.key_machine.specs.Laws.{KeysFollow, RecordsStay, UnplugTakes}
-use Rattle.key_machine.specs.Step.{Step, acted, performed, pressed, released, special}
+use Rattle.key_machine.specs.Step.{Step, action_step, acting_press_step, press_step, release_step, special}
 use Rattle.key_machine.specs.declared.key_modes.KeyModes.{KeyModes}
 use Rattle.key_syms.specs.Act.{Act}
 use Rattle.key_tables.specs.Tables.{Tables}
@@ -26,36 +26,36 @@ special-down : (modes : KeyModes) (v : ℕ) (keys : Keys) (s : State) → (speci
 unfolding special
 special-down modes v keys s = simp (down-cond, cond-same)
 
-acted-down : (tables : Tables) (modes : KeyModes) (weight : ℕ) (a : Act) (keys : Keys) (s : State)
-    → (acted tables modes weight a keys s).keys.down ≡ keys.down
-unfolding acted
-acted-down tables modes weight a keys s = simp (down-cond, special-down, cond-same)
+action_step-down : (tables : Tables) (modes : KeyModes) (weight : ℕ) (a : Act) (keys : Keys) (s : State)
+    → (action_step tables modes weight a keys s).keys.down ≡ keys.down
+unfolding action_step
+action_step-down tables modes weight a keys s = simp (down-cond, special-down, cond-same)
 
-performed-down : (tables : Tables) (modes : KeyModes) (weight : ℕ) (a : Act) (code : ℕ) (keys : Keys) (s : State)
-    → (performed tables modes weight a code keys s).keys.down ≡ keys.down
-unfolding performed
-performed-down tables modes weight a code keys s = simp (down-cond, acted-down, cond-same)
+acting_press_step-down : (tables : Tables) (modes : KeyModes) (weight : ℕ) (a : Act) (code : ℕ) (keys : Keys) (s : State)
+    → (acting_press_step tables modes weight a code keys s).keys.down ≡ keys.down
+unfolding acting_press_step
+acting_press_step-down tables modes weight a code keys s = simp (down-cond, action_step-down, cond-same)
 
 -- a key that is up is recorded at its press, one that is down stays as it is
 pub fresh-down : (tables : Tables) (modes : KeyModes) (from code : ℕ) (keys : Keys) (s : State)
-    → is_some (recorded keys.down from code) ≡ false
-    → (pressed tables modes from code keys s).keys.down ≡ with_key keys.down from code (looked_up tables code keys s)
-unfolding pressed
+    → is_some (recorded_action keys.down from code) ≡ false
+    → (press_step tables modes from code keys s).keys.down ≡ with_key keys.down from code (looked_up tables code keys s)
+unfolding press_step
 fresh-down tables modes from code keys s up =
     let weight = weight_of keys.down in
     let a = looked_up tables code keys s in
-    rw up (performed-down tables modes weight a code (record keys { down = with_key keys.down from code a }) s)
+    rw up (acting_press_step-down tables modes weight a code (record keys { down = with_key keys.down from code a }) s)
 
 pub held-down : (tables : Tables) (modes : KeyModes) (from code : ℕ) (keys : Keys) (s : State)
-    → is_some (recorded keys.down from code) ≡ true
-    → (pressed tables modes from code keys s).keys.down ≡ keys.down
-unfolding pressed
-held-down tables modes from code keys s down = rw down (simp (down-cond, performed-down, cond-same))
+    → is_some (recorded_action keys.down from code) ≡ true
+    → (press_step tables modes from code keys s).keys.down ≡ keys.down
+unfolding press_step
+held-down tables modes from code keys s down = rw down (simp (down-cond, acting_press_step-down, cond-same))
 
-pub released-down : (from code : ℕ) (keys : Keys) (s : State)
-    → (released from code keys s).keys.down ≡ without_key keys.down from code
-unfolding released
-released-down from code keys s = simp (down-cond, cond-same)
+pub release_step-down : (from code : ℕ) (keys : Keys) (s : State)
+    → (release_step from code keys s).keys.down ≡ without_key keys.down from code
+unfolding release_step
+release_step-down from code keys s = simp (down-cond, cond-same)
 
 -- a test of a key that a keyboard and a keycode decide
 abbrev Test : Type 0
@@ -167,11 +167,11 @@ found-with down at key from code a =
     (down_as at key a ∷ filter (λ d. upper at key d.from d.code) down)
 
 -- what is recorded after a key went down
-pub recorded-with_key : (down : List Down) (at key from code : ℕ) (a : Act)
-    → recorded (with_key down at key a) from code
-    ≡ cond (from == at && code == key) (Some a) (recorded down from code)
-unfolding recorded
-recorded-with_key down at key from code a =
+pub recorded_action-with_key : (down : List Down) (at key from code : ℕ) (a : Act)
+    → recorded_action (with_key down at key a) from code
+    ≡ cond (from == at && code == key) (Some a) (recorded_action down from code)
+unfolding recorded_action
+recorded_action-with_key down at key from code a =
     rw (found-with down at key from code a) (elim (keys-order at key from code) [
       | inl same ↦
           rw (
@@ -197,11 +197,11 @@ recorded-with_key down at key from code a =
     ])
 
 -- and after it went up
-pub recorded-without_key : (down : List Down) (at key from code : ℕ)
-    → recorded (without_key down at key) from code
-    ≡ cond (from == at && code == key) None (recorded down from code)
-unfolding recorded without_key
-recorded-without_key down at key from code = ⊎_elim
+pub recorded_action-without_key : (down : List Down) (at key from code : ℕ)
+    → recorded_action (without_key down at key) from code
+    ≡ cond (from == at && code == key) None (recorded_action down from code)
+unfolding recorded_action without_key
+recorded_action-without_key down at key from code = ⊎_elim
     (λ (here : (from == at && code == key) ≡ true).
     let left : is_not at key from code ≡ false = rw here refl in
     rw (find-left (is_not at key) down from code left) (rw here refl))
@@ -211,10 +211,10 @@ recorded-without_key down at key from code = ⊎_elim
     (cases_Bool (from == at && code == key))
 
 -- and after its keyboard went
-pub recorded-without_keyboard : (down : List Down) (at from code : ℕ)
-    → recorded (without_keyboard down at) from code ≡ cond (from == at) None (recorded down from code)
-unfolding recorded without_keyboard
-recorded-without_keyboard down at from code = ⊎_elim
+pub recorded_action-without_keyboard : (down : List Down) (at from code : ℕ)
+    → recorded_action (without_keyboard down at) from code ≡ cond (from == at) None (recorded_action down from code)
+unfolding recorded_action without_keyboard
+recorded_action-without_keyboard down at from code = ⊎_elim
     (λ (here : (from == at) ≡ true).
     let left : not (from == at) ≡ false = rw here refl in
     rw (find-left (λ on _. not (on == at)) down from code left) (rw here refl))
@@ -225,16 +225,16 @@ recorded-without_keyboard down at from code = ⊎_elim
 
 pub unplug-takes : UnplugTakes
 unplug-takes from keys = record {
-  down = λ on code. recorded-without_keyboard keys.down from on code;
+  down = λ on code. recorded_action-without_keyboard keys.down from on code;
   waiting = refl;
   number = refl;
 }
 
-pressed-follows : (tables : Tables) (modes : KeyModes) (at key from code : ℕ) (keys : Keys) (s : State)
-    → is_some (recorded (pressed tables modes at key keys s).keys.down from code)
-    ≡ cond (from == at && code == key) true (is_some (recorded keys.down from code))
-pressed-follows tables modes at key from code keys s = ⊎_elim
-    (λ (down : is_some (recorded keys.down at key) ≡ true).
+press_step-follows : (tables : Tables) (modes : KeyModes) (at key from code : ℕ) (keys : Keys) (s : State)
+    → is_some (recorded_action (press_step tables modes at key keys s).keys.down from code)
+    ≡ cond (from == at && code == key) true (is_some (recorded_action keys.down from code))
+press_step-follows tables modes at key from code keys s = ⊎_elim
+    (λ (down : is_some (recorded_action keys.down at key) ≡ true).
     let same = held-down tables modes at key keys s down in
     rw same (⊎_elim
     (λ (here : (from == at && code == key) ≡ true).
@@ -242,20 +242,20 @@ pressed-follows tables modes at key from code keys s = ⊎_elim
     rw here (rw (is.0, is.1) down))
     (λ (other : (from == at && code == key) ≡ false). rw other refl)
     (cases_Bool (from == at && code == key))))
-    (λ (up : is_some (recorded keys.down at key) ≡ false).
+    (λ (up : is_some (recorded_action keys.down at key) ≡ false).
     let fresh = fresh-down tables modes at key keys s up in
-    rw (fresh, recorded-with_key keys.down at key from code (looked_up tables key keys s))
+    rw (fresh, recorded_action-with_key keys.down at key from code (looked_up tables key keys s))
     (⊎_elim
     (λ (here : (from == at && code == key) ≡ true). rw here refl)
     (λ (other : (from == at && code == key) ≡ false). rw other refl)
     (cases_Bool (from == at && code == key))))
-    (cases_Bool (is_some (recorded keys.down at key)))
+    (cases_Bool (is_some (recorded_action keys.down at key)))
 
 pub keys-follow : KeysFollow
 keys-follow tables modes from e keys s on code = ⊎_elim
-    (λ (down : e.down ≡ true). rw down (pressed-follows tables modes from e.code on code keys s))
+    (λ (down : e.down ≡ true). rw down (press_step-follows tables modes from e.code on code keys s))
     (λ (up : e.down ≡ false).
-    rw (up, released-down from e.code keys s, recorded-without_key keys.down from e.code on code)
+    rw (up, release_step-down from e.code keys s, recorded_action-without_key keys.down from e.code on code)
     (⊎_elim
     (λ (here : (on == from && code == e.code) ≡ true). rw here refl)
     (λ (other : (on == from && code == e.code) ≡ false). rw other refl)
@@ -266,16 +266,16 @@ pub records-stay : RecordsStay
 records-stay tables modes from e keys s on code down stays = ⊎_elim
     (λ (goes_down : e.down ≡ true).
     rw goes_down (⊎_elim
-    (λ (held : is_some (recorded keys.down from e.code) ≡ true).
+    (λ (held : is_some (recorded_action keys.down from e.code) ≡ true).
     rw (held-down tables modes from e.code keys s held) refl)
-    (λ (up : is_some (recorded keys.down from e.code) ≡ false).
+    (λ (up : is_some (recorded_action keys.down from e.code) ≡ false).
     let fresh = fresh-down tables modes from e.code keys s up in
     let other = both-other on from code e.code
     (λ first second. false≢true (sym up ∙ (rw (sym first, sym second) down))) in
-    rw (fresh, recorded-with_key keys.down from e.code on code (looked_up tables e.code keys s), other) refl)
-    (cases_Bool (is_some (recorded keys.down from e.code)))))
+    rw (fresh, recorded_action-with_key keys.down from e.code on code (looked_up tables e.code keys s), other) refl)
+    (cases_Bool (is_some (recorded_action keys.down from e.code)))))
     (λ (goes_up : e.down ≡ false).
     let other = both-other on from code e.code (λ first second. false≢true (sym goes_up ∙ stays first second)) in
-    rw (goes_up, released-down from e.code keys s, recorded-without_key keys.down from e.code on code, other)
+    rw (goes_up, release_step-down from e.code keys s, recorded_action-without_key keys.down from e.code on code, other)
     refl)
     (cases_Bool e.down)

@@ -8,7 +8,7 @@ use Rattle.std.specs.Option.{option_map}
 use Rattle.std.specs.Str.{bytes_eq}
 use Rattle.key_syms.specs.Act.{Act, act, is_action}
 use Rattle.key_syms.specs.Index.{name_at}
-use Rattle.key_syms.specs.Names.{first_name, listed, same_act}
+use Rattle.key_syms.specs.Names.{first_name, listed_action, same_act}
 use Rattle.key_syms.specs.Symbols.{Symbol, symbols}
 use Rattle.key_syms.specs.declared.index.TheConstants.{KINDS, VALUES}
 use Rattle.key_syms.specs.declared.table.TheConstants.{NAME_COUNT}
@@ -90,15 +90,15 @@ another name place j h e k =
     let equal : j ≡ place = names-apart j place (omega arith) h (row-name j (omega arith) ∙ texts ∙ sym e) in
     omega arith)
 
-pub listed-found : (name : List ℕ) (place : ℕ) → place < NAME_COUNT → name_at place ≡ name → listed symbols name ≡ Some (act (slice_index KINDS place) (slice_index VALUES place))
-listed-found name place h e =
+pub listed_action-found : (name : List ℕ) (place : ℕ) → place < NAME_COUNT → name_at place ≡ name → listed_action symbols name ≡ Some (act (slice_index KINDS place) (slice_index VALUES place))
+listed_action-found name place h e =
     let test : Symbol → Bool = λ s. bytes_eq s.name name in
     let there : test (row_at place) ≡ true = (bytes_eq-Decides _ _).1 (sym (row-name place h) ∙ e) in
     ap (option_map (λ (s : Symbol). s.act)) (find-at test symbols no_symbol place (within place h) there (λ j k. another name place j h e k))
     ∙ ap Some (row place h).action
 
-pub listed-missing : (name : List ℕ) → ((place : ℕ) → place < NAME_COUNT → name_at place ≢ name) → listed symbols name ≡ None
-listed-missing name h =
+pub listed_action-missing : (name : List ℕ) → ((place : ℕ) → place < NAME_COUNT → name_at place ≢ name) → listed_action symbols name ≡ None
+listed_action-missing name h =
     let test : Symbol → Bool = λ s. bytes_eq s.name name in
     ap (option_map (λ (s : Symbol). s.act)) (find-none test symbols no_symbol (λ k q.
     let in_table : k < NAME_COUNT = subst (λ (n : ℕ). k < n) length-symbols q in

@@ -9,7 +9,7 @@ use std::marker::Model;
 use vt_base::NoMemory;
 
 // How many tables there may be.
-const COUNT: usize = 256;
+const TABLE_COUNT: usize = 256;
 
 /// The tables by number. Those that are declared are kept alone, each at a place of its own.
 #[derive(Debug, Drop)]
@@ -36,9 +36,9 @@ impl Maps {
         ensures holes { IfOk result (AreHoles declared.now) }
         ensures whole { IfOk result AreMaps }
     {
-        let mut places = Vec::with_capacity(alloc, COUNT)?;
+        let mut places = Vec::with_capacity(alloc, TABLE_COUNT)?;
         let mut kept = Vec::new(alloc);
-        for t in 0..COUNT {
+        for t in 0..TABLE_COUNT {
             places.push(declare(alloc, &mut kept, declared.contains(&(t as u8)))?)?;
         }
         Ok(Maps { places, kept })

@@ -7,7 +7,7 @@ use std::marker::Model;
 use vt_base::NoMemory;
 
 // How many codes a table has entries for.
-const CODES: usize = 256;
+const KEYCODES: usize = 256;
 
 /// A table: the actions by code.
 #[derive(Debug, Drop)]
@@ -74,7 +74,7 @@ fn hole_entries(alloc: Global) -> Result<Vec<Action>, AllocError>
 {
     let mut entries = Vec::new(alloc);
     entries.resize(
-        CODES,
+        KEYCODES,
         Action {
             kind: kind::HOLE,
             value: 0,

@@ -9,16 +9,16 @@ use Rattle.key_text.proofs.Shorter.{shorter}
 use Rattle.key_text.proofs.WordBytes.{bytes-drop, bytes-take, word_len-bare}
 use Rattle.key_text.specs.Parted.{PlacesTell}
 use Rattle.key_text.specs.Reading.{most_deep, read_rows, within}
-use Rattle.key_text.specs.Rows.{Row, after, backslash, begins_end, begins_lf, behind, carriage_return, joined, line_feed, next_line, place_of, placed, put_at, row_of, rows, rows_of, with_item}
+use Rattle.key_text.specs.Rows.{Row, after, backslash, begins_end, begins_lf, place_after, carriage_return, join_continuations, line_feed, next_line, place_of, with_places, put_at, row_of, rows, rows_of, with_item}
 use Rattle.key_text.specs.SameWords.{SameBytes, SameRows, SameWords, done, ended, row, word}
 use Rattle.key_text.specs.Words.{bytes, is_blank, word_at, word_in, word_len}
 use Rattle.key_text.specs.declared.placed.Place.{Place}
 use Rattle.key_text.specs.declared.placed.Placed.{Placed}
 
 -- the bytes are the same
-placed-same : (at there : Place) (bs : List ℕ) → bytes (placed at bs) ≡ bytes (placed there bs)
-placed-same at there [] = refl
-placed-same at there (b ∷ bs) = ap (λ xs. b ∷ xs) (placed-same (behind at b) (behind there b) bs)
+with_places-same : (at there : Place) (bs : List ℕ) → bytes (with_places at bs) ≡ bytes (with_places there bs)
+with_places-same at there [] = refl
+with_places-same at there (b ∷ bs) = ap (λ xs. b ∷ xs) (with_places-same (place_after at b) (place_after there b) bs)
 
 first_byte : (p q : Placed) (ps qs : List Placed) → bytes (p ∷ ps) ≡ bytes (q ∷ qs) → p.byte ≡ q.byte
 first_byte p q ps qs e = head_same p.byte q.byte (bytes ps) (bytes qs) e
@@ -55,24 +55,24 @@ cons_bytes a b xs ys e f = cc
 without-first : (xs ys : List Placed) → bytes xs ≡ bytes ys → bytes (drop 1 xs) ≡ bytes (drop 1 ys)
 without-first xs ys e = bytes-drop 1 xs ∙ ap (drop 1) e ∙ sym (bytes-drop 1 ys)
 
-joined-same : (ps qs : List Placed) → bytes ps ≡ bytes qs → bytes (joined ps) ≡ bytes (joined qs)
-joined-same [] [] e = refl
-joined-same [] (q ∷ qs) e = absurd (some_bytes q qs e)
-joined-same (p ∷ ps) [] e = absurd (some_bytes p ps (sym e))
-joined-same (p ∷ ps) (q ∷ qs) e =
+join_continuations-same : (ps qs : List Placed) → bytes ps ≡ bytes qs → bytes (join_continuations ps) ≡ bytes (join_continuations qs)
+join_continuations-same [] [] e = refl
+join_continuations-same [] (q ∷ qs) e = absurd (some_bytes q qs e)
+join_continuations-same (p ∷ ps) [] e = absurd (some_bytes p ps (sym e))
+join_continuations-same (p ∷ ps) (q ∷ qs) e =
     let b = first_byte p q ps qs e in
     let t = rest_bytes p q ps qs e in
-    let rest = joined-same ps qs t in
-    let gone = without-first (joined ps) (joined qs) rest in
+    let rest = join_continuations-same ps qs t in
+    let gone = without-first (join_continuations ps) (join_continuations qs) rest in
     choose (p.byte == backslash && begins_end ps) (q.byte == backslash && begins_end qs)
-    (drop 1 (joined ps)) (cond (p.byte == carriage_return && begins_lf ps) (put_at (place_of p) line_feed ∷ drop 1 (joined ps)) (p ∷ joined ps))
-    (drop 1 (joined qs)) (cond (q.byte == carriage_return && begins_lf qs) (put_at (place_of q) line_feed ∷ drop 1 (joined qs)) (q ∷ joined qs))
+    (drop 1 (join_continuations ps)) (cond (p.byte == carriage_return && begins_lf ps) (put_at (place_of p) line_feed ∷ drop 1 (join_continuations ps)) (p ∷ join_continuations ps))
+    (drop 1 (join_continuations qs)) (cond (q.byte == carriage_return && begins_lf qs) (put_at (place_of q) line_feed ∷ drop 1 (join_continuations qs)) (q ∷ join_continuations qs))
     (ap (λ x. x == backslash && begins_end ps) b ∙ ap (λ x. q.byte == backslash && x) (end-same ps qs t)) gone
     (choose (p.byte == carriage_return && begins_lf ps) (q.byte == carriage_return && begins_lf qs)
-    (put_at (place_of p) line_feed ∷ drop 1 (joined ps)) (p ∷ joined ps) (put_at (place_of q) line_feed ∷ drop 1 (joined qs)) (q ∷ joined qs)
+    (put_at (place_of p) line_feed ∷ drop 1 (join_continuations ps)) (p ∷ join_continuations ps) (put_at (place_of q) line_feed ∷ drop 1 (join_continuations qs)) (q ∷ join_continuations qs)
     (ap (λ x. x == carriage_return && begins_lf ps) b ∙ ap (λ x. q.byte == carriage_return && x) (lf-same ps qs t))
     (ap (λ xs. line_feed ∷ xs) gone)
-    (cons_bytes p.byte q.byte (bytes (joined ps)) (bytes (joined qs)) b rest))
+    (cons_bytes p.byte q.byte (bytes (join_continuations ps)) (bytes (join_continuations qs)) b rest))
 
 -- rows of the same bytes, one by one
 abbrev Match : List Row → List Row → Type 0
@@ -164,8 +164,8 @@ match-rows (r ∷ rs) (s ∷ ss) m = row r s rs ss (bytes-words (length r.items)
 same-elsewhere : (at there : Place) (text : List ℕ) → SameRows (SameWords SameBytes) (rows_of at text) (rows_of there text)
 unfolding rows_of
 same-elsewhere at there text =
-    match-rows (rows at (joined (placed at text))) (rows there (joined (placed there text)))
-    (rows-match (joined (placed at text)) (joined (placed there text)) (joined-same (placed at text) (placed there text) (placed-same at there text)) at there)
+    match-rows (rows at (join_continuations (with_places at text))) (rows there (join_continuations (with_places there text)))
+    (rows-match (join_continuations (with_places at text)) (join_continuations (with_places there text)) (join_continuations-same (with_places at text) (with_places there text) (with_places-same at there text)) at there)
 
 pub places-tell : PlacesTell
 places-tell texts at there n text =

@@ -10,11 +10,11 @@ use Rattle.key_text.proofs.Same.{Same, pick, then}
 use Rattle.key_text.proofs.Shorter.{shorter}
 use Rattle.key_text.specs.Fault.{fault, ◌>>=◌}
 use Rattle.key_text.specs.FaultKinds.{BAD_TEXT, UNKNOWN_WORD}
-use Rattle.key_text.specs.Fields.{action_of, character_at, code_at, ended, function_at, keyword_at, string_at, symbol_at, symbols_after, symbols_at, text_at, with_actions}
+use Rattle.key_text.specs.Fields.{action_of, character_at, code_at, end_of_line, function_at, keyword_at, string_at, symbol_at, symbols_after, symbols_at, text_at, with_actions}
 use Rattle.key_text.specs.KeymapLine.{Telling, alt_is_meta, compose, keymaps, keys, one, string, usual_pairs, usual_strings}
 use Rattle.key_text.specs.Lines.{Said, after_charset, alt_is_meta_line, charset_line, compose_line, include_line, includes, is_next, is_next_by, keymaps_line, keys_line, line_by, modified_by, modified_line, modifiers_at, modifiers_by, nothing, pair_line, pair_of, said_from, string_line, tables_in, tells, usual_pairs_line, usual_strings_line, weight_of}
 use Rattle.key_text.specs.SameWords.{ended as done, word}
-use Rattle.key_text.specs.Words.{bytes, is_word, next, nth_place, spot, taken, whole, word_at}
+use Rattle.key_text.specs.Words.{bytes, is_word, next, nth_place, spot, required_word, whole, word_at}
 use Rattle.key_text.specs.declared.fault.KeyFault.{KeyFault}
 use Rattle.key_text.specs.declared.placed.Place.{Place}
 use Rattle.key_text.specs.declared.placed.Placed.{Placed}
@@ -43,7 +43,7 @@ unfolding keymaps_line
 keymaps-says d e i j s =
     then Words Says (next UNKNOWN_WORD d i) (next UNKNOWN_WORD e j) _ _ (taking UNKNOWN_WORD d e i j s)
     (λ v w l. then Equal Says (tables_in v.0 (bytes v.0)) (tables_in w.0 (bytes w.0)) _ _ (l.0).tables
-    (λ x y t. then Equal Says (ended v.1) (ended w.1) _ _ (ending v.1 w.1 l.1)
+    (λ x y t. then Equal Says (end_of_line v.1) (end_of_line w.1) _ _ (ending v.1 w.1 l.1)
     (λ _ _ _. tells-same (keymaps x) (keymaps y) (ap keymaps t))))
 
 -- two words that are the same keywords
@@ -128,11 +128,11 @@ modifiers-by n m table d e v w x y same l rest =
 
 next-none : (kind : ℕ) (d : Place) (i : List Placed) → word_at i ≡ None → next kind d i ≡ Err (fault kind d)
 unfolding next
-next-none kind d i e = ap (taken kind d) e
+next-none kind d i e = ap (required_word kind d) e
 
 next-some : (kind : ℕ) (d : Place) (i : List Placed) (v : List Placed × List Placed) → word_at i ≡ Some v → next kind d i ≡ whole v
 unfolding next
-next-some kind d i v e = ap (taken kind d) e
+next-some kind d i v e = ap (required_word kind d) e
 
 modifiers-none : (n m table : ℕ) (d e : Place) (i j : List Placed) → word_at i ≡ None → word_at j ≡ None → length i < n → length j < m → Same With (modifiers_at n table d i) (modifiers_at m table e j)
 modifiers-none zero m table d e i j h k n_some m_some = absurd (omega arith)
@@ -163,7 +163,7 @@ modified-says weight d e i j s =
     (λ t u x. then With Says (code_at d t.1) (code_at e u.1) _ _ (coding d e t.1 u.1 x.1)
     (λ n m l. then Alike Says (keyword_at (codes "=") d n.1) (keyword_at (codes "=") e m.1) _ _ (keywords (codes "=") refl d e n.1 m.1 l.1)
     (λ r q y. then With Says (symbol_at d r) (symbol_at e q) _ _ (symbolic d e r q y)
-    (λ a b k. then Equal Says (ended a.1) (ended b.1) _ _ (ending a.1 b.1 k.1)
+    (λ a b k. then Equal Says (end_of_line a.1) (end_of_line b.1) _ _ (ending a.1 b.1 k.1)
     (λ _ _ _. tells-same (one t.0 n.0 a.0) (one u.0 m.0 b.0) (ap (λ z. one z n.0 a.0) x.0 ∙ ap (λ z. one u.0 z a.0) l.0 ∙ ap (one u.0 m.0) k.0))))))
 
 pub string-says : (d e : Place) (i j : List Placed) → Alike i j → Same Says (string_line d i) (string_line e j)
@@ -172,7 +172,7 @@ string-says d e i j s =
     then With Says (function_at d i) (function_at e j) _ _ (functions d e i j s)
     (λ n m l. then Alike Says (keyword_at (codes "=") d n.1) (keyword_at (codes "=") e m.1) _ _ (keywords (codes "=") refl d e n.1 m.1 l.1)
     (λ r q y. then With Says (string_at d r) (string_at e q) _ _ (strings d e r q y)
-    (λ a b k. then Equal Says (ended a.1) (ended b.1) _ _ (ending a.1 b.1 k.1)
+    (λ a b k. then Equal Says (end_of_line a.1) (end_of_line b.1) _ _ (ending a.1 b.1 k.1)
     (λ _ _ _. tells-same (string n.0 a.0) (string m.0 b.0) (ap (λ z. string z a.0) l.0 ∙ ap (string m.0) k.0)))))
 
 pub pair-says : (d e : Place) (i j : List Placed) → Alike i j → Same Says (pair_line d i) (pair_line e j)
@@ -182,7 +182,7 @@ pair-says d e i j s =
     (λ a a' k. then With Says (character_at d a.1) (character_at e a'.1) _ _ (characters d e a.1 a'.1 k.1)
     (λ b b' l. then Alike Says (keyword_at (codes "to") d b.1) (keyword_at (codes "to") e b'.1) _ _ (keywords (codes "to") refl d e b.1 b'.1 l.1)
     (λ r q y. then With Says (character_at d r) (character_at e q) _ _ (characters d e r q y)
-    (λ c c' m. then Equal Says (ended c.1) (ended c'.1) _ _ (ending c.1 c'.1 m.1)
+    (λ c c' m. then Equal Says (end_of_line c.1) (end_of_line c'.1) _ _ (ending c.1 c'.1 m.1)
     (λ _ _ _. tells-same (compose (pair_of a.0 b.0 c.0)) (compose (pair_of a'.0 b'.0 c'.0))
     (ap (λ z. compose (pair_of z b.0 c.0)) k.0 ∙ ap (λ z. compose (pair_of a'.0 z c.0)) l.0 ∙ ap (λ z. compose (pair_of a'.0 b'.0 z)) m.0))))))
 
@@ -213,7 +213,7 @@ usual-pairs-says d e i j s =
     then Alike Says (keyword_at (codes "as") d i) (keyword_at (codes "as") e j) _ _ (keywords (codes "as") refl d e i j s)
     (λ r q t. then Alike Says (keyword_at (codes "usual") d r) (keyword_at (codes "usual") e q) _ _ (keywords (codes "usual") refl d e r q t)
     (λ x y k. then Alike Says (after_charset d x) (after_charset e y) _ _ (charsets d e x y k)
-    (λ z u l. then Equal Says (ended z) (ended u) _ _ (ending z u l) (λ _ _ _. a_line usual_pairs))))
+    (λ z u l. then Equal Says (end_of_line z) (end_of_line u) _ _ (ending z u l) (λ _ _ _. a_line usual_pairs))))
 
 pub compose-says : (d e : Place) (i j : List Placed) → Alike i j → Same Says (compose_line d i) (compose_line e j)
 unfolding compose_line
@@ -226,11 +226,11 @@ unfolding usual_strings_line
 usual-strings-says d e i j s =
     then Alike Says (keyword_at (codes "as") d i) (keyword_at (codes "as") e j) _ _ (keywords (codes "as") refl d e i j s)
     (λ r q t. then Alike Says (keyword_at (codes "usual") d r) (keyword_at (codes "usual") e q) _ _ (keywords (codes "usual") refl d e r q t)
-    (λ z u l. then Equal Says (ended z) (ended u) _ _ (ending z u l) (λ _ _ _. a_line usual_strings)))
+    (λ z u l. then Equal Says (end_of_line z) (end_of_line u) _ _ (ending z u l) (λ _ _ _. a_line usual_strings)))
 
 pub alt-is-meta-says : (i j : List Placed) → Alike i j → Same Says (alt_is_meta_line i) (alt_is_meta_line j)
 unfolding alt_is_meta_line
-alt-is-meta-says i j s = then Equal Says (ended i) (ended j) _ _ (ending i j s) (λ _ _ _. a_line alt_is_meta)
+alt-is-meta-says i j s = then Equal Says (end_of_line i) (end_of_line j) _ _ (ending i j s) (λ _ _ _. a_line alt_is_meta)
 
 bad-ends : (x y : Result (Unit {0}) KeyFault) → Same Equal x y → Faults (result_err x) (result_err y)
 bad-ends (Ok x) (Ok y) h = tt
@@ -242,13 +242,13 @@ pub include-says : (d e : Place) (i j : List Placed) → Alike i j → Same Says
 unfolding include_line
 include-says d e i j s =
     then Texts Says (text_at d i) (text_at e j) _ _ (texts d e i j s)
-    (λ x y l. includes-same x.0 y.0 x.1 y.1 (result_err (ended x.2)) (result_err (ended y.2)) l.0 (bad-ends (ended x.2) (ended y.2) (ending x.2 y.2 l.1)))
+    (λ x y l. includes-same x.0 y.0 x.1 y.1 (result_err (end_of_line x.2)) (result_err (end_of_line y.2)) l.0 (bad-ends (end_of_line x.2) (end_of_line y.2) (ending x.2 y.2 l.1)))
 
 pub charset-says : (d e : Place) (i j : List Placed) → Alike i j → Same Says (charset_line d i) (charset_line e j)
 unfolding charset_line
 charset-says d e i j s =
     then Texts Says (text_at d i) (text_at e j) _ _ (texts d e i j s)
-    (λ x y l. then Equal Says (ended x.2) (ended y.2) _ _ (ending x.2 y.2 l.1) (λ _ _ _. no_line))
+    (λ x y l. then Equal Says (end_of_line x.2) (end_of_line y.2) _ _ (ending x.2 y.2 l.1) (λ _ _ _. no_line))
 
 -- a row by its first word, whose case is nothing
 abbrev pub Keys : List Placed × List Placed → List Placed × List Placed → Type 0

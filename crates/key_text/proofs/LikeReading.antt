@@ -10,10 +10,10 @@ use Rattle.key_text.specs.FaultKinds.{TOO_MANY_INCLUDES}
 use Rattle.key_text.specs.Included.{Named, text_named}
 use Rattle.key_text.specs.KeymapLine.{KeymapLine}
 use Rattle.key_text.specs.Lines.{Said, said_from}
-use Rattle.key_text.specs.Reading.{Deeper, Got, blamed, blamed_fault, given, got, included, lines_of, most_deep, most_includes, read_row, read_row_by, read_rows, start, unless, with_lines, within}
+use Rattle.key_text.specs.Reading.{Deeper, Got, at_outer_include, blamed_fault, got_from_row, make_got, got_from_include, lines_of, most_deep, most_includes, read_row, read_row_by, read_rows, start, unless, with_lines, within}
 use Rattle.key_text.specs.Rows.{Row, rows_of}
 use Rattle.key_text.specs.SameWords.{SameBytes, SameRows, SameWords, WordsDecide, done, row, left, right, ended, word}
-use Rattle.key_text.specs.Tellings.{tellings, told}
+use Rattle.key_text.specs.Tellings.{tellings, tellings_or_fault}
 use Rattle.key_text.specs.Words.{spot, word_at}
 use Rattle.key_text.specs.declared.fault.KeyFault.{KeyFault}
 use Rattle.key_text.specs.declared.placed.Place.{Place}
@@ -27,28 +27,28 @@ Gots g h = (tellings g.lines ≡ tellings h.lines) × (g.count ≡ h.count)
 abbrev pub Deepers : Deeper → Deeper → Type 0
 Deepers x y = (p q r s : Place) (b c : Option KeyFault) → Faults b c → (n : ℕ) (text : List ℕ) → Same Gots (x p q b n text) (y r s c n text)
 
-blames : {X Y : Type 0} (R : X → Y → Type 0) (a b : Option Place) (x : Result X KeyFault) (y : Result Y KeyFault) → Same R x y → Same R (blamed a x) (blamed b y)
+blames : {X Y : Type 0} (R : X → Y → Type 0) (a b : Option Place) (x : Result X KeyFault) (y : Result Y KeyFault) → Same R x y → Same R (at_outer_include a x) (at_outer_include b y)
 blames R a b (Ok x) (Ok y) h = h
 blames R a b (Ok x) (Err g) h = absurd h
 blames R a b (Err f) (Ok y) h = absurd h
 blames R a b (Err f) (Err g) h = h
 
-blamed-faults : (a b : Option Place) (x y : Option KeyFault) → Faults x y → Faults (option_map (blamed_fault a) x) (option_map (blamed_fault b) y)
-blamed-faults a b None None h = tt
-blamed-faults a b None (Some g) h = absurd h
-blamed-faults a b (Some f) None h = absurd h
-blamed-faults a b (Some f) (Some g) h = h
+at_outer_include-faults : (a b : Option Place) (x y : Option KeyFault) → Faults x y → Faults (option_map (blamed_fault a) x) (option_map (blamed_fault b) y)
+at_outer_include-faults a b None None h = tt
+at_outer_include-faults a b None (Some g) h = absurd h
+at_outer_include-faults a b (Some f) None h = absurd h
+at_outer_include-faults a b (Some f) (Some g) h = h
 
-includeds : (x y : List ℕ → Result Got KeyFault) (p q : Place) (text : Option (List ℕ)) → ((t : List ℕ) → Same Gots (x t) (y t)) → Same Gots (included x p text) (included y q text)
+includeds : (x y : List ℕ → Result Got KeyFault) (p q : Place) (text : Option (List ℕ)) → ((t : List ℕ) → Same Gots (x t) (y t)) → Same Gots (got_from_include x p text) (got_from_include y q text)
 includeds x y p q None h = refl
 includeds x y p q (Some text) h = h text
 
-givens : (x y : Deeper) (texts : List Named) (a b : Option Place) (p q : Place) (n : ℕ) → Deepers x y → (s t : Said) → Says s t → Same Gots (given x texts a p n s) (given y texts b q n t)
+givens : (x y : Deeper) (texts : List Named) (a b : Option Place) (p q : Place) (n : ℕ) → Deepers x y → (s t : Said) → Says s t → Same Gots (got_from_row x texts a p n s) (got_from_row y texts b q n t)
 givens x y texts a b p q n deep s t no_line = (refl, refl)
 givens x y texts a b p q n deep s t (a_line telling) = (refl, refl)
 givens x y texts a b p q n deep s t (an_include name f g k l h) =
     includeds (x (unwrap_or a f) (unwrap_or a p) (option_map (blamed_fault a) k) n) (y (unwrap_or b g) (unwrap_or b q) (option_map (blamed_fault b) l) n) (unwrap_or a f) (unwrap_or b g) (text_named name texts)
-    (λ text. deep (unwrap_or a f) (unwrap_or a p) (unwrap_or b g) (unwrap_or b q) (option_map (blamed_fault a) k) (option_map (blamed_fault b) l) (blamed-faults a b k l h) n text)
+    (λ text. deep (unwrap_or a f) (unwrap_or a p) (unwrap_or b g) (unwrap_or b q) (option_map (blamed_fault a) k) (option_map (blamed_fault b) l) (at_outer_include-faults a b k l h) n text)
 
 -- two rows say the same by their first words, or have none
 abbrev pub Sayings : Place → Place → Option (List Placed × List Placed) → Option (List Placed × List Placed) → Type 0
@@ -62,7 +62,7 @@ rows-by x y texts a b n d e deep None None l = (refl, refl)
 rows-by x y texts a b n d e deep None (Some w) l = absurd l
 rows-by x y texts a b n d e deep (Some v) None l = absurd l
 rows-by x y texts a b n d e deep (Some v) (Some w) l =
-    then Says Gots (blamed a (said_from d v)) (blamed b (said_from e w)) _ _ (blames Says a b (said_from d v) (said_from e w) l)
+    then Says Gots (at_outer_include a (said_from d v)) (at_outer_include b (said_from e w)) _ _ (blames Says a b (said_from d v) (said_from e w) l)
     (λ s t k. givens x y texts a b (spot v.0) (spot w.0) n deep s t k)
 
 row-reads : (x y : Deeper) (texts : List Named) (a b : Option Place) (n : ℕ) (d e : Place) (i j : List Placed) → Deepers x y → Sayings d e (word_at i) (word_at j) → Same Gots (read_row x texts a n d i) (read_row y texts b n e j)
@@ -88,7 +88,7 @@ alike-said i j (ended _ _ h k) d e = says-none d e i j h k
 alike-said i j (word _ _ v w h k l s) d e = says-some d e i j v w h k (like-key v.0 w.0 l) s
 
 -- a row without a word
-pub row-empty : (x : Deeper) (texts : List Named) (a : Option Place) (n : ℕ) (d : Place) (i : List Placed) → word_at i ≡ None → read_row x texts a n d i ≡ Ok (got [] n)
+pub row-empty : (x : Deeper) (texts : List Named) (a : Option Place) (n : ℕ) (d : Place) (i : List Placed) → word_at i ≡ None → read_row x texts a n d i ≡ Ok (make_got [] n)
 unfolding read_row
 row-empty x texts a n d i e = ap (read_row_by x texts a n d) e
 
@@ -145,13 +145,13 @@ deeper (suc n) texts = λ p q r s b c f m text.
     (unlesses b c (read_rows (within n texts) texts (Some q) (m + 1) (rows_of start text)) (read_rows (within n texts) texts (Some s) (m + 1) (rows_of start text)) f
     (rows-read Alike alike-said (within n texts) (within n texts) texts (Some q) (Some s) (deeper n texts) (rows_of start text) (rows_of start text) (own-rows (rows_of start text)) (m + 1)))
 
-pub tolds : (r s : Result Got KeyFault) → Same Gots r s → told (r >>= λ g. Ok g.lines) ≡ told (s >>= λ g. Ok g.lines)
+pub tolds : (r s : Result Got KeyFault) → Same Gots r s → tellings_or_fault (r >>= λ g. Ok g.lines) ≡ tellings_or_fault (s >>= λ g. Ok g.lines)
 tolds (Ok g) (Ok h) l = ap Ok l.0
 tolds (Ok g) (Err f) l = absurd l
 tolds (Err f) (Ok h) l = absurd l
 tolds (Err f) (Err g) l = ap Err l
 
-pub rows-decide : (alike : List Placed → List Placed → Type 0) → AreSaid alike → (texts : List Named) (a b : List ℕ) → SameRows alike (rows_of start a) (rows_of start b) → told (lines_of texts a) ≡ told (lines_of texts b)
+pub rows-decide : (alike : List Placed → List Placed → Type 0) → AreSaid alike → (texts : List Named) (a b : List ℕ) → SameRows alike (rows_of start a) (rows_of start b) → tellings_or_fault (lines_of texts a) ≡ tellings_or_fault (lines_of texts b)
 unfolding lines_of
 rows-decide alike said texts a b s =
     tolds (read_rows (within most_deep texts) texts None 0 (rows_of start a)) (read_rows (within most_deep texts) texts None 0 (rows_of start b))

@@ -2,17 +2,17 @@
 use Rattle.std.proofs.Common.{◌≡◌, ◌≢◌, ℕ, zero, suc, ◌+◌, ◌==◌, ◌≤◌, ◌&&◌, Bool, not, true, false, cond, IsTrue, List, [], ◌∷◌, ◌++◌, length, refl, sym, ap, ◌∙◌, subst, inl, inr, arith}
 use Rattle.std.proofs.lemmas.Bool.{false≢true}
 use Rattle.std.proofs.lemmas.Bool.Decides.{eqb_tells}
-use Rattle.key_text.proofs.Turns.{Ends, byte_turn, crlf, ends, joining-some, lf, rows_from, rows_of-from}
-use Rattle.key_text.specs.Cut.{end_len, join_len, joining, lf_len}
-use Rattle.key_text.specs.Parted.{is_ended, is_line_end, place_behind}
-use Rattle.key_text.specs.Rows.{Row, after, backslash, behind, carriage_return, line_feed, next_line, put_at, row_of, rows_of, with_item}
+use Rattle.key_text.proofs.Turns.{Ends, byte_turn, crlf, ends, len_with_backslash-some, lf, rows_from, rows_of-from}
+use Rattle.key_text.specs.Cut.{end_len, join_len, len_with_backslash, lf_len}
+use Rattle.key_text.specs.Parted.{is_ended, is_line_end, place_after_text}
+use Rattle.key_text.specs.Rows.{Row, after, backslash, place_after, carriage_return, line_feed, next_line, put_at, row_of, rows_of, with_item}
 use Rattle.key_text.specs.declared.placed.Place.{Place}
 
 -- the rows of a text that ends a line stand before those of what follows, whatever that is
 pub record Parts (from here : Place) (text : List ℕ) : Type 0 where
   pub first : Row
   pub others : List Row
-  pub same : (z : List ℕ) → rows_from from here (text ++ z) ≡ (first ∷ others) ++ rows_of (place_behind here text) z
+  pub same : (z : List ℕ) → rows_from from here (text ++ z) ≡ (first ∷ others) ++ rows_of (place_after_text here text) z
 
 and-left : (a b : Bool) → IsTrue (a && b) → a ≡ true
 and-left true b h = refl
@@ -37,10 +37,10 @@ end-alone b [] z h = elim (eqb_tells b line_feed) [
 ]
 
 join-alone : (b : ℕ) (bs z : List ℕ) → IsTrue (is_ended (b ∷ bs)) → join_len (b ∷ bs) ≡ 0 → join_len ((b ∷ bs) ++ z) ≡ 0
-join-alone b (c ∷ bs) z h e = ap (λ n. cond (b == backslash) (joining n) 0) (end-alone c bs z (rest-ended b c bs h)) ∙ e
+join-alone b (c ∷ bs) z h e = ap (λ n. cond (b == backslash) (len_with_backslash n) 0) (end-alone c bs z (rest-ended b c bs h)) ∙ e
 join-alone b [] z h e = elim (eqb_tells b backslash) [
   | inl f ↦ absurd (false≢true (subst (λ (x : ℕ). (x == line_feed) ≡ true) f.1 h))
-  | inr f ↦ ap (λ t. cond t (joining (end_len z)) 0) f.0
+  | inr f ↦ ap (λ t. cond t (len_with_backslash (end_len z)) 0) f.0
 ]
 
 -- no backslash stands before the text's last end
@@ -103,14 +103,14 @@ parts-byte : (from here : Place) (b : ℕ) (bs : List ℕ) → end_len (b ∷ bs
 parts-byte from here b [] e j h deeper = absurd (false≢true (sym (not-feed-at b [] e) ∙ h))
 parts-byte from here b (c ∷ cs) e j h deeper =
     let p = deeper (rest-ended b c cs h) in
-    let there : behind here b ≡ after here = ap (λ t. cond t (next_line here) (after here)) (not-feed-at b (c ∷ cs) e) in
+    let there : place_after here b ≡ after here = ap (λ t. cond t (next_line here) (after here)) (not-feed-at b (c ∷ cs) e) in
     record {
       first = row_of (put_at here b ∷ (p.first).items) (p.first).end;
       others = p.others;
       same = λ z.
           byte_turn from here b ((c ∷ cs) ++ z) (end-alone b (c ∷ cs) z h ∙ e) (join-alone b (c ∷ cs) z h j)
           ∙ ap (with_item (put_at here b)) (p.same z)
-          ∙ ap (λ at. (row_of (put_at here b ∷ (p.first).items) (p.first).end ∷ p.others) ++ rows_of (place_behind at (c ∷ cs)) z) (sym there);
+          ∙ ap (λ at. (row_of (put_at here b ∷ (p.first).items) (p.first).end ∷ p.others) ++ rows_of (place_after_text at (c ∷ cs)) z) (sym there);
     }
 
 -- what begins a text: a line's end, a join or another byte
@@ -131,8 +131,8 @@ begins b bs = elim (eqb_tells (end_len (b ∷ bs)) 0) [
     joined : join_len (b ∷ bs) ≢ 0 → Begins (b ∷ bs)
     joined some = elim (eqb_tells b backslash) [
       | inl g ↦ subst (λ (x : ℕ). Begins (x ∷ bs)) (sym g.1)
-          (a_join bs (ends bs (joining-some (end_len bs) (λ z. some (ap (λ t. cond t (joining (end_len bs)) 0) g.0 ∙ z)))))
-      | inr g ↦ absurd (some (ap (λ t. cond t (joining (end_len bs)) 0) g.0))
+          (a_join bs (ends bs (len_with_backslash-some (end_len bs) (λ z. some (ap (λ t. cond t (len_with_backslash (end_len bs)) 0) g.0 ∙ z)))))
+      | inr g ↦ absurd (some (ap (λ t. cond t (len_with_backslash (end_len bs)) 0) g.0))
     ]
 
 parts-at : (from here : Place) (bs : List ℕ) → Begins bs → IsTrue (is_ended bs)

@@ -5,7 +5,7 @@ use Rattle.std.proofs.lemmas.Bool.Decides.{eqb_tells}
 use Rattle.key_text.proofs.HasWords.{HasRows, a_row, an_empty, no_row}
 use Rattle.key_text.proofs.Turns.{byte_turn, rows_from, rows_of-from, with_items, with_items-row}
 use Rattle.key_text.proofs.WordBytes.{spaced-words}
-use Rattle.key_text.specs.Cut.{end_len, join_len, joining, lf_len}
+use Rattle.key_text.specs.Cut.{end_len, join_len, len_with_backslash, lf_len}
 use Rattle.key_text.specs.Rows.{Row, after, backslash, carriage_return, line_feed, next_line, put_at, row_of, rows_of, with_item}
 use Rattle.key_text.specs.Spelled.{IsEnd, Joined, Spells, byte, ended, crlf, end, is_row, join, join_crlf, last, last_empty, lf, nothing, row, row_empty}
 use Rattle.key_text.specs.Words.{bytes}
@@ -82,8 +82,8 @@ no-join-here : (b : ℕ) (bs text z : List ℕ) → Joined bs text → IsTrue (i
 no-join-here b bs text z j h = elim (eqb_tells b backslash) [
   | inl e ↦
       let none = no-end-next bs text z j (rest-row b bs h) (goes-on b bs (ap (λ x. b == carriage_return || x) e.0 ∙ or-second (b == carriage_return)) h) in
-      ap (λ x. cond x (joining (end_len (text ++ z))) 0) e.0 ∙ ap joining none
-  | inr e ↦ ap (λ x. cond x (joining (end_len (text ++ z))) 0) e.0
+      ap (λ x. cond x (len_with_backslash (end_len (text ++ z))) 0) e.0 ∙ ap len_with_backslash none
+  | inr e ↦ ap (λ x. cond x (len_with_backslash (end_len (text ++ z))) 0) e.0
 ]
 
 -- the bytes of the row were read, up to what follows it

@@ -12,8 +12,8 @@ use Rattle.key_text.proofs.Shorter.{shorter}
 use Rattle.key_text.specs.Fault.{fault, ◌>>=◌}
 use Rattle.key_text.specs.FaultKinds.{OUT_OF_RANGE}
 use Rattle.key_text.specs.Fields.{is_quoted}
-use Rattle.key_text.specs.Lines.{before, dash, in_order, marked, pieces, range_by, range_of, ranges_of, table_of, tables_in}
-use Rattle.key_text.specs.Quoted.{between, character_of, closed, one_character, text_of, unescaped_whole}
+use Rattle.key_text.specs.Lines.{before, dash, in_order, table_marks, pieces, range_by, range_of, ranges_of, table_of, tables_in}
+use Rattle.key_text.specs.Quoted.{text_between, character_of, text_before_quote, one_character, text_of, unescaped_whole}
 use Rattle.key_text.specs.Rows.{backslash}
 use Rattle.key_text.specs.SameWords.{SameWords, ended, word}
 use Rattle.key_text.specs.Words.{bytes, close_at, spot, word_at}
@@ -39,27 +39,27 @@ pub length-bare : (ps : List Placed) → length ps ≡ length (bares (bytes ps))
 length-bare [] = refl
 length-bare (p ∷ ps) = ap suc (length-bare ps)
 
-closed-bare : (ps : List Placed) (n : Option ℕ) → closed ps n ≡ closed (bares (bytes ps)) n
-closed-bare ps None = refl
-closed-bare ps (Some n) =
+text_before_quote-bare : (ps : List Placed) (n : Option ℕ) → text_before_quote ps n ≡ text_before_quote (bares (bytes ps)) n
+text_before_quote-bare ps None = refl
+text_before_quote-bare ps (Some n) =
     ap (λ l. cond (suc n == l) (Some (take n (bytes ps))) None) (length-bare ps)
     ∙ ap (λ bs. cond (suc n == length (bares (bytes ps))) (Some (take n bs)) None) (sym (bytes-bare (bytes ps)))
 
-between-bare : (q : ℕ) (v : List Placed) → between q v ≡ between q (bares (bytes v))
-between-bare q [] = refl
-between-bare q (p ∷ ps) =
-    ap (λ c. cond (p.byte == q) c None) (closed-bare ps (close_at q false ps) ∙ ap (closed (bares (bytes ps))) (close-bare q false ps))
+text_between-bare : (q : ℕ) (v : List Placed) → text_between q v ≡ text_between q (bares (bytes v))
+text_between-bare q [] = refl
+text_between-bare q (p ∷ ps) =
+    ap (λ c. cond (p.byte == q) c None) (text_before_quote-bare ps (close_at q false ps) ∙ ap (text_before_quote (bares (bytes ps))) (close-bare q false ps))
 
-between-same : (q : ℕ) (v w : List Placed) → bytes v ≡ bytes w → between q v ≡ between q w
-between-same q v w e = between-bare q v ∙ ap (λ bs. between q (bares bs)) e ∙ sym (between-bare q w)
+text_between-same : (q : ℕ) (v w : List Placed) → bytes v ≡ bytes w → text_between q v ≡ text_between q w
+text_between-same q v w e = text_between-bare q v ∙ ap (λ bs. text_between q (bares bs)) e ∙ sym (text_between-bare q w)
 
 text-same : (v w : List Placed) → bytes v ≡ bytes w → text_of v ≡ text_of w
 unfolding text_of
-text-same v w e = ap (option_and_then unescaped_whole) (between-same 0x22 v w e)
+text-same v w e = ap (option_and_then unescaped_whole) (text_between-same 0x22 v w e)
 
 character-same : (v w : List Placed) → bytes v ≡ bytes w → character_of v ≡ character_of w
 unfolding character_of
-character-same v w e = ap (option_and_then one_character) (between-same 0x27 v w e)
+character-same v w e = ap (option_and_then one_character) (text_between-same 0x27 v w e)
 
 quoted-bare : (v : List Placed) → is_quoted v ≡ is_quoted (bares (bytes v))
 quoted-bare [] = refl
@@ -104,7 +104,7 @@ ranges-ofs v w (p ∷ ps) =
 
 pub tables-ins : (v w : List Placed) (text : List ℕ) → Same Equal (tables_in v text) (tables_in w text)
 tables-ins v w text =
-    then Equal Equal (ranges_of v (pieces text)) (ranges_of w (pieces text)) _ _ (ranges-ofs v w (pieces text)) (λ us ws e. ap marked e)
+    then Equal Equal (ranges_of v (pieces text)) (ranges_of w (pieces text)) _ _ (ranges-ofs v w (pieces text)) (λ us ws e. ap table_marks e)
 
 tables-same : (v w : List Placed) → bytes v ≡ bytes w → Same Equal (tables_in v (bytes v)) (tables_in w (bytes w))
 tables-same v w e = subst (λ (bs : List ℕ). Same Equal (tables_in v (bytes v)) (tables_in w bs)) e (tables-ins v w (bytes v))

@@ -11,8 +11,8 @@ use Rattle.std.specs.Option.{option_and_then, option_map, option_or}
 use Rattle.std.specs.Str.{bytes_eq, str_eq_ignore_ascii_case}
 use Rattle.key_syms.specs.Act.{Act, act}
 use Rattle.key_syms.specs.Kinds.{CHARACTER, LETTER}
-use Rattle.key_syms.specs.Names.{code_point, listed, small_number, symbol, unlisted}
-use Rattle.key_syms.specs.Numbers.{is_between, number_of, passing}
+use Rattle.key_syms.specs.Names.{code_point, listed_action, small_number, symbol, unlisted_action}
+use Rattle.key_syms.specs.Numbers.{is_between, number_of, number_if}
 use Rattle.key_syms.specs.Symbols.{Symbol, symbols}
 use Rattle.key_text.proofs.FirstWords.{folds, valid-ascii}
 use Rattle.key_text.proofs.Like.{Alike, Like, begins_key}
@@ -22,8 +22,8 @@ use Rattle.key_text.proofs.Same.{Same, then}
 use Rattle.key_text.proofs.SameBytes.{like-bytes, range}
 use Rattle.key_text.specs.Fault.{◌>>=◌}
 use Rattle.key_text.specs.Fields.{is_quoted}
-use Rattle.key_text.specs.Lines.{before, comma, dash, marked, pieces, range_by, range_of, ranges_of, table_of, tables_in, with_byte}
-use Rattle.key_text.specs.Quoted.{between, character_of, closed, one_character, text_of, unescaped_whole}
+use Rattle.key_text.specs.Lines.{before, comma, dash, table_marks, pieces, range_by, range_of, ranges_of, table_of, tables_in, with_byte}
+use Rattle.key_text.specs.Quoted.{text_between, character_of, text_before_quote, one_character, text_of, unescaped_whole}
 use Rattle.key_text.specs.SameWords.{SameWords, ended, word}
 use Rattle.key_text.specs.Senses.{IsName, IsNumber, SameSense, SensesDecide, begins_digit, is_single, name, number, same}
 use Rattle.key_text.specs.Words.{bytes, close_at}
@@ -78,33 +78,33 @@ single-range : (v : List Placed) (text : List ℕ) → IsTrue (is_single text) �
 unfolding range_of
 single-range v text h = ap (range_by v text) (no-dash text h) ∙ whole-range v text
 
-listed-range : (x : Result ℕ KeyFault) → ((x >>= λ low. Ok (range low low)) >>= λ r. Ok (r ∷ [])) ≡ one_range x
-listed-range (Ok low) = refl
-listed-range (Err f) = refl
+listed_action-range : (x : Result ℕ KeyFault) → ((x >>= λ low. Ok (range low low)) >>= λ r. Ok (r ∷ [])) ≡ one_range x
+listed_action-range (Ok low) = refl
+listed_action-range (Err f) = refl
 
-single-tables : (v : List Placed) (text : List ℕ) → IsTrue (is_single text) → tables_in v text ≡ (one_range (table_of v text) >>= λ ranges. Ok (marked ranges))
+single-tables : (v : List Placed) (text : List ℕ) → IsTrue (is_single text) → tables_in v text ≡ (one_range (table_of v text) >>= λ ranges. Ok (table_marks ranges))
 single-tables v text h =
-    ap (λ ps. ranges_of v ps >>= λ ranges. Ok (marked ranges)) (one-piece text h)
-    ∙ ap (λ x. (x >>= λ r. Ok (r ∷ [])) >>= λ ranges. Ok (marked ranges)) (single-range v text h)
-    ∙ ap (λ x. x >>= λ ranges. Ok (marked ranges)) (listed-range (table_of v text))
+    ap (λ ps. ranges_of v ps >>= λ ranges. Ok (table_marks ranges)) (one-piece text h)
+    ∙ ap (λ x. (x >>= λ r. Ok (r ∷ [])) >>= λ ranges. Ok (table_marks ranges)) (single-range v text h)
+    ∙ ap (λ x. x >>= λ ranges. Ok (table_marks ranges)) (listed_action-range (table_of v text))
 
 tables-like : (v w : List Placed) → IsTrue (is_single (bytes v)) → IsTrue (is_single (bytes w)) → number_of (bytes v) ≡ number_of (bytes w) → Same Equal (tables_in v (bytes v)) (tables_in w (bytes w))
 tables-like v w h k e =
     subst (λ (x : Result (List Bool) KeyFault). Same Equal x (tables_in w (bytes w))) (sym (single-tables v (bytes v) h))
-    (subst (λ (y : Result (List Bool) KeyFault). Same Equal (one_range (table_of v (bytes v)) >>= λ ranges. Ok (marked ranges)) y) (sym (single-tables w (bytes w) k))
+    (subst (λ (y : Result (List Bool) KeyFault). Same Equal (one_range (table_of v (bytes v)) >>= λ ranges. Ok (table_marks ranges)) y) (sym (single-tables w (bytes w) k))
     (then Equal Equal (one_range (table_of v (bytes v))) (one_range (table_of w (bytes w))) _ _
     (then Equal Equal (table_of v (bytes v)) (table_of w (bytes w)) _ _ (rangeds 0 255 v w (number_of (bytes v)) (number_of (bytes w)) e)
     (λ a b f. ap (λ x. range x x ∷ []) f))
-    (λ a b f. ap marked f)))
+    (λ a b f. ap table_marks f)))
 
 -- what no quote begins is no quoted text
-no-double : (v : List Placed) → is_quoted v ≡ false → between 0x22 v ≡ None
+no-double : (v : List Placed) → is_quoted v ≡ false → text_between 0x22 v ≡ None
 no-double [] h = refl
-no-double (p ∷ ps) h = ap (λ t. cond t (closed ps (close_at 0x22 false ps)) None) (or-left (p.byte == 0x22) (p.byte == 0x27) h)
+no-double (p ∷ ps) h = ap (λ t. cond t (text_before_quote ps (close_at 0x22 false ps)) None) (or-left (p.byte == 0x22) (p.byte == 0x27) h)
 
-no-single : (v : List Placed) → is_quoted v ≡ false → between 0x27 v ≡ None
+no-single : (v : List Placed) → is_quoted v ≡ false → text_between 0x27 v ≡ None
 no-single [] h = refl
-no-single (p ∷ ps) h = ap (λ t. cond t (closed ps (close_at 0x27 false ps)) None) (or-right (p.byte == 0x22) (p.byte == 0x27) h)
+no-single (p ∷ ps) h = ap (λ t. cond t (text_before_quote ps (close_at 0x27 false ps)) None) (or-right (p.byte == 0x22) (p.byte == 0x27) h)
 
 no-text : (v : List Placed) → is_quoted v ≡ false → text_of v ≡ None
 unfolding text_of
@@ -179,11 +179,11 @@ none-digit : list_all unlike symbols ≡ true
 unfolding symbols
 none-digit = refl
 
-not-listed : (rows : List Symbol) (text : List ℕ) → list_all unlike rows ≡ true → IsTrue (begins_digit text) → listed rows text ≡ None
-not-listed [] text h k = refl
-not-listed (r ∷ rows) text h k =
+not-listed_action : (rows : List Symbol) (text : List ℕ) → list_all unlike rows ≡ true → IsTrue (begins_digit text) → listed_action rows text ≡ None
+not-listed_action [] text h k = refl
+not-listed_action (r ∷ rows) text h k =
     ap (λ t. option_map (λ (row : Symbol). row.act) (cond t (Some r) (find (λ row. bytes_eq row.name text) rows))) (other (bytes_eq r.name text) refl)
-    ∙ not-listed rows text (and-right (unlike r) (list_all unlike rows) h) k
+    ∙ not-listed_action rows text (and-right (unlike r) (list_all unlike rows) h) k
   where
     other : (t : Bool) → bytes_eq r.name text ≡ t → t ≡ false
     other true e = absurd (false≢true (sym (not-true (begins_digit r.name) (and-left (unlike r) (list_all unlike rows) h)) ∙ ap begins_digit ((bytes_eq-Decides r.name text).0 e) ∙ k))
@@ -202,15 +202,15 @@ and-false : (a : Bool) → (a && false) ≡ false
 and-false true = refl
 and-false false = refl
 
-digit-symbol : (text : List ℕ) → IsTrue (begins_digit text) → symbol text ≡ option_map (act CHARACTER) (option_and_then (passing (λ n. nat_lt n 256)) (number_of text))
+digit-symbol : (text : List ℕ) → IsTrue (begins_digit text) → symbol text ≡ option_map (act CHARACTER) (option_and_then (number_if (λ n. nat_lt n 256)) (number_of text))
 unfolding symbol
 digit-symbol text h =
-    ap (λ x. option_or x (unlisted text)) (not-listed symbols text none-digit h)
+    ap (λ x. option_or x (unlisted_action text)) (not-listed_action symbols text none-digit h)
     ∙ ap (λ t. cond t (option_map (act LETTER) (code_point (drop 1 text))) (option_map (act CHARACTER) (option_or (code_point text) (small_number text)))) (no-plus text h)
     ∙ ap (λ x. option_map (act CHARACTER) (option_or x (small_number text))) no-point
   where
     no-point : code_point text ≡ None
-    no-point = ap (λ t. cond t (option_and_then (passing Rattle.key_syms.specs.Act.is_character) (Rattle.key_syms.specs.Numbers.spelled 16 (drop 2 text))) None)
+    no-point = ap (λ t. cond t (option_and_then (number_if Rattle.key_syms.specs.Act.is_character) (Rattle.key_syms.specs.Numbers.number_in_base 16 (drop 2 text))) None)
         (ap (λ t. length text == 6 && t) (no-prefix text h) ∙ and-false (length text == 6))
 
 like-number : (n : ℕ) (v w : List Placed) → IsNumber n v → IsNumber n w → Like v w
@@ -224,7 +224,7 @@ like-number n v w a b =
       number = numbers;
       symbol =
           digit-symbol (bytes v) a.digit
-          ∙ ap (λ x. option_map (act CHARACTER) (option_and_then (passing (λ n. nat_lt n 256)) x)) numbers
+          ∙ ap (λ x. option_map (act CHARACTER) (option_and_then (number_if (λ n. nat_lt n 256)) x)) numbers
           ∙ sym (digit-symbol (bytes w) b.digit);
       text = no-text v x ∙ sym (no-text w y);
       character = no-character v x ∙ sym (no-character w y);

@@ -1,6 +1,6 @@
 ghost use Rattle.std.specs.Prelude.{◌≡◌, IfOk};
 ghost use Rattle.std.specs.Str.{bytes_eq};
-ghost use Rattle.key_text.specs.Included.{named};
+ghost use Rattle.key_text.specs.Included.{make_named};
 
 use std::alloc::{AllocError, Global};
 use std::marker::Model;
@@ -13,16 +13,16 @@ pub struct Included {
 }
 
 impl Model for Included {
-    ghost use Rattle.key_text.specs.Included.{Named, named};
+    ghost use Rattle.key_text.specs.Included.{Named, make_named};
 
     ghost Value = { Named };
 
-    ghost view = { λ i. named i.name.items i.text.items };
+    ghost view = { λ i. make_named i.name.items i.text.items };
 }
 
 impl Included {
     pub fn new(alloc: Global, name: &[u8], text: &[u8]) -> Result<Included, AllocError>
-        ensures { IfOk result (λ i. i ≡ named name.now text.now) }
+        ensures { IfOk result (λ i. i ≡ make_named name.now text.now) }
     {
         Ok(Included {
             name: Vec::from_slice(alloc, name)?,

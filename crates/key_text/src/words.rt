@@ -31,7 +31,7 @@ pub fn fault(kind: u16, at: Place) -> KeyError
 }
 
 /// The place of a word.
-pub fn spot(word: &[Placed]) -> Place
+pub fn place_of_word(word: &[Placed]) -> Place
     ensures { result ≡ spot word.now }
 {
     nth_place(word, 0)
@@ -60,7 +60,7 @@ pub fn next(
     ensures { Gives (λ w. (w.0.now, w.1.now)) result (next kind end items.now) }
 {
     match word_at(items) {
-        Some((word, rest)) => whole(alloc, word, rest),
+        Some((word, rest)) => check_utf8(alloc, word, rest),
         None => Err(fault(kind, end)),
     }
 }
@@ -80,7 +80,7 @@ pub fn word_at(items: &[Placed]) -> Option<(&[Placed], &[Placed])>
 
 /// A word that was come to, and what follows it.
 #[tactic(auto, unfolding(crate::specs::Words::whole))]
-pub fn whole<'a>(
+pub fn check_utf8<'a>(
     alloc: Global,
     word: &'a [Placed],
     rest: &'a [Placed],

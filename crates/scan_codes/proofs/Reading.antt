@@ -4,12 +4,12 @@ use Rattle.std.specs.Prelude.{IsTrue, option_to_list}
 use Rattle.std.specs.List.{flat_map, list_all}
 use Rattle.std.proofs.lemmas.Bool.{and_parts, cases_Bool, eqb-true, false≢true}
 use Rattle.scan_codes.specs.Groups.{Begins, is_group, named_by}
-use Rattle.scan_codes.specs.Kept.{bytes_of}
+use Rattle.scan_codes.specs.ScanPrefix.{bytes_of}
 use Rattle.scan_codes.specs.Laws.{AnyCut, GroupsAreRead, events, rest}
 use Rattle.scan_codes.specs.Scan.{bytes_after, event_after}
 use Rattle.scan_codes.specs.declared.key_event.KeyEvent.{KeyEvent}
-use Rattle.scan_codes.specs.declared.scanner.Kept.{Kept}
-use Rattle.scan_codes.specs.declared.scanner.Kept.TheVariants.{Nothing, E0, E1, E1And}
+use Rattle.scan_codes.specs.declared.scanner.ScanPrefix.{ScanPrefix}
+use Rattle.scan_codes.specs.declared.scanner.ScanPrefix.TheVariants.{Nothing, E0, E1, E1And}
 
 pub events-append : AnyCut
 events-append codes before [] b = refl
@@ -80,7 +80,7 @@ none-first codes b true is = (
       h,
 )
 
-pub none-exactly : (codes : List ℕ) (kept : Kept) (b : ℕ) → NoneExactly codes (bytes_of kept) b
+pub none-exactly : (codes : List ℕ) (kept : ScanPrefix) (b : ℕ) → NoneExactly codes (bytes_of kept) b
 none-exactly codes Nothing b = none-first codes b (is_group (b ∷ [])) refl
 none-exactly codes E0 b = (
   λ h. inr (refl, h),

@@ -5,8 +5,8 @@ use Rattle.std.proofs.lemmas.List.{get_or-set_other, get_or-set_same, get_or_pas
 use Rattle.std.proofs.lemmas.Option.{none-some}
 use Rattle.std.specs.List.{list_any}
 use Rattle.std.specs.Prelude.{not, ◌&&◌, if◌then◌else◌}
-use Rattle.session_order.proofs.Ages.{AllAge, all-stay, at-map, at-set, breaks, holds, settled-age, then_all, with_all}
-use Rattle.session_order.proofs.Deeds.{NoWait, OneWait, RowDoes, all-done-age, row-does, tell-age}
+use Rattle.session_order.proofs.Ages.{AllAge, all-stay, at-map, at-set, breaks, holds, after_idle_rule-age, then_all, with_all}
+use Rattle.session_order.proofs.Deeds.{NoWait, OneWait, RowDoes, apply_deeds-age, row-does, apply_marks-age}
 use Rattle.session_order.proofs.Steps.{Accepted, RefusedByAll, RefusedByOwn, StepDoes, accepted, common-none, none-common, step-does}
 use Rattle.session_text.specs.Programs.{is_exit}
 use Rattle.vt_events.specs.Waits.{is_wait}
@@ -15,8 +15,8 @@ use Rattle.vt_base.specs.declared.errno.Errno.{Errno}
 use Rattle.vt_base.specs.declared.errno.Errno.TheVariants as errno
 use Rattle.vt_events.specs.declared.event.Event.{Event}
 use Rattle.vt_events.specs.declared.event.Event.TheVariants as event
-use Rattle.vt_procs.specs.Callers.{Callers, caller_at, gone, is_live, no_caller}
-use Rattle.vt_procs.specs.Tickets.{broken, can_go, collected, is_open, left, settled, waits, with_waiting}
+use Rattle.vt_procs.specs.Callers.{Callers, caller_at, dead_process, is_live, no_caller}
+use Rattle.vt_procs.specs.Tickets.{after_signal, can_go, after_wait_report, is_open, waiting_after_report, after_idle_rule, waits, with_waiting}
 use Rattle.vt_procs.specs.declared.process.Process.{Process}
 use Rattle.vt_procs.specs.declared.ticket.Ticket.{Ticket}
 use Rattle.vt_procs.specs.declared.waiting.Waiting.{Waiting}
@@ -25,9 +25,9 @@ use Rattle.vt_switch.specs.Acts.{End}
 use Rattle.vt_switch.specs.Moments.{core_after, hop_marks}
 use Rattle.vt_switch.specs.Acts.{hop_of}
 use Rattle.vt_switch.specs.declared.mark.Mark.TheVariants as mark
-use Rattle.vt_world.specs.Deeds.{all_done}
-use Rattle.vt_world.specs.Heard.{cleared, heard, tell}
-use Rattle.vt_world.specs.Rows.{Row, row}
+use Rattle.vt_world.specs.Deeds.{apply_deeds}
+use Rattle.vt_world.specs.Heard.{without_marks, apply_mark, apply_marks}
+use Rattle.vt_world.specs.Rows.{EventRow, row}
 use Rattle.vt_world.specs.State.{WorldState, core}
 use Rattle.vt_world.specs.Step.{Outcome, step}
 use Rattle.vt_world.specs.Refusals.{ends_wait, may_make}
@@ -52,7 +52,7 @@ pub record Stepped (p : ℕ) (c : Callers) (waits : Bool) (d : Callers) : Type 0
       → holds (caller_at c p).waiting ≡ true
   pub awake : Awake c → Awake d
 
-broken_shut : (w : Waiting) → is_open (broken w) ≡ false
+broken_shut : (w : Waiting) → is_open (after_signal w) ≡ false
 broken_shut Nothing = refl
 broken_shut (Open ticket) = refl
 broken_shut Done = refl
@@ -63,7 +63,7 @@ all_broken c = inr (λ q.
     ap (λ (a : Process). is_open a.waiting) (at-map breaks refl c.list q)
     ∙ broken_shut (caller_at c q).waiting)
 
-settled_awake : (c : Callers) → Awake (settled c)
+settled_awake : (c : Callers) → Awake (after_idle_rule c)
 settled_awake c = ⊎_elim
     (λ some. subst Awake (sym (ap (λ b. cond b c (with_all breaks c)) some)) (inl some))
     (λ none. subst Awake (sym (ap (λ b. cond b c (with_all breaks c)) none)) (all_broken c))
@@ -81,11 +81,11 @@ aged p c d waits ages awake = record {
 
 -- p, which lives, begins to wait, and the idle rule comes
 begins : (p : ℕ) (c : Callers) (ticket : Ticket) → is_live c p ≡ true
-    → Stepped p c true (settled (waits p ticket c))
+    → Stepped p c true (after_idle_rule (waits p ticket c))
 begins p c ticket alive =
     let w : Callers = waits p ticket c in
-    let d : Callers = settled w in
-    let ages : AllAge w d = settled-age w in
+    let d : Callers = after_idle_rule w in
+    let ages : AllAge w d = after_idle_rule-age w in
     let lives : (q : ℕ) → is_live w q ≡ true → is_live c q ≡ true =
     λ q. at-set (λ x. x.live ≡ true → is_live c q ≡ true) c.list p q
     (with_waiting (caller_at c p) (Open ticket)) (λ h. h)
@@ -106,12 +106,12 @@ begins p c ticket alive =
       awake = λ awake. settled_awake w;
     }
 
-row_steps : (w : WorldState) (p : ℕ) (r : Row) → is_live w.callers p ≡ true → RowDoes p r
+row_steps : (w : WorldState) (p : ℕ) (r : EventRow) → is_live w.callers p ≡ true → RowDoes p r
     → Stepped p w.callers (is_wait r.reply) (accepted w r).world.callers
 row_steps w p _ alive (NoWait r quiet) =
-    let done : Callers = (all_done (cleared w) r.deeds).callers in
-    aged p w.callers (settled done) (is_wait r.reply)
-    (then_all w.callers done (settled done) (all-done-age (cleared w) r.deeds quiet) (settled-age done))
+    let done : Callers = (apply_deeds (without_marks w) r.deeds).callers in
+    aged p w.callers (after_idle_rule done) (is_wait r.reply)
+    (then_all w.callers done (after_idle_rule done) (apply_deeds-age (without_marks w) r.deeds quiet) (after_idle_rule-age done))
     (λ awake. settled_awake done)
 row_steps w p _ alive (OneWait ticket) = begins p w.callers ticket alive
 
@@ -120,7 +120,7 @@ does_step : (w : WorldState) (p : ℕ) (e : Event) (o : Outcome) → StepDoes w 
 does_step w p e o (RefusedByAll with is) = aged p w.callers w.callers false (all-stay w.callers) (λ awake. awake)
 does_step w p e o (RefusedByOwn with none is) = aged p w.callers w.callers false (all-stay w.callers) (λ awake. awake)
 does_step w p e o (Accepted none is) =
-    row_steps w p (row (cleared w) p e) (common-none w p e none).0 (row-does (cleared w) p e)
+    row_steps w p (row (without_marks w) p e) (common-none w p e none).0 (row-does (without_marks w) p e)
 
 pub stepped : (w : WorldState) (p : ℕ) (e : Event)
     → Stepped p w.callers (is_wait (step w p e).reply) (step w p e).world.callers
@@ -135,18 +135,18 @@ at_own c p x test here none = ⊎_elim
     (cases_lt p (length c.list))
 
 end_kills : (w : WorldState) (p : ℕ)
-    → is_live (settled (all_done (cleared w) (row (cleared w) p event.Exit).deeds).callers) p ≡ false
+    → is_live (after_idle_rule (apply_deeds (without_marks w) (row (without_marks w) p event.Exit).deeds).callers) p ≡ false
 end_kills w p =
-    let v : WorldState = cleared w in
+    let v : WorldState = without_marks w in
     let u : WorldState = record v { display = (core_after (core v) (End p)).display } in
     let rest = hop_marks (core_after (core v) (End p)) (hop_of v.display (End p)) in
-    let x : WorldState = heard u (mark.Ended p) in
-    let y : WorldState = tell x rest in
-    let ages : AllAge x.callers (settled y.callers) =
-    then_all x.callers y.callers (settled y.callers) (tell-age rest x) (settled-age y.callers) in
+    let x : WorldState = apply_mark u (mark.Ended p) in
+    let y : WorldState = apply_marks x rest in
+    let ages : AllAge x.callers (after_idle_rule y.callers) =
+    then_all x.callers y.callers (after_idle_rule y.callers) (apply_marks-age rest x) (after_idle_rule-age y.callers) in
     let dead : is_live x.callers p ≡ false =
-    at_own w.callers p (gone (caller_at w.callers p)) (λ a. a.live) refl refl in
-    false_from_ne_true (is_live (settled y.callers) p)
+    at_own w.callers p (dead_process (caller_at w.callers p)) (λ a. a.live) refl refl in
+    false_from_ne_true (is_live (after_idle_rule y.callers) p)
     (λ live. both_ways (is_live x.callers p) dead ((ages p).live live))
 
 exit_does : (w : WorldState) (p : ℕ) (o : Outcome) → StepDoes w p event.Exit o
@@ -163,7 +163,7 @@ pub exit-kills : (w : WorldState) (p : ℕ) (e : Event) → is_exit e ≡ true �
 exit-kills w p event.Exit is = exit_does w p (step w p event.Exit) (step-does w p event.Exit)
 exit-kills w p e is = absurd (false≢true is)
 
-left_free : (w : Waiting) → is_open w ≡ false → holds (left w) ≡ false
+left_free : (w : Waiting) → is_open w ≡ false → holds (waiting_after_report w) ≡ false
 left_free Nothing shut = refl
 left_free (Open ticket) shut = absurd (true≢false shut)
 left_free Done shut = refl
@@ -189,12 +189,12 @@ collect_does w p o (RefusedByAll with is) alive process held shut =
 collect_does w p o (RefusedByOwn with none is) alive process held shut =
     absurd (none-some with (sym (own_tested (holds (caller_at w.callers p).waiting) (is_open (caller_at w.callers p).waiting) held shut) ∙ is))
 collect_does w p o (Accepted none is) alive process held shut =
-    let d : Callers = collected p w.callers in
+    let d : Callers = after_wait_report p w.callers in
     let free : holds (caller_at d p).waiting ≡ false =
-    at_own w.callers p (with_waiting (caller_at w.callers p) (left (caller_at w.callers p).waiting))
+    at_own w.callers p (with_waiting (caller_at w.callers p) (waiting_after_report (caller_at w.callers p).waiting))
     (λ a. holds a.waiting) (left_free (caller_at w.callers p).waiting shut) refl in
-    false_from_ne_true (holds (caller_at (settled d) p).waiting)
-    (λ h. both_ways (holds (caller_at d p).waiting) free ((settled-age d p).held h))
+    false_from_ne_true (holds (caller_at (after_idle_rule d) p).waiting)
+    (λ h. both_ways (holds (caller_at d p).waiting) free ((after_idle_rule-age d p).held h))
 
 -- waitend of who lives takes its ticket, where that isn't open
 pub waitend-collects : (w : WorldState) (p : ℕ) (e : Event) → ends_wait e ≡ true

@@ -9,11 +9,11 @@ use Rattle.key_machine.specs.declared.key_out.KeyOut.TheVariants as heard_keys
 use Rattle.vt_base.specs.Keyboards.{keyboard_of}
 use Rattle.scan_codes.specs.Scan.{Scan, event_after}
 use Rattle.scan_codes.specs.declared.key_event.KeyEvent.{KeyEvent}
-use Rattle.session_order.proofs.Ages.{AllAge, accepting-age, all-stay, collected-age, ended-age, filled-age, opened-age, raised-age, shown-age, shut-age, taken-age, then_all}
+use Rattle.session_order.proofs.Ages.{AllAge, with_accepter-age, all-stay, after_wait_report-age, after_exit-age, after_input_on-age, after_open-age, after_raise-age, after_display_of-age, after_close-age, after_taking_signals-age, then_all}
 use Rattle.vt_events.specs.declared.event.Event.{Event}
 use Rattle.vt_events.specs.declared.event.Event.TheVariants as event
 use Rattle.vt_events.specs.declared.reply.Reply.TheVariants as reply
-use Rattle.vt_procs.specs.Tickets.{filled}
+use Rattle.vt_procs.specs.Tickets.{after_input_on}
 use Rattle.vt_procs.specs.declared.ticket.Ticket.{Ticket}
 use Rattle.vt_procs.specs.declared.ticket.Ticket.TheVariants.{Active, AnySignal, Input}
 use Rattle.vt_screen.specs.declared.out.Out.{Out}
@@ -22,14 +22,14 @@ use Rattle.vt_switch.specs.Acts.{End, SetKd, SwitchAct}
 use Rattle.vt_switch.specs.Moments.{core_after, marks, raise}
 use Rattle.vt_switch.specs.declared.mark.Mark.{Mark}
 use Rattle.vt_switch.specs.declared.mark.Mark.TheVariants as mark
-use Rattle.vt_world.specs.Deeds.{Deed, By, Asks, Own, OwnDeed, Puts, Opens, Shuts, Waits, Collects, Receives, Accepts, Raises, acted, all_done, done, own_done, requested}
-use Rattle.vt_world.specs.Heard.{heard, tell}
+use Rattle.vt_world.specs.Deeds.{Deed, By, Asks, Own, OwnDeed, Puts, Opens, Shuts, Waits, Collects, Receives, Accepts, Raises, after_switch_act, apply_deeds, apply_deed, apply_own_deed, after_request}
+use Rattle.vt_world.specs.Heard.{apply_mark, apply_marks}
 use Rattle.vt_world.specs.Inputs.{comes, input_at}
-use Rattle.vt_world.specs.Rows.{Row, disallocating, freeing, out_deeds, row, waits_unless}
+use Rattle.vt_world.specs.Rows.{EventRow, disallocate_deeds, free_deeds, out_deeds, row, waits_unless}
 use Rattle.vt_world.specs.State.{WorldState, core}
 use Rattle.vt_world.specs.Terminals.{said_of, terminal_at}
 use Rattle.vt_world.specs.Refusals.{is_empty, is_in_use, target}
-use Rattle.vt_world.specs.Typing.{ends_of, key_deeds, key_on, key_out_deeds, read_deeds, scan_deeds, scanner_of, sent, spawn_deeds, users}
+use Rattle.vt_world.specs.Typing.{ends_of, key_deeds, key_on, key_out_deeds, read_deeds, scan_deeds, scanner_of, signal_deed, spawn_deeds, users}
 use Rattle.vt_world.specs.Wanted.{wanted_in}
 
 -- all deeds but a wait
@@ -40,54 +40,54 @@ is_quiet deed = true
 abbrev pub all_quiet : List Deed → Bool
 all_quiet deeds = list_all is_quiet deeds
 
-heard-age : (m : Mark) (w : WorldState) → AllAge w.callers (heard w m).callers
-heard-age (mark.Asked n) w = all-stay w.callers
-heard-age (mark.Raised p signal) w = raised-age w.callers p signal
-heard-age (mark.Hopped hop) w = shown-age w.callers hop.to
-heard-age (mark.Ended p) w = ended-age w.callers p
+apply_mark-age : (m : Mark) (w : WorldState) → AllAge w.callers (apply_mark w m).callers
+apply_mark-age (mark.Asked n) w = all-stay w.callers
+apply_mark-age (mark.Raised p signal) w = after_raise-age w.callers p signal
+apply_mark-age (mark.Hopped hop) w = after_display_of-age w.callers hop.to
+apply_mark-age (mark.Ended p) w = after_exit-age w.callers p
 
-pub tell-age : (told : List Mark) (w : WorldState) → AllAge w.callers (tell w told).callers
-tell-age [] w = all-stay w.callers
-tell-age (m ∷ told) w =
-    then_all w.callers (heard w m).callers (tell (heard w m) told).callers (heard-age m w)
-    (tell-age told (heard w m))
+pub apply_marks-age : (told : List Mark) (w : WorldState) → AllAge w.callers (apply_marks w told).callers
+apply_marks-age [] w = all-stay w.callers
+apply_marks-age (m ∷ told) w =
+    then_all w.callers (apply_mark w m).callers (apply_marks (apply_mark w m) told).callers (apply_mark-age m w)
+    (apply_marks-age told (apply_mark w m))
 
-acted-age : (w : WorldState) (act : SwitchAct) → AllAge w.callers (acted w act).callers
-acted-age w act =
-    tell-age (marks (core w) act) (record w { display = (core_after (core w) act).display })
+after_switch_act-age : (w : WorldState) (act : SwitchAct) → AllAge w.callers (after_switch_act w act).callers
+after_switch_act-age w act =
+    apply_marks-age (marks (core w) act) (record w { display = (core_after (core w) act).display })
 
-requested-age : (w : WorldState) (n : Option ℕ) → AllAge w.callers (requested w n).callers
-requested-age w None = all-stay w.callers
-requested-age w (Some n) = acted-age w (SwitchAct.Request n)
+after_request-age : (w : WorldState) (n : Option ℕ) → AllAge w.callers (after_request w n).callers
+after_request-age w None = all-stay w.callers
+after_request-age w (Some n) = after_switch_act-age w (SwitchAct.Request n)
 
 own-age : (w : WorldState) (deed : OwnDeed) → is_quiet (Own deed) ≡ true
-    → AllAge w.callers (own_done w deed).callers
+    → AllAge w.callers (apply_own_deed w deed).callers
 own-age w (Puts n piece) quiet =
-    elim (comes (input_at w.inputs n).queue piece) as (λ b. AllAge w.callers (cond b (filled n w.callers) w.callers))
-    [ true ↦ filled-age w.callers n | false ↦ all-stay w.callers ]
-own-age w (Opens p c) quiet = opened-age w.callers p c
-own-age w (Shuts p fd) quiet = shut-age w.callers p fd
+    elim (comes (input_at w.inputs n).queue piece) as (λ b. AllAge w.callers (cond b (after_input_on n w.callers) w.callers))
+    [ true ↦ after_input_on-age w.callers n | false ↦ all-stay w.callers ]
+own-age w (Opens p c) quiet = after_open-age w.callers p c
+own-age w (Shuts p fd) quiet = after_close-age w.callers p fd
 own-age w (Waits p ticket) quiet = absurd (false≢true quiet)
-own-age w (Collects p) quiet = collected-age w.callers p
-own-age w (Receives p) quiet = taken-age w.callers p
-own-age w (Accepts p signal) quiet = accepting-age w.callers p signal
-own-age w (Raises p signal) quiet = tell-age (raise (core w) p signal) w
+own-age w (Collects p) quiet = after_wait_report-age w.callers p
+own-age w (Receives p) quiet = after_taking_signals-age w.callers p
+own-age w (Accepts p signal) quiet = with_accepter-age w.callers p signal
+own-age w (Raises p signal) quiet = apply_marks-age (raise (core w) p signal) w
 own-age w deed quiet = all-stay w.callers
 
-done-age : (w : WorldState) (deed : Deed) → is_quiet deed ≡ true
-    → AllAge w.callers (done w deed).callers
-done-age w (By act) quiet = acted-age w act
-done-age w (Asks wanted) quiet = requested-age w (wanted_in w.display wanted)
-done-age w (Own deed) quiet = own-age w deed quiet
+apply_deed-age : (w : WorldState) (deed : Deed) → is_quiet deed ≡ true
+    → AllAge w.callers (apply_deed w deed).callers
+apply_deed-age w (By act) quiet = after_switch_act-age w act
+apply_deed-age w (Asks wanted) quiet = after_request-age w (wanted_in w.display wanted)
+apply_deed-age w (Own deed) quiet = own-age w deed quiet
 
-pub all-done-age : (w : WorldState) (deeds : List Deed) → all_quiet deeds ≡ true
-    → AllAge w.callers (all_done w deeds).callers
-all-done-age w [] quiet = all-stay w.callers
-all-done-age w (deed ∷ deeds) quiet =
+pub apply_deeds-age : (w : WorldState) (deeds : List Deed) → all_quiet deeds ≡ true
+    → AllAge w.callers (apply_deeds w deeds).callers
+apply_deeds-age w [] quiet = all-stay w.callers
+apply_deeds-age w (deed ∷ deeds) quiet =
     let parts : (is_quiet deed ≡ true) × (all_quiet deeds ≡ true) =
     and_parts (is_quiet deed) (all_quiet deeds) quiet in
-    then_all w.callers (done w deed).callers (all_done (done w deed) deeds).callers
-    (done-age w deed parts.0) (all-done-age (done w deed) deeds parts.1)
+    then_all w.callers (apply_deed w deed).callers (apply_deeds (apply_deed w deed) deeds).callers
+    (apply_deed-age w deed parts.0) (apply_deeds-age (apply_deed w deed) deeds parts.1)
 
 append_quiet : (a b : List Deed) → all_quiet a ≡ true → all_quiet b ≡ true
     → all_quiet (a ++ b) ≡ true
@@ -99,13 +99,13 @@ flat_quiet : {A : Type 0} (f : A → List Deed) (xs : List A) → ((x : A) → a
 flat_quiet f [] quiet = refl
 flat_quiet f (x ∷ xs) quiet = append_quiet (f x) (flat_map f xs) (quiet x) (flat_quiet f xs quiet)
 
-sent_quiet : (p signal : ℕ) → is_quiet (sent p signal) ≡ true
+sent_quiet : (p signal : ℕ) → is_quiet (signal_deed p signal) ≡ true
 sent_quiet p signal =
     elim (signal == 9) as (λ b. is_quiet (if b then By (End p) else Own (Raises p signal)) ≡ true)
     [ true ↦ refl | false ↦ refl ]
 
-one_sent : (p signal : ℕ) → all_quiet (sent p signal ∷ []) ≡ true
-one_sent p signal = and_from (is_quiet (sent p signal)) true (sent_quiet p signal) refl
+one_sent : (p signal : ℕ) → all_quiet (signal_deed p signal ∷ []) ≡ true
+one_sent p signal = and_from (is_quiet (signal_deed p signal)) true (sent_quiet p signal) refl
 
 spawn_quiet : (accepter : Option (ℕ × ℕ)) → all_quiet (spawn_deeds accepter) ≡ true
 spawn_quiet None = refl
@@ -137,16 +137,16 @@ out_quiet : (c : ℕ) (out : Out) → all_quiet (out_deeds c out) ≡ true
 out_quiet c (outs.Report text) = refl
 out_quiet c out = refl
 
-free_quiet : (w : WorldState) (n : ℕ) → all_quiet (disallocating w n) ≡ true
+free_quiet : (w : WorldState) (n : ℕ) → all_quiet (disallocate_deeds w n) ≡ true
 free_quiet w n =
-    elim (n == 0) as (λ b. all_quiet (if b then flat_map freeing (filter (λ c. not (is_in_use w c)) (range_with_len 1 63)) else freeing n) ≡ true) [
-      | true ↦ flat_quiet freeing (filter (λ c. not (is_in_use w c)) (range_with_len 1 63)) (λ c. refl)
+    elim (n == 0) as (λ b. all_quiet (if b then flat_map free_deeds (filter (λ c. not (is_in_use w c)) (range_with_len 1 63)) else free_deeds n) ≡ true) [
+      | true ↦ flat_quiet free_deeds (filter (λ c. not (is_in_use w c)) (range_with_len 1 63)) (λ c. refl)
       | false ↦ refl
     ]
 
 -- what an accepted event does: nothing that is a wait, or just a wait of its caller, which is told so
-pub data RowDoes (p : ℕ) : Row → Type 0 where
-  NoWait : (r : Row) → all_quiet r.deeds ≡ true → RowDoes p r
+pub data RowDoes (p : ℕ) : EventRow → Type 0 where
+  NoWait : (r : EventRow) → all_quiet r.deeds ≡ true → RowDoes p r
   OneWait : (ticket : Ticket) → RowDoes p (record { reply = reply.Wait; deeds = Own (Waits p ticket) ∷ [] })
 
 waits_does : (there : Bool) (p : ℕ) (ticket : Ticket) → RowDoes p (waits_unless there p ticket)

@@ -24,7 +24,7 @@ use Rattle.vt_base.specs.Limits.{callers as every_caller}
 use Rattle.vt_events.specs.declared.entry.Entry.{Entry}
 use Rattle.vt_events.specs.declared.event.Event.{Event}
 use Rattle.vt_journal.specs.declared.full.Full.{Full}
-use Rattle.vt_procs.specs.Callers.{Callers, caller_at, caller_of, callers_of, is_live, keyboard, no_caller, starting}
+use Rattle.vt_procs.specs.Callers.{Callers, caller_at, caller_of, callers_of, is_live, keyboard, no_caller, caller_at_start}
 use Rattle.vt_procs.specs.Tickets.{can_go, is_open}
 use Rattle.vt_procs.specs.declared.proc_start.ProcStart.{ProcStart}
 use Rattle.vt_procs.specs.declared.process.Process.{Process}
@@ -35,13 +35,13 @@ use Rattle.vt_world.specs.Step.{step}
 
 -- a caller at the start
 start_at : (keyboards : ℕ) (starts : List ProcStart) (q : ℕ)
-    → ((q < every_caller) × (caller_at (callers_of keyboards starts) q ≡ starting keyboards starts q))
+    → ((q < every_caller) × (caller_at (callers_of keyboards starts) q ≡ caller_at_start keyboards starts q))
     ⊎ (caller_at (callers_of keyboards starts) q ≡ no_caller)
 start_at keyboards starts q = ⊎_elim
     (λ within. inl
-    (within, get_or-map-range_with_len (starting keyboards starts) 0 68 q q no_caller within (omega arith)))
-    (λ past. inr (get_or_past (map (starting keyboards starts) (range_with_len 0 68)) q no_caller
-    (omega (arith, past, length-map-range_with_len (starting keyboards starts) 0 68))))
+    (within, get_or-map-range_with_len (caller_at_start keyboards starts) 0 68 q q no_caller within (omega arith)))
+    (λ past. inr (get_or_past (map (caller_at_start keyboards starts) (range_with_len 0 68)) q no_caller
+    (omega (arith, past, length-map-range_with_len (caller_at_start keyboards starts) 0 68))))
     (cases_lt q 68)
 
 starting_free : (keyboards q : ℕ) (first further : Bool) (start : Option ProcStart)

@@ -9,13 +9,13 @@ use Rattle.session_text.specs.declared.program.Program.{Program}
 use Rattle.vt_base.specs.ConsoleSet.{IsFitSet}
 use Rattle.vt_procs.specs.declared.config.Config.{Config}
 use Rattle.vt_world.specs.Laws.{IsStart}
-use Rattle.vt_world.specs.Start.{opening}
+use Rattle.vt_world.specs.Start.{start_world}
 use Rattle.vt_world.specs.State.{WorldState}
 
 pub opens-there : (s : SessionView) (w : WorldState) (c : Config) (t : Tables) → c ≡ s.config → t ≡ s.tables
-    → w ≡ opening c.size.rows c.size.cols c.consoles c.front c.keyboards c.procs t → w ≡ start_of s
+    → w ≡ start_world c.size.rows c.size.cols c.consoles c.front c.keyboards c.procs t → w ≡ start_of s
 opens-there s w c t config tables is =
-    is ∙ (λ i. opening (config i).size.rows (config i).size.cols (config i).consoles (config i).front (config i).keyboards (config i).procs (tables i))
+    is ∙ (λ i. start_world (config i).size.rows (config i).size.cols (config i).consoles (config i).front (config i).keyboards (config i).procs (tables i))
 
 abbrev pub is-start : (s : SessionView) → IsFitSet s.config.consoles s.config.front → IsStart (start_of s)
 is-start s fit = record {

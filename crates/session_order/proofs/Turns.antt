@@ -31,7 +31,7 @@ use Rattle.vt_procs.specs.declared.ticket.Ticket.TheVariants.{Active, Input}
 use Rattle.vt_procs.specs.declared.waiting.Waiting.{Waiting}
 use Rattle.vt_procs.specs.declared.waiting.Waiting.TheVariants.{Nothing, Open, Done, Broken}
 use Rattle.session_order.proofs.Steps.{Accepted, RefusedByAll, RefusedByOwn, StepDoes, step-does}
-use Rattle.vt_world.specs.Heard.{cleared}
+use Rattle.vt_world.specs.Heard.{without_marks}
 use Rattle.vt_world.specs.History.{IsLegal, IsNext, replay}
 use Rattle.vt_world.specs.Rows.{ended_reply, row, waits_unless}
 use Rattle.vt_world.specs.State.{WorldState}
@@ -61,7 +61,7 @@ step_plain : (w : WorldState) (p : ℕ) (e : Event) (o : Outcome) → StepDoes w
     → plain_reply o.reply ≡ o.reply
 step_plain w p e _ (RefusedByAll with is) = refl
 step_plain w p e _ (RefusedByOwn with none is) = refl
-step_plain w p e _ (Accepted none is) = row_plain (cleared w) p e
+step_plain w p e _ (Accepted none is) = row_plain (without_marks w) p e
 
 pub reply-plain : (w : WorldState) (p : ℕ) (e : Event)
     → plain_reply (step w p e).reply ≡ (step w p e).reply

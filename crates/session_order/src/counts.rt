@@ -4,12 +4,12 @@ use std::marker::Model;
 use vt_base::CallerNo;
 
 /// The places for callers by their numbers.
-const PLACES: usize = 68;
+const CALLER_PLACES: usize = 68;
 
 /// How many calls each caller made.
 #[derive(Drop)]
 pub struct Counts {
-    places: [u32; PLACES],
+    places: [u32; CALLER_PLACES],
 }
 
 impl Model for Counts {
@@ -26,7 +26,7 @@ impl Counts {
         ensures { result ≡ replicate 68 0 }
     {
         Counts {
-            places: [0; PLACES],
+            places: [0; CALLER_PLACES],
         }
     }
 

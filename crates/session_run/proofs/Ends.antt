@@ -8,7 +8,7 @@ use Rattle.session_order.specs.Laws.{FinishedStays, IsFromStart, RoundsAddUp, Ro
 use Rattle.session_order.specs.Meant.{ReplayIsMeant, plain_history}
 use Rattle.session_order.specs.Serial.{IsSerial, Played, is_finished, nothing_played, round, rounds, turns}
 use Rattle.session_run.specs.Playing.{IsAt, PlayerView}
-use Rattle.session_run.specs.Runs.{played}
+use Rattle.session_run.specs.Runs.{run_result}
 use Rattle.vt_hub.specs.declared.run.Run.{Run}
 use Rattle.vt_journal.specs.Log.{Logged}
 use Rattle.vt_world.specs.History.{replay}
@@ -59,9 +59,9 @@ round-stays stays sum goes_on o first k t u before view start is_t is_u old at l
 -- what came of a play at its end
 pub run-serial : (o : Setup) (first : List ℕ) (t : Played) (view : PlayerView) (run : Run)
     → IsSerial o first t → IsAt o t view → run.log ≡ view.log → run.stop ≡ view.stop
-    → IsSerial o first (played run)
+    → IsSerial o first (run_result run)
 run-serial o first t view run serial at log stop =
-    let same : t ≡ played run =
+    let same : t ≡ run_result run =
     λ i. record {
       history = (sym at.history ∙ ap (λ (l : Logged). plain_history l.entries) (sym log)) i;
       stop = (sym at.stop ∙ sym stop) i;

@@ -12,23 +12,23 @@ use Rattle.session_run.proofs.HavePrograms.{caller-known}
 use Rattle.session_run.specs.Callers.{callers_in, has_program}
 use Rattle.session_run.specs.Racing.{AreFresh, AreHome, HasRun, IsFresh, IsSplit}
 use Rattle.session_text.specs.declared.program.Program.{Program}
-use Rattle.vt_hub.specs.Views.{PassView, StewardView, is_made, new_pass, opened, with_pass}
-use Rattle.vt_hub.specs.declared.stand.Stand.{Stand}
-use Rattle.vt_hub.specs.declared.stand.Stand.TheVariants.{Unmade, Out, Home}
+use Rattle.vt_hub.specs.Views.{PassView, StewardView, is_made, new_pass, view_at_open, with_pass}
+use Rattle.vt_hub.specs.declared.pass_place.PassPlace.{PassPlace}
+use Rattle.vt_hub.specs.declared.pass_place.PassPlace.TheVariants.{Unmade, Out, Home}
 use Rattle.vt_world.specs.State.{WorldState}
 
 unmade : (n k : ℕ) → get_or (replicate n Unmade) k Unmade ≡ Unmade
 unmade n k = ⊎_elim
     (λ low. get_or-replicate n k Unmade Unmade low)
-    (λ past. get_or_past (replicate n Unmade) k Unmade (omega (arith, past, length-replicate {A = Stand} n Unmade)))
+    (λ past. get_or_past (replicate n Unmade) k Unmade (omega (arith, past, length-replicate {A = PassPlace} n Unmade)))
     (cases_lt k n)
 
 -- the steward of a hub that was just opened has made no pass
 pub split-start : (start : WorldState) (here : TableId) (callers : List ℕ) (s : StewardView)
-    → s ≡ opened start here → IsSplit here callers 0 s
+    → s ≡ view_at_open start here → IsSplit here callers 0 s
 split-start start here callers s is = subst (IsSplit here callers 0) (sym is) (record {
   own = refl;
-  size = length-replicate {A = Stand} 68 Unmade;
+  size = length-replicate {A = PassPlace} 68 Unmade;
   rest = λ k _. unmade 68 k;
   none_home = refl;
 })
@@ -112,16 +112,16 @@ home-more programs here callers n s t q same inside hub stands joined given home
       size = ap length stands ∙ length-set s.stands q.number Home ∙ home.size;
       home = λ i low. ⊎_elim
           (λ mine.
-          ap (λ (list : List Stand). get_or list (get_or all i 0) Unmade) stands
+          ap (λ (list : List PassPlace). get_or list (get_or all i 0) Unmade) stands
           ∙ ap (λ m. get_or (set s.stands q.number Home) m Unmade) (sym mine)
           ∙ get_or-set_same s.stands q.number Home Unmade (omega (arith, run.numbered, known.1, home.size)))
           (λ other.
-          ap (λ (list : List Stand). get_or list (get_or all i 0) Unmade) stands
+          ap (λ (list : List PassPlace). get_or list (get_or all i 0) Unmade) stands
           ∙ get_or-set_other s.stands q.number (get_or all i 0) Home Unmade (λ same. other (sym same))
           ∙ home.home i (less n i low (λ last. other (run.numbered ∙ ap (λ k. get_or all k 0) last))))
           (cases_eq q.number (get_or all i 0));
       rest = λ k none.
-          ap (λ (list : List Stand). get_or list k Unmade) stands
+          ap (λ (list : List PassPlace). get_or list k Unmade) stands
           ∙ get_or-set_other s.stands q.number k Home Unmade (λ last. none n (subst (λ cs. n < length cs) same inside) (sym run.numbered ∙ sym last))
           ∙ home.rest k none;
       ran = λ place x is. ⊎_elim

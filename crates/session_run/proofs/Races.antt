@@ -19,8 +19,8 @@ use Rattle.turn_lock.specs.declared.seal.Seal.{Seal}
 use Rattle.vt_hub.specs.Closed.{IsPart, IsStopped, IsWhole}
 use Rattle.vt_hub.specs.Views.{PassView, StewardView, is_out}
 use Rattle.vt_hub.specs.declared.run.Run.{Run}
-use Rattle.vt_hub.specs.declared.stand.Stand.{Stand}
-use Rattle.vt_hub.specs.declared.stand.Stand.TheVariants.{Unmade, Home}
+use Rattle.vt_hub.specs.declared.pass_place.PassPlace.{PassPlace}
+use Rattle.vt_hub.specs.declared.pass_place.PassPlace.TheVariants.{Unmade, Home}
 use Rattle.vt_journal.specs.Log.{Logged}
 use Rattle.vt_journal.specs.Room.{tail_at}
 use Rattle.vt_journal.specs.declared.full.Full.{Full}
@@ -28,7 +28,7 @@ use Rattle.vt_journal.specs.declared.limits.Limits.{Limits}
 use Rattle.vt_world.specs.State.{WorldState}
 
 -- no pass is out
-none_out : (stands : List Stand)
+none_out : (stands : List PassPlace)
     → ((k : ℕ) → is_out (get_or stands k Unmade) ≡ false) → count_by is_out stands ≡ 0
 none_out [] each = refl
 none_out (s ∷ stands) each =

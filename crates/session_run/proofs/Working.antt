@@ -7,7 +7,7 @@ use Rattle.session_order.specs.Calls.{as_meant, call_of}
 use Rattle.session_order.specs.Meant.{NextIsMeant, NextIsPlain}
 use Rattle.session_order.proofs.Standings.{Walks, next-after, stands-more}
 use Rattle.session_order.specs.Races.{IsRun, RunsGrow}
-use Rattle.session_order.specs.Standing.{StandsAfter}
+use Rattle.session_order.specs.Standing.{IsWalkAfter}
 use Rattle.session_text.specs.Programs.{Call, WaitsAreEnded, call, next}
 use Rattle.session_text.specs.Walks.{Place, Stands}
 use Rattle.session_text.specs.declared.program.Program.{Program}
@@ -33,7 +33,7 @@ pub record AtWork (program : Program) (walk : Place) (here : TableId) (number : 
   pub numbered : q.number ≡ number
   pub goes : q.stop ≡ None
   pub run : IsRun program q.mine
-  pub stands : StandsAfter program walk (map call_of q.mine)
+  pub stands : IsWalkAfter program walk (map call_of q.mine)
 
 -- what a walk gives as the next call
 abbrev pub Gives : Program → Place → Option Event → Type 0
@@ -96,14 +96,14 @@ works_on is_meant is_plain grows start most program walk moved here number e v w
     ap (λ c. map call_of v.mine ++ c ∷ []) call_is
     ∙ sym (map-append call_of v.mine (entry ∷ []))
     ∙ sym (ap (map call_of) called.mine) in
-    let stands : StandsAfter program moved (map call_of v.mine ++ as_meant (call e r) ∷ []) =
+    let stands : IsWalkAfter program moved (map call_of v.mine ++ as_meant (call e r) ∷ []) =
     stands-more is_meant program walk moved (map call_of v.mine) e r at.stands walks next_is in
     record {
       own = called.hub ∙ at.own;
       numbered = called.number ∙ at.numbered;
       goes = called.goes_on;
       run = subst (IsRun program) (sym called.mine) run;
-      stands = subst (StandsAfter program moved) calls stands;
+      stands = subst (IsWalkAfter program moved) calls stands;
     }
 
 pub works-on : NextIsMeant → NextIsPlain → RunsGrow → (start : WorldState) (most : Limits) (program : Program) (walk moved : Place) (here : TableId) (number : ℕ) (e : Event) (v w : PassView) (place : ℕ) (r : Reply) (a : Answer)

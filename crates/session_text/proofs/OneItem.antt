@@ -6,7 +6,7 @@ use Rattle.vt_events.specs.Plain.{text as bytes_of}
 use Rattle.vt_events.specs.declared.event.Event.{Event}
 use Rattle.vt_events.specs.declared.event.Event.TheVariants as event
 use Rattle.vt_journal.specs.Calls.{name_of}
-use Rattle.vt_journal.specs.Words.{CallsAreCut, OneCall, Spells, spelled}
+use Rattle.vt_journal.specs.Words.{CallsAreCut, OneCall, Spells, joined_by_blanks}
 use Rattle.session_text.specs.ItemTexts.{IsItem, IsSay, item_says}
 use Rattle.session_text.proofs.OneResult.{IsOne}
 
@@ -36,7 +36,7 @@ one_say text d e this other =
     let number : decimal this.fd ≡ decimal other.fd = cc in
     let fds = decimal_injective this.fd other.fd (omega arith) (omega arith) number in
     let words : this.say.first ∷ this.say.more ≡ other.say.first ∷ other.say.more = cc in
-    this.write ∙ (λ i. event.Write (fds i) (bytes_of (spelled (words i)))) ∙ sym other.write
+    this.write ∙ (λ i. event.Write (fds i) (bytes_of (joined_by_blanks (words i)))) ∙ sym other.write
 
 one_item : OneCall → CallsAreCut → (text : List ℕ) (d e : Event) → IsItem text d → IsItem text e → d ≡ e
 one_item one cut text d e this other =

@@ -8,9 +8,9 @@ use Rattle.session_text.specs.Keyboards.{Typed, further_of, keyboards_of, typed_
 use Rattle.session_text.specs.Openings.{opening_of}
 use Rattle.session_text.specs.Tops.{is_top_key, top_of}
 use Rattle.session_text.specs.Turns.{turns_of}
-use Rattle.session_text.specs.declared.opening.Opening.{Opening}
+use Rattle.session_text.specs.declared.opening.SessionHeader.{SessionHeader}
 
-pub top-read : (table : Members) (p m t : Option Data) (opening : Opening) (typed : Typed) (n k : ℕ)
+pub top-read : (table : Members) (p m t : Option Data) (opening : SessionHeader) (typed : Typed) (n k : ℕ)
     (turns : List ℕ) (tables : List Members) (further : List (List ℕ))
     → keys_pass is_top_key table ≡ true → opening_of table ≡ Ok opening → typed_of table ≡ Ok typed
     → p ≡ get_member (codes "process") table → n ≡ count_of p

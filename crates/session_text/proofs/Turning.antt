@@ -3,7 +3,7 @@ use Rattle.std.proofs.Common.{◌≡◌, ℕ, ℤ, ◌+◌, ◌≤◌, ◌<◌, 
 use Rattle.std.proofs.lemmas.Bool.{and_parts, cases_lt, le-leb, leb-true, ltb-true, or_cases, or_left}
 use Rattle.std.proofs.lemmas.List.{append_assoc, append-nil, at_drop_more, drop_all}
 use Rattle.table_fields.specs.Checked.{collect, ◌>>=◌}
-use Rattle.table_fields.specs.Collecting.{behind}
+use Rattle.table_fields.specs.Collecting.{found_before}
 use Rattle.table_fields.specs.declared.fault.TableFault.{TableFault}
 use Rattle.session_text.specs.Collected.{TurnsSoFar}
 use Rattle.session_text.specs.Turns.{is_there}
@@ -36,7 +36,7 @@ turn-there processes keyboards n some there = ⊎_elim
 
 -- behind those that were found and one more
 behind_one : (found : List ℕ) (n : ℕ) (more : Result (List ℕ) TableFault)
-    → behind (found ++ n ∷ []) more ≡ behind found (more >>= (λ ns. Ok (n ∷ ns)))
+    → found_before (found ++ n ∷ []) more ≡ found_before found (more >>= (λ ns. Ok (n ∷ ns)))
 behind_one found n (Ok ns) = ap Ok (append_assoc found (n ∷ []) ns)
 behind_one found n (Err e) = refl
 
@@ -56,7 +56,7 @@ turns_more processes i bytes f xs whole d n within so_far is low = record {
       (λ j. so_far.bytes_are few j ++ same j ∷ []);
   whole_is =
       behind_one so_far.found n (collect f (i + 1 + 1) (drop (i + 1) xs))
-      ∙ ap (behind so_far.found)
+      ∙ ap (found_before so_far.found)
       (sym
       (at_drop_more (collect f (i + 1)) xs i d within
       ∙ collect_one f (i + 1) n (get_or xs i d) (drop (i + 1) xs) is))
@@ -70,7 +70,7 @@ pub turns_end : (processes i : ℕ) (bytes : List ℕ) (f : ℕ → ℤ → Resu
 turns_end processes i bytes f xs whole end so_far = (
   so_far.found,
   sym so_far.whole_is
-      ∙ ap (λ ys. behind so_far.found (collect f (i + 1) ys)) (drop_all i xs end)
+      ∙ ap (λ ys. found_before so_far.found (collect f (i + 1) ys)) (drop_all i xs end)
       ∙ ap Ok (append-nil so_far.found),
   so_far.bytes_are,
 )

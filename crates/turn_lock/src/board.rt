@@ -31,7 +31,7 @@ impl<K: Kept> TableRule<Option<K>, View<K::What, K::Stop>, ()> for Turns<K> {
     ghost first = { λ _. newcomer K.before };
 }
 
-pub type Board<K: Kept> = Table<
+pub type LockWords<K: Kept> = Table<
     Option<K>,
     View<<K as Kept>::What, <K as Kept>::Stop>,
     (),

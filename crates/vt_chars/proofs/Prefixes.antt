@@ -3,7 +3,7 @@ use Rattle.std.proofs.Common.{◌≡◌, ◌≢◌, ℕ, ◌==◌, ◌≤◌, �
 use Rattle.std.proofs.lemmas.Bool.{and_parts, and_from, cases_Bool, cases_lt, cond-true, cond-false, false_from_ne_true, false≢true}
 use Rattle.std.proofs.lemmas.Bool.Decides.{nat_tests}
 use Rattle.vt_chars.specs.Push.{got_by, got_of, malformed_by}
-use Rattle.vt_chars.specs.Utf8.{Begins, UnfinishedBegins, code_of, decoded, is_begun, is_second, is_tail, is_well_formed, within}
+use Rattle.vt_chars.specs.Utf8.{Begins, UnfinishedBegins, code_of, decoding_of, is_begun, is_second, is_tail, is_well_formed, within}
 use Rattle.vt_chars.specs.declared.decoded.Decoded.TheVariants.{Character, Unfinished, Malformed}
 use Rattle.vt_chars.specs.declared.got.Got.TheVariants.{More}
 
@@ -150,19 +150,19 @@ malformed-not_more : (before : List ℕ) → malformed_by before ≢ More
 malformed-not_more [] e = cc
 malformed-not_more (a ∷ before) e = cc
 
-more-exactly-of : (before text : List ℕ) → text ≢ [] → (got_by before (decoded text) ≡ More) ↔ Begins text
+more-exactly-of : (before text : List ℕ) → text ≢ [] → (got_by before (decoding_of text) ≡ More) ↔ Begins text
 more-exactly-of before text some = ⊎_elim
     (λ (whole : is_well_formed text ≡ true).
-    let is : decoded text ≡ Character _ = cond-true _ _ _ whole in (
+    let is : decoding_of text ≡ Character _ = cond-true _ _ _ whole in (
       (λ more. absurd (let e : ⊥ = cc (ap (got_by before) is) in e)),
       (λ begins. absurd (apart text whole (begins-begun text some begins))),
     ))
     (λ (not_whole : is_well_formed text ≡ false). ⊎_elim
     (λ (begun : is_begun text ≡ true).
-    let is : decoded text ≡ Unfinished = cond-false _ _ _ not_whole ∙ cond-true _ _ _ begun in
+    let is : decoding_of text ≡ Unfinished = cond-false _ _ _ not_whole ∙ cond-true _ _ _ begun in
     ((λ more. begun-begins text begun), (λ begins. ap (got_by before) is)))
     (λ (not_begun : is_begun text ≡ false).
-    let is : decoded text ≡ Malformed = cond-false _ _ _ not_whole ∙ cond-false _ _ _ not_begun in (
+    let is : decoding_of text ≡ Malformed = cond-false _ _ _ not_whole ∙ cond-false _ _ _ not_begun in (
       (λ more. absurd (malformed-not_more before (sym (ap (got_by before) is) ∙ more))),
       (λ begins. absurd (false≢true (sym not_begun ∙ begins-begun text some begins))),
     ))
@@ -172,15 +172,15 @@ more-exactly-of before text some = ⊎_elim
 pub more-exactly : (before : List ℕ) (b : ℕ) → (got_of before b ≡ More) ↔ Begins (before ++ b ∷ [])
 more-exactly before b = more-exactly-of before (before ++ b ∷ []) (some-bytes before b)
 
-unfinished-one-way : (text : List ℕ) → decoded text ≡ Unfinished → (text ≢ []) × Begins text
+unfinished-one-way : (text : List ℕ) → decoding_of text ≡ Unfinished → (text ≢ []) × Begins text
 unfinished-one-way text is = ⊎_elim
     (λ (whole : is_well_formed text ≡ true).
-    let e : decoded text ≡ Character (code_of text) = cond-true _ _ _ whole in
+    let e : decoding_of text ≡ Character (code_of text) = cond-true _ _ _ whole in
     absurd (let wrong : ⊥ = cc in wrong))
     (λ (not_whole : is_well_formed text ≡ false). ⊎_elim
     (λ (begun : is_begun text ≡ true). (not-empty text begun, begun-begins text begun))
     (λ (not_begun : is_begun text ≡ false).
-    let e : decoded text ≡ Malformed = cond-false _ _ _ not_whole ∙ cond-false _ _ _ not_begun in
+    let e : decoding_of text ≡ Malformed = cond-false _ _ _ not_whole ∙ cond-false _ _ _ not_begun in
     absurd (let wrong : ⊥ = cc in wrong))
     (cases_Bool (is_begun text)))
     (cases_Bool (is_well_formed text))
@@ -189,7 +189,7 @@ unfinished-one-way text is = ⊎_elim
     not-empty [] begun e = false≢true begun
     not-empty (a ∷ t) begun e = cc
 
-unfinished-other-way : (text : List ℕ) → (text ≢ []) × Begins text → decoded text ≡ Unfinished
+unfinished-other-way : (text : List ℕ) → (text ≢ []) × Begins text → decoding_of text ≡ Unfinished
 unfinished-other-way text (some, begins) =
     let begun : is_begun text ≡ true = begins-begun text some begins in
     cond-false _ _ _ (false_from_ne_true _ (λ whole. apart text whole begun)) ∙ cond-true _ _ _ begun

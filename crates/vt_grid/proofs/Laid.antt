@@ -2,7 +2,7 @@
 use Rattle.std.proofs.Common.{◌≡◌, ℕ, zero, suc, ◌<◌, ◌≤◌, min, List, [], ◌∷◌, length, take, set, get_or, refl, ap, ◌∙◌, arith, rules}
 use Rattle.std.proofs.lemmas.Bool.{cases_eq}
 use Rattle.std.proofs.lemmas.List.{places, same_lists, set-set, get_or-set_same, length-set}
-use Rattle.vt_grid.specs.Grid.{IsFull, Sheet, laid_over, overlaid, row_at, rows_laid_over, with_cell, with_run}
+use Rattle.vt_grid.specs.Grid.{IsFull, GridView, laid_over, overlaid, row_at, rows_laid_over, with_cell, with_run}
 use Rattle.vt_cells.specs.declared.cell.Cell.{Cell}
 
 -- one row more is laid over the one at its place
@@ -52,7 +52,7 @@ overlaid-set x cells row c within in_row =
     (λ k d k_in. grind (arith, places, length-set, get_or-set_same, cases_eq k x))
 
 -- a run of which one cell is set then
-pub with_run-set : (s : Sheet) (y x : ℕ) (cells : List Cell) (c : Cell) → IsFull s → y < s.rows
+pub with_run-set : (s : GridView) (y x : ℕ) (cells : List Cell) (c : Cell) → IsFull s → y < s.rows
     → x < length cells → length cells ≤ s.cols
     → with_cell (with_run s y 0 cells) y x c ≡ with_run s y 0 (set cells x c)
 with_run-set s y x cells c full y_in within in_cols =

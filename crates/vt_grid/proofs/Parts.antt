@@ -4,8 +4,8 @@ use Rattle.std.proofs.lemmas.Bool.{cases_eq}
 use Rattle.std.proofs.lemmas.List.{places, same_lists, get_or-set_same, length-set, length-map, length-take-le, set_at, drop-drop, length-drop, take-take, take_all, drop_more, map_more}
 use borrow.Rule.Slice.PartMut.{put_mid}
 use Rattle.vt_grid.specs.Grid.{overlaid}
-use Rattle.vt_grid.specs.Line.{inserted_at, written}
-use Rattle.vt_grid.specs.Ring.{Shelf}
+use Rattle.vt_grid.specs.StoredRow.{with_stored_inserted, with_stored_cells}
+use Rattle.vt_grid.specs.Ring.{RowSlot}
 use Rattle.vt_cells.specs.declared.cell.Cell.{Cell}
 
 -- one cell among the stored ones is written
@@ -34,20 +34,20 @@ put_mid-overlaid x n new cells n_is =
     (drop-drop (x + n - x) x cells ∙ ap (λ k. drop k cells) (omega arith))
 
 -- a row as its cells and the number of those that are stored
-abbrev pub shelf_of : List Cell → ℕ → Cell → Shelf
+abbrev pub shelf_of : List Cell → ℕ → Cell → RowSlot
 shelf_of cells len rest =
     record { room = length cells; line = record { stored = take len cells; rest = rest } }
 
 -- the row with these cells in place of those from x on
-abbrev pub rewritten : ℕ → List Cell → Shelf → Shelf
-rewritten x new shelf = record shelf { line = written x new shelf.line }
+abbrev pub rewritten : ℕ → List Cell → RowSlot → RowSlot
+rewritten x new shelf = record shelf { line = with_stored_cells x new shelf.line }
 
-pub shelf-set : (x len : ℕ) (c rest : Cell) (cells : List Cell) (shelf : Shelf) → x ≢ len
+pub shelf-set : (x len : ℕ) (c rest : Cell) (cells : List Cell) (shelf : RowSlot) → x ≢ len
     → x ≤ length shelf.line.stored → len ≤ length cells → shelf_of cells len rest ≡ shelf
     → shelf_of (set cells x c) len rest ≡ rewritten x (c ∷ []) shelf
 shelf-set x len c rest cells shelf other place len_in is =
     let stored : length shelf.line.stored ≡ len =
-    ap (λ (s : Shelf). length s.line.stored) (sym is) ∙ length-take-le len cells len_in in
+    ap (λ (s : RowSlot). length s.line.stored) (sym is) ∙ length-take-le len cells len_in in
     (λ i. record {
       room = length-set cells x c i;
       line = record {
@@ -57,7 +57,7 @@ shelf-set x len c rest cells shelf other place len_in is =
     })
     ∙ ap (rewritten x (c ∷ [])) is
 
-pub shelf-overlaid : (x len : ℕ) (rest : Cell) (new cells : List Cell) (shelf : Shelf)
+pub shelf-overlaid : (x len : ℕ) (rest : Cell) (new cells : List Cell) (shelf : RowSlot)
     → x + length new ≤ len → len ≤ length cells → shelf_of cells len rest ≡ shelf
     → shelf_of (overlaid x new cells) len rest ≡ rewritten x new shelf
 shelf-overlaid x len rest new cells shelf new_in len_in is =
@@ -92,7 +92,7 @@ length-inserted : (x len count end : ℕ) (c : Cell) (cells : List Cell) → x �
     (replicate count c ++ take (end - x - count) (drop x cells))) ≡ length cells
 length-inserted x len count end c cells x_in len_in fits end_is = search (rules, places)
 
-pub shelf-inserted : (x len count end : ℕ) (c rest : Cell) (new cells : List Cell) (shelf : Shelf)
+pub shelf-inserted : (x len count end : ℕ) (c rest : Cell) (new cells : List Cell) (shelf : RowSlot)
     → x ≤ length shelf.line.stored → x + count ≤ length cells → len ≤ length cells
     → end ≡ min (length cells) (len + count)
     → new
@@ -101,10 +101,10 @@ pub shelf-inserted : (x len count end : ℕ) (c rest : Cell) (new cells : List C
     → shelf_of cells len rest ≡ shelf
     → (length (put_mid x (end - x) cells new) ≡ length cells)
     × (shelf_of (put_mid x (end - x) cells new) end rest
-    ≡ record shelf { line = inserted_at shelf.room x count c shelf.line })
+    ≡ record shelf { line = with_stored_inserted shelf.room x count c shelf.line })
 shelf-inserted x len count end c rest new cells shelf place fits len_in end_is new_is is =
     let stored : length shelf.line.stored ≡ len =
-    ap (λ (s : Shelf). length s.line.stored) (sym is) ∙ length-take-le len cells len_in in
+    ap (λ (s : RowSlot). length s.line.stored) (sym is) ∙ length-take-le len cells len_in in
     let moved : new ≡ replicate count c ++ take (end - x - count) (drop x cells) =
     new_is ∙ ap (λ row. replicate count c ++ row)
     (part-moved x count end cells (omega arith) (omega arith)) in
@@ -121,7 +121,7 @@ shelf-inserted x len count end c rest new cells shelf place fits len_in end_is n
           rest = rest;
         };
       })
-          ∙ ap (λ (s : Shelf). record s { line = inserted_at s.room x count c s.line }) is,
+          ∙ ap (λ (s : RowSlot). record s { line = with_stored_inserted s.room x count c s.line }) is,
     )
 
 -- one more element is mapped over another list

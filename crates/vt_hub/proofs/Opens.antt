@@ -8,7 +8,7 @@ use Rattle.turn_lock.specs.declared.view.View.{View}
 use Rattle.vt_events.specs.declared.entry.Entry.{Entry}
 use Rattle.vt_hub.specs.Places.{Keeps}
 use Rattle.vt_hub.specs.Views.{is_home, is_made, stand_at}
-use Rattle.vt_hub.specs.declared.stand.Stand.TheVariants.{Unmade}
+use Rattle.vt_hub.specs.declared.pass_place.PassPlace.TheVariants.{Unmade}
 use Rattle.vt_journal.specs.declared.full.Full.{Full}
 
 pub unmade-at : (size n : ℕ) → stand_at (replicate size Unmade) n ≡ Unmade

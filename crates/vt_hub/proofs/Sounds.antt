@@ -15,7 +15,7 @@ use Rattle.vt_hub.proofs.Lists.{each-more, made-other, made-own, waits-more}
 use Rattle.vt_journal.specs.declared.limits.Limits.{Limits}
 use Rattle.vt_world.specs.History.{IsLegal, IsNext, LegalGrows, ReplayGrows, replay}
 use Rattle.vt_world.specs.State.{WorldState, is_waiting}
-use Rattle.vt_world.specs.Step.{Gives, Outcome, step}
+use Rattle.vt_world.specs.Step.{HasOutcome, Outcome, step}
 use Rattle.vt_world.specs.StepLaws.{SizesStay, TicketsAreCalled}
 
 wait-plain : (r : Reply) → is_wait (plain_reply r) ≡ is_wait r
@@ -37,7 +37,7 @@ pub record IsEntryOf (p seq : ℕ) (e : Event) (r : Reply) (entry : Entry) : Typ
   pub reply : plain_reply entry.reply ≡ plain_reply r
 
 module _ (start : WorldState) (most : Limits) (v w : SharedView) (p seq : ℕ) (e : Event) (r : Reply)
-    (entry : Entry) (of : IsEntryOf p seq e r entry) (gives : Gives (step v.world p e) w.world r)
+    (entry : Entry) (of : IsEntryOf p seq e r entry) (gives : HasOutcome (step v.world p e) w.world r)
     (sound : IsSound start most v) where
   stepped : step (replay start v.log.entries) entry.caller entry.event
       ≡ record { world = w.world; reply = plain_reply r }

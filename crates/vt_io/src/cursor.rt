@@ -34,7 +34,7 @@ impl Cursor {
         ensures moved { buf.new ≡ take result self.old ++ drop result buf.old }
         ensures rest { self.new ≡ drop result self.old }
     {
-        let count = move_front(&self.bytes.as_slice()[self.at..], buf);
+        let count = copy_bytes(&self.bytes.as_slice()[self.at..], buf);
         self.at += count;
         count
     }
@@ -51,7 +51,7 @@ impl Cursor {
 }
 
 // Copies as many bytes as both have from the front of `from` to the front of `to`.
-pub fn move_front(from: &[u8], to: &mut [u8]) -> usize
+pub fn copy_bytes(from: &[u8], to: &mut [u8]) -> usize
     ensures count { result ≡ min (length to.old) (length from.now) }
     ensures moved { to.new ≡ take result from.now ++ drop result to.old }
 {

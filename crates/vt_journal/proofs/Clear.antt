@@ -10,15 +10,15 @@ use Rattle.std.proofs.lemmas.List.Sums.{AllPass-from_list_all}
 use Rattle.vt_events.specs.declared.event.Event.{Event}
 use Rattle.vt_events.specs.declared.event.Event.TheVariants as event
 use Rattle.vt_journal.specs.Calls.{held_of, name_of, numbers_of}
-use Rattle.vt_journal.specs.Cut.{cut}
+use Rattle.vt_journal.specs.Cut.{words_of_text}
 use Rattle.vt_journal.specs.Hex.{hex_byte, hex_digit}
 use Rattle.vt_journal.specs.Lines.{IsLine}
 use Rattle.vt_journal.specs.Replies.{reply_name}
-use Rattle.vt_journal.specs.Text.{spaced}
-use Rattle.vt_journal.specs.Words.{IsFit, event_words, held_words, spelled}
+use Rattle.vt_journal.specs.Text.{blank_before_each}
+use Rattle.vt_journal.specs.Words.{IsFit, event_words, held_words, joined_by_blanks}
 use Rattle.vt_journal.specs.declared.reply_kind.ReplyKind.{ReplyKind}
 use Rattle.vt_journal.specs.declared.reply_kind.ReplyKind.TheVariants as kind
-use Rattle.vt_journal.proofs.Lines.{spelled-cons}
+use Rattle.vt_journal.proofs.Lines.{joined_by_blanks-cons}
 
 -- each byte is above that of a blank
 abbrev pub is_clear : List ℕ → Bool
@@ -48,31 +48,31 @@ line_of_word word is =
     All-weaker (λ b. 0x20 < b) (λ b. b ≢ 0x0A)
     (λ b above. other b 0x0A (omega (arith, above))) word (all_above word is)
 
-line_of_words : (words : List (List ℕ)) → are_clear words ≡ true → IsLine (spaced words)
+line_of_words : (words : List (List ℕ)) → are_clear words ≡ true → IsLine (blank_before_each words)
 line_of_words [] is = All-nil (λ b. b ≢ 0x0A)
 line_of_words (word ∷ words) is =
     let both = and_parts (is_clear word) (are_clear words) is in
-    All-cons (λ b. b ≢ 0x0A) 0x20 (word ++ spaced words) (λ same. omega (arith, same))
-    (All-append (λ b. b ≢ 0x0A) word (spaced words) (line_of_word word both.0)
+    All-cons (λ b. b ≢ 0x0A) 0x20 (word ++ blank_before_each words) (λ same. omega (arith, same))
+    (All-append (λ b. b ≢ 0x0A) word (blank_before_each words) (line_of_word word both.0)
     (line_of_words words both.1))
 
 -- spelled words are a line
-pub line-spelled : (word : List ℕ) (words : List (List ℕ)) → is_clear word ≡ true
-    → are_clear words ≡ true → IsLine (spelled (word ∷ words))
-line-spelled word words first others =
-    rw (spelled-cons word words)
-    (All-append (λ b. b ≢ 0x0A) word (spaced words) (line_of_word word first)
+pub line-joined_by_blanks : (word : List ℕ) (words : List (List ℕ)) → is_clear word ≡ true
+    → are_clear words ≡ true → IsLine (joined_by_blanks (word ∷ words))
+line-joined_by_blanks word words first others =
+    rw (joined_by_blanks-cons word words)
+    (All-append (λ b. b ≢ 0x0A) word (blank_before_each words) (line_of_word word first)
     (line_of_words words others))
 
 -- words are found again in their text
-pub cut-spelled : (word : List ℕ) (words : List (List ℕ)) → is_clear word ≡ true
-    → are_clear words ≡ true → cut (spelled (word ∷ words)) ≡ word ∷ words
-cut-spelled word [] first others =
+pub words_of_text-joined_by_blanks : (word : List ℕ) (words : List (List ℕ)) → is_clear word ≡ true
+    → are_clear words ≡ true → words_of_text (joined_by_blanks (word ∷ words)) ≡ word ∷ words
+words_of_text-joined_by_blanks word [] first others =
     slice_split_none (λ b. eqb b 0x20) word (no_blank word first)
-cut-spelled word (next ∷ words) first others =
+words_of_text-joined_by_blanks word (next ∷ words) first others =
     let both = and_parts (is_clear next) (are_clear words) others in
-    slice_split_at (λ b. eqb b 0x20) word 0x20 (spelled (next ∷ words)) (no_blank word first) refl
-    ∙ ap (λ rest. word ∷ rest) (cut-spelled next words both.0 both.1)
+    slice_split_at (λ b. eqb b 0x20) word 0x20 (joined_by_blanks (next ∷ words)) (no_blank word first) refl
+    ∙ ap (λ rest. word ∷ rest) (words_of_text-joined_by_blanks next words both.0 both.1)
 
 -- words one behind the other
 pub are_clear-append : (u v : List (List ℕ)) → are_clear u ≡ true → are_clear v ≡ true

@@ -2,7 +2,7 @@
 ghost use Rattle.std.specs.Prelude.{◌≡◌, ◌<◌, ◌≤◌, ◌^◌, [], ◌∷◌, ◌++◌, decimal, map, OnOk, OnErr};
 ghost use Rattle.std.specs.List.{All};
 ghost use Rattle.vt_journal.specs.Hex.{hex_text};
-ghost use Rattle.vt_journal.specs.Text.{Begins, spaced};
+ghost use Rattle.vt_journal.specs.Text.{Begins, blank_before_each};
 
 use crate::add_hex;
 use itoa::Buffer;
@@ -10,7 +10,7 @@ use std::alloc::Global;
 use vt_base::{Bytes, NoMemory};
 
 /// How many bytes there is room for at least, once room is made.
-const STEP: usize = 4_096;
+const ROOM_BYTES: usize = 4_096;
 
 /// Makes room for so many more bytes, and where it takes memory also for some of those after them.
 #[inline(always)]
@@ -32,7 +32,7 @@ fn take_room(alloc: Global, text: &mut Bytes, n: usize) -> Result<(), NoMemory>
     ensures ok { OnOk result (n ≤ text.new.room) }
     ensures err { OnErr result (text.new ≡ text.old) }
 {
-    text.grow(alloc, n.max(STEP))
+    text.grow(alloc, n.max(ROOM_BYTES))
 }
 
 /// Adds the bytes.
@@ -124,7 +124,7 @@ pub fn add_named(
     numbers: &[u16],
 ) -> Result<(), NoMemory>
     ensures ok { OnOk result
-        (text.new.bytes ≡ text.old.bytes ++ spaced (name.now ∷ map decimal numbers.now)) }
+        (text.new.bytes ≡ text.old.bytes ++ blank_before_each (name.now ∷ map decimal numbers.now)) }
     ensures kept { Begins text.old.bytes text.new.bytes }
     ensures fit { All (λ n. n < 2 ^ 16) numbers.now }
 {

@@ -4,7 +4,7 @@ ghost use Rattle.vt_journal.specs.Calls.{held_of, name_of, numbers_of};
 ghost use Rattle.vt_journal.specs.Kinds.{blank, call_of, takes};
 ghost use Rattle.vt_journal.specs.declared.kind.Kind.{Kind};
 
-use crate::likely::likely;
+use crate::kind_guess::guess_kind;
 use crate::rows::{row_of, rows};
 use vt_base::Bytes;
 use vt_events::Event;
@@ -69,7 +69,7 @@ impl Kind {
         ensures found { IfSome result (λ kind. name_of (blank kind) ≡ name.now) }
         ensures none { IfNone result ((kind : Kind) → name_of (blank kind) ≢ name.now) }
     {
-        let kind = likely(name);
+        let kind = guess_kind(name);
         if kind.name().len() == name.len() && kind.name() == name {
             return Some(kind);
         }

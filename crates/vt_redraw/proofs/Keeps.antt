@@ -4,12 +4,12 @@ use Rattle.std.specs.Prelude.{codes, if◌then◌else◌, slice_set}
 use Rattle.vt_cells.specs.Colours.{Rgb}
 use Rattle.vt_grid.specs.Grid.{scrolled_down, scrolled_up}
 use Rattle.vt_redraw.specs.Behind.{with_stops}
-use Rattle.vt_screen.specs.Cursor.{at_column, at_row, homed, linefeed, moved, newline, placed, region_down, region_up, reverse_linefeed}
-use Rattle.vt_screen.specs.Erasing.{above_erased, all_erased, below_erased, cells_inserted, delete_characters, delete_lines, erase_characters, erase_display, erase_line, in_region, insert_characters, insert_lines, line_end_erased, line_erased, line_start_erased, rows_erased, unwrapped, with_grid}
-use Rattle.vt_screen.specs.Printing.{codes_drawn, lacks_room, opened, print, put_here, set_down, shown, wrapped}
+use Rattle.vt_screen.specs.Cursor.{at_column, at_row, cursor_home, linefeed, cursor_to, newline, cursor_to_in_region, region_down, region_up, reverse_linefeed}
+use Rattle.vt_screen.specs.Erasing.{above_erased, all_erased, below_erased, cells_inserted, delete_characters, delete_lines, erase_characters, erase_display, erase_line, in_region, insert_characters, insert_lines, line_end_erased, line_erased, line_start_erased, rows_erased, without_pending_wrap, with_grid}
+use Rattle.vt_screen.specs.Printing.{codes_drawn, lacks_room, with_gap, print, with_cells_at_cursor, with_character, character_of_byte, after_wrap}
 use Rattle.vt_screen.specs.Saying.{with_default_pair, with_dim_colour, with_underline_colour}
 use Rattle.vt_screen.specs.Screen.{Screen, blank_of, with_state}
-use Rattle.vt_screen.specs.Settings.{aligned, each, invoking, rendered, restore, save, with_coding, with_colour, with_g0, with_g1, with_keypad, with_mode, with_pen, with_private_mode, with_region, with_start_palette}
+use Rattle.vt_screen.specs.Settings.{alignment_pattern, each, after_shift, after_sgr, restore, save, with_coding, with_colour, with_g0, with_g1, with_keypad, with_mode, with_pen, with_private_mode, with_region, with_start_palette}
 
 -- what leaves the tab stops and doesn't ask for them
 pub record Keeps (f : Screen → Screen) : Type 0 where
@@ -85,75 +85,75 @@ newline-keeps =
 pub next-keeps : Keeps (λ s. linefeed (at_column 0 s))
 next-keeps = keeps-then (at_column 0) linefeed (column-keeps 0) linefeed-keeps
 
-pub wrapped-keeps : (w : ℕ) → Keeps (wrapped w)
-wrapped-keeps w =
+pub after_wrap-keeps : (w : ℕ) → Keeps (after_wrap w)
+after_wrap-keeps w =
     keeps-if (λ s. s.state.autowrap && (s.state.wrap || lacks_room w s)) _ _ (λ st s. refl) next-keeps
     (keeps-if (lacks_room w) _ (λ s. s) (λ st s. refl) (near-keeps w) keeps-nothing)
 
 pub inserted-keeps : (w : ℕ) → Keeps (cells_inserted w)
 inserted-keeps w = record { commutes = λ st s. refl; stops = λ s. refl; cols = λ s. refl }
 
-pub opened-keeps : (w : ℕ) → Keeps (opened w)
-opened-keeps w = keeps-if (λ s. s.state.insert) (cells_inserted w) (λ s. s) (λ st s. refl) (inserted-keeps w) keeps-nothing
+pub with_gap-keeps : (w : ℕ) → Keeps (with_gap w)
+with_gap-keeps w = keeps-if (λ s. s.state.insert) (cells_inserted w) (λ s. s) (λ st s. refl) (inserted-keeps w) keeps-nothing
 
-pub put-keeps : (codes : List ℕ) → Keeps (put_here codes)
+pub put-keeps : (codes : List ℕ) → Keeps (with_cells_at_cursor codes)
 put-keeps codes = record { commutes = λ st s. refl; stops = λ s. refl; cols = λ s. refl }
 
-pub down-set-keeps : (w code : ℕ) → Keeps (set_down w code)
+pub down-set-keeps : (w code : ℕ) → Keeps (with_character w code)
 down-set-keeps w code =
-    keeps-then (λ s. opened w (wrapped w s)) (put_here (codes_drawn w code))
-    (keeps-then (wrapped w) (opened w) (wrapped-keeps w) (opened-keeps w)) (put-keeps (codes_drawn w code))
+    keeps-then (λ s. with_gap w (after_wrap w s)) (with_cells_at_cursor (codes_drawn w code))
+    (keeps-then (after_wrap w) (with_gap w) (after_wrap-keeps w) (with_gap-keeps w)) (put-keeps (codes_drawn w code))
 
 pub print-keeps : (w code : ℕ) → Keeps (print w code)
 unfolding print
 print-keeps w code =
     keeps-if (λ s. w == 0) (λ s. s) _ (λ st s. refl) keeps-nothing
-    (keeps-if (λ s. w == 2 && s.grid.cols == 1) (set_down 1 0xFFFD) (set_down w code) (λ st s. refl) (down-set-keeps 1 0xFFFD) (down-set-keeps w code))
+    (keeps-if (λ s. w == 2 && s.grid.cols == 1) (with_character 1 0xFFFD) (with_character w code) (λ st s. refl) (down-set-keeps 1 0xFFFD) (down-set-keeps w code))
 
-shown-same : (b : ℕ) (st : List Bool) (s : Screen) → shown b (with_stops st s) ≡ shown b s
-unfolding shown
-shown-same b st s = refl
+character_of_byte-same : (b : ℕ) (st : List Bool) (s : Screen) → character_of_byte b (with_stops st s) ≡ character_of_byte b s
+unfolding character_of_byte
+character_of_byte-same b st s = refl
 
-pub byte-keeps : (b : ℕ) → Keeps (λ s. print 1 (shown b s) s)
+pub byte-keeps : (b : ℕ) → Keeps (λ s. print 1 (character_of_byte b s) s)
 byte-keeps b = record {
   commutes =
       λ st s.
-      let one = print-keeps 1 (shown b s) in
-      ap (λ (code : ℕ). print 1 code (with_stops st s)) (shown-same b st s) ∙ one.commutes st s;
-  stops = λ s. let one = print-keeps 1 (shown b s) in one.stops s;
-  cols = λ s. let one = print-keeps 1 (shown b s) in one.cols s;
+      let one = print-keeps 1 (character_of_byte b s) in
+      ap (λ (code : ℕ). print 1 code (with_stops st s)) (character_of_byte-same b st s) ∙ one.commutes st s;
+  stops = λ s. let one = print-keeps 1 (character_of_byte b s) in one.stops s;
+  cols = λ s. let one = print-keeps 1 (character_of_byte b s) in one.cols s;
 }
 
-pub cuu-keeps : (n : ℕ) → Keeps (λ s. moved (s.state.y - n) s.state.x s)
-unfolding moved
+pub cuu-keeps : (n : ℕ) → Keeps (λ s. cursor_to (s.state.y - n) s.state.x s)
+unfolding cursor_to
 cuu-keeps n = record { commutes = λ st s. refl; stops = λ s. refl; cols = λ s. refl }
 
-pub cud-keeps : (n : ℕ) → Keeps (λ s. moved (s.state.y + n) s.state.x s)
-unfolding moved
+pub cud-keeps : (n : ℕ) → Keeps (λ s. cursor_to (s.state.y + n) s.state.x s)
+unfolding cursor_to
 cud-keeps n = record { commutes = λ st s. refl; stops = λ s. refl; cols = λ s. refl }
 
-pub cuf-keeps : (n : ℕ) → Keeps (λ s. moved s.state.y (s.state.x + n) s)
-unfolding moved
+pub cuf-keeps : (n : ℕ) → Keeps (λ s. cursor_to s.state.y (s.state.x + n) s)
+unfolding cursor_to
 cuf-keeps n = record { commutes = λ st s. refl; stops = λ s. refl; cols = λ s. refl }
 
-pub cub-keeps : (n : ℕ) → Keeps (λ s. moved s.state.y (s.state.x - n) s)
-unfolding moved
+pub cub-keeps : (n : ℕ) → Keeps (λ s. cursor_to s.state.y (s.state.x - n) s)
+unfolding cursor_to
 cub-keeps n = record { commutes = λ st s. refl; stops = λ s. refl; cols = λ s. refl }
 
-pub cnl-keeps : (n : ℕ) → Keeps (λ s. moved (s.state.y + n) 0 s)
-unfolding moved
+pub cnl-keeps : (n : ℕ) → Keeps (λ s. cursor_to (s.state.y + n) 0 s)
+unfolding cursor_to
 cnl-keeps n = record { commutes = λ st s. refl; stops = λ s. refl; cols = λ s. refl }
 
-pub cpl-keeps : (n : ℕ) → Keeps (λ s. moved (s.state.y - n) 0 s)
-unfolding moved
+pub cpl-keeps : (n : ℕ) → Keeps (λ s. cursor_to (s.state.y - n) 0 s)
+unfolding cursor_to
 cpl-keeps n = record { commutes = λ st s. refl; stops = λ s. refl; cols = λ s. refl }
 
-pub cha-keeps : (n : ℕ) → Keeps (λ s. moved s.state.y (n - 1) s)
-unfolding moved
+pub cha-keeps : (n : ℕ) → Keeps (λ s. cursor_to s.state.y (n - 1) s)
+unfolding cursor_to
 cha-keeps n = record { commutes = λ st s. refl; stops = λ s. refl; cols = λ s. refl }
 
-pub vpa-keeps : (n : ℕ) → Keeps (λ s. placed (n - 1) s.state.x s)
-unfolding placed moved
+pub vpa-keeps : (n : ℕ) → Keeps (λ s. cursor_to_in_region (n - 1) s.state.x s)
+unfolding cursor_to_in_region cursor_to
 vpa-keeps n = record { commutes = λ st s. refl; stops = λ s. refl; cols = λ s. refl }
 
 pub ich-keeps : (n : ℕ) → Keeps (insert_characters n)
@@ -168,19 +168,19 @@ pub ech-keeps : (n : ℕ) → Keeps (erase_characters n)
 unfolding erase_characters
 ech-keeps n = record { commutes = λ st s. refl; stops = λ s. refl; cols = λ s. refl }
 
-pub place-keeps : (y x : ℕ) → Keeps (placed y x)
-unfolding placed moved
+pub place-keeps : (y x : ℕ) → Keeps (cursor_to_in_region y x)
+unfolding cursor_to_in_region cursor_to
 place-keeps y x = record { commutes = λ st s. refl; stops = λ s. refl; cols = λ s. refl }
 
-pub below-erased-keeps : Keeps (λ s. unwrapped (below_erased (line_end_erased s)))
+pub below-erased-keeps : Keeps (λ s. without_pending_wrap (below_erased (line_end_erased s)))
 unfolding rows_erased
 below-erased-keeps = record { commutes = λ st s. refl; stops = λ s. refl; cols = λ s. refl }
 
-pub above-erased-keeps : Keeps (λ s. unwrapped (above_erased (line_start_erased s)))
+pub above-erased-keeps : Keeps (λ s. without_pending_wrap (above_erased (line_start_erased s)))
 unfolding rows_erased
 above-erased-keeps = record { commutes = λ st s. refl; stops = λ s. refl; cols = λ s. refl }
 
-pub all-erased-keeps : Keeps (λ s. unwrapped (all_erased s))
+pub all-erased-keeps : Keeps (λ s. without_pending_wrap (all_erased s))
 unfolding rows_erased
 all-erased-keeps = record { commutes = λ st s. refl; stops = λ s. refl; cols = λ s. refl }
 
@@ -191,13 +191,13 @@ ed-keeps n =
     (keeps-if (λ s. n == 1) _ _ (λ st s. refl) above-erased-keeps
     (keeps-if (λ s. n == 2 || n == 3) _ (λ s. s) (λ st s. refl) all-erased-keeps keeps-nothing))
 
-pub end-erased-keeps : Keeps (λ s. unwrapped (line_end_erased s))
+pub end-erased-keeps : Keeps (λ s. without_pending_wrap (line_end_erased s))
 end-erased-keeps = record { commutes = λ st s. refl; stops = λ s. refl; cols = λ s. refl }
 
-pub front-erased-keeps : Keeps (λ s. unwrapped (line_start_erased s))
+pub front-erased-keeps : Keeps (λ s. without_pending_wrap (line_start_erased s))
 front-erased-keeps = record { commutes = λ st s. refl; stops = λ s. refl; cols = λ s. refl }
 
-pub line-erased-keeps : Keeps (λ s. unwrapped (line_erased 0 (s.grid.cols - 1) s))
+pub line-erased-keeps : Keeps (λ s. without_pending_wrap (line_erased 0 (s.grid.cols - 1) s))
 line-erased-keeps = record { commutes = λ st s. refl; stops = λ s. refl; cols = λ s. refl }
 
 pub el-keeps : (n : ℕ) → Keeps (erase_line n)
@@ -207,8 +207,8 @@ el-keeps n =
     (keeps-if (λ s. n == 1) _ _ (λ st s. refl) front-erased-keeps
     (keeps-if (λ s. n == 2) _ (λ s. s) (λ st s. refl) line-erased-keeps keeps-nothing))
 
-pub unwrapped-keeps : Keeps (unwrapped)
-unwrapped-keeps = record { commutes = λ st s. refl; stops = λ s. refl; cols = λ s. refl }
+pub without_pending_wrap-keeps : Keeps (without_pending_wrap)
+without_pending_wrap-keeps = record { commutes = λ st s. refl; stops = λ s. refl; cols = λ s. refl }
 
 pub lines-down-keeps : (n : ℕ) → Keeps (λ s. with_grid s (scrolled_down s.grid s.state.y s.state.bottom n (blank_of s)))
 lines-down-keeps n = record { commutes = λ st s. refl; stops = λ s. refl; cols = λ s. refl }
@@ -219,32 +219,32 @@ lines-up-keeps n = record { commutes = λ st s. refl; stops = λ s. refl; cols =
 pub il-keeps : (n : ℕ) → Keeps (insert_lines n)
 unfolding insert_lines
 il-keeps n =
-    keeps-then _ unwrapped (keeps-if in_region _ (λ s. s) (λ st s. refl) (lines-down-keeps n) keeps-nothing) unwrapped-keeps
+    keeps-then _ without_pending_wrap (keeps-if in_region _ (λ s. s) (λ st s. refl) (lines-down-keeps n) keeps-nothing) without_pending_wrap-keeps
 
 pub dl-keeps : (n : ℕ) → Keeps (delete_lines n)
 unfolding delete_lines
 dl-keeps n =
-    keeps-then _ unwrapped (keeps-if in_region _ (λ s. s) (λ st s. refl) (lines-up-keeps n) keeps-nothing) unwrapped-keeps
+    keeps-then _ without_pending_wrap (keeps-if in_region _ (λ s. s) (λ st s. refl) (lines-up-keeps n) keeps-nothing) without_pending_wrap-keeps
 
-pub sgr-keeps : (params : List ℕ) → Keeps (rendered params)
-unfolding rendered
+pub sgr-keeps : (params : List ℕ) → Keeps (after_sgr params)
+unfolding after_sgr
 sgr-keeps params = record { commutes = λ st s. refl; stops = λ s. refl; cols = λ s. refl }
 
-pub invoking-keeps : (shift : ℕ) (on : Bool) → Keeps (invoking shift on)
-unfolding invoking
-invoking-keeps shift on = record { commutes = λ st s. refl; stops = λ s. refl; cols = λ s. refl }
+pub after_shift-keeps : (shift : ℕ) (on : Bool) → Keeps (after_shift shift on)
+unfolding after_shift
+after_shift-keeps shift on = record { commutes = λ st s. refl; stops = λ s. refl; cols = λ s. refl }
 
 pub save-keeps : Keeps (save)
 unfolding save
 save-keeps = record { commutes = λ st s. refl; stops = λ s. refl; cols = λ s. refl }
 
 pub restore-keeps : Keeps (restore)
-unfolding restore moved
+unfolding restore cursor_to
 restore-keeps = record { commutes = λ st s. refl; stops = λ s. refl; cols = λ s. refl }
 
-pub aligned-keeps : Keeps (aligned)
-unfolding aligned
-aligned-keeps = record { commutes = λ st s. refl; stops = λ s. refl; cols = λ s. refl }
+pub alignment_pattern-keeps : Keeps (alignment_pattern)
+unfolding alignment_pattern
+alignment_pattern-keeps = record { commutes = λ st s. refl; stops = λ s. refl; cols = λ s. refl }
 
 pub start-palette-keeps : Keeps (with_start_palette)
 unfolding with_start_palette
@@ -296,8 +296,8 @@ visible-mode-keeps on = record { commutes = λ st s. refl; stops = λ s. refl; c
 pub display-keeps : (on : Bool) → Keeps (λ s. with_pen s (record s.state.pen { display = on }))
 display-keeps on = record { commutes = λ st s. refl; stops = λ s. refl; cols = λ s. refl }
 
-pub origin-keeps : (on : Bool) → Keeps (λ s. homed (with_state s (record s.state { origin = on })))
-unfolding placed moved
+pub origin-keeps : (on : Bool) → Keeps (λ s. cursor_home (with_state s (record s.state { origin = on })))
+unfolding cursor_to_in_region cursor_to
 origin-keeps on = record { commutes = λ st s. refl; stops = λ s. refl; cols = λ s. refl }
 
 pub mode-keeps : (on : Bool) (n : ℕ) → Keeps (with_mode on n)
@@ -321,8 +321,8 @@ pub each-keeps : (f : ℕ → Screen → Screen) → ((n : ℕ) → Keeps (f n))
 each-keeps f one [] = keeps-nothing
 each-keeps f one (n ∷ numbers) = keeps-then (f n) (each f numbers) (one n) (each-keeps f one numbers)
 
-pub region-set-keeps : (t b : ℕ) → Keeps (λ s. homed (with_state s (record s.state { top = t - 1; bottom = (if b == 0 then s.grid.rows else b) - 1 })))
-unfolding placed moved
+pub region-set-keeps : (t b : ℕ) → Keeps (λ s. cursor_home (with_state s (record s.state { top = t - 1; bottom = (if b == 0 then s.grid.rows else b) - 1 })))
+unfolding cursor_to_in_region cursor_to
 region-set-keeps t b = record { commutes = λ st s. refl; stops = λ s. refl; cols = λ s. refl }
 
 pub region-keeps : (t b : ℕ) → Keeps (with_region t b)

@@ -9,13 +9,13 @@ use Rattle.std.proofs.lemmas.List.Folds.{list_all-append}
 use Rattle.vt_redraw.proofs.Does.{Does, acts}
 use Rattle.vt_redraw.specs.Sequences.{more_numbers, sequence}
 use Rattle.vt_screen.specs.Effect.{control_sequence}
-use Rattle.vt_screen.specs.Saying.{quiet}
+use Rattle.vt_screen.specs.Saying.{without_out}
 use Rattle.vt_screen.specs.Screen.{Screen}
-use Rattle.vt_units.specs.Ahead.{control_ahead, ends_control, numbers_ahead, numbers_end, opened_ahead, sequence_ahead}
+use Rattle.vt_units.specs.WholeSequence.{control_ahead, ends_control, numbers_ahead, numbers_end, opened_ahead, sequence_ahead}
 use Rattle.vt_units.specs.Bytes.{is_digit}
 use Rattle.vt_units.specs.Laws.{SequencesAreUnits}
 use Rattle.vt_units.specs.Numbers.{Fields, fields_of, number_of, params_of}
-use Rattle.vt_units.specs.Reading.{behind, front}
+use Rattle.vt_units.specs.Reading.{after_prefix, longest_prefix}
 use Rattle.vt_units.specs.Sequences.{is_parameter}
 use Rattle.vt_units.specs.declared.unit.Unit.TheVariants.{Csi}
 
@@ -131,17 +131,17 @@ more-short [] all = omega arith
 more-short (n ∷ ns) all =
     omega (arith, length-append (decimal n) (more_numbers ns), (spelt n all.0).few, more-short ns all.1)
 
-front-all : (p : ℕ → Bool) (xs : List ℕ) (y : ℕ) → list_all p xs ≡ true → p y ≡ false → front p (xs ++ y ∷ []) ≡ xs
-front-all p [] y all none = cond-false (p y) _ _ none
-front-all p (x ∷ xs) y all none =
+longest_prefix-all : (p : ℕ → Bool) (xs : List ℕ) (y : ℕ) → list_all p xs ≡ true → p y ≡ false → longest_prefix p (xs ++ y ∷ []) ≡ xs
+longest_prefix-all p [] y all none = cond-false (p y) _ _ none
+longest_prefix-all p (x ∷ xs) y all none =
     let parts = and_parts (p x) (list_all p xs) all in
-    cond-true (p x) _ _ parts.0 ∙ ap (λ (zs : List ℕ). x ∷ zs) (front-all p xs y parts.1 none)
+    cond-true (p x) _ _ parts.0 ∙ ap (λ (zs : List ℕ). x ∷ zs) (longest_prefix-all p xs y parts.1 none)
 
-behind-all : (p : ℕ → Bool) (xs : List ℕ) (y : ℕ) → list_all p xs ≡ true → p y ≡ false → behind p (xs ++ y ∷ []) ≡ y ∷ []
-behind-all p [] y all none = cond-false (p y) _ _ none
-behind-all p (x ∷ xs) y all none =
+after_prefix-all : (p : ℕ → Bool) (xs : List ℕ) (y : ℕ) → list_all p xs ≡ true → p y ≡ false → after_prefix p (xs ++ y ∷ []) ≡ y ∷ []
+after_prefix-all p [] y all none = cond-false (p y) _ _ none
+after_prefix-all p (x ∷ xs) y all none =
     let parts = and_parts (p x) (list_all p xs) all in
-    cond-true (p x) _ _ parts.0 ∙ behind-all p xs y parts.1 none
+    cond-true (p x) _ _ parts.0 ∙ after_prefix-all p xs y parts.1 none
 
 begins : (ds more : List ℕ) → list_all is_digit ds ≡ true → 1 ≤ length ds
     → control_ahead (ds ++ more) ≡ numbers_ahead false 2 (ds ++ more)
@@ -167,13 +167,13 @@ sequence-ahead n ns last h all short ends other =
     ∙ ap control_ahead (append_assoc (decimal n) (more_numbers ns) (last ∷ []))
     ∙ begins (decimal n) (more_numbers ns ++ last ∷ []) is.digits is.some
     ∙ ap (numbers_ahead false 2) (sym (append_assoc (decimal n) (more_numbers ns) (last ∷ [])))
-    ∙ (λ i. numbers_end false 2 (front-all is_parameter (body n ns) last numbers other i) (behind-all is_parameter (body n ns) last numbers other i))
+    ∙ (λ i. numbers_end false 2 (longest_prefix-all is_parameter (body n ns) last numbers other i) (after_prefix-all is_parameter (body n ns) last numbers other i))
     ∙ cond-true (ends_control last) _ _ ends
     ∙ (λ i. Some (record { unit = Csi false (params i) last; count = (let e : 2 + length (body n ns) + 1 ≡ length (sequence n ns last) = omega (arith, len) in e) i }))
 
 -- it does what the effect table has for it
 pub sequence-does : SequencesAreUnits → (n : ℕ) (ns : List ℕ) (last : ℕ) → n < 256 → AreSmall ns → length ns ≤ 15
     → ends_control last ≡ true → is_parameter last ≡ false
-    → (s t : Screen) → control_sequence (n ∷ ns) last s ≡ quiet t → Does (sequence n ns last) s t
+    → (s t : Screen) → control_sequence (n ∷ ns) last s ≡ without_out t → Does (sequence n ns last) s t
 sequence-does law n ns last h all short ends other s t is =
     acts law (sequence n ns last) (Csi false (n ∷ ns) last) (sequence-ahead n ns last h all short ends other) s t is

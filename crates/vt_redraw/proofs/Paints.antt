@@ -13,11 +13,11 @@ use Rattle.vt_redraw.specs.Cells.{byte_change, is_ground}
 use Rattle.vt_redraw.specs.Sequences.{byte_numbers, byte_text}
 use Rattle.vt_redraw.specs.State.{attributes_text, intensity_number}
 use Rattle.vt_screen.specs.Effect.{control_sequence}
-use Rattle.vt_screen.specs.Saying.{quiet}
+use Rattle.vt_screen.specs.Saying.{without_out}
 use Rattle.vt_screen.specs.Screen.{Screen, erased_byte, printed_byte}
-use Rattle.vt_screen.specs.Settings.{rendered, with_pen}
-use Rattle.vt_sgr.specs.PenState.{PenState, drawn, with_bg, with_blink, with_fg, with_intensity, with_italic, with_reverse, with_underline}
-use Rattle.vt_sgr.specs.Sgr.{sgr, sgr_behind}
+use Rattle.vt_screen.specs.Settings.{after_sgr, with_pen}
+use Rattle.vt_sgr.specs.PenState.{PenState, with_attributes, with_bg, with_blink, with_fg, with_intensity, with_italic, with_reverse, with_underline}
+use Rattle.vt_sgr.specs.Sgr.{sgr, sgr_skipping}
 use Rattle.vt_units.specs.Laws.{SequencesAreUnits}
 
 -- the attributes of a byte
@@ -66,7 +66,7 @@ all-small = refl
 
 -- colours below 8 by their numbers
 pub fg-number : (c : ℕ) → c < 8 → (rest : List ℕ) (p : PenState)
-    → sgr_behind 0 ((30 + c) ∷ rest) p ≡ sgr_behind 0 rest (with_fg p c)
+    → sgr_skipping 0 ((30 + c) ∷ rest) p ≡ sgr_skipping 0 rest (with_fg p c)
 fg-number zero h rest p = refl
 fg-number (suc zero) h rest p = refl
 fg-number (suc (suc zero)) h rest p = refl
@@ -78,7 +78,7 @@ fg-number (suc (suc (suc (suc (suc (suc (suc zero))))))) h rest p = refl
 fg-number (suc (suc (suc (suc (suc (suc (suc (suc c)))))))) h rest p = absurd (omega (arith, h))
 
 pub bg-number : (c : ℕ) → c < 8 → (rest : List ℕ) (p : PenState)
-    → sgr_behind 0 ((40 + c) ∷ rest) p ≡ sgr_behind 0 rest (with_bg p c)
+    → sgr_skipping 0 ((40 + c) ∷ rest) p ≡ sgr_skipping 0 rest (with_bg p c)
 bg-number zero h rest p = refl
 bg-number (suc zero) h rest p = refl
 bg-number (suc (suc zero)) h rest p = refl
@@ -90,28 +90,28 @@ bg-number (suc (suc (suc (suc (suc (suc (suc zero))))))) h rest p = refl
 bg-number (suc (suc (suc (suc (suc (suc (suc (suc c)))))))) h rest p = absurd (omega (arith, h))
 
 intensity-done : (i : Intensity) (rest : List ℕ) (p : PenState)
-    → sgr_behind 0 (intensity_number i ∷ rest) p ≡ sgr_behind 0 rest (with_intensity p i)
+    → sgr_skipping 0 (intensity_number i ∷ rest) p ≡ sgr_skipping 0 rest (with_intensity p i)
 intensity-done Dim rest p = refl
 intensity-done Normal rest p = refl
 intensity-done Bold rest p = refl
 
 italic-done : (on : Bool) (rest : List ℕ) (p : PenState)
-    → sgr_behind 0 ((if on then 3 else 23) ∷ rest) p ≡ sgr_behind 0 rest (with_italic p on)
+    → sgr_skipping 0 ((if on then 3 else 23) ∷ rest) p ≡ sgr_skipping 0 rest (with_italic p on)
 italic-done true rest p = refl
 italic-done false rest p = refl
 
 underline-done : (on : Bool) (rest : List ℕ) (p : PenState)
-    → sgr_behind 0 ((if on then 4 else 24) ∷ rest) p ≡ sgr_behind 0 rest (with_underline p on)
+    → sgr_skipping 0 ((if on then 4 else 24) ∷ rest) p ≡ sgr_skipping 0 rest (with_underline p on)
 underline-done true rest p = refl
 underline-done false rest p = refl
 
 blink-done : (on : Bool) (rest : List ℕ) (p : PenState)
-    → sgr_behind 0 ((if on then 5 else 25) ∷ rest) p ≡ sgr_behind 0 rest (with_blink p on)
+    → sgr_skipping 0 ((if on then 5 else 25) ∷ rest) p ≡ sgr_skipping 0 rest (with_blink p on)
 blink-done true rest p = refl
 blink-done false rest p = refl
 
 reverse-done : (on : Bool) (rest : List ℕ) (p : PenState)
-    → sgr_behind 0 ((if on then 7 else 27) ∷ rest) p ≡ sgr_behind 0 rest (with_reverse p on)
+    → sgr_skipping 0 ((if on then 7 else 27) ∷ rest) p ≡ sgr_skipping 0 rest (with_reverse p on)
 reverse-done true rest p = refl
 reverse-done false rest p = refl
 
@@ -132,7 +132,7 @@ attr_by bold blink f g = record {
 }
 
 numbers-paint : (bold blink : Bool) (f g : ℕ) → f < 8 → g < 8 → (p : PenState)
-    → sgr (0 ∷ numbers_by bold blink f g) p ≡ drawn p (attr_by bold blink f g)
+    → sgr (0 ∷ numbers_by bold blink f g) p ≡ with_attributes p (attr_by bold blink f g)
 numbers-paint true true f g low high p = fg-number f low ((40 + g) ∷ []) _ ∙ bg-number g high [] _
 numbers-paint true false f g low high p = fg-number f low ((40 + g) ∷ []) _ ∙ bg-number g high [] _
 numbers-paint false true f g low high p = fg-number f low ((40 + g) ∷ []) _ ∙ bg-number g high [] _
@@ -192,7 +192,7 @@ others-small a high = (
   ),
 )
 
-all-done : (a : Rendition) → a.fg < 8 → a.bg < 8 → (p : PenState) → sgr ((30 + a.fg) ∷ others_of a) p ≡ drawn p a
+all-done : (a : Rendition) → a.fg < 8 → a.bg < 8 → (p : PenState) → sgr ((30 + a.fg) ∷ others_of a) p ≡ with_attributes p a
 all-done a low high p =
     let n4 : List ℕ = (if a.reverse then 7 else 27) ∷ [] in
     let n3 : List ℕ = (if a.blink then 5 else 25) ∷ n4 in
@@ -215,11 +215,11 @@ all-done a low high p =
 
 -- the pen of a screen with other attributes
 abbrev pub painted : Screen → Rendition → Screen
-painted s a = with_pen s (drawn s.state.pen a)
+painted s a = with_pen s (with_attributes s.state.pen a)
 
 module _ (law : SequencesAreUnits) where
   pub byte-does : (b : ℕ) (s : Screen) → Does (byte_text b) s (painted s (attr_of b))
-  unfolding byte_text attr_of control_sequence rendered
+  unfolding byte_text attr_of control_sequence after_sgr
   byte-does b s =
       let bold : Bool = b / 8 % 2 == 1 in
       let blink : Bool = b / 128 == 1 in
@@ -227,13 +227,13 @@ module _ (law : SequencesAreUnits) where
       let g : ℕ = vga (b / 16 % 8) in
       sequence-does law 0 (byte_numbers b) 0x6D (omega arith) (numbers-small bold blink f g (low-colour b) (low-colour (b / 16)))
       (numbers-few bold blink f g) refl refl s (painted s (attr_of b))
-      (ap (λ (p : PenState). quiet (with_pen s p)) (numbers-paint bold blink f g (low-colour b) (low-colour (b / 16)) s.state.pen))
+      (ap (λ (p : PenState). without_out (with_pen s p)) (numbers-paint bold blink f g (low-colour b) (low-colour (b / 16)) s.state.pen))
 
   pub attributes-does : (a : Rendition) → a.fg < 8 → a.bg < 8 → (s : Screen) → Does (attributes_text a) s (painted s a)
-  unfolding attributes_text control_sequence rendered
+  unfolding attributes_text control_sequence after_sgr
   attributes-does a low high s =
       sequence-does law (30 + a.fg) (others_of a) 0x6D (omega (arith, low)) (others-small a high) (omega arith) refl refl s (painted s a)
-      (ap (λ (p : PenState). quiet (with_pen s p)) (all-done a low high s.state.pen))
+      (ap (λ (p : PenState). without_out (with_pen s p)) (all-done a low high s.state.pen))
 
   -- the pen's byte is known to be this one, or not known
   pub change-does : (now b : ℕ) (s : Screen) → b < 256 → (now ≡ 256) ⊎ (s.state.pen.attr ≡ attr_of now)

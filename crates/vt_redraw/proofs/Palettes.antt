@@ -13,16 +13,16 @@ use Rattle.vt_redraw.proofs.Numbers.{below-holds}
 use Rattle.vt_redraw.specs.Sequences.{colour_text, hex_digit, hex_digits, start_palette_text}
 use Rattle.vt_redraw.specs.State.{colours_from, is_same_colour, palette_text}
 use Rattle.vt_screen.specs.Effect.{effect}
-use Rattle.vt_screen.specs.Run.{Drawn, PiecesAct, drawing, listed, ran}
-use Rattle.vt_screen.specs.Saying.{Done, quiet}
+use Rattle.vt_screen.specs.Run.{ScreenAndOuts, PiecesAct, screen_effects, outs_of_option, run_from}
+use Rattle.vt_screen.specs.Saying.{Effect, without_out}
 use Rattle.vt_screen.specs.Screen.{Screen, mode_of, with_state}
 use Rattle.vt_screen.specs.Settings.{with_colour, with_start_palette}
 use Rattle.vt_units.specs.Answer.{acts_in}
 use Rattle.vt_units.specs.Bytes.{acts, is_hex}
 use Rattle.vt_units.specs.Pieces.{HasEffect, controls_of, is_left_out, rest_with, text_of}
-use Rattle.vt_units.specs.Reading.{Reading, behind, command, front, palette_ends, reading, unfinished, whole}
+use Rattle.vt_units.specs.Reading.{Reading, after_prefix, command, longest_prefix, palette_ends, reading, unfinished, whole}
 use Rattle.vt_units.specs.Rest.{Rest, fresh}
-use Rattle.vt_units.specs.Run.{Reached, reached}
+use Rattle.vt_units.specs.Run.{Reached, make_reached}
 use Rattle.vt_units.specs.Sequences.{hex_pair, hex_value}
 use Rattle.vt_units.specs.declared.mode.Mode.{Mode}
 use Rattle.vt_units.specs.declared.unit.Unit as units
@@ -30,34 +30,34 @@ use Rattle.vt_units.specs.declared.unit.Unit.TheVariants.{Colour, ColourReset}
 
 -- a text of a unit without a control character in it
 piece-does : PiecesAct → (text : List ℕ) (u : units.Unit) → ((m : Mode) → reading m (text_of m [] text) ≡ whole u)
-    → ((m : Mode) → controls_of m [] text ≡ []) → (s t : Screen) → effect u s ≡ quiet t → Does text s t
+    → ((m : Mode) → controls_of m [] text ≡ []) → (s t : Screen) → effect u s ≡ without_out t → Does text s t
 piece-does law text u reads acts_none s t is = record {
   does =
       λ m.
       let now : Mode = mode_of s in
-      let at : Reached Screen = reached s (fresh m) in
-      let first : Drawn = record { screen = s; outs = [] } in
-      let left : Rest = rest_with drawing first (fresh now) text in
-      let effect_is : HasEffect drawing (reading now (text_of now [] text)) (controls_of now [] text) left (ran at text) first = law at text refl in
-      let all : HasEffect drawing (whole u) [] left (ran at text) first =
-      subst (λ (controls : List ℕ). HasEffect drawing (whole u) controls left (ran at text) first) (acts_none now)
-      (subst (λ (r : Reading). HasEffect drawing r (controls_of now [] text) left (ran at text) first) (reads now) effect_is) in (
+      let at : Reached Screen = make_reached s (fresh m) in
+      let first : ScreenAndOuts = record { screen = s; outs = [] } in
+      let left : Rest = rest_with screen_effects first (fresh now) text in
+      let effect_is : HasEffect screen_effects (reading now (text_of now [] text)) (controls_of now [] text) left (run_from at text) first = law at text refl in
+      let all : HasEffect screen_effects (whole u) [] left (run_from at text) first =
+      subst (λ (controls : List ℕ). HasEffect screen_effects (whole u) controls left (run_from at text) first) (acts_none now)
+      (subst (λ (r : Reading). HasEffect screen_effects r (controls_of now [] text) left (run_from at text) first) (reads now) effect_is) in (
         left.mode,
-        all ∙ ap (λ (d : Done). reached (record { screen = d.screen; outs = [] ++ listed d.said }) (fresh left.mode)) is,
+        all ∙ ap (λ (d : Effect). make_reached (record { screen = d.screen; outs = [] ++ outs_of_option d.said }) (fresh left.mode)) is,
       );
 }
 
-front-hex : (p : ℕ → Bool) (xs : List ℕ) → list_all p xs ≡ true → front p xs ≡ xs
-front-hex p [] all = refl
-front-hex p (x ∷ xs) all =
+longest_prefix-hex : (p : ℕ → Bool) (xs : List ℕ) → list_all p xs ≡ true → longest_prefix p xs ≡ xs
+longest_prefix-hex p [] all = refl
+longest_prefix-hex p (x ∷ xs) all =
     let parts = and_parts (p x) (list_all p xs) all in
-    cond-true (p x) _ _ parts.0 ∙ ap (λ (ys : List ℕ). x ∷ ys) (front-hex p xs parts.1)
+    cond-true (p x) _ _ parts.0 ∙ ap (λ (ys : List ℕ). x ∷ ys) (longest_prefix-hex p xs parts.1)
 
-behind-hex : (p : ℕ → Bool) (xs : List ℕ) → list_all p xs ≡ true → behind p xs ≡ []
-behind-hex p [] all = refl
-behind-hex p (x ∷ xs) all =
+after_prefix-hex : (p : ℕ → Bool) (xs : List ℕ) → list_all p xs ≡ true → after_prefix p xs ≡ []
+after_prefix-hex p [] all = refl
+after_prefix-hex p (x ∷ xs) all =
     let parts = and_parts (p x) (list_all p xs) all in
-    cond-true (p x) _ _ parts.0 ∙ behind-hex p xs parts.1
+    cond-true (p x) _ _ parts.0 ∙ after_prefix-hex p xs parts.1
 
 -- ESC ] P and digits
 abbrev opened : List ℕ → List ℕ
@@ -67,7 +67,7 @@ opened-reads : (m : Mode) (ds : List ℕ) → list_all is_hex ds ≡ true → le
     → reading m (opened ds) ≡ palette_ends m ds []
 opened-reads m ds all few =
     cond-false _ _ _ (and_left _ _ (le-ltb 256 (length (opened ds)) (omega (arith, few))))
-    ∙ (λ i. palette_ends m (front-hex is_hex ds all i) (behind-hex is_hex ds all i))
+    ∙ (λ i. palette_ends m (longest_prefix-hex is_hex ds all i) (after_prefix-hex is_hex ds all i))
 
 -- fewer than seven are no unit yet
 goes-on : (m : Mode) (ds : List ℕ) → list_all is_hex ds ≡ true → length ds < 7 → reading m (opened ds) ≡ unfinished command
@@ -148,14 +148,14 @@ module _ (law : PiecesAct) where
       ∙ (λ i. whole (Colour ((digit n h).1 i) (pair r is.0 i, pair g is.1 i, pair b is.2 i))))
       (λ m. no-controls m ds [] refl hex (omega arith)) s _ refl
 
-  colour-set : (front starts : List Rgb) (start rgb : Rgb) (s : Screen) → s.state.palette ≡ front ++ start ∷ starts
-      → length front < 16
-      → with_colour (length front) rgb s ≡ with_state s (record s.state { palette = front ++ rgb ∷ starts })
+  colour-set : (longest_prefix starts : List Rgb) (start rgb : Rgb) (s : Screen) → s.state.palette ≡ longest_prefix ++ start ∷ starts
+      → length longest_prefix < 16
+      → with_colour (length longest_prefix) rgb s ≡ with_state s (record s.state { palette = longest_prefix ++ rgb ∷ starts })
   unfolding with_colour
-  colour-set front starts start rgb s now few =
-      cond-true _ _ _ (lt-ltb (length front) 16 few)
-      ∙ (λ i. with_state s (record s.state { palette = slice_set (now i) (length front) rgb }))
-      ∙ ap (λ (p : List Rgb). with_state s (record s.state { palette = p })) (set_at front start starts rgb (length front) refl)
+  colour-set longest_prefix starts start rgb s now few =
+      cond-true _ _ _ (lt-ltb (length longest_prefix) 16 few)
+      ∙ (λ i. with_state s (record s.state { palette = slice_set (now i) (length longest_prefix) rgb }))
+      ∙ ap (λ (p : List Rgb). with_state s (record s.state { palette = p })) (set_at longest_prefix start starts rgb (length longest_prefix) refl)
 
   -- colours from a number on
   Coloured : List Rgb → List Rgb → Type 0

@@ -11,11 +11,11 @@ use Rattle.vt_redraw.specs.Sequences.{sequence, stop_text}
 use Rattle.vt_redraw.specs.State.{colours_text, mapping_text, modes_text, pen_text, stops_from}
 use Rattle.vt_screen.specs.Cursor.{first_row, last_row}
 use Rattle.vt_screen.specs.Effect.{control_sequence}
-use Rattle.vt_screen.specs.Saying.{console_setting, quiet, with_dim_colour, with_underline_colour}
+use Rattle.vt_screen.specs.Saying.{console_setting, without_out, with_dim_colour, with_underline_colour}
 use Rattle.vt_screen.specs.Screen.{Screen, with_state}
-use Rattle.vt_screen.specs.Settings.{rendered, set_stop, with_pen}
+use Rattle.vt_screen.specs.Settings.{after_sgr, set_stop, with_pen}
 use Rattle.vt_screen.specs.declared.screen_state.ScreenState.{ScreenState}
-use Rattle.vt_sgr.specs.PenState.{PenState, mapped, with_bg, with_fg}
+use Rattle.vt_sgr.specs.PenState.{PenState, with_mapping, with_bg, with_fg}
 use Rattle.vt_units.specs.Laws.{ControlsAreUnits, SequencesAreUnits}
 
 module _ (law : SequencesAreUnits) where
@@ -23,20 +23,20 @@ module _ (law : SequencesAreUnits) where
   unfolding control_sequence console_setting
   underline-colour-does n h s =
       sequence-does law 1 (n ∷ []) 0x5D (omega arith) (omega (arith, h), tt) (omega arith) refl refl s _
-      (ap quiet (cond-true _ _ _ (lt-ltb n 16 h)))
+      (ap without_out (cond-true _ _ _ (lt-ltb n 16 h)))
 
   dim-colour-does : (n : ℕ) → n < 16 → (s : Screen) → Does (sequence 2 (n ∷ []) 0x5D) s (with_dim_colour n s)
   unfolding control_sequence console_setting
   dim-colour-does n h s =
       sequence-does law 2 (n ∷ []) 0x5D (omega arith) (omega (arith, h), tt) (omega arith) refl refl s _
-      (ap quiet (cond-true _ _ _ (lt-ltb n 16 h)))
+      (ap without_out (cond-true _ _ _ (lt-ltb n 16 h)))
 
   pub pair-does : (f g : ℕ) → f < 8 → g < 8 → (s : Screen)
       → Does (sequence (30 + f) ((40 + g) ∷ []) 0x6D) s (with_pen s (with_bg (with_fg s.state.pen f) g))
-  unfolding control_sequence rendered
+  unfolding control_sequence after_sgr
   pair-does f g low high s =
       sequence-does law (30 + f) ((40 + g) ∷ []) 0x6D (omega (arith, low)) (omega (arith, high), tt) (omega arith) refl refl s _
-      (ap (λ (p : PenState). quiet (with_pen s p))
+      (ap (λ (p : PenState). without_out (with_pen s p))
       (fg-number f low ((40 + g) ∷ []) s.state.pen ∙ bg-number g high [] (with_fg s.state.pen f)))
 
   default-does : (s : Screen)
@@ -63,9 +63,9 @@ module _ (law : SequencesAreUnits) where
 
   -- the null mapping, which is off before
   mapping-does : (alt toggle : Bool) → (not toggle || alt) ≡ true → (s : Screen)
-      → Does (mapping_text alt toggle) (with_pen s (mapped s.state.pen false false false))
-      (with_pen s (mapped s.state.pen alt alt toggle))
-  unfolding mapping_text control_sequence rendered
+      → Does (mapping_text alt toggle) (with_pen s (with_mapping s.state.pen false false false))
+      (with_pen s (with_mapping s.state.pen alt alt toggle))
+  unfolding mapping_text control_sequence after_sgr
   mapping-does true true h s = sequence-does law 12 [] 0x6D (omega arith) tt (omega arith) refl refl _ _ refl
   mapping-does true false h s = sequence-does law 11 [] 0x6D (omega arith) tt (omega arith) refl refl _ _ refl
   mapping-does false true h s = absurd (false≢true h)

@@ -10,7 +10,7 @@ use Rattle.vt_cells.specs.Rendition.{Rendition}
 use Rattle.vt_cells.specs.Width.{AtMostTwo}
 use Rattle.vt_cells.specs.declared.cell.Cell.{Cell}
 use Rattle.vt_chars.specs.Utf8.{within}
-use Rattle.vt_grid.specs.Grid.{IsFull, Sheet, filled, sheet_of}
+use Rattle.vt_grid.specs.Grid.{IsFull, GridView, filled_grid, grid_view_of}
 use Rattle.vt_redraw.proofs.Does.{Does, does-text, does-then, does-to}
 use Rattle.vt_redraw.proofs.Moves.{no-stops-does}
 use Rattle.vt_redraw.proofs.Palettes.{palette-does}
@@ -22,12 +22,12 @@ use Rattle.vt_redraw.specs.Cells.{changed_rows}
 use Rattle.vt_redraw.specs.Drawable.{is_plain_pair, is_redrawable, is_row_drawable, is_state_drawable}
 use Rattle.vt_redraw.specs.Redraw.{ChangesRedraw, IsSameSize, IsStored, ScreensRedraw, changes_of, redraw_of, redrawn_on}
 use Rattle.vt_redraw.specs.State.{cursor_text, modes_text, palette_text, pen_text, region_text, saved_text, state_text, stops_from, stops_text}
-use Rattle.vt_screen.specs.Cursor.{first_row, homed, last_row, moved, placed}
+use Rattle.vt_screen.specs.Cursor.{first_row, cursor_home, last_row, cursor_to, cursor_to_in_region}
 use Rattle.vt_screen.specs.Erasing.{with_grid}
 use Rattle.vt_screen.specs.Run.{PiecesAct}
 use Rattle.vt_screen.specs.Screen.{IsWhole, Screen, start_blank, with_state}
 use Rattle.vt_screen.specs.declared.screen_state.ScreenState.{ScreenState}
-use Rattle.vt_sgr.specs.PenState.{drawn as with_attr, mapped}
+use Rattle.vt_sgr.specs.PenState.{with_attributes as with_attr, with_mapping}
 use Rattle.vt_units.specs.Laws.{ControlsAreUnits, PrintablesAreCharacters, SequencesAreUnits}
 
 -- what makes a state drawable
@@ -95,7 +95,7 @@ saved-stage v stops t =
       g0 = v.saved.g0;
       g1 = v.saved.g1;
       shift = v.saved.shift;
-      pen = mapped (with_attr t.state.pen v.saved.attr) false false false;
+      pen = with_mapping (with_attr t.state.pen v.saved.attr) false false false;
       saved = v.saved;
     })
 
@@ -176,9 +176,9 @@ module _ (sequences : SequencesAreUnits) (controls : ControlsAreUnits) (printabl
       → v.bottom < t.grid.rows → v.y < t.grid.rows → v.x < t.grid.cols → (IsTrue v.wrap → v.x + 1 ≡ t.grid.cols)
       → (IsTrue v.origin → (v.top ≤ v.y) × (v.y ≤ v.bottom)) → t.grid.rows ≤ 255 → t.grid.cols ≤ 255
       → CursorSet v (region_text v ++ cursor_text (record { grid = t.grid; state = v })) t
-  unfolding cursor-stage placed moved
+  unfolding cursor-stage cursor_to_in_region cursor_to
   cursor-part v t ready full drawable region bottom row column wrapped inside rows cols =
-      let u : Screen = homed (with_state t (record t.state { top = v.top; bottom = v.bottom; origin = v.origin })) in
+      let u : Screen = cursor_home (with_state t (record t.state { top = v.top; bottom = v.bottom; origin = v.origin })) in
       let ready_then : IsReady u =
       record { utf8 = ready.utf8; display = ready.display; insert = ready.insert; autowrap = ready.autowrap } in
       let cursor : CursorDone v (cursor_text (record { grid = t.grid; state = v })) u =
@@ -189,7 +189,7 @@ module _ (sequences : SequencesAreUnits) (controls : ControlsAreUnits) (printabl
       }
 
   -- the screen in the modes that rows are drawn in, with these cells and this brush
-  first-stage : Screen → Sheet → Brush → Screen
+  first-stage : Screen → GridView → Brush → Screen
   first-stage other g b = brushed (with_grid (settled other) g) b
 
   stages : (s other : Screen) (b : Brush) (a : Rendition)
@@ -261,24 +261,24 @@ module _ (sequences : SequencesAreUnits) (controls : ControlsAreUnits) (printabl
     rest-of : (olds : List (List Cell)) (b : Brush) → b.y < other.grid.rows → All (λ row. length row ≡ other.grid.cols) olds
         → length olds ≡ other.grid.rows
         → Does (changed_rows 0 olds s.grid.cells ++ state_text s)
-        (brushed (with_grid (settled other) (sheet_of other.grid.rows other.grid.cols olds)) b) (redrawn_on other s)
+        (brushed (with_grid (settled other) (grid_view_of other.grid.rows other.grid.cols olds)) b) (redrawn_on other s)
     unfolding first-stage
     rest-of olds b row wide tall =
         let full = stored.whole.full in
         let news : All (λ row. length row ≡ other.grid.cols) s.grid.cells =
         subst (λ (n : ℕ). All (λ row. length row ≡ n) s.grid.cells) (sym same.1) full.wide in
         let some : 0 < other.grid.cols = omega (arith, whole.column) in
-        let done : SheetDone (settled other) (sheet_of other.grid.rows other.grid.cols s.grid.cells) (changed_rows 0 olds s.grid.cells)
-        (brushed (with_grid (settled other) (sheet_of other.grid.rows other.grid.cols olds)) b) =
+        let done : SheetDone (settled other) (grid_view_of other.grid.rows other.grid.cols s.grid.cells) (changed_rows 0 olds s.grid.cells)
+        (brushed (with_grid (settled other) (grid_view_of other.grid.rows other.grid.cols olds)) b) =
         rows-do (settled other) (record { utf8 = refl; display = refl; insert = refl; autowrap = refl }) refl sequences printables most
         other.grid.rows other.grid.cols some (omega (arith, same.1, stored.cols)) (omega (arith, same.0, stored.rows)) [] olds s.grid.cells b row wide news rows_drawable
         (omega (arith, tall, full.tall, same.0)) (omega (arith, full.tall, same.0)) in
-        let grid : sheet_of other.grid.rows other.grid.cols s.grid.cells ≡ s.grid = λ i. sheet_of (same.0 i) (same.1 i) s.grid.cells in
-        does-then (does-to done.does (ap (λ (g : Sheet). brushed (with_grid (settled other) g) done.brush) grid))
+        let grid : grid_view_of other.grid.rows other.grid.cols s.grid.cells ≡ s.grid = λ i. grid_view_of (same.0 i) (same.1 i) s.grid.cells in
+        does-then (does-to done.does (ap (λ (g : GridView). brushed (with_grid (settled other) g) done.brush) grid))
         (state-of done.brush (omega (arith, done.row, same.0)))
 
     first-brush : Brush
-    first-brush = record { y = (homed (settled other)).state.y; x = (homed (settled other)).state.x; wrap = false; attr = other.state.pen.attr }
+    first-brush = record { y = (cursor_home (settled other)).state.y; x = (cursor_home (settled other)).state.x; wrap = false; attr = other.state.pen.attr }
 
     changes-do : Does (changes_of other.grid s) other (redrawn_on other s)
     unfolding changes_of first-brush
@@ -289,7 +289,7 @@ module _ (sequences : SequencesAreUnits) (controls : ControlsAreUnits) (printabl
     redraw-does : Does (redraw_of s) other (redrawn_on other s)
     unfolding redraw_of first-brush
     redraw-does =
-        let blanks : (filled s.grid.rows s.grid.cols start_blank).cells ≡ replicate other.grid.rows (replicate other.grid.cols start_blank) =
+        let blanks : (filled_grid s.grid.rows s.grid.cols start_blank).cells ≡ replicate other.grid.rows (replicate other.grid.cols start_blank) =
         λ i. replicate (sym same.0 i) (replicate (sym same.1 i) start_blank) in
         does-then (setting-does sequences controls other)
         (does-then (clearing-does sequences controls (settled other) first-brush whole.full)

@@ -6,10 +6,10 @@ use Rattle.std.proofs.lemmas.List.{length-append, length-drop, drop_all}
 use Rattle.vt_cells.specs.Rendition.{Rendition}
 use Rattle.vt_cells.specs.Width.{AtMostTwo, columns, half, is_half}
 use Rattle.vt_cells.specs.declared.cell.Cell.{Cell}
-use Rattle.vt_grid.specs.Grid.{Sheet, cells_of_codes}
-use Rattle.vt_grid.specs.Halves.{drawn}
+use Rattle.vt_grid.specs.Grid.{GridView, cells_of_codes}
+use Rattle.vt_grid.specs.Halves.{with_cells_at}
 use Rattle.vt_redraw.proofs.Does.{Does, does-nothing, does-then, does-to}
-use Rattle.vt_redraw.proofs.Overlays.{IsOpen, cut, cut-begins, cut-length, drawn-there, open-any, sheet_with}
+use Rattle.vt_redraw.proofs.Overlays.{IsOpen, cut, cut-begins, cut-length, with_cells_at-there, open-any, sheet_with}
 use Rattle.vt_redraw.proofs.Paints.{attr-erases, attr-prints, attr_of, change-does}
 use Rattle.vt_redraw.proofs.Prints.{IsReady, after_columns, brushed, erase-does, glyph-does, glyph-parts, in_column, print-at}
 use Rattle.vt_redraw.specs.Cells.{are_spaces, byte_change, cells_text, glyph_text, is_blank_end, is_ground}
@@ -65,7 +65,7 @@ decoding s ready = (λ i. ready.utf8 i && not s.state.pen.display) ∙ ap not re
 
 -- what cells make of a screen from a column on: this row, and the brush somewhere. Drawn to the end of the
 -- row without an erase, they leave a wrap pending
-pub record RowDone (s : Screen) (g : Sheet) (y : ℕ) (erases : Bool) (text : List ℕ) (from : Screen) : Type 0 where
+pub record RowDone (s : Screen) (g : GridView) (y : ℕ) (erases : Bool) (text : List ℕ) (from : Screen) : Type 0 where
   pub x : ℕ
   pub wrap : Bool
   pub attr : Rendition
@@ -73,7 +73,7 @@ pub record RowDone (s : Screen) (g : Sheet) (y : ℕ) (erases : Bool) (text : Li
   pub ends : erases ≡ false → (x ≡ g.cols - 1) × (wrap ≡ true)
 
 -- what comes before
-first-done : {s : Screen} {g : Sheet} {y : ℕ} {erases : Bool} {one two : List ℕ} {from next : Screen} → Does one from next
+first-done : {s : Screen} {g : GridView} {y : ℕ} {erases : Bool} {one two : List ℕ} {from next : Screen} → Does one from next
     → RowDone s g y erases two next → RowDone s g y erases (one ++ two) from
 first-done one two = record {
   x = two.x;
@@ -102,20 +102,20 @@ module _ (s : Screen) (ready : IsReady s) (sequences : SequencesAreUnits) (print
         (at ((front ++ new) ++ cut (drop w rest)) (length (front ++ new)) (attr_of c.attr))
     glyph c w new front rest is low wide some len cells count room fits apart =
         let a : Rendition = attr_of c.attr in
-        let g : Sheet = sheet_with rows cols above (front ++ rest) below in
+        let g : GridView = sheet_with rows cols above (front ++ rest) below in
         let x : ℕ = length front in
         let prints : cells_of_codes (codes_drawn w c.code) (printed_byte a s.state.pen.look) ≡ new =
         ap (cells_of_codes (codes_drawn w c.code)) (attr-prints c.attr s.state.pen.look low) ∙ cells in
-        let over : drawn g (length above) x new ≡ sheet_with rows cols above ((front ++ new) ++ cut (drop w rest)) below =
-        drawn-there rows cols above below front new rest apart (omega (arith, some, count)) (omega (arith, count, room))
+        let over : with_cells_at g (length above) x new ≡ sheet_with rows cols above ((front ++ new) ++ cut (drop w rest)) below =
+        with_cells_at-there rows cols above below front new rest apart (omega (arith, some, count)) (omega (arith, count, room))
         ∙ ap (λ (n : ℕ). sheet_with rows cols above (front ++ (new ++ cut (drop n rest))) below) count
         ∙ ap (λ (row : List Cell). sheet_with rows cols above row below) (sym (append_assoc front new (cut (drop w rest)))) in
         let far : x + w ≡ length (front ++ new) = omega (arith, length-append front new, count) in
         does-to (glyph-does printables c.code (glyph-parts c.code is) (at (front ++ rest) x a) (decoding s ready))
         (ap (λ (n : ℕ). print n c.code (at (front ++ rest) x a)) wide
         ∙ print-at s ready g (length above) x w c.code a some len (omega (arith, room, fits))
-        ∙ (λ i. after_columns s (drawn g (length above) x (prints i)) (length above) (far i) a)
-        ∙ ap (λ (h : Sheet). after_columns s h (length above) (length (front ++ new)) a) over)
+        ∙ (λ i. after_columns s (with_cells_at g (length above) x (prints i)) (length above) (far i) a)
+        ∙ ap (λ (h : GridView). after_columns s h (length above) (length (front ++ new)) a) over)
 
     -- the end of the row, where all of it is drawn
     ended : (erases : Bool) (front rest : List Cell) (a : Rendition) → length rest ≡ 0 → length front ≡ cols
@@ -137,7 +137,7 @@ module _ (s : Screen) (ready : IsReady s) (sequences : SequencesAreUnits) (print
         (byte_change now c.attr ++ erase_text) (at (front ++ rest) (length front) a)
     erased erases c cells front rest now a on is low known apart count fits =
         let parts = and_parts (is_ground c.attr) (are_spaces c.attr (c ∷ cells)) is in
-        let g : Sheet = sheet_with rows cols above (front ++ rest) below in
+        let g : GridView = sheet_with rows cols above (front ++ rest) below in
         let x : ℕ = length front in
         let n : ℕ = cols - x in
         let byte : erased_byte (attr_of c.attr) ≡ c.attr = attr-erases c.attr low parts.0 in
@@ -145,8 +145,8 @@ module _ (s : Screen) (ready : IsReady s) (sequences : SequencesAreUnits) (print
         (λ i. replicate ((let e : n ≡ length (c ∷ cells) = omega (arith, count, fits) in e) i) (record { code = 0x20; attr = byte i }))
         ∙ sym (spaces-are c.attr (c ∷ cells) parts.1) in
         let past : cut (drop (length (c ∷ cells)) rest) ≡ [] = ap cut (drop_all (length (c ∷ cells)) rest (omega (arith, count))) in
-        let over : drawn g (length above) x (c ∷ cells) ≡ sheet_with rows cols above (front ++ c ∷ cells) below =
-        drawn-there rows cols above below front (c ∷ cells) rest apart (omega arith) (omega (arith, count))
+        let over : with_cells_at g (length above) x (c ∷ cells) ≡ sheet_with rows cols above (front ++ c ∷ cells) below =
+        with_cells_at-there rows cols above below front (c ∷ cells) rest apart (omega arith) (omega (arith, count))
         ∙ ap (λ (more : List Cell). sheet_with rows cols above (front ++ (c ∷ cells ++ more)) below) past
         ∙ ap (λ (row : List Cell). sheet_with rows cols above (front ++ row) below) (append-nil (c ∷ cells)) in
         record {
@@ -156,8 +156,8 @@ module _ (s : Screen) (ready : IsReady s) (sequences : SequencesAreUnits) (print
           does =
               does-then (change now c.attr (front ++ rest) x a low known)
               (does-to (erase-does s ready sequences g (length above) x (attr_of c.attr) (omega (arith, count, fits)))
-              ((λ i. in_column s (drawn g (length above) x (all i)) (length above) x (attr_of c.attr))
-              ∙ ap (λ (h : Sheet). in_column s h (length above) x (attr_of c.attr)) over));
+              ((λ i. in_column s (with_cells_at g (length above) x (all i)) (length above) x (attr_of c.attr))
+              ∙ ap (λ (h : GridView). in_column s h (length above) x (attr_of c.attr)) over));
           ends = λ off. absurd (false≢true (sym off ∙ on));
         }
 

@@ -8,7 +8,7 @@ use Rattle.vt_cells.specs.Rendition.{Rendition}
 use Rattle.vt_cells.specs.Width.{AtMostTwo}
 use Rattle.vt_cells.specs.declared.cell.Cell.{Cell}
 use Rattle.vt_chars.specs.Utf8.{within}
-use Rattle.vt_grid.specs.Grid.{IsFull, Sheet, filled, row_at, sheet_of}
+use Rattle.vt_grid.specs.Grid.{IsFull, GridView, filled_grid, row_at, grid_view_of}
 use Rattle.vt_redraw.proofs.Does.{Does, does-from, does-nothing, does-text, does-then, does-to}
 use Rattle.vt_redraw.proofs.Moves.{at, autowrap-does, coding-does, insert-does, origin-does, place-does, region-does, save-does, shift-does, tables-does}
 use Rattle.vt_redraw.proofs.Numbers.{sequence-does}
@@ -21,15 +21,15 @@ use Rattle.vt_redraw.specs.Cells.{cells_text}
 use Rattle.vt_redraw.specs.Drawable.{is_row_drawable}
 use Rattle.vt_redraw.specs.Sequences.{place_text}
 use Rattle.vt_redraw.specs.State.{clearing_text, cursor_text, region_text, row_number, saved_text, setting_text}
-use Rattle.vt_screen.specs.Cursor.{first_row, homed, last_row, moved, placed}
+use Rattle.vt_screen.specs.Cursor.{first_row, cursor_home, last_row, cursor_to, cursor_to_in_region}
 use Rattle.vt_screen.specs.Effect.{control_sequence}
 use Rattle.vt_screen.specs.Erasing.{erase_display, rows_erased, with_grid}
-use Rattle.vt_screen.specs.Saying.{quiet}
+use Rattle.vt_screen.specs.Saying.{without_out}
 use Rattle.vt_screen.specs.Screen.{Screen, erased_byte, start_blank, with_state}
-use Rattle.vt_screen.specs.Settings.{invoking, save}
+use Rattle.vt_screen.specs.Settings.{after_shift, save}
 use Rattle.vt_screen.specs.declared.saved.Saved.{Saved}
 use Rattle.vt_screen.specs.declared.screen_state.ScreenState.{ScreenState}
-use Rattle.vt_sgr.specs.PenState.{drawn as with_attr, mapped}
+use Rattle.vt_sgr.specs.PenState.{with_attributes as with_attr, with_mapping}
 use Rattle.vt_units.specs.Laws.{ControlsAreUnits, PrintablesAreCharacters, SequencesAreUnits}
 
 -- the modes that rows are drawn in
@@ -39,7 +39,7 @@ settled t =
     (record t.state {
       utf8 = true;
       shift = 0;
-      pen = mapped t.state.pen false false false;
+      pen = with_mapping t.state.pen false false false;
       insert = false;
       origin = false;
       autowrap = true;
@@ -56,14 +56,14 @@ saved_as v t =
       g0 = v.g0;
       g1 = v.g1;
       shift = v.shift;
-      pen = mapped (with_attr t.state.pen v.attr) false false false;
+      pen = with_mapping (with_attr t.state.pen v.attr) false false false;
       saved = v;
     })
 
 module _ (sequences : SequencesAreUnits) (controls : ControlsAreUnits) where
   pub setting-does : (t : Screen) → Does setting_text t
-      (brushed (settled t) (record { y = (homed (settled t)).state.y; x = (homed (settled t)).state.x; wrap = false; attr = t.state.pen.attr }))
-  unfolding invoking placed moved
+      (brushed (settled t) (record { y = (cursor_home (settled t)).state.y; x = (cursor_home (settled t)).state.x; wrap = false; attr = t.state.pen.attr }))
+  unfolding after_shift cursor_to_in_region cursor_to
   setting-does t =
       does-then (coding-does sequences true t)
       (does-then (shift-does controls 0 (omega arith) _)
@@ -71,14 +71,14 @@ module _ (sequences : SequencesAreUnits) (controls : ControlsAreUnits) where
       (does-then (origin-does sequences false _)
       (autowrap-does sequences true _))))
 
-  pub settled-row : (t : Screen) → 0 < t.grid.rows → (homed (settled t)).state.y < t.grid.rows
-  unfolding placed moved
+  pub settled-row : (t : Screen) → 0 < t.grid.rows → (cursor_home (settled t)).state.y < t.grid.rows
+  unfolding cursor_to_in_region cursor_to
   settled-row t some = omega (arith, some)
 
   -- every cell is blank
   pub clearing-does : (t : Screen) (b : Brush) → IsFull t.grid
       → Does clearing_text (brushed t b)
-      (brushed (with_grid t (filled t.grid.rows t.grid.cols start_blank)) (record { y = b.y; x = b.x; wrap = false; attr = record b.attr { fg = 7; bg = 0 } }))
+      (brushed (with_grid t (filled_grid t.grid.rows t.grid.cols start_blank)) (record { y = b.y; x = b.x; wrap = false; attr = record b.attr { fg = 7; bg = 0 } }))
   unfolding control_sequence erase_display rows_erased erased_byte
   clearing-does t b full =
       let left : drop (0 + t.grid.rows) t.grid.cells ≡ [] = drop_all (0 + t.grid.rows) t.grid.cells (omega (arith, full.tall)) in
@@ -88,7 +88,7 @@ module _ (sequences : SequencesAreUnits) (controls : ControlsAreUnits) where
       ∙ append-nil (replicate t.grid.rows (replicate t.grid.cols start_blank)) in
       does-then (pair-does sequences 7 0 (omega arith) (omega arith) (brushed t b))
       (sequence-does sequences 2 [] 0x4A (omega arith) tt (omega arith) refl refl _ _
-      (ap (λ (rows : List (List Cell)). quiet (brushed (with_grid t (sheet_of t.grid.rows t.grid.cols rows)) (record { y = b.y; x = b.x; wrap = false; attr = record b.attr { fg = 7; bg = 0 } }))) cells))
+      (ap (λ (rows : List (List Cell)). without_out (brushed (with_grid t (grid_view_of t.grid.rows t.grid.cols rows)) (record { y = b.y; x = b.x; wrap = false; attr = record b.attr { fg = 7; bg = 0 } }))) cells))
 
   pub saved-does : (v : Saved) (t : Screen) → t.state.origin ≡ false → v.attr.fg < 8 → v.attr.bg < 8 → v.g0 < 4 → v.g1 < 4
       → v.shift ≤ 1 → v.y < t.grid.rows → v.x < t.grid.cols → t.grid.rows ≤ 255 → t.grid.cols ≤ 255
@@ -103,7 +103,7 @@ module _ (sequences : SequencesAreUnits) (controls : ControlsAreUnits) where
         g0 = v.g0;
         g1 = v.g1;
         shift = v.shift;
-        pen = mapped (with_attr t.state.pen v.attr) false false false;
+        pen = with_mapping (with_attr t.state.pen v.attr) false false false;
       }) in
       does-then (attributes-does sequences v.attr fg bg t)
       (does-then (tables-does sequences controls v.g0 v.g1 v.shift g0 g1 shift _)
@@ -115,8 +115,8 @@ module _ (sequences : SequencesAreUnits) (controls : ControlsAreUnits) where
   -- the region and the mode of origin, which home the cursor
   pub regions-do : (v : ScreenState) (t : Screen) → (v.top < v.bottom) ⊎ ((v.top ≡ t.state.top) × (v.bottom ≡ t.state.bottom) × (v.bottom ≤ v.top))
       → v.bottom < t.grid.rows → t.grid.rows ≤ 255
-      → Does (region_text v) t (homed (with_state t (record t.state { top = v.top; bottom = v.bottom; origin = v.origin })))
-  unfolding placed moved
+      → Does (region_text v) t (cursor_home (with_state t (record t.state { top = v.top; bottom = v.bottom; origin = v.origin })))
+  unfolding cursor_to_in_region cursor_to
   regions-do v t (inl order) within rows =
       does-then
       (does-text (cond-true (nat_lt v.top v.bottom) _ _ (lt-ltb v.top v.bottom order)) (region-does sequences v.top v.bottom t order within rows))
@@ -152,14 +152,14 @@ module _ (sequences : SequencesAreUnits) (printables : PrintablesAreCharacters) 
       × Does (cells_text false 256 (row_at t.grid y)) (after_columns t t.grid y 0 b.attr)
       (brushed t (record { y = y; x = t.grid.cols - 1; wrap = true; attr = a }))
   again-does t y b ready full within some drawable =
-      let g : Sheet = t.grid in
+      let g : GridView = t.grid in
       let row : List Cell = row_at g y in
       let above : List (List Cell) = take y g.cells in
       let below : List (List Cell) = drop (y + 1) g.cells in
       let inside : y < length g.cells = omega (arith, full.tall, within) in
       let wide : length row ≡ g.cols = full.wide y [] inside in
       let place : length above ≡ y = length-take-le y g.cells (omega (arith, inside)) in
-      let same : sheet_with g.rows g.cols above row below ≡ g = ap (sheet_of g.rows g.cols) (parts-are g.cells y inside) in
+      let same : sheet_with g.rows g.cols above row below ≡ g = ap (grid_view_of g.rows g.cols) (parts-are g.cells y inside) in
       let done : RowDone t (sheet_with g.rows g.cols above row below) (length above) false (cells_text false 256 row)
       (after_columns t (sheet_with g.rows g.cols above row below) (length above) 0 b.attr) =
       cells-do t ready sequences printables most g.rows g.cols above below false row [] row 256 0 b.attr tt refl (omega (arith, wide)) (inl refl) (row-holds g.cells y inside drawable) in

@@ -7,18 +7,18 @@ use Rattle.std.proofs.lemmas.List.Elements.{All-get_or}
 use Rattle.std.proofs.lemmas.Option.{same_Some, slice_get-get_or, slice_get-map, slice_get_past}
 use Rattle.vt_cells.specs.declared.cell.Cell.{Cell}
 use Rattle.vt_dump.specs.Rows.{row_text}
-use Rattle.vt_grid.specs.Grid.{IsFull, Sheet, row_at}
+use Rattle.vt_grid.specs.Grid.{IsFull, GridView, row_at}
 use Rattle.vt_review.specs.Announcements.{is_text, new_rows, row_told}
 use Rattle.vt_review.specs.Lines.{Told}
 
 -- a row that is there has its text, and one that isn't has none
-pub row_there : (s : Sheet) (y : ℕ) → IsFull s → y < s.rows
+pub row_there : (s : GridView) (y : ℕ) → IsFull s → y < s.rows
     → slice_get (map row_text s.cells) y ≡ Some (row_text (row_at s y))
 row_there s y full low =
     slice_get-map row_text s.cells y
     ∙ ap (option_map row_text) (slice_get-get_or s.cells y [] (omega (arith, full.tall, low)))
 
-pub no_row : (s : Sheet) (y : ℕ) → IsFull s → s.rows ≤ y
+pub no_row : (s : GridView) (y : ℕ) → IsFull s → s.rows ≤ y
     → slice_get (map row_text s.cells) y ≡ None
 no_row s y full past =
     slice_get-map row_text s.cells y
@@ -28,7 +28,7 @@ no_row s y full past =
 abbrev pub piece : ℕ → List (List ℕ) → ℕ → List ℕ → List Told
 piece n old y text = cond (is_text (slice_get old y) text) [] (row_told n y text ∷ [])
 
-pub rows_more : (f : Told → List ℕ) (n : ℕ) (old : List (List ℕ)) (s : Sheet) (y : ℕ)
+pub rows_more : (f : Told → List ℕ) (n : ℕ) (old : List (List ℕ)) (s : GridView) (y : ℕ)
     (text new whole : List ℕ) → IsFull s → y < s.rows
     → new ≡ text ++ flat_map f (piece n old y (row_text (row_at s y)))
     → text ++ flat_map f (new_rows n old y (map row_text (drop y s.cells))) ≡ whole

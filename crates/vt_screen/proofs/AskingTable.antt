@@ -4,7 +4,7 @@ use Rattle.std.specs.Prelude.{Option}
 use Rattle.vt_chars.specs.Utf8.{within}
 use Rattle.vt_screen.specs.Asking.{asks}
 use Rattle.vt_screen.specs.Effect.{control, control_sequence, effect, escape, number_at, plain_escape, private_sequence}
-use Rattle.vt_screen.specs.Saying.{Done, console_setting, device_report, lights, quiet, saying, status_report}
+use Rattle.vt_screen.specs.Saying.{Effect, console_setting, device_report, lights, without_out, with_out, status_report}
 use Rattle.vt_screen.specs.Screen.{Screen}
 use Rattle.vt_screen.specs.declared.out.Out.{Out}
 use Rattle.vt_screen.specs.declared.out.Out.TheVariants.{SwitchTo}
@@ -40,69 +40,69 @@ pub least : (n : ℕ) → 0 ≤ n
 least n = omega arith
 
 -- the effect table: what asks nothing
-both-quiet : (test : Bool) (a b : Done) → asked a.said ≡ 0 → asked b.said ≡ 0 → asked (cond test a b).said ≡ 0
-both-quiet true a b first second = first
-both-quiet false a b first second = second
+both-without_out : (test : Bool) (a b : Effect) → asked a.said ≡ 0 → asked b.said ≡ 0 → asked (cond test a b).said ≡ 0
+both-without_out true a b first second = first
+both-without_out false a b first second = second
 
-device-quiet : (which : ℕ) (s : Screen) → asked (device_report which s).said ≡ 0
+device-without_out : (which : ℕ) (s : Screen) → asked (device_report which s).said ≡ 0
 unfolding device_report
-device-quiet which s = both-quiet (which == 0) _ (quiet s) refl refl
+device-without_out which s = both-without_out (which == 0) _ (without_out s) refl refl
 
-status-quiet : (which : ℕ) (s : Screen) → asked (status_report which s).said ≡ 0
+status-without_out : (which : ℕ) (s : Screen) → asked (status_report which s).said ≡ 0
 unfolding status_report
-status-quiet which s = both-quiet (which == 5) _ _ refl (both-quiet (which == 6) _ (quiet s) refl refl)
+status-without_out which s = both-without_out (which == 5) _ _ refl (both-without_out (which == 6) _ (without_out s) refl refl)
 
-lights-quiet : (which : ℕ) (s : Screen) → asked (lights which s).said ≡ 0
+lights-without_out : (which : ℕ) (s : Screen) → asked (lights which s).said ≡ 0
 unfolding lights
-lights-quiet which s =
-    both-quiet (which == 0) _ _ refl
-    (both-quiet (which == 1) _ _ refl (both-quiet (which == 2) _ _ refl (both-quiet (which == 3) _ (quiet s) refl refl)))
+lights-without_out which s =
+    both-without_out (which == 0) _ _ refl
+    (both-without_out (which == 1) _ _ refl (both-without_out (which == 2) _ _ refl (both-without_out (which == 3) _ (without_out s) refl refl)))
 
-pub control-quiet : (code : ℕ) (s : Screen) → asked (control code s).said ≡ 0
+pub control-without_out : (code : ℕ) (s : Screen) → asked (control code s).said ≡ 0
 unfolding control
-control-quiet code s =
-    both-quiet (code == 0x07) _ _ refl
-    (both-quiet (code == 0x08) _ _ refl
-    (both-quiet (code == 0x09) _ _ refl
-    (both-quiet (within 0x0A 0x0C code) _ _ refl
-    (both-quiet (code == 0x0D) _ _ refl
-    (both-quiet (code == 0x0E) _ _ refl
-    (both-quiet (code == 0x0F) _ (quiet s) refl refl))))))
+control-without_out code s =
+    both-without_out (code == 0x07) _ _ refl
+    (both-without_out (code == 0x08) _ _ refl
+    (both-without_out (code == 0x09) _ _ refl
+    (both-without_out (within 0x0A 0x0C code) _ _ refl
+    (both-without_out (code == 0x0D) _ _ refl
+    (both-without_out (code == 0x0E) _ _ refl
+    (both-without_out (code == 0x0F) _ (without_out s) refl refl))))))
 
-plain-escape-quiet : (last : ℕ) (s : Screen) → asked (plain_escape last s).said ≡ 0
+plain-escape-without_out : (last : ℕ) (s : Screen) → asked (plain_escape last s).said ≡ 0
 unfolding plain_escape
-plain-escape-quiet last s =
-    both-quiet (last == 0x63) _ _ refl
-    (both-quiet (last == 0x44) _ _ refl
-    (both-quiet (last == 0x45) _ _ refl
-    (both-quiet (last == 0x48) _ _ refl
-    (both-quiet (last == 0x4D) _ _ refl
-    (both-quiet (last == 0x5A) _ _ (device-quiet 0 s)
-    (both-quiet (last == 0x37) _ _ refl
-    (both-quiet (last == 0x38) _ _ refl
-    (both-quiet (last == 0x3E) _ _ refl
-    (both-quiet (last == 0x3D) _ (quiet s) refl refl)))))))))
+plain-escape-without_out last s =
+    both-without_out (last == 0x63) _ _ refl
+    (both-without_out (last == 0x44) _ _ refl
+    (both-without_out (last == 0x45) _ _ refl
+    (both-without_out (last == 0x48) _ _ refl
+    (both-without_out (last == 0x4D) _ _ refl
+    (both-without_out (last == 0x5A) _ _ (device-without_out 0 s)
+    (both-without_out (last == 0x37) _ _ refl
+    (both-without_out (last == 0x38) _ _ refl
+    (both-without_out (last == 0x3E) _ _ refl
+    (both-without_out (last == 0x3D) _ (without_out s) refl refl)))))))))
 
-escape-quiet : (mid last : ℕ) (s : Screen) → asked (escape mid last s).said ≡ 0
+escape-without_out : (mid last : ℕ) (s : Screen) → asked (escape mid last s).said ≡ 0
 unfolding escape
-escape-quiet mid last s =
-    both-quiet (mid == 0) _ _ (plain-escape-quiet last s)
-    (both-quiet (mid == 0x25) _ _ refl
-    (both-quiet (mid == 0x23) _ _ refl
-    (both-quiet (mid == 0x28) _ _ refl
-    (both-quiet (mid == 0x29) _ (quiet s) refl refl))))
+escape-without_out mid last s =
+    both-without_out (mid == 0) _ _ (plain-escape-without_out last s)
+    (both-without_out (mid == 0x25) _ _ refl
+    (both-without_out (mid == 0x23) _ _ refl
+    (both-without_out (mid == 0x28) _ _ refl
+    (both-without_out (mid == 0x29) _ (without_out s) refl refl))))
 
-private-quiet : (params : List ℕ) (last : ℕ) (s : Screen) → asked (private_sequence params last s).said ≡ 0
+private-without_out : (params : List ℕ) (last : ℕ) (s : Screen) → asked (private_sequence params last s).said ≡ 0
 unfolding private_sequence
-private-quiet params last s =
-    both-quiet (last == 0x68) _ _ refl (both-quiet (last == 0x6C) _ (quiet s) refl refl)
+private-without_out params last s =
+    both-without_out (last == 0x68) _ _ refl (both-without_out (last == 0x6C) _ (without_out s) refl refl)
 
 -- what asks at most so often
-both-asked : (n : ℕ) (test : Bool) (a b : Done) → asked a.said ≡ 0 → asked b.said ≤ n → asked (cond test a b).said ≤ n
+both-asked : (n : ℕ) (test : Bool) (a b : Effect) → asked a.said ≡ 0 → asked b.said ≤ n → asked (cond test a b).said ≤ n
 both-asked n true a b first second = let h = first in omega arith
 both-asked n false a b first second = second
 
-either-asked : (n : ℕ) (test : Bool) (a b : Done) → (test ≡ true → asked a.said ≤ n) → asked b.said ≤ n
+either-asked : (n : ℕ) (test : Bool) (a b : Effect) → (test ≡ true → asked a.said ≤ n) → asked b.said ≤ n
     → asked (cond test a b).said ≤ n
 either-asked n true a b first second = first refl
 either-asked n false a b first second = second
@@ -131,11 +131,11 @@ setting-asks last which value s e =
     (both-asked n (which == 2) _ _ refl
     (both-asked n (which == 8) _ _ refl
     (either-asked n (which == 12) _ _
-    (λ f. let to : Done = cond (nat_le 1 value && nat_le value 63) (saying (SwitchTo value) s) (quiet s) in
+    (λ f. let to : Effect = cond (nat_le 1 value && nat_le value 63) (with_out (SwitchTo value) s) (without_out s) in
     let most : asked to.said ≤ 1 = one-asked to.said in
     let least : 1 ≤ counted (last == 0x5D && is_request which) =
     counts (last == 0x5D) (which == 12) (which == 15) e f in omega (arith, most, least))
-    (either-asked n (which == 15) _ (quiet s)
+    (either-asked n (which == 15) _ (without_out s)
     (λ f. counts-second (last == 0x5D) (which == 12) (which == 15) e f) (least n)))))
 
 sequence-asks : (params : List ℕ) (last : ℕ) (s : Screen)
@@ -161,7 +161,7 @@ sequence-asks params last s =
     (both-asked n (last == 0x50) _ _ refl
     (both-asked n (last == 0x58) _ _ refl
     (both-asked n (last == 0x61) _ _ refl
-    (both-asked n (last == 0x63) _ _ (device-quiet first s)
+    (both-asked n (last == 0x63) _ _ (device-without_out first s)
     (both-asked n (last == 0x64) _ _ refl
     (both-asked n (last == 0x65) _ _ refl
     (both-asked n (last == 0x66) _ _ refl
@@ -169,15 +169,15 @@ sequence-asks params last s =
     (both-asked n (last == 0x68) _ _ refl
     (both-asked n (last == 0x6C) _ _ refl
     (both-asked n (last == 0x6D) _ _ refl
-    (both-asked n (last == 0x6E) _ _ (status-quiet first s)
-    (both-asked n (last == 0x71) _ _ (lights-quiet first s)
+    (both-asked n (last == 0x6E) _ _ (status-without_out first s)
+    (both-asked n (last == 0x71) _ _ (lights-without_out first s)
     (both-asked n (last == 0x72) _ _ refl
     (both-asked n (last == 0x73) _ _ refl
     (both-asked n (last == 0x75) _ _ refl
     (both-asked n (last == 0x60) _ _ refl
-    (either-asked n (last == 0x5D) _ (quiet s) (setting-asks last first second s) (least n)))))))))))))))))))))))))))))))
+    (either-asked n (last == 0x5D) _ (without_out s) (setting-asks last first second s) (least n)))))))))))))))))))))))))))))))
 
-either-private : (private : Bool) (a b : Done) (test : Bool) → asked a.said ≡ 0 → asked b.said ≤ counted test
+either-private : (private : Bool) (a b : Effect) (test : Bool) → asked a.said ≡ 0 → asked b.said ≤ counted test
     → asked (cond private a b).said ≤ counted (cond private false test)
 either-private true a b test first second = let h = first in omega arith
 either-private false a b test first second = second
@@ -185,10 +185,10 @@ either-private false a b test first second = second
 pub effect-asks : (u : units.Unit) (s : Screen) → asked (effect u s).said ≤ counted (asking u)
 effect-asks (units.Unit.Char code) s = omega arith
 effect-asks (units.Unit.Byte b) s = omega arith
-effect-asks (units.Unit.Control code) s = let h = control-quiet code s in omega arith
-effect-asks (units.Unit.Esc mid last) s = let h = escape-quiet mid last s in omega arith
+effect-asks (units.Unit.Control code) s = let h = control-without_out code s in omega arith
+effect-asks (units.Unit.Esc mid last) s = let h = escape-without_out mid last s in omega arith
 effect-asks (units.Unit.Csi private params last) s =
-    either-private private _ _ (asking_sequence params last) (private-quiet params last s) (sequence-asks params last s)
+    either-private private _ _ (asking_sequence params last) (private-without_out params last s) (sequence-asks params last s)
 effect-asks (units.Unit.Colour n rgb) s = omega arith
 effect-asks units.Unit.ColourReset s = omega arith
 effect-asks units.Unit.Ignored s = omega arith

@@ -4,13 +4,13 @@ use Rattle.std.specs.Prelude.{IsTrue}
 use Rattle.std.proofs.lemmas.Bool.{and_parts, false≢true, leb-true}
 use Rattle.std.proofs.lemmas.Bool.Decides.{eqb_tells}
 use Rattle.vt_cells.specs.Colours.{Rgb}
-use Rattle.vt_screen.specs.Cursor.{at_column, at_row, first_row, linefeed, moved, newline, placed, region_down, region_up, reverse_linefeed, tab}
-use Rattle.vt_screen.specs.Erasing.{above_erased, all_erased, below_erased, cells_deleted, cells_inserted, delete_characters, delete_lines, erase_characters, erase_display, erase_line, in_region, insert_characters, insert_lines, line_end_erased, line_erased, line_start_erased, rows_erased, unwrapped}
-use Rattle.vt_screen.specs.Printing.{codes_drawn, lacks_room, opened, print, put_here, set_down, wrapped}
-use Rattle.vt_screen.specs.Saying.{Done}
+use Rattle.vt_screen.specs.Cursor.{at_column, at_row, first_row, linefeed, cursor_to, newline, cursor_to_in_region, region_down, region_up, reverse_linefeed, tab}
+use Rattle.vt_screen.specs.Erasing.{above_erased, all_erased, below_erased, cells_deleted, cells_inserted, delete_characters, delete_lines, erase_characters, erase_display, erase_line, in_region, insert_characters, insert_lines, line_end_erased, line_erased, line_start_erased, rows_erased, without_pending_wrap}
+use Rattle.vt_screen.specs.Printing.{codes_drawn, lacks_room, with_gap, print, with_cells_at_cursor, with_character, after_wrap}
+use Rattle.vt_screen.specs.Saying.{Effect}
 use Rattle.vt_screen.specs.Screen.{Screen, start_saved, with_state}
 use Rattle.vt_screen.specs.SavedCursor.{saved_of}
-use Rattle.vt_screen.specs.Settings.{aligned, clear_stops, each, invoking, rendered, reset, restore, save, set_stop, with_coding, with_colour, with_g0, with_g1, with_keypad, with_mode, with_private_mode, with_region, with_start_palette}
+use Rattle.vt_screen.specs.Settings.{alignment_pattern, clear_stops, each, after_shift, after_sgr, reset, restore, save, set_stop, with_coding, with_colour, with_g0, with_g1, with_keypad, with_mode, with_private_mode, with_region, with_start_palette}
 use Rattle.vt_screen.specs.declared.saved.Saved.{Saved}
 
 -- the region's rows are rows of the screen, which has a column
@@ -56,16 +56,16 @@ module _ (rule : Saved → ℕ → ℕ → Type 0) where
   either-if true s t first second = first refl
   either-if false s t first second = second refl
 
-  pub either-done-if : (test : Bool) (s t : Done) → (test ≡ true → IsInside rule s.screen) → (test ≡ false → IsInside rule t.screen) → IsInside rule (cond test s t).screen
+  pub either-done-if : (test : Bool) (s t : Effect) → (test ≡ true → IsInside rule s.screen) → (test ≡ false → IsInside rule t.screen) → IsInside rule (cond test s t).screen
   either-done-if true s t first second = first refl
   either-done-if false s t first second = second refl
 
-  pub either-done : (test : Bool) (s t : Done) → IsInside rule s.screen → IsInside rule t.screen → IsInside rule (cond test s t).screen
+  pub either-done : (test : Bool) (s t : Effect) → IsInside rule s.screen → IsInside rule t.screen → IsInside rule (cond test s t).screen
   either-done true s t first second = first
   either-done false s t first second = second
 
-  cursor-moved-in : (y x : ℕ) (s : Screen) → HasRegion s → rule s.state.saved s.grid.rows s.grid.cols → IsInside rule (moved y x s)
-  unfolding moved IsInside
+  cursor-moved-in : (y x : ℕ) (s : Screen) → HasRegion s → rule s.state.saved s.grid.rows s.grid.cols → IsInside rule (cursor_to y x s)
+  unfolding cursor_to IsInside
   cursor-moved-in y x s h k =
       let c = h.2 in (
         row-in s.state.origin s.state.top s.state.bottom s.grid.rows y h.0 h.1,
@@ -76,17 +76,17 @@ module _ (rule : Saved → ℕ → ℕ → Type 0) where
         k,
       )
 
-  pub cursor-moved : (y x : ℕ) (s : Screen) → IsInside rule s → IsInside rule (moved y x s)
+  pub cursor-cursor_to : (y x : ℕ) (s : Screen) → IsInside rule s → IsInside rule (cursor_to y x s)
   unfolding IsInside
-  cursor-moved y x s h = cursor-moved-in y x s (region-of s h) h.5
+  cursor-cursor_to y x s h = cursor-moved-in y x s (region-of s h) h.5
 
-  cursor-placed-in : (y x : ℕ) (s : Screen) → HasRegion s → rule s.state.saved s.grid.rows s.grid.cols → IsInside rule (placed y x s)
-  unfolding placed IsInside
+  cursor-placed-in : (y x : ℕ) (s : Screen) → HasRegion s → rule s.state.saved s.grid.rows s.grid.cols → IsInside rule (cursor_to_in_region y x s)
+  unfolding cursor_to_in_region IsInside
   cursor-placed-in y x s h k = cursor-moved-in (first_row s + y) x s h k
 
-  pub cursor-placed : (y x : ℕ) (s : Screen) → IsInside rule s → IsInside rule (placed y x s)
+  pub cursor-cursor_to_in_region : (y x : ℕ) (s : Screen) → IsInside rule s → IsInside rule (cursor_to_in_region y x s)
   unfolding IsInside
-  cursor-placed y x s h = cursor-placed-in y x s (region-of s h) h.5
+  cursor-cursor_to_in_region y x s h = cursor-placed-in y x s (region-of s h) h.5
 
   -- what moves the cursor and scrolls
   region-up : (s : Screen) → IsInside rule s → IsInside rule (region_up s)
@@ -177,18 +177,18 @@ module _ (rule : Saved → ℕ → ℕ → Type 0) where
   display-erased which s h =
       let low = line_end_erased s in
       let high = line_start_erased s in
-      either (which == 0) (unwrapped (below_erased low)) _
+      either (which == 0) (without_pending_wrap (below_erased low)) _
       (rows-erased (low.state.y + 1) (low.grid.rows - (low.state.y + 1)) low (line-end s h))
-      (either (which == 1) (unwrapped (above_erased high)) _
+      (either (which == 1) (without_pending_wrap (above_erased high)) _
       (rows-erased 0 high.state.y high (line-start s h))
-      (either (which == 2 || which == 3) (unwrapped (all_erased s)) s (rows-erased 0 s.grid.rows s h) h))
+      (either (which == 2 || which == 3) (without_pending_wrap (all_erased s)) s (rows-erased 0 s.grid.rows s h) h))
 
   pub row-erased : (which : ℕ) (s : Screen) → IsInside rule s → IsInside rule (erase_line which s)
   unfolding erase_line IsInside
   row-erased which s h =
-      either (which == 0) (unwrapped (line_end_erased s)) _ (line-end s h)
-      (either (which == 1) (unwrapped (line_start_erased s)) _ (line-start s h)
-      (either (which == 2) (unwrapped (line_erased 0 (s.grid.cols - 1) s)) s (line-erased 0 (s.grid.cols - 1) s h) h))
+      either (which == 0) (without_pending_wrap (line_end_erased s)) _ (line-end s h)
+      (either (which == 1) (without_pending_wrap (line_start_erased s)) _ (line-start s h)
+      (either (which == 2) (without_pending_wrap (line_erased 0 (s.grid.cols - 1) s)) s (line-erased 0 (s.grid.cols - 1) s h) h))
 
   pub characters-erased : (n : ℕ) (s : Screen) → IsInside rule s → IsInside rule (erase_characters n s)
   unfolding erase_characters IsInside
@@ -218,12 +218,12 @@ module _ (rule : Saved → ℕ → ℕ → Type 0) where
       let x = h.1 in
       (omega (arith, y), omega (arith, x), omega arith, omega (arith, y), λ o. absurd (false≢true o), k)
 
-  pub screen-aligned : (s : Screen) → IsInside rule s → IsInside rule (aligned s)
-  unfolding aligned IsInside
-  screen-aligned s h = h
+  pub screen-alignment_pattern : (s : Screen) → IsInside rule s → IsInside rule (alignment_pattern s)
+  unfolding alignment_pattern IsInside
+  screen-alignment_pattern s h = h
 
   -- printing
-  put : (codes : List ℕ) (s : Screen) → IsInside rule s → IsInside rule (put_here codes s)
+  put : (codes : List ℕ) (s : Screen) → IsInside rule s → IsInside rule (with_cells_at_cursor codes s)
   unfolding IsInside
   put codes s h = (h.0, by (nat_lt (s.state.x + length codes) s.grid.cols) refl, h.2, h.3, h.4, h.5)
     where
@@ -231,33 +231,33 @@ module _ (rule : Saved → ℕ → ℕ → Type 0) where
       by true e = ltb-true (s.state.x + length codes) s.grid.cols e
       by false e = let x = h.1 in omega (arith, x)
 
-  wrapped-in : (w : ℕ) (s : Screen) → 1 ≤ w → IsInside rule s → IsInside rule (wrapped w s)
+  wrapped-in : (w : ℕ) (s : Screen) → 1 ≤ w → IsInside rule s → IsInside rule (after_wrap w s)
   unfolding IsInside
   wrapped-in w s some h =
       let x = h.1 in
       either (s.state.autowrap && (s.state.wrap || lacks_room w s)) (linefeed (at_column 0 s)) _ (line-feed (at_column 0 s) (first-column s h))
       (either (lacks_room w s) (at_column (s.grid.cols - w) s) s (to-column (s.grid.cols - w) s (omega (arith, some, x)) h) h)
 
-  set-down : (w code : ℕ) (s : Screen) → 1 ≤ w → IsInside rule s → IsInside rule (set_down w code s)
+  set-down : (w code : ℕ) (s : Screen) → 1 ≤ w → IsInside rule s → IsInside rule (with_character w code s)
   unfolding IsInside
   set-down w code s some h =
-      let there = wrapped w s in
+      let there = after_wrap w s in
       let there_is : IsInside rule there = wrapped-in w s some h in
-      put (codes_drawn w code) (opened w there) (either there.state.insert (cells_inserted w there) there (cells-inserted w there there_is) there_is)
+      put (codes_drawn w code) (with_gap w there) (either there.state.insert (cells_inserted w there) there (cells-inserted w there there_is) there_is)
 
   pub printed-once : (w code : ℕ) (s : Screen) → IsInside rule s → IsInside rule (print w code s)
   unfolding print IsInside
   printed-once w code s h =
       either-if (w == 0) s _ (λ _. h)
-      (λ e. either (w == 2 && s.grid.cols == 1) (set_down 1 0xFFFD s) (set_down w code s) (set-down 1 0xFFFD s (omega arith) h) (set-down w code s (some-columns w e) h))
+      (λ e. either (w == 2 && s.grid.cols == 1) (with_character 1 0xFFFD s) (with_character w code s) (set-down 1 0xFFFD s (omega arith) h) (set-down w code s (some-columns w e) h))
 
   -- what changes the state alone
   pub tabbed : (s : Screen) → IsInside rule s → IsInside rule (tab s)
   unfolding tab IsInside
   tabbed s h = let x = h.1 in (h.0, omega (arith, x), h.2, h.3, h.4, h.5)
 
-  pub invoked : (shift : ℕ) (display : Bool) (s : Screen) → IsInside rule s → IsInside rule (invoking shift display s)
-  unfolding invoking IsInside
+  pub invoked : (shift : ℕ) (display : Bool) (s : Screen) → IsInside rule s → IsInside rule (after_shift shift display s)
+  unfolding after_shift IsInside
   invoked shift display s h = h
 
   pub coded : (last : ℕ) (s : Screen) → IsInside rule s → IsInside rule (with_coding last s)
@@ -302,7 +302,7 @@ module _ (rule : Saved → ℕ → ℕ → Type 0) where
   unfolding IsInside
   reversed on s h = h
 
-  origin-set : (on : Bool) (s : Screen) → IsInside rule s → IsInside rule (placed 0 0 (with_state s (record s.state { origin = on })))
+  origin-set : (on : Bool) (s : Screen) → IsInside rule s → IsInside rule (cursor_to_in_region 0 0 (with_state s (record s.state { origin = on })))
   unfolding IsInside
   origin-set on s h = cursor-placed-in 0 0 (with_state s (record s.state { origin = on })) (region-of s h) h.5
 
@@ -341,8 +341,8 @@ module _ (rule : Saved → ℕ → ℕ → Type 0) where
       cursor-placed-in 0 0 _ (omega (arith, low), omega (arith, low, high), omega (arith, x)) h.5)
       (λ _. h)
 
-  pub pen-set : (params : List ℕ) (s : Screen) → IsInside rule s → IsInside rule (rendered params s)
-  unfolding rendered IsInside
+  pub pen-set : (params : List ℕ) (s : Screen) → IsInside rule s → IsInside rule (after_sgr params s)
+  unfolding after_sgr IsInside
   pen-set params s h = h
 
   pub cursor-saved : (s : Screen) → IsInside rule s → rule (saved_of s) s.grid.rows s.grid.cols → IsInside rule (save s)

@@ -8,11 +8,11 @@ use Rattle.vt_screen.proofs.InsideTable.{control-keeps, escape-keeps, private-ke
 use Rattle.vt_screen.proofs.Insides.{IsInside, coloured, colours-reset, printed-once}
 use Rattle.vt_screen.specs.Effect.{control_sequence, effect, private_sequence}
 use Rattle.vt_screen.specs.Inside.{CursorIsInside}
-use Rattle.vt_screen.specs.Printing.{shown}
+use Rattle.vt_screen.specs.Printing.{character_of_byte}
 use Rattle.vt_screen.specs.SavedCursor.{RestorePutsBack, drawn_units, leaves_saved, saved_of}
 use Rattle.vt_screen.specs.Screen.{IsWhole, Screen}
 use Rattle.vt_screen.specs.Settings.{restore, save}
-use Rattle.vt_screen.specs.Cursor.{moved}
+use Rattle.vt_screen.specs.Cursor.{cursor_to}
 use Rattle.vt_screen.specs.declared.saved.Saved.{Saved}
 use Rattle.vt_units.specs.declared.unit.Unit as units
 
@@ -34,7 +34,7 @@ denied false h k = false≢true k
 
 unit-keeps : (v : Saved) (r c : ℕ) (u : units.Unit) (s : Screen) → IsTrue (leaves_saved u) → IsInside (Still v r c) s → IsInside (Still v r c) (effect u s).screen
 unit-keeps v r c (units.Unit.Char code) s leaves h = printed-once (Still v r c) (columns code) code s h
-unit-keeps v r c (units.Unit.Byte x) s leaves h = printed-once (Still v r c) 1 (shown x s) s h
+unit-keeps v r c (units.Unit.Byte x) s leaves h = printed-once (Still v r c) 1 (character_of_byte x s) s h
 unit-keeps v r c (units.Unit.Control code) s leaves h = control-keeps (Still v r c) code s h
 unit-keeps v r c (units.Unit.Esc mid last) s leaves h =
     escape-keeps (Still v r c) mid last s
@@ -61,11 +61,11 @@ there true top bottom rows y h k = let low = (k refl).0 in let high = (k refl).1
 there false top bottom rows y h k = omega arith
 
 put-row : (t : Screen) → (restore t).state.y ≡ max (cond t.state.origin t.state.top 0) (min t.state.saved.y (cond t.state.origin t.state.bottom (t.grid.rows - 1)))
-unfolding restore moved
+unfolding restore cursor_to
 put-row t = refl
 
 put-column : (t : Screen) → (restore t).state.x ≡ min t.state.saved.x (t.grid.cols - 1)
-unfolding restore moved
+unfolding restore cursor_to
 put-column t = refl
 
 save-keeps : (s : Screen) → IsWhole s → CursorIsInside s → IsInside (Still (saved_of s) s.grid.rows s.grid.cols) (save s)

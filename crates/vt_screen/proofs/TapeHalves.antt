@@ -17,10 +17,10 @@ use Rattle.vt_screen.proofs.FollowWide.{wide-edits}
 use Rattle.vt_screen.proofs.Halved.{Draws, HasHalves, NoHalves, coloured, colours-reset, control-keeps, escape-keeps, printed-once, private-keeps, sequence-keeps}
 use Rattle.vt_screen.specs.Effect.{control_sequence, effect, private_sequence}
 use Rattle.vt_screen.specs.Halves.{FollowWide, HalvesFollowWide, IsPlainTaped, TapesKeepHalves}
-use Rattle.vt_screen.specs.Printing.{shown, table_of, toggled}
-use Rattle.vt_screen.specs.Run.{Drawn, drawing, having_said, start}
+use Rattle.vt_screen.specs.Printing.{character_of_byte, table_of, toggle_high_bit}
+use Rattle.vt_screen.specs.Run.{ScreenAndOuts, screen_effects, with_outs, start}
 use Rattle.vt_screen.specs.Screen.{Screen, blank_of, mode_of}
-use Rattle.vt_screen.specs.Tape.{Change, Taped, byte, lost_rows, change, changed, palette, played, resize, resized_to, run_tape, user_map}
+use Rattle.vt_screen.specs.Tape.{Change, Taped, byte, lost_rows, change, after_change, palette, after_tape_item, resize, resized_to, run_tape, user_map}
 use Rattle.vt_units.specs.Answer.{answer}
 use Rattle.vt_units.specs.Laws.{PrintsOnly, TextsSpellCharacters, ThenPrints}
 use Rattle.vt_units.specs.Run.{Reached, effect_of}
@@ -62,8 +62,8 @@ either-below : (test : Bool) (a b : ℕ) → a < 256 → b < 256 → cond test a
 either-below true a b first second = first
 either-below false a b first second = second
 
-toggled-below : (b : ℕ) → b < 256 → toggled b < 256
-toggled-below b small = grind (arith, nat_tests, small)
+toggle_high_bit-below : (b : ℕ) → b < 256 → toggle_high_bit b < 256
+toggle_high_bit-below b small = grind (arith, nat_tests, small)
 
 graphic-whole : (b : ℕ) → b < 256 → (graphic_of b == half) ≡ false
 graphic-whole b small =
@@ -76,11 +76,11 @@ table-whole user table b h small =
     (either-code (table == 1) (graphic_of b) _ (graphic-whole b small)
     (either-code (table == 2) (font_place b) (slice_index user b) (below-half (font_place b) (omega (arith, small))) (no-half-at user b h)))
 
-shown-whole : (b : ℕ) (s : Screen) → b < 256 → NoHalves s.state.map → (shown b s == half) ≡ false
-unfolding shown
-shown-whole b s small h =
-    table-whole s.state.map (table_of s) (cond s.state.pen.toggle (toggled b) b) h
-    (either-below s.state.pen.toggle (toggled b) b (toggled-below b small) small)
+character_of_byte-whole : (b : ℕ) (s : Screen) → b < 256 → NoHalves s.state.map → (character_of_byte b s == half) ≡ false
+unfolding character_of_byte
+character_of_byte-whole b s small h =
+    table-whole s.state.map (table_of s) (cond s.state.pen.toggle (toggle_high_bit b) b) h
+    (either-below s.state.pen.toggle (toggle_high_bit b) b (toggle_high_bit-below b small) small)
 
 module _ (Row : List Cell → Type 0) (law : Edits Row) (draws : (code : ℕ) → (code == half) ≡ false → Draws Row (columns code) code)
     (draws_byte : (code : ℕ) → (code == half) ≡ false → Draws Row 1 code) where
@@ -90,8 +90,8 @@ module _ (Row : List Cell → Type 0) (law : Edits Row) (draws : (code : ℕ) �
   unit-keeps : (b : ℕ) (u : units.Unit) (s : Screen) → b < 256 → PrintsOnly b u → HasHalves Row s → HasHalves Row (effect u s).screen
   unit-keeps b (units.Unit.Char code) s small only h = printed-once Row law (columns code) code s malformed_draws (draws code (below-half code only)) h
   unit-keeps b (units.Unit.Byte x) s small only h =
-      printed-once Row law 1 (shown x s) s malformed_draws
-      (draws_byte (shown x s) (shown-whole x s (subst (λ n. n < 256) (sym only) small) h.1)) h
+      printed-once Row law 1 (character_of_byte x s) s malformed_draws
+      (draws_byte (character_of_byte x s) (character_of_byte-whole x s (subst (λ n. n < 256) (sym only) small) h.1)) h
   unit-keeps b (units.Unit.Control code) s small only h = control-keeps Row law code s h
   unit-keeps b (units.Unit.Esc mid last) s small only h = escape-keeps Row law mid last s h
   unit-keeps b (units.Unit.Csi private params last) s small only h = by private
@@ -103,19 +103,19 @@ module _ (Row : List Cell → Type 0) (law : Edits Row) (draws : (code : ℕ) �
   unit-keeps b units.Unit.ColourReset s small only h = colours-reset Row law s h
   unit-keeps b units.Unit.Ignored s small only h = h
 
-  then-keeps : (b : ℕ) (t : then.Then) (at : Drawn) → b < 256 → ThenPrints b t → HasHalves Row at.screen
-      → HasHalves Row (effect_of drawing t at).screen
+  then-keeps : (b : ℕ) (t : then.Then) (at : ScreenAndOuts) → b < 256 → ThenPrints b t → HasHalves Row at.screen
+      → HasHalves Row (effect_of screen_effects t at).screen
   then-keeps b (then.Then.Unit u) at small only h = unit-keeps b u at.screen small only h
   then-keeps b (then.Then.Act code) at small only h = control-keeps Row law code at.screen h
   then-keeps b then.Then.More at small only h = h
   then-keeps b then.Then.Dropped at small only h = h
 
-  bad-keeps : (bad : Bool) (at : Drawn) → HasHalves Row at.screen
-      → HasHalves Row (cond bad (drawing.on_unit (units.Unit.Char 0xFFFD) at) at).screen
+  bad-keeps : (bad : Bool) (at : ScreenAndOuts) → HasHalves Row at.screen
+      → HasHalves Row (cond bad (screen_effects.on_unit (units.Unit.Char 0xFFFD) at) at).screen
   bad-keeps true at h = printed-once Row law (columns 0xFFFD) 0xFFFD at.screen malformed_draws (draws 0xFFFD refl) h
   bad-keeps false at h = h
 
-  change-keeps : (m : Change) (s : Screen) → IsPlainTaped (change m) → HasHalves Row s → HasHalves Row (changed m s)
+  change-keeps : (m : Change) (s : Screen) → IsPlainTaped (change m) → HasHalves Row s → HasHalves Row (after_change m s)
   unfolding resized_to
   change-keeps (user_map words) s plain h = (h.0, words-kept words plain)
   change-keeps (palette colours) s plain h = h
@@ -123,27 +123,27 @@ module _ (Row : List Cell → Type 0) (law : Edits Row) (draws : (code : ℕ) �
       (law.resizing s.grid rows cols (lost_rows rows s) (blank_of s) h.0 refl, h.1)
 
   module _ (spell : TextsSpellCharacters) where
-    played-keeps : (item : Taped) (at : Reached Drawn) → IsPlainTaped item → HasHalves Row at.state.screen
-        → HasHalves Row (played item at).state.screen
+    played-keeps : (item : Taped) (at : Reached ScreenAndOuts) → IsPlainTaped item → HasHalves Row at.state.screen
+        → HasHalves Row (after_tape_item item at).state.screen
     played-keeps (byte b) at plain h =
         let m = mode_of at.state.screen in
         let read : Read = answer at.rest m b in
-        then-keeps b read.got (cond read.bad (drawing.on_unit (units.Unit.Char 0xFFFD) at.state) at.state) plain (spell at.rest m b)
+        then-keeps b read.got (cond read.bad (screen_effects.on_unit (units.Unit.Char 0xFFFD) at.state) at.state) plain (spell at.rest m b)
         (bad-keeps read.bad at.state h)
     played-keeps (change m) at plain h = change-keeps m at.state.screen plain h
 
-    tape-keeps : (tape : List Taped) (at : Reached Drawn) → All IsPlainTaped tape → HasHalves Row at.state.screen
+    tape-keeps : (tape : List Taped) (at : Reached ScreenAndOuts) → All IsPlainTaped tape → HasHalves Row at.state.screen
         → HasHalves Row (run_tape tape at).state.screen
     tape-keeps [] at plain h = h
     tape-keeps (item ∷ tape) at plain h =
-        tape-keeps tape (played item at) (All-tail IsPlainTaped item tape plain)
+        tape-keeps tape (after_tape_item item at) (All-tail IsPlainTaped item tape plain)
         (played-keeps item at (All-head IsPlainTaped item tape plain) h)
 
     -- every tape keeps it, from a start on
     pub tapes-keep : (rows cols : ℕ) (tape : List Taped) → All IsPlainTaped tape
-        → Each Row (run_tape tape (having_said [] (start rows cols))).state.screen.grid
+        → Each Row (run_tape tape (with_outs [] (start rows cols))).state.screen.grid
     tapes-keep rows cols tape plain =
-        (tape-keeps tape (having_said [] (start rows cols)) plain
+        (tape-keeps tape (with_outs [] (start rows cols)) plain
         (law.filling rows cols _ refl, places 256 0 (omega arith))).0
 
 -- no half stands in column 0 or right of a half

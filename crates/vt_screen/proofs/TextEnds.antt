@@ -8,13 +8,13 @@ use Rattle.std.proofs.lemmas.List.Concat.{flat_map-append}
 use Rattle.std.proofs.lemmas.List.Elements.{All-head}
 use Rattle.vt_cells.specs.Width.{LowTakeOne}
 use Rattle.vt_cells.specs.declared.cell.Cell.{Cell}
-use Rattle.vt_grid.specs.Grid.{Sheet, filled, with_cell}
+use Rattle.vt_grid.specs.Grid.{GridView, filled_grid, with_cell}
 use Rattle.vt_grid.specs.Laws.{RunOfMore, RunOfNone}
 use Rattle.vt_screen.proofs.Printed.{AllPrintable, fresh-behind, printables-run}
 use Rattle.vt_screen.proofs.TextRows.{Holds, at-start, grown, holds-none, joined, printables}
 use Rattle.vt_screen.proofs.TextSteps.{at, full-turned, narrow-turned, step-below, step-here, step-scroll, turned}
-use Rattle.vt_screen.specs.Printing.{print_character, printed}
-use Rattle.vt_screen.specs.Run.{Drawn}
+use Rattle.vt_screen.specs.Printing.{print_character, print_characters}
+use Rattle.vt_screen.specs.Run.{ScreenAndOuts}
 use Rattle.vt_screen.specs.Screen.{Screen, start_blank, start_screen}
 use Rattle.vt_screen.specs.TextRows.{ShowsEnd, ShowsText, TextFillsRows, TextScrolls, all_cells, start_cell}
 use Rattle.vt_units.specs.Bytes.{is_printable}
@@ -48,7 +48,7 @@ cells-turned n cols done cells all within are =
     ∙ ap (λ (list : List Cell). list ++ replicate cols start_blank) (drop-map start_cell cols done)
     ∙ ap (λ (k : ℕ). map start_cell (drop cols done) ++ replicate k start_blank) blanks
 
-shown-all : (g : Sheet) (done : List ℕ) (y count : ℕ) → Holds g done y count → ShowsText g.rows g.cols done (at g y count)
+shown-all : (g : GridView) (done : List ℕ) (y count : ℕ) → Holds g done y count → ShowsText g.rows g.cols done (at g y count)
 shown-all g done y count h = record {
   size = (refl, refl);
   full = h.full;
@@ -93,7 +93,7 @@ nothing-lost rows cols text s some room e = by e.lost e.above e.parts e.whole_ro
 
 module _ (none : RunOfNone) (more : RunOfMore) (low : LowTakeOne) where
   -- a character in the last row, where the first one is lost
-  scrolled : (b : ℕ) (done : List ℕ) (g : Sheet) (y : ℕ) → is_printable b ≡ true → Holds g done y g.cols → y + 1 ≡ g.rows
+  scrolled : (b : ℕ) (done : List ℕ) (g : GridView) (y : ℕ) → is_printable b ≡ true → Holds g done y g.cols → y + 1 ≡ g.rows
       → Holds (with_cell (turned g) y 0 (start_cell b)) (drop g.cols done ++ b ∷ []) y (0 + 1)
   scrolled b done g y is h last =
       let some_rows : 0 < g.rows = omega (arith, last) in
@@ -107,9 +107,9 @@ module _ (none : RunOfNone) (more : RunOfMore) (low : LowTakeOne) where
       grown none more (turned g) (drop g.cols done) y 0 b is (full-turned g h.full some_rows)
       (narrow-turned g h.full some_rows h.narrow) h.in_rows h.some_cols left cells
 
-  ends : (text above done : List ℕ) (lost : ℕ) (g : Sheet) (y count : ℕ) → Holds g done y count → AllPrintable text
+  ends : (text above done : List ℕ) (lost : ℕ) (g : GridView) (y count : ℕ) → Holds g done y count → AllPrintable text
       → length above ≡ lost * g.cols → (0 < lost → (g.rows - 1) * g.cols < length done)
-      → ShowsEnd g.rows g.cols (above ++ (done ++ text)) (printed text (at g y count))
+      → ShowsEnd g.rows g.cols (above ++ (done ++ text)) (print_characters text (at g y count))
   ends [] above done lost g y count h all whole few = record {
     lost = lost;
     above = above;
@@ -161,23 +161,23 @@ module _ (none : RunOfNone) (more : RunOfMore) (low : LowTakeOne) where
 
       next : (first then : List ℕ) (s : Screen) → print_character b (at g y count) ≡ s
           → first ++ (then ++ text) ≡ above ++ (done ++ b ∷ text)
-          → ShowsEnd g.rows g.cols (first ++ (then ++ text)) (printed text s)
-          → ShowsEnd g.rows g.cols (above ++ (done ++ b ∷ text)) (printed (b ∷ text) (at g y count))
+          → ShowsEnd g.rows g.cols (first ++ (then ++ text)) (print_characters text s)
+          → ShowsEnd g.rows g.cols (above ++ (done ++ b ∷ text)) (print_characters (b ∷ text) (at g y count))
       next first then s step lists shown =
-          subst (λ (t : Screen). ShowsEnd g.rows g.cols (above ++ (done ++ b ∷ text)) (printed text t)) (sym step)
-          (subst (λ (list : List ℕ). ShowsEnd g.rows g.cols list (printed text s)) lists shown)
+          subst (λ (t : Screen). ShowsEnd g.rows g.cols (above ++ (done ++ b ∷ text)) (print_characters text t)) (sym step)
+          (subst (λ (list : List ℕ). ShowsEnd g.rows g.cols list (print_characters text s)) lists shown)
 
   pub text-scrolls : PrintablesAreCharacters → TextScrolls
   text-scrolls law rows cols text some_rows some_cols printable =
       let all : AllPrintable text = printables text printable in
       let runs = printables-run law text [] (start_screen rows cols) (fresh start_mode) all refl refl in
-      let shown : ShowsEnd rows cols text (printed text (at (filled rows cols start_blank) 0 0)) =
-      ends text [] [] 0 (filled rows cols start_blank) 0 0 (holds-none rows cols some_rows some_cols) all (omega arith) (λ h. absurd (omega (arith, h))) in
-      let from_start : ShowsEnd rows cols text (printed text (start_screen rows cols)) =
-      subst (λ (s : Screen). ShowsEnd rows cols text (printed text s)) (at-start rows cols some_cols) shown in (
-        subst (λ (r : Reached Drawn). ShowsEnd rows cols text r.state.screen) (sym runs) from_start,
-        ap (λ (r : Reached Drawn). r.rest.text) runs ∙ ap (λ (r : Rest). r.text) (fresh-behind text start_mode),
-        ap (λ (r : Reached Drawn). r.state.outs) runs,
+      let shown : ShowsEnd rows cols text (print_characters text (at (filled_grid rows cols start_blank) 0 0)) =
+      ends text [] [] 0 (filled_grid rows cols start_blank) 0 0 (holds-none rows cols some_rows some_cols) all (omega arith) (λ h. absurd (omega (arith, h))) in
+      let from_start : ShowsEnd rows cols text (print_characters text (start_screen rows cols)) =
+      subst (λ (s : Screen). ShowsEnd rows cols text (print_characters text s)) (at-start rows cols some_cols) shown in (
+        subst (λ (r : Reached ScreenAndOuts). ShowsEnd rows cols text r.state.screen) (sym runs) from_start,
+        ap (λ (r : Reached ScreenAndOuts). r.rest.text) runs ∙ ap (λ (r : Rest). r.text) (fresh-behind text start_mode),
+        ap (λ (r : Reached ScreenAndOuts). r.state.outs) runs,
       )
 
   -- where all has room, nothing is lost

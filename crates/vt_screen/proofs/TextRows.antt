@@ -9,7 +9,7 @@ use Rattle.std.proofs.lemmas.List.Elements.{All-cons, All-head, All-nil, All-rep
 use Rattle.std.proofs.lemmas.Nat.{mul-add-lt}
 use Rattle.vt_cells.specs.Width.{is_half}
 use Rattle.vt_cells.specs.declared.cell.Cell.{Cell}
-use Rattle.vt_grid.specs.Grid.{IsFull, Sheet, filled, row_at, with_cell, with_run}
+use Rattle.vt_grid.specs.Grid.{IsFull, GridView, filled_grid, row_at, with_cell, with_run}
 use Rattle.vt_grid.specs.Laws.{RunOfMore, RunOfNone}
 use Rattle.vt_grid.proofs.Narrow.{filled_narrow, run_narrow}
 use Rattle.vt_screen.proofs.Printed.{AllPrintable}
@@ -59,7 +59,7 @@ set-first-blank n done b room =
     ∙ ap (λ (cells : List Cell). cells ++ replicate m start_blank) (sym (map-append start_cell done (b ∷ [])))
 
 -- the grid after some characters, with the cursor after so many columns of row y
-pub record Holds (g : Sheet) (done : List ℕ) (y count : ℕ) : Type 0 where
+pub record Holds (g : GridView) (done : List ℕ) (y count : ℕ) : Type 0 where
   pub full : IsFull g
   pub narrow : IsNarrow g
   pub some_cols : 0 < g.cols
@@ -74,7 +74,7 @@ one-narrow b is = grind (arith, nat_tests, is)
 
 module _ (none : RunOfNone) (more : RunOfMore) where
   -- one more character
-  pub grown : (g : Sheet) (done : List ℕ) (y x : ℕ) (b : ℕ) → is_printable b ≡ true → IsFull g → IsNarrow g
+  pub grown : (g : GridView) (done : List ℕ) (y x : ℕ) (b : ℕ) → is_printable b ≡ true → IsFull g → IsNarrow g
       → y < g.rows → x < g.cols → y * g.cols + x ≡ length done
       → all_cells g ≡ map start_cell done ++ replicate (g.rows * g.cols - length done) start_blank
       → Holds (with_cell g y x (start_cell b)) (done ++ b ∷ []) y (x + 1)
@@ -115,7 +115,7 @@ joined-blanks (suc rows) cols c =
     ∙ replicate-append-replicate cols (rows * cols) c
     ∙ ap (λ (n : ℕ). replicate n c) (let e : cols + rows * cols ≡ suc rows * cols = omega arith in e)
 
-pub holds-none : (rows cols : ℕ) → 1 ≤ rows → 1 ≤ cols → Holds (filled rows cols start_blank) [] 0 0
+pub holds-none : (rows cols : ℕ) → 1 ≤ rows → 1 ≤ cols → Holds (filled_grid rows cols start_blank) [] 0 0
 holds-none rows cols some_rows some_cols = record {
   full = record {
     tall = length-replicate rows (replicate cols start_blank);
@@ -132,12 +132,12 @@ holds-none rows cols some_rows some_cols = record {
       ∙ ap (λ (n : ℕ). replicate n start_blank) (let e : rows * cols ≡ rows * cols - 0 = omega arith in e);
 }
 
-pub at-start : (rows cols : ℕ) → 1 ≤ cols → at (filled rows cols start_blank) 0 0 ≡ start_screen rows cols
+pub at-start : (rows cols : ℕ) → 1 ≤ cols → at (filled_grid rows cols start_blank) 0 0 ≡ start_screen rows cols
 at-start rows cols some =
     let column : min 0 (cols - 1) ≡ 0 = omega arith in
     let wrap : (0 == cols) ≡ false = ne_eqb 0 cols (λ same. let e : ⊥ = omega (arith, some, same) in e) in
     λ i. record {
-      grid = filled rows cols start_blank;
+      grid = filled_grid rows cols start_blank;
       state = record (start_state rows) { x = column i; y = 0; wrap = wrap i };
     }
 

@@ -5,15 +5,15 @@ ghost use Rattle.vt_screen.specs.Effect.{effect};
 ghost use Rattle.std.specs.Borrow.{Lends, sem};
 ghost use Rattle.vt_cells.specs.contracts.palette.Palette.{the_row as palette_row};
 ghost use Rattle.vt_screen.specs.contracts.canvas.Canvas.{the_row};
-ghost use Rattle.vt_screen.specs.Run.{listed};
-ghost use Rattle.vt_screen.specs.Tape.{changed, palette};
+ghost use Rattle.vt_screen.specs.Run.{outs_of_option};
+ghost use Rattle.vt_screen.specs.Tape.{after_change, palette};
 ghost use Rattle.vt_screen.specs.Screen.{IsWhole, blank_of, mode_of, start_screen, with_state};
 
 mod controls;
 mod erases;
 mod escapes;
-mod fronts;
 mod moves;
+mod prefixes;
 mod print;
 mod reports;
 mod resizes;
@@ -102,17 +102,17 @@ impl Canvas {
     /// The palette.
     pub fn palette_mut(&mut self) -> &mut Palette
         ensures* lends { sem 𝓛
-            (Lends the_row palette_row self.entry result (λ w. changed (palette w) self.old)) }
+            (Lends the_row palette_row self.entry result (λ w. after_change (palette w) self.old)) }
         ensures value { result.now ≡ self.old.state.palette }
     {
         &mut self.state.palette
     }
 
     /// Does what the unit does. What it says beside the screen is then last in `outs`.
-    pub fn obey(&mut self, unit: &Unit, outs: &mut Outs)
+    pub fn dispatch(&mut self, unit: &Unit, outs: &mut Outs)
         requires room { length outs.old < 64 }
         ensures screen { self.new ≡ (effect unit.now self.old).screen }
-        ensures said { outs.new ≡ outs.old ++ listed (effect unit.now self.old).said }
+        ensures said { outs.new ≡ outs.old ++ outs_of_option (effect unit.now self.old).said }
         ensures few { length outs.new ≤ length outs.old + 1 }
     {
         match unit {
@@ -124,7 +124,7 @@ impl Canvas {
                 private,
                 params,
                 last,
-            } => self.obey_sequence(*private, params.as_slice(), *last, outs),
+            } => self.dispatch_sequence(*private, params.as_slice(), *last, outs),
             Unit::Colour { n, rgb } => self.set_colour(*n, *rgb),
             Unit::ColourReset => self.reset_palette(),
             Unit::Ignored => {}

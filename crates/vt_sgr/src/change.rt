@@ -1,6 +1,6 @@
 //! The changes that one parameter makes to a pen.
 ghost use Rattle.std.specs.Prelude.{◌≡◌, ◌<◌};
-ghost use Rattle.vt_sgr.specs.PenState.{mapped, plain, with_bg, with_blink, with_bright, with_fg, with_intensity, with_italic, with_reverse, with_underline};
+ghost use Rattle.vt_sgr.specs.PenState.{with_mapping, plain, with_bg, with_blink, with_bright, with_fg, with_intensity, with_italic, with_reverse, with_underline};
 
 use crate::Pen;
 use vt_cells::{Attr, Intensity};
@@ -84,7 +84,7 @@ pub fn set_reverse(p: &mut Pen, on: bool)
 }
 
 pub fn set_mapping(p: &mut Pen, alt: bool, display: bool, toggle: bool)
-    ensures { p.new ≡ mapped p.old alt display toggle }
+    ensures { p.new ≡ with_mapping p.old alt display toggle }
 {
     p.alt = alt;
     p.display = display;

@@ -3,7 +3,7 @@ use Rattle.std.proofs.Common.{◌≡◌, ℕ, Bool, true, false, cond, Option, S
 use Rattle.std.specs.Prelude.{◌==◌, ◌||◌, not, IfSome}
 use Rattle.vt_switch.proofs.Lookups.{equal, named}
 use Rattle.vt_switch.specs.Acts.{Allocate, Request, Release, SetMode, SetKd, Lock, Free, End, hop_of_asked, hop_of_released}
-use Rattle.vt_switch.specs.Calls.{asked_of, inval, kept, let_go, owns}
+use Rattle.vt_switch.specs.Calls.{asked_of, inval, drop_pending, let_go, owns}
 use Rattle.vt_switch.specs.Deaths.{falls_to}
 use Rattle.vt_switch.specs.Display.{Display, console, is_allocated, owner_of}
 use Rattle.vt_switch.specs.Law.{HopsAreDue, IsDue, IsLetGo}
@@ -35,7 +35,7 @@ released_due : (d : Display) (c p arg : ℕ) (mine keeps goes knows here : Bool)
     → owns d p c ≡ mine → (arg == 1) ≡ goes → (c == d.front) ≡ here → d.pending ≡ waits
     → IfSome
     (hop_of_released
-    (cond (not mine) (Err inval) (cond keeps (kept (cond here waits None))
+    (cond (not mine) (Err inval) (cond keeps (drop_pending (cond here waits None))
     (cond goes (let_go d p (cond here waits None)) (cond knows (Ok None) (Err inval))))))
     (IsDue d (Release c p arg))
 released_due d c p arg false keeps goes knows here waits owned one front pend = tt

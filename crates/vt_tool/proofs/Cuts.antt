@@ -5,11 +5,11 @@ use Rattle.std.proofs.lemmas.Bool.{cases_lt}
 use Rattle.std.proofs.lemmas.List.{take-append-drop}
 use Rattle.vt_journal.specs.Journal.{first_words, line_text}
 use Rattle.vt_tool.specs.Commands.Cut.{BeginsLine, HasMark, IsCut, IsCutFirst, IsMarked, cert_mark}
-use Rattle.vt_tool.specs.declared.commands.cut.Mark.{Mark}
-use Rattle.vt_tool.specs.declared.commands.cut.Mark.TheVariants as mark
+use Rattle.vt_tool.specs.declared.commands.cut.CutMark.{CutMark}
+use Rattle.vt_tool.specs.declared.commands.cut.CutMark.TheVariants as mark
 
 -- a text that begins with a mark is not empty
-some : (what : Mark) (text : List ℕ) → HasMark what text → 0 < length text
+some : (what : CutMark) (text : List ℕ) → HasMark what text → 0 < length text
 some mark.Journal text (version, has) =
     omega (arith, ap length has.parts, length-append (line_text (first_words version)) has.rest, first version)
   where
@@ -18,11 +18,11 @@ some mark.Journal text (version, has) =
 some mark.Certificate text (rest, is) = omega (arith, ap length is, length-append cert_mark rest)
 
 -- no mark stands at a place before this one
-abbrev pub NoneBefore : Mark → List ℕ → ℕ → Type 0
+abbrev pub NoneBefore : CutMark → List ℕ → ℕ → Type 0
 NoneBefore what input at =
     (k : ℕ) → k < at → ¬ IsMarked what input (take k input) (drop k input)
 
-module _ (what : Mark)
+module _ (what : CutMark)
   where
     -- the place where the mark stands decides what is before it and after it
     taken : (input text after : List ℕ) → IsMarked what input text after

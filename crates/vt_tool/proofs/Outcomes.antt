@@ -19,20 +19,20 @@ use Rattle.vt_journal.specs.declared.journal.Journal.{Journal}
 use Rattle.vt_review.specs.Announcements.{review_text}
 use Rattle.vt_tool.proofs.Cuts.{one-cut}
 use Rattle.vt_tool.proofs.Setups.{one-setup, one-start}
-use Rattle.vt_tool.specs.Commands.Accept.{ComesOfCert, IsAnswered, answered}
+use Rattle.vt_tool.specs.Commands.Accept.{ComesOfCert, IsAnswered, accept_outcome}
 use Rattle.vt_tool.specs.Commands.Check.{legal_text}
 use Rattle.vt_tool.specs.Commands.Judging.{ComesOf, GivesFaultBefore, GivesMade, IsParted, IsReadAs, MakesOf, OneOutcomeOf}
 use Rattle.vt_tool.specs.Commands.Review.{ear_of}
 use Rattle.vt_tool.specs.Commands.Judged.{judged_text}
 use Rattle.vt_tool.specs.Outcome.{Outcome}
-use Rattle.vt_tool.specs.declared.commands.asked.Asked.{Asked}
-use Rattle.vt_tool.specs.declared.commands.asked.Asked.TheVariants as asked
-use Rattle.vt_tool.specs.declared.commands.cut.Mark.TheVariants as mark
+use Rattle.vt_tool.specs.declared.commands.judge_request.JudgeRequest.{JudgeRequest}
+use Rattle.vt_tool.specs.declared.commands.judge_request.JudgeRequest.TheVariants as asked
+use Rattle.vt_tool.specs.declared.commands.cut.CutMark.TheVariants as mark
 use Rattle.vt_world.specs.Laws.{moments}
 use Rattle.vt_world.specs.State.{WorldState}
 
 -- what is made of a journal is one outcome, wherever sessions begin alike
-abbrev pub OneMade : Asked → Type 0
+abbrev pub OneMade : JudgeRequest → Type 0
 OneMade asked =
     (cert : List ℕ) (s t : SessionView) (j : Journal) (a b : Outcome) → setup_of s ≡ setup_of t
     → MakesOf asked cert s j a → MakesOf asked cert t j b → a ≡ b
@@ -83,18 +83,18 @@ one-explained one_verdict one_certificate cert s t j a b same x y =
     (one-start s t same) (λ legal. x.cert (verdicts ∙ legal)) y.cert
     ∙ sym y.is
 
-one-answered : OneAcceptance → (c : List HopWhy) (s t : SessionView) (j : Journal) (a b : Outcome)
+one-accept_outcome : OneAcceptance → (c : List HopWhy) (s t : SessionView) (j : Journal) (a b : Outcome)
     → setup_of s ≡ setup_of t → IsAnswered c s j a → IsAnswered c t j b → a ≡ b
-one-answered one_acceptance c s t j a b same x y =
+one-accept_outcome one_acceptance c s t j a b same x y =
     x.is
-    ∙ ap (answered (length c))
+    ∙ ap (accept_outcome (length c))
     (one_acceptance (setup_of t) j.entries j.tail c x.judged y.judged
     (subst (λ (o : Setup). Accepts o j.entries j.tail c x.judged) same x.accepts) y.accepts)
     ∙ sym y.is
 
 one-of-cert : OneAcceptance → (said : Result (List HopWhy) ℕ) (s t : SessionView) (j : Journal)
     (a b : Outcome) → setup_of s ≡ setup_of t → ComesOfCert said s j a → ComesOfCert said t j b → a ≡ b
-one-of-cert one_acceptance (Ok c) s t j a b same x y = one-answered one_acceptance c s t j a b same x y
+one-of-cert one_acceptance (Ok c) s t j a b same x y = one-accept_outcome one_acceptance c s t j a b same x y
 one-of-cert one_acceptance (Err line) s t j a b same x y = x ∙ sym y
 
 pub one-accepted : OneAcceptance → OneCert → OneMade asked.Acceptance
@@ -105,14 +105,14 @@ one-accepted one_acceptance one_cert (b ∷ more) s t j a c same (said, says, co
     (one_cert (b ∷ more) said said' says says') comes) comes'
 
 -- what is after a session is parted in one way
-one-parted : (what : Asked) (behind a b c d : List ℕ) → IsParted what behind a b
+one-parted : (what : JudgeRequest) (behind a b c d : List ℕ) → IsParted what behind a b
     → IsParted what behind c d → (a ≡ c) × (b ≡ d)
 one-parted asked.Acceptance behind a b c d x y = one-cut mark.Certificate behind a b c d x y
 one-parted asked.Verdict behind a b c d x y = (x.0 ∙ sym y.0, x.1 ∙ sym y.1)
 one-parted (asked.Review kinds console) behind a b c d x y = (x.0 ∙ sym y.0, x.1 ∙ sym y.1)
 one-parted asked.Explanation behind a b c d x y = (x.0 ∙ sym y.0, x.1 ∙ sym y.1)
 
-module _ (one_session : OneSession) (one_value : OneValue) (one_journal : OneJournal) (what : Asked)
+module _ (one_session : OneSession) (one_value : OneValue) (one_journal : OneJournal) (what : JudgeRequest)
     (one_made : OneMade what)
   where
     one-comes : (cert : List ℕ) (s t : SessionView) (read : Result Journal JFault) (a b : Outcome)

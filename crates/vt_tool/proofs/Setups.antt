@@ -6,7 +6,7 @@ use Rattle.session_order.specs.Sessions.{setup_of, start_of}
 use Rattle.session_text.specs.Sessions.{IsSessionOf, SessionValue, SessionView}
 use Rattle.session_text.specs.declared.program.Program.{Program}
 use Rattle.vt_journal.specs.declared.limits.Limits.{Limits}
-use Rattle.vt_world.specs.Start.{opening}
+use Rattle.vt_world.specs.Start.{start_world}
 use Rattle.vt_world.specs.State.{WorldState}
 
 -- a function gives one value for seven arguments
@@ -38,7 +38,7 @@ pub record AreAlike (s t : SessionView) : Type 0 where
 pub alike-setup : (s t : SessionView) → AreAlike s t → setup_of s ≡ setup_of t
 alike-setup s t x =
     let starts : start_of s ≡ start_of t =
-    same7 opening s.config.size.rows t.config.size.rows s.config.size.cols t.config.size.cols
+    same7 start_world s.config.size.rows t.config.size.rows s.config.size.cols t.config.size.cols
     s.config.consoles t.config.consoles s.config.front t.config.front
     s.config.keyboards t.config.keyboards s.config.procs t.config.procs s.tables t.tables
     x.rows x.cols x.consoles x.front x.keyboards x.starts x.tables in

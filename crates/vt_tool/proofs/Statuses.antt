@@ -5,7 +5,7 @@ use Rattle.vt_io.specs.Stream.{Stream}
 use Rattle.vt_tool.specs.Commands.{Gives, intake_of}
 use Rattle.vt_tool.specs.Input.{ReadsAll, ReadsSome}
 use Rattle.vt_tool.specs.Run.{Answers, Holds}
-use Rattle.vt_tool.specs.Status.{is_own}
+use Rattle.vt_tool.specs.Status.{is_command_status}
 use Rattle.vt_tool.specs.Writing.{EndsGiving}
 use Rattle.vt_tool.specs.declared.answer.Answer.{Answer}
 use Rattle.vt_tool.specs.declared.command.Command.{Command}
@@ -16,7 +16,7 @@ use Rattle.vt_tool.specs.declared.status.Status.TheVariants.{Usage, ReadFault, W
 
 -- an answer that was written whole holds
 answers-hold : (command : Command) (src src' out out' : Stream) (status : Status)
-    → IsTrue (is_own status) → Answers command src src' out out' status
+    → IsTrue (is_command_status status) → Answers command src src' out out' status
     → Holds command src src' out out' status
 answers-hold command src src' out out' Usage own answers = absurd (true≢false (sym own))
 answers-hold command src src' out out' ReadFault own answers = absurd (true≢false (sym own))
@@ -35,7 +35,7 @@ reads-some NoInput src src' input read = read.0
 pub given-holds : {E : Type 0} (command : Command) (src src' out out' : Stream) (input : List ℕ)
     (answer : Result Answer E) (status : Status) → ReadsAll (intake_of command) src src' input
     → IfOk answer (λ a. Gives command input (record { status = a.status; text = a.text.bytes }))
-    → IfOk answer (λ a. IsTrue (is_own a.status)) → EndsGiving out out' answer status
+    → IfOk answer (λ a. IsTrue (is_command_status a.status)) → EndsGiving out out' answer status
     → Holds command src src' out out' status
 given-holds command src src' out out' input (Ok answer) status read gives own ends = ⊎_elim
     (λ whole.

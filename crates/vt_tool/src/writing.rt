@@ -6,7 +6,7 @@ use vt_base::NoMemory;
 use vt_io::{Failed, Sink};
 
 /// Writes what a command gives, and says how the run ends.
-pub fn give<O: Sink>(out: &mut O, answer: Result<Answer, NoMemory>) -> Status
+pub fn write_answer<O: Sink>(out: &mut O, answer: Result<Answer, NoMemory>) -> Status
     ensures { EndsGiving
         (record { told = O.held out.old; faults = O.faults out.old })
         (record { told = O.held out.new; faults = O.faults out.new }) answer result }

@@ -3,7 +3,7 @@ use Rattle.std.proofs.Common.{◌≡◌, ◌≢◌, ℕ, ◌==◌, ◌≤◌, �
 use Rattle.std.specs.Prelude.{nat_lt}
 use Rattle.std.proofs.lemmas.Bool.{and_parts, and_from, cases_Bool, cond-true, cond-false, eqb-true, lt-ltb, ltb-true, false≢true, false_from_ne_true}
 use Rattle.std.proofs.lemmas.List.{append-nil, append_assoc, length-append, length-drop, length-take-le, take-append-drop, take-append-le, take-take, take_at}
-use Rattle.vt_chars.specs.Utf8.{Begins, UnfinishedBegins, decoded, is_begun, is_well_formed}
+use Rattle.vt_chars.specs.Utf8.{Begins, UnfinishedBegins, decoding_of, is_begun, is_well_formed}
 use Rattle.vt_chars.specs.declared.decoded.Decoded.{Decoded}
 use Rattle.vt_chars.specs.declared.decoded.Decoded.TheVariants.{Character, Unfinished, Malformed}
 use Rattle.vt_units.proofs.Opens.{Goes, IsSome, Opens, alone-ends, by-test, opens-control, opens-escape}
@@ -16,15 +16,15 @@ use Rattle.vt_units.specs.declared.unit.Unit as units
 
 -- what a text in UTF-8 is, by a decoded text that isn't malformed
 module _ (law : UnfinishedBegins) where
-  formed : (w : List ℕ) (code : ℕ) → decoded w ≡ Character code → is_well_formed w ≡ true
+  formed : (w : List ℕ) (code : ℕ) → decoding_of w ≡ Character code → is_well_formed w ≡ true
   formed w code is = ⊎_elim
       (λ (whole_one : is_well_formed w ≡ true). whole_one)
       (λ (not_whole : is_well_formed w ≡ false). ⊎_elim
       (λ (begun : is_begun w ≡ true).
-      let e : decoded w ≡ Unfinished = cond-false _ _ _ not_whole ∙ cond-true _ _ _ begun in
+      let e : decoding_of w ≡ Unfinished = cond-false _ _ _ not_whole ∙ cond-true _ _ _ begun in
       absurd (let wrong : ⊥ = cc in wrong))
       (λ (not_begun : is_begun w ≡ false).
-      let e : decoded w ≡ Malformed = cond-false _ _ _ not_whole ∙ cond-false _ _ _ not_begun in
+      let e : decoding_of w ≡ Malformed = cond-false _ _ _ not_whole ∙ cond-false _ _ _ not_begun in
       absurd (let wrong : ⊥ = cc in wrong))
       (cases_Bool (is_begun w)))
       (cases_Bool (is_well_formed w))
@@ -32,8 +32,8 @@ module _ (law : UnfinishedBegins) where
   some-more : (x : ℕ) (xs : List ℕ) → x ∷ xs ≢ []
   some-more x xs e = cc
 
-  prefix-by : (d : Decoded) (t : List ℕ) (x : ℕ) (xs : List ℕ) → decoded (t ++ x ∷ xs) ≡ d → d ≢ Malformed
-      → t ≢ [] → decoded t ≡ Unfinished
+  prefix-by : (d : Decoded) (t : List ℕ) (x : ℕ) (xs : List ℕ) → decoding_of (t ++ x ∷ xs) ≡ d → d ≢ Malformed
+      → t ≢ [] → decoding_of t ≡ Unfinished
   prefix-by (Character code) t x xs is well some =
       (law t).1 (some, (x ∷ xs, some-more x xs, formed (t ++ x ∷ xs) code is))
   prefix-by Unfinished t x xs is well some =
@@ -55,13 +55,13 @@ module _ (law : UnfinishedBegins) where
   not-malformed a (b ∷ more) d some is e = subst (λ x. IsSome (character_reading (a ∷ b ∷ more) x)) e is
 
   opens-decoded : (a : ℕ) (p : List ℕ) (x : ℕ) (xs : List ℕ)
-      → IsSome (character_reading (a ∷ p ++ x ∷ xs) (decoded (a ∷ p ++ x ∷ xs)))
-      → Goes (character_reading (a ∷ p) (decoded (a ∷ p)))
+      → IsSome (character_reading (a ∷ p ++ x ∷ xs) (decoding_of (a ∷ p ++ x ∷ xs)))
+      → Goes (character_reading (a ∷ p) (decoding_of (a ∷ p)))
   opens-decoded a p x xs is =
-      let well : decoded (a ∷ p ++ x ∷ xs) ≢ Malformed =
-      not-malformed a (p ++ x ∷ xs) (decoded (a ∷ p ++ x ∷ xs)) (behind-some p) is in
-      let begun : decoded (a ∷ p) ≡ Unfinished =
-      prefix-by (decoded (a ∷ p ++ x ∷ xs)) (a ∷ p) x xs refl well (some-more a p) in
+      let well : decoding_of (a ∷ p ++ x ∷ xs) ≢ Malformed =
+      not-malformed a (p ++ x ∷ xs) (decoding_of (a ∷ p ++ x ∷ xs)) (behind-some p) is in
+      let begun : decoding_of (a ∷ p) ≡ Unfinished =
+      prefix-by (decoding_of (a ∷ p ++ x ∷ xs)) (a ∷ p) x xs refl well (some-more a p) in
       subst (λ d. Goes (character_reading (a ∷ p) d)) (sym begun) tt
     where
       behind-some : (q : List ℕ) → q ++ x ∷ xs ≢ []

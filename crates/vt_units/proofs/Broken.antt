@@ -1,7 +1,7 @@
 -- Bytes that go on with a text, and bytes that end it.
 use Rattle.std.proofs.Common.{◌≡◌, ◌⊎◌, ℕ, ◌==◌, Bool, true, false, cond, List, [], ◌∷◌, ◌++◌, refl, sym, ◌∙◌, subst, ⊎_elim}
 use Rattle.std.proofs.lemmas.Bool.{cases_Bool, cond-true, or_from, or_parts, not_from_false}
-use Rattle.vt_chars.specs.Utf8.{decoded}
+use Rattle.vt_chars.specs.Utf8.{decoding_of}
 use Rattle.vt_chars.specs.declared.decoded.Decoded.{Decoded}
 use Rattle.vt_chars.specs.declared.decoded.Decoded.TheVariants.{Character, Unfinished, Malformed}
 use Rattle.vt_units.proofs.Follows.{After, admits, admits_command, string_next}
@@ -23,7 +23,7 @@ one-some m b =
     some-cond (b == 0x1B) (escape_text m []) _ tt
     (some-cond (is_csi m b) (control_text m []) _ tt
     (some-cond (is_control m b) (alone [] (whole (units.Unit.Control b))) _ tt
-    (some-cond (decodes m) (character_text m (b ∷ [])) (alone [] (whole (byte_unit m b))) (by (decoded (b ∷ []))) tt)))
+    (some-cond (decodes m) (character_text m (b ∷ [])) (alone [] (whole (byte_unit m b))) (by (decoding_of (b ∷ []))) tt)))
   where
     by : (d : Decoded) → IsSome (character_reading (b ∷ []) d)
     by (Character code) = tt

@@ -7,26 +7,26 @@ use Rattle.std.proofs.lemmas.List.{append-nil, append_assoc, length-append, leng
 use Rattle.vt_chars.specs.Utf8.{within}
 use Rattle.vt_units.proofs.Follows.{admits}
 use Rattle.vt_units.proofs.Fronts.{each-push}
-use Rattle.vt_units.proofs.Joined.{took-joined}
-use Rattle.vt_units.proofs.Numbered.{each-all, each-map, front-behind, front-each}
+use Rattle.vt_units.proofs.Joined.{byte_outcome-outcome_of_text}
+use Rattle.vt_units.proofs.Numbered.{each-all, each-map, longest_prefix-after_prefix, longest_prefix-each}
 use Rattle.vt_units.proofs.Readings.{control-whole, control-body, control-ends, empty-is, escape-ends, escape-mid, short-reading}
-use Rattle.vt_units.specs.Ahead.{Sequence, control_ahead, ends_control, ends_escape, escape_ahead, mid_ahead, numbers_ahead, numbers_end, opened_ahead, sequence_ahead}
-use Rattle.vt_units.specs.Answer.{Settled, Taken, answer, joined_by, kept, rest_after, settled, settled_by, taken, took}
+use Rattle.vt_units.specs.WholeSequence.{Sequence, control_ahead, ends_control, ends_escape, escape_ahead, mid_ahead, numbers_ahead, numbers_end, opened_ahead, sequence_ahead}
+use Rattle.vt_units.specs.Answer.{RestBefore, ByteOutcome, answer, outcome_by_reading, unbroken_rest, rest_after, rest_before, rest_before_by, make_outcome, byte_outcome}
 use Rattle.vt_units.specs.Bytes.{acts, interrupts, is_body, is_mid, opens_string}
 use Rattle.vt_units.specs.Laws.{ComeTo, IsUnitOf, SequencesAreUnits}
 use Rattle.vt_units.specs.Numbers.{params_of}
-use Rattle.vt_units.specs.Reading.{Reading, behind, front, is_empty, reading, sequence, text_reading, unfinished, whole}
+use Rattle.vt_units.specs.Reading.{Reading, after_prefix, longest_prefix, is_empty, reading, sequence, text_reading, unfinished, whole}
 use Rattle.vt_units.specs.Rest.{Rest, fresh}
 use Rattle.vt_units.specs.Sequences.{control_unit, is_parameter, numbered_unit}
-use Rattle.vt_units.specs.Stage.{Each, rest_of}
+use Rattle.vt_units.specs.ParserState.{Each, rest_of}
 use Rattle.vt_units.specs.declared.mode.Mode.{Mode}
 use Rattle.vt_units.specs.declared.read.Read.{Read}
 use Rattle.vt_units.specs.declared.then.Then as then
 use Rattle.vt_units.specs.declared.unit.Unit as units
 use Rattle.vt_units.specs.declared.unit.Unit.TheVariants.{Esc, Csi}
 
-abbrev answer_of : Settled → ℕ → Read
-answer_of s b = record { bad = s.bad; got = (took s.rest b).got }
+abbrev answer_of : RestBefore → ℕ → Read
+answer_of s b = record { bad = s.bad; got = (byte_outcome s.rest b).got }
 
 -- a byte that is admitted neither acts nor interrupts nor is DEL
 pub admitted-quiet : (m : Mode) (b : ℕ) → admits b ≡ true
@@ -42,24 +42,24 @@ admitted-quiet m b is =
 abbrev pub Gives : Mode → Rest → ℕ → then.Then → Rest → Type 0
 Gives m old b got new = (answer old m b ≡ record { bad = false; got = got }) × (rest_after old m b ≡ new)
 
-pub gives : (m : Mode) (old before : Rest) (b : ℕ) (all : Taken) → settled old m b ≡ kept before → took before b ≡ all
+pub gives : (m : Mode) (old before : Rest) (b : ℕ) (all : ByteOutcome) → rest_before old m b ≡ unbroken_rest before → byte_outcome before b ≡ all
     → Gives m old b all.got all.rest
 gives m old before b all left is = (
-  ap (λ (s : Settled). answer_of s b) left ∙ ap (λ (t : Taken). record { bad = false; got = t.got }) is,
-  ap (λ (s : Settled). (took s.rest b).rest) left ∙ ap (λ (t : Taken). t.rest) is,
+  ap (λ (s : RestBefore). answer_of s b) left ∙ ap (λ (t : ByteOutcome). record { bad = false; got = t.got }) is,
+  ap (λ (s : RestBefore). (byte_outcome s.rest b).rest) left ∙ ap (λ (t : ByteOutcome). t.rest) is,
 )
 
 -- behind a sequence a byte that is admitted joins it
 gives-inside : (m : Mode) (t : List ℕ) (b : ℕ) (r : Reading) → length t ≤ 256
     → text_reading m t ≡ unfinished sequence → admits b ≡ true → reading m (t ++ b ∷ []) ≡ r
-    → Gives m (rest_of m t) b (joined_by r (rest_of m t) b).got (joined_by r (rest_of m t) b).rest
+    → Gives m (rest_of m t) b (outcome_by_reading r (rest_of m t) b).got (outcome_by_reading r (rest_of m t) b).rest
 gives-inside m t b r bound is admitted next =
     let quiet = admitted-quiet m b admitted in
-    let left : settled (rest_of m t) m b ≡ kept (rest_of m t) =
-    ap (λ (now : Reading). settled_by now (rest_of m t) m b) (short-reading m t bound ∙ is)
-    ∙ ap kept (cond-false _ _ _ quiet.1) in
-    gives m (rest_of m t) (rest_of m t) b (joined_by r (rest_of m t) b) left
-    (took-joined m t b bound sequence is quiet.0 quiet.2 ∙ ap (λ (now : Reading). joined_by now (rest_of m t) b) next)
+    let left : rest_before (rest_of m t) m b ≡ unbroken_rest (rest_of m t) =
+    ap (λ (now : Reading). rest_before_by now (rest_of m t) m b) (short-reading m t bound ∙ is)
+    ∙ ap unbroken_rest (cond-false _ _ _ quiet.1) in
+    gives m (rest_of m t) (rest_of m t) b (outcome_by_reading r (rest_of m t) b) left
+    (byte_outcome-outcome_of_text m t b bound sequence is quiet.0 quiet.2 ∙ ap (λ (now : Reading). outcome_by_reading now (rest_of m t) b) next)
 
 come-more : (u : units.Unit) (m : Mode) (old new : Rest) (b : ℕ) (bytes : List ℕ) → Gives m old b then.Then.More new
     → ComeTo u m new bytes → ComeTo u m old (b ∷ bytes)
@@ -71,10 +71,10 @@ come-more u m old new b (c ∷ bytes) quiet comes =
 come-escape : (u : units.Unit) (m : Mode) (old : Rest) (bytes : List ℕ) → old.text ≡ []
     → ComeTo u m (rest_of m (0x1B ∷ [])) bytes → ComeTo u m old (0x1B ∷ bytes)
 come-escape u m old bytes nothing comes =
-    let left : settled old m 0x1B ≡ kept (fresh m) =
-    ap (λ t. settled_by (reading old.mode t) old m 0x1B) nothing in
+    let left : rest_before old m 0x1B ≡ unbroken_rest (fresh m) =
+    ap (λ t. rest_before_by (reading old.mode t) old m 0x1B) nothing in
     come-more u m old (rest_of m (0x1B ∷ [])) 0x1B bytes
-    (gives m old (fresh m) 0x1B (taken then.Then.More (rest_of m (0x1B ∷ []))) left refl) comes
+    (gives m old (fresh m) 0x1B (make_outcome then.Then.More (rest_of m (0x1B ∷ []))) left refl) comes
 
 -- behind ESC [ and a body
 abbrev behind_csi : List ℕ → List ℕ
@@ -209,12 +209,12 @@ record HasNumbers (private : Bool) (before : ℕ) (text : List ℕ) (s : Sequenc
 
 numbers-found : (private : Bool) (before : ℕ) (text : List ℕ) (s : Sequence)
     → numbers_ahead private before text ≡ Some s → HasNumbers private before text s
-numbers-found private before text s found = by (behind is_parameter text) (front-behind is_parameter text) found
+numbers-found private before text s found = by (after_prefix is_parameter text) (longest_prefix-after_prefix is_parameter text) found
   where
     numbers : List ℕ
-    numbers = front is_parameter text
+    numbers = longest_prefix is_parameter text
 
-    by : (after : List ℕ) → text ≡ front is_parameter text ++ after → numbers_end private before (front is_parameter text) after ≡ Some s
+    by : (after : List ℕ) → text ≡ longest_prefix is_parameter text ++ after → numbers_end private before (longest_prefix is_parameter text) after ≡ Some s
         → HasNumbers private before text s
     by [] is same = absurd (let e : ⊥ = cc in e)
     by (last ∷ more) is same = ⊎_elim
@@ -223,7 +223,7 @@ numbers-found private before text s found = by (behind is_parameter text) (front
           last = last;
           more = more;
           is = is;
-          passes = front-each is_parameter text;
+          passes = longest_prefix-each is_parameter text;
           ends = ends;
           found = let e : Some s ≡ Some (record { unit = Csi private (params_of numbers) last; count = before + length numbers + 1 }) =
               sym same ∙ cond-true _ _ _ ends in cc;

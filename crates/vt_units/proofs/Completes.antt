@@ -2,15 +2,15 @@
 use Rattle.std.proofs.Common.{◌≡◌, ◌≢◌, ◌↔◌, ℕ, ◌==◌, ◌≤◌, Bool, true, false, cond, ◌&&◌, List, [], ◌∷◌, ◌++◌, length, drop, refl, sym, ap, ◌∙◌, subst, arith, ⊎_elim, inl, inr}
 use Rattle.std.proofs.lemmas.Bool.{and_parts, cases_Bool, cond-true, cond-false, eqb-true, false≢true}
 use Rattle.std.proofs.lemmas.List.{append_assoc}
-use Rattle.vt_chars.specs.Utf8.{Begins, UnfinishedBegins, code_of, decoded, is_well_formed, within}
+use Rattle.vt_chars.specs.Utf8.{Begins, UnfinishedBegins, code_of, decoding_of, is_well_formed, within}
 use Rattle.vt_chars.specs.declared.decoded.Decoded.{Decoded}
 use Rattle.vt_chars.specs.declared.decoded.Decoded.TheVariants.{Character, Unfinished, Malformed}
 use Rattle.vt_units.proofs.Begun.{before-unfinished}
-use Rattle.vt_units.proofs.Joined.{character-text, decoded-begun}
+use Rattle.vt_units.proofs.Joined.{character-text, decoding_of-begun}
 use Rattle.vt_units.proofs.Readings.{introduced, short-reading}
 use Rattle.vt_units.proofs.Steps.{follows-reading, within-bound}
 use Rattle.vt_units.specs.Bytes.{decodes, is_control, is_body, is_csi, is_digit, is_hex, is_mid, is_swallowed, opens_string}
-use Rattle.vt_units.specs.Reading.{Kind, Reading, unfinished, character, sequence, command, string, string_end, whole, dropped, none, alone, begins_csi, behind, bracket_text, byte_unit, character_reading, character_text, character_unit, command_text, control_ends, control_text, escape_ends, escape_text, front, is_empty, palette_ends, reading, refused, refused_command, string_ends, string_tail, text_reading}
+use Rattle.vt_units.specs.Reading.{Kind, Reading, unfinished, character, sequence, command, string, string_end, whole, dropped, none, alone, begins_csi, after_prefix, bracket_text, byte_unit, character_reading, character_text, character_unit, command_text, control_ends, control_text, escape_ends, escape_text, longest_prefix, is_empty, palette_ends, reading, dropped_or_none, dropped_or_none_command, string_ends, string_tail, text_reading}
 use Rattle.vt_units.specs.Sequences.{escape_unit}
 use Rattle.vt_units.specs.Units.{Before, IsUnfinished, Spells}
 use Rattle.vt_units.specs.declared.mode.Mode.{Mode}
@@ -38,20 +38,20 @@ other-alone (y ∷ ys) r is = other-none
 other-whole : (u : units.Unit) → IsOther (whole u)
 other-whole u e = cc
 
-other-refused : (m : Mode) (b : ℕ) → IsOther (refused m b)
-other-refused m b = other-cond _ dropped none (λ e. cc) (λ e. cc)
+other-dropped_or_none : (m : Mode) (b : ℕ) → IsOther (dropped_or_none m b)
+other-dropped_or_none m b = other-cond _ dropped none (λ e. cc) (λ e. cc)
 
-other-refused-command : (m : Mode) (b : ℕ) → IsOther (refused_command m b)
-other-refused-command m b = other-cond _ dropped none (λ e. cc) (λ e. cc)
+other-dropped_or_none_command : (m : Mode) (b : ℕ) → IsOther (dropped_or_none_command m b)
+other-dropped_or_none_command m b = other-cond _ dropped none (λ e. cc) (λ e. cc)
 
 other-bracket : (m : Mode) (t : List ℕ) → IsOther (bracket_text m t)
 other-bracket m [] = λ e. cc
-other-bracket m (y ∷ ys) = other-alone ys _ (other-cond _ _ _ (other-whole Ignored) (other-refused m y))
+other-bracket m (y ∷ ys) = other-alone ys _ (other-cond _ _ _ (other-whole Ignored) (other-dropped_or_none m y))
 
 other-control : (m : Mode) (q t : List ℕ) → IsOther (control_ends m q t)
 other-control m q [] = λ e. cc
 other-control m q (y ∷ ys) = other-cond _ _ _ (other-bracket m ys)
-    (other-alone ys _ (other-cond _ _ _ (other-whole _) (other-refused m y)))
+    (other-alone ys _ (other-cond _ _ _ (other-whole _) (other-dropped_or_none m y)))
 
 other-tail : (t : List ℕ) → IsOther (string_tail t)
 other-tail [] = λ e. cc
@@ -63,20 +63,20 @@ other-string (y ∷ ys) = other-cond _ _ _ (other-tail ys) (other-alone ys _ (ot
 
 other-palette : (m : Mode) (q t : List ℕ) → IsOther (palette_ends m q t)
 other-palette m q [] = other-cond _ _ _ other-going (other-cond _ _ _ (other-whole _) other-none)
-other-palette m q (y ∷ ys) = other-cond _ _ _ (other-alone ys _ (other-refused-command m y)) other-none
+other-palette m q (y ∷ ys) = other-cond _ _ _ (other-alone ys _ (other-dropped_or_none_command m y)) other-none
 
 other-command : (m : Mode) (t : List ℕ) → IsOther (command_text m t)
 other-command m [] = λ e. cc
-other-command m (y ∷ ys) = other-cond (is_digit y) _ _ (other-string (behind is_swallowed ys))
-    (other-cond (y == 0x50) _ _ (other-palette m (front is_hex ys) (behind is_hex ys))
-    (other-alone ys _ (other-cond (y == 0x52) _ _ (other-whole ColourReset) (other-refused-command m y))))
+other-command m (y ∷ ys) = other-cond (is_digit y) _ _ (other-string (after_prefix is_swallowed ys))
+    (other-cond (y == 0x50) _ _ (other-palette m (longest_prefix is_hex ys) (after_prefix is_hex ys))
+    (other-alone ys _ (other-cond (y == 0x52) _ _ (other-whole ColourReset) (other-dropped_or_none_command m y))))
 
 other-escape : (m : Mode) (q t : List ℕ) → IsOther (escape_ends m q t)
 other-escape m q [] = λ e. cc
-other-escape m q (y ∷ ys) = other-cond (is_empty q && opens_string y) _ _ (other-string (behind is_swallowed ys))
-    (other-cond (is_empty q && y == 0x5B) _ _ (other-control m (front is_body ys) (behind is_body ys))
+other-escape m q (y ∷ ys) = other-cond (is_empty q && opens_string y) _ _ (other-string (after_prefix is_swallowed ys))
+    (other-cond (is_empty q && y == 0x5B) _ _ (other-control m (longest_prefix is_body ys) (after_prefix is_body ys))
     (other-cond (is_empty q && y == 0x5D) _ _ (other-command m ys)
-    (other-alone ys _ (other-cond (within 0x30 0x7E y) _ _ (other-whole (escape_unit q y)) (other-refused m y)))))
+    (other-alone ys _ (other-cond (within 0x30 0x7E y) _ _ (other-whole (escape_unit q y)) (other-dropped_or_none m y)))))
 
 -- the beginning of a character is unfinished UTF-8
 by-test-other : (c : Bool) (a b : Reading) → IsOther a → cond c a b ≡ unfinished character
@@ -84,25 +84,25 @@ by-test-other : (c : Bool) (a b : Reading) → IsOther a → cond c a b ≡ unfi
 by-test-other true a b other is = absurd (other is)
 by-test-other false a b other is = (refl, is)
 
-decoded-unfinished : (w : List ℕ) (d : Decoded) → character_reading w d ≡ unfinished character → d ≡ Unfinished
-decoded-unfinished w (Character code) is = absurd (other-whole _ is)
-decoded-unfinished w Unfinished is = refl
-decoded-unfinished w Malformed is = absurd (other-alone _ _ (other-whole _) is)
+decoding_of-unfinished : (w : List ℕ) (d : Decoded) → character_reading w d ≡ unfinished character → d ≡ Unfinished
+decoding_of-unfinished w (Character code) is = absurd (other-whole _ is)
+decoding_of-unfinished w Unfinished is = refl
+decoding_of-unfinished w Malformed is = absurd (other-alone _ _ (other-whole _) is)
 
 pub part-of : (m : Mode) (t : List ℕ) → text_reading m t ≡ unfinished character
-    → (decodes m ≡ true) × (decoded t ≡ Unfinished)
+    → (decodes m ≡ true) × (decoding_of t ≡ Unfinished)
 part-of m [] is = absurd (let wrong : ⊥ = cc in wrong)
 part-of m (a ∷ p) is =
-    let one : ((a == 0x1B) ≡ false) × (cond (is_csi m a) (control_text m p) (cond (is_control m a) (alone p (whole (units.Unit.Control a))) (cond (decodes m) (character_text m (a ∷ p)) (alone p (whole (byte_unit m a))))) ≡ unfinished character) = by-test-other (a == 0x1B) (escape_text m p) _ (other-escape m (front is_mid p) (behind is_mid p)) is in
-    let two : (is_csi m a ≡ false) × (cond (is_control m a) (alone p (whole (units.Unit.Control a))) (cond (decodes m) (character_text m (a ∷ p)) (alone p (whole (byte_unit m a)))) ≡ unfinished character) = by-test-other (is_csi m a) (control_text m p) _ (other-control m (front is_body p) (behind is_body p)) one.1 in
+    let one : ((a == 0x1B) ≡ false) × (cond (is_csi m a) (control_text m p) (cond (is_control m a) (alone p (whole (units.Unit.Control a))) (cond (decodes m) (character_text m (a ∷ p)) (alone p (whole (byte_unit m a))))) ≡ unfinished character) = by-test-other (a == 0x1B) (escape_text m p) _ (other-escape m (longest_prefix is_mid p) (after_prefix is_mid p)) is in
+    let two : (is_csi m a ≡ false) × (cond (is_control m a) (alone p (whole (units.Unit.Control a))) (cond (decodes m) (character_text m (a ∷ p)) (alone p (whole (byte_unit m a)))) ≡ unfinished character) = by-test-other (is_csi m a) (control_text m p) _ (other-control m (longest_prefix is_body p) (after_prefix is_body p)) one.1 in
     let three : (is_control m a ≡ false) × (cond (decodes m) (character_text m (a ∷ p)) (alone p (whole (byte_unit m a))) ≡ unfinished character) = by-test-other (is_control m a) (alone p (whole (units.Unit.Control a))) _ (other-alone p _ (other-whole (units.Unit.Control a))) two.1 in
     ⊎_elim
     (λ (decoding : decodes m ≡ true).
     let text : character_text m (a ∷ p) ≡ unfinished character = sym (cond-true _ _ _ decoding) ∙ three.1 in (
       decoding,
-      decoded-unfinished (a ∷ p) (decoded (a ∷ p))
+      decoding_of-unfinished (a ∷ p) (decoding_of (a ∷ p))
           (by-test-other (begins_csi (a ∷ p)) (control_text m (drop 2 (a ∷ p))) _
-          (other-control m (front is_body (drop 2 (a ∷ p))) (behind is_body (drop 2 (a ∷ p)))) text).1,
+          (other-control m (longest_prefix is_body (drop 2 (a ∷ p))) (after_prefix is_body (drop 2 (a ∷ p)))) text).1,
     ))
     (λ (bytes : decodes m ≡ false).
     absurd (other-alone p _ (other-whole (byte_unit m a)) (sym (cond-false _ _ _ bytes) ∙ three.1)))
@@ -140,14 +140,14 @@ not-nothing m t k is nothing =
     let wrong : ⊥ = cc in wrong
 
 -- a character with the rest of its bytes, and CSI with a byte that drops it
-completed : (m : Mode) (t : List ℕ) (x : ℕ) (xs : List ℕ) → decodes m ≡ true → decoded t ≡ Unfinished
+completed : (m : Mode) (t : List ℕ) (x : ℕ) (xs : List ℕ) → decodes m ≡ true → decoding_of t ≡ Unfinished
     → is_well_formed (t ++ x ∷ xs) ≡ true
     → (y : ℕ) × (ys : List ℕ) × (u : units.Unit) × Spells m (t ++ y ∷ ys) u
 completed m t x xs decoding is well =
     let w : List ℕ = t ++ x ∷ xs in
     let short : length (t ++ x ∷ xs) ≤ 4 = formed-short (t ++ x ∷ xs) well in
     let text : reading m (t ++ x ∷ xs) ≡ character_text m (t ++ x ∷ xs) =
-    short-reading m (t ++ x ∷ xs) (omega arith) ∙ character-text m t (x ∷ xs) decoding (decoded-begun t is) in
+    short-reading m (t ++ x ∷ xs) (omega arith) ∙ character-text m t (x ∷ xs) decoding (decoding_of-begun t is) in
     ⊎_elim
     (λ (csi : begins_csi (t ++ x ∷ xs) ≡ true).
     let two : t ++ x ∷ xs ≡ 0xC2 ∷ 0x9B ∷ [] = csi-only (t ++ x ∷ xs) well csi in
@@ -173,11 +173,11 @@ completes law m t string is = (0x18, [], Ignored, inl (follows-reading m 0x18 t 
 completes law m t string_end is = (0x5C, [], Ignored, inl (follows-reading m 0x5C t string_end is))
 completes law m t character is =
     let text : text_reading m t ≡ unfinished character = (within-bound m t character is).1 in
-    let p : (decodes m ≡ true) × (decoded t ≡ Unfinished) = part-of m t text in
+    let p : (decodes m ≡ true) × (decoding_of t ≡ Unfinished) = part-of m t text in
     let begins : Begins t = ((law t).0 p.1).1 in
     more-of begins.0 p.0 p.1 begins.1 begins.2
   where
-    more-of : (more : List ℕ) → decodes m ≡ true → decoded t ≡ Unfinished → more ≢ []
+    more-of : (more : List ℕ) → decodes m ≡ true → decoding_of t ≡ Unfinished → more ≢ []
         → is_well_formed (t ++ more) ≡ true
         → (y : ℕ) × (ys : List ℕ) × (u : units.Unit) × Spells m (t ++ y ∷ ys) u
     more-of [] decoding part some well = absurd (some refl)

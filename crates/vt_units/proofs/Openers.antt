@@ -4,16 +4,16 @@ use Rattle.std.specs.Prelude.{nat_lt}
 use Rattle.std.proofs.lemmas.Bool.{and_parts, cases_Bool, cond-true, cond-false, eqb-true, false≢true}
 use Rattle.std.proofs.lemmas.Bool.Decides.{nat_tests}
 use Rattle.std.proofs.lemmas.List.{append-nil}
-use Rattle.vt_chars.specs.Utf8.{decoded, within}
+use Rattle.vt_chars.specs.Utf8.{decoding_of, within}
 use Rattle.vt_chars.specs.declared.decoded.Decoded.{Decoded}
 use Rattle.vt_chars.specs.declared.decoded.Decoded.TheVariants.{Character, Unfinished, Malformed}
-use Rattle.vt_units.proofs.Fronts.{IsCut, behind-pass, behind-stop, cut, front-stop}
+use Rattle.vt_units.proofs.Fronts.{IsCut, after_prefix-pass, after_prefix-stop, cut, longest_prefix-stop}
 use Rattle.vt_units.proofs.Readings.{empty-is}
 use Rattle.vt_units.proofs.Steps.{within-bound}
 use Rattle.vt_units.specs.Bytes.{decodes, is_body, is_control, is_csi, is_digit, is_hex, is_mid, opens_string}
-use Rattle.vt_units.specs.Reading.{Kind, Reading, unfinished, sequence, command, string, string_end, whole, dropped, none, alone, begins_csi, behind, bracket_text, byte_unit, character_reading, command_text, control_ends, control_text, escape_ends, escape_text, front, is_empty, palette_ends, palette_text, reading, refused, refused_command, string_text, text_reading}
+use Rattle.vt_units.specs.Reading.{Kind, Reading, unfinished, sequence, command, string, string_end, whole, dropped, none, alone, begins_csi, after_prefix, bracket_text, byte_unit, character_reading, command_text, control_ends, control_text, escape_ends, escape_text, longest_prefix, is_empty, palette_ends, palette_text, reading, dropped_or_none, dropped_or_none_command, string_text, text_reading}
 use Rattle.vt_units.specs.Sequences.{colour_unit, control_unit, escape_unit}
-use Rattle.vt_units.specs.Stage.{Each, IsOpener}
+use Rattle.vt_units.specs.ParserState.{Each, IsOpener}
 use Rattle.vt_units.specs.declared.mode.Mode.{Mode}
 use Rattle.vt_units.specs.declared.unit.Unit as units
 
@@ -31,28 +31,28 @@ out-alone : (ys : List ℕ) (r : Reading) → in_string r ≡ false → in_strin
 out-alone [] r is = is
 out-alone (y ∷ ys) r is = refl
 
-out-refused : (m : Mode) (b : ℕ) → in_string (refused m b) ≡ false
-out-refused m b = out-cond _ dropped none refl refl
+out-dropped_or_none : (m : Mode) (b : ℕ) → in_string (dropped_or_none m b) ≡ false
+out-dropped_or_none m b = out-cond _ dropped none refl refl
 
-out-refused-command : (m : Mode) (b : ℕ) → in_string (refused_command m b) ≡ false
-out-refused-command m b = out-cond _ dropped none refl refl
+out-dropped_or_none_command : (m : Mode) (b : ℕ) → in_string (dropped_or_none_command m b) ≡ false
+out-dropped_or_none_command m b = out-cond _ dropped none refl refl
 
 out-bracket : (m : Mode) (t : List ℕ) → in_string (bracket_text m t) ≡ false
 out-bracket m [] = refl
-out-bracket m (y ∷ ys) = out-alone ys _ (out-cond (within 0x20 0x7E y) (whole units.Unit.Ignored) (refused m y) refl (out-refused m y))
+out-bracket m (y ∷ ys) = out-alone ys _ (out-cond (within 0x20 0x7E y) (whole units.Unit.Ignored) (dropped_or_none m y) refl (out-dropped_or_none m y))
 
 out-control : (m : Mode) (q t : List ℕ) → in_string (control_ends m q t) ≡ false
 out-control m q [] = refl
 out-control m q (y ∷ ys) = out-cond (is_empty q && y == 0x5B) _ _ (out-bracket m ys)
-    (out-alone ys _ (out-cond (within 0x40 0x7E y) (whole (control_unit q y)) (refused m y) refl (out-refused m y)))
+    (out-alone ys _ (out-cond (within 0x40 0x7E y) (whole (control_unit q y)) (dropped_or_none m y) refl (out-dropped_or_none m y)))
 
 out-palette : (m : Mode) (q t : List ℕ) → in_string (palette_ends m q t) ≡ false
 out-palette m q [] =
     out-cond (nat_lt (length q) 7) (unfinished command) (cond (length q == 7) (whole (colour_unit q)) none) refl
     (out-cond (length q == 7) (whole (colour_unit q)) none refl refl)
 out-palette m q (y ∷ ys) =
-    out-cond (nat_lt (length q) 7) (alone ys (refused_command m y)) none
-    (out-alone ys (refused_command m y) (out-refused-command m y)) refl
+    out-cond (nat_lt (length q) 7) (alone ys (dropped_or_none_command m y)) none
+    (out-alone ys (dropped_or_none_command m y) (out-dropped_or_none_command m y)) refl
 
 out-character : (w : List ℕ) (d : Decoded) → in_string (character_reading w d) ≡ false
 out-character w (Character code) = refl
@@ -80,8 +80,8 @@ command-opener m (d ∷ p) is = ⊎_elim
     })
     (λ (other : is_digit d ≡ false).
     absurd (false≢true (sym (ap in_string (cond-false _ _ _ other)
-    ∙ out-cond (d == 0x50) (palette_text m p) _ (out-palette m (front is_hex p) (behind is_hex p))
-    (out-alone p _ (out-cond (d == 0x52) (whole units.Unit.ColourReset) (refused_command m d) refl (out-refused-command m d))))
+    ∙ out-cond (d == 0x50) (palette_text m p) _ (out-palette m (longest_prefix is_hex p) (after_prefix is_hex p))
+    (out-alone p _ (out-cond (d == 0x52) (whole units.Unit.ColourReset) (dropped_or_none_command m d) refl (out-dropped_or_none_command m d))))
     ∙ is)))
     (cases_Bool (is_digit d))
 
@@ -89,14 +89,14 @@ escape-opener : (m : Mode) (p : List ℕ) → in_string (escape_text m p) ≡ tr
     → HasOpener (0x1B ∷ p) (escape_text m p)
 escape-opener m p is = ⊎_elim
     (λ (passes : Each is_mid p).
-    let nothing : behind is_mid p ≡ [] = ap (behind is_mid) (sym (append-nil p)) ∙ behind-pass is_mid p [] passes in
-    let here : escape_text m p ≡ unfinished sequence = ap (escape_ends m (front is_mid p)) nothing in
+    let nothing : after_prefix is_mid p ≡ [] = ap (after_prefix is_mid) (sym (append-nil p)) ∙ after_prefix-pass is_mid p [] passes in
+    let here : escape_text m p ≡ unfinished sequence = ap (escape_ends m (longest_prefix is_mid p)) nothing in
     absurd (false≢true (sym (ap in_string here) ∙ is)))
     (λ (c : IsCut is_mid p).
     let here : escape_text m p ≡ escape_ends m c.before (c.stop ∷ c.after) =
     ap (escape_text m) c.is
-    ∙ (λ i. escape_ends m (front-stop is_mid c.before c.stop c.after c.passes c.stops i)
-    (behind-stop is_mid c.before c.stop c.after c.passes c.stops i)) in
+    ∙ (λ i. escape_ends m (longest_prefix-stop is_mid c.before c.stop c.after c.passes c.stops i)
+    (after_prefix-stop is_mid c.before c.stop c.after c.passes c.stops i)) in
     let cut_in : in_string (escape_ends m c.before (c.stop ∷ c.after)) ≡ true = ap in_string (sym here) ∙ is in
     subst (HasOpener (0x1B ∷ p)) (sym here)
     (subst (λ xs. HasOpener (0x1B ∷ xs) (escape_ends m c.before (c.stop ∷ c.after))) (sym c.is)
@@ -130,14 +130,14 @@ escape-opener m p is = ⊎_elim
         (λ (first : (is_empty q && opens_string y) ≡ false). ⊎_elim
         (λ (second : (is_empty q && y == 0x5B) ≡ true).
         absurd (false≢true (sym (ap in_string (cond-false _ _ _ first ∙ cond-true _ _ _ second)
-        ∙ out-control m (front is_body ys) (behind is_body ys)) ∙ inside)))
+        ∙ out-control m (longest_prefix is_body ys) (after_prefix is_body ys)) ∙ inside)))
         (λ (second : (is_empty q && y == 0x5B) ≡ false). ⊎_elim
         (λ (third : (is_empty q && y == 0x5D) ≡ true).
         opener-command q y ys (escape_ends m q (y ∷ ys)) third
         (sym (cond-false _ _ _ first ∙ cond-false _ _ _ second ∙ cond-true _ _ _ third)) inside)
         (λ (third : (is_empty q && y == 0x5D) ≡ false).
         absurd (false≢true (sym (ap in_string (cond-false _ _ _ first ∙ cond-false _ _ _ second ∙ cond-false _ _ _ third)
-        ∙ out-alone ys _ (out-cond (within 0x30 0x7E y) (whole (escape_unit q y)) (refused m y) refl (out-refused m y))) ∙ inside)))
+        ∙ out-alone ys _ (out-cond (within 0x30 0x7E y) (whole (escape_unit q y)) (dropped_or_none m y) refl (out-dropped_or_none m y))) ∙ inside)))
         (cases_Bool (is_empty q && y == 0x5D)))
         (cases_Bool (is_empty q && y == 0x5B)))
         (cases_Bool (is_empty q && opens_string y))
@@ -152,12 +152,12 @@ text-opener m (a ∷ p) is = ⊎_elim
     (subst (HasOpener (0x1B ∷ p)) (sym here) (escape-opener m p (ap in_string (sym here) ∙ is))))
     (λ (other : (a == 0x1B) ≡ false).
     absurd (false≢true (sym (ap in_string (cond-false _ _ _ other)
-    ∙ out-cond (is_csi m a) (control_text m p) _ (out-control m (front is_body p) (behind is_body p))
+    ∙ out-cond (is_csi m a) (control_text m p) _ (out-control m (longest_prefix is_body p) (after_prefix is_body p))
     (out-cond (is_control m a) _ _ (out-alone p (whole (units.Unit.Control a)) refl)
     (out-cond (decodes m) _ _
     (out-cond (begins_csi (a ∷ p)) _ _
-    (out-control m (front is_body (drop 2 (a ∷ p))) (behind is_body (drop 2 (a ∷ p))))
-    (out-character (a ∷ p) (decoded (a ∷ p))))
+    (out-control m (longest_prefix is_body (drop 2 (a ∷ p))) (after_prefix is_body (drop 2 (a ∷ p))))
+    (out-character (a ∷ p) (decoding_of (a ∷ p))))
     (out-alone p (whole (byte_unit m a)) refl)))) ∙ is)))
     (cases_Bool (a == 0x1B))
 
@@ -167,8 +167,8 @@ opener-reads m o xs opens = ⊎_elim
     (λ (esc : (b : ℕ) × (o ≡ 0x1B ∷ b ∷ []) × (opens_string b ≡ true)).
     let mid : is_mid esc.0 ≡ false = not-mid esc.0 esc.2 in
     ap (λ zs. text_reading m (zs ++ xs)) esc.1
-    ∙ (λ i. escape_ends m (cond-false (is_mid esc.0) (esc.0 ∷ front is_mid xs) [] mid i)
-    (cond-false (is_mid esc.0) (behind is_mid xs) (esc.0 ∷ xs) mid i))
+    ∙ (λ i. escape_ends m (cond-false (is_mid esc.0) (esc.0 ∷ longest_prefix is_mid xs) [] mid i)
+    (cond-false (is_mid esc.0) (after_prefix is_mid xs) (esc.0 ∷ xs) mid i))
     ∙ cond-true _ _ _ esc.2)
     (λ (osc : (b : ℕ) × (o ≡ 0x1B ∷ 0x5D ∷ b ∷ []) × (is_digit b ≡ true)).
     ap (λ zs. text_reading m (zs ++ xs)) osc.1 ∙ cond-true _ _ _ osc.2)

@@ -3,10 +3,10 @@ use Rattle.std.proofs.Common.{◌≡◌, ◌⊎◌, ℕ, ◌==◌, ◌≤◌, �
 use Rattle.std.specs.Prelude.{nat_lt}
 use Rattle.std.proofs.lemmas.Bool.{cases_Bool, cases_lt, cond-true, cond-false, eqb-true, lt-ltb, le-ltb}
 use Rattle.std.proofs.lemmas.List.{append-nil, append_assoc, length-append}
-use Rattle.vt_units.proofs.Fronts.{IsCut, behind-pass, behind-stop, cut, front-pass, front-stop}
+use Rattle.vt_units.proofs.Fronts.{IsCut, after_prefix-pass, after_prefix-stop, cut, longest_prefix-pass, longest_prefix-stop}
 use Rattle.vt_units.specs.Bytes.{is_body, is_digit, is_hex, is_mid, is_swallowed, opens_string}
-use Rattle.vt_units.specs.Reading.{Reading, unfinished, none, alone, behind, bracket_text, command_text, control_ends, control_text, escape_ends, escape_text, front, is_empty, palette_ends, palette_text, refused_command, string_ends, string_tail, string_text}
-use Rattle.vt_units.specs.Stage.{Each}
+use Rattle.vt_units.specs.Reading.{Reading, unfinished, none, alone, after_prefix, bracket_text, command_text, control_ends, control_text, escape_ends, escape_text, longest_prefix, is_empty, palette_ends, palette_text, dropped_or_none_command, string_ends, string_tail, string_text}
+use Rattle.vt_units.specs.ParserState.{Each}
 use Rattle.vt_units.specs.declared.mode.Mode.{Mode}
 
 abbrev pub IsSome : Reading → Type 0
@@ -34,23 +34,23 @@ alone-ends (y ∷ p) x xs r some = some
 by-cut : (p : ℕ → Bool) (ends : List ℕ → List ℕ → Reading)
     → ((q : List ℕ) → Goes (ends q []))
     → ((q : List ℕ) (y : ℕ) → Opens (λ ys. ends q (y ∷ ys)))
-    → Opens (λ t. ends (front p t) (behind p t))
+    → Opens (λ t. ends (longest_prefix p t) (after_prefix p t))
 by-cut p ends at_end further t x xs some = ⊎_elim
     (λ (passes : Each p t).
-    let nothing : behind p t ≡ [] = ap (behind p) (sym (append-nil t)) ∙ behind-pass p t [] passes in
-    subst (λ zs. Goes (ends (front p t) zs)) (sym nothing) (at_end (front p t)))
+    let nothing : after_prefix p t ≡ [] = ap (after_prefix p) (sym (append-nil t)) ∙ after_prefix-pass p t [] passes in
+    subst (λ zs. Goes (ends (longest_prefix p t) zs)) (sym nothing) (at_end (longest_prefix p t)))
     (λ (c : IsCut p t).
     let all : t ++ x ∷ xs ≡ c.before ++ c.stop ∷ (c.after ++ x ∷ xs) =
     ap (λ zs. zs ++ x ∷ xs) c.is ∙ append_assoc c.before (c.stop ∷ c.after) (x ∷ xs) in
-    let more : ends (front p (t ++ x ∷ xs)) (behind p (t ++ x ∷ xs))
+    let more : ends (longest_prefix p (t ++ x ∷ xs)) (after_prefix p (t ++ x ∷ xs))
     ≡ ends c.before (c.stop ∷ (c.after ++ x ∷ xs)) =
-    ap (λ zs. ends (front p zs) (behind p zs)) all
-    ∙ (λ i. ends (front-stop p c.before c.stop (c.after ++ x ∷ xs) c.passes c.stops i)
-    (behind-stop p c.before c.stop (c.after ++ x ∷ xs) c.passes c.stops i)) in
-    let here : ends (front p t) (behind p t) ≡ ends c.before (c.stop ∷ c.after) =
-    ap (λ zs. ends (front p zs) (behind p zs)) c.is
-    ∙ (λ i. ends (front-stop p c.before c.stop c.after c.passes c.stops i)
-    (behind-stop p c.before c.stop c.after c.passes c.stops i)) in
+    ap (λ zs. ends (longest_prefix p zs) (after_prefix p zs)) all
+    ∙ (λ i. ends (longest_prefix-stop p c.before c.stop (c.after ++ x ∷ xs) c.passes c.stops i)
+    (after_prefix-stop p c.before c.stop (c.after ++ x ∷ xs) c.passes c.stops i)) in
+    let here : ends (longest_prefix p t) (after_prefix p t) ≡ ends c.before (c.stop ∷ c.after) =
+    ap (λ zs. ends (longest_prefix p zs) (after_prefix p zs)) c.is
+    ∙ (λ i. ends (longest_prefix-stop p c.before c.stop c.after c.passes c.stops i)
+    (after_prefix-stop p c.before c.stop c.after c.passes c.stops i)) in
     subst Goes (sym here) (further c.before c.stop c.after x xs (subst IsSome more some)))
     (cut p t)
 
@@ -92,15 +92,15 @@ palette-few m digits (last ∷ more) some = ⊎_elim
 opens-palette : (m : Mode) → Opens (palette_text m)
 opens-palette m t x xs some = ⊎_elim
     (λ (passes : Each is_hex t).
-    let nothing : behind is_hex t ≡ [] =
-    ap (behind is_hex) (sym (append-nil t)) ∙ behind-pass is_hex t [] passes in
-    let fronts : front is_hex t ≡ t =
-    ap (front is_hex) (sym (append-nil t)) ∙ front-pass is_hex t [] passes ∙ append-nil t in
+    let nothing : after_prefix is_hex t ≡ [] =
+    ap (after_prefix is_hex) (sym (append-nil t)) ∙ after_prefix-pass is_hex t [] passes in
+    let fronts : longest_prefix is_hex t ≡ t =
+    ap (longest_prefix is_hex) (sym (append-nil t)) ∙ longest_prefix-pass is_hex t [] passes ∙ append-nil t in
     let here : palette_text m t ≡ palette_ends m t [] = (λ i. palette_ends m (fronts i) (nothing i)) in
-    let more_front : front is_hex (t ++ x ∷ xs) ≡ t ++ front is_hex (x ∷ xs) =
-    front-pass is_hex t (x ∷ xs) passes in
-    let len : length (t ++ front is_hex (x ∷ xs)) ≡ length t + length (front is_hex (x ∷ xs)) =
-    length-append t (front is_hex (x ∷ xs)) in
+    let more_front : longest_prefix is_hex (t ++ x ∷ xs) ≡ t ++ longest_prefix is_hex (x ∷ xs) =
+    longest_prefix-pass is_hex t (x ∷ xs) passes in
+    let len : length (t ++ longest_prefix is_hex (x ∷ xs)) ≡ length t + length (longest_prefix is_hex (x ∷ xs)) =
+    length-append t (longest_prefix is_hex (x ∷ xs)) in
     let few : length t < 7 = shorter t x xs passes some in
     subst Goes (sym (here ∙ cond-true _ _ _ (lt-ltb (length t) 7 few))) tt)
     (λ (c : IsCut is_hex t).
@@ -108,8 +108,8 @@ opens-palette m t x xs some = ⊎_elim
     ap (λ zs. zs ++ x ∷ xs) c.is ∙ append_assoc c.before (c.stop ∷ c.after) (x ∷ xs) in
     let more : palette_text m (t ++ x ∷ xs) ≡ palette_ends m c.before (c.stop ∷ (c.after ++ x ∷ xs)) =
     ap (palette_text m) all
-    ∙ (λ i. palette_ends m (front-stop is_hex c.before c.stop (c.after ++ x ∷ xs) c.passes c.stops i)
-    (behind-stop is_hex c.before c.stop (c.after ++ x ∷ xs) c.passes c.stops i)) in
+    ∙ (λ i. palette_ends m (longest_prefix-stop is_hex c.before c.stop (c.after ++ x ∷ xs) c.passes c.stops i)
+    (after_prefix-stop is_hex c.before c.stop (c.after ++ x ∷ xs) c.passes c.stops i)) in
     absurd (never c.before c.stop c.after x xs (subst IsSome more some)))
     (cut is_hex t)
   where
@@ -117,31 +117,31 @@ opens-palette m t x xs some = ⊎_elim
         → length t < 7
     shorter t x xs passes some = ⊎_elim
         (λ (hex : is_hex x ≡ true).
-        let fronts : front is_hex (t ++ x ∷ xs) ≡ t ++ x ∷ front is_hex xs =
-        front-pass is_hex t (x ∷ xs) passes ∙ ap (λ zs. t ++ zs) (cond-true _ _ _ hex) in
-        let len : length (t ++ x ∷ front is_hex xs) ≡ length t + length (x ∷ front is_hex xs) =
-        length-append t (x ∷ front is_hex xs) in
-        let e : length (front is_hex (t ++ x ∷ xs)) ≡ length (t ++ x ∷ front is_hex xs) = ap length fronts in
+        let fronts : longest_prefix is_hex (t ++ x ∷ xs) ≡ t ++ x ∷ longest_prefix is_hex xs =
+        longest_prefix-pass is_hex t (x ∷ xs) passes ∙ ap (λ zs. t ++ zs) (cond-true _ _ _ hex) in
+        let len : length (t ++ x ∷ longest_prefix is_hex xs) ≡ length t + length (x ∷ longest_prefix is_hex xs) =
+        length-append t (x ∷ longest_prefix is_hex xs) in
+        let e : length (longest_prefix is_hex (t ++ x ∷ xs)) ≡ length (t ++ x ∷ longest_prefix is_hex xs) = ap length fronts in
         ⊎_elim
-        (λ (few : length (front is_hex (t ++ x ∷ xs)) < 7). omega arith)
+        (λ (few : length (longest_prefix is_hex (t ++ x ∷ xs)) < 7). omega arith)
         (λ seven. omega (arith, seven.0))
-        (palette-few m (front is_hex (t ++ x ∷ xs)) (behind is_hex (t ++ x ∷ xs)) some))
+        (palette-few m (longest_prefix is_hex (t ++ x ∷ xs)) (after_prefix is_hex (t ++ x ∷ xs)) some))
         (λ (not_hex : is_hex x ≡ false).
-        let fronts : front is_hex (t ++ x ∷ xs) ≡ t =
-        front-stop is_hex t x xs passes not_hex in
-        let e : length (front is_hex (t ++ x ∷ xs)) ≡ length t = ap length fronts in
-        let stands : behind is_hex (t ++ x ∷ xs) ≡ x ∷ xs = behind-stop is_hex t x xs passes not_hex in
+        let fronts : longest_prefix is_hex (t ++ x ∷ xs) ≡ t =
+        longest_prefix-stop is_hex t x xs passes not_hex in
+        let e : length (longest_prefix is_hex (t ++ x ∷ xs)) ≡ length t = ap length fronts in
+        let stands : after_prefix is_hex (t ++ x ∷ xs) ≡ x ∷ xs = after_prefix-stop is_hex t x xs passes not_hex in
         ⊎_elim
-        (λ (few : length (front is_hex (t ++ x ∷ xs)) < 7). omega arith)
+        (λ (few : length (longest_prefix is_hex (t ++ x ∷ xs)) < 7). omega arith)
         (λ seven. absurd (let wrong : x ∷ xs ≡ [] = sym stands ∙ seven.1 in let e2 : ⊥ = cc in e2))
-        (palette-few m (front is_hex (t ++ x ∷ xs)) (behind is_hex (t ++ x ∷ xs)) some))
+        (palette-few m (longest_prefix is_hex (t ++ x ∷ xs)) (after_prefix is_hex (t ++ x ∷ xs)) some))
         (cases_Bool (is_hex x))
 
     never : (q : List ℕ) (y : ℕ) (ys : List ℕ) (x : ℕ) (xs : List ℕ)
         → IsSome (palette_ends m q (y ∷ (ys ++ x ∷ xs))) → ⊥
     never q y ys x xs some = ⊎_elim
         (λ (few : nat_lt (length q) 7 ≡ true).
-        alone-ends ys x xs (refused_command m y) (subst IsSome (cond-true _ _ _ few) some))
+        alone-ends ys x xs (dropped_or_none_command m y) (subst IsSome (cond-true _ _ _ few) some))
         (λ (many : nat_lt (length q) 7 ≡ false). subst IsSome (cond-false _ _ _ many) some)
         (cases_Bool (nat_lt (length q) 7))
 

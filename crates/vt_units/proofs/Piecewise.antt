@@ -8,10 +8,10 @@ use Rattle.vt_units.proofs.Bases.{base, base-some}
 use Rattle.vt_units.proofs.Bytewise.{Becomes, St, base-reads, step-acts, step-ignored, step-text}
 use Rattle.vt_units.proofs.Opens.{Goes, IsSome}
 use Rattle.vt_units.specs.Answer.{acts_in}
-use Rattle.vt_units.specs.Pieces.{acted, controls_of, is_ignored_in, is_left_out, read_on, rest_with, text_of}
+use Rattle.vt_units.specs.Pieces.{after_controls, controls_of, is_ignored_in, is_left_out, read_on, rest_with, text_of}
 use Rattle.vt_units.specs.Reading.{Reading, unfinished, whole, dropped, none, reading}
 use Rattle.vt_units.specs.Rest.{Rest}
-use Rattle.vt_units.specs.Run.{Effects, Reached, reached, run, step}
+use Rattle.vt_units.specs.Run.{Effects, Reached, make_reached, run, step}
 use Rattle.vt_units.specs.declared.mode.Mode.{Mode}
 
 -- a text is a front of the text with bytes behind it
@@ -55,7 +55,7 @@ module _ {S : Type 0} (e : Effects S) (law : UnfinishedBegins) where
   -- what all bytes of a text come to
   abbrev Walks : List ℕ → S → Rest → Mode → List ℕ → Type 0
   Walks bytes s r m q =
-      Becomes e (reading m (text_of m q bytes)) (run e bytes (reached s r)) (acted e (controls_of m q bytes) s) m
+      Becomes e (reading m (text_of m q bytes)) (run e bytes (make_reached s r)) (after_controls e (controls_of m q bytes) s) m
       (text_of m q bytes) (rest_with e s (base r m q) bytes)
 
   carry : (m : Mode) (w v : List ℕ) (at to : Reached S) (s t : S) (left now : Rest) → w ≡ v → at ≡ to → s ≡ t → left ≡ now
@@ -67,14 +67,14 @@ module _ {S : Type 0} (e : Effects S) (law : UnfinishedBegins) where
       (subst (λ x. Becomes e (reading m x) at s m x left) same is)))
 
   stays : (s : S) (r : Rest) (m : Mode) (q : List ℕ) → St e s r m q → IsSome (reading m q)
-      → Becomes e (reading m q) (reached s r) s m q (base r m q)
+      → Becomes e (reading m q) (make_reached s r) s m q (base r m q)
   stays s r m q st some = ⊎_elim
       (λ (empty : (q ≡ []) × (r.text ≡ []) × (m ≡ e.mode_of s)).
       absurd (subst (λ xs. IsSome (reading m xs)) empty.0 some))
-      (λ others. subst (Becomes e (reading m q) (reached s r) s m q) (sym (base-some r m q (some-text some)))
+      (λ others. subst (Becomes e (reading m q) (make_reached s r) s m q) (sym (base-some r m q (some-text some)))
       (⊎_elim
-      (λ plain. subst (λ x. Becomes e x (reached s r) s m q r) (sym plain.1) (refl, st))
-      (λ strings. subst (λ x. Becomes e x (reached s r) s m q r) (sym strings.1) (refl, st))
+      (λ plain. subst (λ x. Becomes e x (make_reached s r) s m q r) (sym plain.1) (refl, st))
+      (λ strings. subst (λ x. Becomes e x (make_reached s r) s m q r) (sym strings.1) (refl, st))
       others))
       st
     where
@@ -84,10 +84,10 @@ module _ {S : Type 0} (e : Effects S) (law : UnfinishedBegins) where
   -- nothing is left to be read behind a unit or a drop
   over-walks : (m : Mode) (t bytes : List ℕ) (at : Reached S) (s : S) (left : Rest) → bytes ≡ []
       → Becomes e (reading m t) at s m t left
-      → Becomes e (reading m (text_of m t bytes)) (run e bytes at) (acted e (controls_of m t bytes) s) m (text_of m t bytes)
+      → Becomes e (reading m (text_of m t bytes)) (run e bytes at) (after_controls e (controls_of m t bytes) s) m (text_of m t bytes)
       (rest_with e s left bytes)
   over-walks m t bytes at s left nothing is =
-      subst (λ xs. Becomes e (reading m (text_of m t xs)) (run e xs at) (acted e (controls_of m t xs) s) m (text_of m t xs)
+      subst (λ xs. Becomes e (reading m (text_of m t xs)) (run e xs at) (after_controls e (controls_of m t xs) s) m (text_of m t xs)
       (rest_with e s left xs))
       (sym nothing) is
 
@@ -107,18 +107,18 @@ module _ {S : Type 0} (e : Effects S) (law : UnfinishedBegins) where
     acting : acts_in (reading m q) b ≡ true → Walks (b ∷ bytes) s r m q
     acting act =
         let out : is_left_out (reading m q) b ≡ true = or_left _ _ act in
-        let p : (step e b (reached s r) ≡ reached (e.on_control b s) r) × St e (e.on_control b s) r m q =
+        let p : (step e b (make_reached s r) ≡ make_reached (e.on_control b s) r) × St e (e.on_control b s) r m q =
         step-acts e s r m q b st act in
         let text : text_of m q (b ∷ bytes) ≡ text_of m q bytes = cond-true _ _ _ out in
         let controls : controls_of m q (b ∷ bytes) ≡ b ∷ controls_of m q bytes = cond-true _ _ _ act in
         let state : cond (acts_in (reading m q) b) (e.on_control b s) s ≡ e.on_control b s = cond-true _ _ _ act in
         let left : rest_with e s (base r m q) (b ∷ bytes) ≡ rest_with e (e.on_control b s) (base r m q) bytes =
         read-now ∙ (λ i. rest_with e (state i) (left-now out i) bytes) in
-        carry m (text_of m q bytes) (text_of m q (b ∷ bytes)) (run e bytes (reached (e.on_control b s) r))
-        (run e bytes (step e b (reached s r))) (acted e (controls_of m q bytes) (e.on_control b s))
-        (acted e (controls_of m q (b ∷ bytes)) s)
+        carry m (text_of m q bytes) (text_of m q (b ∷ bytes)) (run e bytes (make_reached (e.on_control b s) r))
+        (run e bytes (step e b (make_reached s r))) (after_controls e (controls_of m q bytes) (e.on_control b s))
+        (after_controls e (controls_of m q (b ∷ bytes)) s)
         (rest_with e (e.on_control b s) (base r m q) bytes) (rest_with e s (base r m q) (b ∷ bytes))
-        (sym text) (ap (run e bytes) (sym p.0)) (ap (λ xs. acted e xs s) (sym controls)) (sym left)
+        (sym text) (ap (run e bytes) (sym p.0)) (ap (λ xs. after_controls e xs s) (sym controls)) (sym left)
         (again (e.on_control b s) r q p.1 (subst (λ xs. IsSome (reading m xs)) text some))
 
     ignoring : acts_in (reading m q) b ≡ false → is_ignored_in (reading m q) b ≡ true → Walks (b ∷ bytes) s r m q
@@ -130,11 +130,11 @@ module _ {S : Type 0} (e : Effects S) (law : UnfinishedBegins) where
         let state : cond (acts_in (reading m q) b) (e.on_control b s) s ≡ s = cond-false _ _ _ act in
         let left : rest_with e s (base r m q) (b ∷ bytes) ≡ rest_with e s (base r m q) bytes =
         read-now ∙ (λ i. rest_with e (state i) (left-now out i) bytes) in
-        carry m (text_of m q bytes) (text_of m q (b ∷ bytes)) (run e bytes (reached s r))
-        (run e bytes (step e b (reached s r))) (acted e (controls_of m q bytes) s) (acted e (controls_of m q (b ∷ bytes)) s)
+        carry m (text_of m q bytes) (text_of m q (b ∷ bytes)) (run e bytes (make_reached s r))
+        (run e bytes (step e b (make_reached s r))) (after_controls e (controls_of m q bytes) s) (after_controls e (controls_of m q (b ∷ bytes)) s)
         (rest_with e s (base r m q) bytes) (rest_with e s (base r m q) (b ∷ bytes))
         (sym text) (ap (run e bytes) (sym (step-ignored e s r m q b st act ignored)))
-        (ap (λ xs. acted e xs s) (sym controls)) (sym left)
+        (ap (λ xs. after_controls e xs s) (sym controls)) (sym left)
         (again s r q st (subst (λ xs. IsSome (reading m xs)) text some))
 
     growing : acts_in (reading m q) b ≡ false → is_ignored_in (reading m q) b ≡ false → Walks (b ∷ bytes) s r m q
@@ -153,11 +153,11 @@ module _ {S : Type 0} (e : Effects S) (law : UnfinishedBegins) where
         let state : cond (acts_in (reading m q) b) (e.on_control b s) s ≡ s = cond-false _ _ _ act in
         let left : rest_with e s (base r m q) (b ∷ bytes) ≡ rest_with e s next bytes =
         read-now ∙ ap (λ x. rest_with e x next bytes) state in
-        carry m (text_of m (q ++ b ∷ []) bytes) (text_of m q (b ∷ bytes)) (run e bytes (step e b (reached s r)))
-        (run e bytes (step e b (reached s r))) (acted e (controls_of m (q ++ b ∷ []) bytes) s)
-        (acted e (controls_of m q (b ∷ bytes)) s)
+        carry m (text_of m (q ++ b ∷ []) bytes) (text_of m q (b ∷ bytes)) (run e bytes (step e b (make_reached s r)))
+        (run e bytes (step e b (make_reached s r))) (after_controls e (controls_of m (q ++ b ∷ []) bytes) s)
+        (after_controls e (controls_of m q (b ∷ bytes)) s)
         (rest_with e s next bytes) (rest_with e s (base r m q) (b ∷ bytes))
-        (sym text) refl (ap (λ xs. acted e xs s) (sym controls)) (sym left)
+        (sym text) refl (ap (λ xs. after_controls e xs s) (sym controls)) (sym left)
         (by-reading (reading m (q ++ b ∷ [])) refl there (step-text e s r m q b st part here))
       where
         next : Rest
@@ -165,26 +165,26 @@ module _ {S : Type 0} (e : Effects S) (law : UnfinishedBegins) where
 
         by-reading : (now : Reading) → reading m (q ++ b ∷ []) ≡ now
             → IsSome (reading m (text_of m (q ++ b ∷ []) bytes))
-            → Becomes e now (step e b (reached s r)) s m (q ++ b ∷ []) next
-            → Becomes e (reading m (text_of m (q ++ b ∷ []) bytes)) (run e bytes (step e b (reached s r)))
-            (acted e (controls_of m (q ++ b ∷ []) bytes) s) m (text_of m (q ++ b ∷ []) bytes) (rest_with e s next bytes)
+            → Becomes e now (step e b (make_reached s r)) s m (q ++ b ∷ []) next
+            → Becomes e (reading m (text_of m (q ++ b ∷ []) bytes)) (run e bytes (step e b (make_reached s r)))
+            (after_controls e (controls_of m (q ++ b ∷ []) bytes) s) m (text_of m (q ++ b ∷ []) bytes) (rest_with e s next bytes)
         by-reading (unfinished k) is is_some becomes =
             subst (λ x. Becomes e (reading m (text_of m (q ++ b ∷ []) bytes)) (run e bytes x)
-            (acted e (controls_of m (q ++ b ∷ []) bytes) s) m (text_of m (q ++ b ∷ []) bytes) (rest_with e s next bytes)) (sym becomes.0)
-            (subst (λ x. Becomes e (reading m (text_of m (q ++ b ∷ []) bytes)) (run e bytes (reached s next))
-            (acted e (controls_of m (q ++ b ∷ []) bytes) s) m (text_of m (q ++ b ∷ []) bytes) (rest_with e s x bytes))
+            (after_controls e (controls_of m (q ++ b ∷ []) bytes) s) m (text_of m (q ++ b ∷ []) bytes) (rest_with e s next bytes)) (sym becomes.0)
+            (subst (λ x. Becomes e (reading m (text_of m (q ++ b ∷ []) bytes)) (run e bytes (make_reached s next))
+            (after_controls e (controls_of m (q ++ b ∷ []) bytes) s) m (text_of m (q ++ b ∷ []) bytes) (rest_with e s x bytes))
             (base-some next m (q ++ b ∷ []) (some-more q b))
             (again s next (q ++ b ∷ []) becomes.1 is_some))
         by-reading (whole u) is is_some becomes =
-            over-walks m (q ++ b ∷ []) bytes (step e b (reached s r)) s next
+            over-walks m (q ++ b ∷ []) bytes (step e b (make_reached s r)) s next
             (over-alone law m (q ++ b ∷ []) bytes (some-more q b) (λ g. subst Goes is g)
             (λ x. ap (λ y. is_left_out y x) is) is_some)
-            (subst (λ x. Becomes e x (step e b (reached s r)) s m (q ++ b ∷ []) next) (sym is) becomes)
+            (subst (λ x. Becomes e x (step e b (make_reached s r)) s m (q ++ b ∷ []) next) (sym is) becomes)
         by-reading dropped is is_some becomes =
-            over-walks m (q ++ b ∷ []) bytes (step e b (reached s r)) s next
+            over-walks m (q ++ b ∷ []) bytes (step e b (make_reached s r)) s next
             (over-alone law m (q ++ b ∷ []) bytes (some-more q b) (λ g. subst Goes is g)
             (λ x. ap (λ y. is_left_out y x) is) is_some)
-            (subst (λ x. Becomes e x (step e b (reached s r)) s m (q ++ b ∷ []) next) (sym is) becomes)
+            (subst (λ x. Becomes e x (step e b (make_reached s r)) s m (q ++ b ∷ []) next) (sym is) becomes)
         by-reading none is is_some becomes = absurd becomes
 
     walk-more : Walks (b ∷ bytes) s r m q

@@ -4,7 +4,7 @@ use Rattle.std.specs.Prelude.{nat_le, nat_lt}
 use Rattle.std.proofs.lemmas.Bool.{and_left, and_parts, cond-true, cond-false}
 use Rattle.std.proofs.lemmas.Bool.Decides.{nat_tests}
 use Rattle.vt_chars.specs.Utf8.{within}
-use Rattle.vt_units.specs.Answer.{Settled, Taken, joined_by, kept, settled, settled_by, taken, took}
+use Rattle.vt_units.specs.Answer.{RestBefore, ByteOutcome, outcome_by_reading, unbroken_rest, rest_before, rest_before_by, make_outcome, byte_outcome}
 use Rattle.vt_units.specs.Bytes.{decodes, is_control, is_never_shown, is_printable}
 use Rattle.vt_units.specs.Laws.{ControlsAreUnits, PrintablesAreCharacters}
 use Rattle.vt_units.specs.Reading.{character_reading, reading, whole}
@@ -27,16 +27,16 @@ printable-reading m b decoding is =
     ∙ ap (character_reading (b ∷ [])) (cond-true _ _ _ ascii)
     ∙ ap whole (cond-false _ _ _ shown)
 
-abbrev answer_of : Settled → ℕ → Read
-answer_of s b = record { bad = s.bad; got = (took s.rest b).got }
+abbrev answer_of : RestBefore → ℕ → Read
+answer_of s b = record { bad = s.bad; got = (byte_outcome s.rest b).got }
 
 pub printables-are-characters : PrintablesAreCharacters
 printables-are-characters old m b nothing decoding is =
-    let left : settled old m b ≡ kept (fresh m) = ap (λ t. settled_by (reading old.mode t) old m b) nothing in
-    let all : took (fresh m) b ≡ taken (then.Then.Unit (units.Unit.Char b)) (fresh m) =
-    ap (λ r. joined_by r (fresh m) b) (printable-reading m b decoding is) in (
-      ap (λ s. answer_of s b) left ∙ ap (λ (t : Taken). record { bad = false; got = t.got }) all,
-      ap (λ (s : Settled). (took s.rest b).rest) left ∙ ap (λ (t : Taken). t.rest) all,
+    let left : rest_before old m b ≡ unbroken_rest (fresh m) = ap (λ t. rest_before_by (reading old.mode t) old m b) nothing in
+    let all : byte_outcome (fresh m) b ≡ make_outcome (then.Then.Unit (units.Unit.Char b)) (fresh m) =
+    ap (λ r. outcome_by_reading r (fresh m) b) (printable-reading m b decoding is) in (
+      ap (λ s. answer_of s b) left ∙ ap (λ (t : ByteOutcome). record { bad = false; got = t.got }) all,
+      ap (λ (s : RestBefore). (byte_outcome s.rest b).rest) left ∙ ap (λ (t : ByteOutcome). t.rest) all,
     )
 
 control-reading : (m : Mode) (b : ℕ) → is_control m b ≡ true → (b == 0x1B) ≡ false
@@ -50,9 +50,9 @@ control-reading m b is esc =
 
 pub controls-are-units : ControlsAreUnits
 controls-are-units old m b nothing is esc =
-    let left : settled old m b ≡ kept (fresh m) = ap (λ t. settled_by (reading old.mode t) old m b) nothing in
-    let all : took (fresh m) b ≡ taken (then.Then.Unit (units.Unit.Control b)) (fresh m) =
-    ap (λ r. joined_by r (fresh m) b) (control-reading m b is esc) in (
-      ap (λ s. answer_of s b) left ∙ ap (λ (t : Taken). record { bad = false; got = t.got }) all,
-      ap (λ (s : Settled). (took s.rest b).rest) left ∙ ap (λ (t : Taken). t.rest) all,
+    let left : rest_before old m b ≡ unbroken_rest (fresh m) = ap (λ t. rest_before_by (reading old.mode t) old m b) nothing in
+    let all : byte_outcome (fresh m) b ≡ make_outcome (then.Then.Unit (units.Unit.Control b)) (fresh m) =
+    ap (λ r. outcome_by_reading r (fresh m) b) (control-reading m b is esc) in (
+      ap (λ s. answer_of s b) left ∙ ap (λ (t : ByteOutcome). record { bad = false; got = t.got }) all,
+      ap (λ (s : RestBefore). (byte_outcome s.rest b).rest) left ∙ ap (λ (t : ByteOutcome). t.rest) all,
     )

@@ -2,7 +2,7 @@
 use Rattle.std.proofs.Common.{◌≡◌, ℕ, ◌≤◌, ◌<◌, zero, suc, ◌&&◌, List, [], ◌∷◌, length, take, get_or, Option, None, Some, IfNone, refl, sym, ap, ◌∙◌, subst, ⊎_elim, arith, length-take-le}
 use Rattle.std.proofs.lemmas.Bool.{and_parts, cases_lt, false≢true}
 use Rattle.std.proofs.lemmas.Bool.Decides.{nat_tests}
-use Rattle.vt_chars.specs.Utf8.{decoded, is_second, is_tail, within}
+use Rattle.vt_chars.specs.Utf8.{decoding_of, is_second, is_tail, within}
 use Rattle.vt_chars.specs.declared.decoded.Decoded.TheVariants.{Character}
 use Rattle.vt_units.proofs.Wholes.{well}
 use Rattle.vt_units.specs.Characters.{Begins, IsHidden, NoneBegins}
@@ -46,7 +46,7 @@ sized-four a high = record {
   four = λ is. refl;
 }
 
-well-sized : (t : List ℕ) (code : ℕ) → decoded t ≡ Character code → Sized (get_or t 0 0) (length t)
+well-sized : (t : List ℕ) (code : ℕ) → decoding_of t ≡ Character code → Sized (get_or t 0 0) (length t)
 well-sized [] code is = absurd (false≢true (well [] code is).0)
 well-sized (a ∷ []) code is =
     let formed = (well (a ∷ []) code is).0 in
@@ -78,10 +78,10 @@ sized text code n is =
 
 -- the first n bytes are no character that is shown, and a character would have n
 none-begins : (text front : List ℕ) (n : ℕ) → ((code k : ℕ) → Begins text code k → k ≡ n) → take n text ≡ front
-    → IsHidden (decoded front) → NoneBegins text
+    → IsHidden (decoding_of front) → NoneBegins text
 none-begins text front n size same hidden code k is =
-    let here : decoded front ≡ Character code =
-    ap decoded (sym same) ∙ ap (λ (j : ℕ). decoded (take j text)) (sym (size code k is)) ∙ is.first.whole in
+    let here : decoding_of front ≡ Character code =
+    ap decoding_of (sym same) ∙ ap (λ (j : ℕ). decoding_of (take j text)) (sym (size code k is)) ∙ is.first.whole in
     hidden code here is.first.shown
 
 take-one : (text : List ℕ) → 1 ≤ length text → take 1 text ≡ get_or text 0 0 ∷ []
@@ -102,19 +102,19 @@ take-four [] long = absurd (omega (arith, long))
 take-four (a ∷ text) long = ap (λ (xs : List ℕ). a ∷ xs) (take-three text (omega (arith, long)))
 
 module _ (text : List ℕ) where
-  pub hidden-one : 1 ≤ length text → get_or text 0 0 < 0x80 → IsHidden (decoded (get_or text 0 0 ∷ [])) → NoneBegins text
+  pub hidden-one : 1 ≤ length text → get_or text 0 0 < 0x80 → IsHidden (decoding_of (get_or text 0 0 ∷ [])) → NoneBegins text
   hidden-one long low = none-begins text _ 1 (λ code k is. (sized text code k is).one low) (take-one text long)
 
   pub hidden-two : 2 ≤ length text → 0x80 ≤ get_or text 0 0 → get_or text 0 0 < 0xE0
-      → IsHidden (decoded (get_or text 0 0 ∷ get_or text 1 0 ∷ [])) → NoneBegins text
+      → IsHidden (decoding_of (get_or text 0 0 ∷ get_or text 1 0 ∷ [])) → NoneBegins text
   hidden-two long high low = none-begins text _ 2 (λ code k is. (sized text code k is).two high low) (take-two text long)
 
   pub hidden-three : 3 ≤ length text → 0xE0 ≤ get_or text 0 0 → get_or text 0 0 < 0xF0
-      → IsHidden (decoded (get_or text 0 0 ∷ get_or text 1 0 ∷ get_or text 2 0 ∷ [])) → NoneBegins text
+      → IsHidden (decoding_of (get_or text 0 0 ∷ get_or text 1 0 ∷ get_or text 2 0 ∷ [])) → NoneBegins text
   hidden-three long high low = none-begins text _ 3 (λ code k is. (sized text code k is).three high low) (take-three text long)
 
   pub hidden-four : 4 ≤ length text → 0xF0 ≤ get_or text 0 0
-      → IsHidden (decoded (get_or text 0 0 ∷ get_or text 1 0 ∷ get_or text 2 0 ∷ get_or text 3 0 ∷ [])) → NoneBegins text
+      → IsHidden (decoding_of (get_or text 0 0 ∷ get_or text 1 0 ∷ get_or text 2 0 ∷ get_or text 3 0 ∷ [])) → NoneBegins text
   hidden-four long high = none-begins text _ 4 (λ code k is. (sized text code k is).four high) (take-four text long)
 
   -- there are too few bytes

@@ -3,8 +3,8 @@ use Rattle.std.proofs.Common.{◌≡◌, ℕ, ◌≤◌, ◌<◌, ◌+◌, Bool,
 use Rattle.std.specs.Prelude.{nat_lt}
 use Rattle.std.proofs.lemmas.Bool.{and_parts, and_from, cases_Bool, cases_lt, cond-true, cond-false, lt-ltb, ltb-true, false≢true}
 use Rattle.std.proofs.lemmas.List.{drop_at, length-append, take-append-le, take_at}
-use Rattle.vt_units.proofs.Follows.{After, follows-text, out-alone, out-none, out-refused, refused-some}
-use Rattle.vt_units.specs.Reading.{Kind, unfinished, character, sequence, command, string, string_end, is_sequence, overlong, reading, refused, text_reading}
+use Rattle.vt_units.proofs.Follows.{After, follows-text, out-alone, out-none, out-dropped_or_none, dropped_or_none-some}
+use Rattle.vt_units.specs.Reading.{Kind, unfinished, character, sequence, command, string, string_end, is_sequence, overlong, reading, dropped_or_none, text_reading}
 use Rattle.vt_units.specs.declared.mode.Mode.{Mode}
 
 abbrev is_long : Mode → List ℕ → Bool
@@ -12,7 +12,7 @@ is_long m t = nat_lt 256 (length t) && is_sequence (text_reading m (take 256 t))
 
 overlong-out : (m : Mode) (xs : List ℕ) (k : Kind) → overlong m xs ≡ unfinished k → ⊥
 overlong-out m [] k is = out-none k is
-overlong-out m (x ∷ xs) k is = out-alone xs (refused m x) (out-refused m x) k is
+overlong-out m (x ∷ xs) k is = out-alone xs (dropped_or_none m x) (out-dropped_or_none m x) k is
 
 -- an unfinished text is within the bound
 pub within-bound : (m : Mode) (t : List ℕ) (k : Kind) → reading m t ≡ unfinished k
@@ -23,8 +23,8 @@ within-bound m t k is = ⊎_elim
     (cases_Bool (is_long m t))
 
 full-after : (m : Mode) (t : List ℕ) (b : ℕ) (k : Kind) → is_sequence (unfinished k) ≡ true
-    → After m k b (refused m b)
-full-after m t b sequence is = (refused-some m b, (λ e. refl))
+    → After m k b (dropped_or_none m b)
+full-after m t b sequence is = (dropped_or_none-some m b, (λ e. refl))
 full-after m t b character is = absurd (false≢true is)
 full-after m t b command is = absurd (false≢true is)
 full-after m t b string is = absurd (false≢true is)

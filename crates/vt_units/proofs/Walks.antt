@@ -5,18 +5,18 @@ use Rattle.std.proofs.lemmas.Bool.{and_left, and_right, and_parts, cases_Bool, c
 use Rattle.std.proofs.lemmas.Bool.Decides.{nat_tests}
 use Rattle.std.proofs.lemmas.List.{append-nil}
 use Rattle.vt_units.proofs.Follows.{admits, admits_command}
-use Rattle.vt_units.proofs.Fronts.{IsCut, behind-pass, behind-stop, cut}
+use Rattle.vt_units.proofs.Fronts.{IsCut, after_prefix-pass, after_prefix-stop, cut}
 use Rattle.vt_units.proofs.Openers.{HasOpener, in_string, opener-reads, string-opener}
 use Rattle.vt_units.specs.Bytes.{acts, interrupts, is_digit, is_swallowed, joins, joins_command, opens_string}
-use Rattle.vt_units.specs.Reading.{Kind, Reading, unfinished, whole, dropped, none, alone, behind, reading, refused, refused_command, string_ends, string_tail, string_text, is_sequence, text_reading}
+use Rattle.vt_units.specs.Reading.{Kind, Reading, unfinished, whole, dropped, none, alone, after_prefix, reading, dropped_or_none, dropped_or_none_command, string_ends, string_tail, string_text, is_sequence, text_reading}
 use Rattle.vt_units.specs.Rest.{Rest}
-use Rattle.vt_units.specs.Stage.{Each, IsOpener, rest_of}
+use Rattle.vt_units.specs.ParserState.{Each, IsOpener, rest_of}
 use Rattle.vt_units.specs.declared.mode.Mode.{Mode}
 use Rattle.vt_units.specs.declared.unit.Unit.TheVariants.{Ignored}
 
 -- a byte that interrupts isn't admitted, and doesn't join
 pub interrupts-out : (m : Mode) (b : ℕ) → interrupts m b ≡ true
-    → (admits b ≡ false) × (admits_command b ≡ false) × (refused m b ≡ none) × (refused_command m b ≡ none)
+    → (admits b ≡ false) × (admits_command b ≡ false) × (dropped_or_none m b ≡ none) × (dropped_or_none_command m b ≡ none)
 interrupts-out m b is = ⊎_elim
     (λ (esc : (b == 0x1B) ≡ true). by-byte 0x1B (eqb-true b 0x1B esc) refl refl)
     (λ (csi : (b == 0x9B && not-utf8) ≡ true). by-byte 0x9B (eqb-true b 0x9B (and_parts _ _ csi).0) refl refl)
@@ -26,7 +26,7 @@ interrupts-out m b is = ⊎_elim
     not-utf8 = not m.utf8
 
     by-byte : (x : ℕ) → b ≡ x → admits x ≡ false → admits_command x ≡ false
-        → (admits b ≡ false) × (admits_command b ≡ false) × (refused m b ≡ none) × (refused_command m b ≡ none)
+        → (admits b ≡ false) × (admits_command b ≡ false) × (dropped_or_none m b ≡ none) × (dropped_or_none_command m b ≡ none)
     by-byte x same out out_command = (
       ap admits same ∙ out,
       ap admits_command same ∙ out_command,
@@ -62,7 +62,7 @@ pub record IsStringRest (r : Rest) (q : List ℕ) : Type 0 where
   pub ends : (tail ≡ []) ⊎ (tail ≡ 0x1B ∷ [])
 
 swallowed-text : (gone tail : List ℕ) → Each is_swallowed gone → string_text (gone ++ tail) ≡ string_text tail
-swallowed-text gone tail passes = ap string_ends (behind-pass is_swallowed gone tail passes)
+swallowed-text gone tail passes = ap string_ends (after_prefix-pass is_swallowed gone tail passes)
 
 not-sequence : (xs : List ℕ) → is_sequence (string_ends xs) ≡ false
 not-sequence [] = refl
@@ -92,11 +92,11 @@ opened-reading m o xs opens =
         (λ (esc : (b : ℕ) × (o ≡ 0x1B ∷ b ∷ []) × (opens_string b ≡ true)).
         ap (λ zs. is_sequence (text_reading m (take 256 (zs ++ xs)))) esc.1
         ∙ ap is_sequence (opener-reads m (0x1B ∷ esc.0 ∷ []) (take 254 xs) (inl (esc.0, refl, esc.2)))
-        ∙ not-sequence (behind is_swallowed (take 254 xs)))
+        ∙ not-sequence (after_prefix is_swallowed (take 254 xs)))
         (λ (osc : (b : ℕ) × (o ≡ 0x1B ∷ 0x5D ∷ b ∷ []) × (is_digit b ≡ true)).
         ap (λ zs. is_sequence (text_reading m (take 256 (zs ++ xs)))) osc.1
         ∙ ap is_sequence (opener-reads m (0x1B ∷ 0x5D ∷ osc.0 ∷ []) (take 253 xs) (inr (osc.0, refl, osc.2)))
-        ∙ not-sequence (behind is_swallowed (take 253 xs)))
+        ∙ not-sequence (after_prefix is_swallowed (take 253 xs)))
         one
 
 -- a string's text, and its rest, in any mode
@@ -119,7 +119,7 @@ string-parts xs k is = ⊎_elim
     (λ (passes : Each is_swallowed xs). (xs, [], sym (append-nil xs), passes, inl refl))
     (λ (c : IsCut is_swallowed xs).
     let here : string_ends (c.stop ∷ c.after) ≡ unfinished k =
-    sym (ap string_text c.is ∙ ap string_ends (behind-stop is_swallowed c.before c.stop c.after c.passes c.stops)) ∙ is in
+    sym (ap string_text c.is ∙ ap string_ends (after_prefix-stop is_swallowed c.before c.stop c.after c.passes c.stops)) ∙ is in
     (c.before, c.stop ∷ c.after, c.is, c.passes, inr (esc-alone c.stop c.after here)))
     (cut is_swallowed xs)
   where

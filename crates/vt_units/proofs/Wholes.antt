@@ -3,17 +3,17 @@ use Rattle.std.proofs.Common.{◌≡◌, ℕ, Bool, true, false, not, cond, ◌=
 use Rattle.std.specs.Prelude.{nat_le, nat_lt, if◌then◌else◌}
 use Rattle.std.proofs.lemmas.Bool.{and_left, and_parts, cond-true, cond-false, eqb-true}
 use Rattle.std.proofs.lemmas.Bool.Decides.{nat_tests}
-use Rattle.vt_chars.specs.Utf8.{code_of, decoded, is_begun, is_second, is_tail, is_well_formed, within}
+use Rattle.vt_chars.specs.Utf8.{code_of, decoding_of, is_begun, is_second, is_tail, is_well_formed, within}
 use Rattle.vt_chars.specs.declared.decoded.Decoded.TheVariants.{Character, Unfinished, Malformed}
 use Rattle.vt_units.proofs.Readings.{short-reading}
 use Rattle.vt_units.proofs.Runs.{any-cut}
-use Rattle.vt_units.specs.Answer.{Settled, Taken, acts_in, answer, rest_after, goes_on, joined, joined_by, kept, settled, settled_by, taken, took, vanishes_in}
+use Rattle.vt_units.specs.Answer.{RestBefore, ByteOutcome, acts_in, answer, rest_after, goes_on, outcome_of_text, outcome_by_reading, unbroken_rest, rest_before, rest_before_by, make_outcome, byte_outcome, vanishes_in}
 use Rattle.vt_units.specs.Bytes.{decodes, is_printable}
 use Rattle.vt_units.specs.Characters.{AreTextsOf, IsTextOf, is_shown}
 use Rattle.vt_units.specs.Laws.{PrintablesAreCharacters}
 use Rattle.vt_units.specs.Reading.{Reading, begins_csi, character, character_reading, reading, unfinished, whole}
-use Rattle.vt_units.specs.Rest.{Rest, fresh, grown}
-use Rattle.vt_units.specs.Run.{Effects, Reached, effects_of, reached, run, step}
+use Rattle.vt_units.specs.Rest.{Rest, fresh, rest_with_byte}
+use Rattle.vt_units.specs.Run.{Effects, Reached, effects_of, make_reached, run, step}
 use Rattle.vt_units.specs.declared.mode.Mode.{Mode}
 use Rattle.vt_units.specs.declared.then.Then as then
 use Rattle.vt_units.specs.declared.unit.Unit as units
@@ -23,11 +23,11 @@ pub texts-more : (text : List ℕ) (codes : List ℕ) (first : List ℕ) (code :
     → IsTextOf first code → AreTextsOf (text ++ first) (codes ++ code ∷ [])
 texts-more text [] first code are is =
     (first, [], ap (λ t. t ++ first) are ∙ sym (append-nil first), is, refl)
-texts-more text (c ∷ codes) first code (front, more, joined, one, others) is =
-    (front, more ++ first, ap (λ t. t ++ first) joined ∙ append_assoc front more first, one, texts-more more codes first code others is)
+texts-more text (c ∷ codes) first code (front, more, outcome_of_text, one, others) is =
+    (front, more ++ first, ap (λ t. t ++ first) outcome_of_text ∙ append_assoc front more first, one, texts-more more codes first code others is)
 
 -- what is decoded as a character is well formed
-pub well : (t : List ℕ) (code : ℕ) → decoded t ≡ Character code → (is_well_formed t ≡ true) × (code_of t ≡ code)
+pub well : (t : List ℕ) (code : ℕ) → decoding_of t ≡ Character code → (is_well_formed t ≡ true) × (code_of t ≡ code)
 well t code is = by (is_well_formed t) (is_begun t) refl is
   where
     by : (a b : Bool) → is_well_formed t ≡ a → cond a (Character (code_of t)) (cond b Unfinished Malformed) ≡ Character code
@@ -39,7 +39,7 @@ well t code is = by (is_well_formed t) (is_begun t) refl is
 -- a text that begins with a byte of a character of more than one
 char-reading : (m : Mode) (a : ℕ) (more : List ℕ) → length more ≤ 3 → 0xC2 ≤ a → decodes m ≡ true
     → begins_csi (a ∷ more) ≡ false
-    → reading m (a ∷ more) ≡ character_reading (a ∷ more) (decoded (a ∷ more))
+    → reading m (a ∷ more) ≡ character_reading (a ∷ more) (decoding_of (a ∷ more))
 char-reading m a more short high decoding plain =
     let esc : (a == 0x1B) ≡ false = grind (arith, nat_tests, high) in
     let shows = and_parts m.utf8 (not m.display) decoding in
@@ -62,55 +62,55 @@ char-reading m a more short high decoding plain =
 
 -- what a byte comes to makes the step
 stepped : {S : Type 0} (e : Effects S) (s : S) (rest : Rest) (m : Mode) (b : ℕ) → e.mode_of s ≡ m
-    → (before : Rest) (got : then.Then) (after : Rest) → settled rest m b ≡ kept before
-    → took before b ≡ taken got after
-    → step e b (reached s rest) ≡ reached (effects_of e (record { bad = false; got = got }) s) after
+    → (before : Rest) (got : then.Then) (after : Rest) → rest_before rest m b ≡ unbroken_rest before
+    → byte_outcome before b ≡ make_outcome got after
+    → step e b (make_reached s rest) ≡ make_reached (effects_of e (record { bad = false; got = got }) s) after
 stepped e s rest m b mode before got after left all =
-    ap (λ (n : Mode). reached (effects_of e (answer rest n b) s) (rest_after rest n b)) mode
-    ∙ ap (λ (l : Settled). reached (effects_of e (record { bad = l.bad; got = (took l.rest b).got }) s) (took l.rest b).rest) left
-    ∙ ap (λ (t : Taken). reached (effects_of e (record { bad = false; got = t.got }) s) t.rest) all
+    ap (λ (n : Mode). make_reached (effects_of e (answer rest n b) s) (rest_after rest n b)) mode
+    ∙ ap (λ (l : RestBefore). make_reached (effects_of e (record { bad = l.bad; got = (byte_outcome l.rest b).got }) s) (byte_outcome l.rest b).rest) left
+    ∙ ap (λ (t : ByteOutcome). make_reached (effects_of e (record { bad = false; got = t.got }) s) t.rest) all
 
 -- the first byte of a character of more than one
 step-first : {S : Type 0} (e : Effects S) (s : S) (rest : Rest) (m : Mode) (b : ℕ) → e.mode_of s ≡ m
     → rest.text ≡ [] → reading m (b ∷ []) ≡ unfinished character
-    → step e b (reached s rest) ≡ reached s (record { mode = m; text = b ∷ [] })
+    → step e b (make_reached s rest) ≡ make_reached s (record { mode = m; text = b ∷ [] })
 step-first e s rest m b mode nothing is =
-    let left : settled rest m b ≡ kept (fresh m) = ap (λ t. settled_by (reading rest.mode t) rest m b) nothing in
-    let all : took (fresh m) b ≡ taken then.Then.More (grown (fresh m) b) =
-    ap (λ r. joined_by r (fresh m) b) is in
-    stepped e s rest m b mode (fresh m) then.Then.More (grown (fresh m) b) left all
+    let left : rest_before rest m b ≡ unbroken_rest (fresh m) = ap (λ t. rest_before_by (reading rest.mode t) rest m b) nothing in
+    let all : byte_outcome (fresh m) b ≡ make_outcome then.Then.More (rest_with_byte (fresh m) b) =
+    ap (λ r. outcome_by_reading r (fresh m) b) is in
+    stepped e s rest m b mode (fresh m) then.Then.More (rest_with_byte (fresh m) b) left all
 
 -- a byte behind the beginning of a character joins it
-took-joins : (m : Mode) (t : List ℕ) (b : ℕ) → reading m t ≡ unfinished character
-    → took (record { mode = m; text = t }) b ≡ joined (record { mode = m; text = t }) b
-took-joins m t b is =
+byte_outcome-joins : (m : Mode) (t : List ℕ) (b : ℕ) → reading m t ≡ unfinished character
+    → byte_outcome (record { mode = m; text = t }) b ≡ outcome_of_text (record { mode = m; text = t }) b
+byte_outcome-joins m t b is =
     let old : Rest = record { mode = m; text = t } in
-    ap (λ (now : Reading). if acts_in now b then taken (then.Then.Act b) old
-    else if vanishes_in now b then taken then.Then.More old
-    else joined old b) is
+    ap (λ (now : Reading). if acts_in now b then make_outcome (then.Then.Act b) old
+    else if vanishes_in now b then make_outcome then.Then.More old
+    else outcome_of_text old b) is
 
 stays : (m : Mode) (t : List ℕ) (b : ℕ) (r : Reading) → reading m t ≡ unfinished character
     → reading m (t ++ b ∷ []) ≡ r → goes_on r ≡ true
-    → settled (record { mode = m; text = t }) m b ≡ kept (record { mode = m; text = t })
+    → rest_before (record { mode = m; text = t }) m b ≡ unbroken_rest (record { mode = m; text = t })
 stays m t b r is next goes =
     let old : Rest = record { mode = m; text = t } in
-    ap (λ (now : Reading). settled_by now old m b) is ∙ cond-true _ _ _ (ap goes_on next ∙ goes)
+    ap (λ (now : Reading). rest_before_by now old m b) is ∙ cond-true _ _ _ (ap goes_on next ∙ goes)
 
 step-more : {S : Type 0} (e : Effects S) (s : S) (m : Mode) (t : List ℕ) (b : ℕ) → e.mode_of s ≡ m
     → reading m t ≡ unfinished character → reading m (t ++ b ∷ []) ≡ unfinished character
-    → step e b (reached s (record { mode = m; text = t })) ≡ reached s (record { mode = m; text = t ++ b ∷ [] })
+    → step e b (make_reached s (record { mode = m; text = t })) ≡ make_reached s (record { mode = m; text = t ++ b ∷ [] })
 step-more e s m t b mode is next =
     let old : Rest = record { mode = m; text = t } in
-    stepped e s old m b mode old then.Then.More (grown old b) (stays m t b (unfinished character) is next refl)
-    (took-joins m t b is ∙ ap (λ r. joined_by r old b) next)
+    stepped e s old m b mode old then.Then.More (rest_with_byte old b) (stays m t b (unfinished character) is next refl)
+    (byte_outcome-joins m t b is ∙ ap (λ r. outcome_by_reading r old b) next)
 
 step-last : {S : Type 0} (e : Effects S) (s : S) (m : Mode) (t : List ℕ) (b : ℕ) (u : units.Unit) → e.mode_of s ≡ m
     → reading m t ≡ unfinished character → reading m (t ++ b ∷ []) ≡ whole u
-    → step e b (reached s (record { mode = m; text = t })) ≡ reached (e.on_unit u s) (fresh m)
+    → step e b (make_reached s (record { mode = m; text = t })) ≡ make_reached (e.on_unit u s) (fresh m)
 step-last e s m t b u mode is next =
     let old : Rest = record { mode = m; text = t } in
     stepped e s old m b mode old (then.Then.Unit u) (fresh m) (stays m t b (whole u) is next refl)
-    (took-joins m t b is ∙ ap (λ r. joined_by r old b) next)
+    (byte_outcome-joins m t b is ∙ ap (λ r. outcome_by_reading r old b) next)
 
 -- a beginning of a character
 begun-reading : (m : Mode) (a : ℕ) (more : List ℕ) → length more ≤ 3 → 0xC2 ≤ a → decodes m ≡ true
@@ -157,7 +157,7 @@ module _ {S : Type 0} (e : Effects S) (printables : PrintablesAreCharacters) (s 
     (nothing : rest.text ≡ []) (decoding : decodes m ≡ true)
   where
     abbrev Runs : List ℕ → ℕ → Type 0
-    Runs first code = run e first (reached s rest) ≡ reached (e.on_unit (units.Unit.Char code) s) (fresh m)
+    Runs first code = run e first (make_reached s rest) ≡ make_reached (e.on_unit (units.Unit.Char code) s) (fresh m)
 
     one-run : (a code : ℕ) → IsTextOf (a ∷ []) code → Runs (a ∷ []) code
     one-run a code is =
@@ -168,9 +168,9 @@ module _ {S : Type 0} (e : Effects S) (printables : PrintablesAreCharacters) (s 
         let out : within 0x7F 0x9F a ≡ false = off (within 0x7F 0x9F a) parts.1 in
         let printable : is_printable a ≡ true = grind (arith, nat_tests, low, parts.0, out) in
         let one = printables rest m a nothing decoding printable in
-        ap (λ (n : Mode). reached (effects_of e (answer rest n a) s) (rest_after rest n a)) mode
-        ∙ (λ i. reached (effects_of e (one.0 i) s) (one.1 i))
-        ∙ ap (λ (c : ℕ). reached (e.on_unit (units.Unit.Char c) s) (fresh m)) formed.1
+        ap (λ (n : Mode). make_reached (effects_of e (answer rest n a) s) (rest_after rest n a)) mode
+        ∙ (λ i. make_reached (effects_of e (one.0 i) s) (one.1 i))
+        ∙ ap (λ (c : ℕ). make_reached (e.on_unit (units.Unit.Char c) s) (fresh m)) formed.1
 
     two-run : (a b code : ℕ) → IsTextOf (a ∷ b ∷ []) code → Runs (a ∷ b ∷ []) code
     two-run a b code is =
@@ -267,12 +267,12 @@ pub characters-run : {S : Type 0} (e : Effects S) → PrintablesAreCharacters
     → ((code : ℕ) (s : S) → e.mode_of (e.on_unit (units.Unit.Char code) s) ≡ e.mode_of s)
     → (text codes : List ℕ) (s : S) (rest : Rest) (m : Mode) → e.mode_of s ≡ m → AreTextsOf text codes
     → rest.text ≡ [] → decodes m ≡ true
-    → run e text (reached s rest) ≡ reached (all_shown e codes s) (rest_of_codes codes m rest)
+    → run e text (make_reached s rest) ≡ make_reached (all_shown e codes s) (rest_of_codes codes m rest)
 characters-run e law keeps text [] s rest m mode are nothing decoding =
-    ap (λ (bytes : List ℕ). run e bytes (reached s rest)) are
-characters-run {S = S} e law keeps text (code ∷ codes) s rest m mode (first, more, joined, one, others) nothing decoding =
-    ap (λ (bytes : List ℕ). run e bytes (reached s rest)) joined
-    ∙ any-cut e first more (reached s rest)
+    ap (λ (bytes : List ℕ). run e bytes (make_reached s rest)) are
+characters-run {S = S} e law keeps text (code ∷ codes) s rest m mode (first, more, outcome_of_text, one, others) nothing decoding =
+    ap (λ (bytes : List ℕ). run e bytes (make_reached s rest)) outcome_of_text
+    ∙ any-cut e first more (make_reached s rest)
     ∙ ap (run e more) (character-run e law s rest m mode nothing decoding first code one)
     ∙ characters-run e law keeps more codes (e.on_unit (units.Unit.Char code) s) (fresh m) m (keeps code s ∙ mode) others refl decoding
-    ∙ ap (λ (r : Rest). reached (all_shown e codes (e.on_unit (units.Unit.Char code) s)) r) (fresh-codes codes m)
+    ∙ ap (λ (r : Rest). make_reached (all_shown e codes (e.on_unit (units.Unit.Char code) s)) r) (fresh-codes codes m)

@@ -2,7 +2,7 @@
 use Rattle.std.proofs.Common.{◌≡◌, ℕ, true, false, List, [], ◌∷◌, length, suc, None, refl, sym, ap, subst, subst₂, ◌∙◌}
 use Rattle.vt_events.specs.declared.entry.Entry.{Entry}
 use Rattle.vt_events.specs.declared.event.Event.{Event}
-use Rattle.vt_procs.specs.Tickets.{settled}
+use Rattle.vt_procs.specs.Tickets.{after_idle_rule}
 use Rattle.vt_procs.specs.Callers.{callers_of}
 use Rattle.vt_switch.specs.Law.{AllOrdered, DisplayLaw, IsExplained, OwnersLive, OwnersStayLive, TargetLaw}
 use Rattle.vt_switch.specs.Moments.{Core, after_entries, all_after, is_ordered}
@@ -11,8 +11,8 @@ use Rattle.vt_world.proofs.Owners.{first-owners}
 use Rattle.vt_world.proofs.Orders.{acts_ordered, row_ordered}
 use Rattle.vt_world.proofs.Steps.{by_step}
 use Rattle.vt_world.specs.Acts.{all_acts, event_acts, history_acts}
-use Rattle.vt_world.specs.Deeds.{Deed, all_done}
-use Rattle.vt_world.specs.Heard.{cleared}
+use Rattle.vt_world.specs.Deeds.{Deed, apply_deeds}
+use Rattle.vt_world.specs.Heard.{without_marks}
 use Rattle.vt_world.specs.History.{replay}
 use Rattle.vt_world.specs.Laws.{ActsMakeCores, DisplaysAreLawful, DisplaysAreLawfulFrom, IsStart, OwnersAreLive, TargetsAreExplained, moments}
 use Rattle.vt_world.specs.Rows.{row}
@@ -23,21 +23,21 @@ pub acts-make-cores : ActsMakeCores
 acts-make-cores w p e =
     by_step
     (λ (deeds : List Deed) (after : Outcome).
-    core after.world ≡ all_after (core w) (all_acts (cleared w) deeds))
+    core after.world ≡ all_after (core w) (all_acts (without_marks w) deeds))
     w p e (λ errno. refl)
     (λ accepted.
-    let deeds : List Deed = (row (cleared w) p e).deeds in
-    let end : WorldState = all_done (cleared w) deeds in
-    same_core end (settled end.callers) (settled_kept end.callers) ∙ deeds_core (cleared w) deeds)
+    let deeds : List Deed = (row (without_marks w) p e).deeds in
+    let end : WorldState = apply_deeds (without_marks w) deeds in
+    same_core end (after_idle_rule end.callers) (settled_kept end.callers) ∙ deeds_core (without_marks w) deeds)
 
 event_ordered : (w : WorldState) (p : ℕ) (e : Event) → is_ordered false (event_acts w p e) ≡ true
 event_ordered w p e =
     by_step
     (λ (deeds : List Deed) (after : Outcome).
-    is_ordered false (all_acts (cleared w) deeds) ≡ true)
+    is_ordered false (all_acts (without_marks w) deeds) ≡ true)
     w p e (λ errno. refl)
     (λ accepted.
-    acts_ordered false (cleared w) (row (cleared w) p e).deeds (row_ordered (cleared w) p e))
+    acts_ordered false (without_marks w) (row (without_marks w) p e).deeds (row_ordered (without_marks w) p e))
 
 history_ordered : (w : WorldState) (entries : List Entry) → AllOrdered (history_acts w entries)
 history_ordered w [] = tt

@@ -6,7 +6,7 @@ use Rattle.std.specs.List.{range_with_len}
 use Rattle.std.specs.Prelude.{is_some}
 use Rattle.vt_base.specs.ConsoleSet.{is_among}
 use Rattle.vt_base.specs.declared.vt_mode.VtMode.{VtMode}
-use Rattle.vt_procs.specs.Callers.{Callers, caller_at, ended, gone, is_live, no_caller}
+use Rattle.vt_procs.specs.Callers.{Callers, caller_at, after_exit, dead_process, is_live, no_caller}
 use Rattle.vt_procs.specs.declared.process.Process.{Process}
 use Rattle.vt_switch.specs.Acts.{SwitchAct, SetMode, End, after}
 use Rattle.vt_switch.specs.Calls.{first_display}
@@ -67,10 +67,10 @@ set-mode d callers c p m it =
 
 -- who ended is dead
 pub end-core : (d : Display) (callers : Callers) (p : ℕ)
-    → core_after (core_of d callers) (End p) ≡ core_of (after d (End p)) (ended p callers)
+    → core_after (core_of d callers) (End p) ≡ core_of (after d (End p)) (after_exit p callers)
 end-core d callers p =
     ap (λ (live : List Bool). record { display = after d (End p); live = live })
-    (sym (map-set (λ (caller : Process). caller.live) callers.list p (gone (caller_at callers p))))
+    (sym (map-set (λ (caller : Process). caller.live) callers.list p (dead_process (caller_at callers p))))
 
 -- who lives once a caller is dead lived before
 lived : (live : List Bool) (p q : ℕ) → get_or (set live p false) q false ≡ true

@@ -4,7 +4,7 @@ use Rattle.std.proofs.lemmas.List.Folds.{find-append}
 use Rattle.std.specs.List.{find, range_with_len}
 use Rattle.std.specs.Option.{option_or}
 use Rattle.std.specs.Prelude.{is_some}
-use Rattle.vt_switch.specs.Calls.{after_asked, asked, request}
+use Rattle.vt_switch.specs.Calls.{after_asked, request_outcome, request}
 use Rattle.vt_switch.specs.Display.{Display}
 use Rattle.vt_switch.specs.declared.asked.Asked.{Asked}
 use Rattle.vt_switch.specs.declared.asked.Asked.TheVariants.{Hopped, Signalled, Ignored}
@@ -52,4 +52,4 @@ asked_alike d n Ignored = refl
 
 -- a request leaves the consoles
 pub request_alike : (d : Display) (n : ℕ) → (request d n).consoles ≡ d.consoles
-request_alike d n = asked_alike d n (asked d n)
+request_alike d n = asked_alike d n (request_outcome d n)

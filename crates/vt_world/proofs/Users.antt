@@ -6,7 +6,7 @@ use Rattle.std.proofs.lemmas.List.{get_or-set_other}
 use Rattle.std.specs.List.{range_with_len}
 use Rattle.std.specs.Prelude.{filter}
 use Rattle.vt_switch.specs.Acts.{End}
-use Rattle.vt_world.specs.Deeds.{By, Deed, all_done, done}
+use Rattle.vt_world.specs.Deeds.{By, Deed, apply_deeds, apply_deed}
 use Rattle.vt_world.specs.State.{WorldState}
 use Rattle.vt_world.specs.Typing.{ends_of}
 use Rattle.vt_world.proofs.Requests.{range-first}
@@ -31,14 +31,14 @@ users-next : (f : ℕ → Bool) (p : ℕ) → p < 65
 users-next f p within = ap (filter f) (range-first p p 65 within)
 
 either-ends : (b : Bool) (p : ℕ) (ps : List ℕ) (deeds : List Deed) (w v : WorldState)
-    → v ≡ cond b (done w (By (End p))) w
-    → all_done w (ends_of (cond b (p ∷ ps) ps) deeds) ≡ all_done v (ends_of ps deeds)
-either-ends true p ps deeds w v is = ap (λ (u : WorldState). all_done u (ends_of ps deeds)) (sym is)
-either-ends false p ps deeds w v is = ap (λ (u : WorldState). all_done u (ends_of ps deeds)) (sym is)
+    → v ≡ cond b (apply_deed w (By (End p))) w
+    → apply_deeds w (ends_of (cond b (p ∷ ps) ps) deeds) ≡ apply_deeds v (ends_of ps deeds)
+either-ends true p ps deeds w v is = ap (λ (u : WorldState). apply_deeds u (ends_of ps deeds)) (sym is)
+either-ends false p ps deeds w v is = ap (λ (u : WorldState). apply_deeds u (ends_of ps deeds)) (sym is)
 
 pub ends-next : (f : ℕ → Bool) (p : ℕ) → p < 65 → (deeds : List Deed) (w v : WorldState)
-    → v ≡ cond (f p) (done w (By (End p))) w
-    → all_done v (ends_of (users_from f (p + 1)) deeds) ≡ all_done w (ends_of (users_from f p) deeds)
+    → v ≡ cond (f p) (apply_deed w (By (End p))) w
+    → apply_deeds v (ends_of (users_from f (p + 1)) deeds) ≡ apply_deeds w (ends_of (users_from f p) deeds)
 ends-next f p within deeds w v is =
-    sym (ap (λ (ps : List ℕ). all_done w (ends_of ps deeds)) (users-next f p within)
+    sym (ap (λ (ps : List ℕ). apply_deeds w (ends_of ps deeds)) (users-next f p within)
     ∙ either-ends (f p) p (users_from f (p + 1)) deeds w v is)

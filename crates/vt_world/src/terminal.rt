@@ -1,7 +1,7 @@
 ghost use Rattle.std.specs.Prelude.{◌≡◌, ◌≤◌, [], length};
-ghost use Rattle.vt_screen.specs.Run.{said};
+ghost use Rattle.vt_screen.specs.Run.{outs_of_run};
 ghost use Rattle.vt_screen.specs.Tape.{palette, resize, user_map};
-ghost use Rattle.vt_world.specs.Terminals.{altered_by, new_terminal, rung, written_on};
+ghost use Rattle.vt_world.specs.Terminals.{altered_by, new_terminal, bell_count_after, written_on};
 
 use std::marker::Model;
 use vt_cells::Palette;
@@ -56,11 +56,11 @@ impl Terminal {
         requires short { length b.now ≤ 64 }
         requires empty { outs.old ≡ [] }
         ensures terminal { self.new ≡ written_on b.now self.old }
-        ensures outs { outs.new ≡ said self.old.machine b.now }
+        ensures outs { outs.new ≡ outs_of_run self.old.machine b.now }
         ensures few { length outs.new ≤ length b.now }
     {
         self.emu.feed(b, outs);
-        self.bells = rung(self.bells, outs.as_slice());
+        self.bells = bell_count_after(self.bells, outs.as_slice());
     }
 
     /// Gives the screen the size of this grid, and gives the old grid back.
@@ -86,8 +86,8 @@ impl Terminal {
 }
 
 // The count after these were said.
-fn rung(bells: u32, said: &[Out]) -> u32
-    ensures { result ≡ rung bells said.now }
+fn bell_count_after(bells: u32, said: &[Out]) -> u32
+    ensures { result ≡ bell_count_after bells said.now }
 {
     let mut bells = bells;
     for out in said {

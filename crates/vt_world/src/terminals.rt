@@ -1,7 +1,7 @@
 ghost use Rattle.std.specs.Prelude.{◌≡◌, ◌≤◌, [], Some, None, IfOk, length, is_some, option_copied, if◌then◌else◌};
 ghost use Rattle.vt_base.specs.ConsoleSet.{at_each};
 ghost use Rattle.vt_screen.specs.Tape.{palette, resize, user_map};
-ghost use Rattle.vt_world.specs.Terminals.{altered, new_terminal, said_of, terminal_at, with_start, without_terminal, written};
+ghost use Rattle.vt_world.specs.Terminals.{after_screen_change, new_terminal, said_of, terminal_at, with_start, without_terminal, after_write};
 
 use crate::terminal::Terminal;
 use std::alloc::Global;
@@ -12,7 +12,7 @@ use vt_grid::Grid;
 use vt_screen::{BLANK, Outs};
 
 /// The places for consoles by their numbers, of which 0 stays free.
-const PLACES: usize = CONSOLES + 1;
+const CONSOLE_PLACES: usize = CONSOLES + 1;
 
 /// What the consoles show, by their numbers, of which 0 stays free.
 #[derive(Drop)]
@@ -37,8 +37,8 @@ impl Terminals {
         ensures { IfOk result (λ terminals. terminals
             ≡ at_each consoles (new_terminal size.rows size.cols)) }
     {
-        let mut places = Vec::with_capacity(alloc, PLACES)?;
-        for n in 0..PLACES {
+        let mut places = Vec::with_capacity(alloc, CONSOLE_PLACES)?;
+        for n in 0..CONSOLE_PLACES {
             places.push(first_terminal(alloc, size, is_among(consoles, n))?)?;
         }
         Ok(Terminals { places })
@@ -73,7 +73,7 @@ impl Terminals {
     pub fn write(&mut self, c: ConsoleNo, b: &[u8], outs: &mut Outs)
         requires short { length b.now ≤ 64 }
         requires empty { outs.old ≡ [] }
-        ensures terminals { self.new ≡ written c b.now self.old }
+        ensures terminals { self.new ≡ after_write c b.now self.old }
         ensures outs { outs.new ≡ said_of (terminal_at self.old c) b.now }
         ensures few { length outs.new ≤ length b.now }
     {
@@ -85,7 +85,7 @@ impl Terminals {
     /// Gives the console's screen, if it has one, the size of this grid. The grid that it no longer
     /// needs is given back.
     pub fn resize(&mut self, c: ConsoleNo, grid: Grid) -> Grid
-        ensures { self.new ≡ altered c (resize grid.rows grid.cols) self.old }
+        ensures { self.new ≡ after_screen_change c (resize grid.rows grid.cols) self.old }
     {
         match &mut self.places[usize::from(c.get())] {
             Some(terminal) => terminal.resize(grid),
@@ -95,7 +95,7 @@ impl Terminals {
 
     /// Gives the console's screen, if it has one, this user's table.
     pub fn set_user(&mut self, c: ConsoleNo, words: &[u16; 256])
-        ensures { self.new ≡ altered c (user_map words.now) self.old }
+        ensures { self.new ≡ after_screen_change c (user_map words.now) self.old }
     {
         if let Some(terminal) = &mut self.places[usize::from(c.get())] {
             terminal.set_user(words);
@@ -104,7 +104,7 @@ impl Terminals {
 
     /// Gives the console's screen, if it has one, this palette.
     pub fn set_palette(&mut self, c: ConsoleNo, colours: Palette)
-        ensures { self.new ≡ altered c (palette colours) self.old }
+        ensures { self.new ≡ after_screen_change c (palette colours) self.old }
     {
         if let Some(terminal) = &mut self.places[usize::from(c.get())] {
             terminal.set_palette(colours);

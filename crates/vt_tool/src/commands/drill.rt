@@ -1,7 +1,7 @@
 //! `drill N SEED`: five numbers of the serial play of a session that is made from a number.
 ghost use Rattle.std.specs.Prelude.{◌≡◌, ◌≤◌, IfOk, IsTrue};
 ghost use Rattle.vt_tool.specs.Commands.Drill.{GivesDrill, drill_text, dropped_in};
-ghost use Rattle.vt_tool.specs.Status.{is_own};
+ghost use Rattle.vt_tool.specs.Status.{is_command_status};
 
 use crate::answer::Answer;
 use crate::commands::lines::add_number;
@@ -17,7 +17,7 @@ pub fn answer(alloc: Global, n: u32, seed: u64) -> Result<Answer, NoMemory>
     requires few { n ≤ 10_000 }
     ensures gives { IfOk result (λ answer. GivesDrill n seed
         (record { status = answer.status; text = answer.text.bytes })) }
-    ensures own { IfOk result (λ answer. IsTrue (is_own answer.status)) }
+    ensures own { IfOk result (λ answer. IsTrue (is_command_status answer.status)) }
 {
     let session = drill_session(alloc, n, seed)?;
     let run = play(alloc, &session)?;

@@ -3,7 +3,7 @@ ghost use Rattle.std.specs.Prelude.{◌≡◌, ◌⊎◌, [], IfOk, IsTrue};
 ghost use Rattle.key_compile.specs.Dumpable.{is_dumpable};
 ghost use Rattle.key_tables.specs.Listing.{listing_of};
 ghost use Rattle.vt_tool.specs.Commands.Keys.{GivesKeyFault, GivesListing, ReadsKeymap};
-ghost use Rattle.vt_tool.specs.Status.{is_own};
+ghost use Rattle.vt_tool.specs.Status.{is_command_status};
 
 use crate::answer::Answer;
 use crate::status::Status;
@@ -18,7 +18,7 @@ pub fn answer(alloc: Global, input: &[u8]) -> Result<Answer, NoMemory>
     ensures gives { IfOk result (λ answer.
         GivesListing input.now (record { status = answer.status; text = answer.text.bytes })
         ⊎ GivesKeyFault input.now (record { status = answer.status; text = answer.text.bytes })) }
-    ensures own { IfOk result (λ answer. IsTrue (is_own answer.status)) }
+    ensures own { IfOk result (λ answer. IsTrue (is_command_status answer.status)) }
 {
     match tables_in(alloc, input) {
         Ok(tables) => answer_listed(alloc, &tables),

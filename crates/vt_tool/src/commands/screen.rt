@@ -1,7 +1,7 @@
 //! `screen R C`: the rows of a screen after the input.
 ghost use Rattle.std.specs.Prelude.{◌≡◌, IfOk, IsTrue};
 ghost use Rattle.vt_dump.specs.Rows.{rows_text};
-ghost use Rattle.vt_tool.specs.Status.{is_own};
+ghost use Rattle.vt_tool.specs.Status.{is_command_status};
 ghost use Rattle.vt_tool.specs.Streaming.{GivesScreen};
 
 use crate::answer::Answer;
@@ -41,7 +41,7 @@ pub fn draw<S: Source>(alloc: Global, size: Size, src: &mut S) -> Result<Emu, St
 pub fn answer(alloc: Global, emu: &Emu) -> Result<Answer, NoMemory>
     ensures status { IfOk result (λ answer. answer.status ≡ Status.Fine) }
     ensures text { IfOk result (λ answer. answer.text.bytes ≡ rows_text emu.now.state.grid.cells) }
-    ensures own { IfOk result (λ answer. IsTrue (is_own answer.status)) }
+    ensures own { IfOk result (λ answer. IsTrue (is_command_status answer.status)) }
 {
     Ok(Answer::fine(text_rows(alloc, emu.grid())?))
 }

@@ -19,7 +19,7 @@ pub loop-i-preserved : goal.loop-i-preserved
 loop-i-preserved c =
     begun-pushed _ _ _ _ _ _ _ c.loop-i.invariant c.loop-i-test.true
     (sym c.end_len-ended.ensures.value ∙ c.if-ended-ne0.false) (sym c.join_len-skipped.ensures.value ∙ c.if-skipped-ne0.false)
-    c.placed.result c.placed.ensures _ c.in_ok-push.ensures.items _ c.after-here.ensures
+    c.with_places.result c.with_places.ensures _ c.in_ok-push.ensures.items _ c.after-here.ensures
 
 pub returns-clause-rows : goal.returns-clause-rows
 returns-clause-rows c = begun-left _ _ _ _ _ _ _ c.loop-i.invariant c.loop-i-test.false

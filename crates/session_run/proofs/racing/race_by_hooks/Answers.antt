@@ -6,7 +6,7 @@ use Rattle.vt_hub.specs.declared.run.Run.{Run}
 use Rattle.vt_procs.specs.declared.config.Config.{Config}
 use Rattle.vt_switch.specs.Law.{IsExplained}
 use Rattle.vt_world.specs.Laws.{IsStart, moments}
-use Rattle.vt_world.specs.Start.{opening}
+use Rattle.vt_world.specs.Start.{start_world}
 use Rattle.vt_world.specs.State.{WorldState, core}
 use Rattle.vt_world.specs.Terminals.{machine_of, terminal_at}
 use Rattle.session_run.proofs.racing.race_by_hooks.Goals as goal
@@ -16,7 +16,7 @@ race_on-requires-clause-world g c κs within =
     c.in_ok-world.ensures
     ∙ (λ i.
     let config : Config = c.config-config.ensures.same i in
-    opening config.size.rows config.size.cols config.consoles config.front config.keyboards config.procs (c.key_tables-tables.ensures i))
+    start_world config.size.rows config.size.cols config.consoles config.front config.keyboards config.procs (c.key_tables-tables.ensures i))
 
 pub returns : goal.returns
 returns g c =

@@ -8,7 +8,7 @@ use Rattle.session_run.specs.Callers.{callers_in}
 use Rattle.session_run.specs.Runs.{HasHooks}
 use Rattle.vt_base.specs.ConsoleSet.{IsFitSet}
 use Rattle.vt_world.specs.State.{is_waiting}
-use Rattle.vt_hub.specs.Views.{opened}
+use Rattle.vt_hub.specs.Views.{view_at_open}
 use Rattle.vt_procs.specs.declared.config.Config.{Config}
 use Rattle.vt_world.specs.Laws.{IsStart}
 use Rattle.session_run.proofs.racing.race_on.Goals as goal
@@ -22,7 +22,7 @@ open-requires-clause-free g c = λ p.
 pub race_in-requires-clause-fresh : goal.race_in-requires-clause-fresh
 race_in-requires-clause-fresh g c κs within =
     split-start (start_of c.args.s.now) c.in_ok-hub.hub (callers_in c.programs-programs.result.now) c.in_ok-hub.steward
-    (c.in_ok-hub.ensures ∙ ap (λ w. opened w c.in_ok-hub.hub) c.requires.start)
+    (c.in_ok-hub.ensures ∙ ap (λ w. view_at_open w c.in_ok-hub.hub) c.requires.start)
 
 -- the hooks are those of the session's processes
 pub race_in-requires-clause-hooks : goal.race_in-requires-clause-hooks

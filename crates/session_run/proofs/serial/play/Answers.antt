@@ -1,7 +1,7 @@
 use Rattle.std.proofs.Common.{length, sym, ap, ◌∙◌, subst}
 use Rattle.session_order.specs.Laws.{IsRight}
 use Rattle.session_run.proofs.Sessions.{is-start}
-use Rattle.session_run.specs.Runs.{played}
+use Rattle.session_run.specs.Runs.{run_result}
 use Rattle.session_order.specs.Sessions.{setup_of, start_of}
 use Rattle.vt_base.specs.ConsoleSet.{IsFitSet}
 use Rattle.vt_procs.specs.declared.config.Config.{Config}
@@ -13,20 +13,20 @@ use Rattle.session_run.proofs.serial.play.Goals as goal
 
 pub returns-clause-legal : goal.returns-clause-legal
 returns-clause-legal c =
-    let right : IsRight (setup_of c.args.s.now) (played c.in_ok-ran.ran) =
-    c.serial_laws.ensures.right (setup_of c.args.s.now) c.args.s.now.turns (played c.in_ok-ran.ran) c.in_ok-ran.ensures.serial in
+    let right : IsRight (setup_of c.args.s.now) (run_result c.in_ok-ran.ran) =
+    c.serial_laws.ensures.right (setup_of c.args.s.now) c.args.s.now.turns (run_result c.in_ok-ran.ran) c.in_ok-ran.ensures.serial in
     c.meant_laws.ensures.legal (start_of c.args.s.now) c.in_ok-ran.ran.log.entries right.legal
 
 pub returns-clause-follows : goal.returns-clause-follows
 returns-clause-follows c =
-    let right : IsRight (setup_of c.args.s.now) (played c.in_ok-ran.ran) =
-    c.serial_laws.ensures.right (setup_of c.args.s.now) c.args.s.now.turns (played c.in_ok-ran.ran) c.in_ok-ran.ensures.serial in
+    let right : IsRight (setup_of c.args.s.now) (run_result c.in_ok-ran.ran) =
+    c.serial_laws.ensures.right (setup_of c.args.s.now) c.args.s.now.turns (run_result c.in_ok-ran.ran) c.in_ok-ran.ensures.serial in
     c.meant_laws.ensures.follows (start_of c.args.s.now) c.args.s.now.programs c.in_ok-ran.ran.log.entries right.follows
 
 pub returns-clause-ends : goal.returns-clause-ends
 returns-clause-ends c =
-    let right : IsRight (setup_of c.args.s.now) (played c.in_ok-ran.ran) =
-    c.serial_laws.ensures.right (setup_of c.args.s.now) c.args.s.now.turns (played c.in_ok-ran.ran) c.in_ok-ran.ensures.serial in
+    let right : IsRight (setup_of c.args.s.now) (run_result c.in_ok-ran.ran) =
+    c.serial_laws.ensures.right (setup_of c.args.s.now) c.args.s.now.turns (run_result c.in_ok-ran.ran) c.in_ok-ran.ensures.serial in
     c.meant_laws.ensures.ends (setup_of c.args.s.now) c.in_ok-ran.ran.log.entries c.in_ok-ran.ran.stop right.ends
 
 pub returns-clause-lawful : goal.returns-clause-lawful

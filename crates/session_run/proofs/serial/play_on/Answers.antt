@@ -6,7 +6,7 @@ use Rattle.session_run.proofs.Ends.{IsEnd, run-serial, run-world}
 use Rattle.session_run.proofs.HavePrograms.{hooked}
 use Rattle.session_run.proofs.Sessions.{from-start}
 use Rattle.session_run.specs.Playing.{IsAt}
-use Rattle.session_run.specs.Runs.{HasHooks, played}
+use Rattle.session_run.specs.Runs.{HasHooks, run_result}
 use Rattle.session_order.specs.Sessions.{setup_of}
 use Rattle.session_text.proofs.Turning.{turn-low}
 use Rattle.session_text.specs.Sessions.{ArePrograms}
@@ -50,7 +50,7 @@ returns-clause-serial g c =
     c.in_ok-turns.ensures o nothing_played same c.in_ok-player.ensures in
     let end : IsEnd o first c.rounds.new.self =
     c.in_ok-rounds.ensures o first (from-start c.args.s.now are) same events turned in
-    subst (λ list. IsSerial o list (played c.end.result)) c.turns-first.ensures.same
+    subst (λ list. IsSerial o list (run_result c.end.result)) c.turns-first.ensures.same
     (run-serial o first end.0 c.rounds.new.self c.end.result end.1 end.2 c.end.ensures.log c.end.ensures.stop)
 
 pub returns-clause-world : goal.returns-clause-world

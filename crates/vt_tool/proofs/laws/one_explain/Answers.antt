@@ -1,5 +1,5 @@
 use Rattle.vt_tool.proofs.Outcomes.{one-explained, one-outcome}
-use Rattle.vt_tool.specs.declared.commands.asked.Asked.TheVariants as asked
+use Rattle.vt_tool.specs.declared.commands.judge_request.JudgeRequest.TheVariants as asked
 use Rattle.vt_tool.proofs.laws.one_explain.Goals as goal
 
 pub returns : goal.returns

@@ -18,9 +18,9 @@ returns-in-Ok g c =
     let out : Stream =
     record { told = g.O.Sink.held c.args.out.now; faults = g.O.Sink.faults c.args.out.now } in
     let out' : Stream =
-    record { told = g.O.Sink.held c.give.new.out; faults = g.O.Sink.faults c.give.new.out } in
-    given-holds command src src' out out' c.in-Ok.input.bytes c.answer_to.result c.give.result
+    record { told = g.O.Sink.held c.write_answer.new.out; faults = g.O.Sink.faults c.write_answer.new.out } in
+    given-holds command src src' out out' c.in-Ok.input.bytes c.answer_to.result c.write_answer.result
     c.in-Ok.ensures
     (subst (λ (bytes : List ℕ). IfOk c.answer_to.result (λ a. Gives command bytes (record { status = a.status; text = a.text.bytes })))
     c.as_slice.ensures c.answer_to.ensures.gives)
-    c.answer_to.ensures.own c.give.ensures
+    c.answer_to.ensures.own c.write_answer.ensures

@@ -1,13 +1,13 @@
 use Rattle.std.proofs.Common.{ℕ, List, drop, get_or, ◌+◌, arith}
 use Rattle.std.proofs.lemmas.Bool.{ne_eqb}
-use Rattle.vt_units.proofs.Fields.{continued-all, field-ends, field-goes, front-number}
+use Rattle.vt_units.proofs.Fields.{numbers_after-all, field-ends, field-goes, front-number}
 use Rattle.vt_units.specs.Numbers.{params_of}
 use Rattle.vt_units.proofs.numbers.params_of.Goals as goal
 use Rattle.vt_units.proofs.numbers.params_of.Goals.{then-b-eq59, else-b-eq59}
 
 pub loop-b-init : goal.loop-b-init
 loop-b-init c = record {
-  params = rw c.new-params.ensures (continued-all c.args.body.now);
+  params = rw c.new-params.ensures (numbers_after-all c.args.body.now);
   small = omega arith;
 }
 
@@ -23,8 +23,8 @@ loop-b-preserved c =
         small = omega (arith, w.number-is);
       }
       | else-b-eq59 w ↦ record {
-        params = rw (w.params-is, w.number-is, w.shifted-number.ensures)
+        params = rw (w.params-is, w.number-is, w.number_with_digit-number.ensures)
             (field-goes c.loop-b.params c.loop-b.number (get_or body i 0) (drop (i + 1) body) (params_of body) (ne_eqb _ _ w.if-b-eq59.false) before);
-        small = omega (arith, w.number-is, w.shifted-number.ensures);
+        small = omega (arith, w.number-is, w.number_with_digit-number.ensures);
       }
     ]

@@ -1,7 +1,7 @@
 use Rattle.std.proofs.Common.{◌≡◌, ◌∙◌, ◌-◌, ◌++◌, ◌∷◌, [], sym, arith, ap, length, take, drop}
 use Rattle.std.proofs.lemmas.List.{take_rest}
 use Rattle.vt_units.proofs.Joined.{palette-dropped, palette-goes, palette-unit}
-use Rattle.vt_units.specs.Answer.{taken}
+use Rattle.vt_units.specs.Answer.{make_outcome}
 use Rattle.vt_units.specs.Rest.{fresh}
 use Rattle.vt_units.specs.Sequences.{colour_unit}
 use Rattle.vt_units.specs.declared.then.Then as then
@@ -25,5 +25,5 @@ returns-else-text c =
     let six : length c.requires.0 ≡ 6 = omega (arith, ap length c.requires.1) in
     palette-unit c.args.mode c.args.text.now c.requires.0 c.requires.1 c.requires.2 c.requires.3
     c.args.b (sym c.acts.ensures ∙ c.if-acts.false) (sym c.is_hex.ensures ∙ c.if-not-is_hex.false) six
-    ∙ ap (λ xs. taken (then.Then.Unit (colour_unit (xs ++ c.args.b ∷ []))) (fresh c.args.mode)) (sym digits)
-    ∙ ap (λ u. taken (then.Then.Unit u) (fresh c.args.mode)) (sym c.colour_unit.ensures)
+    ∙ ap (λ xs. make_outcome (then.Then.Unit (colour_unit (xs ++ c.args.b ∷ []))) (fresh c.args.mode)) (sym digits)
+    ∙ ap (λ u. make_outcome (then.Then.Unit u) (fresh c.args.mode)) (sym c.colour_unit.ensures)

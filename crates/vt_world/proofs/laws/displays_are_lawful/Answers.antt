@@ -1,6 +1,6 @@
 use Rattle.vt_world.proofs.Called.{acts-are-calls}
 use Rattle.vt_world.proofs.Displays.{acts-make-cores, displays-are-lawful, owners-are-live, targets-are-explained}
-use Rattle.vt_world.proofs.Traces.{traces-tell-acts, traces-tell-deeds, traces-tell-hops}
+use Rattle.vt_world.proofs.Traces.{traces-apply_marks-acts, traces-apply_marks-deeds, traces-apply_marks-hops}
 use Rattle.vt_world.proofs.laws.displays_are_lawful.Goals as goal
 
 pub returns-clause-lawful : goal.returns-clause-lawful
@@ -16,13 +16,13 @@ pub returns-clause-acts : goal.returns-clause-acts
 returns-clause-acts c = acts-make-cores
 
 pub returns-clause-told : goal.returns-clause-told
-returns-clause-told c = traces-tell-acts
+returns-clause-told c = traces-apply_marks-acts
 
 pub returns-clause-hops : goal.returns-clause-hops
-returns-clause-hops c = traces-tell-hops
+returns-clause-hops c = traces-apply_marks-hops
 
 pub returns-clause-trace : goal.returns-clause-trace
-returns-clause-trace c = traces-tell-deeds
+returns-clause-trace c = traces-apply_marks-deeds
 
 pub returns-clause-calls : goal.returns-clause-calls
 returns-clause-calls c = acts-are-calls

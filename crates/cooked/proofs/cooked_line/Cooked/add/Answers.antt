@@ -4,16 +4,16 @@ use Rattle.vt_chars.specs.Characters.{is_part}
 use Rattle.cooked.proofs.FreshLaws.{fresh-full}
 use Rattle.cooked.proofs.StandLaws.{fresh-later, part-few, put-stands}
 use Rattle.cooked.proofs.cooked_line.Cooked.add.Goals as goal
-use Rattle.cooked.specs.Cooked.{Stands, Typing, ends_open, typing}
+use Rattle.cooked.specs.Cooked.{Stands, Typing, ends_open, make_typing}
 use Rattle.cooked.specs.Fresh.{fresh}
-use Rattle.cooked.specs.Kept.{kept, last_of}
+use Rattle.cooked.specs.KeptText.{kept_characters, last_of}
 use Rattle.cooked.specs.Kinds.{ends_line, kind}
 use Rattle.cooked.specs.declared.kind.Kind.TheVariants.{Data}
 use Rattle.cooked.specs.declared.termios.Termios.{Termios}
 
 -- a byte goes on with what is kept
 abbrev goes_on : ℕ → Typing → Bool
-goes_on b v = ends_open v.termios.erase v.fresh && is_part (last_of (kept v.termios v.fresh) ++ b ∷ [])
+goes_on b v = ends_open v.termios.erase v.fresh && is_part (last_of (kept_characters v.termios v.fresh) ++ b ∷ [])
 
 pub returns-then-is_full : goal.returns-then-is_full
 returns-then-is_full c =
@@ -26,12 +26,12 @@ returns-then-is_full c =
     let same : fresh t (f ++ c.args.b ∷ []) ≡ f =
     fresh-full t f c.args.b lines c.self.invariant.stays (ap ends_line is) full in
     sym c.self.view_is
-    ∙ ap (λ g. typing t g c.self.inside.line.bytes) (sym same)
-    ∙ ap (λ (v : Typing). typing v.termios (fresh v.termios (v.fresh ++ c.args.b ∷ [])) v.line) c.self.view_is
+    ∙ ap (λ g. make_typing t g c.self.inside.line.bytes) (sym same)
+    ∙ ap (λ (v : Typing). make_typing v.termios (fresh v.termios (v.fresh ++ c.args.b ∷ [])) v.line) c.self.view_is
 
 pub put-requires-clause-few : goal.put-requires-clause-few
 put-requires-clause-few c joins =
-    let test : goes_on c.args.b (typing c.self.inside.termios c.self.inside.fresh.bytes c.self.inside.line.bytes) ≡ true =
+    let test : goes_on c.args.b (make_typing c.self.inside.termios c.self.inside.fresh.bytes c.self.inside.line.bytes) ≡ true =
     ap (goes_on c.args.b) c.self.view_is ∙ sym c.goes_on-joins.ensures ∙ joins in
     part-few (last_of c.self.inside.kept) c.args.b
     (ap (λ cs. is_part (last_of cs ++ c.args.b ∷ [])) c.self.invariant.held_are ∙ (and_parts _ _ test).1)
@@ -56,5 +56,5 @@ returns c =
     let later : fresh t (f ++ c.args.b ∷ []) ≡ f ++ c.args.b ∷ [] =
     fresh-later t c.self.inside.fresh c.push.new.self c.self.inside.kept c.self.inside.line c.args.b
     c.self.invariant lines (ap ends_line is) c.push.ensures.bytes c.push.ensures.room in
-    ap (λ g. typing t g c.self.inside.line.bytes) (c.push.ensures.bytes ∙ sym later)
-    ∙ ap (λ (v : Typing). typing v.termios (fresh v.termios (v.fresh ++ c.args.b ∷ [])) v.line) c.self.view_is
+    ap (λ g. make_typing t g c.self.inside.line.bytes) (c.push.ensures.bytes ∙ sym later)
+    ∙ ap (λ (v : Typing). make_typing v.termios (fresh v.termios (v.fresh ++ c.args.b ∷ [])) v.line) c.self.view_is

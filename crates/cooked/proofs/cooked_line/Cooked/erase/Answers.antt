@@ -4,9 +4,9 @@ use Rattle.cooked.proofs.FreshLaws.{fresh-full}
 use Rattle.cooked.proofs.KindLaws.{erase-canonical}
 use Rattle.cooked.proofs.StandLaws.{erase-stands, fresh-later, with-line}
 use Rattle.cooked.proofs.cooked_line.Cooked.erase.Goals as goal
-use Rattle.cooked.specs.Cooked.{Stands, Typing, typing}
+use Rattle.cooked.specs.Cooked.{Stands, Typing, make_typing}
 use Rattle.cooked.specs.Fresh.{fresh}
-use Rattle.cooked.specs.Kept.{but_last}
+use Rattle.cooked.specs.KeptText.{but_last}
 use Rattle.cooked.specs.Kinds.{ends_line, kind}
 use Rattle.cooked.specs.declared.kind.Kind.TheVariants.{Erase}
 use Rattle.cooked.specs.declared.termios.Termios.{Termios}
@@ -19,9 +19,9 @@ returns-then-is_full-clause-state c =
     let full : 4095 ≤ length f = OnTrue_at c.if-is_full.true c.is_full.ensures.full in
     let same : fresh t (f ++ c.args.b ∷ []) ≡ f =
     fresh-full t f c.args.b (erase-canonical t c.args.b is) c.self.invariant.stays (ap ends_line is) full in
-    ap (typing t f) c.truncate.ensures.bytes
-    ∙ ap (λ g. typing t g []) (sym same)
-    ∙ ap (λ (v : Typing). typing v.termios (fresh v.termios (v.fresh ++ c.args.b ∷ [])) []) c.self.view_is
+    ap (make_typing t f) c.truncate.ensures.bytes
+    ∙ ap (λ g. make_typing t g []) (sym same)
+    ∙ ap (λ (v : Typing). make_typing v.termios (fresh v.termios (v.fresh ++ c.args.b ∷ [])) []) c.self.view_is
 
 pub invariant_of-self-2 : goal.invariant_of-self-2
 invariant_of-self-2 c =
@@ -43,6 +43,6 @@ returns-clause-state c =
     let later : fresh t (f ++ c.args.b ∷ []) ≡ f ++ c.args.b ∷ [] =
     fresh-later t c.self.inside.fresh c.push.new.self c.self.inside.kept c.self.inside.line c.args.b
     c.self.invariant (erase-canonical t c.args.b is) (ap ends_line is) c.push.ensures.bytes c.push.ensures.room in
-    ap (typing t c.push.new.self.bytes) c.truncate.ensures.bytes
-    ∙ ap (λ g. typing t g []) (c.push.ensures.bytes ∙ sym later)
-    ∙ ap (λ (v : Typing). typing v.termios (fresh v.termios (v.fresh ++ c.args.b ∷ [])) []) c.self.view_is
+    ap (make_typing t c.push.new.self.bytes) c.truncate.ensures.bytes
+    ∙ ap (λ g. make_typing t g []) (c.push.ensures.bytes ∙ sym later)
+    ∙ ap (λ (v : Typing). make_typing v.termios (fresh v.termios (v.fresh ++ c.args.b ∷ [])) []) c.self.view_is

@@ -1,7 +1,7 @@
 use Rattle.std.proofs.Common.{◌≡◌, ◌==◌, [], suc, length, Some, true, false, sym, ap, ◌∙◌, arith}
 use Rattle.std.proofs.lemmas.Bool.Decides.{nat_tests}
 use Rattle.vt_cells.specs.Width.{half, is_half}
-use Rattle.vt_grid.proofs.Border.{parted-past}
+use Rattle.vt_grid.proofs.Border.{split_wide-past}
 use Rattle.vt_grid.proofs.Split.{get-away, get-left, get-same, none-there}
 use Rattle.vt_grid.specs.Grid.{row_at}
 use Rattle.vt_grid.proofs.grid.Grid.at_parted.Goals as goal
@@ -22,7 +22,7 @@ returns-then-cols-border c =
     let full = c.size-cols.ensures.full in
     let wide : length row ≡ s.cols = full.wide c.args.y [] (omega (arith, full.tall, c.requires.row)) in
     get-same row c.args.border c.args.x c.at-cell.result
-    (parted-past c.args.border row (omega (arith, wide, c.size-cols.ensures.cols, c.if-cols-border.true))) c.at-cell.ensures
+    (split_wide-past c.args.border row (omega (arith, wide, c.size-cols.ensures.cols, c.if-cols-border.true))) c.at-cell.ensures
 
 pub returns-then-at-eq-HALF : goal.returns-then-at-eq-HALF
 returns-then-at-eq-HALF c =
@@ -34,7 +34,7 @@ returns-then-at-eq-HALF c =
     let next : c.args.border ≡ suc c.args.x = omega (arith, c.requires.before, c.if-border-x-gt1.false) in
     get-left row c.args.border c.args.x c.at-cell.result c.at.result next
     (omega (arith, wide, c.size-cols.ensures.cols, c.if-cols-border.false)) c.at-cell.ensures c.at.ensures half_is
-    ∙ ap Some (sym c.spaced.ensures)
+    ∙ ap Some (sym c.space_in_colours.ensures)
 
 pub returns-else-at-eq-HALF : goal.returns-else-at-eq-HALF
 returns-else-at-eq-HALF c =

@@ -1,14 +1,14 @@
 use Rattle.std.proofs.Common.{◌≡◌, ◌<◌, ℕ, List, [], ◌++◌, length, take, drop, set, get_or, sym, ap, ◌∙◌, add-one, arith}
 use Rattle.std.proofs.lemmas.List.{take_all, drop_all, append-nil}
 use Rattle.vt_grid.proofs.Copied.{copied-more, get_or-copied, overlaid-all}
-use Rattle.vt_grid.specs.Grid.{Sheet, with_run}
+use Rattle.vt_grid.specs.Grid.{GridView, with_run}
 use Rattle.vt_cells.specs.declared.cell.Cell.{Cell}
 use Rattle.vt_grid.proofs.grid.Grid.copy_from.Goals as goal
 
 pub loop-y-preserved : goal.loop-y-preserved
 loop-y-preserved c =
-    let old : Sheet = c.args.self.now in
-    let new : Sheet = c.args.other.now in
+    let old : GridView = c.args.self.now in
+    let new : GridView = c.args.other.now in
     let y : ℕ = c.loop-y.y in
     let rows : List (List Cell) = take y new.cells ++ drop y old.cells in
     let row : List Cell = get_or new.cells y [] in
@@ -32,8 +32,8 @@ loop-y-preserved c =
 
 pub returns : goal.returns
 returns c =
-    let old : Sheet = c.args.self.now in
-    let new : Sheet = c.args.other.now in
+    let old : GridView = c.args.self.now in
+    let new : GridView = c.args.other.now in
     let y : ℕ = c.loop-y.y in
     c.loop-y.invariant
     ∙ ap (λ (cells : List (List Cell)). record new { cells = cells })

@@ -4,8 +4,8 @@ use Rattle.vt_world.proofs.Places.{allocated_alike, allocating_same}
 use Rattle.vt_switch.specs.Acts.{Allocate}
 use Rattle.vt_switch.specs.Display.{Display}
 use Rattle.vt_world.proofs.Owners.{after-act}
-use Rattle.vt_world.specs.Rows.{allocating}
-use Rattle.vt_world.specs.Deeds.{all_done}
+use Rattle.vt_world.specs.Rows.{with_allocation}
+use Rattle.vt_world.specs.Deeds.{apply_deeds}
 use Rattle.vt_world.specs.State.{WorldState, core_of}
 use Rattle.vt_world.proofs.world.World.allocate.Goals as goal
 
@@ -22,7 +22,7 @@ returns-then-allocated c =
       board = inside.board;
       trace = inside.trace;
     } in
-    subst (λ (v : WorldState). v ≡ all_done v (allocating c.args.c [])) c.self.view_is
+    subst (λ (v : WorldState). v ≡ apply_deeds v (with_allocation c.args.c [])) c.self.view_is
     (allocating_same w c.args.c c.self.invariant.alike (sym c.allocated.ensures ∙ c.if-allocated.true))
 
 pub invariant_of-self : goal.invariant_of-self

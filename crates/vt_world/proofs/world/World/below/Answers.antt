@@ -1,6 +1,6 @@
 use Rattle.std.proofs.Common.{◌≡◌, ℕ, ◌-◌, sym, ap, ◌∙◌}
 use Rattle.std.specs.List.{find}
-use Rattle.vt_world.specs.Wanted.{falling}
+use Rattle.vt_world.specs.Wanted.{numbers_down_from}
 use Rattle.vt_switch.specs.Display.{is_allocated}
 use Rattle.vt_world.specs.State.{WorldState}
 use Rattle.vt_world.proofs.Requests.{found-first, found-second}
@@ -13,7 +13,7 @@ returns-in-Some c =
     c.get-front.ensures.same ∙ c.front.ensures.front
     ∙ ap (λ (w : WorldState). w.display.front) c.self.view_is in
     found-first p _ _ c.in-Some.c
-    (ap (λ (f : ℕ). find p (falling (f - 1) (f - 1))) (sym front) ∙ sym c.in-Some.ensures)
+    (ap (λ (f : ℕ). find p (numbers_down_from (f - 1) (f - 1))) (sym front) ∙ sym c.in-Some.ensures)
 
 pub returns-in-None : goal.returns-in-None
 returns-in-None c =
@@ -22,5 +22,5 @@ returns-in-None c =
     c.get-front.ensures.same ∙ c.front.ensures.front
     ∙ ap (λ (w : WorldState). w.display.front) c.self.view_is in
     found-second p _ _ c.highest-in-None.result
-    (ap (λ (f : ℕ). find p (falling (f - 1) (f - 1))) (sym front) ∙ sym c.in-None.ensures)
-    (c.highest-in-None.ensures ∙ ap (λ (f : ℕ). find p (falling 63 (64 - f))) front)
+    (ap (λ (f : ℕ). find p (numbers_down_from (f - 1) (f - 1))) (sym front) ∙ sym c.in-None.ensures)
+    (c.highest-in-None.ensures ∙ ap (λ (f : ℕ). find p (numbers_down_from 63 (64 - f))) front)

@@ -5,10 +5,10 @@ use Rattle.vt_events.specs.declared.event.Event.TheVariants as event
 use Rattle.vt_world.proofs.Refused.{is-refused}
 use Rattle.vt_world.proofs.world.World.disallocate.Goals as goal
 
-pub returns-in_err-handled : goal.returns-in_err-handled
-returns-in_err-handled c =
+pub returns-in_err-owned_console : goal.returns-in_err-owned_console
+returns-in_err-owned_console c =
     is-refused c.args.self.now c.args.p (event.Disallocate c.args.fd c.args.n)
-    c.in_err-handled.field-0.0 c.from_residual.result (search rules) (search rules)
+    c.in_err-owned_console.field-0.0 c.from_residual.result (search rules) (search rules)
 
 pub returns-in_err-c : goal.returns-in_err-c
 returns-in_err-c c =

@@ -2,7 +2,7 @@ use Rattle.std.proofs.Common.{◌≡◌, ℕ, ◌+◌, List, [], ◌∷◌, ◌+
 use Rattle.std.proofs.lemmas.List.{take_more}
 use Rattle.vt_screen.specs.Asking.{requests}
 use Rattle.vt_screen.specs.declared.out.Out.{Out}
-use Rattle.vt_world.specs.Deeds.{all_done}
+use Rattle.vt_world.specs.Deeds.{apply_deeds}
 use Rattle.vt_world.specs.Rows.{out_deeds}
 use Rattle.vt_world.specs.State.{WorldState}
 use Rattle.vt_world.proofs.Writes.{front-asks, heard, heard-more, one-more-asks}
@@ -34,7 +34,7 @@ loop-out-preserved c =
     record {
       done =
           c.take_out.ensures.state
-          ∙ ap (λ (w : WorldState). all_done w (out_deeds c.args.c out)) c.loop-out.invariant.done
+          ∙ ap (λ (w : WorldState). apply_deeds w (out_deeds c.args.c out)) c.loop-out.invariant.done
           ∙ heard-more c.args.c (take i all) out c.args.self.now
           ∙ ap (λ said. heard c.args.c said c.args.self.now) (sym more);
       room =

@@ -1,5 +1,5 @@
 use Rattle.std.proofs.Common.{ap, sym, ◌∙◌}
-use Rattle.vt_world.specs.Deeds.{all_done}
+use Rattle.vt_world.specs.Deeds.{apply_deeds}
 use Rattle.vt_world.specs.State.{WorldState}
 use Rattle.vt_world.specs.Terminals.{key_modes_of, terminal_at}
 use Rattle.vt_world.specs.Typing.{key_on, typed_deeds}
@@ -17,5 +17,5 @@ returns c =
     c.keys-keys.ensures
     c.key-out.ensures.keys c.key-out.ensures.state c.key-out.ensures.out c.set_keys.ensures
     c.take_key.ensures
-    ∙ ap (λ (u : WorldState). all_done u (typed_deeds u c.args.n (key_on u c.args.k c.args.n c.args.e)))
+    ∙ ap (λ (u : WorldState). apply_deeds u (typed_deeds u c.args.n (key_on u c.args.k c.args.n c.args.e)))
     c.self.view_is

@@ -2,8 +2,8 @@ use Rattle.std.proofs.Common.{arith, ℕ, map, ap, subst, ◌∙◌, sym}
 use Rattle.std.specs.List.Sorted.{IsPermutation}
 use Rattle.vt_grid.proofs.Naming.{IsNaming-moved}
 use Rattle.vt_grid.proofs.Turns.{IsPermutation-part_turned, map-part_turned}
-use Rattle.vt_grid.specs.Line.{Line}
-use Rattle.vt_grid.specs.Ring.{shelf_at}
+use Rattle.vt_grid.specs.StoredRow.{StoredRow}
+use Rattle.vt_grid.specs.Ring.{slot_at}
 use Rattle.vt_grid.specs.Store.{Store, part_turned}
 use Rattle.vt_grid.proofs.rows.store.RowStore.rotate.Goals as goal
 
@@ -17,7 +17,7 @@ invariant_of-self g c = (
 
 pub returns-clause-rows : goal.returns-clause-rows
 returns-clause-rows g c =
-    let line : ℕ → Line = λ p. (shelf_at c.self.inside.rows.items p).line in
+    let line : ℕ → StoredRow = λ p. (slot_at c.self.inside.rows.items p).line in
     (λ i. record {
       rows = c.self.inside.size.rows;
       cols = c.self.inside.size.cols;
