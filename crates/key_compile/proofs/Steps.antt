@@ -175,11 +175,11 @@ paired_front [] (a ∷ acts) t = refl
 paired_front (u ∷ us) [] t = refl
 paired_front (u ∷ us) (a ∷ acts) t = ap (λ x. option_or x (cond (t == u) (Some a) None)) (paired_front us acts t)
 
-pub by_symbols-many : (union : List ℕ) (actions : List Act) (t : ℕ) → (length actions ≡ 1 → ⊥) → action_of_table union actions t ≡ by_symbols union actions t
-by_symbols-many [] [] t h = refl
-by_symbols-many (u ∷ us) [] t h = refl
-by_symbols-many union (a ∷ []) t h = absurd (h refl)
-by_symbols-many union (a ∷ b ∷ rest) t h = refl
+pub by_symbols_many : (union : List ℕ) (actions : List Act) (t : ℕ) → (length actions ≡ 1 → ⊥) → action_of_table union actions t ≡ by_symbols union actions t
+by_symbols_many [] [] t h = refl
+by_symbols_many (u ∷ us) [] t h = refl
+by_symbols_many union (a ∷ []) t h = absurd (h refl)
+by_symbols_many union (a ∷ b ∷ rest) t h = refl
 
 -- a table that has an entry exists
 pub table_there : (m : Option (List Act)) (c : ℕ) → IsSome (option_map (λ map. get_or map c (record { kind = 0; value = 0 })) m) → is_some m ≡ true

@@ -20,7 +20,7 @@ use Rattle.key_compile.specs.Pairs.{pairs_by, pairs_in, usual}
 use Rattle.key_compile.specs.Puts.{Puts, PutsTexts}
 use Rattle.key_compile.specs.Strings.{last_text}
 use Rattle.key_compile.specs.Union.{IsSetOf, in_union, is_declared, modifies_table, passing_below, union_of}
-use Rattle.key_compile.proofs.Marking.{passing_below-none, passing_below-suc}
+use Rattle.key_compile.proofs.Marking.{passing_below_none, passing_below-suc}
 use Rattle.key_compile.proofs.Steps.{puts_exist}
 
 any_append : (test : ℕ → Bool) (xs ys : List ℕ) → list_any test (xs ++ ys) ≡ (list_any test xs || list_any test ys)
@@ -51,7 +51,7 @@ and_false false = refl
 
 -- which numbers are among those that pass
 none_from : (pass : ℕ → Bool) (n t : ℕ) → n ≤ t → list_any (λ d. d == t) (passing_below pass n) ≡ false
-none_from pass zero t h = ap (list_any (λ d. d == t)) (passing_below-none pass)
+none_from pass zero t h = ap (list_any (λ d. d == t)) (passing_below_none pass)
 none_from pass (suc n) t h =
     any_suc (λ d. d == t) pass n
     ∙ ap (λ b. b || (pass n && (n == t))) (none_from pass n t (omega arith))
@@ -81,8 +81,8 @@ among pass (suc n) t h = any_suc (λ d. d == t) pass n ∙ (elim (eqb_tells n t)
     or_false true = refl
     or_false false = refl
 
-eqb-comm : (a b : ℕ) → (a == b) ≡ (b == a)
-eqb-comm a b = elim (eqb_tells a b) [
+eqb_comm : (a b : ℕ) → (a == b) ≡ (b == a)
+eqb_comm a b = elim (eqb_tells a b) [
   | inl e ↦ e.0 ∙ sym (eq-eqb b a (sym e.1))
   | inr e ↦ elim (eqb_tells b a) [
     | inl f ↦ absurd (e.1 (sym f.1))
@@ -92,7 +92,7 @@ eqb-comm a b = elim (eqb_tells a b) [
 
 flipped : (t : ℕ) (xs : List ℕ) → list_any (λ u. t == u) xs ≡ list_any (λ d. d == t) xs
 flipped t [] = refl
-flipped t (x ∷ xs) = ap (λ b. b || list_any (λ u. t == u) xs) (eqb-comm t x) ∙ ap (λ b. (x == t) || b) (flipped t xs)
+flipped t (x ∷ xs) = ap (λ b. b || list_any (λ u. t == u) xs) (eqb_comm t x) ∙ ap (λ b. (x == t) || b) (flipped t xs)
 
 named : (pass : ℕ → Bool) (t : ℕ) → list_any (λ u. t == u) (passing_below pass 256) ≡ true → (t < 256) × (pass t ≡ true)
 named pass t e = elim (cases_lt t 256) [

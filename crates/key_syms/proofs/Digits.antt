@@ -19,15 +19,15 @@ capped n base v h = elim (cases_lt 65536 n) [
   | inr less ↦ let all : min 65536 n ≡ n = omega arith in rw all refl
 ]
 
-fold-none : (base : ℕ) (text : List ℕ) → fold (with_digit base) None text ≡ None
-fold-none base [] = refl
-fold-none base (b ∷ bs) = fold-none base bs
+fold_none : (base : ℕ) (text : List ℕ) → fold (with_digit base) None text ≡ None
+fold_none base [] = refl
+fold_none base (b ∷ bs) = fold_none base bs
 
-fold-stops : (base n : ℕ) (acc : Option ℕ) (text : List ℕ) (i : ℕ) → i < length text → fold (with_digit base) acc (take i text) ≡ Some n → with_digit base (Some n) (get_or text i 0) ≡ None → fold (with_digit base) acc text ≡ None
-fold-stops base n acc [] i h e stop = absurd (omega arith)
-fold-stops base n acc (b ∷ bs) zero h e stop =
-    ap (λ x. fold (with_digit base) (with_digit base x b) bs) e ∙ ap (λ x. fold (with_digit base) x bs) stop ∙ fold-none base bs
-fold-stops base n acc (b ∷ bs) (suc i) h e stop = fold-stops base n (with_digit base acc b) bs i (omega arith) e stop
+fold_stops : (base n : ℕ) (acc : Option ℕ) (text : List ℕ) (i : ℕ) → i < length text → fold (with_digit base) acc (take i text) ≡ Some n → with_digit base (Some n) (get_or text i 0) ≡ None → fold (with_digit base) acc text ≡ None
+fold_stops base n acc [] i h e stop = absurd (omega arith)
+fold_stops base n acc (b ∷ bs) zero h e stop =
+    ap (λ x. fold (with_digit base) (with_digit base x b) bs) e ∙ ap (λ x. fold (with_digit base) x bs) stop ∙ fold_none base bs
+fold_stops base n acc (b ∷ bs) (suc i) h e stop = fold_stops base n (with_digit base acc b) bs i (omega arith) e stop
 
 pub number_in_base-fold : (base : ℕ) (text : List ℕ) → length text ≢ 0 → number_in_base base text ≡ fold (with_digit base) (Some 0) text
 number_in_base-fold base [] h = absurd (h refl)
@@ -36,9 +36,9 @@ number_in_base-fold base (b ∷ bs) h = refl
 some_left : (text : List ℕ) (i : ℕ) → i < length text → length text ≡ 0 → ⊥
 some_left text i h e = omega arith
 
-pub number_in_base-stops : (base n kept : ℕ) (text : List ℕ) (i : ℕ) → IsRead base (take i text) n kept → i < length text → digit_in base (get_or text i 0) ≡ None → None ≡ option_map (min 65536) (number_in_base base text)
-number_in_base-stops base n kept text i read h stop =
-    sym (ap (option_map (min 65536)) (number_in_base-fold base text (λ e. some_left text i h e) ∙ fold-stops base n (Some 0) text i h read.spells (ap (option_map (λ value. n * base + value)) stop)))
+pub number_in_base_stops : (base n kept : ℕ) (text : List ℕ) (i : ℕ) → IsRead base (take i text) n kept → i < length text → digit_in base (get_or text i 0) ≡ None → None ≡ option_map (min 65536) (number_in_base base text)
+number_in_base_stops base n kept text i read h stop =
+    sym (ap (option_map (min 65536)) (number_in_base-fold base text (λ e. some_left text i h e) ∙ fold_stops base n (Some 0) text i h read.spells (ap (option_map (λ value. n * base + value)) stop)))
 
 pub read_more : (base n kept : ℕ) (text : List ℕ) (i v : ℕ) → IsRead base (take i text) n kept → i < length text → 1 ≤ base → digit_in base (get_or text i 0) ≡ Some v → IsRead base (take (i + 1) text) (n * base + v) (min (kept * base + v) 65536)
 read_more base n kept text i v read h some e = record {

@@ -161,13 +161,13 @@ none_named (d ∷ ds) t bytes h =
     let rest : list_any (λ x. x == t) ds ≡ false = none_named ds t (λ i. bytes (suc i)) h in
     rw (apart, rest) refl
 
-start-exists : (b : Bool) → is_some (cond b (Some (replicate 256 hole)) None) ≡ b
-start-exists true = refl
-start-exists false = refl
+start_exists : (b : Bool) → is_some (cond b (Some (replicate 256 hole)) None) ≡ b
+start_exists true = refl
+start_exists false = refl
 
 exists_as : (declared : List ℕ) (maps : List (Option (List Act))) → AreHoles declared maps → ((i : ℕ) → get_or declared i 0 < 256) → (t : ℕ) → is_some (slice_index_or maps t None) ≡ list_any (λ d. d == t) declared
 exists_as declared maps holes bytes t = elim (cases_lt t 256) [
-  | inl lt ↦ ap is_some (holes.each t lt) ∙ start-exists (list_any (λ d. d == t) declared)
+  | inl lt ↦ ap is_some (holes.each t lt) ∙ start_exists (list_any (λ d. d == t) declared)
   | inr ge ↦ ap is_some (get_or_past maps t None (omega (arith, holes.tall))) ∙ sym (none_named declared t bytes ge)
 ]
 

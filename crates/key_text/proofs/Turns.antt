@@ -10,22 +10,22 @@ use Rattle.key_text.specs.declared.placed.Placed.{Placed}
 abbrev pub rows_from : Place → Place → List ℕ → List Row
 rows_from end here bytes = rows end (join_continuations (with_places here bytes))
 
-pub rows_of-from : (at : Place) (bytes : List ℕ) → rows_of at bytes ≡ rows_from at at bytes
+pub rows_of_from : (at : Place) (bytes : List ℕ) → rows_of at bytes ≡ rows_from at at bytes
 unfolding rows_of
-rows_of-from at bytes = refl
+rows_of_from at bytes = refl
 
 -- the bytes of a row that has begun, before the rows of what follows
 abbrev pub with_items : List Placed → List Row → List Row
 with_items [] left = left
 with_items (p ∷ ps) left = with_item p (with_items ps left)
 
-pub with_items-row : (ps qs : List Placed) (end : Place) (left : List Row) → with_items ps (row_of qs end ∷ left) ≡ row_of (ps ++ qs) end ∷ left
-with_items-row [] qs end left = refl
-with_items-row (p ∷ ps) qs end left = ap (with_item p) (with_items-row ps qs end left)
+pub with_items_row : (ps qs : List Placed) (end : Place) (left : List Row) → with_items ps (row_of qs end ∷ left) ≡ row_of (ps ++ qs) end ∷ left
+with_items_row [] qs end left = refl
+with_items_row (p ∷ ps) qs end left = ap (with_item p) (with_items_row ps qs end left)
 
-pub with_items-more : (ps : List Placed) (p : Placed) (left : List Row) → with_items (ps ++ p ∷ []) left ≡ with_items ps (with_item p left)
-with_items-more [] p left = refl
-with_items-more (q ∷ ps) p left = ap (with_item q) (with_items-more ps p left)
+pub with_items_more : (ps : List Placed) (p : Placed) (left : List Row) → with_items (ps ++ p ∷ []) left ≡ with_items ps (with_item p left)
+with_items_more [] p left = refl
+with_items_more (q ∷ ps) p left = ap (with_item q) (with_items_more ps p left)
 
 -- what begins with a line's end
 pub data Ends : List ℕ → Type 0 where
@@ -52,19 +52,19 @@ ends (b ∷ bs) h = elim (eqb_tells b 10) [
   ]
 ]
 
-end_turn-at : (end here : Place) (bytes : List ℕ) → Ends bytes → rows_from end here bytes ≡ row_of [] here ∷ rows_from (next_line here) (next_line here) (drop (end_len bytes) bytes)
-end_turn-at end here bytes (lf bs) = refl
-end_turn-at end here bytes (crlf bs) = refl
+end_turn_at : (end here : Place) (bytes : List ℕ) → Ends bytes → rows_from end here bytes ≡ row_of [] here ∷ rows_from (next_line here) (next_line here) (drop (end_len bytes) bytes)
+end_turn_at end here bytes (lf bs) = refl
+end_turn_at end here bytes (crlf bs) = refl
 
 pub end_turn : (end here : Place) (bytes : List ℕ) → end_len bytes ≢ 0 → rows_from end here bytes ≡ row_of [] here ∷ rows_from (next_line here) (next_line here) (drop (end_len bytes) bytes)
-end_turn end here bytes h = end_turn-at end here bytes (ends bytes h)
+end_turn end here bytes h = end_turn_at end here bytes (ends bytes h)
 
-join_turn-at : (end here : Place) (bs : List ℕ) → Ends bs → rows_from end here (92 ∷ bs) ≡ rows_from end (next_line here) (drop (join_len (92 ∷ bs)) (92 ∷ bs))
-join_turn-at end here bs (lf cs) = refl
-join_turn-at end here bs (crlf cs) = refl
+join_turn_at : (end here : Place) (bs : List ℕ) → Ends bs → rows_from end here (92 ∷ bs) ≡ rows_from end (next_line here) (drop (join_len (92 ∷ bs)) (92 ∷ bs))
+join_turn_at end here bs (lf cs) = refl
+join_turn_at end here bs (crlf cs) = refl
 
-pub len_with_backslash-some : (n : ℕ) → len_with_backslash n ≢ 0 → n ≢ 0
-len_with_backslash-some n h e = h (subst (λ (m : ℕ). len_with_backslash m ≡ 0) (sym e) refl)
+pub len_with_backslash_some : (n : ℕ) → len_with_backslash n ≢ 0 → n ≢ 0
+len_with_backslash_some n h e = h (subst (λ (m : ℕ). len_with_backslash m ≡ 0) (sym e) refl)
 
 pub join_turn : (end here : Place) (bytes : List ℕ) → join_len bytes ≢ 0 → rows_from end here bytes ≡ rows_from end (next_line here) (drop (join_len bytes) bytes)
 join_turn end here [] h = absurd (h refl)
@@ -72,7 +72,7 @@ join_turn end here (b ∷ bs) h = elim (eqb_tells b 92) [
   | inl e ↦
       let some : len_with_backslash (end_len bs) ≢ 0 = λ z. h (subst (λ (x : ℕ). join_len (x ∷ bs) ≡ 0) (sym e.1) z) in
       subst (λ (x : ℕ). rows_from end here (x ∷ bs) ≡ rows_from end (next_line here) (drop (join_len (x ∷ bs)) (x ∷ bs))) (sym e.1)
-      (join_turn-at end here bs (ends bs (len_with_backslash-some (end_len bs) some)))
+      (join_turn_at end here bs (ends bs (len_with_backslash_some (end_len bs) some)))
   | inr e ↦ absurd (h (ap (λ t. cond t (len_with_backslash (end_len bs)) 0) e.0))
 ]
 
@@ -116,8 +116,8 @@ no_cr at b bs h = elim (eqb_tells b 13) [
   | inr f ↦ rw f.0 refl
 ]
 
-len_with_backslash-none : (n : ℕ) → len_with_backslash n ≡ 0 → n ≡ 0
-len_with_backslash-none n h = elim (eqb_tells n 0) [
+len_with_backslash_none : (n : ℕ) → len_with_backslash n ≡ 0 → n ≡ 0
+len_with_backslash_none n h = elim (eqb_tells n 0) [
   | inl e ↦ e.1
   | inr e ↦ let some : n + 1 ≡ 0 = sym (ap (λ t. cond t 0 (n + 1)) e.0) ∙ h in absurd (omega arith)
 ]
@@ -125,7 +125,7 @@ len_with_backslash-none n h = elim (eqb_tells n 0) [
 no_join : (at : Place) (b : ℕ) (bs : List ℕ) → join_len (b ∷ bs) ≡ 0 → (b == 92 && begins_end (with_places at bs)) ≡ false
 no_join at b bs h = elim (eqb_tells b 92) [
   | inl f ↦
-      let none : end_len bs ≡ 0 = len_with_backslash-none (end_len bs) (sym (ap (λ t. cond t (len_with_backslash (end_len bs)) 0) f.0) ∙ h) in
+      let none : end_len bs ≡ 0 = len_with_backslash_none (end_len bs) (sym (ap (λ t. cond t (len_with_backslash (end_len bs)) 0) f.0) ∙ h) in
       rw f.0 (no_end at bs none)
   | inr f ↦ rw f.0 refl
 ]

@@ -4,9 +4,9 @@ use Rattle.std.proofs.lemmas.Bool.Decides.{eqb_tells}
 use Rattle.std.specs.Option.{option_and_then, option_map}
 use Rattle.key_text.specs.Quoted.{before_rest, escape_in, first_of, letter_escape, octal_escape, octal_len, unescaped_bytes, unescaped_whole}
 
-pub escape_in-octal : (text : List ℕ) (n : ℕ) → n ≡ octal_len text → n ≢ 0 → octal_escape (take n text) ≡ escape_in text
+pub escape_in_octal : (text : List ℕ) (n : ℕ) → n ≡ octal_len text → n ≢ 0 → octal_escape (take n text) ≡ escape_in text
 unfolding escape_in
-escape_in-octal text n e some = elim (eqb_tells (octal_len text) 0) [
+escape_in_octal text n e some = elim (eqb_tells (octal_len text) 0) [
   | inl none ↦ absurd (some (e ∙ none.1))
   | inr h ↦
       ap (λ m. octal_escape (take m text)) e

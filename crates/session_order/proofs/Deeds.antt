@@ -9,7 +9,7 @@ use Rattle.key_machine.specs.declared.key_out.KeyOut.TheVariants as heard_keys
 use Rattle.vt_base.specs.Keyboards.{keyboard_of}
 use Rattle.scan_codes.specs.Scan.{Scan, event_after}
 use Rattle.scan_codes.specs.declared.key_event.KeyEvent.{KeyEvent}
-use Rattle.session_order.proofs.Ages.{AllAge, with_accepter-age, all-stay, after_wait_report-age, after_exit-age, after_input_on-age, after_open-age, after_raise-age, after_display_of-age, after_close-age, after_taking_signals-age, then_all}
+use Rattle.session_order.proofs.Ages.{AllAge, with_accepter_age, all_stay, after_wait_report_age, after_exit_age, after_input_on_age, after_open_age, after_raise_age, after_display_of_age, after_close_age, after_taking_signals_age, then_all}
 use Rattle.vt_events.specs.declared.event.Event.{Event}
 use Rattle.vt_events.specs.declared.event.Event.TheVariants as event
 use Rattle.vt_events.specs.declared.reply.Reply.TheVariants as reply
@@ -40,54 +40,54 @@ is_quiet deed = true
 abbrev pub all_quiet : List Deed → Bool
 all_quiet deeds = list_all is_quiet deeds
 
-apply_mark-age : (m : Mark) (w : WorldState) → AllAge w.callers (apply_mark w m).callers
-apply_mark-age (mark.Asked n) w = all-stay w.callers
-apply_mark-age (mark.Raised p signal) w = after_raise-age w.callers p signal
-apply_mark-age (mark.Hopped hop) w = after_display_of-age w.callers hop.to
-apply_mark-age (mark.Ended p) w = after_exit-age w.callers p
+apply_mark_age : (m : Mark) (w : WorldState) → AllAge w.callers (apply_mark w m).callers
+apply_mark_age (mark.Asked n) w = all_stay w.callers
+apply_mark_age (mark.Raised p signal) w = after_raise_age w.callers p signal
+apply_mark_age (mark.Hopped hop) w = after_display_of_age w.callers hop.to
+apply_mark_age (mark.Ended p) w = after_exit_age w.callers p
 
-pub apply_marks-age : (told : List Mark) (w : WorldState) → AllAge w.callers (apply_marks w told).callers
-apply_marks-age [] w = all-stay w.callers
-apply_marks-age (m ∷ told) w =
-    then_all w.callers (apply_mark w m).callers (apply_marks (apply_mark w m) told).callers (apply_mark-age m w)
-    (apply_marks-age told (apply_mark w m))
+pub apply_marks_age : (told : List Mark) (w : WorldState) → AllAge w.callers (apply_marks w told).callers
+apply_marks_age [] w = all_stay w.callers
+apply_marks_age (m ∷ told) w =
+    then_all w.callers (apply_mark w m).callers (apply_marks (apply_mark w m) told).callers (apply_mark_age m w)
+    (apply_marks_age told (apply_mark w m))
 
-after_switch_act-age : (w : WorldState) (act : SwitchAct) → AllAge w.callers (after_switch_act w act).callers
-after_switch_act-age w act =
-    apply_marks-age (marks (core w) act) (record w { display = (core_after (core w) act).display })
+after_switch_act_age : (w : WorldState) (act : SwitchAct) → AllAge w.callers (after_switch_act w act).callers
+after_switch_act_age w act =
+    apply_marks_age (marks (core w) act) (record w { display = (core_after (core w) act).display })
 
-after_request-age : (w : WorldState) (n : Option ℕ) → AllAge w.callers (after_request w n).callers
-after_request-age w None = all-stay w.callers
-after_request-age w (Some n) = after_switch_act-age w (SwitchAct.Request n)
+after_request_age : (w : WorldState) (n : Option ℕ) → AllAge w.callers (after_request w n).callers
+after_request_age w None = all_stay w.callers
+after_request_age w (Some n) = after_switch_act_age w (SwitchAct.Request n)
 
-own-age : (w : WorldState) (deed : OwnDeed) → is_quiet (Own deed) ≡ true
+own_age : (w : WorldState) (deed : OwnDeed) → is_quiet (Own deed) ≡ true
     → AllAge w.callers (apply_own_deed w deed).callers
-own-age w (Puts n piece) quiet =
+own_age w (Puts n piece) quiet =
     elim (comes (input_at w.inputs n).queue piece) as (λ b. AllAge w.callers (cond b (after_input_on n w.callers) w.callers))
-    [ true ↦ after_input_on-age w.callers n | false ↦ all-stay w.callers ]
-own-age w (Opens p c) quiet = after_open-age w.callers p c
-own-age w (Shuts p fd) quiet = after_close-age w.callers p fd
-own-age w (Waits p ticket) quiet = absurd (false≢true quiet)
-own-age w (Collects p) quiet = after_wait_report-age w.callers p
-own-age w (Receives p) quiet = after_taking_signals-age w.callers p
-own-age w (Accepts p signal) quiet = with_accepter-age w.callers p signal
-own-age w (Raises p signal) quiet = apply_marks-age (raise (core w) p signal) w
-own-age w deed quiet = all-stay w.callers
+    [ true ↦ after_input_on_age w.callers n | false ↦ all_stay w.callers ]
+own_age w (Opens p c) quiet = after_open_age w.callers p c
+own_age w (Shuts p fd) quiet = after_close_age w.callers p fd
+own_age w (Waits p ticket) quiet = absurd (false≢true quiet)
+own_age w (Collects p) quiet = after_wait_report_age w.callers p
+own_age w (Receives p) quiet = after_taking_signals_age w.callers p
+own_age w (Accepts p signal) quiet = with_accepter_age w.callers p signal
+own_age w (Raises p signal) quiet = apply_marks_age (raise (core w) p signal) w
+own_age w deed quiet = all_stay w.callers
 
-apply_deed-age : (w : WorldState) (deed : Deed) → is_quiet deed ≡ true
+apply_deed_age : (w : WorldState) (deed : Deed) → is_quiet deed ≡ true
     → AllAge w.callers (apply_deed w deed).callers
-apply_deed-age w (By act) quiet = after_switch_act-age w act
-apply_deed-age w (Asks wanted) quiet = after_request-age w (wanted_in w.display wanted)
-apply_deed-age w (Own deed) quiet = own-age w deed quiet
+apply_deed_age w (By act) quiet = after_switch_act_age w act
+apply_deed_age w (Asks wanted) quiet = after_request_age w (wanted_in w.display wanted)
+apply_deed_age w (Own deed) quiet = own_age w deed quiet
 
-pub apply_deeds-age : (w : WorldState) (deeds : List Deed) → all_quiet deeds ≡ true
+pub apply_deeds_age : (w : WorldState) (deeds : List Deed) → all_quiet deeds ≡ true
     → AllAge w.callers (apply_deeds w deeds).callers
-apply_deeds-age w [] quiet = all-stay w.callers
-apply_deeds-age w (deed ∷ deeds) quiet =
+apply_deeds_age w [] quiet = all_stay w.callers
+apply_deeds_age w (deed ∷ deeds) quiet =
     let parts : (is_quiet deed ≡ true) × (all_quiet deeds ≡ true) =
     and_parts (is_quiet deed) (all_quiet deeds) quiet in
     then_all w.callers (apply_deed w deed).callers (apply_deeds (apply_deed w deed) deeds).callers
-    (apply_deed-age w deed parts.0) (apply_deeds-age (apply_deed w deed) deeds parts.1)
+    (apply_deed_age w deed parts.0) (apply_deeds_age (apply_deed w deed) deeds parts.1)
 
 append_quiet : (a b : List Deed) → all_quiet a ≡ true → all_quiet b ≡ true
     → all_quiet (a ++ b) ≡ true
@@ -153,15 +153,15 @@ waits_does : (there : Bool) (p : ℕ) (ticket : Ticket) → RowDoes p (waits_unl
 waits_does true p ticket = NoWait (record { reply = reply.Done; deeds = [] }) refl
 waits_does false p ticket = OneWait ticket
 
-pub row-does : (w : WorldState) (p : ℕ) (e : Event) → RowDoes p (row w p e)
-row-does w p (event.Scan b) = NoWait (row w p (event.Scan b)) (scan_quiet w (unwrap_or (keyboard_of p) 0) w.display.front b)
-row-does w p (event.Write fd b) =
+pub row_does : (w : WorldState) (p : ℕ) (e : Event) → RowDoes p (row w p e)
+row_does w p (event.Scan b) = NoWait (row w p (event.Scan b)) (scan_quiet w (unwrap_or (keyboard_of p) 0) w.display.front b)
+row_does w p (event.Write fd b) =
     NoWait (row w p (event.Write fd b))
     (flat_quiet (out_deeds (target w p fd)) (said_of (terminal_at w.terminals (target w p fd)) b.bytes) (out_quiet (target w p fd)))
-row-does w p (event.WaitInput fd) =
+row_does w p (event.WaitInput fd) =
     waits_does (not (is_empty w (target w p fd))) p (Input (target w p fd))
-row-does w p (event.WaitActive fd n) = waits_does (n == w.display.front) p (Active n)
-row-does w p event.WaitSignal = OneWait AnySignal
-row-does w p (event.Disallocate fd n) = NoWait (row w p (event.Disallocate fd n)) (free_quiet w n)
-row-does w p (event.Kill q s) = NoWait (row w p (event.Kill q s)) (one_sent q s)
-row-does w p e = NoWait (row w p e) refl
+row_does w p (event.WaitActive fd n) = waits_does (n == w.display.front) p (Active n)
+row_does w p event.WaitSignal = OneWait AnySignal
+row_does w p (event.Disallocate fd n) = NoWait (row w p (event.Disallocate fd n)) (free_quiet w n)
+row_does w p (event.Kill q s) = NoWait (row w p (event.Kill q s)) (one_sent q s)
+row_does w p e = NoWait (row w p e) refl

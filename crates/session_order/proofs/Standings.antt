@@ -21,13 +21,13 @@ use Rattle.vt_events.specs.declared.event.Event.{Event}
 use Rattle.vt_events.specs.declared.event.Event.TheVariants as event
 use Rattle.vt_events.specs.declared.reply.Reply.{Reply}
 
-pub event-twice : (e : Event) → plain_event (plain_event e) ≡ plain_event e
-event-twice (event.Write fd b) = refl
-event-twice (event.SetFunc fd i b) = refl
-event-twice (event.SetDia fd b) = refl
-event-twice (event.SetMap fd b) = refl
-event-twice (event.SetPal fd b) = refl
-event-twice e = refl
+pub event_twice : (e : Event) → plain_event (plain_event e) ≡ plain_event e
+event_twice (event.Write fd b) = refl
+event_twice (event.SetFunc fd i b) = refl
+event_twice (event.SetDia fd b) = refl
+event_twice (event.SetMap fd b) = refl
+event_twice (event.SetPal fd b) = refl
+event_twice e = refl
 
 -- an entry of p is one more call of it, and none of another
 calls_mine : (h : List Entry) (entry : Entry) (q : ℕ) → entry.caller ≡ q
@@ -89,10 +89,10 @@ pub record Walks (program : Program) (walk moved : Place) (r : Reply) : Type 0 w
       → Stands program moved (made ++ call e r ∷ [])
 
 -- the walk stands where one call more was made
-pub stands-more : NextIsMeant → (program : Program) (walk moved : Place) (made : List Call) (e : Event) (r : Reply)
+pub stands_more : NextIsMeant → (program : Program) (walk moved : Place) (made : List Call) (e : Event) (r : Reply)
     → IsWalkAfter program walk made → Walks program walk moved r → next program made ≡ Some e
     → IsWalkAfter program moved (made ++ as_meant (call e r) ∷ [])
-stands-more is_meant program walk moved made e r after walks next_is =
+stands_more is_meant program walk moved made e r after walks next_is =
     let here : next program after.calls ≡ Some e =
     sym (is_meant program after.calls) ∙ ap (next program) after.meant ∙ next_is in
     record {
@@ -102,11 +102,11 @@ stands-more is_meant program walk moved made e r after walks next_is =
     }
 
 -- what it has next is the next call of its program
-pub next-after : NextIsMeant → (program : Program) (walk : Place) (made : List Call) (e : Option Event)
+pub next_after : NextIsMeant → (program : Program) (walk : Place) (made : List Call) (e : Option Event)
     → IsWalkAfter program walk made
     → ((calls : List Call) → Stands program walk calls → e ≡ next program calls)
     → e ≡ next program made
-next-after is_meant program walk made e after gives =
+next_after is_meant program walk made e after gives =
     gives after.calls after.stands
     ∙ sym (is_meant program after.calls)
     ∙ ap (next program) after.meant
@@ -117,7 +117,7 @@ pub next-by : NextIsMeant → (programs : List Program) (h : List Entry) (p : �
     → ((calls : List Call) → Stands program walk calls → e ≡ next program calls)
     → e ≡ next_by programs p h
 next-by is_meant programs h p program walk e is after gives =
-    next-after is_meant program walk (calls_by p h) e after gives
+    next_after is_meant program walk (calls_by p h) e after gives
     ∙ ap (λ found. next_of found (calls_by p h)) (sym is)
 
 -- what a call of p changes
@@ -141,10 +141,10 @@ taken is_meant programs h entry p program r before after took is at few by follo
     let next_is : next program (calls_by p h) ≡ Some e =
     ap (λ found. next_of found (calls_by p h)) (sym is) ∙ follows in
     let call_is : as_meant (call e r) ≡ call_of entry =
-    λ i. call (event-twice entry.event i) (sym answer i) in
+    λ i. call (event_twice entry.event i) (sym answer i) in
     let within : p < length before.walks = omega (arith, took.known, at.walks) in
     let stands : IsWalkAfter program took.moved (calls_by p h ++ as_meant (call e r) ∷ []) =
-    stands-more is_meant program took.walk took.moved (calls_by p h) e r
+    stands_more is_meant program took.walk took.moved (calls_by p h) e r
     (at.stand p program took.walk took.known is took.read) took.took next_is in
     record {
       walks = ap length took.walks ∙ length-set before.walks p took.moved ∙ at.walks;
@@ -178,10 +178,10 @@ taken is_meant programs h entry p program r before after took is at few by follo
     }
 
 -- before the first entry
-pub first-after : (programs : List Program) (view : SessionProgressView) → length view.walks ≡ callers
+pub first_after : (programs : List Program) (view : SessionProgressView) → length view.walks ≡ callers
     → All (λ walk. (p : Program) → Stands p walk []) view.walks → view.counts ≡ replicate 68 0
     → AreAfter programs [] view
-first-after programs view many stand zero = record {
+first_after programs view many stand zero = record {
   walks = many;
   stand = λ q program walk known is read.
       let within : q < length view.walks = omega (arith, known, many) in

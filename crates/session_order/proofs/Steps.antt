@@ -52,8 +52,8 @@ all_does : (w : WorldState) (p : ℕ) (e : Event) (o : Option Errno) → common 
 all_does w p e None is = own_does w p e (own w p e) is refl
 all_does w p e (Some with) is = RefusedByAll with is
 
-pub step-does : (w : WorldState) (p : ℕ) (e : Event) → StepDoes w p e (step w p e)
-step-does w p e = all_does w p e (common w p e) refl
+pub step_does : (w : WorldState) (p : ℕ) (e : Event) → StepDoes w p e (step w p e)
+step_does w p e = all_does w p e (common w p e) refl
 
 -- the tests of every event, by what they test
 abbrev pub tested : Bool → Bool → Bool → Option Errno
@@ -67,15 +67,15 @@ tested_none true true held none = (refl, refl)
 tested_none true false held none = absurd (none-some errno.Notty (sym none))
 tested_none false may held none = absurd (none-some errno.Srch (sym none))
 
-pub common-none : (w : WorldState) (p : ℕ) (e : Event) → common w p e ≡ None
+pub common_none : (w : WorldState) (p : ℕ) (e : Event) → common w p e ≡ None
     → (is_live w.callers p ≡ true) × (may_make p e ≡ true)
-common-none w p e none =
+common_none w p e none =
     tested_none (is_live w.callers p) (may_make p e) (holds_ticket w p && not (ends_wait e)) none
 
-pub none-common : (w : WorldState) (p : ℕ) (e : Event) → is_live w.callers p ≡ true
+pub none_common : (w : WorldState) (p : ℕ) (e : Event) → is_live w.callers p ≡ true
     → may_make p e ≡ true → (holds_ticket w p && not (ends_wait e)) ≡ false
     → common w p e ≡ None
-none-common w p e live may held = λ i. tested (live i) (may i) (held i)
+none_common w p e live may held = λ i. tested (live i) (may i) (held i)
 
 -- another error is no ESRCH
 other : {A : Type 0} (known with : Errno) → is_srch known ≡ false → Some known ≡ Some with
@@ -139,9 +139,9 @@ gone_does w p e o (Accepted none is) kill gone =
     absurd (both_ways (is_gone (row (without_marks w) p e).reply) (row_replies (without_marks w) p e) gone)
 
 -- who gets ESRCH, but by a kill, is dead
-pub gone-dead : (w : WorldState) (p : ℕ) (e : Event) → is_kill e ≡ false
+pub gone_dead : (w : WorldState) (p : ℕ) (e : Event) → is_kill e ≡ false
     → is_gone (step w p e).reply ≡ true → is_live w.callers p ≡ false
-gone-dead w p e = gone_does w p e (step w p e) (step-does w p e)
+gone_dead w p e = gone_does w p e (step w p e) (step_does w p e)
 
 exit_reply : (w : WorldState) (p : ℕ) (e : Event) → is_exit e ≡ true
     → is_wait (row w p e).reply ≡ false
@@ -155,9 +155,9 @@ exit_waits w p e o (RefusedByOwn with none is) exit = refl
 exit_waits w p e o (Accepted none is) exit = exit_reply (without_marks w) p e exit
 
 -- exit isn't answered wait
-pub exit-never-waits : (w : WorldState) (p : ℕ) (e : Event) → is_exit e ≡ true
+pub exit_never_waits : (w : WorldState) (p : ℕ) (e : Event) → is_exit e ≡ true
     → is_wait (step w p e).reply ≡ false
-exit-never-waits w p e = exit_waits w p e (step w p e) (step-does w p e)
+exit_never_waits w p e = exit_waits w p e (step w p e) (step_does w p e)
 
 keyboard_reply : (w : WorldState) (p : ℕ) (e : Event) → may_make p e ≡ true
     → is_wait (row w p e).reply ≡ true → is_keyboard p ≡ false
@@ -170,9 +170,9 @@ keyboard_waits : (w : WorldState) (p : ℕ) (e : Event) (o : Outcome) → StepDo
 keyboard_waits w p e o (RefusedByAll with is) wait = absurd (false≢true wait)
 keyboard_waits w p e o (RefusedByOwn with none is) wait = absurd (false≢true wait)
 keyboard_waits w p e o (Accepted none is) wait =
-    keyboard_reply (without_marks w) p e (common-none w p e none).1 wait
+    keyboard_reply (without_marks w) p e (common_none w p e none).1 wait
 
 -- no keyboard waits
-pub keyboard-never-waits : (w : WorldState) (p : ℕ) (e : Event)
+pub keyboard_never_waits : (w : WorldState) (p : ℕ) (e : Event)
     → is_wait (step w p e).reply ≡ true → is_keyboard p ≡ false
-keyboard-never-waits w p e = keyboard_waits w p e (step w p e) (step-does w p e)
+keyboard_never_waits w p e = keyboard_waits w p e (step w p e) (step_does w p e)

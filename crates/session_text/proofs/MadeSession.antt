@@ -17,9 +17,9 @@ keys_programs : (further : List (List ℕ)) → map (λ keys. programs.Keys keys
 keys_programs [] = refl
 keys_programs (keys ∷ further) = ap (λ ps. keys_of keys ∷ ps) (keys_programs further)
 
-pub made-session : (parts : SessionParts) (value : SessionValue) (s : SessionView) → AreOf parts value → IsMadeOf parts s
+pub made_session : (parts : SessionParts) (value : SessionValue) (s : SessionView) → AreOf parts value → IsMadeOf parts s
     → IsSessionOf s value
-made-session parts value s are made =
+made_session parts value s are made =
     let keys : List Text → List Program = map (λ keys. programs.Keys keys) in
     let further : keys parts.further.items ≡ map keys_of value.further =
     ap keys are.further ∙ keys_programs value.further in

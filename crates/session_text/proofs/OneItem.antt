@@ -51,8 +51,8 @@ one_item one cut text d e this other =
       ]
     ]
 
-pub item-one : OneCall → CallsAreCut → (p n : ℕ) (text : List ℕ) → IsOne (item_says p n text)
-item-one one cut p n text (Ok d) (Ok e) this other = ap Ok (one_item one cut text d e this other)
-item-one one cut p n text (Ok d) (Err f) this other = absurd (other.0 d this)
-item-one one cut p n text (Err f) (Ok e) this other = absurd (this.0 e other)
-item-one one cut p n text (Err e) (Err f) this other = ap Err (this.1 ∙ sym other.1)
+pub item_one : OneCall → CallsAreCut → (p n : ℕ) (text : List ℕ) → IsOne (item_says p n text)
+item_one one cut p n text (Ok d) (Ok e) this other = ap Ok (one_item one cut text d e this other)
+item_one one cut p n text (Ok d) (Err f) this other = absurd (other.0 d this)
+item_one one cut p n text (Err f) (Ok e) this other = absurd (this.0 e other)
+item_one one cut p n text (Err e) (Err f) this other = ap Err (this.1 ∙ sym other.1)

@@ -9,17 +9,17 @@ use Rattle.session_text.specs.Collected.{TurnsSoFar}
 use Rattle.session_text.specs.Turns.{is_there}
 
 -- of few processes, and four keyboards at most, no turn is past 67
-pub turn-low : (processes keyboards n : ℕ) → keyboards ≤ 4 → is_there processes keyboards n ≡ true
+pub turn_low : (processes keyboards n : ℕ) → keyboards ≤ 4 → is_there processes keyboards n ≡ true
     → processes ≤ 64 → n ≤ 67
-turn-low processes keyboards n some there few = ⊎_elim
+turn_low processes keyboards n some there few = ⊎_elim
     (λ low. omega (arith, leb-true n processes low, few))
     (λ both. omega (arith, ltb-true n (64 + keyboards) (and_parts (nat_lt 64 n) (nat_lt n (64 + keyboards)) both).1, some))
     (or_cases (nat_le n processes) (nat_lt 64 n && nat_lt n (64 + keyboards)) there)
 
 -- a turn that is kept is one of somebody who is there
-pub turn-there : (processes keyboards n : ℕ) → keyboards ≤ 4 → is_there processes keyboards n ≡ true
+pub turn_there : (processes keyboards n : ℕ) → keyboards ≤ 4 → is_there processes keyboards n ≡ true
     → is_there processes keyboards (min n 67) ≡ true
-turn-there processes keyboards n some there = ⊎_elim
+turn_there processes keyboards n some there = ⊎_elim
     (λ high.
     let last : min n 67 ≡ 67 = omega (arith, high) in
     let within : 67 ≤ processes = ⊎_elim

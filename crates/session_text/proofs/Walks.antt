@@ -12,7 +12,7 @@ use Rattle.session_text.specs.Items.{Listed}
 use Rattle.session_text.specs.Programs.{Call, all_calls, call, calls, calls_from, ends, is_gone, next, nothing, scans, script, takes}
 use Rattle.vt_events.specs.Waits.{is_wait}
 use Rattle.session_text.specs.Walks.{Moves, Place, Stands, ahead, rest_of_calls}
-use Rattle.session_text.proofs.Acts.{calls_from-end}
+use Rattle.session_text.proofs.Acts.{calls_from_end}
 use Rattle.session_text.specs.declared.program.Program.{Program}
 use Rattle.session_text.specs.declared.program.Program.TheVariants as program
 
@@ -179,7 +179,7 @@ starts (program.Keys bytes) given none = record { same = λ more. refl }
 starts (program.Script items table) given none = record {
   same = λ more.
       ap (λ events. all_calls events (script table items.events) more)
-      (sym (calls_from-end table given 65 (lit≤ tt)));
+      (sym (calls_from_end table given 65 (lit≤ tt)));
 }
 
 -- what is ahead is the next call

@@ -13,17 +13,17 @@ pub with_colours_swapped-bits : (b : ℕ) → b < 256 → bit_or (bit_and b 136)
 with_colours_swapped-bits =
     same_at (λ b. bit_or (bit_and b 136) (bit_and (bit_or (b / 16) (b * 16 % 256)) 119)) with_colours_swapped refl
 
-pub blink-bit : (b : ℕ) → b < 256 → bit_xor b 128 ≡ with_bit_flipped 128 b
-blink-bit = same_at (λ b. bit_xor b 128) (with_bit_flipped 128) refl
+pub blink_bit : (b : ℕ) → b < 256 → bit_xor b 128 ≡ with_bit_flipped 128 b
+blink_bit = same_at (λ b. bit_xor b 128) (with_bit_flipped 128) refl
 
-pub bright-bit : (b : ℕ) → b < 256 → bit_xor b 8 ≡ with_bit_flipped 8 b
-bright-bit = same_at (λ b. bit_xor b 8) (with_bit_flipped 8) refl
+pub bright_bit : (b : ℕ) → b < 256 → bit_xor b 8 ≡ with_bit_flipped 8 b
+bright_bit = same_at (λ b. bit_xor b 8) (with_bit_flipped 8) refl
 
-pub both-bits : (bg fg : ℕ) → bg < 16 → fg < 16 → bit_or (bg * 16 % 256) fg ≡ byte_of bg fg
-both-bits bg fg h k =
+pub both_bits : (bg fg : ℕ) → bg < 16 → fg < 16 → bit_or (bg * 16 % 256) fg ≡ byte_of bg fg
+both_bits bg fg h k =
     ap (λ high. bit_or high fg) (shl_whole bg 4 4 8 h (omega arith)) ∙ or_shifted bg 4 fg k ∙ omega arith
 
-pub vga-below : (c : ℕ) → c < 16 → vga c < 16
-vga-below c h = ltb-true _ _ (agree_below_at (λ c. ltb (vga c) 16) (λ _. true) 16 c refl h)
+pub vga_below : (c : ℕ) → c < 16 → vga c < 16
+vga_below c h = ltb-true _ _ (agree_below_at (λ c. ltb (vga c) 16) (λ _. true) 16 c refl h)
 
-pub ruleset bits = (vga-below, with_colours_swapped-bits, blink-bit, bright-bit, both-bits)
+pub ruleset bits = (vga_below, with_colours_swapped-bits, blink_bit, bright_bit, both_bits)

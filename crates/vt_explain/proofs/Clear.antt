@@ -61,9 +61,9 @@ line_of_words (word ∷ words) is =
     (line_of_words words both.1))
 
 -- spelled words are a line
-pub line-joined_by_blanks : (word : List ℕ) (words : List (List ℕ)) → are_clear (word ∷ words) ≡ true
+pub line_joined_by_blanks : (word : List ℕ) (words : List (List ℕ)) → are_clear (word ∷ words) ≡ true
     → IsLine (joined_by_blanks (word ∷ words))
-line-joined_by_blanks word words clear =
+line_joined_by_blanks word words clear =
     let both = and_parts (is_clear word) (are_clear words) clear in
     rw (joined_by_blanks-cons word words)
     (All-append (λ b. b ≢ 0x0A) word (blank_before_each words) (line_of_word word both.0)

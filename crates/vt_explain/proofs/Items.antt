@@ -2,7 +2,7 @@
 use Rattle.std.proofs.Common.{◌≡◌, ℕ, ◌<◌, ◌≤◌, ◌^◌, Bool, true, false, true≢false, ◌&&◌, append-nil, List, [], ◌∷◌, ◌++◌, codes, decimal, refl, sym, ap, ◌∙◌, arith}
 use Rattle.std.specs.Prelude.{◌==◌}
 use Rattle.std.proofs.lemmas.Fmt.{decimal_injective}
-use Rattle.vt_explain.proofs.Clear.{are_clear, clear_number, words_of_text-joined_by_blanks, line-joined_by_blanks, lines_once, same_number}
+use Rattle.vt_explain.proofs.Clear.{are_clear, clear_number, words_of_text-joined_by_blanks, line_joined_by_blanks, lines_once, same_number}
 use Rattle.vt_explain.specs.CertText.{IsFit, IsFitAsk, IsFitCause, asked_words, cause_words, head_words, item_words}
 use Rattle.vt_explain.specs.declared.hop_cause.HopCause.{HopCause}
 use Rattle.vt_explain.specs.declared.hop_cause.HopCause.TheVariants as why
@@ -43,7 +43,7 @@ cut_item w fit =
 
 pub line_item : (w : HopWhy) → IsFit w → IsLine (joined_by_blanks (item_words w))
 line_item w fit =
-    line-joined_by_blanks (decimal w.at)
+    line_joined_by_blanks (decimal w.at)
     (decimal w.nth ∷ decimal w.from ∷ decimal w.to ∷ cause_words w.cause) (clear_item w fit)
 
 clear_head : (n : ℕ) → n ≤ 4294967295 → are_clear (head_words n) ≡ true
@@ -55,7 +55,7 @@ pub cut_head : (n : ℕ) → n ≤ 4294967295 → words_of_text (joined_by_blank
 cut_head n fit = words_of_text-joined_by_blanks (codes "%explain") (decimal n ∷ []) (clear_head n fit)
 
 pub line_head : (n : ℕ) → n ≤ 4294967295 → IsLine (joined_by_blanks (head_words n))
-line_head n fit = line-joined_by_blanks (codes "%explain") (decimal n ∷ []) (clear_head n fit)
+line_head n fit = line_joined_by_blanks (codes "%explain") (decimal n ∷ []) (clear_head n fit)
 
 -- words are one ask and what follows it
 record SameAsk (p a s q b t : ℕ) (u v : List (List ℕ)) : Type 0 where

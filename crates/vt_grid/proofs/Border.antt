@@ -14,33 +14,33 @@ no_cell = record { code = 0; attr = 0 }
 abbrev pub half_at : ℕ → List Cell → Bool
 half_at x row = is_half (get_or row x no_cell)
 
-border-none : (x : ℕ) (row : List Cell) → half_at (suc x) row ≡ false
+border_none : (x : ℕ) (row : List Cell) → half_at (suc x) row ≡ false
     → take x row ++ split_pair (drop x row) ≡ row
-border-none zero [] h = refl
-border-none zero (a ∷ []) h = refl
-border-none zero (a ∷ b ∷ row) h =
+border_none zero [] h = refl
+border_none zero (a ∷ []) h = refl
+border_none zero (a ∷ b ∷ row) h =
     cond-false (is_half b) (space_in_colours a ∷ space_in_colours b ∷ row) (a ∷ b ∷ row) h
-border-none (suc x) [] h = refl
-border-none (suc x) (c ∷ row) h = ap (λ cells. c ∷ cells) (border-none x row h)
+border_none (suc x) [] h = refl
+border_none (suc x) (c ∷ row) h = ap (λ cells. c ∷ cells) (border_none x row h)
 
 -- no half stands behind the border: nothing changes
-pub split_wide-none : (x : ℕ) (row : List Cell) → half_at x row ≡ false → split_wide x row ≡ row
-split_wide-none zero row h = refl
-split_wide-none (suc x) row h = border-none x row h
+pub split_wide_none : (x : ℕ) (row : List Cell) → half_at x row ≡ false → split_wide x row ≡ row
+split_wide_none zero row h = refl
+split_wide_none (suc x) row h = border_none x row h
 
 -- both halves become spaces
 abbrev pub both_spaced : ℕ → List Cell → List Cell
 both_spaced x row =
     set (set row x (space_in_colours (get_or row x no_cell))) (suc x) (space_in_colours (get_or row (suc x) no_cell))
 
-pub split_wide-both : (x : ℕ) (row : List Cell) → half_at (suc x) row ≡ true
+pub split_wide_both : (x : ℕ) (row : List Cell) → half_at (suc x) row ≡ true
     → split_wide (suc x) row ≡ both_spaced x row
-split_wide-both zero [] h = cc
-split_wide-both zero (a ∷ []) h = cc
-split_wide-both zero (a ∷ b ∷ row) h =
+split_wide_both zero [] h = cc
+split_wide_both zero (a ∷ []) h = cc
+split_wide_both zero (a ∷ b ∷ row) h =
     cond-true (is_half b) (space_in_colours a ∷ space_in_colours b ∷ row) (a ∷ b ∷ row) h
-split_wide-both (suc x) [] h = cc
-split_wide-both (suc x) (c ∷ row) h = ap (λ cells. c ∷ cells) (split_wide-both x row h)
+split_wide_both (suc x) [] h = cc
+split_wide_both (suc x) (c ∷ row) h = ap (λ cells. c ∷ cells) (split_wide_both x row h)
 
 -- what is known of a parted row
 abbrev Parts : ℕ → List Cell → Type 0
@@ -52,8 +52,8 @@ parts zero row = inl refl
 parts (suc x) row = by (half_at (suc x) row) refl
   where
     by : (test : Bool) → half_at (suc x) row ≡ test → Parts (suc x) row
-    by true is = inr (x, refl, is, split_wide-both x row is)
-    by false is = inl (split_wide-none (suc x) row is)
+    by true is = inr (x, refl, is, split_wide_both x row is)
+    by false is = inl (split_wide_none (suc x) row is)
 
 pub length-split_wide : (x : ℕ) (row : List Cell) → length (split_wide x row) ≡ length row
 length-split_wide x row =
@@ -66,9 +66,9 @@ length-split_wide x row =
     ]
 
 -- cells off the border stay
-pub split_wide-away : (x k : ℕ) (row : List Cell) (d : Cell) → suc k ≢ x → k ≢ x
+pub split_wide_away : (x k : ℕ) (row : List Cell) (d : Cell) → suc k ≢ x → k ≢ x
     → get_or (split_wide x row) k d ≡ get_or row k d
-split_wide-away x k row d other there =
+split_wide_away x k row d other there =
     elim (parts x row) [
       | inl same ↦ ap (λ (cells : List Cell). get_or cells k d) same
       | inr both ↦
@@ -84,10 +84,10 @@ abbrev unhalved : Cell → Cell
 unhalved c = if is_half c then space_in_colours c else c
 
 -- the cell behind the border
-pub split_wide-here : (x : ℕ) (row : List Cell) (d : Cell) → 0 < x → x < length row
+pub split_wide_here : (x : ℕ) (row : List Cell) (d : Cell) → 0 < x → x < length row
     → get_or (split_wide x row) x d ≡ unhalved (get_or row x d)
-split_wide-here zero row d some within = absurd (omega (arith, some))
-split_wide-here (suc x) row d some within = by (half_at (suc x) row) refl
+split_wide_here zero row d some within = absurd (omega (arith, some))
+split_wide_here (suc x) row d some within = by (half_at (suc x) row) refl
   where
     now : get_or row (suc x) no_cell ≡ get_or row (suc x) d
     now = get_or_default row (suc x) no_cell d within
@@ -96,54 +96,54 @@ split_wide-here (suc x) row d some within = by (half_at (suc x) row) refl
         → get_or (split_wide (suc x) row) (suc x) d ≡ unhalved (get_or row (suc x) d)
     by true is =
         let left = space_in_colours (get_or row x no_cell) in
-        ap (λ (cells : List Cell). get_or cells (suc x) d) (split_wide-both x row is)
+        ap (λ (cells : List Cell). get_or cells (suc x) d) (split_wide_both x row is)
         ∙ get_or-set_same (set row x left) (suc x) (space_in_colours (get_or row (suc x) no_cell)) d
         (omega (arith, within, length-set row x left))
         ∙ ap space_in_colours now
         ∙ sym (cond-true (is_half (get_or row (suc x) d)) (space_in_colours (get_or row (suc x) d)) (get_or row (suc x) d) (ap is_half (sym now) ∙ is))
     by false is =
-        ap (λ (cells : List Cell). get_or cells (suc x) d) (split_wide-none (suc x) row is)
+        ap (λ (cells : List Cell). get_or cells (suc x) d) (split_wide_none (suc x) row is)
         ∙ sym (cond-false (is_half (get_or row (suc x) d)) (space_in_colours (get_or row (suc x) d)) (get_or row (suc x) d) (ap is_half (sym now) ∙ is))
 
-unhalved-none : (c : Cell) → is_half (unhalved c) ≡ false
-unhalved-none c = by (is_half c) refl
+unhalved_none : (c : Cell) → is_half (unhalved c) ≡ false
+unhalved_none c = by (is_half c) refl
   where
     by : (test : Bool) → is_half c ≡ test → is_half (unhalved c) ≡ false
     by true is = ap is_half (cond-true (is_half c) (space_in_colours c) c is)
     by false is = ap is_half (cond-false (is_half c) (space_in_colours c) c is) ∙ is
 
 -- no half stands behind the border, which is none at column 0
-pub split_wide-clear : (x : ℕ) (row : List Cell) → 0 < x → half_at x (split_wide x row) ≡ false
-split_wide-clear x row some =
+pub split_wide_clear : (x : ℕ) (row : List Cell) → 0 < x → half_at x (split_wide x row) ≡ false
+split_wide_clear x row some =
     elim (cases_lt x (length row)) [
-      | inl within ↦ ap is_half (split_wide-here x row no_cell some within) ∙ unhalved-none (get_or row x no_cell)
+      | inl within ↦ ap is_half (split_wide_here x row no_cell some within) ∙ unhalved_none (get_or row x no_cell)
       | inr past ↦ ap is_half (get_or_past (split_wide x row) x no_cell (omega (arith, past, length-split_wide x row)))
     ]
 
 -- a row is the same behind a border where it was
-pub split_wide-same : (x k : ℕ) (row other : List Cell) (d : Cell) → x ≤ k → k < length row → k < length other
+pub split_wide_same : (x k : ℕ) (row other : List Cell) (d : Cell) → x ≤ k → k < length row → k < length other
     → get_or row k d ≡ get_or other k d → get_or (split_wide x row) k d ≡ get_or (split_wide x other) k d
-split_wide-same zero k row other d from within in_other same = same
-split_wide-same (suc x) k row other d from within in_other same =
+split_wide_same zero k row other d from within in_other same = same
+split_wide_same (suc x) k row other d from within in_other same =
     elim (cases_eq k (suc x)) [
       | inl here ↦
           subst (λ n. get_or (split_wide (suc x) row) n d ≡ get_or (split_wide (suc x) other) n d) (sym here)
-          (split_wide-here (suc x) row d (omega arith) (omega (arith, within, here))
+          (split_wide_here (suc x) row d (omega arith) (omega (arith, within, here))
           ∙ ap unhalved (subst (λ n. get_or row n d ≡ get_or other n d) here same)
-          ∙ sym (split_wide-here (suc x) other d (omega arith) (omega (arith, in_other, here))))
+          ∙ sym (split_wide_here (suc x) other d (omega arith) (omega (arith, in_other, here))))
       | inr away ↦
-          split_wide-away (suc x) k row d (λ (is : suc k ≡ suc x). away (omega (arith, is, from))) away
+          split_wide_away (suc x) k row d (λ (is : suc k ≡ suc x). away (omega (arith, is, from))) away
           ∙ same
-          ∙ sym (split_wide-away (suc x) k other d (λ (is : suc k ≡ suc x). away (omega (arith, is, from))) away)
+          ∙ sym (split_wide_away (suc x) k other d (λ (is : suc k ≡ suc x). away (omega (arith, is, from))) away)
     ]
 
 -- past the row's end there is no border
-pub split_wide-past : (x : ℕ) (row : List Cell) → length row ≤ x → split_wide x row ≡ row
-split_wide-past x row past = split_wide-none x row (ap is_half (get_or_past row x no_cell past))
+pub split_wide_past : (x : ℕ) (row : List Cell) → length row ≤ x → split_wide x row ≡ row
+split_wide_past x row past = split_wide_none x row (ap is_half (get_or_past row x no_cell past))
 
 -- cells that are none stay none
-pub split_wide-fewer : (x k : ℕ) (row : List Cell) → half_at k row ≡ false → half_at k (split_wide x row) ≡ false
-split_wide-fewer x k row none =
+pub split_wide_fewer : (x k : ℕ) (row : List Cell) → half_at k row ≡ false → half_at k (split_wide x row) ≡ false
+split_wide_fewer x k row none =
     elim (parts x row) [
       | inl same ↦ ap (half_at k) same ∙ none
       | inr both ↦

@@ -35,12 +35,12 @@ length-rows_by_number : (order : List ℕ) (shelves : List RowSlot) → length (
 length-rows_by_number order shelves = length-map {B = StoredRow} order (λ p. (slot_at shelves p).line)
 
 -- the numbers of two pieces name rows
-pub pieces-within : (order front back : List ℕ) (from count n : ℕ)
+pub pieces_within : (order front back : List ℕ) (from count n : ℕ)
     → front ++ back ≡ take count (drop from order) → from + count ≤ length order
     → ((y : ℕ) → y < length order → get_or order y 0 < n)
     → ((i : ℕ) → i < length front → get_or front i 0 < n)
     × ((i : ℕ) → i < length back → get_or back i 0 < n)
-pieces-within order front back from count n is within names =
+pieces_within order front back from count n is within names =
     let len : length front + length back ≡ count =
     sym (length-append front back) ∙ ap (λ (xs : List ℕ). length xs) is
     ∙ length-take-le count (drop from order) (omega (arith, length-drop from order)) in
@@ -57,19 +57,19 @@ pieces-within order front back from count n is within names =
     )
 
 -- the pieces of a ring
-pub one-piece : (head from start count : ℕ) (numbers : List ℕ) → head < length numbers
+pub one_piece : (head from start count : ℕ) (numbers : List ℕ) → head < length numbers
     → from ≤ length numbers → start < length numbers → IsPlace (length numbers) head from start
     → from + count ≤ length numbers → start + count ≤ length numbers
     → take count (drop start numbers) ++ [] ≡ take count (drop from (rotation_by head numbers))
-one-piece head from start count numbers head_in from_in start_in is within fits =
+one_piece head from start count numbers head_in from_in start_in is within fits =
     same_lists _ _ (search (rules, places)) (λ k d k_in. grind (arith, places))
 
-pub two-pieces : (head from start count : ℕ) (numbers : List ℕ) → head < length numbers
+pub two_pieces : (head from start count : ℕ) (numbers : List ℕ) → head < length numbers
     → from ≤ length numbers → start < length numbers → IsPlace (length numbers) head from start
     → from + count ≤ length numbers → length numbers ≤ start + count
     → take (length numbers - start) (drop start numbers) ++ take (count - (length numbers - start)) numbers
     ≡ take count (drop from (rotation_by head numbers))
-two-pieces head from start count numbers head_in from_in start_in is within past =
+two_pieces head from start count numbers head_in from_in start_in is within past =
     same_lists _ _ (search (rules, places)) (λ k d k_in. grind (arith, places))
 
 module _ (rows cols : ℕ) (order : List ℕ) (shelves : List RowSlot)
@@ -131,8 +131,8 @@ module _ (rows cols : ℕ) (order : List ℕ) (shelves : List RowSlot)
         → slot_at (map (blank_slot c) shelves) p ≡ blank_slot c (slot_at shelves p)
     at-blank p p_in = get_or-map (blank_slot c) shelves p no_slot no_slot (omega (arith, naming.count))
 
-    pub IsNaming-blank : IsNaming rows cols order (map (blank_slot c) shelves)
-    IsNaming-blank =
+    pub IsNaming_blank : IsNaming rows cols order (map (blank_slot c) shelves)
+    IsNaming_blank =
         record {
           numbers = naming.numbers;
           count = length-map shelves (blank_slot c) ∙ naming.count;
@@ -142,8 +142,8 @@ module _ (rows cols : ℕ) (order : List ℕ) (shelves : List RowSlot)
           short = λ p p_in. rw (at-blank p p_in) (omega arith);
         }
 
-    pub rows_by_number-blank : rows_by_number (map (blank_slot c) shelves) order ≡ replicate rows (blank_row c)
-    rows_by_number-blank =
+    pub rows_by_number_blank : rows_by_number (map (blank_slot c) shelves) order ≡ replicate rows (blank_row c)
+    rows_by_number_blank =
         let line : ℕ → StoredRow = λ p. (slot_at (map (blank_slot c) shelves) p).line in
         same_lists _ _
         (length-map order line ∙ naming.numbers ∙ sym (length-replicate rows (blank_row c)))

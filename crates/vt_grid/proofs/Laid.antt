@@ -6,17 +6,17 @@ use Rattle.vt_grid.specs.Grid.{IsFull, GridView, laid_over, overlaid, row_at, ro
 use Rattle.vt_cells.specs.declared.cell.Cell.{Cell}
 
 -- one row more is laid over the one at its place
-pub rows_laid_over-more : (rows unders : List (List Cell)) (i : ℕ) → i < length rows
+pub rows_laid_over_more : (rows unders : List (List Cell)) (i : ℕ) → i < length rows
     → i < length unders
     → set (rows_laid_over (take i rows) unders) i
     (laid_over (get_or rows i []) (get_or unders i []))
     ≡ rows_laid_over (take (suc i) rows) unders
-rows_laid_over-more [] unders i in_rows in_unders = absurd (omega arith)
-rows_laid_over-more (row ∷ rows) [] i in_rows in_unders = absurd (omega arith)
-rows_laid_over-more (row ∷ rows) (under ∷ unders) zero in_rows in_unders = refl
-rows_laid_over-more (row ∷ rows) (under ∷ unders) (suc i) in_rows in_unders =
+rows_laid_over_more [] unders i in_rows in_unders = absurd (omega arith)
+rows_laid_over_more (row ∷ rows) [] i in_rows in_unders = absurd (omega arith)
+rows_laid_over_more (row ∷ rows) (under ∷ unders) zero in_rows in_unders = refl
+rows_laid_over_more (row ∷ rows) (under ∷ unders) (suc i) in_rows in_unders =
     ap (λ rest. laid_over row under ∷ rest)
-    (rows_laid_over-more rows unders i (omega arith) (omega arith))
+    (rows_laid_over_more rows unders i (omega arith) (omega arith))
 
 -- a row over which none is laid yet
 pub get_or-rows_laid_over : (rows unders : List (List Cell)) (i : ℕ) → i < length rows
@@ -28,15 +28,15 @@ get_or-rows_laid_over (row ∷ rows) (under ∷ unders) (suc i) in_rows =
     get_or-rows_laid_over rows unders i (omega arith)
 
 -- rows past the last one are laid over nothing
-pub rows_laid_over-all : (rows unders : List (List Cell)) (n : ℕ) → length unders ≤ n
+pub rows_laid_over_all : (rows unders : List (List Cell)) (n : ℕ) → length unders ≤ n
     → rows_laid_over (take n rows) unders ≡ rows_laid_over rows unders
-rows_laid_over-all [] unders zero within = refl
-rows_laid_over-all [] unders (suc n) within = refl
-rows_laid_over-all (row ∷ rows) [] zero within = refl
-rows_laid_over-all (row ∷ rows) [] (suc n) within = refl
-rows_laid_over-all (row ∷ rows) (under ∷ unders) zero within = absurd (omega arith)
-rows_laid_over-all (row ∷ rows) (under ∷ unders) (suc n) within =
-    ap (λ rest. laid_over row under ∷ rest) (rows_laid_over-all rows unders n (omega arith))
+rows_laid_over_all [] unders zero within = refl
+rows_laid_over_all [] unders (suc n) within = refl
+rows_laid_over_all (row ∷ rows) [] zero within = refl
+rows_laid_over_all (row ∷ rows) [] (suc n) within = refl
+rows_laid_over_all (row ∷ rows) (under ∷ unders) zero within = absurd (omega arith)
+rows_laid_over_all (row ∷ rows) (under ∷ unders) (suc n) within =
+    ap (λ rest. laid_over row under ∷ rest) (rows_laid_over_all rows unders n (omega arith))
 
 -- as many cells of a row as both have are the row laid over the other
 pub overlaid-laid_over : (cols : ℕ) (row under : List Cell)

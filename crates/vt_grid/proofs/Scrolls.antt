@@ -44,23 +44,23 @@ with_run_of-part_turned top bottom n x xs order last n_in =
     same_lists _ _ (search (rules, places)) (λ k d k_in. grind (arith, places))
 
 -- a part that is turned the other way, and whose first elements are cleared
-with_run_of-part_turned_down : {A : Type 0} (top bottom n : ℕ) (x : A) (xs : List A) → top ≤ bottom
+with_run_of_part_turned_down : {A : Type 0} (top bottom n : ℕ) (x : A) (xs : List A) → top ≤ bottom
     → bottom < length xs → n ≤ bottom + 1 - top
     → with_run_of top n x (part_turned top bottom (bottom + 1 - top - n) xs)
     ≡ take top xs
     ++ (moved n x (take (bottom + 1 - top) (drop top xs)) ++ drop (bottom + 1) xs)
-with_run_of-part_turned_down top bottom n x xs order last n_in =
+with_run_of_part_turned_down top bottom n x xs order last n_in =
     same_lists _ _ (search (rules, places)) (λ k d k_in. grind (arith, places))
 
 -- a scroll of the stored rows is a scroll of the grid
-pub shown-scrolled_up : (s : Store) (top bottom n count : ℕ) (c : Cell) → top ≤ bottom
+pub shown_scrolled_up : (s : Store) (top bottom n count : ℕ) (c : Cell) → top ≤ bottom
     → bottom < s.rows → IsFit s → count ≡ min n (bottom + 1 - top)
     → grid_view (record s {
       lines = with_run_of (bottom + 1 - count) count (blank_row c)
           (part_turned top bottom count s.lines);
     })
     ≡ scrolled_up (grid_view s) top bottom n c
-shown-scrolled_up s top bottom n count c order last fit count_is =
+shown_scrolled_up s top bottom n count c order last fit count_is =
     let cells = cells_of s.cols in
     let rows : List (List Cell) = map cells s.lines in
     let tall : length rows ≡ s.rows = length-map s.lines cells ∙ fit.tall in
@@ -76,14 +76,14 @@ shown-scrolled_up s top bottom n count c order last fit count_is =
     count_is)
 
 -- a scroll down of the stored rows is one of the grid
-pub shown-scrolled_down : (s : Store) (top bottom n count : ℕ) (c : Cell) → top ≤ bottom
+pub shown_scrolled_down : (s : Store) (top bottom n count : ℕ) (c : Cell) → top ≤ bottom
     → bottom < s.rows → IsFit s → count ≡ min n (bottom + 1 - top)
     → grid_view (record s {
       lines = with_run_of top count (blank_row c)
           (part_turned top bottom (bottom + 1 - top - count) s.lines);
     })
     ≡ scrolled_down (grid_view s) top bottom n c
-shown-scrolled_down s top bottom n count c order last fit count_is =
+shown_scrolled_down s top bottom n count c order last fit count_is =
     let cells = cells_of s.cols in
     let rows : List (List Cell) = map cells s.lines in
     let tall : length rows ≡ s.rows = length-map s.lines cells ∙ fit.tall in
@@ -92,7 +92,7 @@ shown-scrolled_down s top bottom n count c order last fit count_is =
     (map-with_run_of cells top count (blank_row c) (part_turned top bottom (height - count) s.lines)
     ∙ (λ i. with_run_of top count (cells_of-blank_row s.cols c i)
     (map-part_turned cells top bottom (height - count) s.lines i))
-    ∙ with_run_of-part_turned_down top bottom count (replicate s.cols c) rows order (omega arith)
+    ∙ with_run_of_part_turned_down top bottom count (replicate s.cols c) rows order (omega arith)
     (omega arith)
     ∙ ap (λ m. take top rows
     ++ (moved_down m (replicate s.cols c) (take height (drop top rows)) ++ drop (bottom + 1) rows))

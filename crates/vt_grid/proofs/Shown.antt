@@ -56,14 +56,14 @@ map-replicate {Y = Y} f n x =
     ∙ sym (get_or-replicate n k (f x) d within))
 
 -- the row of a grid shows the stored row
-pub row_at-shown : (s : Store) (y : ℕ) → y < s.rows → IsFit s
+pub row_at_shown : (s : Store) (y : ℕ) → y < s.rows → IsFit s
     → row_at (grid_view s) y ≡ cells_of s.cols (stored_row s y)
-row_at-shown s y y_in fit =
+row_at_shown s y y_in fit =
     get_or-map (cells_of s.cols) s.lines y no_row [] (omega (arith, fit.tall))
 
 -- the grid that stored rows show is full
-pub IsFull-shown : (s : Store) → IsFit s → IsFull (grid_view s)
-IsFull-shown s fit =
+pub IsFull_shown : (s : Store) → IsFit s → IsFull (grid_view s)
+IsFull_shown s fit =
     record {
       tall = length-map s.lines (cells_of s.cols) ∙ fit.tall;
       wide =
@@ -73,50 +73,50 @@ IsFull-shown s fit =
           (λ line short. length-cells_of s.cols line short) s.lines fit.short);
     }
 
-pub HasCellAt-shown : (s : Store) (y x : ℕ) → y < s.rows → x < s.cols → IsFit s
+pub HasCellAt_shown : (s : Store) (y x : ℕ) → y < s.rows → x < s.cols → IsFit s
     → HasCellAt (grid_view s) y x (cell_at (stored_row s y) x)
-HasCellAt-shown s y x y_in x_in fit =
+HasCellAt_shown s y x y_in x_in fit =
     let line = stored_row s y in
     let short : length line.stored ≤ s.cols = fit.short y no_row (omega (arith, fit.tall)) in
-    rw (row_at-shown s y y_in fit)
+    rw (row_at_shown s y y_in fit)
     (slice_get-get_or (cells_of s.cols line) x line.rest
     (omega (arith, length-cells_of s.cols line short))
     ∙ ap Some (get_or-cells_of s.cols line x line.rest x_in))
 
 -- a new row, in the grid
-pub shown-with_stored_row : (s : Store) (y : ℕ) (line : StoredRow)
+pub shown_with_stored_row : (s : Store) (y : ℕ) (line : StoredRow)
     → grid_view (with_stored_row s y line)
     ≡ record (grid_view s) {
       cells = set (grid_view s).cells y (cells_of s.cols line);
     }
-shown-with_stored_row s y line =
+shown_with_stored_row s y line =
     ap (grid_view_of s.rows s.cols) (map-set (cells_of s.cols) s.lines y line)
 
-pub shown-blank_store : (rows cols : ℕ) (c : Cell)
+pub shown_blank_store : (rows cols : ℕ) (c : Cell)
     → grid_view (blank_store rows cols c) ≡ filled_grid rows cols c
-shown-blank_store rows cols c =
+shown_blank_store rows cols c =
     ap (grid_view_of rows cols)
     (map-replicate (cells_of cols) rows (blank_row c)
     ∙ ap (replicate rows) (cells_of-blank_row cols c))
 
 -- a row that is changed in the store is changed in the grid
-pub shown-changed : (s : Store) (y : ℕ) (line : StoredRow → StoredRow) (row : List Cell → List Cell)
+pub shown_changed : (s : Store) (y : ℕ) (line : StoredRow → StoredRow) (row : List Cell → List Cell)
     → y < s.rows → IsFit s
     → ((l : StoredRow) → length l.stored ≤ s.cols
     → cells_of s.cols (line l) ≡ row (cells_of s.cols l))
     → grid_view (with_stored_row s y (line (stored_row s y)))
     ≡ with_row (grid_view s) y (row (row_at (grid_view s) y))
-shown-changed s y line row y_in fit same =
+shown_changed s y line row y_in fit same =
     let old = stored_row s y in
     let short : length old.stored ≤ s.cols = fit.short y no_row (omega (arith, fit.tall)) in
-    shown-with_stored_row s y (line old)
+    shown_with_stored_row s y (line old)
     ∙ ap (with_row (grid_view s) y)
-    (same old short ∙ ap row (sym (row_at-shown s y y_in fit)))
+    (same old short ∙ ap row (sym (row_at_shown s y y_in fit)))
 
 -- a run of one cell
-pub with_run-one : (s : GridView) (y x : ℕ) (c : Cell) → y < s.rows → x < s.cols → IsFull s
+pub with_run_one : (s : GridView) (y x : ℕ) (c : Cell) → y < s.rows → x < s.cols → IsFull s
     → with_run s y x (c ∷ []) ≡ with_cell s y x c
-with_run-one s y x c y_in x_in full =
+with_run_one s y x c y_in x_in full =
     let row = row_at s y in
     let wide : length row ≡ s.cols = full.wide y [] (omega (arith, full.tall)) in
     let row_is : set row x c ≡ overlaid x (c ∷ []) row =

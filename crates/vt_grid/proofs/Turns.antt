@@ -61,35 +61,35 @@ IsPermutation-rotation_by {A = A} n xs =
     (IsPermutation-append_comm (take n xs) (drop n xs))
 
 -- a part that is turned between two others
-IsPermutation-between : {A : Type 0} (before part after : List A) (n : ℕ)
+IsPermutation_between : {A : Type 0} (before part after : List A) (n : ℕ)
     → IsPermutation (before ++ (part ++ after)) (before ++ (rotation_by n part ++ after))
-IsPermutation-between before part after n =
+IsPermutation_between before part after n =
     IsPermutation-append_right before _ _
     (IsPermutation-append_left after _ _ (IsPermutation-rotation_by n part))
 
 -- a list is its elements before a part, the part, and those after it
-parts-is : {A : Type 0} (top bottom : ℕ) (xs : List A) → top ≤ bottom → bottom < length xs
+parts_is : {A : Type 0} (top bottom : ℕ) (xs : List A) → top ≤ bottom → bottom < length xs
     → take top xs ++ (take (bottom + 1 - top) (drop top xs) ++ drop (bottom + 1) xs) ≡ xs
-parts-is top bottom xs order last =
+parts_is top bottom xs order last =
     same_lists _ _ (search (rules, places)) (λ k d k_in. grind (arith, places))
 
 pub IsPermutation-part_turned : {A : Type 0} (top bottom n : ℕ) (xs : List A) → top ≤ bottom
     → bottom < length xs → IsPermutation xs (part_turned top bottom n xs)
 IsPermutation-part_turned {A = A} top bottom n xs order last =
     subst (λ (ys : List A). IsPermutation ys (part_turned top bottom n xs))
-    (parts-is top bottom xs order last)
-    (IsPermutation-between (take top xs) (take (bottom + 1 - top) (drop top xs))
+    (parts_is top bottom xs order last)
+    (IsPermutation_between (take top xs) (take (bottom + 1 - top) (drop top xs))
     (drop (bottom + 1) xs) n)
 
 -- a part that is turned by its number is as it was
-pub part_turned-whole : {A : Type 0} (top bottom n : ℕ) (xs : List A) → top ≤ bottom
+pub part_turned_whole : {A : Type 0} (top bottom n : ℕ) (xs : List A) → top ≤ bottom
     → bottom < length xs → n ≡ bottom + 1 - top → part_turned top bottom n xs ≡ xs
-part_turned-whole top bottom n xs order last whole =
+part_turned_whole top bottom n xs order last whole =
     same_lists _ _ (search (rules, places)) (λ k d k_in. grind (arith, places))
 
 -- the pieces of a part in turned order
-pub rotation_by-pieces : {A : Type 0} (top n len : ℕ) (xs : List A) → n ≤ len → top + len ≤ length xs
+pub rotation_by_pieces : {A : Type 0} (top n len : ℕ) (xs : List A) → n ≤ len → top + len ≤ length xs
     → take (len - n) (drop (top + n) xs) ++ take n (drop top xs)
     ≡ rotation_by n (take len (drop top xs))
-rotation_by-pieces top n len xs n_in within =
+rotation_by_pieces top n len xs n_in within =
     same_lists _ _ (search (rules, places)) (λ k d k_in. grind (arith, places))

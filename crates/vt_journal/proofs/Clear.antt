@@ -57,9 +57,9 @@ line_of_words (word ∷ words) is =
     (line_of_words words both.1))
 
 -- spelled words are a line
-pub line-joined_by_blanks : (word : List ℕ) (words : List (List ℕ)) → is_clear word ≡ true
+pub line_joined_by_blanks : (word : List ℕ) (words : List (List ℕ)) → is_clear word ≡ true
     → are_clear words ≡ true → IsLine (joined_by_blanks (word ∷ words))
-line-joined_by_blanks word words first others =
+line_joined_by_blanks word words first others =
     rw (joined_by_blanks-cons word words)
     (All-append (λ b. b ≢ 0x0A) word (blank_before_each words) (line_of_word word first)
     (line_of_words words others))
@@ -80,9 +80,9 @@ pub are_clear-append : (u v : List (List ℕ)) → are_clear u ≡ true → are_
 are_clear-append u v first others = list_all-append is_clear u v ∙ (λ j. first j && others j)
 
 -- names are clear
-pub is_clear-name : (e : Event) → is_clear (name_of e) ≡ true
-is_clear-name (event.Scan b) = refl
-is_clear-name e = refl
+pub is_clear_name : (e : Event) → is_clear (name_of e) ≡ true
+is_clear_name (event.Scan b) = refl
+is_clear_name e = refl
 
 is_clear-reply_name : (k : ReplyKind) → is_clear (reply_name k) ≡ true
 is_clear-reply_name kind.Done = refl
@@ -100,32 +100,32 @@ is_clear-decimal =
     digit_word n = ap (λ b. b && true) (lt-ltb 0x20 (48 + n) (omega arith))
 
 -- so are lists of numbers
-pub are_clear-decimals : (ns : List ℕ) → All (λ n. n < 2 ^ 64) ns
+pub are_clear_decimals : (ns : List ℕ) → All (λ n. n < 2 ^ 64) ns
     → are_clear (map decimal ns) ≡ true
-are_clear-decimals [] fit = refl
-are_clear-decimals (n ∷ ns) fit =
+are_clear_decimals [] fit = refl
+are_clear_decimals (n ∷ ns) fit =
     λ j.
     is_clear-decimal n (fit 0 0 (omega arith)) j
-    && are_clear-decimals ns (λ k d within. fit (suc k) d (omega arith)) j
+    && are_clear_decimals ns (λ k d within. fit (suc k) d (omega arith)) j
 
 -- a hexadecimal digit is no blank
-hex_digit-clear : (n : ℕ) → ltb 0x20 (hex_digit n) ≡ true
-hex_digit-clear n = by_test (ltb n 10)
+hex_digit_clear : (n : ℕ) → ltb 0x20 (hex_digit n) ≡ true
+hex_digit_clear n = by_test (ltb n 10)
   where
     by_test : (r : Bool) → ltb 0x20 (cond r (0x30 + n) (0x57 + n)) ≡ true
     by_test true = lt-ltb 0x20 (0x30 + n) (omega arith)
     by_test false = lt-ltb 0x20 (0x57 + n) (omega arith)
 
-is_clear-pairs : (bytes : List ℕ) → is_clear (flat_map hex_byte bytes) ≡ true
-is_clear-pairs [] = refl
-is_clear-pairs (b ∷ bytes) =
-    λ j. hex_digit-clear (b / 16) j && (hex_digit-clear (b % 16) j && is_clear-pairs bytes j)
+is_clear_pairs : (bytes : List ℕ) → is_clear (flat_map hex_byte bytes) ≡ true
+is_clear_pairs [] = refl
+is_clear_pairs (b ∷ bytes) =
+    λ j. hex_digit_clear (b / 16) j && (hex_digit_clear (b % 16) j && is_clear_pairs bytes j)
 
 -- bytes are clear
-pub are_clear-held : (held : Option (List ℕ)) → are_clear (held_words held) ≡ true
-are_clear-held None = refl
-are_clear-held (Some []) = refl
-are_clear-held (Some (b ∷ bytes)) = ap (λ r. r && true) (is_clear-pairs (b ∷ bytes))
+pub are_clear_held : (held : Option (List ℕ)) → are_clear (held_words held) ≡ true
+are_clear_held None = refl
+are_clear_held (Some []) = refl
+are_clear_held (Some (b ∷ bytes)) = ap (λ r. r && true) (is_clear_pairs (b ∷ bytes))
 
 -- so are all words of a call
 below_wide : (n : ℕ) → n < 2 ^ 16 → n < 2 ^ 64
@@ -136,5 +136,5 @@ are_clear-event e fit =
     let numbers = All-weaker (λ n. n < 2 ^ 16) (λ n. n < 2 ^ 64) below_wide (numbers_of e) fit.numbers in
     let others =
     are_clear-append (map decimal (numbers_of e)) (held_words (held_of e))
-    (are_clear-decimals (numbers_of e) numbers) (are_clear-held (held_of e)) in
-    λ j. is_clear-name e j && others j
+    (are_clear_decimals (numbers_of e) numbers) (are_clear_held (held_of e)) in
+    λ j. is_clear_name e j && others j

@@ -8,7 +8,7 @@ use Rattle.vt_journal.specs.Journal.{first_words, line_text}
 use Rattle.vt_journal.specs.Lines.{IsLine}
 use Rattle.vt_journal.specs.Says.{HasFirst, IsNoFirst}
 use Rattle.vt_journal.specs.Words.{joined_by_blanks}
-use Rattle.vt_journal.proofs.Clear.{are_clear, words_of_text-joined_by_blanks, is_clear-decimal, line-joined_by_blanks}
+use Rattle.vt_journal.proofs.Clear.{are_clear, words_of_text-joined_by_blanks, is_clear-decimal, line_joined_by_blanks}
 use Rattle.vt_journal.proofs.Once.{lines_once}
 
 small : (version : ℕ) → IsVersion version → version < 2 ^ 64
@@ -19,7 +19,7 @@ clear version known = ap (λ b. b && true) (is_clear-decimal version (small vers
 
 line_first : (version : ℕ) → IsVersion version → IsLine (joined_by_blanks (first_words version))
 line_first version known =
-    line-joined_by_blanks (codes "%journal") (decimal version ∷ []) refl (clear version known)
+    line_joined_by_blanks (codes "%journal") (decimal version ∷ []) refl (clear version known)
 
 cut_first : (version : ℕ) → IsVersion version → words_of_text (joined_by_blanks (first_words version)) ≡ first_words version
 cut_first version known =

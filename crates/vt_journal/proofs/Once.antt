@@ -15,8 +15,8 @@ use Rattle.vt_journal.specs.Says.{IsFitEntry, IsFitTail}
 use Rattle.vt_journal.specs.Words.{IsFit, event_words, reply_words, joined_by_blanks}
 use Rattle.vt_journal.specs.declared.tail.Tail.{Tail}
 use Rattle.vt_journal.specs.declared.tail.Tail.TheVariants as tail
-use Rattle.vt_journal.proofs.CallerWords.{is_clear-caller, is_high, is_high-caller, same_caller}
-use Rattle.vt_journal.proofs.Clear.{are_clear, are_clear-append, are_clear-event, words_of_text-joined_by_blanks, is_clear-decimal, line-joined_by_blanks}
+use Rattle.vt_journal.proofs.CallerWords.{is_clear_caller, is_high, is_high_caller, same_caller}
+use Rattle.vt_journal.proofs.Clear.{are_clear, are_clear-append, are_clear-event, words_of_text-joined_by_blanks, is_clear-decimal, line_joined_by_blanks}
 use Rattle.vt_journal.proofs.ReplyWords.{are_clear-reply, reply_once}
 use Rattle.vt_journal.proofs.Spellings.{event_once}
 
@@ -98,10 +98,10 @@ pub apart : (version : ℕ) (e : Entry) (d : Tail) (u v : List (List ℕ)) → I
     → entry_words version e ++ u ≢ tail_words d ++ v
 apart version e (tail.End events bytes) u v fit same =
     let first : caller_word version e.caller ≡ codes "%end" = cc in
-    false≢true (sym (ap is_high first) ∙ is_high-caller version e.caller fit.caller)
+    false≢true (sym (ap is_high first) ∙ is_high_caller version e.caller fit.caller)
 apart version e (tail.Full full) u v fit same =
     let first : caller_word version e.caller ≡ codes "%full" = cc in
-    false≢true (sym (ap is_high first) ∙ is_high-caller version e.caller fit.caller)
+    false≢true (sym (ap is_high first) ∙ is_high_caller version e.caller fit.caller)
 
 -- the words of entries and of ends are clear
 clear_entry : (version : ℕ) (e : Entry) → IsFitEntry version e
@@ -117,13 +117,13 @@ pub cut_entry : (version : ℕ) (e : Entry) → IsFitEntry version e → words_o
 cut_entry version e fit =
     words_of_text-joined_by_blanks (caller_word version e.caller)
     (decimal e.seq ∷ event_words e.event ++ codes "=" ∷ reply_words e.reply)
-    (is_clear-caller version e.caller fit.caller) (clear_entry version e fit)
+    (is_clear_caller version e.caller fit.caller) (clear_entry version e fit)
 
 pub line_entry : (version : ℕ) (e : Entry) → IsFitEntry version e → IsLine (joined_by_blanks (entry_words version e))
 line_entry version e fit =
-    line-joined_by_blanks (caller_word version e.caller)
+    line_joined_by_blanks (caller_word version e.caller)
     (decimal e.seq ∷ event_words e.event ++ codes "=" ∷ reply_words e.reply)
-    (is_clear-caller version e.caller fit.caller) (clear_entry version e fit)
+    (is_clear_caller version e.caller fit.caller) (clear_entry version e fit)
 
 -- the numbers of an end
 abbrev numbers_in : Tail → List (List ℕ)
@@ -151,10 +151,10 @@ cut_tail (tail.Full full) fit =
 
 pub line_tail : (d : Tail) → IsFitTail d → IsLine (joined_by_blanks (tail_words d))
 line_tail (tail.End events bytes) fit =
-    line-joined_by_blanks (codes "%end") (decimal events ∷ decimal bytes ∷ []) refl
+    line_joined_by_blanks (codes "%end") (decimal events ∷ decimal bytes ∷ []) refl
     (clear_tail (tail.End events bytes) fit)
 line_tail (tail.Full full) fit =
-    line-joined_by_blanks (codes "%full") (decimal full.events ∷ decimal full.bytes ∷ decimal full.charge ∷ [])
+    line_joined_by_blanks (codes "%full") (decimal full.events ∷ decimal full.bytes ∷ decimal full.charge ∷ [])
     refl (clear_tail (tail.Full full) fit)
 
 -- a text has one first line

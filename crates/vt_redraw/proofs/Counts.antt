@@ -7,18 +7,18 @@ use Rattle.vt_redraw.specs.Blanks.{blank_count, count_behind, end_count}
 use Rattle.vt_redraw.specs.Cells.{are_spaces, byte_change, cells_text, glyph_text, is_blank_end, is_ground}
 use Rattle.vt_redraw.specs.Sequences.{erase_text}
 
-pub count-short : (cells : List Cell) → blank_count cells ≤ length cells
-count-short [] = omega arith
-count-short (c ∷ cells) = by (is_blank_end (c ∷ cells)) (count-short cells)
+pub count_short : (cells : List Cell) → blank_count cells ≤ length cells
+count_short [] = omega arith
+count_short (c ∷ cells) = by (is_blank_end (c ∷ cells)) (count_short cells)
   where
     by : (t : Bool) → blank_count cells ≤ length cells → cond t (length (c ∷ cells)) (blank_count cells) ≤ length (c ∷ cells)
     by true h = omega arith
     by false h = omega (arith, h)
 
 -- a cell that is no blank
-pub count-other : (n b : ℕ) (c : Cell) (more : List Cell) → (c.code == 0x20 && is_ground c.attr) ≡ false
+pub count_other : (n b : ℕ) (c : Cell) (more : List Cell) → (c.code == 0x20 && is_ground c.attr) ≡ false
     → (0 < n → is_ground b ≡ true) → count_behind 0 b more ≡ count_behind n b (c ∷ more)
-count-other n b c more other ground =
+count_other n b c more other ground =
     sym (cond-false (nat_lt 0 n && are_spaces b (c ∷ more)) _ _ (apart n ground (c.code == 0x20) refl)
     ∙ cond-false (is_blank_end (c ∷ more)) _ _ (no-end (c.code == 0x20) (is_ground c.attr) other))
   where
@@ -48,9 +48,9 @@ count-other n b c more other ground =
         ∙ none (nat_lt 0 (suc k))
 
 -- a blank with the same byte as those before
-pub count-same : (n b : ℕ) (c : Cell) (more : List Cell) → (c.code == 0x20) ≡ true → is_ground c.attr ≡ true
+pub count_same : (n b : ℕ) (c : Cell) (more : List Cell) → (c.code == 0x20) ≡ true → is_ground c.attr ≡ true
     → (c.attr == b) ≡ true → count_behind (n + 1) b more ≡ count_behind n b (c ∷ more)
-count-same n b c more code ground byte = by (are_spaces b more) refl
+count_same n b c more code ground byte = by (are_spaces b more) refl
   where
     here : are_spaces b (c ∷ more) ≡ are_spaces b more
     here = λ i. code i && byte i && are_spaces b more
@@ -86,9 +86,9 @@ count-same n b c more code ground byte = by (are_spaces b more) refl
         ∙ cond-false (is_blank_end (c ∷ more)) _ _ (blank-end ∙ is))
 
 -- a blank with another byte
-pub count-first : (n b : ℕ) (c : Cell) (more : List Cell) → (c.code == 0x20) ≡ true → is_ground c.attr ≡ true
+pub count_first : (n b : ℕ) (c : Cell) (more : List Cell) → (c.code == 0x20) ≡ true → is_ground c.attr ≡ true
     → (c.attr == b) ≡ false → count_behind 1 c.attr more ≡ count_behind n b (c ∷ more)
-count-first n b c more code ground byte =
+count_first n b c more code ground byte =
     by (are_spaces c.attr more) refl
     ∙ sym (cond-false (nat_lt 0 n && are_spaces b (c ∷ more)) _ _
     (ap (λ (t : Bool). nat_lt 0 n && (t && are_spaces b more)) (ap (λ (t : Bool). c.code == 0x20 && t) byte ∙ none (c.code == 0x20)) ∙ none (nat_lt 0 n)))
@@ -109,20 +109,20 @@ count-first n b c more code ground byte =
         cond-false (are_spaces c.attr more) _ _ is ∙ sym (cond-false (is_blank_end (c ∷ more)) _ _ (blank-end ∙ is))
 
 -- the blank end begins here
-pub end-here : (erases : Bool) (c : Cell) (more : List Cell) → end_count erases (c ∷ more) ≡ length (c ∷ more)
+pub end_here : (erases : Bool) (c : Cell) (more : List Cell) → end_count erases (c ∷ more) ≡ length (c ∷ more)
     → (erases && is_blank_end (c ∷ more)) ≡ true
-end-here false c more is = absurd (let e : ⊥ = omega (arith, is) in e)
-end-here true c more is = by (is_blank_end (c ∷ more)) is
+end_here false c more is = absurd (let e : ⊥ = omega (arith, is) in e)
+end_here true c more is = by (is_blank_end (c ∷ more)) is
   where
     by : (t : Bool) → cond t (length (c ∷ more)) (blank_count more) ≡ length (c ∷ more) → t ≡ true
     by true all = refl
-    by false all = absurd (let e : ⊥ = omega (arith, all, count-short more) in e)
+    by false all = absurd (let e : ⊥ = omega (arith, all, count_short more) in e)
 
 -- or further on, or nowhere
-pub end-later : (erases : Bool) (c : Cell) (more : List Cell) → (end_count erases (c ∷ more) ≡ length (c ∷ more) → ⊥)
+pub end_later : (erases : Bool) (c : Cell) (more : List Cell) → (end_count erases (c ∷ more) ≡ length (c ∷ more) → ⊥)
     → ((erases && is_blank_end (c ∷ more)) ≡ false) × (end_count erases more ≡ end_count erases (c ∷ more))
-end-later false c more other = (refl, refl)
-end-later true c more other = by (is_blank_end (c ∷ more)) refl
+end_later false c more other = (refl, refl)
+end_later true c more other = by (is_blank_end (c ∷ more)) refl
   where
     by : (t : Bool) → is_blank_end (c ∷ more) ≡ t → (is_blank_end (c ∷ more) ≡ false) × (blank_count more ≡ blank_count (c ∷ more))
     by true is = absurd (other (cond-true (is_blank_end (c ∷ more)) _ _ is))
@@ -133,11 +133,11 @@ pub erase-text : (erases : Bool) (now : ℕ) (c : Cell) (more : List Cell) → (
     → cells_text erases now (c ∷ more) ≡ byte_change now c.attr ++ erase_text
 erase-text erases now c more is = cond-true _ _ _ is
 
-pub half-text : (erases : Bool) (now : ℕ) (c : Cell) (more : List Cell) → (erases && is_blank_end (c ∷ more)) ≡ false
+pub half_text : (erases : Bool) (now : ℕ) (c : Cell) (more : List Cell) → (erases && is_blank_end (c ∷ more)) ≡ false
     → is_half c ≡ true → cells_text erases now (c ∷ more) ≡ cells_text erases now more
-half-text erases now c more other is = cond-false _ _ _ other ∙ cond-true (is_half c) _ _ is
+half_text erases now c more other is = cond-false _ _ _ other ∙ cond-true (is_half c) _ _ is
 
-pub character-text : (erases : Bool) (now : ℕ) (c : Cell) (more : List Cell)
+pub character_text : (erases : Bool) (now : ℕ) (c : Cell) (more : List Cell)
     → (erases && is_blank_end (c ∷ more)) ≡ false → is_half c ≡ false
     → cells_text erases now (c ∷ more) ≡ byte_change now c.attr ++ (glyph_text c.code ++ cells_text erases c.attr more)
-character-text erases now c more other is = cond-false _ _ _ other ∙ cond-false (is_half c) _ _ is
+character_text erases now c more other is = cond-false _ _ _ other ∙ cond-false (is_half c) _ _ is

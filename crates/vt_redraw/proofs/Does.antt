@@ -23,11 +23,11 @@ run-append : {S : Type 0} (e : Effects S) (a b : List ℕ) (at : Reached S) → 
 run-append e [] b at = refl
 run-append e (x ∷ a) b at = run-append e a b (step e x at)
 
-pub does-nothing : (s : Screen) → Does [] s s
-does-nothing s = record { does = λ m. (m, refl) }
+pub does_nothing : (s : Screen) → Does [] s s
+does_nothing s = record { does = λ m. (m, refl) }
 
-pub does-then : {a b : List ℕ} {s t u : Screen} → Does a s t → Does b t u → Does (a ++ b) s u
-does-then {a = a} {b = b} {s = s} one two = record {
+pub does_then : {a b : List ℕ} {s t u : Screen} → Does a s t → Does b t u → Does (a ++ b) s u
+does_then {a = a} {b = b} {s = s} one two = record {
   does =
       λ m.
       let first = one.does m in
@@ -40,28 +40,28 @@ does-then {a = a} {b = b} {s = s} one two = record {
 }
 
 -- the same screen, or the same text, in another form
-pub does-to : {a : List ℕ} {s t u : Screen} → Does a s t → t ≡ u → Does a s u
-does-to {a = a} {s = s} one same = subst (λ (t : Screen). Does a s t) same one
+pub does_to : {a : List ℕ} {s t u : Screen} → Does a s t → t ≡ u → Does a s u
+does_to {a = a} {s = s} one same = subst (λ (t : Screen). Does a s t) same one
 
-pub does-from : {a : List ℕ} {s t u : Screen} → s ≡ t → Does a t u → Does a s u
-does-from {a = a} {u = u} same one = subst (λ (t : Screen). Does a t u) (sym same) one
+pub does_from : {a : List ℕ} {s t u : Screen} → s ≡ t → Does a t u → Does a s u
+does_from {a = a} {u = u} same one = subst (λ (t : Screen). Does a t u) (sym same) one
 
-pub does-text : {a b : List ℕ} {s t : Screen} → a ≡ b → Does b s t → Does a s t
-does-text {s = s} {t = t} same one = subst (λ (text : List ℕ). Does text s t) (sym same) one
+pub does_text : {a b : List ℕ} {s t : Screen} → a ≡ b → Does b s t → Does a s t
+does_text {s = s} {t = t} same one = subst (λ (text : List ℕ). Does text s t) (sym same) one
 
 -- bytes that come to a unit are run as it
-come-run : {S : Type 0} (e : Effects S) (u : units.Unit) (m : Mode) (bytes : List ℕ) (s : S) (old : Rest)
+come_run : {S : Type 0} (e : Effects S) (u : units.Unit) (m : Mode) (bytes : List ℕ) (s : S) (old : Rest)
     → e.mode_of s ≡ m → ComeTo u m old bytes
     → run e bytes (make_reached s old) ≡ make_reached (e.on_unit u s) (fresh m)
-come-run e u m [] s old mode comes = absurd comes
-come-run e u m (b ∷ []) s old mode comes =
+come_run e u m [] s old mode comes = absurd comes
+come_run e u m (b ∷ []) s old mode comes =
     ap (λ (n : Mode). make_reached (effects_of e (answer old n b) s) (rest_after old n b)) mode
     ∙ (λ i. make_reached (effects_of e (comes.0 i) s) (comes.1 i))
-come-run e u m (b ∷ c ∷ bytes) s old mode comes =
+come_run e u m (b ∷ c ∷ bytes) s old mode comes =
     let first : step e b (make_reached s old) ≡ make_reached s (rest_after old m b) =
     ap (λ (n : Mode). make_reached (effects_of e (answer old n b) s) (rest_after old n b)) mode
     ∙ ap (λ (r : Read). make_reached (effects_of e r s) (rest_after old m b)) comes.0 in
-    ap (run e (c ∷ bytes)) first ∙ come-run e u m (c ∷ bytes) s (rest_after old m b) mode comes.1
+    ap (run e (c ∷ bytes)) first ∙ come_run e u m (c ∷ bytes) s (rest_after old m b) mode comes.1
 
 -- a sequence that is read at once
 pub acts : SequencesAreUnits → (text : List ℕ) (u : units.Unit)
@@ -77,7 +77,7 @@ acts law text u found s t is = record {
         now,
         ap (λ (bytes : List ℕ). run screen_effects bytes (make_reached first (fresh m)))
             (sym (take_all (length text) text (omega arith)))
-            ∙ come-run screen_effects u now (take (length text) text) first (fresh m) refl unit.comes
+            ∙ come_run screen_effects u now (take (length text) text) first (fresh m) refl unit.comes
             ∙ ap (λ (d : Effect). make_reached (record { screen = d.screen; outs = [] ++ outs_of_option d.said }) (fresh now)) is,
       );
 }

@@ -10,8 +10,8 @@ use Rattle.vt_chars.specs.Utf8.{within}
 use Rattle.vt_grid.specs.Grid.{GridView, cells_of_codes, with_erased, with_run}
 use Rattle.vt_grid.specs.Halves.{with_cells_at, split_wide_between}
 use Rattle.vt_redraw.proofs.Does.{Does}
-use Rattle.vt_redraw.proofs.Glyphs.{encoding-decoding_of}
-use Rattle.vt_redraw.proofs.Numbers.{sequence-does}
+use Rattle.vt_redraw.proofs.Glyphs.{encoding_decoding_of}
+use Rattle.vt_redraw.proofs.Numbers.{sequence_does}
 use Rattle.vt_redraw.specs.Cells.{glyph_text}
 use Rattle.vt_redraw.specs.Drawable.{is_glyph}
 use Rattle.vt_redraw.specs.Sequences.{erase_text}
@@ -23,7 +23,7 @@ use Rattle.vt_screen.specs.Run.{ScreenAndOuts, screen_effects}
 use Rattle.vt_screen.specs.Saying.{without_out}
 use Rattle.vt_screen.specs.Screen.{Screen, erased_byte, mode_of, printed_byte, with_state}
 use Rattle.vt_sgr.specs.PenState.{with_attributes as with_attr}
-use Rattle.vt_units.proofs.Wholes.{characters-run}
+use Rattle.vt_units.proofs.Wholes.{characters_run}
 use Rattle.vt_units.specs.Bytes.{decodes}
 use Rattle.vt_units.specs.Characters.{AreTextsOf, IsTextOf, is_shown}
 use Rattle.vt_units.specs.Laws.{PrintablesAreCharacters, SequencesAreUnits}
@@ -31,27 +31,27 @@ use Rattle.vt_units.specs.Rest.{fresh}
 use Rattle.vt_units.specs.Run.{make_reached, run}
 use Rattle.vt_units.specs.declared.mode.Mode.{Mode}
 
-either-mode : (test : Bool) (s t : Screen) (m : Mode) → mode_of s ≡ m → mode_of t ≡ m → mode_of (cond test s t) ≡ m
-either-mode true s t m first second = first
-either-mode false s t m first second = second
+either_mode : (test : Bool) (s t : Screen) (m : Mode) → mode_of s ≡ m → mode_of t ≡ m → mode_of (cond test s t) ≡ m
+either_mode true s t m first second = first
+either_mode false s t m first second = second
 
 -- a print leaves the mode
-with_character-mode : (w code : ℕ) (s : Screen) → mode_of (with_character w code s) ≡ mode_of s
-with_character-mode w code s =
+with_character_mode : (w code : ℕ) (s : Screen) → mode_of (with_character w code s) ≡ mode_of s
+with_character_mode w code s =
     let first : Screen = at_column 0 s in
     let line : mode_of (linefeed first) ≡ mode_of s =
-    either-mode (first.state.y == first.state.bottom) _ _ (mode_of s) refl refl in
+    either_mode (first.state.y == first.state.bottom) _ _ (mode_of s) refl refl in
     let near : mode_of (cond (lacks_room w s) (at_column (s.grid.cols - w) s) s) ≡ mode_of s =
-    either-mode (lacks_room w s) _ _ (mode_of s) refl refl in
+    either_mode (lacks_room w s) _ _ (mode_of s) refl refl in
     let after : mode_of (after_wrap w s) ≡ mode_of s =
-    either-mode (s.state.autowrap && (s.state.wrap || lacks_room w s)) (linefeed first) _ (mode_of s) line near in
-    either-mode (after_wrap w s).state.insert _ (after_wrap w s) (mode_of s) after after
+    either_mode (s.state.autowrap && (s.state.wrap || lacks_room w s)) (linefeed first) _ (mode_of s) line near in
+    either_mode (after_wrap w s).state.insert _ (after_wrap w s) (mode_of s) after after
 
-print-mode : (w code : ℕ) (s : Screen) → mode_of (print w code s) ≡ mode_of s
+print_mode : (w code : ℕ) (s : Screen) → mode_of (print w code s) ≡ mode_of s
 unfolding print
-print-mode w code s =
-    either-mode (w == 0) s _ (mode_of s) refl
-    (either-mode (w == 2 && s.grid.cols == 1) _ _ (mode_of s) (with_character-mode 1 0xFFFD s) (with_character-mode w code s))
+print_mode w code s =
+    either_mode (w == 0) s _ (mode_of s) refl
+    (either_mode (w == 2 && s.grid.cols == 1) _ _ (mode_of s) (with_character_mode 1 0xFFFD s) (with_character_mode w code s))
 
 -- what makes a glyph
 pub record IsGlyph (code : ℕ) : Type 0 where
@@ -59,9 +59,9 @@ pub record IsGlyph (code : ℕ) : Type 0 where
   pub shown : is_shown code ≡ true
   pub some : nat_le 1 (columns code) ≡ true
 
-pub glyph-parts : (code : ℕ) → is_glyph code ≡ true → IsGlyph code
+pub glyph_parts : (code : ℕ) → is_glyph code ≡ true → IsGlyph code
 unfolding is_glyph
-glyph-parts code is =
+glyph_parts code is =
     let first = and_parts (is_character code && nat_le 0x20 code && not (within 0x7F 0x9F code)) (nat_le 1 (columns code)) is in
     let second = and_parts (is_character code && nat_le 0x20 code) (not (within 0x7F 0x9F code)) first.0 in
     let third = and_parts (is_character code) (nat_le 0x20 code) second.0 in
@@ -72,20 +72,20 @@ glyph-parts code is =
     }
 
 -- the text of a character prints it, where text is UTF-8
-pub glyph-does : PrintablesAreCharacters → (code : ℕ) → IsGlyph code → (s : Screen) → decodes (mode_of s) ≡ true
+pub glyph_does : PrintablesAreCharacters → (code : ℕ) → IsGlyph code → (s : Screen) → decodes (mode_of s) ≡ true
     → Does (glyph_text code) s (print_character code s)
 unfolding glyph_text
-glyph-does law code is s decoding = record {
+glyph_does law code is s decoding = record {
   does =
       λ m.
       let text : List ℕ = encode_utf8 code in
       let now : Mode = mode_of s in
-      let one : IsTextOf text code = record { whole = encoding-decoding_of code is.character; shown = is.shown } in
+      let one : IsTextOf text code = record { whole = encoding_decoding_of code is.character; shown = is.shown } in
       let are : AreTextsOf text (code ∷ []) = (text, [], sym (append-nil text), one, refl) in
       let first : ScreenAndOuts = record { screen = s; outs = [] } in (
         now,
         ap (λ (bytes : List ℕ). run screen_effects bytes (make_reached first (fresh m))) (cond-true (is_character code) text [] is.character)
-            ∙ characters-run screen_effects law (λ c t. print-mode (columns c) c t.screen) text (code ∷ []) first (fresh m) now refl are refl decoding,
+            ∙ characters_run screen_effects law (λ c t. print_mode (columns c) c t.screen) text (code ∷ []) first (fresh m) now refl are refl decoding,
       );
 }
 
@@ -116,9 +116,9 @@ after_columns s g y count a =
 abbrev pub in_column : Screen → GridView → ℕ → ℕ → Rendition → Screen
 in_column s g y x a = brushed (with_grid s g) (record { y = y; x = x; wrap = false; attr = a })
 
-pub column-is : (s : Screen) (g : GridView) (y count : ℕ) (a : Rendition) → count < g.cols
+pub column_is : (s : Screen) (g : GridView) (y count : ℕ) (a : Rendition) → count < g.cols
     → after_columns s g y count a ≡ in_column s g y count a
-column-is s g y count a within =
+column_is s g y count a within =
     let column : min count (g.cols - 1) ≡ count = omega (arith, within) in
     let wrap : (count == g.cols) ≡ false = ne_eqb count g.cols (λ same. let e : ⊥ = omega (arith, within, same) in e) in
     λ i. brushed (with_grid s g) (record { y = y; x = column i; wrap = wrap i; attr = a })
@@ -168,26 +168,26 @@ module _ (s : Screen) (ready : IsReady s) where
       by_wide true is = ne_eqb g.cols 1 (λ same. let e : ⊥ = omega (arith, eqb-true w 2 is, same, within) in e)
 
   -- a character printed where it ends in the row
-  pub print-at : (g : GridView) (y count w code : ℕ) (a : Rendition) → 0 < w → length (codes_drawn w code) ≡ w
+  pub print_at : (g : GridView) (y count w code : ℕ) (a : Rendition) → 0 < w → length (codes_drawn w code) ≡ w
       → count + w ≤ g.cols
       → print w code (after_columns s g y count a)
       ≡ after_columns s (with_cells_at g y count (cells_of_codes (codes_drawn w code) (printed_byte a s.state.pen.look))) y (count + w) a
-  print-at g y count w code a some len within =
-      ap (print w code) (column-is s g y count a (omega (arith, some, within)))
+  print_at g y count w code a some len within =
+      ap (print w code) (column_is s g y count a (omega (arith, some, within)))
       ∙ print-here g y count w code a some within
       ∙ put-at g y count w (codes_drawn w code) a len within
 
   -- an erase of the rest of the row
-  pub erase-does : SequencesAreUnits → (g : GridView) (y count : ℕ) (a : Rendition) → count < g.cols
+  pub erase_does : SequencesAreUnits → (g : GridView) (y count : ℕ) (a : Rendition) → count < g.cols
       → Does erase_text (after_columns s g y count a)
       (in_column s (with_cells_at g y count (replicate (g.cols - count) (record { code = 0x20; attr = erased_byte a }))) y count a)
   unfolding erase_text control_sequence erase_line
-  erase-does law g y count a within =
+  erase_does law g y count a within =
       let blank : Cell = record { code = 0x20; attr = erased_byte a } in
       let n : ℕ = g.cols - count in
       let last : g.cols - 1 + 1 ≡ count + length (replicate n blank) = omega (arith, within, length-replicate n blank) in
       let some : g.cols - 1 + 1 - count ≡ n = omega (arith, within) in
       let column : min count (g.cols - 1) ≡ count = omega (arith, within) in
-      sequence-does law 0 [] 0x4B (omega arith) tt (omega arith) refl refl (after_columns s g y count a) _
+      sequence_does law 0 [] 0x4B (omega arith) tt (omega arith) refl refl (after_columns s g y count a) _
       ((λ i. without_out (brushed (with_grid s (with_erased (split_wide_between g y (column i) (g.cols - 1 + 1)) y (column i) (g.cols - 1) blank)) (record { y = y; x = column i; wrap = false; attr = a })))
       ∙ (λ i. without_out (in_column s (with_run (split_wide_between g y count (last i)) y count (replicate (some i) blank)) y count a)))

@@ -8,11 +8,11 @@ use Rattle.std.proofs.lemmas.List.Elements.{All-head, All-tail}
 use Rattle.vt_cells.specs.Width.{AtMostTwo}
 use Rattle.vt_cells.specs.declared.cell.Cell.{Cell}
 use Rattle.vt_grid.specs.Grid.{GridView, grid_view_of}
-use Rattle.vt_redraw.proofs.Does.{Does, does-nothing, does-text, does-then, does-to}
-use Rattle.vt_redraw.proofs.Moves.{place-does}
+use Rattle.vt_redraw.proofs.Does.{Does, does_nothing, does_text, does_then, does_to}
+use Rattle.vt_redraw.proofs.Moves.{place_does}
 use Rattle.vt_redraw.proofs.Overlays.{sheet_with}
-use Rattle.vt_redraw.proofs.Prints.{Brush, IsReady, after_columns, brushed, column-is}
-use Rattle.vt_redraw.proofs.Rows.{RowDone, cells-do, same-cell}
+use Rattle.vt_redraw.proofs.Prints.{Brush, IsReady, after_columns, brushed, column_is}
+use Rattle.vt_redraw.proofs.Rows.{RowDone, cells_do, same_cell}
 use Rattle.vt_redraw.specs.Cells.{are_same, cells_text, changed_rows, row_text}
 use Rattle.vt_redraw.specs.Drawable.{is_row_drawable}
 use Rattle.vt_redraw.specs.Sequences.{place_text}
@@ -22,14 +22,14 @@ use Rattle.vt_screen.specs.Screen.{Screen}
 use Rattle.vt_units.specs.Laws.{PrintablesAreCharacters, SequencesAreUnits}
 
 -- rows that are the same, cell by cell
-pub same-rows : (olds cells : List Cell) → are_same olds cells ≡ true → olds ≡ cells
-same-rows [] [] is = refl
-same-rows [] (c ∷ cells) is = absurd (false≢true is)
-same-rows (o ∷ olds) [] is = absurd (false≢true is)
-same-rows (o ∷ olds) (c ∷ cells) is =
+pub same_rows : (olds cells : List Cell) → are_same olds cells ≡ true → olds ≡ cells
+same_rows [] [] is = refl
+same_rows [] (c ∷ cells) is = absurd (false≢true is)
+same_rows (o ∷ olds) [] is = absurd (false≢true is)
+same_rows (o ∷ olds) (c ∷ cells) is =
     let parts = and_parts (o.code == c.code && o.attr == c.attr) (are_same olds cells) is in
     let here = and_parts (o.code == c.code) (o.attr == c.attr) parts.0 in
-    λ i. same-cell c o.code o.attr (eqb-true o.code c.code here.0) (eqb-true o.attr c.attr here.1) i ∷ same-rows olds cells parts.1 i
+    λ i. same_cell c o.code o.attr (eqb-true o.code c.code here.0) (eqb-true o.attr c.attr here.1) i ∷ same_rows olds cells parts.1 i
 
 -- these cells are drawn, and the brush is somewhere in the screen
 pub record SheetDone (s : Screen) (g : GridView) (text : List ℕ) (from : Screen) : Type 0 where
@@ -46,9 +46,9 @@ module _ (s : Screen) (ready : IsReady s) (origin : s.state.origin ≡ false) (s
         let t : Screen = brushed (with_grid s g) b in
         let first : first_row t ≡ 0 = cond-false s.state.origin s.state.top 0 origin in
         let last : last_row t ≡ g.rows - 1 = cond-false s.state.origin s.state.bottom (g.rows - 1) origin in
-        does-text (ap (λ (n : ℕ). place_text n 0) (let e : y ≡ y - first_row t = omega (arith, first) in e))
-        (does-to (place-does sequences t y 0 (omega (arith, first)) (omega (arith, last, tall, within)) (omega (arith, within, short)) (omega (arith, wide, some)) (omega arith))
-        (sym (column-is s g y 0 b.attr (omega (arith, wide, some)))))
+        does_text (ap (λ (n : ℕ). place_text n 0) (let e : y ≡ y - first_row t = omega (arith, first) in e))
+        (does_to (place_does sequences t y 0 (omega (arith, first)) (omega (arith, last, tall, within)) (omega (arith, within, short)) (omega (arith, wide, some)) (omega arith))
+        (sym (column_is s g y 0 b.attr (omega (arith, wide, some)))))
 
     -- one row
     row-does : (above below : List (List Cell)) (old row : List Cell) (b : Brush) → length old ≡ cols → length row ≡ cols
@@ -58,16 +58,16 @@ module _ (s : Screen) (ready : IsReady s) (origin : s.state.origin ≡ false) (s
     row-does above below old row b wide long drawable within =
         let done : RowDone s (sheet_with rows cols above row below) (length above) true (cells_text true 256 row)
         (after_columns s (sheet_with rows cols above old below) (length above) 0 b.attr) =
-        cells-do s ready sequences printables most rows cols above below true row [] old 256 0 b.attr tt (omega (arith, wide, long)) (omega (arith, wide)) (inl refl) drawable in
+        cells_do s ready sequences printables most rows cols above below true row [] old 256 0 b.attr tt (omega (arith, wide, long)) (omega (arith, wide)) (inl refl) drawable in
         record {
           brush = record { y = length above; x = done.x; wrap = done.wrap; attr = done.attr };
           row = within;
-          does = does-then (start-does (sheet_with rows cols above old below) (length above) b refl refl within) done.does;
+          does = does_then (start-does (sheet_with rows cols above old below) (length above) b refl refl within) done.does;
         }
 
     sheet-first : {g : GridView} {one two : List ℕ} {from next : Screen} → Does one from next → SheetDone s g two next
         → SheetDone s g (one ++ two) from
-    sheet-first one two = record { brush = two.brush; row = two.row; does = does-then one two.does }
+    sheet-first one two = record { brush = two.brush; row = two.row; does = does_then one two.does }
 
     -- rows from one on
     pub rows-do : (above olds news : List (List Cell)) (b : Brush) → b.y < rows → All (λ row. length row ≡ cols) olds
@@ -78,7 +78,7 @@ module _ (s : Screen) (ready : IsReady s) (origin : s.state.origin ≡ false) (s
     rows-do above [] [] b inside wide long drawable count fits = record {
       brush = b;
       row = inside;
-      does = does-nothing _;
+      does = does_nothing _;
     }
     rows-do above (old ∷ olds) [] b inside wide long drawable count fits = absurd (omega (arith, count))
     rows-do above [] (row ∷ news) b inside wide long drawable count fits = absurd (omega (arith, count))
@@ -118,5 +118,5 @@ module _ (s : Screen) (ready : IsReady s) (origin : s.state.origin ≡ false) (s
             (brushed (with_grid s (grid_view_of rows cols (above ++ old ∷ olds))) b)
         by true test next drawn_row =
             subst (λ (r : List Cell). SheetDone s (grid_view_of rows cols (above ++ row ∷ news)) (changed_rows (length above + 1) olds news) (brushed (with_grid s (grid_view_of rows cols (above ++ r ∷ olds))) b))
-            (sym (same-rows old row test)) (next b inside)
+            (sym (same_rows old row test)) (next b inside)
         by false test next drawn_row = sheet-first drawn_row.does (next drawn_row.brush drawn_row.row)

@@ -1,7 +1,7 @@
 -- A control character by itself.
 use Rattle.std.proofs.Common.{◌≡◌, ◌==◌, ◌&&◌, not, ℕ, Bool, true, false, List, ◌++◌, refl, sym, ap, ◌∙◌}
 use Rattle.std.proofs.lemmas.Bool.{and_parts}
-use Rattle.vt_screen.proofs.Printed.{empty-is}
+use Rattle.vt_screen.proofs.Printed.{empty_is}
 use Rattle.vt_screen.specs.Effect.{control}
 use Rattle.vt_screen.specs.Run.{ScreenAndOuts, screen_effects, with_outs, outs_of_option}
 use Rattle.vt_screen.specs.Saying.{Effect}
@@ -16,9 +16,9 @@ use Rattle.vt_units.specs.Run.{effects_of, make_reached, step}
 use Rattle.vt_units.specs.declared.mode.Mode.{Mode}
 use Rattle.vt_units.specs.declared.read.Read.{Read}
 
-is-not : (test : Bool) → not test ≡ true → test ≡ false
-is-not false is = refl
-is-not true is = absurd (let e : ⊥ = cc in e)
+is_not : (test : Bool) → not test ≡ true → test ≡ false
+is_not false is = refl
+is_not true is = absurd (let e : ⊥ = cc in e)
 
 -- it is the step of the byte
 pub control-step : ControlsAreUnits → (b : ℕ) (outs : List Out) (s : Screen) (rest : Rest) (m : Mode)
@@ -29,8 +29,8 @@ pub control-step : ControlsAreUnits → (b : ℕ) (outs : List Out) (s : Screen)
 control-step law b outs s rest m mode takes done is =
     let last = and_parts (is_empty rest.text && is_control m b) (not (b == 0x1B)) takes in
     let first = and_parts (is_empty rest.text) (is_control m b) last.0 in
-    let one = law rest (mode_of s) b (empty-is rest.text first.0)
-    (ap (λ (n : Mode). is_control n b) (sym mode) ∙ first.1) (is-not (b == 0x1B) last.1) in
+    let one = law rest (mode_of s) b (empty_is rest.text first.0)
+    (ap (λ (n : Mode). is_control n b) (sym mode) ∙ first.1) (is_not (b == 0x1B) last.1) in
     let start : ScreenAndOuts = record { screen = s; outs = outs } in
     let stepped : make_reached (effects_of screen_effects (answer rest (mode_of s) b) start) (rest_after rest (mode_of s) b)
     ≡ with_outs (outs ++ outs_of_option (control b s).said) (make_reached (control b s).screen (fresh (mode_of s))) =

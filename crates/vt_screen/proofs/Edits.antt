@@ -27,8 +27,8 @@ pub record Edits (Row : List Cell → Type 0) : Type 0 where
       → Each Row (resized_grid (split_wide_rows cols s) (filled_grid rows cols c) skip)
 
 -- no half stands in column 0 or right of a half
-pub paired-edits : EditsKeepHalves → Edits IsPairedRow
-paired-edits law = record {
+pub paired_edits : EditsKeepHalves → Edits IsPairedRow
+paired_edits law = record {
   drawing = law.drawing;
   inserting = law.inserting;
   deleting = law.deleting;

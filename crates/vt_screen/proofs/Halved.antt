@@ -150,9 +150,9 @@ module _ (Row : List Cell → Type 0) where
         (either (lacks_room w s) (at_column (s.grid.cols - w) s) s h h) in
         put w code (with_gap w there) is (either there.state.insert (cells_inserted w there) there (cells-inserted w there there_is) there_is)
 
-    pub printed-once : (w code : ℕ) (s : Screen) → Draws 1 0xFFFD → Draws w code → HasHalves s → HasHalves (print w code s)
+    pub printed_once : (w code : ℕ) (s : Screen) → Draws 1 0xFFFD → Draws w code → HasHalves s → HasHalves (print w code s)
     unfolding print
-    printed-once w code s malformed is h =
+    printed_once w code s malformed is h =
         either (w == 0) s _ h
         (either (w == 2 && s.grid.cols == 1) (with_character 1 0xFFFD s) (with_character w code s) (set-down 1 0xFFFD s malformed h) (set-down w code s is h))
 
@@ -238,9 +238,9 @@ module _ (Row : List Cell → Type 0) where
     unfolding with_colour
     coloured n rgb s h = either (nat_lt n 16) _ s h h
 
-    pub colours-reset : (s : Screen) → HasHalves s → HasHalves (with_start_palette s)
+    pub colours_reset : (s : Screen) → HasHalves s → HasHalves (with_start_palette s)
     unfolding with_start_palette
-    colours-reset s h = h
+    colours_reset s h = h
 
     -- what says something
     device : (which : ℕ) (s : Screen) → HasHalves s → HasHalves (device_report which s).screen
@@ -267,9 +267,9 @@ module _ (Row : List Cell → Type 0) where
         (either-done (which == 15) _ (without_out s) h h))))
 
     -- the table
-    pub control-keeps : (code : ℕ) (s : Screen) → HasHalves s → HasHalves (control code s).screen
+    pub control_keeps : (code : ℕ) (s : Screen) → HasHalves s → HasHalves (control code s).screen
     unfolding control
-    control-keeps code s h =
+    control_keeps code s h =
         either-done (code == 0x07) _ _ h
         (either-done (code == 0x08) _ _ h
         (either-done (code == 0x09) _ _ (tabbed s h)
@@ -292,24 +292,24 @@ module _ (Row : List Cell → Type 0) where
         (either-done (last == 0x3E) _ _ (keypad-set false s h)
         (either-done (last == 0x3D) _ (without_out s) (keypad-set true s h) h)))))))))
 
-    pub escape-keeps : (mid last : ℕ) (s : Screen) → HasHalves s → HasHalves (escape mid last s).screen
+    pub escape_keeps : (mid last : ℕ) (s : Screen) → HasHalves s → HasHalves (escape mid last s).screen
     unfolding escape
-    escape-keeps mid last s h =
+    escape_keeps mid last s h =
         either-done (mid == 0) _ _ (plain-escape-keeps last s h)
         (either-done (mid == 0x25) _ _ (coded last s h)
         (either-done (mid == 0x23) _ _ (either (last == 0x38) (alignment_pattern s) s (screen-aligned s h) h)
         (either-done (mid == 0x28) _ _ (first-set last s h)
         (either-done (mid == 0x29) _ (without_out s) (second-set last s h) h))))
 
-    pub private-keeps : (params : List ℕ) (last : ℕ) (s : Screen) → HasHalves s → HasHalves (private_sequence params last s).screen
+    pub private_keeps : (params : List ℕ) (last : ℕ) (s : Screen) → HasHalves s → HasHalves (private_sequence params last s).screen
     unfolding private_sequence
-    private-keeps params last s h =
+    private_keeps params last s h =
         either-done (last == 0x68) _ _ (each-keeps (with_private_mode true) (private-mode-set true) params s h)
         (either-done (last == 0x6C) _ (without_out s) (each-keeps (with_private_mode false) (private-mode-set false) params s h) h)
 
-    pub sequence-keeps : (params : List ℕ) (last : ℕ) (s : Screen) → HasHalves s → HasHalves (control_sequence params last s).screen
+    pub sequence_keeps : (params : List ℕ) (last : ℕ) (s : Screen) → HasHalves s → HasHalves (control_sequence params last s).screen
     unfolding control_sequence
-    sequence-keeps params last s h =
+    sequence_keeps params last s h =
         let n = count_of params in
         let first = number_at params 0 in
         let second = number_at params 1 in

@@ -3,7 +3,7 @@ use Rattle.std.proofs.Common.{◌≡◌, ◌<◌, ◌==◌, ◌&&◌, ◌||◌, 
 use Rattle.std.proofs.lemmas.Bool.{and_parts, cond-true, cond-false}
 use Rattle.std.proofs.lemmas.Bool.Decides.{nat_tests}
 use Rattle.std.proofs.lemmas.List.{append-nil, drop-drop, length-map, map-append, take-append-drop, take-take, take_all, take_more}
-use Rattle.vt_screen.proofs.Printed.{AllPrintable, prefix-printable}
+use Rattle.vt_screen.proofs.Printed.{AllPrintable, prefix_printable}
 use Rattle.vt_units.specs.Bytes.{is_printable}
 use Rattle.std.specs.List.{prefix_len}
 use Rattle.vt_cells.specs.Width.{AtMostTwo, LowTakeOne, PlainTakeOne, columns, half, is_plain}
@@ -17,13 +17,13 @@ use Rattle.vt_screen.specs.Printing.{cells_codes, codes_drawn, lacks_room, with_
 use Rattle.vt_screen.specs.Screen.{IsWhole, Screen, pen_byte}
 
 -- one character of one column is its code
-one-code : (w code : ℕ) → w ≡ 1 → cells_codes w code ≡ code ∷ []
-one-code w code is = ap (λ n. cells_codes n code) is
+one_code : (w code : ℕ) → w ≡ 1 → cells_codes w code ≡ code ∷ []
+one_code w code is = ap (λ n. cells_codes n code) is
 
 -- characters of one column each are their codes
-pub plain-cells_of_characters : PlainTakeOne → (codes : List ℕ) → cells_of_characters (take (prefix_len is_plain codes) codes) ≡ take (prefix_len is_plain codes) codes
-plain-cells_of_characters law [] = refl
-plain-cells_of_characters law (code ∷ codes) = by (is_plain code) refl (plain-cells_of_characters law codes)
+pub plain_cells_of_characters : PlainTakeOne → (codes : List ℕ) → cells_of_characters (take (prefix_len is_plain codes) codes) ≡ take (prefix_len is_plain codes) codes
+plain_cells_of_characters law [] = refl
+plain_cells_of_characters law (code ∷ codes) = by (is_plain code) refl (plain_cells_of_characters law codes)
   where
     by : (test : Bool) → is_plain code ≡ test
         → cells_of_characters (take (prefix_len is_plain codes) codes) ≡ take (prefix_len is_plain codes) codes
@@ -34,7 +34,7 @@ plain-cells_of_characters law (code ∷ codes) = by (is_plain code) refl (plain-
         cond-true (is_plain code) (1 + prefix_len is_plain codes) 0 is
         ∙ (let e : 1 + prefix_len is_plain codes ≡ all = omega arith in e) in
         let holds : cells_of_characters (take all (code ∷ codes)) ≡ take all (code ∷ codes) =
-        (λ i. one-code (columns code) code (law code is) i ++ others i) in
+        (λ i. one_code (columns code) code (law code is) i ++ others i) in
         subst (λ (n : ℕ). cells_of_characters (take n (code ∷ codes)) ≡ take n (code ∷ codes)) (sym len) holds
     by false is others =
         let none : prefix_len is_plain (code ∷ codes) ≡ 0 =
@@ -56,9 +56,9 @@ behind codes s = record {
   state = record s.state { x = s.state.x + length codes; wrap = false };
 }
 
-behind-is : (codes : List ℕ) (s : Screen) → s.state.x + length codes < s.grid.cols
+behind_is : (codes : List ℕ) (s : Screen) → s.state.x + length codes < s.grid.cols
     → with_cells_at_cursor codes s ≡ behind codes s
-behind-is codes s fits =
+behind_is codes s fits =
     let next : nat_lt (s.state.x + length codes) s.grid.cols ≡ true = grind (arith, nat_tests, fits) in
     λ i. record {
       grid = with_cells_at s.grid s.state.y s.state.x (cells_of_codes codes (pen_byte s));
@@ -96,10 +96,10 @@ join law a b s some_a some_b fits long =
     }
 
 -- a character that ends in the row
-print-here : (w code : ℕ) (s : Screen) → 0 < w → w ≤ 2 → s.state.wrap ≡ false → s.state.insert ≡ false
+print_here : (w code : ℕ) (s : Screen) → 0 < w → w ≤ 2 → s.state.wrap ≡ false → s.state.insert ≡ false
     → s.state.x + w ≤ s.grid.cols → print w code s ≡ with_cells_at_cursor (codes_drawn w code) s
 unfolding print
-print-here w code s some few wrap closed fits =
+print_here w code s some few wrap closed fits =
     let not_none : (w == 0) ≡ false = grind (arith, nat_tests, some) in
     let not_lone : (w == 2 && s.grid.cols == 1) ≡ false = alone (w == 2) refl in
     let room : lacks_room w s ≡ false = grind (arith, nat_tests, fits) in
@@ -123,21 +123,21 @@ print-here w code s some few wrap closed fits =
     alone true is = grind (arith, nat_tests, eqb-true w 2 is, fits)
     alone false is = refl
 
-print-none : (w code : ℕ) (s : Screen) → (w == 0) ≡ true → print w code s ≡ s
+print_none : (w code : ℕ) (s : Screen) → (w == 0) ≡ true → print w code s ≡ s
 unfolding print
-print-none w code s none =
+print_none w code s none =
     cond-true (w == 0) s (cond (w == 2 && s.grid.cols == 1) (with_character 1 0xFFFD s) (with_character w code s)) none
 
 -- characters behind cells that are put
-more-put : StretchesJoin → AtMostTwo → (codes front : List ℕ) (s : Screen) → 0 < length front
+more_put : StretchesJoin → AtMostTwo → (codes front : List ℕ) (s : Screen) → 0 < length front
     → s.state.insert ≡ false → s.state.x + length (front ++ cells_of_characters codes) ≤ s.grid.cols
     → length (row_at s.grid s.state.y) ≡ s.grid.cols
     → print_characters codes (with_cells_at_cursor front s) ≡ with_cells_at_cursor (front ++ cells_of_characters codes) s
-more-put law most [] front s some closed fits long = ap (λ (cells : List ℕ). with_cells_at_cursor cells s) (sym (append-nil front))
-more-put law most (code ∷ codes) front s some closed fits long =
+more_put law most [] front s some closed fits long = ap (λ (cells : List ℕ). with_cells_at_cursor cells s) (sym (append-nil front))
+more_put law most (code ∷ codes) front s some closed fits long =
     by (columns code == 0) refl
     (λ (cells : List ℕ) (some_cells : 0 < length cells) (in_row : s.state.x + length (cells ++ cells_of_characters codes) ≤ s.grid.cols).
-    more-put law most codes cells s some_cells closed in_row long)
+    more_put law most codes cells s some_cells closed in_row long)
   where
     w : ℕ
     w = columns code
@@ -152,7 +152,7 @@ more-put law most (code ∷ codes) front s some closed fits long =
     by true is on =
         let same : cells_of_characters (code ∷ codes) ≡ cells_of_characters codes =
         ap (λ (c : List ℕ). c ++ cells_of_characters codes) (cond-true (columns code == 0) [] cells is) in
-        ap (print_characters codes) (print-none (columns code) code (with_cells_at_cursor front s) is)
+        ap (print_characters codes) (print_none (columns code) code (with_cells_at_cursor front s) is)
         ∙ on front some (subst (λ (c : List ℕ). s.state.x + length (front ++ c) ≤ s.grid.cols) same fits)
         ∙ ap (λ (c : List ℕ). with_cells_at_cursor (front ++ c) s) (sym same)
     by false is on =
@@ -166,23 +166,23 @@ more-put law most (code ∷ codes) front s some closed fits long =
         subst (λ (c : List ℕ). s.state.x + length c ≤ s.grid.cols) (sym all) fits in
         let both : length ((front ++ cells) ++ cells_of_characters codes) ≡ length front + length cells + length (cells_of_characters codes) =
         length-append (front ++ cells) (cells_of_characters codes) ∙ ap (λ n. n + length (cells_of_characters codes)) (length-append front cells) in
-        ap (λ (t : Screen). print_characters codes (print (columns code) code t)) (behind-is front s (omega (arith, in_row, both, len, wide)))
+        ap (λ (t : Screen). print_characters codes (print (columns code) code t)) (behind_is front s (omega (arith, in_row, both, len, wide)))
         ∙ ap (print_characters codes)
-        (print-here (columns code) code (behind front s) wide (most code) refl closed (omega (arith, in_row, both, len))
+        (print_here (columns code) code (behind front s) wide (most code) refl closed (omega (arith, in_row, both, len))
         ∙ join law front cells s some (omega (arith, len, wide)) (omega (arith, in_row, both, length-append front cells)) long)
         ∙ on (front ++ cells) (omega (arith, some, length-append front cells)) in_row
         ∙ ap (λ (c : List ℕ). with_cells_at_cursor c s) all
 
 -- characters that end in the row, of which one has a cell, are put at once
-pub put-at-once : StretchesJoin → AtMostTwo → (codes : List ℕ) (s : Screen) → 0 < length (cells_of_characters codes)
+pub put_at_once : StretchesJoin → AtMostTwo → (codes : List ℕ) (s : Screen) → 0 < length (cells_of_characters codes)
     → s.state.wrap ≡ false → s.state.insert ≡ false → s.state.x + length (cells_of_characters codes) ≤ s.grid.cols
     → length (row_at s.grid s.state.y) ≡ s.grid.cols
     → print_characters codes s ≡ with_cells_at_cursor (cells_of_characters codes) s
-put-at-once law most [] s some wrap closed fits long = absurd (omega (arith, some))
-put-at-once law most (code ∷ codes) s some wrap closed fits long =
+put_at_once law most [] s some wrap closed fits long = absurd (omega (arith, some))
+put_at_once law most (code ∷ codes) s some wrap closed fits long =
     by (columns code == 0) refl
     (λ (some_left : 0 < length (cells_of_characters codes)) (in_row : s.state.x + length (cells_of_characters codes) ≤ s.grid.cols).
-    put-at-once law most codes s some_left wrap closed in_row long)
+    put_at_once law most codes s some_left wrap closed in_row long)
   where
     cells : List ℕ
     cells = codes_drawn (columns code) code
@@ -193,7 +193,7 @@ put-at-once law most (code ∷ codes) s some wrap closed fits long =
     by true is on =
         let same : cells_of_characters (code ∷ codes) ≡ cells_of_characters codes =
         ap (λ (c : List ℕ). c ++ cells_of_characters codes) (cond-true (columns code == 0) [] cells is) in
-        ap (print_characters codes) (print-none (columns code) code s is)
+        ap (print_characters codes) (print_none (columns code) code s is)
         ∙ on (subst (λ (c : List ℕ). 0 < length c) same some)
         (subst (λ (c : List ℕ). s.state.x + length c ≤ s.grid.cols) same fits)
         ∙ ap (λ (c : List ℕ). with_cells_at_cursor c s) (sym same)
@@ -205,51 +205,51 @@ put-at-once law most (code ∷ codes) s some wrap closed fits long =
         let in_row : s.state.x + length (cells ++ cells_of_characters codes) ≤ s.grid.cols =
         subst (λ (c : List ℕ). s.state.x + length c ≤ s.grid.cols) same fits in
         let both : length (cells ++ cells_of_characters codes) ≡ length cells + length (cells_of_characters codes) = length-append cells (cells_of_characters codes) in
-        ap (print_characters codes) (print-here (columns code) code s wide (most code) wrap closed (omega (arith, in_row, both, len)))
-        ∙ more-put law most codes cells s (omega (arith, len, wide)) closed in_row long
+        ap (print_characters codes) (print_here (columns code) code s wide (most code) wrap closed (omega (arith, in_row, both, len)))
+        ∙ more_put law most codes cells s (omega (arith, len, wide)) closed in_row long
         ∙ ap (λ (c : List ℕ). with_cells_at_cursor c s) (sym same)
 
 -- characters of one column each
-pub put-narrow : StretchesJoin → AtMostTwo → (codes : List ℕ) (s : Screen) → cells_of_characters codes ≡ codes → IsWhole s
+pub put_narrow : StretchesJoin → AtMostTwo → (codes : List ℕ) (s : Screen) → cells_of_characters codes ≡ codes → IsWhole s
     → 0 < length codes → s.state.wrap ≡ false → s.state.insert ≡ false → s.state.x + length codes ≤ s.grid.cols
     → with_cells_at_cursor codes s ≡ print_characters codes s
-put-narrow law most codes s narrow whole some wrap closed fits =
+put_narrow law most codes s narrow whole some wrap closed fits =
     let long : length (row_at s.grid s.state.y) ≡ s.grid.cols =
     whole.full.wide s.state.y [] (omega (arith, whole.full.tall, whole.row)) in
     sym
-    (put-at-once law most codes s (subst (λ (c : List ℕ). 0 < length c) (sym narrow) some) wrap closed
+    (put_at_once law most codes s (subst (λ (c : List ℕ). 0 < length c) (sym narrow) some) wrap closed
     (subst (λ (c : List ℕ). s.state.x + length c ≤ s.grid.cols) (sym narrow) fits) long
     ∙ ap (λ (c : List ℕ). with_cells_at_cursor c s) narrow)
 
 -- characters of any columns, whose cells are these
-pub put-cells_of_characters : StretchesJoin → AtMostTwo → (codes cells : List ℕ) (s : Screen) → cells ≡ cells_of_characters codes → IsWhole s
+pub put_cells_of_characters : StretchesJoin → AtMostTwo → (codes cells : List ℕ) (s : Screen) → cells ≡ cells_of_characters codes → IsWhole s
     → 0 < length cells → s.state.wrap ≡ false → s.state.insert ≡ false → s.state.x + length cells ≤ s.grid.cols
     → with_cells_at_cursor cells s ≡ print_characters codes s
-put-cells_of_characters law most codes cells s is whole some wrap closed fits =
+put_cells_of_characters law most codes cells s is whole some wrap closed fits =
     let long : length (row_at s.grid s.state.y) ≡ s.grid.cols =
     whole.full.wide s.state.y [] (omega (arith, whole.full.tall, whole.row)) in
     ap (λ (c : List ℕ). with_cells_at_cursor c s) is
     ∙ sym
-    (put-at-once law most codes s (subst (λ (c : List ℕ). 0 < length c) is some) wrap closed
+    (put_at_once law most codes s (subst (λ (c : List ℕ). 0 < length c) is some) wrap closed
     (subst (λ (c : List ℕ). s.state.x + length c ≤ s.grid.cols) is fits) long)
 
 -- printable bytes take one column each
-pub printable-cells_of_characters : LowTakeOne → (bytes : List ℕ) → AllPrintable bytes → cells_of_characters bytes ≡ bytes
-printable-cells_of_characters low [] all = refl
-printable-cells_of_characters low (b ∷ bytes) all =
+pub printable_cells_of_characters : LowTakeOne → (bytes : List ℕ) → AllPrintable bytes → cells_of_characters bytes ≡ bytes
+printable_cells_of_characters low [] all = refl
+printable_cells_of_characters low (b ∷ bytes) all =
     let ends = and_parts (nat_le 0x20 b) (nat_le b 0x7E) all.0 in
     let below : b < 0x300 = omega (arith, leb-true b 0x7E ends.1) in
     let other : b ≢ 0xAD = omega (arith, leb-true b 0x7E ends.1) in
-    λ i. one-code (columns b) b (low b below other) i ++ printable-cells_of_characters low bytes all.1 i
+    λ i. one_code (columns b) b (low b below other) i ++ printable_cells_of_characters low bytes all.1 i
 
 -- the printable bytes at the front of a text, if the reader takes any
-pub front-cells_of_characters : LowTakeOne → (takes : Bool) (text : List ℕ) (count : ℕ)
+pub front_cells_of_characters : LowTakeOne → (takes : Bool) (text : List ℕ) (count : ℕ)
     → count ≡ (if takes then prefix_len is_printable text else 0)
     → cells_of_characters (take count text) ≡ take count text
-front-cells_of_characters low true text count is =
-    printable-cells_of_characters low (take count text)
-    (subst (λ (n : ℕ). AllPrintable (take n text)) (sym is) (prefix-printable text))
-front-cells_of_characters low false text count is =
+front_cells_of_characters low true text count is =
+    printable_cells_of_characters low (take count text)
+    (subst (λ (n : ℕ). AllPrintable (take n text)) (sym is) (prefix_printable text))
+front_cells_of_characters low false text count is =
     subst (λ (n : ℕ). cells_of_characters (take n text) ≡ take n text) (sym is) refl
 
 -- characters in two parts
@@ -258,10 +258,10 @@ print_characters-append [] b s = refl
 print_characters-append (code ∷ a) b s = print_characters-append a b (print_character code s)
 
 -- after the first n of what is left
-pub print_characters-on : (codes : List ℕ) (at n : ℕ) (before after : Screen)
+pub print_characters_on : (codes : List ℕ) (at n : ℕ) (before after : Screen)
     → after ≡ print_characters (take n (take (length codes - at) (drop at codes))) before
     → print_characters (drop (at + n) codes) after ≡ print_characters (drop at codes) before
-print_characters-on codes at n before after is =
+print_characters_on codes at n before after is =
     let left : List ℕ = drop at codes in
     let whole : take (length codes - at) left ≡ left =
     take_all (length codes - at) left (omega (arith, length-drop at codes)) in
@@ -277,21 +277,21 @@ cells_of_characters-append (c ∷ a) b =
     ∙ sym (append_assoc (cells_codes (columns c) c) (cells_of_characters a) (cells_of_characters b))
 
 -- the cells of one character more
-pub cells_of_characters-more : (codes : List ℕ) (i : ℕ) → i < length codes
+pub cells_of_characters_more : (codes : List ℕ) (i : ℕ) → i < length codes
     → cells_of_characters (take (i + 1) codes) ≡ cells_of_characters (take i codes) ++ cells_codes (columns (get_or codes i 0)) (get_or codes i 0)
-cells_of_characters-more codes i within =
+cells_of_characters_more codes i within =
     let code : ℕ = get_or codes i 0 in
     ap cells_of_characters (take_more codes i 0 within)
     ∙ cells_of_characters-append (take i codes) (code ∷ [])
     ∙ ap (λ (c : List ℕ). cells_of_characters (take i codes) ++ c) (append-nil (cells_codes (columns code) code))
 
 -- plain characters at the front of a list
-pub plain-front : PlainTakeOne → (codes : List ℕ) (m count : ℕ) → count ≡ prefix_len is_plain (take m codes) → count ≤ m
+pub plain_front : PlainTakeOne → (codes : List ℕ) (m count : ℕ) → count ≡ prefix_len is_plain (take m codes) → count ≤ m
     → (take count (take m codes) ≡ take count codes) × (cells_of_characters (take count codes) ≡ take count codes)
-plain-front law codes m count is short =
+plain_front law codes m count is short =
     let same : take count (take m codes) ≡ take count codes = take-take count m codes short in
     let narrow : cells_of_characters (take count (take m codes)) ≡ take count (take m codes) =
-    subst (λ (n : ℕ). cells_of_characters (take n (take m codes)) ≡ take n (take m codes)) (sym is) (plain-cells_of_characters law (take m codes)) in (
+    subst (λ (n : ℕ). cells_of_characters (take n (take m codes)) ≡ take n (take m codes)) (sym is) (plain_cells_of_characters law (take m codes)) in (
       same,
       subst (λ (c : List ℕ). cells_of_characters c ≡ c) same narrow,
     )

@@ -8,9 +8,9 @@ stretch : (bytes : List ℕ) (at : Reached ScreenAndOuts) → run_tape (map byte
 stretch [] at = refl
 stretch (b ∷ bytes) at = stretch bytes (step screen_effects b at)
 
-pub stretches-run : StretchesRun
-stretches-run m bytes = stretch bytes (with_outs [] m)
+pub stretches_run : StretchesRun
+stretches_run m bytes = stretch bytes (with_outs [] m)
 
-pub any-tape-cut : AnyTapeCut
-any-tape-cut [] b at = refl
-any-tape-cut (item ∷ a) b at = any-tape-cut a b (after_tape_item item at)
+pub any_tape_cut : AnyTapeCut
+any_tape_cut [] b at = refl
+any_tape_cut (item ∷ a) b at = any_tape_cut a b (after_tape_item item at)

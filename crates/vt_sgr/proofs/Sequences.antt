@@ -33,48 +33,48 @@ form_more params at taken n rest p q end within n-is rest-is q-is taken-is so_fa
     sym here ∙ sym formed ∙ sym (ap (λ ns. sgr_skipping 0 ns p) front) ∙ so_far
 
 -- no parameter is left
-behind-none : (taken : ℕ) (p : PenState) → sgr_skipping taken [] p ≡ p
-behind-none zero p = refl
-behind-none (suc taken) p = refl
+behind_none : (taken : ℕ) (p : PenState) → sgr_skipping taken [] p ≡ p
+behind_none zero p = refl
+behind_none (suc taken) p = refl
 
 -- the last parameter belongs to the one before it
-behind-taken : (taken n : ℕ) (p : PenState) → 0 < taken → sgr_skipping taken (n ∷ []) p ≡ p
-behind-taken zero n p some = absurd (omega (arith, some))
-behind-taken (suc taken) n p some = behind-none taken p
+behind_taken : (taken n : ℕ) (p : PenState) → 0 < taken → sgr_skipping taken (n ∷ []) p ≡ p
+behind_taken zero n p some = absurd (omega (arith, some))
+behind_taken (suc taken) n p some = behind_none taken p
 
 -- two parameters
-pub two-apart : (first second : ℕ) (p : PenState) → taken_by first (second ∷ []) ≡ 0
+pub two_apart : (first second : ℕ) (p : PenState) → taken_by first (second ∷ []) ≡ 0
     → sgr (first ∷ second ∷ []) p ≡ with_form second [] (with_form first (second ∷ []) p)
-two-apart first second p none =
+two_apart first second p none =
     let q : PenState = with_form first (second ∷ []) p in
     ap (λ (taken : ℕ). sgr_skipping taken (second ∷ []) q) none
-    ∙ behind-none (taken_by second []) (with_form second [] q)
+    ∙ behind_none (taken_by second []) (with_form second [] q)
 
-pub two-joined : (first second : ℕ) (p : PenState) → 0 < taken_by first (second ∷ [])
+pub two_joined : (first second : ℕ) (p : PenState) → 0 < taken_by first (second ∷ [])
     → sgr (first ∷ second ∷ []) p ≡ with_form first (second ∷ []) p
-two-joined first second p some =
-    behind-taken (taken_by first (second ∷ [])) second (with_form first (second ∷ []) p) some
+two_joined first second p some =
+    behind_taken (taken_by first (second ∷ [])) second (with_form first (second ∷ []) p) some
 
-drop-all : {A : Type 0} (xs : List A) → drop (length xs) xs ≡ []
-drop-all [] = refl
-drop-all (x ∷ xs) = drop-all xs
+drop_all : {A : Type 0} (xs : List A) → drop (length xs) xs ≡ []
+drop_all [] = refl
+drop_all (x ∷ xs) = drop_all xs
 
 -- the first parameter takes all others along
-pub all-joined : (n : ℕ) (rest : List ℕ) (p : PenState) → taken_by n rest ≡ length rest
+pub all_joined : (n : ℕ) (rest : List ℕ) (p : PenState) → taken_by n rest ≡ length rest
     → sgr (n ∷ rest) p ≡ with_form n rest p
-all-joined n rest p all =
+all_joined n rest p all =
     let q : PenState = with_form n rest p in
     sgr_skipping-drop (taken_by n rest) rest q
     ∙ ap (λ (taken : ℕ). sgr_skipping 0 (drop taken rest) q) all
-    ∙ ap (λ (left : List ℕ). sgr_skipping 0 left q) (drop-all rest)
+    ∙ ap (λ (left : List ℕ). sgr_skipping 0 left q) (drop_all rest)
 
-front-is : (params : List ℕ) (n : ℕ) (rest : List ℕ) → 0 < length params → get_or params 0 0 ≡ n
+front_is : (params : List ℕ) (n : ℕ) (rest : List ℕ) → 0 < length params → get_or params 0 0 ≡ n
     → rest ≡ drop 1 params → params ≡ n ∷ rest
-front-is [] n rest some head tail = absurd (omega (arith, some))
-front-is (x ∷ xs) n rest some head tail =
+front_is [] n rest some head tail = absurd (omega (arith, some))
+front_is (x ∷ xs) n rest some head tail =
     ap (λ (first : ℕ). first ∷ xs) head ∙ ap (λ (others : List ℕ). n ∷ others) (sym tail)
 
-pub one-form : (params : List ℕ) (n : ℕ) (rest : List ℕ) (p : PenState) → 0 < length params → get_or params 0 0 ≡ n
+pub one_form : (params : List ℕ) (n : ℕ) (rest : List ℕ) (p : PenState) → 0 < length params → get_or params 0 0 ≡ n
     → rest ≡ drop 1 params → taken_by n rest ≡ length rest → sgr params p ≡ with_form n rest p
-one-form params n rest p some head tail all =
-    ap (λ (numbers : List ℕ). sgr numbers p) (front-is params n rest some head tail) ∙ all-joined n rest p all
+one_form params n rest p some head tail all =
+    ap (λ (numbers : List ℕ). sgr numbers p) (front_is params n rest some head tail) ∙ all_joined n rest p all

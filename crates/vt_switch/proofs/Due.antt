@@ -66,16 +66,16 @@ ended_due d p true None owned pend = tt
 ended_due d p true (Some n) owned pend =
     record { from = refl; because = (refl, let_go_by d p n owned pend) }
 
-pub hops-are-due : HopsAreDue
-hops-are-due d (Allocate n) = tt
-hops-are-due d (Request n) =
+pub hops_are_due : HopsAreDue
+hops_are_due d (Allocate n) = tt
+hops_are_due d (Request n) =
     asked_due d n (not (is_allocated d n)) (n == d.front) d.locked (console d d.front).graphics
     (console d d.front).handling refl refl refl
-hops-are-due d (Release c p arg) =
+hops_are_due d (Release c p arg) =
     released_due d c p arg (owns d p c) (arg == 0) (arg == 1) (arg == 2) (c == d.front) d.pending
     refl refl refl refl
-hops-are-due d (SetMode c p m) = tt
-hops-are-due d (SetKd c graphics) = tt
-hops-are-due d (Lock on) = tt
-hops-are-due d (Free n) = tt
-hops-are-due d (End p) = ended_due d p (owns d p d.front) d.pending refl refl
+hops_are_due d (SetMode c p m) = tt
+hops_are_due d (SetKd c graphics) = tt
+hops_are_due d (Lock on) = tt
+hops_are_due d (Free n) = tt
+hops_are_due d (End p) = ended_due d p (owns d p d.front) d.pending refl refl

@@ -57,15 +57,15 @@ by_end d p false waits = refl
 by_end d p true None = refl
 by_end d p true (Some n) = (refl, refl, refl, refl)
 
-pub only-hops-switch : OnlyHopsSwitch
-only-hops-switch d (Allocate n) = refl
-only-hops-switch d (Request n) =
+pub only_hops_switch : OnlyHopsSwitch
+only_hops_switch d (Allocate n) = refl
+only_hops_switch d (Request n) =
     by_request d n (not (is_allocated d n) || n == d.front || d.locked)
     (console d d.front).graphics (console d d.front).handling
-only-hops-switch d (Release c p arg) =
+only_hops_switch d (Release c p arg) =
     by_release d p arg (not (owns d p c)) (arg == 0) (arg == 1) (arg == 2) (pending_at d c)
-only-hops-switch d (SetMode c p m) = by_mode d c (handling_of p m)
-only-hops-switch d (SetKd c graphics) = refl
-only-hops-switch d (Lock on) = refl
-only-hops-switch d (Free n) = front_stays d (without_console d n) (is_held d n) refl
-only-hops-switch d (End p) = by_end d p (owns d p d.front) d.pending
+only_hops_switch d (SetMode c p m) = by_mode d c (handling_of p m)
+only_hops_switch d (SetKd c graphics) = refl
+only_hops_switch d (Lock on) = refl
+only_hops_switch d (Free n) = front_stays d (without_console d n) (is_held d n) refl
+only_hops_switch d (End p) = by_end d p (owns d p d.front) d.pending

@@ -2,7 +2,7 @@
 use Rattle.std.proofs.Common.{◌≡◌, ℕ, ◌+◌, ◌≤◌, Bool, true, false, cond, List, [], ◌∷◌, ◌++◌, Option, Some, None, refl, sym, ap, subst, ◌∙◌, inl, inr, arith}
 use Rattle.std.specs.Prelude.{◌==◌, ◌||◌, not, IfSome, option_to_list}
 use Rattle.vt_switch.proofs.Lookups.{nothing, same_number}
-use Rattle.vt_switch.proofs.Due.{hops-are-due}
+use Rattle.vt_switch.proofs.Due.{hops_are_due}
 use Rattle.vt_switch.proofs.Marks.{hops_of_marks}
 use Rattle.vt_switch.proofs.Stays.{Stays, stays}
 use Rattle.vt_switch.proofs.Told.{going, ignored_tells, quiet_tells}
@@ -221,4 +221,4 @@ pub allowed : (e : ℕ) (k : Core) (h : List Moment) (act : SwitchAct)
     → EachAllowed h (moment e k act) (hops (trace (moment e k act)))
 allowed e k h act explained =
     subst (EachAllowed h (moment e k act)) (sym (hops_of_marks k act))
-    (by_hop (moment e k act) h (hop_of k.display act) explained (hops-are-due k.display act))
+    (by_hop (moment e k act) h (hop_of k.display act) explained (hops_are_due k.display act))

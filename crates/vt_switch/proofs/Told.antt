@@ -90,13 +90,13 @@ one_quiet k act isnt =
     subst (λ (list : List News). length list ≤ 1) (sym (quiet_tells k act isnt))
     (one_going (hop_of k.display act))
 
-pub one-news-is-told : OneNewsIsTold
-one-news-is-told k (Request n) =
+pub one_news_is_told : OneNewsIsTold
+one_news_is_told k (Request n) =
     one_request k (core_after k (Request n)) (is_allocated k.display n) n (request_outcome k.display n)
-one-news-is-told k (Allocate n) = one_quiet k (Allocate n) refl
-one-news-is-told k (Release c p arg) = one_quiet k (Release c p arg) refl
-one-news-is-told k (SetMode c p m) = one_quiet k (SetMode c p m) refl
-one-news-is-told k (SetKd c graphics) = one_quiet k (SetKd c graphics) refl
-one-news-is-told k (Lock on) = one_quiet k (Lock on) refl
-one-news-is-told k (Free n) = one_quiet k (Free n) refl
-one-news-is-told k (End p) = one_quiet k (End p) refl
+one_news_is_told k (Allocate n) = one_quiet k (Allocate n) refl
+one_news_is_told k (Release c p arg) = one_quiet k (Release c p arg) refl
+one_news_is_told k (SetMode c p m) = one_quiet k (SetMode c p m) refl
+one_news_is_told k (SetKd c graphics) = one_quiet k (SetKd c graphics) refl
+one_news_is_told k (Lock on) = one_quiet k (Lock on) refl
+one_news_is_told k (Free n) = one_quiet k (Free n) refl
+one_news_is_told k (End p) = one_quiet k (End p) refl

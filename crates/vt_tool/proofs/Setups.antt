@@ -35,8 +35,8 @@ pub record AreAlike (s t : SessionView) : Type 0 where
   pub events : s.limits.events ≡ t.limits.events
   pub bytes : s.limits.bytes ≡ t.limits.bytes
 
-pub alike-setup : (s t : SessionView) → AreAlike s t → setup_of s ≡ setup_of t
-alike-setup s t x =
+pub alike_setup : (s t : SessionView) → AreAlike s t → setup_of s ≡ setup_of t
+alike_setup s t x =
     let starts : start_of s ≡ start_of t =
     same7 start_world s.config.size.rows t.config.size.rows s.config.size.cols t.config.size.cols
     s.config.consoles t.config.consoles s.config.front t.config.front
@@ -50,9 +50,9 @@ alike-setup s t x =
     ∙ ap (λ (l : Limits). setup (start_of t) t.programs l) limits
 
 -- a value is of sessions that begin alike
-pub one-setup : OneValue → (value : SessionValue) (s t : SessionView) → IsSessionOf s value
+pub one_setup : OneValue → (value : SessionValue) (s t : SessionView) → IsSessionOf s value
     → IsSessionOf t value → setup_of s ≡ setup_of t
-one-setup one_value value s t x y = alike-setup s t (record {
+one_setup one_value value s t x y = alike_setup s t (record {
   rows = x.rows ∙ sym y.rows;
   cols = x.cols ∙ sym y.cols;
   consoles = x.consoles ∙ sym y.consoles;
@@ -66,5 +66,5 @@ one-setup one_value value s t x y = alike-setup s t (record {
 })
 
 -- and they start alike
-pub one-start : (s t : SessionView) → setup_of s ≡ setup_of t → start_of s ≡ start_of t
-one-start s t same = ap (λ (o : Setup). o.start) same
+pub one_start : (s t : SessionView) → setup_of s ≡ setup_of t → start_of s ≡ start_of t
+one_start s t same = ap (λ (o : Setup). o.start) same

@@ -6,8 +6,8 @@ use Rattle.std.proofs.lemmas.List.{append-nil, append_assoc, length-append, leng
 use Rattle.vt_chars.specs.Utf8.{Begins, UnfinishedBegins, decoding_of, is_begun, is_well_formed}
 use Rattle.vt_chars.specs.declared.decoded.Decoded.{Decoded}
 use Rattle.vt_chars.specs.declared.decoded.Decoded.TheVariants.{Character, Unfinished, Malformed}
-use Rattle.vt_units.proofs.Opens.{Goes, IsSome, Opens, alone-ends, by-test, opens-control, opens-escape}
-use Rattle.vt_units.proofs.Readings.{short-reading}
+use Rattle.vt_units.proofs.Opens.{Goes, IsSome, Opens, alone_ends, by_test, opens_control, opens_escape}
+use Rattle.vt_units.proofs.Readings.{short_reading}
 use Rattle.vt_units.specs.Bytes.{decodes, is_control, is_csi}
 use Rattle.vt_units.specs.Reading.{Kind, Reading, whole, dropped, unfinished, none, begins_csi, character_reading, character_text, is_sequence, overlong, reading, text_reading}
 use Rattle.vt_units.specs.Units.{Before, IsUnfinished, Spells}
@@ -77,15 +77,15 @@ module _ (law : UnfinishedBegins) where
       opens-decoded a [] x xs (subst IsSome (cond-false _ _ _ no_csi) some))
       (cases_Bool (begins_csi (a ∷ x ∷ xs)))
   opens-character m a (b ∷ p) x xs some =
-      by-test (a == 0xC2 && b == 0x9B) _ _ _ _ (opens-control m p x xs) (opens-decoded a (b ∷ p) x xs) some
+      by_test (a == 0xC2 && b == 0x9B) _ _ _ _ (opens_control m p x xs) (opens-decoded a (b ∷ p) x xs) some
 
   opens-text : (m : Mode) (a : ℕ) → Opens (λ p. text_reading m (a ∷ p))
   opens-text m a p x xs some =
-      by-test (a == 0x1B) _ _ _ _ (opens-escape m p x xs)
-      (by-test (is_csi m a) _ _ _ _ (opens-control m p x xs)
-      (by-test (is_control m a) _ _ _ _ (λ single. absurd (alone-ends p x xs _ single))
-      (by-test (decodes m) _ _ _ _ (opens-character m a p x xs)
-      (λ single. absurd (alone-ends p x xs _ single))))) some
+      by_test (a == 0x1B) _ _ _ _ (opens_escape m p x xs)
+      (by_test (is_csi m a) _ _ _ _ (opens_control m p x xs)
+      (by_test (is_control m a) _ _ _ _ (λ single. absurd (alone_ends p x xs _ single))
+      (by_test (decodes m) _ _ _ _ (opens-character m a p x xs)
+      (λ single. absurd (alone_ends p x xs _ single))))) some
 
   opens-some : (m : Mode) (t : List ℕ) (x : ℕ) (xs : List ℕ) → t ≢ []
       → IsSome (text_reading m (t ++ x ∷ xs)) → Goes (text_reading m t)
@@ -134,9 +134,9 @@ module _ (law : UnfinishedBegins) where
   overlong-one m (x ∷ []) some = omega arith
   overlong-one m (x ∷ y ∷ xs) some = absurd some
 
-  pub opens-reading : (m : Mode) (t : List ℕ) (x : ℕ) (xs : List ℕ) → t ≢ []
+  pub opens_reading : (m : Mode) (t : List ℕ) (x : ℕ) (xs : List ℕ) → t ≢ []
       → IsSome (reading m (t ++ x ∷ xs)) → Goes (reading m t)
-  opens-reading m t x xs some is = ⊎_elim
+  opens_reading m t x xs some is = ⊎_elim
       (λ (long : is_long m (t ++ x ∷ xs) ≡ true).
       let p : (nat_lt 256 (length (t ++ x ∷ xs)) ≡ true)
       × (is_sequence (text_reading m (take 256 (t ++ x ∷ xs))) ≡ true) = and_parts _ _ long in
@@ -151,7 +151,7 @@ module _ (law : UnfinishedBegins) where
       length-take-le 256 (t ++ x ∷ xs) (omega arith) in
       let front : take (length t) (take 256 (t ++ x ∷ xs)) ≡ t =
       take-take (length t) 256 (t ++ x ∷ xs) short ∙ take_at t (x ∷ xs) (length t) refl in
-      subst Goes (sym (short-reading m t short))
+      subst Goes (sym (short_reading m t short))
       (goes-front m t (take 256 (t ++ x ∷ xs)) some short front full (sequence-goes _ p.1)))
       (λ (not_long : is_long m (t ++ x ∷ xs) ≡ false).
       let here : is_long m t ≡ false =
@@ -172,6 +172,6 @@ module _ (law : UnfinishedBegins) where
       (λ is. subst IsSome (sym is.0) tt)
       spelled
 
-  pub before-unfinished : (m : Mode) (t : List ℕ) → Before m t → IsUnfinished m t
-  before-unfinished m t (some, x, more, u, spelled) =
-      goes-kind (reading m t) (opens-reading m t x more some (spelled-some m (t ++ x ∷ more) u spelled))
+  pub before_unfinished : (m : Mode) (t : List ℕ) → Before m t → IsUnfinished m t
+  before_unfinished m t (some, x, more, u, spelled) =
+      goes-kind (reading m t) (opens_reading m t x more some (spelled-some m (t ++ x ∷ more) u spelled))

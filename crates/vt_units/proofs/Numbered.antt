@@ -7,19 +7,19 @@ use Rattle.vt_units.specs.Reading.{after_prefix, longest_prefix}
 use Rattle.vt_units.specs.ParserState.{Each}
 
 -- the byte at i passes: it is the first of the front of what is left
-pub longest_prefix-goes : (p : ℕ → Bool) (text : List ℕ) (i : ℕ) → i < length text → p (get_or text i 0) ≡ true
+pub longest_prefix_goes : (p : ℕ → Bool) (text : List ℕ) (i : ℕ) → i < length text → p (get_or text i 0) ≡ true
     → (longest_prefix p (drop i text) ≡ get_or text i 0 ∷ longest_prefix p (drop (i + 1) text))
     × (after_prefix p (drop i text) ≡ after_prefix p (drop (i + 1) text))
-longest_prefix-goes p text i within passes =
+longest_prefix_goes p text i within passes =
     let first : drop i text ≡ get_or text i 0 ∷ drop (i + 1) text = drop_more text i 0 within in (
       ap (longest_prefix p) first ∙ cond-true _ _ _ passes,
       ap (after_prefix p) first ∙ cond-true _ _ _ passes,
     )
 
 -- it doesn't: the front has ended
-pub longest_prefix-stops : (p : ℕ → Bool) (text : List ℕ) (i : ℕ) → i < length text → p (get_or text i 0) ≡ false
+pub longest_prefix_stops : (p : ℕ → Bool) (text : List ℕ) (i : ℕ) → i < length text → p (get_or text i 0) ≡ false
     → (longest_prefix p (drop i text) ≡ []) × (after_prefix p (drop i text) ≡ drop i text)
-longest_prefix-stops p text i within stops =
+longest_prefix_stops p text i within stops =
     let first : drop i text ≡ get_or text i 0 ∷ drop (i + 1) text = drop_more text i 0 within in (
       ap (longest_prefix p) first ∙ cond-false _ _ _ stops,
       ap (after_prefix p) first ∙ cond-false _ _ _ stops ∙ sym first,
@@ -37,18 +37,18 @@ longest_prefix-after_prefix p (x ∷ text) = by (p x) refl (longest_prefix-after
     by false is others =
         (λ i. sym (cond-false (p x) (x ∷ longest_prefix p text) [] is) i ++ sym (cond-false (p x) (after_prefix p text) (x ∷ text) is) i)
 
-pub longest_prefix-each : (p : ℕ → Bool) (text : List ℕ) → Each p (longest_prefix p text)
-longest_prefix-each p [] = tt
-longest_prefix-each p (x ∷ text) = by (p x) refl (longest_prefix-each p text)
+pub longest_prefix_each : (p : ℕ → Bool) (text : List ℕ) → Each p (longest_prefix p text)
+longest_prefix_each p [] = tt
+longest_prefix_each p (x ∷ text) = by (p x) refl (longest_prefix_each p text)
   where
     by : (test : Bool) → p x ≡ test → Each p (longest_prefix p text) → Each p (longest_prefix p (x ∷ text))
     by true is others = subst (Each p) (sym (cond-true (p x) (x ∷ longest_prefix p text) [] is)) (is, others)
     by false is others = subst (Each p) (sym (cond-false (p x) (x ∷ longest_prefix p text) [] is)) tt
 
-pub each-all : (p : ℕ → Bool) (text : List ℕ) → Each p text → list_all p text ≡ true
-each-all p [] passes = refl
-each-all p (x ∷ text) (first, others) = and_from _ _ first (each-all p text others)
+pub each_all : (p : ℕ → Bool) (text : List ℕ) → Each p text → list_all p text ≡ true
+each_all p [] passes = refl
+each_all p (x ∷ text) (first, others) = and_from _ _ first (each_all p text others)
 
-pub each-map : (p q : ℕ → Bool) → ((x : ℕ) → p x ≡ true → q x ≡ true) → (text : List ℕ) → Each p text → Each q text
-each-map p q leads [] passes = tt
-each-map p q leads (x ∷ text) (first, others) = (leads x first, each-map p q leads text others)
+pub each_map : (p q : ℕ → Bool) → ((x : ℕ) → p x ≡ true → q x ≡ true) → (text : List ℕ) → Each p text → Each q text
+each_map p q leads [] passes = tt
+each_map p q leads (x ∷ text) (first, others) = (leads x first, each_map p q leads text others)

@@ -3,9 +3,9 @@ use Rattle.std.proofs.Common.{◌≡◌, ◌≢◌, ℕ, Bool, true, false, cond
 use Rattle.std.proofs.lemmas.Bool.{cases_Bool, cond-true, cond-false, or_from, or_left, or_right}
 use Rattle.std.proofs.lemmas.List.{append-nil, append_assoc}
 use Rattle.vt_chars.specs.Utf8.{UnfinishedBegins}
-use Rattle.vt_units.proofs.Begun.{opens-reading}
-use Rattle.vt_units.proofs.Bases.{base, base-some}
-use Rattle.vt_units.proofs.Bytewise.{Becomes, St, base-reads, step-acts, step-ignored, step-text}
+use Rattle.vt_units.proofs.Begun.{opens_reading}
+use Rattle.vt_units.proofs.Bases.{base, base_some}
+use Rattle.vt_units.proofs.Bytewise.{Becomes, St, base_reads, step-acts, step_ignored, step_text}
 use Rattle.vt_units.proofs.Opens.{Goes, IsSome}
 use Rattle.vt_units.specs.Answer.{acts_in}
 use Rattle.vt_units.specs.Pieces.{after_controls, controls_of, is_ignored_in, is_left_out, read_on, rest_with, text_of}
@@ -25,31 +25,31 @@ extends m t (b ∷ bytes) = by-test (is_left_out (reading m t) b) (extends m t b
     by-test true same longer = same
     by-test false same longer = (b ∷ longer.0, longer.1 ∙ append_assoc t (b ∷ []) longer.0)
 
-goes-some : (r : Reading) → Goes r → IsSome r
-goes-some (unfinished k) g = tt
-goes-some (whole u) g = absurd g
-goes-some dropped g = absurd g
-goes-some none g = absurd g
+goes_some : (r : Reading) → Goes r → IsSome r
+goes_some (unfinished k) g = tt
+goes_some (whole u) g = absurd g
+goes_some dropped g = absurd g
+goes_some none g = absurd g
 
-some-more : (t : List ℕ) (b : ℕ) → t ++ b ∷ [] ≢ []
-some-more [] b e = cc
-some-more (x ∷ t) b e = cc
+some_more : (t : List ℕ) (b : ℕ) → t ++ b ∷ [] ≢ []
+some_more [] b e = cc
+some_more (x ∷ t) b e = cc
 
 -- a front of a text that is something is something
-front-some : UnfinishedBegins → (m : Mode) (t more : List ℕ) → t ≢ [] → IsSome (reading m (t ++ more))
+front_some : UnfinishedBegins → (m : Mode) (t more : List ℕ) → t ≢ [] → IsSome (reading m (t ++ more))
     → IsSome (reading m t)
-front-some law m t [] some is = subst (λ xs. IsSome (reading m xs)) (append-nil t) is
-front-some law m t (x ∷ xs) some is = goes-some (reading m t) (opens-reading law m t x xs some is)
+front_some law m t [] some is = subst (λ xs. IsSome (reading m xs)) (append-nil t) is
+front_some law m t (x ∷ xs) some is = goes_some (reading m t) (opens_reading law m t x xs some is)
 
 -- nothing stands behind a unit or a drop
-over-alone : UnfinishedBegins → (m : Mode) (t bytes : List ℕ) → t ≢ [] → (Goes (reading m t) → ⊥)
+over_alone : UnfinishedBegins → (m : Mode) (t bytes : List ℕ) → t ≢ [] → (Goes (reading m t) → ⊥)
     → ((b : ℕ) → is_left_out (reading m t) b ≡ false) → IsSome (reading m (text_of m t bytes)) → bytes ≡ []
-over-alone law m t [] some over none_out is = refl
-over-alone law m t (b ∷ bytes) some over none_out is =
+over_alone law m t [] some over none_out is = refl
+over_alone law m t (b ∷ bytes) some over none_out is =
     let more : (more : List ℕ) × (text_of m (t ++ b ∷ []) bytes ≡ (t ++ b ∷ []) ++ more) = extends m (t ++ b ∷ []) bytes in
     let all : text_of m t (b ∷ bytes) ≡ t ++ b ∷ more.0 =
     cond-false _ _ _ (none_out b) ∙ more.1 ∙ append_assoc t (b ∷ []) more.0 in
-    absurd (over (opens-reading law m t b more.0 some (subst (λ xs. IsSome (reading m xs)) all is)))
+    absurd (over (opens_reading law m t b more.0 some (subst (λ xs. IsSome (reading m xs)) all is)))
 
 module _ {S : Type 0} (e : Effects S) (law : UnfinishedBegins) where
   -- what all bytes of a text come to
@@ -71,7 +71,7 @@ module _ {S : Type 0} (e : Effects S) (law : UnfinishedBegins) where
   stays s r m q st some = ⊎_elim
       (λ (empty : (q ≡ []) × (r.text ≡ []) × (m ≡ e.mode_of s)).
       absurd (subst (λ xs. IsSome (reading m xs)) empty.0 some))
-      (λ others. subst (Becomes e (reading m q) (make_reached s r) s m q) (sym (base-some r m q (some-text some)))
+      (λ others. subst (Becomes e (reading m q) (make_reached s r) s m q) (sym (base_some r m q (some-text some)))
       (⊎_elim
       (λ plain. subst (λ x. Becomes e x (make_reached s r) s m q r) (sym plain.1) (refl, st))
       (λ strings. subst (λ x. Becomes e x (make_reached s r) s m q r) (sym strings.1) (refl, st))
@@ -99,7 +99,7 @@ module _ {S : Type 0} (e : Effects S) (law : UnfinishedBegins) where
     read-now : rest_with e s (base r m q) (b ∷ bytes)
         ≡ rest_with e (cond (acts_in (reading m q) b) (e.on_control b s) s) (read_on (reading m q) (e.mode_of s) (base r m q) b) bytes
     read-now = ap (λ now. rest_with e (cond (acts_in now b) (e.on_control b s) s) (read_on now (e.mode_of s) (base r m q) b) bytes)
-        (base-reads e s r m q st)
+        (base_reads e s r m q st)
 
     left-now : is_left_out (reading m q) b ≡ true → read_on (reading m q) (e.mode_of s) (base r m q) b ≡ base r m q
     left-now out = cond-true _ _ _ (or_left _ _ out)
@@ -133,7 +133,7 @@ module _ {S : Type 0} (e : Effects S) (law : UnfinishedBegins) where
         carry m (text_of m q bytes) (text_of m q (b ∷ bytes)) (run e bytes (make_reached s r))
         (run e bytes (step e b (make_reached s r))) (after_controls e (controls_of m q bytes) s) (after_controls e (controls_of m q (b ∷ bytes)) s)
         (rest_with e s (base r m q) bytes) (rest_with e s (base r m q) (b ∷ bytes))
-        (sym text) (ap (run e bytes) (sym (step-ignored e s r m q b st act ignored)))
+        (sym text) (ap (run e bytes) (sym (step_ignored e s r m q b st act ignored)))
         (ap (λ xs. after_controls e xs s) (sym controls)) (sym left)
         (again s r q st (subst (λ xs. IsSome (reading m xs)) text some))
 
@@ -148,7 +148,7 @@ module _ {S : Type 0} (e : Effects S) (law : UnfinishedBegins) where
         let more : (more : List ℕ) × (text_of m (q ++ b ∷ []) bytes ≡ (q ++ b ∷ []) ++ more) =
         extends m (q ++ b ∷ []) bytes in
         let here : IsSome (reading m (q ++ b ∷ [])) =
-        front-some law m (q ++ b ∷ []) more.0 (some-more q b)
+        front_some law m (q ++ b ∷ []) more.0 (some_more q b)
         (subst (λ xs. IsSome (reading m xs)) more.1 there) in
         let state : cond (acts_in (reading m q) b) (e.on_control b s) s ≡ s = cond-false _ _ _ act in
         let left : rest_with e s (base r m q) (b ∷ bytes) ≡ rest_with e s next bytes =
@@ -158,7 +158,7 @@ module _ {S : Type 0} (e : Effects S) (law : UnfinishedBegins) where
         (after_controls e (controls_of m q (b ∷ bytes)) s)
         (rest_with e s next bytes) (rest_with e s (base r m q) (b ∷ bytes))
         (sym text) refl (ap (λ xs. after_controls e xs s) (sym controls)) (sym left)
-        (by-reading (reading m (q ++ b ∷ [])) refl there (step-text e s r m q b st part here))
+        (by-reading (reading m (q ++ b ∷ [])) refl there (step_text e s r m q b st part here))
       where
         next : Rest
         next = read_on (reading m q) (e.mode_of s) (base r m q) b
@@ -173,16 +173,16 @@ module _ {S : Type 0} (e : Effects S) (law : UnfinishedBegins) where
             (after_controls e (controls_of m (q ++ b ∷ []) bytes) s) m (text_of m (q ++ b ∷ []) bytes) (rest_with e s next bytes)) (sym becomes.0)
             (subst (λ x. Becomes e (reading m (text_of m (q ++ b ∷ []) bytes)) (run e bytes (make_reached s next))
             (after_controls e (controls_of m (q ++ b ∷ []) bytes) s) m (text_of m (q ++ b ∷ []) bytes) (rest_with e s x bytes))
-            (base-some next m (q ++ b ∷ []) (some-more q b))
+            (base_some next m (q ++ b ∷ []) (some_more q b))
             (again s next (q ++ b ∷ []) becomes.1 is_some))
         by-reading (whole u) is is_some becomes =
             over-walks m (q ++ b ∷ []) bytes (step e b (make_reached s r)) s next
-            (over-alone law m (q ++ b ∷ []) bytes (some-more q b) (λ g. subst Goes is g)
+            (over_alone law m (q ++ b ∷ []) bytes (some_more q b) (λ g. subst Goes is g)
             (λ x. ap (λ y. is_left_out y x) is) is_some)
             (subst (λ x. Becomes e x (step e b (make_reached s r)) s m (q ++ b ∷ []) next) (sym is) becomes)
         by-reading dropped is is_some becomes =
             over-walks m (q ++ b ∷ []) bytes (step e b (make_reached s r)) s next
-            (over-alone law m (q ++ b ∷ []) bytes (some-more q b) (λ g. subst Goes is g)
+            (over_alone law m (q ++ b ∷ []) bytes (some_more q b) (λ g. subst Goes is g)
             (λ x. ap (λ y. is_left_out y x) is) is_some)
             (subst (λ x. Becomes e x (step e b (make_reached s r)) s m (q ++ b ∷ []) next) (sym is) becomes)
         by-reading none is is_some becomes = absurd becomes

@@ -370,5 +370,5 @@ start_has w start =
     subst HasTerminals (sym start.opened)
     (opening_has start.rows start.cols start.consoles start.front start.keyboards start.processes start.tables)
 
-pub terminals-are-allocated : TerminalsAreAllocated
-terminals-are-allocated w entries start = replay_keeps w entries (start_has w start)
+pub terminals_are_allocated : TerminalsAreAllocated
+terminals_are_allocated w entries start = replay_keeps w entries (start_has w start)

@@ -98,8 +98,8 @@ row_called w p (event.SetMap fd b) = tt
 row_called w p (event.SetPal fd b) = tt
 row_called w p e = all_quiet w p e (without_marks w) (row (without_marks w) p e).deeds refl
 
-pub acts-are-calls : ActsAreCalls
-acts-are-calls w p e =
+pub acts_are_calls : ActsAreCalls
+acts_are_calls w p e =
     by_step
     (λ (deeds : List Deed) (after : Outcome). AllCalled w p e (all_acts (without_marks w) deeds))
     w p e (λ errno. tt) (λ accepted. row_called w p e)

@@ -7,7 +7,7 @@ use Rattle.vt_procs.specs.Callers.{callers_of}
 use Rattle.vt_switch.specs.Law.{AllOrdered, DisplayLaw, IsExplained, OwnersLive, OwnersStayLive, TargetLaw}
 use Rattle.vt_switch.specs.Moments.{Core, after_entries, all_after, is_ordered}
 use Rattle.vt_world.proofs.Cores.{deeds_core, same_core, settled_kept}
-use Rattle.vt_world.proofs.Owners.{first-owners}
+use Rattle.vt_world.proofs.Owners.{first_owners}
 use Rattle.vt_world.proofs.Orders.{acts_ordered, row_ordered}
 use Rattle.vt_world.proofs.Steps.{by_step}
 use Rattle.vt_world.specs.Acts.{all_acts, event_acts, history_acts}
@@ -19,8 +19,8 @@ use Rattle.vt_world.specs.Rows.{row}
 use Rattle.vt_world.specs.State.{WorldState, core}
 use Rattle.vt_world.specs.Step.{Outcome, step}
 
-pub acts-make-cores : ActsMakeCores
-acts-make-cores w p e =
+pub acts_make_cores : ActsMakeCores
+acts_make_cores w p e =
     by_step
     (λ (deeds : List Deed) (after : Outcome).
     core after.world ≡ all_after (core w) (all_acts (without_marks w) deeds))
@@ -52,7 +52,7 @@ replay_core w [] = refl
 replay_core w (entry ∷ entries) =
     let next : WorldState = (step w entry.caller entry.event).world in
     ap (λ (k : Core). after_entries k (history_acts next entries))
-    (sym (acts-make-cores w entry.caller entry.event))
+    (sym (acts_make_cores w entry.caller entry.event))
     ∙ replay_core next entries
 
 pub acts_length : (w : WorldState) (entries : List Entry)
@@ -64,28 +64,28 @@ acts_length w (entry ∷ entries) =
 start_owners : (w : WorldState) → IsStart w → OwnersLive (core w)
 start_owners w start =
     subst (λ (x : WorldState). OwnersLive (core x)) (sym start.opened)
-    (first-owners start.consoles start.front (callers_of start.keyboards start.processes))
+    (first_owners start.consoles start.front (callers_of start.keyboards start.processes))
 
 nothing_waits : (w : WorldState) → IsStart w → w.display.pending ≡ None
 nothing_waits w start = ap (λ (x : WorldState). x.display.pending) start.opened
 
-pub displays-are-lawful-from : DisplayLaw → (w : WorldState) → OwnersLive (core w)
+pub displays_are_lawful_from : DisplayLaw → (w : WorldState) → OwnersLive (core w)
     → DisplaysAreLawfulFrom w
-displays-are-lawful-from law w owners nothing entries =
+displays_are_lawful_from law w owners nothing entries =
     law (core w) (history_acts w entries) owners nothing (history_ordered w entries)
 
-pub displays-are-lawful : DisplayLaw → DisplaysAreLawful
-displays-are-lawful law w entries start =
-    displays-are-lawful-from law w (start_owners w start) (nothing_waits w start) entries
+pub displays_are_lawful : DisplayLaw → DisplaysAreLawful
+displays_are_lawful law w entries start =
+    displays_are_lawful_from law w (start_owners w start) (nothing_waits w start) entries
 
-pub targets-are-explained : TargetLaw → TargetsAreExplained
-targets-are-explained law w entries start =
+pub targets_are_explained : TargetLaw → TargetsAreExplained
+targets_are_explained law w entries start =
     subst₂ (λ (i : ℕ) (k : Core). IsExplained i k (moments w entries))
     (acts_length w entries) (replay_core w entries)
     (law (core w) (history_acts w entries) (start_owners w start) (nothing_waits w start)
     (history_ordered w entries))
 
-pub owners-are-live : OwnersStayLive → OwnersAreLive
-owners-are-live law w entries start =
+pub owners_are_live : OwnersStayLive → OwnersAreLive
+owners_are_live law w entries start =
     subst OwnersLive (replay_core w entries)
     (law (core w) (history_acts w entries) (start_owners w start))

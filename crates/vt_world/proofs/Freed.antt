@@ -12,7 +12,7 @@ use Rattle.vt_world.specs.Rows.{free_deeds}
 use Rattle.vt_world.specs.State.{WorldState}
 use Rattle.vt_world.specs.Terminals.{TerminalState}
 use Rattle.vt_world.specs.Refusals.{is_in_use}
-use Rattle.vt_world.proofs.Requests.{range-first}
+use Rattle.vt_world.proofs.Requests.{range_first}
 
 -- a console that is freed has no terminal
 pub freed_alike : (n : ℕ) (terminals : List (Option TerminalState)) (d : Display)
@@ -23,54 +23,54 @@ freed_alike n terminals d alike =
     ∙ ap (λ taken. set taken n false) alike
     ∙ sym (map-set is_some d.consoles n None)
 
-held-kept : (b : Bool) (d : Display) (n k : ℕ) → k ≢ n
+held_kept : (b : Bool) (d : Display) (n k : ℕ) → k ≢ n
     → is_held (cond b d (without_console d n)) k ≡ is_held d k
-held-kept true d n k other = refl
-held-kept false d n k other =
+held_kept true d n k other = refl
+held_kept false d n k other =
     ap (λ (o : Option Console). (k == d.front || names k d.pending) || is_some (owner_of (or_fresh o).handling))
     (get_or-set_other d.consoles n k None None other)
 
 -- whether another console is in use isn't changed
-in_use-kept : (w : WorldState) (n k : ℕ) → k ≢ n
+in_use_kept : (w : WorldState) (n k : ℕ) → k ≢ n
     → is_in_use (apply_deeds w (free_deeds n)) k ≡ is_in_use w k
-in_use-kept w n k other =
+in_use_kept w n k other =
     ap (λ (held : Bool). (k == 1 || held) || is_opened w.callers k)
-    (held-kept (is_held w.display n) w.display n k other)
+    (held_kept (is_held w.display n) w.display n k other)
 
 abbrev pub unused_from : WorldState → ℕ → List ℕ
 unused_from w n = filter (λ c. not (is_in_use w c)) (range_with_len n (64 - n))
 
-unused-next : (w : WorldState) (n : ℕ) → n < 64
+unused_next : (w : WorldState) (n : ℕ) → n < 64
     → unused_from w n
     ≡ cond (not (is_in_use w n)) (n ∷ unused_from w (n + 1)) (unused_from w (n + 1))
-unused-next w n within = ap (filter (λ c. not (is_in_use w c))) (range-first n n 64 within)
+unused_next w n within = ap (filter (λ c. not (is_in_use w c))) (range_first n n 64 within)
 
-either-frees : (b : Bool) (n : ℕ) (ns : List ℕ) (u v : WorldState)
+either_frees : (b : Bool) (n : ℕ) (ns : List ℕ) (u v : WorldState)
     → v ≡ cond b u (apply_deeds u (free_deeds n))
     → apply_deeds v (flat_map free_deeds ns) ≡ apply_deeds u (flat_map free_deeds (cond (not b) (n ∷ ns) ns))
-either-frees true n ns u v is = ap (λ (x : WorldState). apply_deeds x (flat_map free_deeds ns)) is
-either-frees false n ns u v is = ap (λ (x : WorldState). apply_deeds x (flat_map free_deeds ns)) is
+either_frees true n ns u v is = ap (λ (x : WorldState). apply_deeds x (flat_map free_deeds ns)) is
+either_frees false n ns u v is = ap (λ (x : WorldState). apply_deeds x (flat_map free_deeds ns)) is
 
 -- one console more is freed, if it isn't in use
-pub frees-next : (w u v : WorldState) (n : ℕ) → n < 64 → is_in_use u n ≡ is_in_use w n
+pub frees_next : (w u v : WorldState) (n : ℕ) → n < 64 → is_in_use u n ≡ is_in_use w n
     → v ≡ cond (is_in_use u n) u (apply_deeds u (free_deeds n))
     → apply_deeds v (flat_map free_deeds (unused_from w (n + 1)))
     ≡ apply_deeds u (flat_map free_deeds (unused_from w n))
-frees-next w u v n within same is =
-    either-frees (is_in_use w n) n (unused_from w (n + 1)) u v
+frees_next w u v n within same is =
+    either_frees (is_in_use w n) n (unused_from w (n + 1)) u v
     (is ∙ ap (λ (b : Bool). cond b u (apply_deeds u (free_deeds n))) same)
-    ∙ ap (λ (ns : List ℕ). apply_deeds u (flat_map free_deeds ns)) (sym (unused-next w n within))
+    ∙ ap (λ (ns : List ℕ). apply_deeds u (flat_map free_deeds ns)) (sym (unused_next w n within))
 
-either-kept : (b : Bool) (u v : WorldState) (n k : ℕ) → k ≢ n
+either_kept : (b : Bool) (u v : WorldState) (n k : ℕ) → k ≢ n
     → v ≡ cond b u (apply_deeds u (free_deeds n)) → is_in_use v k ≡ is_in_use u k
-either-kept true u v n k other is = ap (λ (x : WorldState). is_in_use x k) is
-either-kept false u v n k other is = ap (λ (x : WorldState). is_in_use x k) is ∙ in_use-kept u n k other
+either_kept true u v n k other is = ap (λ (x : WorldState). is_in_use x k) is
+either_kept false u v n k other is = ap (λ (x : WorldState). is_in_use x k) is ∙ in_use_kept u n k other
 
 -- and leaves whether those above are in use
-pub rest-kept : (w u v : WorldState) (n : ℕ)
+pub rest_kept : (w u v : WorldState) (n : ℕ)
     → ((k : ℕ) → n ≤ k → is_in_use u k ≡ is_in_use w k)
     → v ≡ cond (is_in_use u n) u (apply_deeds u (free_deeds n))
     → (k : ℕ) → n + 1 ≤ k → is_in_use v k ≡ is_in_use w k
-rest-kept w u v n before is k above =
-    either-kept (is_in_use u n) u v n k (λ same. absurd (let no : ⊥ = omega (arith, above, same) in no)) is
+rest_kept w u v n before is k above =
+    either_kept (is_in_use u n) u v n k (λ same. absurd (let no : ⊥ = omega (arith, above, same) in no)) is
     ∙ before k (omega (arith, above))

@@ -28,37 +28,37 @@ lives-after_display_of c accepter [] = refl
 lives-after_display_of c accepter (caller ∷ list) =
     ap (λ more. caller.live ∷ more) (lives-after_display_of c accepter list)
 
-pub core-hop : (w : WorldState) (hop : Hop) → core (apply_mark w (mark.Hopped hop)) ≡ core w
-core-hop w hop =
+pub core_hop : (w : WorldState) (hop : Hop) → core (apply_mark w (mark.Hopped hop)) ≡ core w
+core_hop w hop =
     λ i. record { display = w.display; live = lives-after_display_of hop.to w.callers.accepter w.callers.list i }
 
 -- who ended is dead
-pub core-end : (w : WorldState) (p : ℕ)
+pub core_end : (w : WorldState) (p : ℕ)
     → core (apply_mark w (mark.Ended p)) ≡ record (core w) { live = slice_set (core w).live p false }
-core-end w p = λ i. record {
+core_end w p = λ i. record {
   display = w.display;
   live = map-set (λ (caller : Process). caller.live) w.callers.list p (dead_process (caller_at w.callers p)) i;
 }
 
 -- an end is told, and the hop that it makes
-pub end-told : (w v : WorldState) (p : ℕ) (hop : Option Hop)
+pub end_told : (w v : WorldState) (p : ℕ) (hop : Option Hop)
     → v ≡ apply_mark (record w { display = after_process_end w.display p }) (mark.Ended p)
     → hop ≡ ended_hop w.display p
     → apply_marks v (hop_marks (core v) hop) ≡ after_switch_act w (End p)
-end-told w v p hop heard_it is =
+end_told w v p hop heard_it is =
     let dead_process : WorldState = record w { display = after_process_end w.display p } in
     let after : WorldState = apply_mark dead_process (mark.Ended p) in
     ap (λ (u : WorldState). apply_marks u (hop_marks (core u) hop)) heard_it
-    ∙ ap (λ (k : Core). apply_marks after (hop_marks k hop)) (core-end dead_process p)
+    ∙ ap (λ (k : Core). apply_marks after (hop_marks k hop)) (core_end dead_process p)
     ∙ ap (λ (h : Option Hop). apply_marks after (hop_marks (core_after (core w) (End p)) h)) is
 
 -- a hop and the acquire signal behind it are what a hop tells
-pub hop-told : (w v : WorldState) (hop : Hop) (handshake : Handshake)
+pub hop_told : (w v : WorldState) (hop : Hop) (handshake : Handshake)
     → v ≡ apply_mark w (mark.Hopped hop)
     → (console w.display hop.to).handling ≡ HandledBy handshake
     → apply_marks v (raise (core v) handshake.owner handshake.acqsig) ≡ apply_marks w (hop_marks (core w) (Some hop))
-hop-told w v hop handshake heard_it handling =
+hop_told w v hop handshake heard_it handling =
     let after : WorldState = apply_mark w (mark.Hopped hop) in
     ap (λ (u : WorldState). apply_marks u (raise (core u) handshake.owner handshake.acqsig)) heard_it
-    ∙ ap (λ (k : Core). apply_marks after (raise k handshake.owner handshake.acqsig)) (core-hop w hop)
+    ∙ ap (λ (k : Core). apply_marks after (raise k handshake.owner handshake.acqsig)) (core_hop w hop)
     ∙ ap (λ (h : Handling). apply_marks after (raise_acquire (core w) h)) (sym handling)

@@ -12,8 +12,8 @@ use Rattle.vt_world.specs.Refusals.{first_refusal, own_refusals}
 abbrev unchanged : WorldState → Result Reply Errno → RowResult
 unchanged w answer = record { world = w; answer = answer }
 
-pub is-refused : (w : WorldState) (p : ℕ) (e : Event) (errno : Errno) (given : Result Reply Errno)
+pub is_refused : (w : WorldState) (p : ℕ) (e : Event) (errno : Errno) (given : Result Reply Errno)
     → Some errno ≡ first_refusal (own_refusals w p e) → Err errno ≡ plain_answer given
     → HasRowResult (own_row_result w p e) w given
-is-refused w p e errno given is same =
+is_refused w p e errno given is same =
     ap (λ (refused : Option Errno). row_result w refused (row w p e)) (sym is) ∙ ap (unchanged w) same

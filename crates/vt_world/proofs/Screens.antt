@@ -293,8 +293,8 @@ start_shows w start c within =
     (opening_shows start.rows start.cols start.consoles start.front start.keyboards start.processes start.tables c
     within)
 
-pub screens-are-tapes : StretchesRun → AnyTapeCut → ScreensAreTapes
-screens-are-tapes stretches cuts w entries start c within =
+pub screens_are_tapes : StretchesRun → AnyTapeCut → ScreensAreTapes
+screens_are_tapes stretches cuts w entries start c within =
     (replay_shows (record { stretches = stretches; cuts = cuts }) start.rows start.cols c w
     (tape_after (is_allocated w.display c) [] None) entries (start_has w start)
     (start_shows w start c within)).shows

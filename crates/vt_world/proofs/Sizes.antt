@@ -40,8 +40,8 @@ all : (deeds : List Deed) (w : WorldState) → size (apply_deeds w deeds) ≡ si
 all [] w = refl
 all (deed ∷ deeds) w = all deeds (apply_deed w deed) ∙ does w deed
 
-pub sizes-stay : SizesStay
-sizes-stay w p e =
+pub sizes_stay : SizesStay
+sizes_stay w p e =
     by_step
     (λ (deeds : List Deed) (after : Outcome).
     (after.world.rows ≡ w.rows) × (after.world.cols ≡ w.cols))

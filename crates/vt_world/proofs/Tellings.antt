@@ -14,7 +14,7 @@ use Rattle.vt_switch.specs.declared.mark.Mark.TheVariants as mark
 use Rattle.vt_world.proofs.Cores.{acted_core, own_core}
 use Rattle.vt_world.proofs.Orders.{ends, in_order, row_ordered}
 use Rattle.vt_world.proofs.Steps.{by_step}
-use Rattle.vt_world.proofs.Traces.{traces-apply_marks-deeds}
+use Rattle.vt_world.proofs.Traces.{traces_apply_marks_deeds}
 use Rattle.vt_world.proofs.Truths.{differ, left_of, right_of}
 use Rattle.vt_world.specs.Acts.{all_acts, request_of}
 use Rattle.vt_world.specs.Deeds.{Deed, By, Asks, Own, OwnDeed, Raises, after_switch_act, apply_deed, apply_own_deed, after_request}
@@ -205,9 +205,9 @@ row_tells : (w : WorldState) (p : ℕ) (e : Event)
     → news (all_marks w (row w p e).deeds) ≡ news_of (core w) (all_acts w (row w p e).deeds)
 row_tells w p e = (deeds_tell false w (row w p e).deeds (row_ordered w p e)).same
 
-pub traces-tell-news : TracesTellNews
-traces-tell-news w p e =
-    ap news (traces-apply_marks-deeds w p e)
+pub traces_tell_news : TracesTellNews
+traces_tell_news w p e =
+    ap news (traces_apply_marks_deeds w p e)
     ∙ by_step
     (λ (deeds : List Deed) (after : Outcome).
     news (all_marks (without_marks w) deeds) ≡ news_of (core w) (all_acts (without_marks w) deeds))

@@ -119,8 +119,8 @@ deeds_tell w (Own deed ∷ deeds) =
     by_own w deed acts new
     (subst (λ (k : Core). Adds next.trace.marks new k acts) (own_core w deed) (deeds_tell next deeds))
 
-pub traces-apply_marks-acts : TracesTellActs
-traces-apply_marks-acts w p e =
+pub traces_apply_marks_acts : TracesTellActs
+traces_apply_marks_acts w p e =
     by_step
     (λ (deeds : List Deed) (after : Outcome).
     TellsActs (core w) (all_acts (without_marks w) deeds) after.world.trace.marks)
@@ -160,8 +160,8 @@ deeds_trace w (deed ∷ deeds) =
     ∙ ap (λ (trace : List Mark). trace ++ rest) (deed_trace w deed)
     ∙ append_assoc w.trace.marks (marks_by w deed) rest
 
-pub traces-apply_marks-deeds : TracesTellDeeds
-traces-apply_marks-deeds w p e =
+pub traces_apply_marks_deeds : TracesTellDeeds
+traces_apply_marks_deeds w p e =
     by_step
     (λ (deeds : List Deed) (after : Outcome). after.world.trace.marks ≡ all_marks (without_marks w) deeds)
     w p e (λ errno. refl)
@@ -193,6 +193,6 @@ told_hops k (act ∷ acts) trace tells =
     ∙ ap (λ (list : List Hop). hops (marks k act) ++ list)
     (told_hops (core_after k act) acts tells.more tells.rest)
 
-pub traces-apply_marks-hops : TracesTellHops
-traces-apply_marks-hops w p e =
-    told_hops (core w) (event_acts w p e) (step w p e).world.trace.marks (traces-apply_marks-acts w p e)
+pub traces_apply_marks-hops : TracesTellHops
+traces_apply_marks-hops w p e =
+    told_hops (core w) (event_acts w p e) (step w p e).world.trace.marks (traces_apply_marks_acts w p e)

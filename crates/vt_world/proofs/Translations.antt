@@ -203,7 +203,7 @@ replays [] w one = one
 replays (entry ∷ entries) w one =
     replays entries (step w entry.caller entry.event).world (step_keeps w entry.caller entry.event one)
 
-pub one-translation : OneTranslation
-one-translation w entries start =
+pub one_translation : OneTranslation
+one_translation w entries start =
     replays entries w
     (subst IsOneTranslation (sym start.opened) (start_codes, refl))

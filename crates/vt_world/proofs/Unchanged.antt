@@ -52,8 +52,8 @@ row_accepts w p (event.WaitActive fd n) =
 row_accepts w p event.WaitEnd = end_accepts (caller w p).waiting
 row_accepts w p e = refl
 
-pub refusals-change-nothing : RefusalsChangeNothing
-refusals-change-nothing w p e =
+pub refusals_change_nothing : RefusalsChangeNothing
+refusals_change_nothing w p e =
     by_step
     (λ (deeds : List Deed) (after : Outcome).
     is_refusal e after.reply ≡ true → after.world ≡ without_marks w)
@@ -71,9 +71,9 @@ untold_end : (w : WorldState) (entries : List Entry)
 untold_end w [] = refl
 untold_end w (entry ∷ entries) = refl
 
-pub later-answers-stay : LaterAnswersStay
-later-answers-stay w p e later refused =
-    ap (λ (v : WorldState). exchanges v later) (refusals-change-nothing w p e refused) ∙ untold w later
+pub later_answers_stay : LaterAnswersStay
+later_answers_stay w p e later refused =
+    ap (λ (v : WorldState). exchanges v later) (refusals_change_nothing w p e refused) ∙ untold w later
 
 -- a list of calls without those that were refused
 kept_answers : (w : WorldState) (entry : Entry) (entries : List Entry) (refused : Bool)
@@ -92,7 +92,7 @@ kept_answers : (w : WorldState) (entry : Entry) (entries : List Entry) (refused 
 kept_answers w entry entries true is same =
     let rest : List (Entry × Reply) =
     accepted_entries (exchanges (step w entry.caller entry.event).world entries) in
-    sym (later-answers-stay w entry.caller entry.event (calls rest) is) ∙ same.answers
+    sym (later_answers_stay w entry.caller entry.event (calls rest) is) ∙ same.answers
 kept_answers w entry entries false is same =
     ap
     (λ (rest : List (Entry × Reply)). (entry, (step w entry.caller entry.event).reply) ∷ rest)
@@ -114,16 +114,16 @@ kept_world w entry entries true is same =
     accepted_entries (exchanges (step w entry.caller entry.event).world entries) in
     sym
     (ap (λ (v : WorldState). without_marks (replay v (calls rest)))
-    (refusals-change-nothing w entry.caller entry.event is)
+    (refusals_change_nothing w entry.caller entry.event is)
     ∙ untold_end w (calls rest))
     ∙ same.world
 kept_world w entry entries false is same = same.world
 
-pub refusals-can-go : RefusalsCanGo
-refusals-can-go w [] = record { answers = refl; world = refl }
-refusals-can-go w (entry ∷ entries) =
+pub refusals_can_go : RefusalsCanGo
+refusals_can_go w [] = record { answers = refl; world = refl }
+refusals_can_go w (entry ∷ entries) =
     let after : Outcome = step w entry.caller entry.event in
-    let same : IsSameWithout after.world entries = refusals-can-go after.world entries in
+    let same : IsSameWithout after.world entries = refusals_can_go after.world entries in
     record {
       answers = kept_answers w entry entries (is_refusal entry.event after.reply) refl same;
       world = kept_world w entry entries (is_refusal entry.event after.reply) refl same;
@@ -199,6 +199,6 @@ any_end v p true true ticket is told = differ (ap tells_signal told)
 any_end v p true false true is told = own_end v p (caller v p).waiting is refl told
 any_end v p true false false is told = own_end v p (caller v p).waiting is refl told
 
-pub broken-waits-are-taken : BrokenWaitsAreTaken
-broken-waits-are-taken w p told =
+pub broken_waits_are_taken : BrokenWaitsAreTaken
+broken_waits_are_taken w p told =
     any_end (without_marks w) p (is_live w.callers p) (is_keyboard p) (holds_ticket w p) refl told

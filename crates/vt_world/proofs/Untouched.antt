@@ -171,8 +171,8 @@ row_leaves c w p (event.Kill q s) other =
     quiet_leave c (row w p (event.Kill q s)).deeds (sent_quiet (s == 9) q s)
 row_leaves c w p e other = refl
 
-pub terminals-stay : TerminalsStay
-terminals-stay w p e c other =
+pub terminals_stay : TerminalsStay
+terminals_stay w p e c other =
     by_step (λ (deeds : List Deed) (after : Outcome). Stays c w after.world) w p e
     (λ errno. inl refl)
     (λ accepted.

@@ -23,7 +23,7 @@ use Rattle.vt_procs.specs.Callers.{console_of}
 use Rattle.vt_world.specs.Step.{own_row_result}
 use Rattle.vt_world.specs.Terminals.{TerminalState, said_of, terminal_at, after_write, written_on}
 use Rattle.vt_world.specs.declared.wanted.Wanted.TheVariants.{Last, Number}
-use Rattle.vt_world.proofs.Bells.{written-more}
+use Rattle.vt_world.proofs.Bells.{written_more}
 
 -- deeds, and then more of them
 pub apply_deeds-append : (w : WorldState) (xs ys : List Deed)
@@ -42,65 +42,65 @@ heard-append c xs ys w =
     ∙ ap (apply_deeds w) (sym (flat_map-append (out_deeds c) xs ys))
 
 -- one thing more is said
-pub heard-more : (c : ℕ) (xs : List Out) (x : Out) (w : WorldState)
+pub heard_more : (c : ℕ) (xs : List Out) (x : Out) (w : WorldState)
     → apply_deeds (heard c xs w) (out_deeds c x) ≡ heard c (xs ++ x ∷ []) w
-heard-more c xs x w =
+heard_more c xs x w =
     ap (apply_deeds (heard c xs w)) (sym (append-nil (out_deeds c x)))
     ∙ heard-append c xs (x ∷ []) w
 
 -- what is told draws nothing
-apply_marks-terminals : (w : WorldState) (marks : List Mark) → (apply_marks w marks).terminals ≡ w.terminals
-apply_marks-terminals w [] = refl
-apply_marks-terminals w (m ∷ marks) = apply_marks-terminals (heard_mark w m) marks
+apply_marks_terminals : (w : WorldState) (marks : List Mark) → (apply_marks w marks).terminals ≡ w.terminals
+apply_marks_terminals w [] = refl
+apply_marks_terminals w (m ∷ marks) = apply_marks_terminals (heard_mark w m) marks
 
-after_request-terminals : (w : WorldState) (n : Option ℕ) → (after_request w n).terminals ≡ w.terminals
-after_request-terminals w None = refl
-after_request-terminals w (Some n) =
-    apply_marks-terminals (record w { display = (core_after (core w) (Request n)).display })
+after_request_terminals : (w : WorldState) (n : Option ℕ) → (after_request w n).terminals ≡ w.terminals
+after_request_terminals w None = refl
+after_request_terminals w (Some n) =
+    apply_marks_terminals (record w { display = (core_after (core w) (Request n)).display })
     (marks (core w) (Request n))
 
 -- so a text may be drawn before
-apply_marks-writes : (c : ℕ) (bytes : List ℕ) (w : WorldState) (marks : List Mark)
+apply_marks_writes : (c : ℕ) (bytes : List ℕ) (w : WorldState) (marks : List Mark)
     → apply_deed (apply_marks w marks) (Own (Writes c bytes)) ≡ apply_marks (apply_deed w (Own (Writes c bytes))) marks
-apply_marks-writes c bytes w [] = refl
-apply_marks-writes c bytes w (m ∷ marks) = apply_marks-writes c bytes (heard_mark w m) marks
+apply_marks_writes c bytes w [] = refl
+apply_marks_writes c bytes w (m ∷ marks) = apply_marks_writes c bytes (heard_mark w m) marks
 
-after_request-writes : (c : ℕ) (bytes : List ℕ) (w : WorldState) (n : Option ℕ)
+after_request_writes : (c : ℕ) (bytes : List ℕ) (w : WorldState) (n : Option ℕ)
     → apply_deed (after_request w n) (Own (Writes c bytes)) ≡ after_request (apply_deed w (Own (Writes c bytes))) n
-after_request-writes c bytes w None = refl
-after_request-writes c bytes w (Some n) =
-    apply_marks-writes c bytes (record w { display = (core_after (core w) (Request n)).display })
+after_request_writes c bytes w None = refl
+after_request_writes c bytes w (Some n) =
+    apply_marks_writes c bytes (record w { display = (core_after (core w) (Request n)).display })
     (marks (core w) (Request n))
 
 -- what is said draws nothing
-heard-terminals : (c : ℕ) (outs_of_run : List Out) (w : WorldState)
+heard_terminals : (c : ℕ) (outs_of_run : List Out) (w : WorldState)
     → (heard c outs_of_run w).terminals ≡ w.terminals
-heard-terminals c [] w = refl
-heard-terminals c (outs.Report text ∷ more) w = heard-terminals c more (apply_deed w (Own (Puts c text)))
-heard-terminals c (outs.SwitchTo n ∷ more) w =
-    heard-terminals c more (apply_deed w (Asks (Number n)))
-    ∙ after_request-terminals w (wanted_in w.display (Number n))
-heard-terminals c (outs.SwitchLast ∷ more) w =
-    heard-terminals c more (apply_deed w (Asks Last)) ∙ after_request-terminals w (wanted_in w.display Last)
-heard-terminals c (outs.Lights lights ∷ more) w =
-    heard-terminals c more (apply_deed w (Own (Lights c lights)))
-heard-terminals c (outs.Bell ∷ more) w = heard-terminals c more w
+heard_terminals c [] w = refl
+heard_terminals c (outs.Report text ∷ more) w = heard_terminals c more (apply_deed w (Own (Puts c text)))
+heard_terminals c (outs.SwitchTo n ∷ more) w =
+    heard_terminals c more (apply_deed w (Asks (Number n)))
+    ∙ after_request_terminals w (wanted_in w.display (Number n))
+heard_terminals c (outs.SwitchLast ∷ more) w =
+    heard_terminals c more (apply_deed w (Asks Last)) ∙ after_request_terminals w (wanted_in w.display Last)
+heard_terminals c (outs.Lights lights ∷ more) w =
+    heard_terminals c more (apply_deed w (Own (Lights c lights)))
+heard_terminals c (outs.Bell ∷ more) w = heard_terminals c more w
 
 -- so a text may be drawn before it
-heard-writes : (c : ℕ) (bytes : List ℕ) (outs_of_run : List Out) (w : WorldState)
+heard_writes : (c : ℕ) (bytes : List ℕ) (outs_of_run : List Out) (w : WorldState)
     → apply_deed (heard c outs_of_run w) (Own (Writes c bytes)) ≡ heard c outs_of_run (apply_deed w (Own (Writes c bytes)))
-heard-writes c bytes [] w = refl
-heard-writes c bytes (outs.Report text ∷ more) w =
-    heard-writes c bytes more (apply_deed w (Own (Puts c text)))
-heard-writes c bytes (outs.SwitchTo n ∷ more) w =
-    heard-writes c bytes more (apply_deed w (Asks (Number n)))
-    ∙ ap (heard c more) (after_request-writes c bytes w (wanted_in w.display (Number n)))
-heard-writes c bytes (outs.SwitchLast ∷ more) w =
-    heard-writes c bytes more (apply_deed w (Asks Last))
-    ∙ ap (heard c more) (after_request-writes c bytes w (wanted_in w.display Last))
-heard-writes c bytes (outs.Lights lights ∷ more) w =
-    heard-writes c bytes more (apply_deed w (Own (Lights c lights)))
-heard-writes c bytes (outs.Bell ∷ more) w = heard-writes c bytes more w
+heard_writes c bytes [] w = refl
+heard_writes c bytes (outs.Report text ∷ more) w =
+    heard_writes c bytes more (apply_deed w (Own (Puts c text)))
+heard_writes c bytes (outs.SwitchTo n ∷ more) w =
+    heard_writes c bytes more (apply_deed w (Asks (Number n)))
+    ∙ ap (heard c more) (after_request_writes c bytes w (wanted_in w.display (Number n)))
+heard_writes c bytes (outs.SwitchLast ∷ more) w =
+    heard_writes c bytes more (apply_deed w (Asks Last))
+    ∙ ap (heard c more) (after_request_writes c bytes w (wanted_in w.display Last))
+heard_writes c bytes (outs.Lights lights ∷ more) w =
+    heard_writes c bytes more (apply_deed w (Own (Lights c lights)))
+heard_writes c bytes (outs.Bell ∷ more) w = heard_writes c bytes more w
 
 -- what a place has after it changes
 at_changed : (n : ℕ) (f : TerminalState → TerminalState) (ts : List (Option TerminalState))
@@ -120,7 +120,7 @@ changed_twice (suc n) f g (t ∷ ts) o is = ap (λ more. t ∷ more) (changed_tw
 both_written : AnyCut → (a b : List ℕ) (o : Option TerminalState)
     → option_map (written_on b) (option_map (written_on a) o) ≡ option_map (written_on (a ++ b)) o
 both_written law a b None = refl
-both_written law a b (Some t) = ap Some (written-more law t a b _ _ _ refl refl refl)
+both_written law a b (Some t) = ap Some (written_more law t a b _ _ _ refl refl refl)
 
 -- two pieces draw what the whole draws
 after_write-append : AnyCut → (c : ℕ) (a b : List ℕ) (ts : List (Option TerminalState))
@@ -155,8 +155,8 @@ ran-append law w c a b =
     let said_a : List Out = said_of (terminal_at w.terminals c) a in
     let said_b : List Out = said_of (terminal_at drawn.terminals c) b in
     ap (λ ts. heard c (said_of (terminal_at ts c) b) (apply_deed (heard c said_a drawn) (Own (Writes c b))))
-    (heard-terminals c said_a drawn)
-    ∙ ap (heard c said_b) (heard-writes c b said_a drawn)
+    (heard_terminals c said_a drawn)
+    ∙ ap (heard c said_b) (heard_writes c b said_a drawn)
     ∙ heard-append c said_a said_b (apply_deed drawn (Own (Writes c b)))
     ∙ (λ i. heard c (outs_of_run-append law c a b w.terminals i)
     (record w { terminals = after_write-append law c a b w.terminals i }))
@@ -174,32 +174,32 @@ ran-asks law w c a b =
     let drawn : WorldState = apply_deed w (Own (Writes c a)) in
     let said_a : List Out = said_of (terminal_at w.terminals c) a in
     ap (λ ts. requests said_a + requests (said_of (terminal_at ts c) b))
-    (heard-terminals c said_a drawn)
+    (heard_terminals c said_a drawn)
     ∙ sym (requests-append said_a (said_of (terminal_at drawn.terminals c) b))
     ∙ ap requests (outs_of_run-append law c a b w.terminals)
 
 -- a text asks for few consoles, where it is written to one that has a terminal or to one that hasn't
-pub asks-few : RequestsAreFew → (o : Option TerminalState) (bytes : List ℕ)
+pub asks_few : RequestsAreFew → (o : Option TerminalState) (bytes : List ℕ)
     → 4 * requests (said_of o bytes) ≤ length bytes + 3
-asks-few law None bytes = omega arith
-asks-few law (Some t) bytes = law t.machine bytes
+asks_few law None bytes = omega arith
+asks_few law (Some t) bytes = law t.machine bytes
 
 -- the first of several things that are said ask for no more than all
-pub front-asks : (i : ℕ) (all : List Out) → requests (take i all) ≤ requests all
-front-asks i all = sum_by-take-le (λ (o : Out). cond (asks o) 1 0) all i
+pub front_asks : (i : ℕ) (all : List Out) → requests (take i all) ≤ requests all
+front_asks i all = sum_by-take-le (λ (o : Out). cond (asks o) 1 0) all i
 
 -- one thing more is said
-pub one-more-asks : (xs : List Out) (x : Out)
+pub one_more_asks : (xs : List Out) (x : Out)
     → requests (xs ++ x ∷ []) ≡ requests xs + requests (x ∷ [])
-one-more-asks xs x = requests-append xs (x ∷ [])
+one_more_asks xs x = requests-append xs (x ∷ [])
 
 -- a write that isn't refused
-pub write-has : (w : WorldState) (p fd : ℕ) (b : Text) (c : ℕ) (text : List ℕ) (w' : WorldState)
+pub write_has : (w : WorldState) (p fd : ℕ) (b : Text) (c : ℕ) (text : List ℕ) (w' : WorldState)
     → console_of w.callers p fd ≡ Some c → text ≡ b.bytes → leb (length text) 4096 ≡ true
     → w' ≡ ran w c text
     → own_row_result w p (event.Write fd b)
     ≡ record { world = w'; answer = Ok (reply.Num (length text)) }
-write-has w p fd b c text w' found is short ran_is =
+write_has w p fd b c text w' found is short ran_is =
     let within : leb (length b.bytes) 4096 ≡ true =
     ap (λ (t : List ℕ). leb (length t) 4096) (sym is) ∙ short in
     rw (found, within)

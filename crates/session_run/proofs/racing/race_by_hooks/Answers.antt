@@ -1,6 +1,6 @@
 use Rattle.std.proofs.Common.{length, sym, ap, ◌∙◌, subst}
 use Rattle.session_order.specs.Sessions.{start_of}
-use Rattle.session_run.proofs.Sessions.{is-start}
+use Rattle.session_run.proofs.Sessions.{is_start}
 use Rattle.vt_base.specs.ConsoleSet.{IsFitSet}
 use Rattle.vt_hub.specs.declared.run.Run.{Run}
 use Rattle.vt_procs.specs.declared.config.Config.{Config}
@@ -23,7 +23,7 @@ returns g c =
     let run : Run = c.in_ok-ran.ran in
     let begin : WorldState = start_of c.args.s.now in
     let start : IsStart begin =
-    is-start c.args.s.now (subst (λ (config : Config). IsFitSet config.consoles config.front) c.config-config.ensures.same c.config-config.ensures.fit) in
+    is_start c.args.s.now (subst (λ (config : Config). IsFitSet config.consoles config.front) c.config-config.ensures.same c.config-config.ensures.fit) in
     record {
       is = c.in_ok-ran.ensures;
       lawful = c.displays_are_lawful.ensures.lawful begin run.log.entries start;

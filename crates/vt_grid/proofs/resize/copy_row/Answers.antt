@@ -1,7 +1,7 @@
 use Rattle.std.proofs.Common.{◌≡◌, ◌-◌, suc, List, [], length, take, set, sym, ap, ◌∙◌, arith}
 use Rattle.std.proofs.lemmas.List.{length-take-le}
-use Rattle.vt_grid.proofs.Border.{split_wide-past}
-use Rattle.vt_grid.proofs.Covered.{split_wide-last}
+use Rattle.vt_grid.proofs.Border.{split_wide_past}
+use Rattle.vt_grid.proofs.Covered.{split_wide_last}
 use Rattle.vt_grid.proofs.Laid.{with_run-set}
 use Rattle.vt_grid.specs.Grid.{GridView, row_at, with_cell, with_run}
 use Rattle.vt_grid.specs.Halves.{split_wide}
@@ -26,7 +26,7 @@ returns-then-cols-gt0 c =
     (omega (arith, len, cols_is)) (omega (arith, len))
     ∙ ap (with_run fresh c.args.y 0)
     (ap (λ n. set (take n row) last cell) (sym cols_is)
-    ∙ split_wide-last border last row cell (omega (arith, cols_is)) (omega (arith, cols_is, wide)) c.at_parted.ensures
+    ∙ split_wide_last border last row cell (omega (arith, cols_is)) (omega (arith, cols_is, wide)) c.at_parted.ensures
     ∙ ap (λ n. take n (split_wide border row)) cols_is)
 
 pub returns-else-border-was : goal.returns-else-border-was
@@ -37,4 +37,4 @@ returns-else-border-was c =
     let wide : length row ≡ c.args.old.now.cols = full.wide c.args.from [] (omega (arith, full.tall)) in
     c.copy_row.ensures
     ∙ ap (λ (cells : List Cell). with_run c.args.fresh.now c.args.y 0 (take c.args.cols cells))
-    (sym (split_wide-past border row (omega (arith, wide, c.size-was.ensures.cols, c.if-border-was.false))))
+    (sym (split_wide_past border row (omega (arith, wide, c.size-was.ensures.cols, c.if-border-was.false))))

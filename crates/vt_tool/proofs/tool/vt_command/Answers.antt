@@ -1,6 +1,6 @@
 use Rattle.std.proofs.Common.{map, string_bytes}
-use Rattle.vt_tool.proofs.Complete.{run-completes}
-use Rattle.vt_tool.proofs.Journals.{tells-displays}
+use Rattle.vt_tool.proofs.Complete.{run_completes}
+use Rattle.vt_tool.proofs.Journals.{tells_displays}
 use Rattle.vt_tool.specs.Commands.{serial_forms}
 use Rattle.vt_tool.specs.Run.{Streams}
 use Rattle.vt_tool.proofs.tool.vt_command.Goals as goal
@@ -24,7 +24,7 @@ returns-clause-complete g c =
       };
       err = record { told = g.E.Sink.held c.write_status.new.err; faults = g.E.Sink.faults c.write_status.new.err };
     } in
-    run-completes serial_forms (map string_bytes c.args.words.now) old new c.write_status.result
+    run_completes serial_forms (map string_bytes c.args.words.now) old new c.write_status.result
     (record {
       first = c.begin-first.result;
       begins = c.begin-first.ensures;
@@ -50,7 +50,7 @@ returns-clause-displays g c =
       };
       err = record { told = g.E.Sink.held c.write_status.new.err; faults = g.E.Sink.faults c.write_status.new.err };
     } in
-    tells-displays c.displays_are_lawful.ensures.acts c.displays_are_lawful.ensures.calls
+    tells_displays c.displays_are_lawful.ensures.acts c.displays_are_lawful.ensures.calls
     c.displays_are_lawful.ensures.told c.displays_are_lawful.ensures.hops
     c.refused_calls_change_nothing.ensures.refused serial_forms (map string_bytes c.args.words.now) old new
     c.write_status.result

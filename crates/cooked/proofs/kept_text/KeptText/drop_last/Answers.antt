@@ -1,5 +1,5 @@
 use Rattle.std.proofs.Common.{◌≡◌, ℕ, ◌-◌, List, length, take, sym, ap, ◌∙◌, subst, arith}
-use Rattle.cooked.proofs.SizeLaws.{dropped-parts, dropped-whole, size-within}
+use Rattle.cooked.proofs.SizeLaws.{dropped_parts, dropped_whole, size_within}
 use Rattle.cooked.proofs.kept_text.KeptText.drop_last.Goals as goal
 use Rattle.cooked.specs.KeptText.{but_last}
 use Rattle.cooked.specs.Sizes.{IsLastSize, parts, total}
@@ -13,7 +13,7 @@ overflow_sub-len c =
     subst (λ ns. IsLastSize ns c.in-Some.size c.in-Some.before) c.as_slice.ensures found in
     omega (
       arith,
-      size-within sizes bytes c.in-Some.size c.in-Some.before is c.self.invariant.whole,
+      size_within sizes bytes c.in-Some.size c.in-Some.before is c.self.invariant.whole,
       c.from.ensures,
       ap length c.as_slice-len.ensures,
     )
@@ -32,7 +32,7 @@ invariant_of-self c =
     record {
       whole =
           ap total c.truncate.ensures.bytes
-          ∙ dropped-whole sizes bytes c.in-Some.size c.in-Some.before is c.self.invariant.whole
+          ∙ dropped_whole sizes bytes c.in-Some.size c.in-Some.before is c.self.invariant.whole
           ∙ ap length (sym cut);
       bytes_room = omega (arith, c.truncate-in-Some.ensures.room, c.self.invariant.bytes_room);
       sizes_room = omega (arith, c.truncate.ensures.room, c.self.invariant.sizes_room);
@@ -51,5 +51,5 @@ returns-in-Some c =
     ∙ ap (λ n. take (length bytes - n) bytes) c.from.ensures in
     ap (λ ns. parts ns c.truncate-in-Some.new.self.bytes) c.truncate.ensures.bytes
     ∙ ap (parts (take c.in-Some.before sizes)) cut
-    ∙ dropped-parts sizes bytes c.in-Some.size c.in-Some.before is c.self.invariant.whole
+    ∙ dropped_parts sizes bytes c.in-Some.size c.in-Some.before is c.self.invariant.whole
     ∙ ap but_last c.self.view_is

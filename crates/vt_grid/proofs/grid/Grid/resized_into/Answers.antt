@@ -1,5 +1,5 @@
 use Rattle.std.proofs.Common.{ap, ◌∙◌, arith}
-use Rattle.vt_grid.proofs.Split.{rows-whole}
+use Rattle.vt_grid.proofs.Split.{rows_whole}
 use Rattle.vt_grid.specs.Grid.{GridView, resized_grid}
 use Rattle.vt_grid.proofs.grid.Grid.resized_into.Goals as goal
 
@@ -8,4 +8,4 @@ returns-clause-grid c =
     c.replace.ensures.after
     ∙ c.copy_cells.ensures
     ∙ ap (λ (s : GridView). resized_grid s c.args.fresh c.args.skip)
-    (rows-whole c.args.self.now c.size-cols.result.cols c.size-cols.ensures.full (omega (arith, c.size-cols.ensures.cols)))
+    (rows_whole c.args.self.now c.size-cols.result.cols c.size-cols.ensures.full (omega (arith, c.size-cols.ensures.cols)))

@@ -1,5 +1,5 @@
 use Rattle.std.proofs.Common.{◌≡◌, ℕ, ◌+◌, ◌-◌, List, ◌++◌, length, take, drop, ap, ◌∙◌, arith}
-use Rattle.vt_grid.proofs.Turns.{length-rotation_by, rotation_by-pieces}
+use Rattle.vt_grid.proofs.Turns.{length-rotation_by, rotation_by_pieces}
 use Rattle.vt_grid.specs.Store.{rotation_by}
 use Rattle.vt_grid.proofs.rows.ring.read_turned.Goals as goal
 
@@ -16,5 +16,5 @@ returns c =
     ∙ ap (λ (k : ℕ). take k (drop c.args.top order))
     (omega (arith, c.split_at_mut-front.ensures.back_len)) in
     (λ i. front i ++ back i)
-    ∙ rotation_by-pieces c.args.top c.args.n len order c.requires.some
+    ∙ rotation_by_pieces c.args.top c.args.n len order c.requires.some
     (omega (arith, length-rotation_by c.args.head c.args.numbers.now))

@@ -10,14 +10,14 @@ use Rattle.vt_hub.specs.Carrying.{carried_entries}
 use Rattle.vt_hub.proofs.Carried.{length-carried_entries}
 use Rattle.vt_hub.specs.Shared.{Stops, Waits}
 use Rattle.vt_hub.specs.Views.{PassView}
-use Rattle.vt_hub.proofs.Found.{Found, adds, count, counted-after, done, few-made, found-from, full, role-after, waits}
+use Rattle.vt_hub.proofs.Found.{Found, adds, count, counted_after, done, few_made, found_from, full, role_after, waits}
 use Rattle.vt_hub.proofs.hub.Hub.turn.Goals as goal
 
 pub call-answer-requires-clause-number : goal.call-answer-requires-clause-number
 call-answer-requires-clause-number g c =
     count g.J.Opening.start g.J.Opening.limits c.p.inside.number c.p.inside.seq
     (view c.p.inside.place) c.value-shared.result.now
-    (found-from g.J.Opening.start g.J.Opening.limits c.p.inside.number c.p.inside.seq
+    (found_from g.J.Opening.start g.J.Opening.limits c.p.inside.number c.p.inside.seq
     (view c.p.inside.place) c.enter-held.result.value c.value-shared.result.now
     c.value-shared.ensures.value c.sound.ensures c.p.invariant.named c.p.invariant.counted
     c.enter-held.ensures.seen c.enter-held.ensures.mine c.enter-held.ensures.known c.enter-held.ensures.read
@@ -30,7 +30,7 @@ publish-requires-clause-adds g c =
     let given : c.value-shared.result.now ≡ old = c.value-shared.ensures.value in
     let found : Found start g.J.Opening.limits c.p.inside.number c.p.inside.seq
     (view c.p.inside.place) old =
-    found-from start g.J.Opening.limits c.p.inside.number c.p.inside.seq
+    found_from start g.J.Opening.limits c.p.inside.number c.p.inside.seq
     (view c.p.inside.place) old old refl
     (subst (λ (s : SharedView). IsSound start g.J.Opening.limits s) given c.sound.ensures)
     c.p.invariant.named c.p.invariant.counted c.enter-held.ensures.seen c.enter-held.ensures.mine
@@ -59,7 +59,7 @@ overflow_add-p g c =
     let few = c.in-Done.ensures.few in
     let counted = count g.J.Opening.start g.J.Opening.limits c.p.inside.number c.p.inside.seq
     (view c.p.inside.place) c.value-shared.result.now
-    (found-from g.J.Opening.start g.J.Opening.limits c.p.inside.number c.p.inside.seq
+    (found_from g.J.Opening.start g.J.Opening.limits c.p.inside.number c.p.inside.seq
     (view c.p.inside.place) c.enter-held.result.value c.value-shared.result.now
     c.value-shared.ensures.value c.sound.ensures c.p.invariant.named c.p.invariant.counted
     c.enter-held.ensures.seen c.enter-held.ensures.mine c.enter-held.ensures.known c.enter-held.ensures.read
@@ -68,7 +68,7 @@ overflow_add-p g c =
       arith,
       few,
       counted,
-      few-made c.p.inside.number c.value-shared.result.now.log.entries,
+      few_made c.p.inside.number c.value-shared.result.now.log.entries,
     )
 
 pub invariant_of-p : goal.invariant_of-p
@@ -79,7 +79,7 @@ invariant_of-p g c =
     let given : c.value-shared.result.now ≡ old = c.value-shared.ensures.value in
     let before : View Entry Full = view c.p.inside.place in
     let found : Found start most c.p.inside.number c.p.inside.seq before old =
-    found-from start most c.p.inside.number c.p.inside.seq before old old refl
+    found_from start most c.p.inside.number c.p.inside.seq before old old refl
     (subst (λ (s : SharedView). IsSound start most s) given c.sound.ensures)
     c.p.invariant.named c.p.invariant.counted c.enter-held.ensures.seen c.enter-held.ensures.mine
     c.enter-held.ensures.known c.enter-held.ensures.read c.enter-held.ensures.stands c.enter-held.ensures.named in
@@ -99,12 +99,12 @@ invariant_of-p g c =
     c.in-Done.at c.in-Done.reply) given c.in-Done.ensures in
     record {
       rests = c.leave.ensures.own.1;
-      named = role-after start most c.p.inside.number c.p.inside.seq before old found hub c.args.p.now
+      named = role_after start most c.p.inside.number c.p.inside.seq before old found hub c.args.p.now
           c.p.view_is (lock_named c.leave.new.self.1.0) home c.enter-held.ensures.view.0 after
           (view (pass_of c.enter-held.result)) (view c.leave.new.self.1.0) c.enter-held.ensures.view.1
           c.args.event c.in-Done.at c.in-Done.reply enters shown c.publish.ensures.view
           c.publish.ensures.mine left;
-      counted = counted-after start most c.p.inside.number c.p.inside.seq before old found hub c.args.p.now
+      counted = counted_after start most c.p.inside.number c.p.inside.seq before old found hub c.args.p.now
           c.p.view_is (lock_named c.leave.new.self.1.0) home c.enter-held.ensures.view.0 after
           (view (pass_of c.enter-held.result)) (view c.leave.new.self.1.0) c.enter-held.ensures.view.1
           c.args.event c.in-Done.at c.in-Done.reply enters shown c.publish.ensures.view
@@ -119,7 +119,7 @@ returns-in-Done g c =
     let given : c.value-shared.result.now ≡ old = c.value-shared.ensures.value in
     let before : View Entry Full = view c.p.inside.place in
     let found : Found start most c.p.inside.number c.p.inside.seq before old =
-    found-from start most c.p.inside.number c.p.inside.seq before old old refl
+    found_from start most c.p.inside.number c.p.inside.seq before old old refl
     (subst (λ (s : SharedView). IsSound start most s) given c.sound.ensures)
     c.p.invariant.named c.p.invariant.counted c.enter-held.ensures.seen c.enter-held.ensures.mine
     c.enter-held.ensures.known c.enter-held.ensures.read c.enter-held.ensures.stands c.enter-held.ensures.named in
@@ -151,7 +151,7 @@ returns-in-Full g c =
     let given : c.value-shared.result.now ≡ old = c.value-shared.ensures.value in
     let before : View Entry Full = view c.p.inside.place in
     let found : Found start most c.p.inside.number c.p.inside.seq before old =
-    found-from start most c.p.inside.number c.p.inside.seq before old old refl
+    found_from start most c.p.inside.number c.p.inside.seq before old old refl
     (subst (λ (s : SharedView). IsSound start most s) given c.sound.ensures)
     c.p.invariant.named c.p.invariant.counted c.enter-held.ensures.seen c.enter-held.ensures.mine
     c.enter-held.ensures.known c.enter-held.ensures.read c.enter-held.ensures.stands c.enter-held.ensures.named in
@@ -177,7 +177,7 @@ returns-in-Waits g c =
     let given : c.value-shared.result.now ≡ old = c.value-shared.ensures.value in
     let before : View Entry Full = view c.p.inside.place in
     let found : Found start most c.p.inside.number c.p.inside.seq before old =
-    found-from start most c.p.inside.number c.p.inside.seq before old old refl
+    found_from start most c.p.inside.number c.p.inside.seq before old old refl
     (subst (λ (s : SharedView). IsSound start most s) given c.sound.ensures)
     c.p.invariant.named c.p.invariant.counted c.enter-held.ensures.seen c.enter-held.ensures.mine
     c.enter-held.ensures.known c.enter-held.ensures.read c.enter-held.ensures.stands c.enter-held.ensures.named in

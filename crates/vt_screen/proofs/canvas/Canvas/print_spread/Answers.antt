@@ -1,5 +1,5 @@
 use Rattle.std.proofs.Common.{◌≡◌, ◌<◌, ◌≤◌, ℕ, List, length, take, sym, ap, ◌∙◌, arith}
-use Rattle.vt_screen.proofs.Spread.{put-cells_of_characters}
+use Rattle.vt_screen.proofs.Spread.{put_cells_of_characters}
 use Rattle.vt_screen.specs.Printing.{cells_of_characters}
 use Rattle.vt_screen.specs.Screen.{Screen}
 use Rattle.vt_screen.proofs.canvas.Canvas.print_spread.Goals as goal
@@ -16,5 +16,5 @@ returns-clause-printed c =
     omega (arith, ap length c.as_slice.ensures.codes, c.fitting_prefix-count.ensures.most, c.min.ensures) in
     let more : 0 < c.room.result = omega (arith, some, short) in
     c.put_codes.ensures
-    ∙ put-cells_of_characters c.stretches_join.ensures c.columns_are_few.ensures.most front cells s is c.room.ensures.whole some
+    ∙ put_cells_of_characters c.stretches_join.ensures c.columns_are_few.ensures.most front cells s is c.room.ensures.whole some
     (c.room.ensures.unwrapped more) (c.room.ensures.closed more) (omega (arith, short, c.room.ensures.fits))

@@ -1,5 +1,5 @@
 use Rattle.std.proofs.Common.{◌<◌, ℕ, List, take, sym, ap, ◌∙◌, arith}
-use Rattle.vt_screen.proofs.Sequences.{sequence-done, some-bytes}
+use Rattle.vt_screen.proofs.Sequences.{sequence_done, some_bytes}
 use Rattle.vt_screen.specs.Run.{screen_effects, with_outs}
 use Rattle.vt_screen.specs.Screen.{Screen}
 use Rattle.vt_screen.specs.declared.out.Out.{Out}
@@ -19,7 +19,7 @@ returns-in-Some-clause-run c =
     let rest : Rest = c.self.inside.pending in
     let one : Sequence = record { unit = Esc 0 c.in-Some.last; count = 2 } in
     ap (λ (r : Reached Screen). run screen_effects (take one.count text) (with_outs outs r)) (sym c.self.view_is)
-    ∙ sequence-done c.sequences_are_units.ensures text outs c.escape.new.outs s c.escape.new.self rest
+    ∙ sequence_done c.sequences_are_units.ensures text outs c.escape.new.outs s c.escape.new.self rest
     c.take_escape.new.self c.mode.result one c.mode.ensures c.in-Some.ensures.sequence c.in-Some.ensures.rest
     c.escape.ensures.screen c.escape.ensures.said
 
@@ -30,7 +30,7 @@ returns-in-Some-clause-few c =
     let text : List ℕ = c.args.b.now in
     let one : Sequence = record { unit = Esc 0 c.in-Some.last; count = 2 } in
     let is : IsUnitOf m rest text one = c.sequences_are_units.ensures rest m text one c.in-Some.ensures.sequence in
-    let some : 0 < one.count = some-bytes m rest text one.count one.unit is.comes in
+    let some : 0 < one.count = some_bytes m rest text one.count one.unit is.comes in
     omega (arith, c.escape.ensures.few, some)
 
 pub returns-in-None-clause-run : goal.returns-in-None-clause-run

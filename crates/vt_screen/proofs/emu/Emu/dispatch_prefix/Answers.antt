@@ -1,5 +1,5 @@
 use Rattle.std.proofs.Common.{◌<◌, arith, ◌≡◌, ◌++◌, ℕ, List, take, Some, sym, ap, ◌∙◌}
-use Rattle.vt_screen.proofs.Sequences.{sequence-done, some-bytes}
+use Rattle.vt_screen.proofs.Sequences.{sequence_done, some_bytes}
 use Rattle.vt_screen.specs.Effect.{effect}
 use Rattle.vt_screen.specs.Saying.{Effect}
 use Rattle.vt_screen.specs.Run.{screen_effects, with_outs, outs_of_option}
@@ -38,7 +38,7 @@ returns-in-Esc-clause-run c =
     let found : taken_ahead rest text ≡ Some one = sym c.in-Esc.ensures.sequence in
     let left : c.take_sequence.new.self ≡ fresh m = c.in-Esc.ensures.rest ∙ ap (rest_ahead rest m) found in
     ap (λ (r : Reached Screen). run screen_effects (take one.count text) (with_outs outs r)) (sym c.self.view_is)
-    ∙ sequence-done c.sequences_are_units.ensures text outs c.escape.new.outs s c.escape.new.self rest
+    ∙ sequence_done c.sequences_are_units.ensures text outs c.escape.new.outs s c.escape.new.self rest
     c.take_sequence.new.self m one c.mode.ensures found left c.escape.ensures.screen c.escape.ensures.said
 
 pub returns-in-Csi-clause-run : goal.returns-in-Csi-clause-run
@@ -54,7 +54,7 @@ returns-in-Csi-clause-run c =
     let left : c.take_sequence.new.self ≡ fresh m = c.in-Csi.ensures.rest ∙ ap (rest_ahead rest m) found in
     let does : List ℕ → Effect = λ numbers. effect (Csi c.in-Csi.private numbers c.in-Csi.last) s in
     ap (λ (r : Reached Screen). run screen_effects (take one.count text) (with_outs outs r)) (sym c.self.view_is)
-    ∙ sequence-done c.sequences_are_units.ensures text outs c.dispatch_sequence.new.outs s c.dispatch_sequence.new.self rest
+    ∙ sequence_done c.sequences_are_units.ensures text outs c.dispatch_sequence.new.outs s c.dispatch_sequence.new.self rest
     c.take_sequence.new.self m one c.mode.ensures found left
     (c.dispatch_sequence.ensures.screen ∙ ap (λ (numbers : List ℕ). (does numbers).screen) c.as_slice.ensures.numbers)
     (c.dispatch_sequence.ensures.said
@@ -67,7 +67,7 @@ returns-in-Esc-clause-few c =
     let text : List ℕ = c.args.b.now in
     let one : Sequence = record { unit = Esc c.in-Esc.mid c.in-Esc.last; count = c.in-Esc.count } in
     let is : IsUnitOf m rest text one = c.sequences_are_units.ensures rest m text one (sym c.in-Esc.ensures.sequence) in
-    let some : 0 < c.in-Esc.count = some-bytes m rest text c.in-Esc.count one.unit is.comes in
+    let some : 0 < c.in-Esc.count = some_bytes m rest text c.in-Esc.count one.unit is.comes in
     omega (arith, c.escape.ensures.few, some)
 
 pub returns-in-Csi-clause-few : goal.returns-in-Csi-clause-few
@@ -77,5 +77,5 @@ returns-in-Csi-clause-few c =
     let text : List ℕ = c.args.b.now in
     let one : Sequence = record { unit = Csi c.in-Csi.private c.take_sequence.new.params c.in-Csi.last; count = c.in-Csi.count } in
     let is : IsUnitOf m rest text one = c.sequences_are_units.ensures rest m text one (sym c.in-Csi.ensures.sequence) in
-    let some : 0 < c.in-Csi.count = some-bytes m rest text c.in-Csi.count one.unit is.comes in
+    let some : 0 < c.in-Csi.count = some_bytes m rest text c.in-Csi.count one.unit is.comes in
     omega (arith, c.dispatch_sequence.ensures.few, some)

@@ -1,5 +1,5 @@
 use Rattle.std.proofs.Common.{ℕ, List, ◌∙◌, arith}
-use Rattle.vt_screen.proofs.Feeds.{run-on}
+use Rattle.vt_screen.proofs.Feeds.{run_on}
 use Rattle.vt_screen.specs.Run.{with_outs}
 use Rattle.vt_screen.proofs.emu.Emu.feed.Goals as goal
 
@@ -12,7 +12,7 @@ loop-at-preserved c =
       within = omega arith;
       outs = omega arith;
       run =
-          run-on text at n (with_outs c.loop-at.outs c.loop-at.self)
+          run_on text at n (with_outs c.loop-at.outs c.loop-at.self)
           (with_outs c.take_prefix-at.new.outs c.take_prefix-at.new.self) c.take_prefix-at.ensures.run
           ∙ c.loop-at.invariant.run;
     }

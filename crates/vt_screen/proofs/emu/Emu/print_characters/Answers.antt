@@ -2,7 +2,7 @@ use Rattle.std.proofs.Common.{◌≡◌, ◌<◌, false, ℕ, List, take, length
 use Rattle.std.proofs.lemmas.Bool.{cond-false}
 use Rattle.std.proofs.lemmas.Bool.Decides.{nat_tests}
 use Rattle.std.proofs.lemmas.List.{length-take-le}
-use Rattle.vt_screen.proofs.Shown.{codes-run}
+use Rattle.vt_screen.proofs.Shown.{codes_run}
 use Rattle.vt_screen.specs.Printing.{print_characters}
 use Rattle.vt_screen.specs.Run.{screen_effects, with_outs}
 use Rattle.vt_screen.specs.Screen.{Screen}
@@ -28,6 +28,6 @@ returns-then-count-gt0-clause-run c = λ outs.
     let shown : c.print_codes.new.self ≡ print_characters codes s =
     c.print_codes.ensures ∙ ap (λ (cs : List ℕ). print_characters cs s) c.as_slice.ensures.codes in
     ap (λ (m : Reached Screen). run screen_effects front (with_outs outs m)) (sym c.self.view_is)
-    ∙ codes-run c.printables_are_characters.ensures front codes outs s rest c.mode.result c.mode.ensures
+    ∙ codes_run c.printables_are_characters.ensures front codes outs s rest c.mode.result c.mode.ensures
     c.take_characters-count.ensures.texts long begun.0 begun.1
     ∙ (λ i. with_outs outs (make_reached (sym shown i) (sym left i)))

@@ -1,7 +1,7 @@
 use Rattle.std.proofs.Common.{ℕ, ◌≡◌, ◌-◌, ◌+◌, ◌++◌, List, length, take, drop, sym, ap, ◌∙◌, subst, arith, length-drop}
 use Rattle.std.proofs.Math.Seq.{take-add}
 use Rattle.std.proofs.lemmas.List.{take_all}
-use Rattle.vt_screen.proofs.Hearing.{hears-both}
+use Rattle.vt_screen.proofs.Hearing.{hears_both}
 use Rattle.vt_screen.specs.Hearing.{HearsAll}
 use Rattle.vt_screen.specs.Run.{after, outs_of_run}
 use Rattle.vt_screen.specs.Screen.{Screen}
@@ -38,7 +38,7 @@ loop-at-preserved g c =
           ∙ ap (after start) joined;
       heard =
           subst (λ (outs_of_run : List Out). HearsAll g.L.Listener.hears c.args.listener.now outs_of_run c.take_told-at.new.listener) all
-          (hears-both g.L.Listener.hears c.args.listener.now c.loop-at.listener c.take_told-at.new.listener
+          (hears_both g.L.Listener.hears c.args.listener.now c.loop-at.listener c.take_told-at.new.listener
           (outs_of_run start (take at text)) (outs_of_run (after start (take at text)) (take n left))
           c.loop-at.invariant.heard
           (subst (λ (outs_of_run : List Out). HearsAll g.L.Listener.hears c.loop-at.listener outs_of_run c.take_told-at.new.listener) outs

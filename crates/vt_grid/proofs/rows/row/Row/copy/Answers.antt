@@ -1,7 +1,7 @@
 use Rattle.std.proofs.Common.{◌≡◌, ◌++◌, List, length, take, drop, ap, ◌∙◌, arith}
 use Rattle.std.proofs.lemmas.List.{with_items_is}
 use Rattle.vt_grid.proofs.Parts.{shelf_of}
-use Rattle.vt_grid.proofs.Lays.{shelf-copied}
+use Rattle.vt_grid.proofs.Lays.{shelf_copied}
 use Rattle.vt_grid.specs.Ring.{RowSlot}
 use Rattle.vt_cells.specs.declared.cell.Cell.{Cell}
 use Rattle.vt_grid.proofs.rows.row.Row.copy.Goals as goal
@@ -18,7 +18,7 @@ returns c =
     let new_is : new ≡ take stored over ++ drop (length (take stored over)) cells =
     c.copy_prefix.ensures ∙ (λ i. front i ++ drop (length (front i)) (c.deref_mut.ensures.value i)) in
     let done =
-    shelf-copied c.args.count c.from.inside.len stored c.from.inside.rest cells over new c.args.self.now
+    shelf_copied c.args.count c.from.inside.len stored c.from.inside.rest cells over new c.args.self.now
     c.args.from.now (omega arith) c.from.invariant.0 (omega (arith, room, c.requires)) new_is room c.from.view_is in
     ap (λ (items : List Cell). shelf_of items stored c.from.inside.rest)
     (with_items_is c.self.inside.cells _ (done.0 ∙ omega arith))

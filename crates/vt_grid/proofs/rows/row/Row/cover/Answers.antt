@@ -1,7 +1,7 @@
 use Rattle.std.proofs.Common.{◌≡◌, ◌-◌, ◌++◌, List, length, replicate, take, drop, ap, ◌∙◌, arith}
 use Rattle.std.proofs.lemmas.List.{with_items_is}
 use Rattle.vt_grid.proofs.Parts.{shelf_of}
-use Rattle.vt_grid.proofs.Lays.{shelf-with_prefix_of}
+use Rattle.vt_grid.proofs.Lays.{shelf_with_prefix_of}
 use Rattle.vt_grid.specs.Ring.{RowSlot}
 use Rattle.vt_cells.specs.declared.cell.Cell.{Cell}
 use Rattle.vt_grid.proofs.rows.row.Row.cover.Goals as goal
@@ -22,7 +22,7 @@ returns-then-stored-count c =
     c.cover_prefix.ensures
     ∙ (λ i. (first i ++ replicate (count - length (first i)) rest) ++ drop count (c.deref_mut.ensures.value i)) in
     let done =
-    shelf-with_prefix_of count c.self.inside.len c.from.inside.len front c.args.count c.self.inside.rest rest cells over
+    shelf_with_prefix_of count c.self.inside.len c.from.inside.len front c.args.count c.self.inside.rest rest cells over
     new c.args.self.now c.args.from.now (omega arith) (omega arith) c.from.invariant.0 c.self.invariant.0
     (omega (arith, room, c.requires)) new_is c.self.view_is c.from.view_is in
     ap (λ (items : List Cell). shelf_of items c.args.count c.self.inside.rest)
@@ -45,7 +45,7 @@ returns-else-stored-count c =
     c.cover_prefix.ensures
     ∙ (λ i. (first i ++ replicate (count - length (first i)) rest) ++ drop count (c.deref_mut.ensures.value i)) in
     let done =
-    shelf-with_prefix_of count c.self.inside.len c.from.inside.len front c.self.inside.len c.self.inside.rest rest cells over
+    shelf_with_prefix_of count c.self.inside.len c.from.inside.len front c.self.inside.len c.self.inside.rest rest cells over
     new c.args.self.now c.args.from.now (omega arith) (omega arith) c.from.invariant.0 c.self.invariant.0
     (omega (arith, room, c.requires)) new_is c.self.view_is c.from.view_is in
     ap (λ (items : List Cell). shelf_of items c.self.inside.len c.self.inside.rest)

@@ -2,7 +2,7 @@ use Rattle.std.proofs.Common.{◌≡◌, List, replicate, false, refl, subst, sy
 use Rattle.std.proofs.lemmas.Bool.Decides.{nat_tests}
 use Rattle.std.proofs.lemmas.List.Elements.{All-nil, All-replicate}
 use Rattle.vt_cells.specs.Width.{is_half}
-use Rattle.vt_grid.proofs.Naming.{IsNaming-new, rows_by_number-new}
+use Rattle.vt_grid.proofs.Naming.{IsNaming_new, rows_by_number_new}
 use Rattle.vt_grid.specs.StoredRow.{IsNarrowLine, StoredRow, blank_row}
 use Rattle.vt_grid.specs.Ring.{AreNarrow, IsNaming, RowSlot, rows_by_number}
 use Rattle.vt_grid.proofs.rows.store.RowStore.blank.Goals as goal
@@ -20,7 +20,7 @@ pub invariant_of-result : goal.invariant_of-result
 unfolding shelf
 invariant_of-result c = (
   subst (IsNaming c.args.size.rows c.args.size.cols c.in_ok-ring.ring) (sym (rows-is c))
-      (IsNaming-new c.args.size.rows c.args.size.cols c.in_ok-ring.ring (shelf c) c.in_ok-ring.ensures
+      (IsNaming_new c.args.size.rows c.args.size.cols c.in_ok-ring.ring (shelf c) c.in_ok-ring.ensures
       refl (omega arith)),
   λ is.
       let one : is_half c.args.c ≡ false = grind (arith, nat_tests) in
@@ -34,4 +34,4 @@ unfolding shelf
 returns c =
     ap (λ (lines : List StoredRow). record { rows = c.args.size.rows; cols = c.args.size.cols; lines = lines })
     (ap (λ (rows : List RowSlot). rows_by_number rows c.in_ok-ring.ring) (rows-is c)
-    ∙ rows_by_number-new c.args.size.rows c.in_ok-ring.ring (shelf c) c.in_ok-ring.ensures)
+    ∙ rows_by_number_new c.args.size.rows c.in_ok-ring.ring (shelf c) c.in_ok-ring.ensures)

@@ -1,7 +1,7 @@
 use Rattle.std.proofs.Common.{◌≡◌, ℕ, ◌+◌, ◌≤◌, List, length, take, drop, sym, ap, ◌∙◌, subst, arith}
 use Rattle.std.proofs.lemmas.List.{with_items_is}
 use Rattle.vt_grid.proofs.Clears.{cleared_one, clears, length-cut_all}
-use Rattle.vt_grid.proofs.Narrow.{cut_all-narrow}
+use Rattle.vt_grid.proofs.Narrow.{cut_all_narrow}
 use Rattle.vt_grid.specs.StoredRow.{StoredRow, blank_row}
 use Rattle.vt_grid.specs.Ring.{AreNarrow, IsNaming, RowSlot, cut_all, rows_by_number}
 use Rattle.vt_grid.specs.Store.{Store, with_run_of}
@@ -34,7 +34,7 @@ invariant_of-self g c =
           (clears rows cols order kept c.self.invariant.0 c.args.c c.args.from c.args.count within).0,
       (λ is.
           subst AreNarrow now
-          (cut_all-narrow part c.args.c kept (c.stays_narrow-self-inside.ensures.one is)
+          (cut_all_narrow part c.args.c kept (c.stays_narrow-self-inside.ensures.one is)
           (c.self.invariant.1 (c.stays_narrow-self-inside.ensures.before is)))),
     )
 

@@ -2,9 +2,9 @@ use Rattle.std.proofs.Common.{◌≡◌, ℕ, List, length, map, false, subst, s
 use Rattle.std.proofs.lemmas.Bool.Decides.{nat_tests}
 use Rattle.std.proofs.lemmas.List.{length-map, with_items_is}
 use Rattle.vt_cells.specs.Width.{is_half}
-use Rattle.vt_grid.proofs.Clears.{IsNaming-blank, rows_by_number-blank}
-use Rattle.vt_grid.proofs.Narrow.{blank-narrow}
-use Rattle.vt_grid.proofs.Shown.{shown-blank_store}
+use Rattle.vt_grid.proofs.Clears.{IsNaming_blank, rows_by_number_blank}
+use Rattle.vt_grid.proofs.Narrow.{blank_narrow}
+use Rattle.vt_grid.proofs.Shown.{shown_blank_store}
 use Rattle.vt_grid.specs.Grid.{GridView, filled_grid}
 use Rattle.vt_grid.specs.StoredRow.{StoredRow}
 use Rattle.vt_grid.specs.Ring.{AreNarrow, IsNaming, RowSlot, blank_slot, rows_by_number}
@@ -21,10 +21,10 @@ invariant_of-self c =
     (ap length new ∙ length-map kept (blank_slot c.args.c) ∙ omega arith)
     ∙ new in (
       subst (IsNaming c.self.inside.size.rows c.self.inside.size.cols c.self.inside.ring) (sym now)
-          (IsNaming-blank _ _ c.self.inside.ring kept c.self.invariant.0 c.args.c),
+          (IsNaming_blank _ _ c.self.inside.ring kept c.self.invariant.0 c.args.c),
       (λ is.
           let one : is_half c.args.c ≡ false = grind (arith, nat_tests) in
-          subst AreNarrow (sym now) (blank-narrow c.args.c kept one)),
+          subst AreNarrow (sym now) (blank_narrow c.args.c kept one)),
     )
 
 pub returns : goal.returns
@@ -41,6 +41,6 @@ returns c =
     ∙ new in
     ap (λ (lines : List StoredRow). grid_view (record { rows = rows; cols = cols; lines = lines }))
     (ap (λ (slots : List RowSlot). rows_by_number slots order) now
-    ∙ rows_by_number-blank rows cols order kept c.self.invariant.0 c.args.c)
-    ∙ shown-blank_store rows cols c.args.c
+    ∙ rows_by_number_blank rows cols order kept c.self.invariant.0 c.args.c)
+    ∙ shown_blank_store rows cols c.args.c
     ∙ ap (λ (s : Store). filled_grid s.rows s.cols c.args.c) c.self.view_is

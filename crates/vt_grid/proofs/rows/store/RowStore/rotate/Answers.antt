@@ -1,6 +1,6 @@
 use Rattle.std.proofs.Common.{arith, ℕ, map, ap, subst, ◌∙◌, sym}
 use Rattle.std.specs.List.Sorted.{IsPermutation}
-use Rattle.vt_grid.proofs.Naming.{IsNaming-moved}
+use Rattle.vt_grid.proofs.Naming.{IsNaming_moved}
 use Rattle.vt_grid.proofs.Turns.{IsPermutation-part_turned, map-part_turned}
 use Rattle.vt_grid.specs.StoredRow.{StoredRow}
 use Rattle.vt_grid.specs.Ring.{slot_at}
@@ -9,7 +9,7 @@ use Rattle.vt_grid.proofs.rows.store.RowStore.rotate.Goals as goal
 
 pub invariant_of-self : goal.invariant_of-self
 invariant_of-self g c = (
-  IsNaming-moved _ _ c.self.inside.ring c.self.inside.rows.items c.self.invariant.0 c.rotate.new.self
+  IsNaming_moved _ _ c.self.inside.ring c.self.inside.rows.items c.self.invariant.0 c.rotate.new.self
       (subst (IsPermutation c.self.inside.ring) (sym c.rotate.ensures.numbers)
       (IsPermutation-part_turned c.args.top c.args.bottom c.args.n c.self.inside.ring (omega arith) (omega (arith, c.self.invariant.0.numbers, ap (λ (s : Store). s.rows) c.self.view_is)))),
   c.self.invariant.1,

@@ -1,5 +1,5 @@
 use Rattle.std.proofs.Common.{◌≡◌, ◌+◌, ◌-◌, min, ap, ◌∙◌, arith}
-use Rattle.vt_grid.proofs.Scrolls.{shown-scrolled_down}
+use Rattle.vt_grid.proofs.Scrolls.{shown_scrolled_down}
 use Rattle.vt_grid.specs.StoredRow.{blank_row}
 use Rattle.vt_grid.specs.Store.{with_run_of, part_turned, grid_view}
 use Rattle.vt_grid.proofs.rows.store.RowStore.scroll_down.Goals as goal
@@ -17,5 +17,5 @@ returns c =
       lines = with_run_of c.args.top count (blank_row c.args.c)
           (part_turned c.args.top c.args.bottom n store.lines);
     }) up)
-    ∙ shown-scrolled_down store c.args.top c.args.bottom c.args.n count c.args.c c.requires.order
+    ∙ shown_scrolled_down store c.args.top c.args.bottom c.args.n count c.args.c c.requires.order
     c.requires.row c.stays_fit.ensures.fit count_is

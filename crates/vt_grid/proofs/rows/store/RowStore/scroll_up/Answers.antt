@@ -1,5 +1,5 @@
 use Rattle.std.proofs.Common.{◌≡◌, ◌+◌, ◌-◌, min, ap, ◌∙◌, arith}
-use Rattle.vt_grid.proofs.Scrolls.{shown-scrolled_up}
+use Rattle.vt_grid.proofs.Scrolls.{shown_scrolled_up}
 use Rattle.vt_grid.specs.Store.{grid_view}
 use Rattle.vt_grid.proofs.rows.store.RowStore.scroll_up.Goals as goal
 
@@ -8,5 +8,5 @@ returns-clause-grid g c =
     let count = c.min-count.result in
     let count_is : count ≡ min c.args.n (c.args.bottom + 1 - c.args.top) = omega arith in
     ap grid_view c.scroll.ensures.rows
-    ∙ shown-scrolled_up c.args.self.now c.args.top c.args.bottom c.args.n count c.args.c
+    ∙ shown_scrolled_up c.args.self.now c.args.top c.args.bottom c.args.n count c.args.c
     c.requires.order c.requires.row c.stays_fit.ensures.fit count_is

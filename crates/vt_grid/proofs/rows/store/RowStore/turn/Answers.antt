@@ -1,6 +1,6 @@
 use Rattle.std.proofs.Common.{ℕ, map, ap, subst, ◌∙◌, sym}
 use Rattle.std.specs.List.Sorted.{IsPermutation}
-use Rattle.vt_grid.proofs.Naming.{IsNaming-moved}
+use Rattle.vt_grid.proofs.Naming.{IsNaming_moved}
 use Rattle.vt_grid.proofs.Turns.{IsPermutation-rotation_by, map-rotation_by}
 use Rattle.vt_grid.specs.StoredRow.{StoredRow}
 use Rattle.vt_grid.specs.Ring.{slot_at}
@@ -9,7 +9,7 @@ use Rattle.vt_grid.proofs.rows.store.RowStore.turn.Goals as goal
 
 pub invariant_of-self : goal.invariant_of-self
 invariant_of-self g c = (
-  IsNaming-moved _ _ c.self.inside.ring c.self.inside.rows.items c.self.invariant.0 c.turn.new.self
+  IsNaming_moved _ _ c.self.inside.ring c.self.inside.rows.items c.self.invariant.0 c.turn.new.self
       (subst (IsPermutation c.self.inside.ring) (sym c.turn.ensures)
       (IsPermutation-rotation_by c.args.n c.self.inside.ring)),
   c.self.invariant.1,
