@@ -97,19 +97,6 @@ fresh_more t bytes b = by_mode t.icanon
     by_mode true = front-more (ends t) most bytes b
     by_mode false = refl
 
--- what is fresh is fresh
-pub fresh_again : (t : Termios) (bytes : List ℕ) → fresh t (fresh t bytes) ≡ fresh t bytes
-fresh_again t bytes = by_mode t.icanon
-  where
-    by_mode : (canonical : Bool)
-        → cond canonical (take most (after_last (ends t) (cond canonical (take most (after_last (ends t) bytes)) []))) []
-        ≡ cond canonical (take most (after_last (ends t) bytes)) []
-    by_mode true =
-        let left : List ℕ = after_last (ends t) bytes in
-        ap (take most) (none-pass (ends t) (take most left) (none-in-front (ends t) most left (none-after (ends t) bytes)))
-        ∙ take_all most (take most left) (omega (arith, length-take most left))
-    by_mode false = refl
-
 -- after an end nothing is
 pub fresh_ended : (t : Termios) (bytes : List ℕ) (b : ℕ) → ends_line (kind t b) ≡ true
     → fresh t (bytes ++ b ∷ []) ≡ []
@@ -118,18 +105,6 @@ fresh_ended t bytes b is = by_mode t.icanon
     by_mode : (canonical : Bool) → cond canonical (take most (after_last (ends t) (bytes ++ b ∷ []))) [] ≡ []
     by_mode true = ap (take most) (last-passes (ends t) bytes b is)
     by_mode false = refl
-
--- without lines nothing is
-pub fresh_raw : (t : Termios) (bytes : List ℕ) → t.icanon ≡ false → fresh t bytes ≡ []
-fresh_raw t bytes raw = cond-false _ _ _ raw
-
--- fresh bytes have no end among them, and are at most so many
-pub fresh_few : (t : Termios) (bytes : List ℕ) → length (fresh t bytes) ≤ most
-fresh_few t bytes = by_mode t.icanon
-  where
-    by_mode : (canonical : Bool) → length (cond canonical (take most (after_last (ends t) bytes)) []) ≤ most
-    by_mode true = omega (arith, length-take most (after_last (ends t) bytes))
-    by_mode false = omega arith
 
 -- of fresh bytes, and a byte more that ends no line: it is added, where there is room
 module _ (t : Termios) (f : List ℕ) (b : ℕ) (canonical : t.icanon ≡ true) (stays : fresh t f ≡ f)

@@ -139,10 +139,6 @@ module _ (sizes bytes : List ℕ) (size count : ℕ) (is : IsLastSize sizes size
       ∙ ap (parts is.before) bytes-before
       ∙ sym (ap but_last all-parts ∙ but_last_of_more (parts is.before the_last.front) the_last.last)
 
-  pub sizes_fewer : length (take count sizes) + 1 ≡ length sizes
-  sizes_fewer =
-      omega (arith, ap length sizes-before, ap length is.whole, length-append is.before (size ∷ []))
-
   module _ (b : ℕ) where
     pub joined_whole : total (take count sizes ++ (size + 1) ∷ []) ≡ length (bytes ++ b ∷ [])
     joined_whole =

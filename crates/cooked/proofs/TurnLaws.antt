@@ -276,19 +276,3 @@ typed_turn start fd old new turn v u w byte echo reads termios typed given_line 
   met = writes.met;
   free = writes.free;
 }
-
--- a read of none
-pub untyped_turn : (start : WorldState) (fd : ℕ) (old : Typing) (turn : Turn) (v w : PassView) (stopped : Stop)
-    → turn.given ≡ answer.Nothing → turn.stop ≡ Some stopped → ReadsNone start fd v w stopped
-    → Turns start fd old old turn v w
-untyped_turn start fd old turn v w stopped nothing stops reads = record {
-  made = reads.made;
-  is = inr (record {
-    same = refl;
-    nothing = nothing;
-    cause = subst (λ s. Refused fd reads.made s ⊎ MetFull reads.made s) (sym stops) reads.cause;
-  });
-  goes_on = reads.goes_on;
-  met = subst (λ s. Meets s w.stop) (sym stops) reads.met;
-  free = reads.free;
-}

@@ -8,9 +8,9 @@ use vt_cells::columns;
 use vt_chars::{Decoded, decode_all};
 
 /// BEL: nothing comes of the byte.
-pub const BELL: u8 = 0x07;
+pub(crate) const BELL: u8 = 0x07;
 
-pub fn newline(t: &Termios, echo: &mut EchoBytes)
+pub(crate) fn newline(t: &Termios, echo: &mut EchoBytes)
     requires { echo.old ≡ [] }
     ensures { echo.new ≡ newline t.now }
 {
@@ -21,7 +21,7 @@ pub fn newline(t: &Termios, echo: &mut EchoBytes)
 }
 
 /// A control character is shown as `^` and a sign.
-pub fn caret(b: u8, echo: &mut EchoBytes)
+pub(crate) fn caret(b: u8, echo: &mut EchoBytes)
     requires { echo.old ≡ [] }
     ensures { echo.new ≡ caret b }
 {
@@ -30,7 +30,7 @@ pub fn caret(b: u8, echo: &mut EchoBytes)
 }
 
 /// Data as it is shown.
-pub fn data_echo(t: &Termios, b: u8, echo: &mut EchoBytes)
+pub(crate) fn data_echo(t: &Termios, b: u8, echo: &mut EchoBytes)
     requires { echo.old ≡ [] }
     ensures { echo.new ≡ data_echo t.now b }
 {
@@ -44,7 +44,7 @@ pub fn data_echo(t: &Termios, b: u8, echo: &mut EchoBytes)
 }
 
 /// Goes back over columns and wipes them.
-pub fn erase_echo(columns: u8, echo: &mut EchoBytes)
+pub(crate) fn erase_echo(columns: u8, echo: &mut EchoBytes)
     requires empty { echo.old ≡ [] }
     requires few { columns ≤ 2 }
     ensures { echo.new ≡ erase_echo columns }
@@ -67,7 +67,7 @@ fn wipe_one(echo: &mut EchoBytes)
 }
 
 /// The columns that an erase of this character takes.
-pub fn columns_of(character: &[u8]) -> u8
+pub(crate) fn columns_of(character: &[u8]) -> u8
     ensures value { result ≡ columns_of character.now }
     ensures bound { result ≤ 2 }
 {

@@ -10,12 +10,12 @@ use vt_base::{Bytes, NoMemory};
 use vt_chars::{Decoded, decode};
 
 /// The bytes of a full line with its end.
-pub const LINE_BYTES: usize = 4_096;
+pub(crate) const LINE_BYTES: usize = 4_096;
 
 /// The characters that erases left: their bytes, and the size of each. An erase takes the last size,
 /// and so never cuts the bytes anew.
 #[derive(Drop)]
-pub struct KeptText {
+pub(crate) struct KeptText {
     bytes: Bytes,
     sizes: Bytes,
 }
@@ -33,7 +33,7 @@ impl Model for KeptText {
 
 impl KeptText {
     /// No characters, and room for a full line.
-    pub fn new(alloc: Global) -> Result<KeptText, NoMemory>
+    pub(crate) fn new(alloc: Global) -> Result<KeptText, NoMemory>
         ensures { IfOk result (λ k. k ≡ []) }
     {
         let bytes = Bytes::with_room(alloc, LINE_BYTES)?;
@@ -42,14 +42,14 @@ impl KeptText {
     }
 
     /// The bytes in order.
-    pub fn as_slice(&self) -> &[u8]
+    pub(crate) fn as_slice(&self) -> &[u8]
         ensures { result.now ≡ concat self.now }
     {
         self.bytes.as_slice()
     }
 
     /// The last character: no byte, where there is none.
-    pub fn last(&self) -> &[u8]
+    pub(crate) fn last(&self) -> &[u8]
         ensures { result.now ≡ last_of self.now }
     {
         let bytes = self.bytes.as_slice();
@@ -60,7 +60,7 @@ impl KeptText {
     }
 
     /// Whether `b` goes on with the last character.
-    pub fn joins(&self, b: u8) -> bool
+    pub(crate) fn joins(&self, b: u8) -> bool
         ensures { result ≡ is_part (last_of self.now ++ b ∷ []) }
     {
         match decode(self.last(), b) {
@@ -71,7 +71,7 @@ impl KeptText {
     }
 
     /// Adds a byte: to the last character, or as one of its own.
-    pub fn put(&mut self, joins: bool, b: u8)
+    pub(crate) fn put(&mut self, joins: bool, b: u8)
         requires bytes { length (concat self.old) < 4096 }
         requires characters { length self.old < 4096 }
         requires few { joins ≡ true → length (last_of self.old) < 4 }
@@ -110,7 +110,7 @@ impl KeptText {
     }
 
     /// Drops the last character, if there is one.
-    pub fn drop_last(&mut self)
+    pub(crate) fn drop_last(&mut self)
         ensures { self.new ≡ but_last self.old }
     {
         if let Some((size, before)) = last_size(self.sizes.as_slice()) {
@@ -121,7 +121,7 @@ impl KeptText {
     }
 
     /// Drops all characters.
-    pub fn clear(&mut self)
+    pub(crate) fn clear(&mut self)
         ensures { self.new ≡ [] }
     {
         self.sizes.truncate(0);
@@ -129,7 +129,7 @@ impl KeptText {
     }
 
     /// Gives the bytes to `line`, in place of what it holds. Nothing is copied.
-    pub fn give(&mut self, line: &mut Bytes)
+    pub(crate) fn give(&mut self, line: &mut Bytes)
         requires { length line.old.bytes + line.old.room ≡ 4096 }
         ensures kept { self.new ≡ [] }
         ensures line { line.new.bytes ≡ concat self.old }

@@ -26,7 +26,7 @@ const LIMITS: Limits = Limits {
 };
 
 /// What both processes make of this console. It is the one that picks the name of the world for the proofs.
-pub fn shared<R: Threads + Wait + Sync>(
+pub(crate) fn shared<R: Threads + Wait + Sync>(
     rt: &R,
     alloc: Global,
     world: World,

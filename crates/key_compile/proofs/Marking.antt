@@ -38,16 +38,6 @@ marked_none names lines marks e = record {
   each = λ t h. ap (λ ms. slice_index_or ms t false) e ∙ get_or-replicate 256 t false false h;
 }
 
-pub marked_more : (base : ℕ → Bool) (names : ℕ → Telling → Bool) (lines : List KeymapLine) (marks new : List Bool) (i : ℕ) (d : KeymapLine) → IsSetOf marks (λ t. base t || list_any (λ l. names t l.telling) (take i lines)) → i < length lines → length new ≡ 256 → ((t : ℕ) → t < 256 → slice_index_or new t false ≡ (slice_index_or marks t false || names t (get_or lines i d).telling)) → IsSetOf new (λ t. base t || list_any (λ l. names t l.telling) (take (i + 1) lines))
-marked_more base names lines marks new i d so_far h full each = record {
-  full = full;
-  each = λ t k.
-      each t k
-      ∙ ap (λ b. b || names t (get_or lines i d).telling) (so_far.each t k)
-      ∙ sym (or_assoc (base t) (list_any (λ l. names t l.telling) (take i lines)) (names t (get_or lines i d).telling))
-      ∙ ap (λ b. base t || b) (sym (any_more (λ (l : KeymapLine). names t l.telling) lines i d h));
-}
-
 pub passing_below_none : (test : ℕ → Bool) → passing_below test 0 ≡ []
 unfolding passing_below
 passing_below_none test = refl

@@ -10,7 +10,7 @@ use key_tables::KeyTables;
 use key_text::{Line, LineKind};
 
 /// Sets what the lines give, one behind another.
-pub fn put_lines(tables: &mut KeyTables, union: &[u8], lines: &[Line])
+pub(crate) fn put_lines(tables: &mut KeyTables, union: &[u8], lines: &[Line])
     requires exist { HasTables union.now tables.old }
     requires own { HaveOwnTables lines.now tables.old }
     requires fit { FitUnion (length union.now) lines.now }

@@ -7,7 +7,7 @@ use key_syms::{Action, kind};
 
 /// What a symbol that stands alone on a key line does in a table.
 #[tactic(auto, unfolding(crate::specs::Fill::filled_action))]
-pub fn filled_action(t: u8, a: Action) -> Action
+pub(crate) fn filled_action(t: u8, a: Action) -> Action
     ensures { result ≡ filled_action t a }
 {
     if !is_letter(a) {
@@ -23,7 +23,7 @@ pub fn filled_action(t: u8, a: Action) -> Action
 }
 
 /// The action of a key that does nothing.
-pub fn hole() -> Action
+pub(crate) fn hole() -> Action
     ensures { result ≡ hole }
 {
     Action {
@@ -39,7 +39,7 @@ fn is_letter(a: Action) -> bool
 }
 
 /// Whether an action is a character, obeying CapsLock or not.
-pub fn is_character_act(a: Action) -> bool
+pub(crate) fn is_character_act(a: Action) -> bool
     ensures { result ≡ is_character_act a }
 {
     a.kind == kind::CHARACTER || a.kind == kind::LETTER

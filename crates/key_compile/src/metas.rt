@@ -17,7 +17,7 @@ const PLAIN_TABLES: u8 = 8;
 const KEYCODES: u16 = 256;
 
 /// Whether a line is `alt_is_meta`.
-pub fn has_alt_is_meta(lines: &[Line]) -> bool
+pub(crate) fn has_alt_is_meta(lines: &[Line]) -> bool
     ensures { result ≡ list_any (λ l. is_alt l.telling) lines.now }
 {
     for i in 0..lines.len() {
@@ -35,7 +35,7 @@ fn is_alt(line: &Line) -> bool
 }
 
 /// Fills the holes of the tables with Alt: each gets the meta of the character below it.
-pub fn put_metas(tables: &mut KeyTables)
+pub(crate) fn put_metas(tables: &mut KeyTables)
     ensures { Puts (metas_below tables.old 8) tables.old tables.new }
 {
     for t in 0..PLAIN_TABLES {

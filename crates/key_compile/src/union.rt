@@ -10,7 +10,7 @@ const TABLE_COUNT: usize = 256;
 
 /// For each table whether it is in the union.
 #[tactic(auto, unfolding(crate::specs::Union::in_union))]
-pub fn union_marks(alloc: Global, lines: &[Line]) -> Result<Vec<bool>, AllocError>
+pub(crate) fn union_marks(alloc: Global, lines: &[Line]) -> Result<Vec<bool>, AllocError>
     ensures { IfOk result (λ marks. IsSetOf marks.items (in_union lines.now)) }
 {
     if has_keymaps(lines) {
@@ -97,7 +97,7 @@ fn is_usual_table(t: usize) -> bool
 
 /// For each table whether it is declared. `union` says it of the union.
 #[tactic(auto, unfolding(crate::specs::Union::is_declared))]
-pub fn declared_marks(
+pub(crate) fn declared_marks(
     alloc: Global,
     lines: &[Line],
     union: &[bool],
@@ -126,7 +126,7 @@ fn mark_modified(marks: &mut Vec<bool>, line: &Line)
 }
 
 /// The tables that are marked, in rising order.
-pub fn marked_tables(alloc: Global, marks: &[bool]) -> Result<Vec<u8>, AllocError>
+pub(crate) fn marked_tables(alloc: Global, marks: &[bool]) -> Result<Vec<u8>, AllocError>
     requires { length marks.now ≡ 256 }
     ensures { IfOk result (λ tables. tables.items
         ≡ passing_below (λ t. slice_index_or marks.now t false) 256) }

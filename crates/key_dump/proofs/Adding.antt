@@ -214,10 +214,3 @@ entries_all k t c start after whole low exists all e =
     by_map : (m : Option (List Act)) → is_some m ≡ true → IfSome m IsMap → after ≡ start ++ flat_map row_text (rows_from (entry_rows t) 0 (take c (unwrap_or m []))) → after ≡ start ++ flat_map row_text (table_rows t m)
     by_map None e is text = absurd (false≢true e)
     by_map (Some map) e is text = rows_all row_text (entry_rows t) map c start after (let full = is.full in omega (arith, full, all)) text
-
-pub no_entries : (k : Tables) (t : ℕ) (start : List ℕ) → exists_in k t ≡ false → start ≡ start ++ flat_map row_text (table_rows t (map_of k t))
-no_entries k t start e = by_map (map_of k t) e
-  where
-    by_map : (m : Option (List Act)) → is_some m ≡ false → start ≡ start ++ flat_map row_text (table_rows t m)
-    by_map None e = sym (append-nil start)
-    by_map (Some map) e = absurd (false≢true (sym e))

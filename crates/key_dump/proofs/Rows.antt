@@ -23,9 +23,6 @@ string_text i text name e =
     ∙ ap (λ rest. codes "string " ++ (name_text (act FUNCTION i) ++ (codes " = \"" ++ rest))) (sym (append_assoc (flat_map escape_of text) (codes "\"") (codes "\n")))
     ∙ ap (λ rest. codes "string " ++ rest) (sym (append_assoc (name_text (act FUNCTION i)) (codes " = " ++ quoted_text text) (codes "\n")))
 
-pub plain_words : (t : ℕ) → (t == 0) ≡ true → codes "plain " ≡ blank_after_each (modifier_words t)
-plain_words t e = rw e refl
-
 pub weighed_words : (t : ℕ) → (t == 0) ≡ false → cond (t / 1 % 2 == 1) (codes "shift ") [] ++ (cond (t / 2 % 2 == 1) (codes "altgr ") [] ++ (cond (t / 4 % 2 == 1) (codes "control ") [] ++ (cond (t / 8 % 2 == 1) (codes "alt ") [] ++ (cond (t / 16 % 2 == 1) (codes "shiftl ") [] ++ (cond (t / 32 % 2 == 1) (codes "shiftr ") [] ++ (cond (t / 64 % 2 == 1) (codes "ctrll ") [] ++ (cond (t / 128 % 2 == 1) (codes "ctrlr ") []))))))) ≡ blank_after_each (modifier_words t)
 weighed_words t e =
     rw e

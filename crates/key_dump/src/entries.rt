@@ -16,7 +16,12 @@ use vt_base::{Bytes, NoMemory};
 const KEYCODES: u16 = 256;
 
 /// Adds the rows of a table, where it exists.
-pub fn add_table(alloc: Global, text: &mut Bytes, tables: &KeyTables, t: u8) -> Result<(), NoMemory>
+pub(crate) fn add_table(
+    alloc: Global,
+    text: &mut Bytes,
+    tables: &KeyTables,
+    t: u8,
+) -> Result<(), NoMemory>
     ensures { OnOk result (text.new.bytes
         ≡ text.old.bytes ++ flat_map row_text (table_rows t (map_of tables.now t))) }
 {

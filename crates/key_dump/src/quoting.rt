@@ -8,7 +8,12 @@ use std::alloc::Global;
 use vt_base::{Bytes, NoMemory};
 
 /// Adds the row of the string of a function key, where it isn't empty.
-pub fn add_string(alloc: Global, text: &mut Bytes, i: u8, string: &[u8]) -> Result<(), NoMemory>
+pub(crate) fn add_string(
+    alloc: Global,
+    text: &mut Bytes,
+    i: u8,
+    string: &[u8],
+) -> Result<(), NoMemory>
     ensures { OnOk result (text.new.bytes
         ≡ text.old.bytes ++ flat_map row_text (string_rows i string.now)) }
 {

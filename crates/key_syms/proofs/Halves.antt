@@ -22,14 +22,6 @@ pub record IsLeft (name : List ℕ) (low high : ℕ) : Type 0 where
   pub below : (rank : ℕ) → rank < low → IsBefore (ranked rank) name
   pub above : (rank : ℕ) → high ≤ rank → rank < NAME_COUNT → IsBefore name (ranked rank)
 
-pub all_left : (name : List ℕ) → IsLeft name 0 NAME_COUNT
-all_left name = record {
-  order = omega arith;
-  bound = omega arith;
-  below = λ rank h. absurd (omega arith);
-  above = λ rank h k. absurd (omega arith);
-}
-
 upto_middle : (name : List ℕ) (middle : ℕ) → middle < NAME_COUNT → IsBefore (ranked middle) name → (rank : ℕ) → rank < middle + 1 → IsBefore (ranked rank) name
 upto_middle name middle h before rank k = elim (cases_lt rank middle) [
   | inl lt ↦ nat_list_cmp_total.trans (ranked rank) (ranked middle) name (ranks_in_order rank middle lt h) before

@@ -107,7 +107,7 @@ fn small(code: Option<u32>) -> Option<u16>
 }
 
 /// The action at a place of the table.
-pub fn action_at(place: usize) -> Action
+pub(crate) fn action_at(place: usize) -> Action
     requires { place < NAME_COUNT }
     ensures { result ≡ act (slice_index KINDS place) (slice_index VALUES place) }
 {

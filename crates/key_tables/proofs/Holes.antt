@@ -13,10 +13,6 @@ use Rattle.key_tables.specs.Kept.{AreKept, maps_at}
 use Rattle.key_tables.specs.Tables.{AreHoles, AreMaps, IsEmpty, IsMap, IsWhole, hole, tables_of}
 use Rattle.key_tables.proofs.Places.{kept_at, kept_maps, map_at}
 
--- the map of a table that is declared or not
-abbrev pub start_map : List ℕ → ℕ → Option (List Act)
-start_map declared t = cond (list_any (λ d. d == t) declared) (Some (replicate 256 hole)) None
-
 holes_at : (c : ℕ) → slice_index_or (replicate 256 hole) c hole ≡ hole
 holes_at c = elim (cases_lt c 256) [
   | inl lt ↦ get_or-replicate 256 c hole hole lt
@@ -41,19 +37,6 @@ pub record AreBegun (declared : List ℕ) (places : List (Option ℕ)) (kept : L
   pub named : (t : ℕ) → t < n → is_some (slice_index_or places t None) ≡ list_any (λ d. d == t) declared
   pub within : (t p : ℕ) → slice_index_or places t None ≡ Some p → p < length kept
   pub own : (t u p : ℕ) → slice_index_or places t None ≡ Some p → slice_index_or places u None ≡ Some p → t ≡ u
-
-pub begun_none : (declared : List ℕ) (places : List (Option ℕ)) (kept : List (List Act)) → places ≡ [] → kept ≡ [] → AreBegun declared places kept 0
-begun_none declared places kept no_places no_tables =
-    subst (λ (xs : List (Option ℕ)). AreBegun declared xs kept 0) (sym no_places)
-    (subst (λ (xs : List (List Act)). AreBegun declared [] xs 0) (sym no_tables)
-    (record {
-      tall = refl;
-      few = omega arith;
-      holes = λ k d h. absurd (omega arith);
-      named = λ t h. absurd (omega arith);
-      within = λ t p e. absurd (none-some _ e);
-      own = λ t u p e f. absurd (none-some _ e);
-    }))
 
 -- a place behind others is one of them or the last
 place_in : (places : List (Option ℕ)) (x : Option ℕ) (t p : ℕ) → slice_index_or (places ++ x ∷ []) t None ≡ Some p → (slice_index_or places t None ≡ Some p) ⊎ ((t ≡ length places) × (x ≡ Some p))
@@ -139,17 +122,6 @@ begun_kept declared places kept is = record {
   within = is.within;
   own = is.own;
 }
-
-pub begun_holes : (declared : List ℕ) (places : List (Option ℕ)) (kept : List (List Act)) → AreBegun declared places kept 256 → AreHoles declared (maps_at places kept)
-begun_holes declared places kept is = record {
-  tall = (kept_maps places kept (begun_kept declared places kept is)).tall;
-  each = λ t h. map_at places kept t ∙ by_place t (slice_index_or places t None) refl (is.named t h);
-}
-  where
-    by_place : (t : ℕ) (o : Option ℕ) → slice_index_or places t None ≡ o → is_some o ≡ list_any (λ d. d == t) declared → option_map (kept_at kept) o ≡ start_map declared t
-    by_place t None e named = ap (λ b. cond b (Some (replicate 256 hole)) None) named
-    by_place t (Some p) e named =
-        ap Some (is.holes p [] (is.within t p e)) ∙ ap (λ b. cond b (Some (replicate 256 hole)) None) named
 
 none_named : (declared : List ℕ) (t : ℕ) → ((i : ℕ) → get_or declared i 0 < 256) → 256 ≤ t → list_any (λ d. d == t) declared ≡ false
 none_named [] t bytes h = refl

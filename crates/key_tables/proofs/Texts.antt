@@ -25,16 +25,6 @@ texts_more text xs i x start before after h e added so_far =
     ∙ sym (texts_from_more text 0 xs i x h)
     ∙ ap (λ n. texts_from text 0 (take n xs)) (let k : suc i ≡ i + 1 = omega arith in k))
 
-flat_texts : {X : Type 0} (f : X → List ℕ) (from : ℕ) (xs : List X) → texts_from (λ _ x. f x) from xs ≡ flat_map f xs
-flat_texts f from [] = refl
-flat_texts f from (x ∷ xs) = ap (λ rest. f x ++ rest) (flat_texts f (suc from) xs)
-
--- one more item whose index doesn't matter
-pub flat_more : {X : Type 0} (f : X → List ℕ) (xs : List X) (i : ℕ) (x : X) (start before after : List ℕ) → i < length xs → x ≡ get_or xs i x → after ≡ before ++ f x → before ≡ start ++ flat_map f (take i xs) → after ≡ start ++ flat_map f (take (i + 1) xs)
-flat_more f xs i x start before after h e added so_far =
-    texts_more (λ _ y. f y) xs i x start before after h e added (so_far ∙ ap (λ rest. start ++ rest) (sym (flat_texts f 0 (take i xs))))
-    ∙ ap (λ rest. start ++ rest) (flat_texts f 0 (take (i + 1) xs))
-
 -- four texts, one behind another
 pub four_more : (start a b c d w x y z : List ℕ) → a ≡ start ++ w → b ≡ a ++ x → c ≡ b ++ y → d ≡ c ++ z → d ≡ start ++ (w ++ (x ++ (y ++ z)))
 four_more start a b c d w x y z p q r s =

@@ -15,7 +15,7 @@ const TABLE_COUNT: u16 = 256;
 
 /// Adds the whole listing.
 #[tactic(auto, using(crate::proofs::Texts::four_more), unfolding(crate::specs::Listing::listing_of))]
-pub fn add_tables(
+pub(crate) fn add_tables(
     alloc: Global,
     text: &mut Bytes,
     maps: &Maps,

@@ -13,7 +13,7 @@ const TABLE_COUNT: usize = 256;
 
 /// The tables by number. Those that are declared are kept alone, each at a place of its own.
 #[derive(Debug, Drop)]
-pub struct Maps {
+pub(crate) struct Maps {
     places: Vec<Option<u8>>,
     kept: Vec<Table>,
 }
@@ -32,7 +32,7 @@ impl Model for Maps {
 
 impl Maps {
     /// Tables of holes for these numbers.
-    pub fn holes(alloc: Global, declared: &[u8]) -> Result<Maps, NoMemory>
+    pub(crate) fn holes(alloc: Global, declared: &[u8]) -> Result<Maps, NoMemory>
         ensures holes { IfOk result (AreHoles declared.now) }
         ensures whole { IfOk result AreMaps }
     {
@@ -45,7 +45,7 @@ impl Maps {
     }
 
     /// The same tables.
-    pub fn copy(&self, alloc: Global) -> Result<Maps, NoMemory>
+    pub(crate) fn copy(&self, alloc: Global) -> Result<Maps, NoMemory>
         ensures { IfOk result (λ copy. copy ≡ self.now) }
     {
         Ok(Maps {
@@ -54,14 +54,14 @@ impl Maps {
         })
     }
 
-    pub fn exists(&self, t: u8) -> bool
+    pub(crate) fn exists(&self, t: u8) -> bool
         ensures value { result ≡ is_some (slice_index_or self.now t None) }
         ensures whole { AreMaps self.now }
     {
         self.places[usize::from(t)].is_some()
     }
 
-    pub fn at(&self, t: u8, c: u8) -> Option<Action>
+    pub(crate) fn at(&self, t: u8, c: u8) -> Option<Action>
         ensures { result
             ≡ option_map (λ map. slice_index_or map c hole) (slice_index_or self.now t None) }
     {
@@ -72,7 +72,7 @@ impl Maps {
     }
 
     /// The actions by code, or none where the table doesn't exist.
-    pub fn entries(&self, t: u8) -> &[Action]
+    pub(crate) fn entries(&self, t: u8) -> &[Action]
         ensures value { result.now ≡ unwrap_or (slice_index_or self.entry.now t None) [] }
         ensures few { length result.now ≤ 256 }
     {
@@ -93,7 +93,7 @@ impl Maps {
     }
 
     /// Sets an action of a table, where the table exists.
-    pub fn put(&mut self, t: u8, c: u8, a: Action)
+    pub(crate) fn put(&mut self, t: u8, c: u8, a: Action)
         requires { c ≢ 0 }
         ensures maps { self.new ≡ slice_set self.old t
             (option_map (λ map. slice_set map c a) (slice_index_or self.old t None)) }

@@ -14,20 +14,12 @@ pub record Parts (from here : Place) (text : List ℕ) : Type 0 where
   pub others : List Row
   pub same : (z : List ℕ) → rows_from from here (text ++ z) ≡ (first ∷ others) ++ rows_of (place_after_text here text) z
 
-and_left : (a b : Bool) → IsTrue (a && b) → a ≡ true
-and_left true b h = refl
-and_left false b h = absurd (false≢true h)
-
 and_right : (a b : Bool) → IsTrue (a && b) → b ≡ true
 and_right true b h = h
 and_right false b h = absurd (false≢true h)
 
 rest_ended : (b c : ℕ) (bs : List ℕ) → IsTrue (is_ended (b ∷ c ∷ bs)) → IsTrue (is_ended (c ∷ bs))
 rest_ended b c bs h = and_right (not (b == backslash && is_line_end (c ∷ bs))) (is_ended (c ∷ bs)) h
-
--- what stands at a byte that goes on doesn't depend on what follows the text
-lf_alone : (b : ℕ) (bs z : List ℕ) → lf_len ((b ∷ bs) ++ z) ≡ lf_len (b ∷ bs)
-lf_alone b bs z = refl
 
 end_alone : (b : ℕ) (bs z : List ℕ) → IsTrue (is_ended (b ∷ bs)) → end_len ((b ∷ bs) ++ z) ≡ end_len (b ∷ bs)
 end_alone b (c ∷ bs) z h = refl
@@ -48,19 +40,11 @@ not_last : (bs : List ℕ) → IsTrue (is_line_end bs) → IsTrue (is_ended (bac
 not_last [] h k = false≢true h
 not_last (c ∷ bs) h k = false≢true (sym (ap (λ t. not t && is_ended (c ∷ bs)) h) ∙ k)
 
--- one byte more before the rows
-item_first : (at : Place) (b : ℕ) (r : Row) (rs left : List Row) → with_item (put_at at b) ((r ∷ rs) ++ left) ≡ (row_of (put_at at b ∷ r.items) r.end ∷ rs) ++ left
-item_first at b r rs left = refl
-
 not_feed_at : (b : ℕ) (bs : List ℕ) → end_len (b ∷ bs) ≡ 0 → (b == line_feed) ≡ false
 not_feed_at b bs h = elim (eqb_tells b line_feed) [
   | inl e ↦ absurd (let one : end_len (b ∷ bs) ≡ 1 = ap (λ t. cond t 1 (cond (b == carriage_return) (lf_len bs + lf_len bs) 0)) e.0 in omega (arith, one, h))
   | inr e ↦ e.0
 ]
-
-some_after : (b : ℕ) (bs : List ℕ) → (b == line_feed) ≡ false → IsTrue (is_ended (b ∷ bs)) → (c : ℕ) × (cs : List ℕ) × (bs ≡ c ∷ cs)
-some_after b [] e h = absurd (false≢true (sym e ∙ h))
-some_after b (c ∷ cs) e h = (c, cs, refl)
 
 -- after a line's end comes nothing, or a text that ends a line
 parts_end : (from here : Place) (bs : List ℕ) → Ends bs → IsTrue (is_ended bs) → ((rest : List ℕ) → suc (length rest) ≤ length bs → IsTrue (is_ended rest) → (at : Place) → Parts at at rest) → Parts from here bs

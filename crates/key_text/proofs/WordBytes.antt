@@ -37,11 +37,6 @@ word_len-bare i =
     ∙ ap (λ n. quoted_len (bares (bytes i)) + n)
     (prefix_bare (drop (quoted_len (bares (bytes i))) i) ∙ ap (prefix_len bare_test) (drop-bare (quoted_len (bares (bytes i))) i))
 
--- bytes of a word without quotes, up to what stands apart
-bares_more : (xs ys : List ℕ) → bares (xs ++ ys) ≡ bares xs ++ bares ys
-bares_more [] ys = refl
-bares_more (x ∷ xs) ys = ap (λ z. bare x ∷ z) (bares_more xs ys)
-
 apart_none : (bs : List ℕ) → IsTrue (is_apart bs) → prefix_len bare_test (bares bs) ≡ 0
 apart_none [] h = refl
 apart_none (b ∷ bs) h = by_bare (is_bare b) refl

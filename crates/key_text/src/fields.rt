@@ -21,7 +21,7 @@ const STRING_BYTES: usize = 255;
 
 /// The row ends: no word is left.
 #[tactic(auto, unfolding(crate::specs::Fields::end_of_line))]
-pub fn end_of_line(alloc: Global, items: &[Placed]) -> Result<(), KeyError>
+pub(crate) fn end_of_line(alloc: Global, items: &[Placed]) -> Result<(), KeyError>
     ensures { Gives (λ x. x) result (end_of_line items.now) }
 {
     match word_at(items) {
@@ -35,7 +35,7 @@ pub fn end_of_line(alloc: Global, items: &[Placed]) -> Result<(), KeyError>
 
 /// This keyword, and what follows it.
 #[tactic(auto, unfolding(crate::specs::Fields::keyword_at))]
-pub fn keyword_at<'a>(
+pub(crate) fn keyword_at<'a>(
     alloc: Global,
     text: &[u8],
     end: Place,
@@ -51,7 +51,12 @@ pub fn keyword_at<'a>(
 }
 
 /// A number of a word, within a range. A greater number may be given as 65,536.
-pub fn number_in_range(low: u32, high: u32, word: &[Placed], n: Option<u32>) -> Result<u8, KeyError>
+pub(crate) fn number_in_range(
+    low: u32,
+    high: u32,
+    word: &[Placed],
+    n: Option<u32>,
+) -> Result<u8, KeyError>
     requires { high ≤ 255 }
     ensures value { (m : Option ℕ) → n ≡ option_map (min 65536) m
         → Gives (λ x. x) result (number_in_range low high word.now m) }
@@ -70,7 +75,11 @@ pub fn number_in_range(low: u32, high: u32, word: &[Placed], n: Option<u32>) -> 
 
 /// A keycode, and what follows it.
 #[tactic(auto, unfolding(crate::specs::Fields::code_at))]
-pub fn code_at(alloc: Global, end: Place, items: &[Placed]) -> Result<(u8, &[Placed]), KeyError>
+pub(crate) fn code_at(
+    alloc: Global,
+    end: Place,
+    items: &[Placed],
+) -> Result<(u8, &[Placed]), KeyError>
     ensures value { Gives (λ x. (x.0, x.1.now)) result (code_at end items.now) }
     ensures key { IfOk result (λ x. 1 ≤ x.0) }
 {
@@ -80,7 +89,7 @@ pub fn code_at(alloc: Global, end: Place, items: &[Placed]) -> Result<(u8, &[Pla
 }
 
 /// The action of a word that is a symbol.
-pub fn action_of(alloc: Global, word: &[Placed]) -> Result<Action, KeyError>
+pub(crate) fn action_of(alloc: Global, word: &[Placed]) -> Result<Action, KeyError>
     ensures { Gives (λ x. x) result (action_of word.now) }
 {
     match named_action(alloc, word)? {
@@ -91,7 +100,11 @@ pub fn action_of(alloc: Global, word: &[Placed]) -> Result<Action, KeyError>
 
 /// The function key that a word names, and what follows it.
 #[tactic(auto, unfolding(crate::specs::Fields::function_at))]
-pub fn function_at(alloc: Global, end: Place, items: &[Placed]) -> Result<(u8, &[Placed]), KeyError>
+pub(crate) fn function_at(
+    alloc: Global,
+    end: Place,
+    items: &[Placed],
+) -> Result<(u8, &[Placed]), KeyError>
     ensures { Gives (λ x. (x.0, x.1.now)) result (function_at end items.now) }
 {
     let (word, rest) = next(alloc, UNKNOWN_SYMBOL, end, items)?;
@@ -111,7 +124,7 @@ fn function_by(word: &[Placed], action: Action) -> Result<u8, KeyError>
 
 /// A quoted text, the place of its word, and what follows it.
 #[tactic(auto, unfolding(crate::specs::Fields::text_at))]
-pub fn text_at(
+pub(crate) fn text_at(
     alloc: Global,
     end: Place,
     items: &[Placed],
@@ -127,7 +140,7 @@ pub fn text_at(
 
 /// A string of a function key, and what follows it.
 #[tactic(auto, unfolding(crate::specs::Fields::string_at))]
-pub fn string_at(
+pub(crate) fn string_at(
     alloc: Global,
     end: Place,
     items: &[Placed],
@@ -196,7 +209,7 @@ fn is_quoted(word: &[Placed]) -> bool
 
 /// A character, and what follows it.
 #[tactic(auto, unfolding(crate::specs::Fields::character_at))]
-pub fn character_at(
+pub(crate) fn character_at(
     alloc: Global,
     end: Place,
     items: &[Placed],

@@ -17,7 +17,7 @@ use std::alloc::Global;
 
 /// What a row says whose first word is this.
 #[tactic(auto, unfolding(crate::specs::Lines::said_from))]
-pub fn statement_from(
+pub(crate) fn statement_from(
     alloc: Global,
     end: Place,
     word: &[Placed],

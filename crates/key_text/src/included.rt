@@ -7,7 +7,7 @@ use std::marker::Model;
 
 /// A text and its name.
 #[derive(Drop)]
-pub struct Included {
+pub(crate) struct Included {
     name: Vec<u8>,
     text: Vec<u8>,
 }
@@ -21,7 +21,7 @@ impl Model for Included {
 }
 
 impl Included {
-    pub fn new(alloc: Global, name: &[u8], text: &[u8]) -> Result<Included, AllocError>
+    pub(crate) fn new(alloc: Global, name: &[u8], text: &[u8]) -> Result<Included, AllocError>
         ensures { IfOk result (λ i. i ≡ make_named name.now text.now) }
     {
         Ok(Included {
@@ -30,13 +30,13 @@ impl Included {
         })
     }
 
-    pub fn has_name(&self, name: &[u8]) -> bool
+    pub(crate) fn has_name(&self, name: &[u8]) -> bool
         ensures { result ≡ bytes_eq self.now.name name.now }
     {
         self.name.as_slice() == name
     }
 
-    pub fn text(&self) -> &[u8]
+    pub(crate) fn text(&self) -> &[u8]
         ensures { result.now ≡ self.now.text }
     {
         self.text.as_slice()

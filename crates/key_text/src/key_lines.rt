@@ -17,7 +17,7 @@ use std::alloc::Global;
 
 /// `keycode N =` and symbols.
 #[tactic(auto, unfolding(crate::specs::Lines::keys_line, crate::specs::Fields::symbol_at))]
-pub fn keys_line(alloc: Global, end: Place, items: &[Placed]) -> Result<Statement, KeyError>
+pub(crate) fn keys_line(alloc: Global, end: Place, items: &[Placed]) -> Result<Statement, KeyError>
     ensures value { Gives statement_view result (keys_line end items.now) }
     ensures fit { IfOk result (λ s. IsTrue (is_fit_said (statement_view s))) }
 {
@@ -52,7 +52,7 @@ fn symbols(alloc: Global, first: Action, items: &[Placed]) -> Result<Syms, KeyEr
 
 /// Modifier words, of which the first weighs this, before `keycode N =` and one symbol.
 #[tactic(auto, unfolding(crate::specs::Lines::modified_line, crate::specs::Fields::symbol_at))]
-pub fn modified_line(
+pub(crate) fn modified_line(
     alloc: Global,
     weight: u8,
     end: Place,
@@ -116,7 +116,7 @@ fn keycode_by<'a>(
 
 /// The weight of a modifier word: 2 to its number, as key_syms has it, and 0 for `plain`.
 #[tactic(auto, unfolding(crate::specs::Lines::weight_of))]
-pub fn weight_of(word: &[Placed]) -> Option<u8>
+pub(crate) fn weight_of(word: &[Placed]) -> Option<u8>
     ensures { result ≡ weight_of word.now }
 {
     if is_word(b"plain", word) {

@@ -28,7 +28,11 @@ pub struct TableRange {
 
 /// `keymaps` and ranges.
 #[tactic(auto, unfolding(crate::specs::Lines::keymaps_line))]
-pub fn keymaps_line(alloc: Global, end: Place, items: &[Placed]) -> Result<Statement, KeyError>
+pub(crate) fn keymaps_line(
+    alloc: Global,
+    end: Place,
+    items: &[Placed],
+) -> Result<Statement, KeyError>
     ensures value { Gives statement_view result (keymaps_line end items.now) }
     ensures fit { IfOk result (λ s. IsTrue (is_fit_said (statement_view s))) }
 {

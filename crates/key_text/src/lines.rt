@@ -17,7 +17,11 @@ use vt_base::{Bytes, NoMemory};
 
 /// `string NAME = "text"`.
 #[tactic(auto, unfolding(crate::specs::Lines::string_line))]
-pub fn string_line(alloc: Global, end: Place, items: &[Placed]) -> Result<Statement, KeyError>
+pub(crate) fn string_line(
+    alloc: Global,
+    end: Place,
+    items: &[Placed],
+) -> Result<Statement, KeyError>
     ensures value { Gives statement_view result (string_line end items.now) }
     ensures fit { IfOk result (λ s. IsTrue (is_fit_said (statement_view s))) }
 {
@@ -31,7 +35,11 @@ pub fn string_line(alloc: Global, end: Place, items: &[Placed]) -> Result<Statem
 
 /// `compose A B to C`, or `compose as usual`.
 #[tactic(auto, unfolding(crate::specs::Lines::compose_line))]
-pub fn compose_line(alloc: Global, end: Place, items: &[Placed]) -> Result<Statement, KeyError>
+pub(crate) fn compose_line(
+    alloc: Global,
+    end: Place,
+    items: &[Placed],
+) -> Result<Statement, KeyError>
     ensures value { Gives statement_view result (compose_line end items.now) }
     ensures fit { IfOk result (λ s. IsTrue (is_fit_said (statement_view s))) }
 {
@@ -96,7 +104,7 @@ fn is_next(text: &[u8], items: &[Placed]) -> bool
 
 /// `strings as usual`.
 #[tactic(auto, unfolding(crate::specs::Lines::usual_strings_line))]
-pub fn usual_strings_line(
+pub(crate) fn usual_strings_line(
     alloc: Global,
     end: Place,
     items: &[Placed],
@@ -112,7 +120,7 @@ pub fn usual_strings_line(
 
 /// `alt_is_meta`.
 #[tactic(auto, unfolding(crate::specs::Lines::alt_is_meta_line))]
-pub fn alt_is_meta_line(alloc: Global, items: &[Placed]) -> Result<Statement, KeyError>
+pub(crate) fn alt_is_meta_line(alloc: Global, items: &[Placed]) -> Result<Statement, KeyError>
     ensures value { Gives statement_view result (alt_is_meta_line items.now) }
     ensures fit { IfOk result (λ s. IsTrue (is_fit_said (statement_view s))) }
 {
@@ -122,7 +130,11 @@ pub fn alt_is_meta_line(alloc: Global, items: &[Placed]) -> Result<Statement, Ke
 
 /// `include "name"`.
 #[tactic(auto, unfolding(crate::specs::Lines::include_line))]
-pub fn include_line(alloc: Global, end: Place, items: &[Placed]) -> Result<Statement, KeyError>
+pub(crate) fn include_line(
+    alloc: Global,
+    end: Place,
+    items: &[Placed],
+) -> Result<Statement, KeyError>
     ensures value { Gives statement_view result (include_line end items.now) }
     ensures fit { IfOk result (λ s. IsTrue (is_fit_said (statement_view s))) }
 {
@@ -144,7 +156,11 @@ fn end_fault(alloc: Global, items: &[Placed]) -> Result<Option<KeyFault>, NoMemo
 
 /// `charset "name"`, which has no effect.
 #[tactic(auto, unfolding(crate::specs::Lines::charset_line))]
-pub fn charset_line(alloc: Global, end: Place, items: &[Placed]) -> Result<Statement, KeyError>
+pub(crate) fn charset_line(
+    alloc: Global,
+    end: Place,
+    items: &[Placed],
+) -> Result<Statement, KeyError>
     ensures value { Gives statement_view result (charset_line end items.now) }
     ensures fit { IfOk result (λ s. IsTrue (is_fit_said (statement_view s))) }
 {

@@ -8,7 +8,7 @@ use vt_base::NoMemory;
 /// What is told of a row beside its bytes: the place behind the last one, and where the next row
 /// starts, if there is one.
 #[derive(Clone, Copy)]
-pub struct LogicalLine {
+pub(crate) struct LogicalLine {
     pub end: Place,
     pub more: bool,
     pub at: usize,
@@ -17,7 +17,7 @@ pub struct LogicalLine {
 
 /// Reads a row into `items`, in place of what they hold: its bytes without the joins. `at` is where
 /// it starts in the text, and `place` is the place there.
-pub fn next_row(
+pub(crate) fn next_row(
     text: &[u8],
     at: usize,
     place: Place,

@@ -17,7 +17,7 @@ struct Escape {
 
 /// What a word in double quotes stands for.
 #[tactic(auto, unfolding(crate::specs::Quoted::text_of))]
-pub fn text_of(alloc: Global, word: &[Placed]) -> Result<Option<Vec<u8>>, AllocError>
+pub(crate) fn text_of(alloc: Global, word: &[Placed]) -> Result<Option<Vec<u8>>, AllocError>
     ensures { IfOk result (λ text. option_map (λ v. v.items) text ≡ text_of word.now) }
 {
     match text_between(alloc, b'"', word)? {
@@ -28,7 +28,7 @@ pub fn text_of(alloc: Global, word: &[Placed]) -> Result<Option<Vec<u8>>, AllocE
 
 /// The character that a word in single quotes stands for.
 #[tactic(auto, unfolding(crate::specs::Quoted::character_of))]
-pub fn character_of(alloc: Global, word: &[Placed]) -> Result<Option<u32>, AllocError>
+pub(crate) fn character_of(alloc: Global, word: &[Placed]) -> Result<Option<u32>, AllocError>
     ensures { IfOk result (λ code. code ≡ character_of word.now) }
 {
     match text_between(alloc, b'\'', word)? {

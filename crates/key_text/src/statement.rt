@@ -4,7 +4,7 @@ use crate::placed::Place;
 
 /// What a row says.
 #[derive(Drop)]
-pub enum Statement {
+pub(crate) enum Statement {
     /// Nothing: it has no word, or no effect.
     Nothing,
     /// A line.

@@ -8,7 +8,7 @@ const CALLER_PLACES: usize = 68;
 
 /// How many calls each caller made.
 #[derive(Drop)]
-pub struct Counts {
+pub(crate) struct Counts {
     places: [u32; CALLER_PLACES],
 }
 
@@ -22,7 +22,7 @@ impl Model for Counts {
 
 impl Counts {
     /// No calls yet.
-    pub fn new() -> Counts
+    pub(crate) fn new() -> Counts
         ensures { result ≡ replicate 68 0 }
     {
         Counts {
@@ -31,14 +31,14 @@ impl Counts {
     }
 
     /// How many calls the caller made.
-    pub fn of(&self, caller: CallerNo) -> u32
+    pub(crate) fn of(&self, caller: CallerNo) -> u32
         ensures { result ≡ slice_index self.now caller }
     {
         self.places[usize::from(caller.get())]
     }
 
     /// The caller made one call more. The greatest count stands still.
-    pub fn add(&mut self, caller: CallerNo)
+    pub(crate) fn add(&mut self, caller: CallerNo)
         ensures { self.new ≡ slice_set self.old caller
             (min (slice_index self.old caller + 1) (2 ^ 32 - 1)) }
     {

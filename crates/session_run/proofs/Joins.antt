@@ -71,24 +71,6 @@ fresh_more here callers n p s passes is split fresh many i x within read = ⊎_e
     }))
     (cases_lt i (length passes))
 
--- none was taken in yet
-pub home_start : (programs : List Program) (here : TableId) (callers : List ℕ) (s : StewardView)
-    → callers ≡ callers_in programs → IsSplit here callers (length callers) s → AreHome programs here 0 s
-home_start programs here callers s same given =
-    let split : IsSplit here (callers_in programs) (length (callers_in programs)) s =
-    subst (λ cs. IsSplit here cs (length cs) s) same given in
-    record {
-      own = split.own;
-      size = split.size;
-      home = λ k low. absurd (none_below k low);
-      rest = split.rest;
-      ran = λ place x is. absurd (none-some x (sym (ap (λ joined. slice_get joined place) split.none_home) ∙ is));
-      each = λ k low. absurd (none_below k low);
-    }
-  where
-    none_below : (k : ℕ) → k < 0 → ⊥
-    none_below k low = omega (arith, low)
-
 -- what was taken in and then one pass more
 at_either : (q : PassView) (joined : List PassView) (place : ℕ) (x : PassView)
     → slice_get (q ∷ joined) place ≡ Some x

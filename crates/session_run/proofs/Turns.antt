@@ -36,14 +36,6 @@ now_is o t view p e next_is shut at =
     sym (ap (λ w. is_waiting w p) at.replayed) ∙ shut in
     next_is ∙ ap (λ b. if b then None else next_by o.programs p t.history) (sym waits)
 
--- a waiting caller can make none
-pub none_now : (o : Setup) (t : Played) (view : PlayerView) (p : ℕ)
-    → is_open (caller_at view.world.callers p).waiting ≡ true → IsAt o t view
-    → None ≡ call_now o t.history p
-none_now o t view p open_one at =
-    ap (λ b. if b then None else next_by o.programs p t.history)
-    (sym (sym (ap (λ w. is_waiting w p) at.replayed) ∙ open_one))
-
 -- and who has no program
 none_of : (waits : Bool) → ◌≡◌ {A = Option Event} (if waits then None else None) None
 none_of true = refl
@@ -56,11 +48,6 @@ turn_nobody o p history None none =
     ap (λ e. calls o p e history)
     (ap (λ found. if is_waiting (replay o.start history) p then None else next_of found (calls_by p history)) none
     ∙ none_of (is_waiting (replay o.start history) p))
-
-pub turn-nobody : (o : Setup) (t : Played) (p : ℕ) (view : PlayerView) → program_of o.programs p ≡ None
-    → IsAt o t view → IsAt o (turn o p t) view
-turn-nobody o t p view none at =
-    subst (λ x. IsAt o x view) (sym (turn_nobody o p t.history t.stop none)) at
 
 -- so a round is as good without them
 found_none : (found : Option Program) → is_some found ≡ false → found ≡ None
@@ -151,14 +138,6 @@ turn_skips o t p view going none at =
     let stop : t.stop ≡ None = sym at.stop ∙ going in
     let same : t ≡ turn o p t =
     (λ i. record { history = t.history; stop = stop i }) ∙ sym (turn-calls o t p None stop (sym none)) in
-    subst (λ x. IsAt o x view) same at
-
-pub turn_stopped : (o : Setup) (t : Played) (p : ℕ) (view : PlayerView) → is_some view.stop ≡ true
-    → IsAt o t view → IsAt o (turn o p t) view
-turn_stopped o t p view stopped at =
-    let same : t ≡ turn o p t =
-    ap (λ b. if b then t else calls o p (call_now o t.history p) t.history)
-    (sym (sym (ap is_some at.stop) ∙ stopped)) in
     subst (λ x. IsAt o x view) same at
 
 -- where there is room, the call is entered

@@ -11,7 +11,7 @@ use table_fields::{TableError, at, keymap, scan_bytes, text, texts};
 use toml::Table;
 
 /// The keymap and the scan bytes of a session's table.
-pub fn keyboard(alloc: Global, table: &Table) -> Result<SessionKeyboard, TableError>
+pub(crate) fn keyboard(alloc: Global, table: &Table) -> Result<SessionKeyboard, TableError>
     ensures keyboard { GivesBy IsKeyboardOf result (typed_of (table_view table.now)) }
     ensures few { IfOk result (λ k. length k.keys.bytes ≤ most_scan_bytes) }
 {

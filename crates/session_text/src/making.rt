@@ -11,7 +11,7 @@ use vt_journal::Limits;
 use vt_procs::Config;
 
 /// The session of the parts.
-pub fn session(alloc: Global, parts: SessionParts) -> Result<Session, NoMemory>
+pub(crate) fn session(alloc: Global, parts: SessionParts) -> Result<Session, NoMemory>
     requires { AreFit parts }
     ensures { IfOk result (IsMadeOf parts) }
 {

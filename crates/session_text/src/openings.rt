@@ -47,7 +47,7 @@ const BYTES: Numbers = Numbers {
 };
 
 /// The first six keys of a session's table.
-pub fn opening(alloc: Global, table: &Table) -> Result<SessionHeader, TableError>
+pub(crate) fn opening(alloc: Global, table: &Table) -> Result<SessionHeader, TableError>
     ensures opening { Gives (λ o. o) result (opening_of (table_view table.now)) }
     ensures fit { IfOk result IsOpening }
 {

@@ -5,7 +5,7 @@ use vt_base::Bytes;
 
 /// The parts of a session.
 #[derive(Drop)]
-pub struct SessionParts {
+pub(crate) struct SessionParts {
     pub opening: SessionHeader,
     pub keyboard: SessionKeyboard,
     pub turns: Bytes,

@@ -41,7 +41,7 @@ struct ProcessTable<'a> {
 }
 
 /// Process `part` of a session, from its table.
-pub fn process(alloc: Global, part: u32, table: &Table) -> Result<Process, TableError>
+pub(crate) fn process(alloc: Global, part: u32, table: &Table) -> Result<Process, TableError>
     ensures says { Reads (λ process. process) result (process_says part (table_view table.now)) }
     ensures script { IfOk result (λ process. IsScript process.items) }
 {
@@ -59,7 +59,7 @@ pub fn process(alloc: Global, part: u32, table: &Table) -> Result<Process, Table
 }
 
 /// The processes of a session, each from its table.
-pub fn processes(alloc: Global, tables: &[&Table]) -> Result<Vec<Process>, TableError>
+pub(crate) fn processes(alloc: Global, tables: &[&Table]) -> Result<Vec<Process>, TableError>
     requires { length tables.now ≤ 64 }
     ensures says { Reads (λ found. found.items) result
         (each_says process_says 1 (map (λ table. table_view table.now) tables.now)) }

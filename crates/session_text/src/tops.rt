@@ -30,7 +30,7 @@ const PROCESSES: usize = 64;
 
 /// What a session's table says, with the tables of its processes.
 #[derive(Drop)]
-pub struct SessionTable<'a> {
+pub(crate) struct SessionTable<'a> {
     pub opening: SessionHeader,
     pub keyboard: SessionKeyboard,
     pub turns: Bytes,
@@ -40,7 +40,7 @@ pub struct SessionTable<'a> {
 }
 
 /// The keys in the order of the checks.
-pub fn read_top<'a>(alloc: Global, table: &'a Table) -> Result<SessionTable<'a>, TableError>
+pub(crate) fn read_top<'a>(alloc: Global, table: &'a Table) -> Result<SessionTable<'a>, TableError>
     ensures top { GivesBy IsTop result (top_of (table_view table.entry.now)) }
     ensures fit { IfOk result IsFitTop }
 {

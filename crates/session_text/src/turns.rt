@@ -20,7 +20,7 @@ const TURN: u16 = 28;
 const TOO_MANY: u16 = 29;
 
 /// The turns, each the number of one of so many processes or keyboards.
-pub fn turns(
+pub(crate) fn turns(
     alloc: Global,
     processes: usize,
     keyboards: u8,

@@ -147,14 +147,6 @@ cut_is text line behind words rest words_of_text is same =
     (line_once (joined_by_blanks words) line rest behind is words_of_text.no_end
     (sym (line_parts words rest) ∙ sym same ∙ words_of_text.parts)).0
 
--- a text that is cut is its line and the rest
-pub found_line : (text line behind : List ℕ) (words : List (List ℕ)) → IsCutAt text line behind
-    → joined_by_blanks words ≡ line → text ≡ line_text words ++ behind
-found_line text line behind words words_of_text is =
-    words_of_text.parts
-    ∙ ap (λ (l : List ℕ). l ++ 0x0A ∷ behind) (sym is)
-    ∙ sym (line_parts words behind)
-
 -- a text without line ends has no line
 pub no_line : (text : List ℕ) (words : List (List ℕ)) (rest : List ℕ) → IsLine text
     → text ≢ line_text words ++ rest

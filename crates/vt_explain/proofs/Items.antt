@@ -171,11 +171,6 @@ pub after_three : (w0 w1 w2 w3 : List (List ℕ)) (a b c d e f : List ℕ) (u : 
     → w0 ≡ a ∷ w1 → w1 ≡ b ∷ w2 → w2 ≡ c ∷ w3 → w0 ≡ d ∷ e ∷ f ∷ u → w3 ≡ u
 after_three w0 w1 w2 w3 a b c d e f u first second third same = cc
 
-pub after_four : (w0 w1 w2 w3 w4 : List (List ℕ)) (a b c d e f g h : List ℕ)
-    (u : List (List ℕ))
-    → w0 ≡ a ∷ w1 → w1 ≡ b ∷ w2 → w2 ≡ c ∷ w3 → w3 ≡ d ∷ w4 → w0 ≡ e ∷ f ∷ g ∷ h ∷ u → w4 ≡ u
-after_four w0 w1 w2 w3 w4 a b c d e f g h u first second third fourth same = cc
-
 -- no number from 1 on is spelled as 0 is
 pub not_zero : (m n : ℕ) (u v w : List (List ℕ)) → m ≡ 0 → 1 ≤ n → n < 2 ^ 64
     → w ≡ decimal m ∷ u → w ≡ decimal n ∷ v → ⊥

@@ -80,30 +80,3 @@ next_read tells grow start before place entry after told old new was next trace 
           (still_none place j (news told) old (omega (arith, above, length_push before entry, next.place_is))
           (was.fresh j (omega (arith, above, length_push before entry))));
     }
-
--- a mark more
-raised_next : (at p signal : ℕ) (asked : Option ℕ) (rest : List Mark) (k : Known)
-    → hear_all at (news rest) (with_last_signal at asked signal k)
-    ≡ hear_all at (news_after asked (mark.Raised p signal ∷ rest)) k
-raised_next at p signal None rest k = refl
-raised_next at p signal (Some n) rest k = refl
-
-pub hears_raised : (at p signal : ℕ) (asked : Option ℕ) (rest : List Mark) (old new : Known)
-    → new ≡ with_last_signal at asked signal old
-    → hear_all at (news_after (asked_by (mark.Raised p signal)) rest) new
-    ≡ hear_all at (news_after asked (mark.Raised p signal ∷ rest)) old
-hears_raised at p signal asked rest old new is =
-    ap (hear_all at (news rest)) is ∙ raised_next at p signal asked rest old
-
-hopped_next : (at : ℕ) (hop : Hop) (asked : Option ℕ) (rest : List Mark) (k : Known)
-    → hear_all at (news rest) (hear at (Going hop) k)
-    ≡ hear_all at (news_after asked (mark.Hopped hop ∷ rest)) k
-hopped_next at hop None rest k = refl
-hopped_next at hop (Some n) rest k = refl
-
-pub hears_hopped : (at : ℕ) (hop : Hop) (asked : Option ℕ) (rest : List Mark) (old new : Known)
-    → new ≡ hear at (Going hop) old
-    → hear_all at (news_after (asked_by (mark.Hopped hop)) rest) new
-    ≡ hear_all at (news_after asked (mark.Hopped hop ∷ rest)) old
-hears_hopped at hop asked rest old new is =
-    ap (hear_all at (news rest)) is ∙ hopped_next at hop asked rest old

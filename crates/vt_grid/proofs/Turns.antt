@@ -25,11 +25,6 @@ pub rotation_by-rotation_by : {A : Type 0} (head n place : ℕ) (xs : List A) �
 rotation_by-rotation_by head n place xs head_in n_in place_in is =
     same_lists _ _ (search (rules, places)) (λ k d k_in. grind (arith, places))
 
-pub get_or-rotation_by : {A : Type 0} (head y place : ℕ) (xs : List A) (d : A) → head < length xs
-    → y < length xs → place < length xs → IsPlace (length xs) head y place
-    → get_or (rotation_by head xs) y d ≡ get_or xs place d
-get_or-rotation_by head y place xs d head_in y_in place_in is = grind (arith, places)
-
 pub set-rotation_by : {A : Type 0} (head y place : ℕ) (xs : List A) (a : A) → head < length xs
     → y < length xs → place < length xs → IsPlace (length xs) head y place
     → set (rotation_by head xs) y a ≡ rotation_by head (set xs place a)

@@ -5,7 +5,7 @@ use vt_cells::Cell;
 
 /// A cell as a row keeps it: two 32-bit numbers, which are stored whole.
 #[derive(Clone, Copy, Debug)]
-pub struct PackedCell {
+pub(crate) struct PackedCell {
     code: u32,
     attr: u32,
 }
@@ -24,7 +24,7 @@ impl Model for PackedCell {
 }
 
 impl PackedCell {
-    pub fn new(c: Cell) -> PackedCell
+    pub(crate) fn new(c: Cell) -> PackedCell
         ensures { result ≡ c }
     {
         PackedCell {
@@ -33,7 +33,7 @@ impl PackedCell {
         }
     }
 
-    pub fn cell(self) -> Cell
+    pub(crate) fn cell(self) -> Cell
         ensures { result ≡ self }
     {
         Cell {

@@ -7,7 +7,7 @@ use crate::Grid;
 /// Copies the old cell of row `y + skip` and column `x` to row `y` and column `x`, where both are. The
 /// old rows are read as if they were parted at `border`, which isn't before the last column that both
 /// have.
-pub fn copy_cells(fresh: &mut Grid, old: &Grid, skip: u8, border: u8)
+pub(crate) fn copy_cells(fresh: &mut Grid, old: &Grid, skip: u8, border: u8)
     requires { min fresh.old.cols old.now.cols ≤ border }
     ensures { fresh.new ≡ resized_grid (split_wide_rows border old.now) fresh.old skip }
 {

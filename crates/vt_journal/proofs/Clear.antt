@@ -84,10 +84,6 @@ pub is_clear_name : (e : Event) → is_clear (name_of e) ≡ true
 is_clear_name (event.Scan b) = refl
 is_clear_name e = refl
 
-is_clear-reply_name : (k : ReplyKind) → is_clear (reply_name k) ≡ true
-is_clear-reply_name kind.Done = refl
-is_clear-reply_name k = refl
-
 -- numbers are clear
 pub is_clear-decimal : (n : ℕ) → n < 2 ^ 64 → is_clear (decimal n) ≡ true
 is_clear-decimal =

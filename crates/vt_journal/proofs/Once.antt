@@ -276,19 +276,3 @@ pub cut_is : (text line behind : List ℕ) (words : List (List ℕ)) (rest : Lis
 cut_is text line behind words rest words_of_text is same =
     (line_once (joined_by_blanks words) line rest behind is words_of_text.no_end
     (sym (line_parts words rest) ∙ sym same ∙ words_of_text.parts)).0
-
--- and one without a line end begins with no line
-pub no_line : (text : List ℕ) (words : List (List ℕ)) (rest : List ℕ) → IsLine text
-    → text ≢ line_text words ++ rest
-no_line text words rest line same =
-    has_end (joined_by_blanks words) rest text line (same ∙ line_parts words rest)
-  where
-    has_end : (a u text : List ℕ) → IsLine text → text ≢ a ++ 0x0A ∷ u
-    has_end [] u [] line same = cc
-    has_end [] u (b ∷ text) line same =
-        let first : b ≡ 0x0A = cc in
-        line 0 0 (omega arith) first
-    has_end (x ∷ a) u [] line same = cc
-    has_end (x ∷ a) u (b ∷ text) line same =
-        let others : text ≡ a ++ 0x0A ∷ u = cc in
-        has_end a u text (λ k d within. line (suc k) d (omega arith)) others

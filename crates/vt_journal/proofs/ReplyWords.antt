@@ -214,35 +214,6 @@ pub record IsReplyRead (words : List (List ℕ)) (r : Reply) (rest : List (List 
   pub parts : words ≡ reply_words r ++ rest
   pub fit : IsFitReply r
 
-pub answer_is : (words u v w : List (List ℕ)) (k : ReplyKind) (ns b : List ℕ) (held : Bool) (r : Reply)
-    → words ≡ reply_name k ∷ u → u ≡ map decimal ns ++ v → v ≡ held_words (held_if held b) ++ w
-    → held ≡ reply_holds k → Within (mosts k) ns → All (λ x. x < 2 ^ 8) b → IsAnswer k ns b r
-    → IsReplyRead words r w
-answer_is words u v w k ns b held r name numbers bytes same within fit_b is =
-    let here : reply_held r ≡ held_if held b = is.held ∙ ap (λ h. held_if h b) (sym same) in
-    record {
-      parts =
-          name
-          ∙ ap (λ rest. reply_name k ∷ rest) (numbers ∙ ap (λ rest. map decimal ns ++ rest) bytes)
-          ∙ sym (ap (λ rest. reply_name k ∷ rest) (append_assoc (map decimal ns) (held_words (held_if held b)) w))
-          ∙ sym (λ j. reply_name (is.kind j) ∷ ((map decimal (is.numbers j) ++ held_words (here j)) ++ w))
-          ∙ ap (λ words. words ++ w) (sym (reply_parts r));
-      fit = record {
-        numbers =
-            subst (λ k. Within (mosts k) (reply_numbers r)) (sym is.kind)
-            (subst (Within (mosts k)) (sym is.numbers) within);
-        bytes =
-            subst (λ held. IfSome held (λ bytes. All (λ x. x < 2 ^ 8) bytes)) (sym here)
-            (fit_if held b fit_b);
-        plain = is.plain;
-      };
-    }
-  where
-    fit_if : (held : Bool) (b : List ℕ) → All (λ x. x < 2 ^ 8) b
-        → IfSome (held_if held b) (λ bytes. All (λ x. x < 2 ^ 8) bytes)
-    fit_if true b fit = fit
-    fit_if false b fit = tt
-
 -- words of an answer begin with the name of its kind
 pub named_reply : (r : Reply) (rest : List (List ℕ))
     → (more : List (List ℕ)) × (reply_words r ++ rest ≡ reply_name (kind_of r) ∷ more)

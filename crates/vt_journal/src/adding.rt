@@ -14,7 +14,7 @@ const ROOM_BYTES: usize = 4_096;
 
 /// Makes room for so many more bytes, and where it takes memory also for some of those after them.
 #[inline(always)]
-pub fn make_room(alloc: Global, text: &mut Bytes, n: usize) -> Result<(), NoMemory>
+pub(crate) fn make_room(alloc: Global, text: &mut Bytes, n: usize) -> Result<(), NoMemory>
     ensures bytes { text.new.bytes ≡ text.old.bytes }
     ensures ok { OnOk result (n ≤ text.new.room) }
     ensures err { OnErr result (text.new ≡ text.old) }
@@ -48,7 +48,7 @@ pub fn add(alloc: Global, text: &mut Bytes, b: &[u8]) -> Result<(), NoMemory>
 }
 
 /// Adds the number.
-pub fn add_number(alloc: Global, text: &mut Bytes, n: u64) -> Result<(), NoMemory>
+pub(crate) fn add_number(alloc: Global, text: &mut Bytes, n: u64) -> Result<(), NoMemory>
     ensures ok { OnOk result (text.new.bytes ≡ text.old.bytes ++ decimal n) }
     ensures err { OnErr result (text.new.bytes ≡ text.old.bytes) }
 {
@@ -57,7 +57,7 @@ pub fn add_number(alloc: Global, text: &mut Bytes, n: u64) -> Result<(), NoMemor
 }
 
 /// Adds a blank and the word.
-pub fn add_word(alloc: Global, text: &mut Bytes, word: &[u8]) -> Result<(), NoMemory>
+pub(crate) fn add_word(alloc: Global, text: &mut Bytes, word: &[u8]) -> Result<(), NoMemory>
     ensures ok { OnOk result (text.new.bytes ≡ text.old.bytes ++ 0x20 ∷ word.now) }
     ensures err { OnErr result (text.new.bytes ≡ text.old.bytes) }
     ensures room { OnErr result (text.new.room ≡ text.old.room) }
@@ -69,7 +69,7 @@ pub fn add_word(alloc: Global, text: &mut Bytes, word: &[u8]) -> Result<(), NoMe
 }
 
 /// Adds the end of a line.
-pub fn add_end(alloc: Global, text: &mut Bytes) -> Result<(), NoMemory>
+pub(crate) fn add_end(alloc: Global, text: &mut Bytes) -> Result<(), NoMemory>
     ensures ok { OnOk result (text.new.bytes ≡ text.old.bytes ++ 0x0A ∷ []) }
     ensures err { OnErr result (text.new.bytes ≡ text.old.bytes) }
 {
@@ -117,7 +117,7 @@ fn add_long(alloc: Global, text: &mut Bytes, n: u64) -> Result<(), NoMemory>
 }
 
 /// Adds the name and the numbers, each behind a blank.
-pub fn add_named(
+pub(crate) fn add_named(
     alloc: Global,
     text: &mut Bytes,
     name: &[u8],
@@ -136,7 +136,7 @@ pub fn add_named(
 }
 
 /// Adds the bytes in hexadecimal behind a blank.
-pub fn add_bytes(alloc: Global, text: &mut Bytes, b: &[u8]) -> Result<(), NoMemory>
+pub(crate) fn add_bytes(alloc: Global, text: &mut Bytes, b: &[u8]) -> Result<(), NoMemory>
     ensures ok { OnOk result (text.new.bytes ≡ text.old.bytes ++ 0x20 ∷ hex_text b.now) }
     ensures kept { Begins text.old.bytes text.new.bytes }
     ensures fit { All (λ x. x < 2 ^ 8) b.now }

@@ -9,7 +9,7 @@ use vt_events::Event;
 
 /// What the words of a call say.
 #[derive(Drop)]
-pub struct CallWords<'a> {
+pub(crate) struct CallWords<'a> {
     pub kind: Kind,
     pub numbers: ArrayVec<u16, NUMBERS>,
     /// The bytes that it holds, where it holds any.
@@ -18,7 +18,7 @@ pub struct CallWords<'a> {
 
 impl<'a> CallWords<'a> {
     /// What the words of the call say.
-    pub fn of(e: &'a Event) -> CallWords<'a>
+    pub(crate) fn of(e: &'a Event) -> CallWords<'a>
         ensures { call_words result.kind result.numbers.items (option_copied result.held)
             ≡ parts_of e.now }
     {

@@ -15,7 +15,7 @@ use vt_base::NoMemory;
 use vt_events::Entry;
 
 /// The entry that the line of this version spells.
-pub fn read_entry(alloc: Global, line: &[u8], version: u8) -> Result<Option<Entry>, NoMemory>
+pub(crate) fn read_entry(alloc: Global, line: &[u8], version: u8) -> Result<Option<Entry>, NoMemory>
     ensures found { IfOk result
         (λ found. IfSome found (λ e. joined_by_blanks (entry_words version e) ≡ line.now)) }
     ensures fit { IfOk result (λ found. IfSome found (IsFitEntry version)) }

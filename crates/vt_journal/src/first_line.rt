@@ -3,7 +3,7 @@ use vt_events::Entry;
 
 /// What the first line of a text is, and what is behind it.
 #[derive(Drop)]
-pub enum FirstLine<'a> {
+pub(crate) enum FirstLine<'a> {
     /// The line of an entry.
     Entry(Entry, &'a [u8]),
     /// A last line.

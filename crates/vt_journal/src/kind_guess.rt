@@ -5,7 +5,7 @@ use crate::kind::Kind;
 /// The kind that has the name, where a kind has it. A wrong guess costs time alone: who asks compares the
 /// names. The place is that of the name's first, last and fourth bytes and its length.
 #[inline(always)]
-pub fn guess_kind(name: &[u8]) -> Kind {
+pub(crate) fn guess_kind(name: &[u8]) -> Kind {
     let long = name.len();
     if long < 4 || 11 < long {
         return Kind::Scan;

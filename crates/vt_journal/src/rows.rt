@@ -7,7 +7,7 @@ ghost use Rattle.vt_journal.specs.declared.kind.Kind.{Kind};
 use crate::kind::Kind;
 
 /// What the words of a kind of calls are.
-pub struct CallForm {
+pub(crate) struct CallForm {
     pub kind: Kind,
     pub name: &'static [u8],
     /// How many numbers follow the name.
@@ -20,7 +20,7 @@ pub struct CallForm {
 const KIND_COUNT: usize = 46;
 
 /// All rows.
-pub fn rows() -> &'static [CallForm]
+pub(crate) fn rows() -> &'static [CallForm]
     ensures each { (kind : Kind) → Contains (map (λ row. row.kind) result.now) kind }
     ensures names { All (λ row. row.name.now ≡ name_of (blank row.kind)) result.now }
 {
@@ -28,7 +28,7 @@ pub fn rows() -> &'static [CallForm]
 }
 
 /// The row of the kind.
-pub fn row_of(kind: Kind) -> &'static CallForm
+pub(crate) fn row_of(kind: Kind) -> &'static CallForm
     ensures name { result.now.name.now ≡ name_of (blank kind) }
     ensures numbers { result.now.numbers ≡ length (numbers_of (blank kind)) }
     ensures bytes { result.now.bytes ≡ is_some (held_of (blank kind)) }

@@ -12,7 +12,7 @@ use crate::{Full, Tail};
 const LONG: u64 = 4_294_967_295;
 
 /// How a journal ends whose last line this is.
-pub fn read_tail(line: &[u8]) -> Option<Tail>
+pub(crate) fn read_tail(line: &[u8]) -> Option<Tail>
     ensures found { IfSome result (λ end. joined_by_blanks (tail_words end) ≡ line.now) }
     ensures fit { IfSome result IsFitTail }
     ensures none { IfNone result

@@ -7,7 +7,7 @@ use std::alloc::Global;
 use vt_base::{Bytes, NoMemory};
 
 /// Adds the bytes.
-pub fn add(alloc: Global, text: &mut Bytes, bytes: &[u8]) -> Result<(), NoMemory>
+pub(crate) fn add(alloc: Global, text: &mut Bytes, bytes: &[u8]) -> Result<(), NoMemory>
     ensures { OnOk result (text.new.bytes ≡ text.old.bytes ++ bytes.now) }
 {
     text.grow(alloc, bytes.len())?;
@@ -16,7 +16,7 @@ pub fn add(alloc: Global, text: &mut Bytes, bytes: &[u8]) -> Result<(), NoMemory
 }
 
 /// Adds the number.
-pub fn add_number(alloc: Global, text: &mut Bytes, n: u16) -> Result<(), NoMemory>
+pub(crate) fn add_number(alloc: Global, text: &mut Bytes, n: u16) -> Result<(), NoMemory>
     ensures { OnOk result (text.new.bytes ≡ text.old.bytes ++ decimal n) }
 {
     let mut buffer = Buffer::new();
@@ -25,7 +25,12 @@ pub fn add_number(alloc: Global, text: &mut Bytes, n: u16) -> Result<(), NoMemor
 
 /// Adds the attribute of this name, whose value is the number.
 #[tactic(auto, unfolding(crate::specs::Svg::number_attribute))]
-pub fn add_numbered(alloc: Global, text: &mut Bytes, name: &[u8], n: u16) -> Result<(), NoMemory>
+pub(crate) fn add_numbered(
+    alloc: Global,
+    text: &mut Bytes,
+    name: &[u8],
+    n: u16,
+) -> Result<(), NoMemory>
     ensures { OnOk result (text.new.bytes ≡ text.old.bytes ++ number_attribute name.now n) }
 {
     add(alloc, text, b" ")?;
@@ -37,7 +42,7 @@ pub fn add_numbered(alloc: Global, text: &mut Bytes, name: &[u8], n: u16) -> Res
 
 /// Adds the attribute that fills with the colour.
 #[tactic(auto, unfolding(crate::specs::Svg::fill_attribute))]
-pub fn add_filled_with(
+pub(crate) fn add_filled_with(
     alloc: Global,
     text: &mut Bytes,
     colour: (u8, u8, u8),
@@ -53,7 +58,7 @@ pub fn add_filled_with(
 
 /// Adds a rectangle.
 #[tactic(auto, unfolding(crate::specs::Svg::rectangle))]
-pub fn add_rectangle(
+pub(crate) fn add_rectangle(
     alloc: Global,
     text: &mut Bytes,
     x: u16,

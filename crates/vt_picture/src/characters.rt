@@ -9,7 +9,7 @@ use vt_cells::{Cell, HALF};
 
 /// Adds the cell's character, or nothing of a right half.
 #[tactic(auto, unfolding(crate::specs::Characters::cell_text))]
-pub fn add_cell(alloc: Global, text: &mut Bytes, cell: Cell) -> Result<(), NoMemory>
+pub(crate) fn add_cell(alloc: Global, text: &mut Bytes, cell: Cell) -> Result<(), NoMemory>
     ensures { OnOk result (text.new.bytes ≡ text.old.bytes ++ cell_text cell) }
 {
     if cell.code == HALF {

@@ -29,7 +29,7 @@ use vt_units::{Mode, Unit};
 
 /// A screen, and what each unit does to it.
 #[derive(Drop)]
-pub struct Canvas {
+pub(crate) struct Canvas {
     grid: Grid,
     state: ScreenState,
     // The attribute byte of what the pen prints.
@@ -52,7 +52,7 @@ impl Model for Canvas {
 impl Canvas {
     /// The start screen of this grid's size, whatever the grid has.
     #[tactic(auto, unfolding(crate::specs::Screen::printed_byte, crate::specs::Screen::erased_byte))]
-    pub fn new(grid: Grid) -> Canvas
+    pub(crate) fn new(grid: Grid) -> Canvas
         ensures { result ≡ start_screen grid.rows grid.cols }
     {
         let mut grid = grid;
@@ -67,7 +67,7 @@ impl Canvas {
     }
 
     /// The cells.
-    pub fn grid(&self) -> &Grid
+    pub(crate) fn grid(&self) -> &Grid
         ensures cells { result.now ≡ self.now.grid }
         ensures whole { IsWhole self.now }
     {
@@ -75,7 +75,7 @@ impl Canvas {
     }
 
     /// The state beside the cells.
-    pub fn state(&self) -> &ScreenState
+    pub(crate) fn state(&self) -> &ScreenState
         ensures state { result.now ≡ self.now.state }
         ensures whole { IsWhole self.now }
     {
@@ -83,7 +83,7 @@ impl Canvas {
     }
 
     /// How the next byte is read.
-    pub fn mode(&self) -> Mode
+    pub(crate) fn mode(&self) -> Mode
         ensures { result ≡ mode_of self.now }
     {
         Mode {
@@ -93,14 +93,14 @@ impl Canvas {
     }
 
     /// Gives each byte the user's character.
-    pub fn set_user(&mut self, words: &[u16; 256])
+    pub(crate) fn set_user(&mut self, words: &[u16; 256])
         ensures { self.new ≡ with_state self.old (record self.old.state { map = words.now }) }
     {
         self.state.map.set_user(words);
     }
 
     /// The palette.
-    pub fn palette_mut(&mut self) -> &mut Palette
+    pub(crate) fn palette_mut(&mut self) -> &mut Palette
         ensures* lends { sem 𝓛
             (Lends the_row palette_row self.entry result (λ w. after_change (palette w) self.old)) }
         ensures value { result.now ≡ self.old.state.palette }
@@ -109,7 +109,7 @@ impl Canvas {
     }
 
     /// Does what the unit does. What it says beside the screen is then last in `outs`.
-    pub fn dispatch(&mut self, unit: &Unit, outs: &mut Outs)
+    pub(crate) fn dispatch(&mut self, unit: &Unit, outs: &mut Outs)
         requires room { length outs.old < 64 }
         ensures screen { self.new ≡ (effect unit.now self.old).screen }
         ensures said { outs.new ≡ outs.old ++ outs_of_option (effect unit.now self.old).said }

@@ -32,29 +32,6 @@ form_more params at taken n rest p q end within n-is rest-is q-is taken-is so_fa
     ∙ ap (sgr_skipping 0 (drop (at + (1 + taken)) params)) (sym q-is) in
     sym here ∙ sym formed ∙ sym (ap (λ ns. sgr_skipping 0 ns p) front) ∙ so_far
 
--- no parameter is left
-behind_none : (taken : ℕ) (p : PenState) → sgr_skipping taken [] p ≡ p
-behind_none zero p = refl
-behind_none (suc taken) p = refl
-
--- the last parameter belongs to the one before it
-behind_taken : (taken n : ℕ) (p : PenState) → 0 < taken → sgr_skipping taken (n ∷ []) p ≡ p
-behind_taken zero n p some = absurd (omega (arith, some))
-behind_taken (suc taken) n p some = behind_none taken p
-
--- two parameters
-pub two_apart : (first second : ℕ) (p : PenState) → taken_by first (second ∷ []) ≡ 0
-    → sgr (first ∷ second ∷ []) p ≡ with_form second [] (with_form first (second ∷ []) p)
-two_apart first second p none =
-    let q : PenState = with_form first (second ∷ []) p in
-    ap (λ (taken : ℕ). sgr_skipping taken (second ∷ []) q) none
-    ∙ behind_none (taken_by second []) (with_form second [] q)
-
-pub two_joined : (first second : ℕ) (p : PenState) → 0 < taken_by first (second ∷ [])
-    → sgr (first ∷ second ∷ []) p ≡ with_form first (second ∷ []) p
-two_joined first second p some =
-    behind_taken (taken_by first (second ∷ [])) second (with_form first (second ∷ []) p) some
-
 drop_all : {A : Type 0} (xs : List A) → drop (length xs) xs ≡ []
 drop_all [] = refl
 drop_all (x ∷ xs) = drop_all xs

@@ -15,33 +15,6 @@ pub record HasDrawn (told told' : Option (List ℕ)) (emu emu' : Reached Screen)
   pub counted : length taken + left ≡ limit
   pub drawn : emu' ≡ after emu taken
 
-pub consumes_none : (told : Option (List ℕ)) → Consumes told told []
-consumes_none None = tt
-consumes_none (Some xs) = refl
-
-pub drawn_nothing : (told : Option (List ℕ)) (emu : Reached Screen) (limit : ℕ)
-    → HasDrawn told told emu emu limit limit
-drawn_nothing told emu limit = record {
-  taken = [];
-  consumed = consumes_none told;
-  counted = omega arith;
-  drawn = refl;
-}
-
--- one more piece
-pub drawn_more : AnyCut → (told told' told'' : Option (List ℕ)) (emu emu' emu'' : Reached Screen)
-    (limit left left' : ℕ) (piece : List ℕ)
-    → HasDrawn told told' emu emu' limit left → Consumes told' told'' piece → length piece + left' ≡ left
-    → emu'' ≡ after emu' piece → HasDrawn told told'' emu emu'' limit left'
-drawn_more any_cut told told' told'' emu emu' emu'' limit left left' piece so_far took fits draws = record {
-  taken = so_far.taken ++ piece;
-  consumed = consumes_append told told' told'' so_far.taken piece so_far.consumed took;
-  counted = omega (arith, length-append so_far.taken piece, so_far.counted, fits);
-  drawn =
-      draws ∙ ap (λ (m : Reached Screen). after m piece) so_far.drawn
-      ∙ sym (any_cut emu so_far.taken piece).0;
-}
-
 -- one more piece that passes the limit, of which the front is drawn
 pub drawn_past : AnyCut → (told told' told'' : Option (List ℕ)) (emu emu' emu'' : Reached Screen)
     (limit left count : ℕ) (piece : List ℕ)

@@ -81,16 +81,3 @@ typing_step_some tables mode before b t t' e has event scanned keys state =
           ∙ sym (after_typing_more tables (start_typing mode) (events start_codes [] before) e)
           ∙ ap (after_typing tables (start_typing mode)) (sym more);
     }
-
--- the line of the byte in its place comes first
-pub lines_more : (tables : Tables) (mode : ℕ) (keys : List ℕ) (i b : ℕ) → i < length keys
-    → get_or keys i b ≡ b
-    → lines_after tables mode (take i keys) (drop i keys)
-    ≡ typed_line mode b (said_after tables mode (take i keys) b)
-    ++ lines_after tables mode (take (i + 1) keys) (drop (i + 1) keys)
-lines_more tables mode keys i b within here =
-    ap (lines_after tables mode (take i keys))
-    (drop_more keys i b within ∙ ap (λ c. c ∷ drop (i + 1) keys) here)
-    ∙ ap (λ before. typed_line mode b (said_after tables mode (take i keys) b)
-    ++ lines_after tables mode before (drop (i + 1) keys))
-    (sym (take_more keys i b within ∙ ap (λ c. take i keys ++ c ∷ []) here))

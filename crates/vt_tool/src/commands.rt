@@ -30,7 +30,7 @@ use std::alloc::Global;
 use vt_base::NoMemory;
 
 /// What the command gives for the input that it takes as one text, if it needs no threads.
-pub fn answer_to(alloc: Global, command: Command, input: &[u8]) -> Result<Answer, NoMemory>
+pub(crate) fn answer_to(alloc: Global, command: Command, input: &[u8]) -> Result<Answer, NoMemory>
     requires serial { IsSerial command }
     requires text { TakesText command }
     requires fit { IsFit command }

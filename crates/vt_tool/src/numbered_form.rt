@@ -1,6 +1,6 @@
 /// The commands whose words have two numbers after the name.
 #[derive(Clone, Copy)]
-pub enum NumberedForm {
+pub(crate) enum NumberedForm {
     Screen,
     Drill,
     Review,

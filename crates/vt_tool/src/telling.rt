@@ -13,7 +13,7 @@ use vt_journal::Full;
 const LINE_BYTES: usize = 160;
 
 /// Writes the status's line on err, and gives the status that the run then has.
-pub fn write_status<E: Sink>(err: &mut E, first: Status) -> Status
+pub(crate) fn write_status<E: Sink>(err: &mut E, first: Status) -> Status
     ensures { Tells first
         (record { told = E.held err.old; faults = E.faults err.old })
         (record { told = E.held err.new; faults = E.faults err.new }) result }

@@ -7,7 +7,7 @@ use crate::numbered_form::NumberedForm;
 use vt_base::parse_decimal;
 
 /// The command that the words spell, if it needs no threads.
-pub fn parse_words(words: &[String]) -> Option<Command>
+pub(crate) fn parse_words(words: &[String]) -> Option<Command>
     ensures command { result ≡ command_of serial_forms (map string_bytes words.now) }
     ensures serial { IfSome result (λ command. IsSerial command) }
     ensures fit { IfSome result (λ command. IsFit command) }
@@ -31,7 +31,7 @@ pub fn parse_words(words: &[String]) -> Option<Command>
 }
 
 /// The words spell `race`.
-pub fn is_race(words: &[String]) -> bool
+pub(crate) fn is_race(words: &[String]) -> bool
     ensures race { result ≡ true
         → command_of all_forms (map string_bytes words.now) ≡ Some Command.Race }
     ensures other { result ≡ false → command_of serial_forms (map string_bytes words.now)

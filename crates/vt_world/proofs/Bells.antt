@@ -8,10 +8,6 @@ use Rattle.vt_screen.specs.declared.out.Out.{Out}
 use Rattle.vt_units.specs.Run.{Reached}
 use Rattle.vt_world.specs.Terminals.{TerminalState, is_bell, bell_count_after, written_on}
 
--- nothing rings no bell
-bell_count_after_none : (bells : ℕ) → bells ≤ 4294967295 → bells ≡ bell_count_after bells []
-bell_count_after_none bells fits = omega arith
-
 bell_count_after_more : (bells : ℕ) (a b : List Out) → bell_count_after (bell_count_after bells a) b ≡ bell_count_after bells (a ++ b)
 bell_count_after_more bells a b =
     let ones : Out → ℕ = λ out. cond (is_bell out) 1 0 in
@@ -25,11 +21,6 @@ abbrev pub IsTerminal : Reached Screen → ℕ → TerminalState → Type 0
 IsTerminal m bells t =
     let made : TerminalState = record { machine = m; bells = bells } in
     made ≡ t
-
-pub written_none : (t start : TerminalState) → t.bells ≤ 4294967295 → t ≡ start
-    → IsTerminal t.machine t.bells (written_on [] start)
-written_none t start fits is =
-    (λ i. record { machine = t.machine; bells = bell_count_after_none t.bells fits i }) ∙ ap (written_on []) is
 
 pub written_more : AnyCut → (t : TerminalState) (a b : List ℕ) (m : Reached Screen) (bells : ℕ) (outs : List Out)
     → m ≡ after (written_on a t).machine b → outs ≡ outs_of_run (written_on a t).machine b

@@ -10,7 +10,7 @@ use vt_screen::{Emu, Out, Outs};
 
 /// What a console shows: its screen, and how often its bell rang.
 #[derive(Drop)]
-pub struct Terminal {
+pub(crate) struct Terminal {
     emu: Emu,
     bells: u32,
 }
@@ -28,7 +28,7 @@ impl Model for Terminal {
 
 impl Terminal {
     /// The start screen on this grid, and a bell that never rang.
-    pub fn new(grid: Grid) -> Terminal
+    pub(crate) fn new(grid: Grid) -> Terminal
         ensures { result ≡ new_terminal grid.rows grid.cols }
     {
         Terminal {
@@ -38,21 +38,21 @@ impl Terminal {
     }
 
     /// The screen.
-    pub fn emu(&self) -> &Emu
+    pub(crate) fn emu(&self) -> &Emu
         ensures { result.now ≡ self.now.machine }
     {
         &self.emu
     }
 
     /// How often the bell rang, up to the greatest number.
-    pub fn bells(&self) -> u32
+    pub(crate) fn bells(&self) -> u32
         ensures { result ≡ self.now.bells }
     {
         self.bells
     }
 
     /// Runs at most 64 bytes on the screen, and counts their bells. All that they say is in `outs`.
-    pub fn feed(&mut self, b: &[u8], outs: &mut Outs)
+    pub(crate) fn feed(&mut self, b: &[u8], outs: &mut Outs)
         requires short { length b.now ≤ 64 }
         requires empty { outs.old ≡ [] }
         ensures terminal { self.new ≡ written_on b.now self.old }
@@ -64,21 +64,21 @@ impl Terminal {
     }
 
     /// Gives the screen the size of this grid, and gives the old grid back.
-    pub fn resize(&mut self, grid: Grid) -> Grid
+    pub(crate) fn resize(&mut self, grid: Grid) -> Grid
         ensures { self.new ≡ altered_by (resize grid.rows grid.cols) self.old }
     {
         self.emu.resize(grid)
     }
 
     /// Gives the screen this user's table.
-    pub fn set_user(&mut self, words: &[u16; 256])
+    pub(crate) fn set_user(&mut self, words: &[u16; 256])
         ensures { self.new ≡ altered_by (user_map words.now) self.old }
     {
         self.emu.set_user(words);
     }
 
     /// Gives the screen this palette.
-    pub fn set_palette(&mut self, colours: Palette)
+    pub(crate) fn set_palette(&mut self, colours: Palette)
         ensures { self.new ≡ altered_by (palette colours) self.old }
     {
         *self.emu.palette_mut() = colours;

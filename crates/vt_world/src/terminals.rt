@@ -16,7 +16,7 @@ const CONSOLE_PLACES: usize = CONSOLES + 1;
 
 /// What the consoles show, by their numbers, of which 0 stays free.
 #[derive(Drop)]
-pub struct Terminals {
+pub(crate) struct Terminals {
     places: Vec<Option<Terminal>>,
 }
 
@@ -33,7 +33,7 @@ impl Model for Terminals {
 
 impl Terminals {
     /// A new terminal for each console of the set.
-    pub fn start(alloc: Global, size: Size, consoles: u64) -> Result<Terminals, NoMemory>
+    pub(crate) fn start(alloc: Global, size: Size, consoles: u64) -> Result<Terminals, NoMemory>
         ensures { IfOk result (λ terminals. terminals
             ≡ at_each consoles (new_terminal size.rows size.cols)) }
     {
@@ -45,7 +45,7 @@ impl Terminals {
     }
 
     /// The terminal of the console, where it has one.
-    pub fn at(&self, c: ConsoleNo) -> Option<&Terminal>
+    pub(crate) fn at(&self, c: ConsoleNo) -> Option<&Terminal>
         ensures terminal { option_copied result ≡ terminal_at self.now c }
         ensures taken { is_some result ≡ is_some (terminal_at self.now c) }
     {
@@ -53,7 +53,7 @@ impl Terminals {
     }
 
     /// Gives the console a new terminal on this grid, where it has none.
-    pub fn begin(&mut self, c: ConsoleNo, grid: Grid)
+    pub(crate) fn begin(&mut self, c: ConsoleNo, grid: Grid)
         ensures { self.new ≡ with_start c grid.rows grid.cols self.old }
     {
         let place = &mut self.places[usize::from(c.get())];
@@ -70,7 +70,7 @@ impl Terminals {
     }
 
     /// Writes at most 64 bytes to the console, where it has a terminal. What they say is in `outs`.
-    pub fn write(&mut self, c: ConsoleNo, b: &[u8], outs: &mut Outs)
+    pub(crate) fn write(&mut self, c: ConsoleNo, b: &[u8], outs: &mut Outs)
         requires short { length b.now ≤ 64 }
         requires empty { outs.old ≡ [] }
         ensures terminals { self.new ≡ after_write c b.now self.old }
@@ -84,7 +84,7 @@ impl Terminals {
 
     /// Gives the console's screen, if it has one, the size of this grid. The grid that it no longer
     /// needs is given back.
-    pub fn resize(&mut self, c: ConsoleNo, grid: Grid) -> Grid
+    pub(crate) fn resize(&mut self, c: ConsoleNo, grid: Grid) -> Grid
         ensures { self.new ≡ after_screen_change c (resize grid.rows grid.cols) self.old }
     {
         match &mut self.places[usize::from(c.get())] {
@@ -94,7 +94,7 @@ impl Terminals {
     }
 
     /// Gives the console's screen, if it has one, this user's table.
-    pub fn set_user(&mut self, c: ConsoleNo, words: &[u16; 256])
+    pub(crate) fn set_user(&mut self, c: ConsoleNo, words: &[u16; 256])
         ensures { self.new ≡ after_screen_change c (user_map words.now) self.old }
     {
         if let Some(terminal) = &mut self.places[usize::from(c.get())] {
@@ -103,7 +103,7 @@ impl Terminals {
     }
 
     /// Gives the console's screen, if it has one, this palette.
-    pub fn set_palette(&mut self, c: ConsoleNo, colours: Palette)
+    pub(crate) fn set_palette(&mut self, c: ConsoleNo, colours: Palette)
         ensures { self.new ≡ after_screen_change c (palette colours) self.old }
     {
         if let Some(terminal) = &mut self.places[usize::from(c.get())] {

@@ -10,7 +10,7 @@ use vt_base::NoMemory;
 
 /// Numbers in a ring: the first of them stands at `head`.
 #[derive(Drop)]
-pub struct Ring {
+pub(crate) struct Ring {
     head: u8,
     numbers: Vec<u8>,
 }
@@ -28,7 +28,7 @@ impl Model for Ring {
 
 impl Ring {
     /// The numbers from 0 on, `count` of them.
-    pub fn rising(alloc: Global, count: u8) -> Result<Ring, NoMemory>
+    pub(crate) fn rising(alloc: Global, count: u8) -> Result<Ring, NoMemory>
         requires { 1 ≤ count }
         ensures { IfOk result (λ ring. IsRising count ring) }
     {
@@ -39,7 +39,7 @@ impl Ring {
         Ok(Ring { head: 0, numbers })
     }
 
-    pub fn at(&self, y: u8) -> u8
+    pub(crate) fn at(&self, y: u8) -> u8
         requires { y < length self.now }
         ensures { result ≡ slice_index self.now y }
     {
@@ -48,7 +48,7 @@ impl Ring {
     }
 
     /// So many numbers from the one at `from` on, in two pieces.
-    pub fn pieces(&self, from: u8, count: u8) -> (&[u8], &[u8])
+    pub(crate) fn pieces(&self, from: u8, count: u8) -> (&[u8], &[u8])
         requires { from + count ≤ length self.now }
         ensures { result.0.now ++ result.1.now ≡ take count (drop from self.now) }
     {
@@ -63,7 +63,7 @@ impl Ring {
     }
 
     /// Moves all numbers up by `n` round the end.
-    pub fn turn(&mut self, n: u8)
+    pub(crate) fn turn(&mut self, n: u8)
         requires { n ≤ length self.old }
         ensures { self.new ≡ rotation_by n self.old }
     {
@@ -72,7 +72,7 @@ impl Ring {
 
     /// Moves the numbers `top` to `bottom` up by `n` round their end, with a step for each.
     #[inline(never)]
-    pub fn rotate<L: Ledger>(&mut self, top: u8, bottom: u8, n: u8, steps: &mut Steps<L>)
+    pub(crate) fn rotate<L: Ledger>(&mut self, top: u8, bottom: u8, n: u8, steps: &mut Steps<L>)
         requires order { top ≤ bottom }
         requires last { bottom < length self.old }
         requires some { n ≤ bottom + 1 - top }

@@ -14,7 +14,7 @@ const SHORT_RUN: usize = 8;
 
 /// One row: room for its cells, of which the first `len` are stored.
 #[derive(Drop)]
-pub struct Row {
+pub(crate) struct Row {
     cells: Vec<PackedCell>,
     rest: PackedCell,
     len: u8,
@@ -35,7 +35,7 @@ impl Model for Row {
 }
 
 impl Row {
-    pub fn blank(alloc: Global, cols: u8, c: Cell) -> Result<Row, NoMemory>
+    pub(crate) fn blank(alloc: Global, cols: u8, c: Cell) -> Result<Row, NoMemory>
         ensures { IfOk result (λ row. row ≡ record { room = cols; line = blank_row c }) }
     {
         let rest = PackedCell::new(c);
@@ -48,13 +48,13 @@ impl Row {
         })
     }
 
-    pub fn stored(&self) -> u8
+    pub(crate) fn stored(&self) -> u8
         ensures { result ≡ length self.now.line.stored }
     {
         self.len
     }
 
-    pub fn at(&self, x: u8) -> Cell
+    pub(crate) fn at(&self, x: u8) -> Cell
         requires { x < self.now.room }
         ensures { result ≡ cell_at self.now.line x }
     {
@@ -65,7 +65,7 @@ impl Row {
         }
     }
 
-    pub fn write(&mut self, x: u8, c: Cell)
+    pub(crate) fn write(&mut self, x: u8, c: Cell)
         requires place { x ≤ length self.old.line.stored }
         requires column { x < self.old.room }
         ensures { self.new ≡ record self.old { line = with_stored_cells x (c ∷ []) self.old.line } }
@@ -76,7 +76,7 @@ impl Row {
         }
     }
 
-    pub fn cut(&mut self, len: u8, c: Cell)
+    pub(crate) fn cut(&mut self, len: u8, c: Cell)
         requires { len ≤ length self.old.line.stored }
         ensures { self.new ≡ record self.old { line = cut_at len c self.old.line } }
     {
@@ -85,7 +85,7 @@ impl Row {
     }
 
     /// Stores the cells before column `x`.
-    pub fn reach(&mut self, x: u8)
+    pub(crate) fn reach(&mut self, x: u8)
         requires { x ≤ self.old.room }
         ensures { self.new ≡ record self.old { line = stored_up_to x self.old.line } }
     {
@@ -98,7 +98,7 @@ impl Row {
 
     /// Writes the cells of these codes from column `x` on.
     #[inline(always)]
-    pub fn write_run<T: Code>(&mut self, x: u8, codes: &[T], attr: u8)
+    pub(crate) fn write_run<T: Code>(&mut self, x: u8, codes: &[T], attr: u8)
         requires place { x ≤ length self.old.line.stored }
         requires columns { x + length codes.now ≤ self.old.room }
         ensures { self.new
@@ -116,7 +116,7 @@ impl Row {
     }
 
     /// Writes the cell `c`, `count` times, from column `x` on.
-    pub fn fill(&mut self, x: u8, count: u8, c: Cell)
+    pub(crate) fn fill(&mut self, x: u8, count: u8, c: Cell)
         requires place { x ≤ length self.old.line.stored }
         requires columns { x + count ≤ self.old.room }
         ensures { self.new
@@ -132,7 +132,7 @@ impl Row {
     }
 
     /// Puts the cell `c` in at column `x`, `count` times.
-    pub fn insert(&mut self, x: u8, count: u8, c: Cell)
+    pub(crate) fn insert(&mut self, x: u8, count: u8, c: Cell)
         requires place { x ≤ length self.old.line.stored }
         requires columns { x + count ≤ self.old.room }
         ensures { self.new
@@ -150,7 +150,7 @@ impl Row {
 
     /// Takes `count` cells out at column `x` of a row whose cells are all stored. All further
     /// cells are `c`.
-    pub fn remove(&mut self, x: u8, count: u8, c: Cell)
+    pub(crate) fn remove(&mut self, x: u8, count: u8, c: Cell)
         requires stored { length self.old.line.stored ≡ self.old.room }
         requires columns { x + count ≤ self.old.room }
         ensures { self.new ≡ record self.old { line = with_stored_deleted x count c self.old.line } }
@@ -165,7 +165,7 @@ impl Row {
     }
 
     /// Becomes the row `from`, of which at most the first `count` cells are stored.
-    pub fn copy(&mut self, from: &Row, count: u8)
+    pub(crate) fn copy(&mut self, from: &Row, count: u8)
         requires { count ≤ self.old.room }
         ensures { self.new ≡ record self.old { line = cut_at count from.now.line.rest from.now.line } }
     {
@@ -176,7 +176,7 @@ impl Row {
     }
 
     /// Takes the first `count` cells of the row `from`.
-    pub fn cover(&mut self, from: &Row, count: u8)
+    pub(crate) fn cover(&mut self, from: &Row, count: u8)
         requires { count ≤ self.old.room }
         ensures { self.new ≡ record self.old { line = with_prefix_of count from.now.line self.old.line } }
     {
@@ -189,7 +189,7 @@ impl Row {
     }
 
     /// All cells, from left to right.
-    pub fn cells(&self) -> RowCells<'_>
+    pub(crate) fn cells(&self) -> RowCells<'_>
         ensures { result ≡ cells_of self.now.room self.now.line }
     {
         let past = self.cells.len() - usize::from(self.len);

@@ -7,7 +7,7 @@ use super::Canvas;
 impl Canvas {
     /// What a control character does. The answer is whether the bell rings.
     #[tactic(auto, unfolding(crate::specs::Effect::control))]
-    pub fn control(&mut self, code: u8) -> bool
+    pub(crate) fn control(&mut self, code: u8) -> bool
         ensures { control code self.old ≡ record { screen = self.new; said = bell_if result } }
     {
         match code {

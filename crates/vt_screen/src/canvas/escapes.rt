@@ -10,7 +10,7 @@ impl Canvas {
     /// Does what an escape sequence does. What it says beside the screen is then last in `outs`.
     #[inline(always)]
     #[tactic(auto, unfolding(crate::specs::Effect::escape))]
-    pub fn escape(&mut self, mid: u8, last: u8, outs: &mut Outs)
+    pub(crate) fn escape(&mut self, mid: u8, last: u8, outs: &mut Outs)
         requires room { length outs.old < 64 }
         ensures screen { self.new ≡ (escape mid last self.old).screen }
         ensures said { outs.new ≡ outs.old ++ outs_of_option (escape mid last self.old).said }

@@ -39,14 +39,14 @@ impl Canvas {
     }
 
     /// Whether a line feed scrolls: the cursor is in the region's last row.
-    pub fn scrolls(&self) -> bool
+    pub(crate) fn scrolls(&self) -> bool
         ensures { result ≡ (self.now.state.y == self.now.state.bottom) }
     {
         self.state.y == self.state.bottom
     }
 
     /// Does line feeds at once, of which each scrolls.
-    pub fn scroll(&mut self, count: u16)
+    pub(crate) fn scroll(&mut self, count: u16)
         requires some { 0 < count }
         requires scrolls { self.old.state.y ≡ self.old.state.bottom }
         ensures { self.new ≡ newlines count self.old }

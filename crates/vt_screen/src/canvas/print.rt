@@ -16,7 +16,7 @@ const REPLACEMENT: u32 = 0xFFFD;
 
 impl Canvas {
     /// Prints a character in the columns that it takes.
-    pub fn print(&mut self, code: u32)
+    pub(crate) fn print(&mut self, code: u32)
         ensures { self.new ≡ print_character code self.old }
     {
         self.print_cells(columns(code), code);
@@ -24,7 +24,7 @@ impl Canvas {
 
     /// Prints a character in so many columns.
     #[tactic(auto, unfolding(crate::specs::Printing::print))]
-    pub fn print_cells(&mut self, width: u8, code: u32)
+    pub(crate) fn print_cells(&mut self, width: u8, code: u32)
         requires { width ≤ 2 }
         ensures { self.new ≡ print width code self.old }
     {
@@ -41,7 +41,7 @@ impl Canvas {
 
     /// How many cells there are from the cursor to the end of its row, where no wrap is pending and
     /// insert mode is off.
-    pub fn room(&self) -> usize
+    pub(crate) fn room(&self) -> usize
         ensures room { result ≡ room self.now }
         ensures whole { IsWhole self.now }
         ensures unwrapped { 0 < result → self.now.state.wrap ≡ false }
@@ -58,7 +58,7 @@ impl Canvas {
     }
 
     /// Prints the character of a byte, or none.
-    pub fn print_first(&mut self, bytes: &[u8])
+    pub(crate) fn print_first(&mut self, bytes: &[u8])
         requires { length bytes.now ≤ 1 }
         ensures { self.new ≡ print_characters bytes.now self.old }
     {
@@ -70,7 +70,7 @@ impl Canvas {
 
     /// Prints characters of one column, one for each byte, that end in the cursor's row.
     #[inline(always)]
-    pub fn print_bytes(&mut self, bytes: &[u8])
+    pub(crate) fn print_bytes(&mut self, bytes: &[u8])
         requires narrow { cells_of_characters bytes.now ≡ bytes.now }
         requires some { 0 < room self.old }
         requires room { length bytes.now ≤ room self.old }
@@ -86,7 +86,7 @@ impl Canvas {
     }
 
     /// Prints characters, one after another.
-    pub fn print_codes(&mut self, codes: &[u32])
+    pub(crate) fn print_codes(&mut self, codes: &[u32])
         ensures { self.new ≡ print_characters codes.now self.old }
     {
         let mut at = 0;

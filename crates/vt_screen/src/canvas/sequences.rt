@@ -11,7 +11,13 @@ use vt_units::LongSgr;
 
 impl Canvas {
     /// Does what a control sequence does. What it says beside the screen is then last in `outs`.
-    pub fn dispatch_sequence(&mut self, private: bool, params: &[u16], last: u8, outs: &mut Outs)
+    pub(crate) fn dispatch_sequence(
+        &mut self,
+        private: bool,
+        params: &[u16],
+        last: u8,
+        outs: &mut Outs,
+    )
         requires room { length outs.old < 64 }
         ensures screen { self.new ≡ (effect (Csi private params.now last) self.old).screen }
         ensures said { outs.new ≡ outs.old ++ outs_of_option (effect (Csi private params.now last) self.old).said }
@@ -28,7 +34,7 @@ impl Canvas {
 
     /// Does the same for a control sequence of one parameter, or of both.
     #[inline(always)]
-    pub fn dispatch_short_csi(
+    pub(crate) fn dispatch_short_csi(
         &mut self,
         first: u16,
         second: u16,
@@ -50,7 +56,7 @@ impl Canvas {
     /// Does the same for SGR of three parameters, or of five.
     #[inline(always)]
     #[tactic(auto, unfolding(crate::specs::Effect::control_sequence))]
-    pub fn dispatch_long_sgr(&mut self, longer: LongSgr, outs: &mut Outs)
+    pub(crate) fn dispatch_long_sgr(&mut self, longer: LongSgr, outs: &mut Outs)
         requires room { length outs.old < 64 }
         ensures screen { self.new ≡ (control_sequence (more_numbers longer) 0x6D self.old).screen }
         ensures said { outs.new

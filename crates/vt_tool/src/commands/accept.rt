@@ -20,7 +20,7 @@ const BAD_CERT: u16 = 45;
 const BAD_ITEM: u8 = 6;
 
 /// Whether the text is the journal's certificate, or the text's first fault.
-pub fn answer(
+pub(crate) fn answer(
     alloc: Global,
     session: &Session,
     journal: &Journal,

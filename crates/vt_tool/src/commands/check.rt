@@ -15,7 +15,11 @@ use vt_journal::Journal;
 use vt_world::displays_are_lawful;
 
 /// The verdict on the journal.
-pub fn answer(alloc: Global, session: &Session, journal: &Journal) -> Result<Answer, NoMemory>
+pub(crate) fn answer(
+    alloc: Global,
+    session: &Session,
+    journal: &Journal,
+) -> Result<Answer, NoMemory>
     ensures judged { IfOk result (λ answer. IsJudged session.now journal.now
         (record { status = answer.status; text = answer.text.bytes })) }
     ensures own { IfOk result (λ answer. IsTrue (is_command_status answer.status)) }

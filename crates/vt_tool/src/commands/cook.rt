@@ -14,7 +14,7 @@ use vt_base::{Bytes, NoMemory};
 use vt_journal::{add, add_hex};
 
 /// A line for each item that the input gives, one for what is kept, and one for the echo.
-pub fn answer(alloc: Global, input: &[u8]) -> Result<Answer, NoMemory>
+pub(crate) fn answer(alloc: Global, input: &[u8]) -> Result<Answer, NoMemory>
     ensures status { IfOk result (λ answer. answer.status ≡ Status.Fine) }
     ensures text { IfOk result (λ answer. answer.text.bytes ≡ cook_text input.now) }
     ensures own { IfOk result (λ answer. IsTrue (is_command_status answer.status)) }

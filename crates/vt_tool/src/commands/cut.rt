@@ -8,7 +8,7 @@ const CERT_MARK: &[u8] = b"%explain ";
 
 /// What a line begins with before which an input is cut.
 #[derive(Clone, Copy)]
-pub enum CutMark {
+pub(crate) enum CutMark {
     /// The first line of a journal (docs/JOURNAL.md).
     Journal,
     /// The word of a certificate.
@@ -17,7 +17,7 @@ pub enum CutMark {
 
 /// An input, cut before the first of its lines that begins with a mark.
 #[derive(Clone, Copy)]
-pub struct CutInput<'a> {
+pub(crate) struct CutInput<'a> {
     /// The text before that line.
     pub text: &'a [u8],
     /// The text from there on; empty where the input has no such line.
@@ -25,7 +25,7 @@ pub struct CutInput<'a> {
 }
 
 /// The input, cut before the first of its lines that begins with the mark.
-pub fn cut(mark: CutMark, input: &[u8]) -> CutInput<'_>
+pub(crate) fn cut(mark: CutMark, input: &[u8]) -> CutInput<'_>
     ensures { IsCut mark input.now result.text.now result.after.now }
 {
     for at in 0..input.len() {

@@ -12,7 +12,7 @@ use vt_base::{Bytes, ConsoleNo, NoMemory};
 use vt_world::World;
 
 /// The numbers of the session's serial play.
-pub fn answer(alloc: Global, n: u32, seed: u64) -> Result<Answer, NoMemory>
+pub(crate) fn answer(alloc: Global, n: u32, seed: u64) -> Result<Answer, NoMemory>
     requires some { 1 ≤ n }
     requires few { n ≤ 10_000 }
     ensures gives { IfOk result (λ answer. GivesDrill n seed

@@ -17,7 +17,7 @@ use std::alloc::Global;
 use vt_base::NoMemory;
 
 /// The dump of the tables of the keymap text, or its first fault.
-pub fn answer(alloc: Global, input: &[u8]) -> Result<Answer, NoMemory>
+pub(crate) fn answer(alloc: Global, input: &[u8]) -> Result<Answer, NoMemory>
     ensures gives { IfOk result (λ answer.
         GivesDump input.now (record { status = answer.status; text = answer.text.bytes })
         ⊎ GivesKeyFault input.now (record { status = answer.status; text = answer.text.bytes })) }

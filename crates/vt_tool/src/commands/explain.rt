@@ -11,7 +11,11 @@ use vt_explain::{Explained, explain, print_cert};
 use vt_journal::Journal;
 
 /// Why the display changed in the journal.
-pub fn answer(alloc: Global, session: &Session, journal: &Journal) -> Result<Answer, NoMemory>
+pub(crate) fn answer(
+    alloc: Global,
+    session: &Session,
+    journal: &Journal,
+) -> Result<Answer, NoMemory>
     ensures explained { IfOk result (λ answer. IsExplained session.now journal.now
         (record { status = answer.status; text = answer.text.bytes })) }
     ensures own { IfOk result (λ answer. IsTrue (is_command_status answer.status)) }

@@ -1,6 +1,6 @@
 /// What is asked of a session and the text after it.
 #[derive(Clone, Copy)]
-pub enum JudgeRequest {
+pub(crate) enum JudgeRequest {
     /// The verdict on the journal.
     Verdict,
     /// What an ear is told of the journal: of these kinds of notices, a bit for each, and of this

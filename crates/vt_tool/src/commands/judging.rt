@@ -16,7 +16,7 @@ use vt_journal::{JError, JFault, Journal, parse};
 
 /// What is made of the session and the text after it; or the first fault of the session, or else of
 /// that text.
-pub fn answer(alloc: Global, asked: JudgeRequest, input: &[u8]) -> Result<Answer, NoMemory>
+pub(crate) fn answer(alloc: Global, asked: JudgeRequest, input: &[u8]) -> Result<Answer, NoMemory>
     requires { IsFitAsked asked }
     ensures gives { IfOk result (λ answer. GivesAsked asked input.now
         (record { status = answer.status; text = answer.text.bytes })) }
@@ -90,7 +90,7 @@ fn make_of(
 }
 
 /// The answer to a journal that is refused at this fault.
-pub fn answer_refused(alloc: Global, fault: JFault) -> Answer
+pub(crate) fn answer_refused(alloc: Global, fault: JFault) -> Answer
     ensures status { result.status
         ≡ Status.Refused fault.kind fault.line (column_of fault.line) }
     ensures text { result.text.bytes ≡ [] }

@@ -14,7 +14,7 @@ use std::alloc::Global;
 use vt_base::NoMemory;
 
 /// The listing of the tables of the keymap text, or its first fault.
-pub fn answer(alloc: Global, input: &[u8]) -> Result<Answer, NoMemory>
+pub(crate) fn answer(alloc: Global, input: &[u8]) -> Result<Answer, NoMemory>
     ensures gives { IfOk result (λ answer.
         GivesListing input.now (record { status = answer.status; text = answer.text.bytes })
         ⊎ GivesKeyFault input.now (record { status = answer.status; text = answer.text.bytes })) }
@@ -28,7 +28,7 @@ pub fn answer(alloc: Global, input: &[u8]) -> Result<Answer, NoMemory>
 }
 
 /// The tables of the keymap text, or its first fault.
-pub fn tables_in(alloc: Global, input: &[u8]) -> Result<KeyTables, KeyError>
+pub(crate) fn tables_in(alloc: Global, input: &[u8]) -> Result<KeyTables, KeyError>
     ensures read { ReadsKeymap input.now result }
     ensures dumpable { IfOk result (λ tables. IsTrue (is_dumpable tables)) }
 {
@@ -44,7 +44,7 @@ fn answer_listed(alloc: Global, tables: &KeyTables) -> Result<Answer, NoMemory>
 }
 
 /// The answer to a keymap text that is refused at this fault.
-pub fn answer_refused(alloc: Global, fault: KeyFault) -> Answer
+pub(crate) fn answer_refused(alloc: Global, fault: KeyFault) -> Answer
     ensures status { result.status ≡ Status.Refused fault.kind fault.line fault.column }
     ensures text { result.text.bytes ≡ [] }
 {

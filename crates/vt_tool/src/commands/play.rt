@@ -13,7 +13,7 @@ use table_fields::TableError;
 use vt_base::NoMemory;
 
 /// The journal of the session's serial play, and the console after it; or the session's first fault.
-pub fn answer(alloc: Global, input: &[u8]) -> Result<Answer, NoMemory>
+pub(crate) fn answer(alloc: Global, input: &[u8]) -> Result<Answer, NoMemory>
     ensures gives { IfOk result (λ answer.
         GivesPlayed input.now (record { status = answer.status; text = answer.text.bytes })
         ⊎ GivesSessionFault input.now

@@ -17,7 +17,7 @@ use vt_io::Gate;
 
 /// The journal of the run that the session's callers made, and the console after it; or the session's
 /// first fault.
-pub fn answer<G: Gate + Sync, R: Threads + Wait + Sync>(
+pub(crate) fn answer<G: Gate + Sync, R: Threads + Wait + Sync>(
     rt: &R,
     alloc: Global,
     input: &[u8],

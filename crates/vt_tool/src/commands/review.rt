@@ -11,7 +11,7 @@ use vt_journal::Journal;
 use vt_review::{Ear, EarTable, Listener, Notice, Reviewed, review};
 
 /// What an ear of these kinds and this console is told of the journal.
-pub fn answer(
+pub(crate) fn answer(
     alloc: Global,
     kinds: u8,
     console: u8,

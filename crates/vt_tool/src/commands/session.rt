@@ -13,7 +13,7 @@ use vt_base::{Bytes, NoMemory};
 use vt_journal::{Tail, add, print};
 
 /// The journal of the run, and the text of the console after it.
-pub fn answer_run(alloc: Global, run: &Run, last: &[u8]) -> Result<Answer, NoMemory>
+pub(crate) fn answer_run(alloc: Global, run: &Run, last: &[u8]) -> Result<Answer, NoMemory>
     ensures status { IfOk result (λ answer. answer.status
         ≡ status_of (tail_at run.now.log.entries run.now.stop)) }
     ensures text { IfOk result (λ answer. answer.text.bytes
@@ -32,7 +32,7 @@ pub fn answer_run(alloc: Global, run: &Run, last: &[u8]) -> Result<Answer, NoMem
 }
 
 /// Fine where all programs are over, and JournalFull where a call found no room.
-pub fn status_of(end: &Tail) -> Status
+pub(crate) fn status_of(end: &Tail) -> Status
     ensures status { result ≡ status_of end.now }
     ensures own { IsTrue (is_command_status result) }
 {

@@ -16,7 +16,7 @@ use table_fields::TableError;
 use vt_base::{Bytes, NoMemory};
 
 /// A line for each scan byte of the table, or the table's first fault.
-pub fn answer(alloc: Global, input: &[u8]) -> Result<Answer, NoMemory>
+pub(crate) fn answer(alloc: Global, input: &[u8]) -> Result<Answer, NoMemory>
     ensures gives { IfOk result (λ answer.
         GivesTyped input.now (record { status = answer.status; text = answer.text.bytes })
         ⊎ GivesTableFault input.now (record { status = answer.status; text = answer.text.bytes })) }

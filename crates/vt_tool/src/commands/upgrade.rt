@@ -16,7 +16,7 @@ use vt_journal::{JError, Journal, parse, print, version_of};
 const NO_FIRST: u16 = 40;
 
 /// The journal in version 2, or its first fault: a journal of version 2 has no first line here.
-pub fn answer(alloc: Global, input: &[u8]) -> Result<Answer, NoMemory>
+pub(crate) fn answer(alloc: Global, input: &[u8]) -> Result<Answer, NoMemory>
     ensures gives { IfOk result (λ answer. GivesUpgraded input.now
         (record { status = answer.status; text = answer.text.bytes })) }
     ensures own { IfOk result (λ answer. IsTrue (is_command_status answer.status)) }

@@ -10,7 +10,7 @@ use vt_base::{Bytes, NoMemory};
 use vt_journal::{add, add_hex, add_next};
 
 /// Adds a line for each scan byte, typed in this keyboard mode.
-pub fn add_typed(
+pub(crate) fn add_typed(
     alloc: Global,
     text: &mut Bytes,
     tables: &KeyTables,
