@@ -25,7 +25,7 @@ class Call:
         self.name, *self.fields = head.strip("()").removeprefix("event.").split()
         self.word = word
         self.numbers = [it for it in numbers.strip("()").removesuffix("[]").split(" ∷ ") if it]
-        self.holds_bytes = shape == "holding"
+        self.holds_bytes = shape == "with_bytes"
         self.is_one_byte = self.holds_bytes and not bytes_held.endswith(".bytes")
 
     def of(self, enum, fields):
@@ -46,7 +46,7 @@ class Call:
         counted = ["no_number", "one_number", "two_numbers", "three_numbers"]
         if self.holds_bytes:
             held = "array::from_ref(b)" if self.is_one_byte else "b.as_slice()"
-            made = f"holding(Kind::{self.name}, &[{', '.join(numbers)}], {held})"
+            made = f"with_bytes(Kind::{self.name}, &[{', '.join(numbers)}], {held})"
         elif len(numbers) < len(counted):
             made = f"{counted[len(numbers)]}({', '.join([f'Kind::{self.name}', *numbers])})"
         else:
@@ -55,7 +55,8 @@ class Call:
 
     def row(self):
         held = str(self.holds_bytes).lower()
-        return f'Row {{ kind: Kind::{self.name}, name: b"{self.word}", numbers: {len(self.numbers)}, bytes: {held} }},'
+        numbers = len(self.numbers)
+        return f'CallForm {{ kind: Kind::{self.name}, name: b"{self.word}", numbers: {numbers}, bytes: {held} }},'
 
     def defined(self):
         places = [f"(at n {at})" for at in range(len(self.numbers))]
@@ -65,9 +66,9 @@ class Call:
 
 def calls():
     """Returns the calls, in the order of their lines."""
-    body = WORDS.read_text().split("abbrev pub parts_of : Event → Parts\n")[1].split("\n\n")[0]
+    body = WORDS.read_text().split("abbrev pub parts_of : Event → CallWordsView\n")[1].split("\n\n")[0]
     lines = re.sub(r"\n +", " ", body).split("\n")
-    form = re.compile(r'parts_of (\(.*?\)|\S+) = (plain|holding) \(codes "(\w+)"\) (\[\]|\(.*?\)) ?(.*)')
+    form = re.compile(r'parts_of (\(.*?\)|\S+) = (plain|with_bytes) \(codes "(\w+)"\) (\[\]|\(.*?\)) ?(.*)')
     return [Call(*form.fullmatch(line).groups()) for line in lines]
 
 
@@ -76,7 +77,7 @@ def guesses(calls, file):
     text = file.read_text()
     sum = r"(\d+) \* first \+ (\d+) \* last \+ (\d+) \* fourth \+ (\d+) \* long"
     first, last, fourth, long = map(int, re.search(sum, text).groups())
-    places = ["Scan"] * int(re.search(r"const PLACES: usize = (\d+);", text)[1])
+    places = ["Scan"] * int(re.search(r"const GUESS_PLACES: usize = (\d+);", text)[1])
     for call in reversed(calls):
         word = call.word.encode()
         if len(word) >= 4:
@@ -92,13 +93,13 @@ def lists(calls):
     yield journal / "src/kind.rt", "pub enum Kind {\n", "}\n", 4, [f"{it.name}," for it in calls]
     call = "        ensures { result ≡ call_of self n.now b.bytes }\n    {\n        match self {\n"
     yield journal / "src/kind.rt", call, "        }\n", 12, each(Call.made)
-    yield journal / "src/parts.rt", "        match e {\n", "        }\n    }\n}\n", 12, each(Call.taken)
-    yield journal / "src/rows.rt", "static ROWS: [Row; KINDS] = [\n", "];\n", 4, each(Call.row)
-    yield journal / "src/rows.rt", "/// How many kinds there are.\n", BLANK_LINE, 0, [f"const KINDS: usize = {len(calls)};"]
+    yield journal / "src/call_words.rt", "        match e {\n", "        }\n    }\n}\n", 12, each(Call.taken)
+    yield journal / "src/rows.rt", "static ROWS: [CallForm; KIND_COUNT] = [\n", "];\n", 4, each(Call.row)
+    yield journal / "src/rows.rt", "/// How many kinds there are.\n", BLANK_LINE, 0, [f"const KIND_COUNT: usize = {len(calls)};"]
     defined = "abbrev pub call_of : Kind → List ℕ → List ℕ → Event\n"
     yield journal / "specs/Kinds.antt", defined, BLANK_LINE, 0, each(Call.defined)
-    likely = journal / "src/likely.rt"
-    yield likely, "static LIKELY: [Kind; PLACES] = [\n", "];\n", 4, guesses(calls, likely)
+    likely = journal / "src/kind_guess.rt"
+    yield likely, "static LIKELY: [Kind; GUESS_PLACES] = [\n", "];\n", 4, guesses(calls, likely)
     each_kind = "pub each_kind : (k : Kind) → Contains kinds k\n"
     found = f"each_kind kind.{calls[0].name} = (0, ltb-true 0 {len(calls)} refl, refl)"
     other = f"(position_or_len (is_named (name_of (blank k))) kinds, ltb-true _ {len(calls)} refl, refl)"

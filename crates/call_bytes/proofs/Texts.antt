@@ -11,15 +11,6 @@ pub three_more : (start a b c x y z : List ℕ) → a ≡ start ++ x → b ≡ a
 three_more start a b c x y z p q r =
     r ∙ ap (λ t. t ++ z) (q ∙ ap (λ t. t ++ y) p) ∙ simp append_assoc
 
--- the piece of one more item
-pub piece_more : {X : Type 0} (f : X → List ℕ) (xs : List X) (i : ℕ) (x : X) (start before after : List ℕ) → i < length xs → get_or xs i x ≡ x → after ≡ before ++ f x → before ≡ start ++ flat_map f (take i xs) → after ≡ start ++ flat_map f (take (i + 1) xs)
-piece_more f xs i x start before after h e added so_far =
-    added
-    ∙ ap (λ t. t ++ f x) so_far
-    ∙ flat_map_more f start (take i xs) x
-    ∙ ap (λ y. start ++ flat_map f (take i xs ++ y ∷ [])) (sym e)
-    ∙ ap (λ ys. start ++ flat_map f ys) (sym (take_more xs i x h))
-
 -- a place where the test fails
 pub fails_at : (p : ℕ → Bool) (n k : ℕ) → k < n → p k ≡ false → list_all p (range_with_len 0 n) ≡ false
 fails_at p n k h fails =

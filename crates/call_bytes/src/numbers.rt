@@ -2,7 +2,7 @@ ghost use Rattle.std.specs.Prelude.{◌≡◌, ◌+◌, ◌<◌, length};
 ghost use Rattle.call_bytes.specs.Numbers.{is_number_at, number_at};
 
 /// The number of 16 bits at a place, the lowest byte first.
-pub fn number_at(b: &[u8], i: usize) -> u16
+pub(crate) fn number_at(b: &[u8], i: usize) -> u16
     requires { i + 1 < length b.now }
     ensures { result ≡ number_at b.now i }
 {
@@ -10,7 +10,7 @@ pub fn number_at(b: &[u8], i: usize) -> u16
 }
 
 /// Whether the number of four bytes at a place has 16 bits.
-pub fn is_number_at(b: &[u8], i: usize) -> bool
+pub(crate) fn is_number_at(b: &[u8], i: usize) -> bool
     requires { i + 3 < length b.now }
     ensures { result ≡ is_number_at b.now i }
 {

@@ -7,7 +7,7 @@ use std::alloc::Global;
 use vt_base::NoMemory;
 
 /// Adds the line as it stands, and with it what comes of it.
-pub fn add_answer(
+pub(crate) fn add_answer(
     alloc: Global,
     case: &mut Case,
     line: &str,

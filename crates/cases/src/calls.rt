@@ -14,7 +14,7 @@ const END: Tail = Tail::End {
 };
 
 /// The console that the session opens, where it is one.
-pub fn opened(alloc: Global, session: &[u8]) -> Result<Option<World>, NoMemory> {
+pub(crate) fn opened(alloc: Global, session: &[u8]) -> Result<Option<World>, NoMemory> {
     match read(alloc, session) {
         Ok(session) => {
             let world = World::start(alloc, session.config(), session.key_tables())?;
@@ -26,7 +26,7 @@ pub fn opened(alloc: Global, session: &[u8]) -> Result<Option<World>, NoMemory> 
 }
 
 /// Makes the call, and adds its answer as a journal tells it.
-pub fn add_reply(
+pub(crate) fn add_reply(
     alloc: Global,
     world: &mut World,
     p: u16,

@@ -13,7 +13,7 @@ const ERR_ROOM: usize = 1_000;
 
 /// What the lines of a case have said so far.
 #[derive(Drop)]
-pub struct Case {
+pub(crate) struct Case {
     pub words: Vec<String>,
     pub input: Vec<u8>,
     /// Of each read of the source, whether it fails; the same of writes to out and to err.
@@ -28,7 +28,7 @@ pub struct Case {
 
 impl Case {
     /// A case without words and input, where nothing fails.
-    pub fn new(alloc: Global) -> Case {
+    pub(crate) fn new(alloc: Global) -> Case {
         Case {
             words: Vec::new(alloc),
             input: Vec::new(alloc),
@@ -42,7 +42,7 @@ impl Case {
     }
 
     /// Takes a line that makes nothing happen.
-    pub fn take(&mut self, alloc: Global, line: Line<'_>) -> Result<(), NoMemory> {
+    pub(crate) fn take(&mut self, alloc: Global, line: Line<'_>) -> Result<(), NoMemory> {
         match line {
             Line::Case => *self = Case::new(alloc),
             Line::Words(words) => self.words = words_of(alloc, words)?,

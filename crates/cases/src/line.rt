@@ -5,7 +5,7 @@ const GREATEST: u64 = 4_294_967_295;
 
 /// What a line says.
 #[derive(Clone, Copy)]
-pub enum Line<'a> {
+pub(crate) enum Line<'a> {
     Remark,
     /// A new case.
     Case,
@@ -36,7 +36,7 @@ pub enum Line<'a> {
 }
 
 impl<'a> Line<'a> {
-    pub fn of(line: &'a str) -> Line<'a> {
+    pub(crate) fn of(line: &'a str) -> Line<'a> {
         if line.is_empty() || line.starts_with('#') {
             return Line::Remark;
         }
@@ -101,7 +101,7 @@ impl<'a> Line<'a> {
 }
 
 /// The number and the text of `N TEXT`.
-pub fn times_of(text: &str) -> Option<(u64, &str)> {
+pub(crate) fn times_of(text: &str) -> Option<(u64, &str)> {
     let (times, piece) = text.split_once(' ')?;
     Some((number_of(times)?, piece))
 }

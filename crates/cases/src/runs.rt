@@ -7,7 +7,7 @@ use vt_base::NoMemory;
 use vt_tool::vt_command;
 
 /// Runs the case's command, once for each room of out, and adds what comes of it.
-pub fn add_runs(alloc: Global, case: &Case, text: &mut Vec<u8>) -> Result<(), NoMemory> {
+pub(crate) fn add_runs(alloc: Global, case: &Case, text: &mut Vec<u8>) -> Result<(), NoMemory> {
     let (first, last) = case.rooms;
     for room in first..=last {
         if first != last {

@@ -12,7 +12,7 @@ const BLOCK: u64 = 4_096;
 const DIGITS: &[u8; 16] = b"0123456789ABCDEF";
 
 /// Adds the bytes that the text spells.
-pub fn add_bytes(text: &str, bytes: &mut Vec<u8>) -> Result<(), AllocError> {
+pub(crate) fn add_bytes(text: &str, bytes: &mut Vec<u8>) -> Result<(), AllocError> {
     let mut rest = text.as_bytes();
     for _ in 0..text.len() {
         let Some((byte, left)) = first_of(rest) else {
@@ -25,7 +25,7 @@ pub fn add_bytes(text: &str, bytes: &mut Vec<u8>) -> Result<(), AllocError> {
 }
 
 /// Adds the bytes that the text spells, so many times.
-pub fn add_repeated(
+pub(crate) fn add_repeated(
     alloc: Global,
     times: u64,
     text: &str,
@@ -57,7 +57,7 @@ fn put_times(bytes: &mut Vec<u8>, piece: &[u8], times: u64) -> Result<(), AllocE
 }
 
 /// Adds the words of a call, where `*N TEXT` at their end stands for the bytes that TEXT spells, so many times.
-pub fn add_words(alloc: Global, words: &str, bytes: &mut Vec<u8>) -> Result<(), AllocError> {
+pub(crate) fn add_words(alloc: Global, words: &str, bytes: &mut Vec<u8>) -> Result<(), AllocError> {
     if let Some((first, last)) = words.split_once('*') {
         if let Some((times, text)) = times_of(last) {
             bytes.extend_from_slice(first.as_bytes())?;
@@ -90,7 +90,7 @@ fn digit_of(byte: u8) -> u8 {
 
 /// Adds lines that tell the bytes: `|LINE` for a line of printable ASCII that ends in LF, `=` and its bytes,
 /// spelled, for any other, and `*N` with its bytes, spelled, for many equal ones.
-pub fn add_lines(bytes: &[u8], text: &mut Vec<u8>) -> Result<(), AllocError> {
+pub(crate) fn add_lines(bytes: &[u8], text: &mut Vec<u8>) -> Result<(), AllocError> {
     let mut line: &[u8] = &[];
     let mut times = 0;
     for next in bytes.split_inclusive(|b| *b == b'\n') {
@@ -150,12 +150,12 @@ fn is_printable(byte: u8) -> bool {
 }
 
 /// Adds the bytes as they stand.
-pub fn put(text: &mut Vec<u8>, bytes: &[u8]) -> Result<(), AllocError> {
+pub(crate) fn put(text: &mut Vec<u8>, bytes: &[u8]) -> Result<(), AllocError> {
     text.extend_from_slice(bytes)
 }
 
 /// Adds the number in digits.
-pub fn put_number(text: &mut Vec<u8>, n: u64) -> Result<(), AllocError> {
+pub(crate) fn put_number(text: &mut Vec<u8>, n: u64) -> Result<(), AllocError> {
     let mut digits = Buffer::new();
     put(text, digits.format(n).as_bytes())
 }

@@ -5,14 +5,14 @@ use vt_io::{MemSink, MemSource};
 
 /// The source and the two sinks of one run.
 #[derive(Drop)]
-pub struct Streams {
+pub(crate) struct Streams {
     pub src: MemSource,
     pub out: MemSink,
     pub err: MemSink,
 }
 
 /// The streams of the case, with so much room in out.
-pub fn streams_of(alloc: Global, case: &Case, room: usize) -> Result<Streams, NoMemory> {
+pub(crate) fn streams_of(alloc: Global, case: &Case, room: usize) -> Result<Streams, NoMemory> {
     let src = source(alloc, case.input.as_slice(), case.reads.as_slice())?;
     let out = sink(alloc, room, case.writes.as_slice())?;
     let err = sink(alloc, case.err_room, case.says.as_slice())?;

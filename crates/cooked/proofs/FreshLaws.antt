@@ -87,9 +87,9 @@ module _ (p : ℕ → Bool) where
       fits (suc n) (x ∷ left) b = ap (λ ys. x ∷ ys) (fits n left b)
 
 -- a byte more changes what is fresh as it does after the fresh bytes alone
-pub fresh-more : (t : Termios) (bytes : List ℕ) (b : ℕ)
+pub fresh_more : (t : Termios) (bytes : List ℕ) (b : ℕ)
     → fresh t (bytes ++ b ∷ []) ≡ fresh t (fresh t bytes ++ b ∷ [])
-fresh-more t bytes b = by_mode t.icanon
+fresh_more t bytes b = by_mode t.icanon
   where
     by_mode : (canonical : Bool)
         → cond canonical (take most (after_last (ends t) (bytes ++ b ∷ []))) []
@@ -97,39 +97,14 @@ fresh-more t bytes b = by_mode t.icanon
     by_mode true = front-more (ends t) most bytes b
     by_mode false = refl
 
--- what is fresh is fresh
-pub fresh-again : (t : Termios) (bytes : List ℕ) → fresh t (fresh t bytes) ≡ fresh t bytes
-fresh-again t bytes = by_mode t.icanon
-  where
-    by_mode : (canonical : Bool)
-        → cond canonical (take most (after_last (ends t) (cond canonical (take most (after_last (ends t) bytes)) []))) []
-        ≡ cond canonical (take most (after_last (ends t) bytes)) []
-    by_mode true =
-        let left : List ℕ = after_last (ends t) bytes in
-        ap (take most) (none-pass (ends t) (take most left) (none-in-front (ends t) most left (none-after (ends t) bytes)))
-        ∙ take_all most (take most left) (omega (arith, length-take most left))
-    by_mode false = refl
-
 -- after an end nothing is
-pub fresh-ended : (t : Termios) (bytes : List ℕ) (b : ℕ) → ends_line (kind t b) ≡ true
+pub fresh_ended : (t : Termios) (bytes : List ℕ) (b : ℕ) → ends_line (kind t b) ≡ true
     → fresh t (bytes ++ b ∷ []) ≡ []
-fresh-ended t bytes b is = by_mode t.icanon
+fresh_ended t bytes b is = by_mode t.icanon
   where
     by_mode : (canonical : Bool) → cond canonical (take most (after_last (ends t) (bytes ++ b ∷ []))) [] ≡ []
     by_mode true = ap (take most) (last-passes (ends t) bytes b is)
     by_mode false = refl
-
--- without lines nothing is
-pub fresh-raw : (t : Termios) (bytes : List ℕ) → t.icanon ≡ false → fresh t bytes ≡ []
-fresh-raw t bytes raw = cond-false _ _ _ raw
-
--- fresh bytes have no end among them, and are at most so many
-pub fresh-few : (t : Termios) (bytes : List ℕ) → length (fresh t bytes) ≤ most
-fresh-few t bytes = by_mode t.icanon
-  where
-    by_mode : (canonical : Bool) → length (cond canonical (take most (after_last (ends t) bytes)) []) ≤ most
-    by_mode true = omega (arith, length-take most (after_last (ends t) bytes))
-    by_mode false = omega arith
 
 -- of fresh bytes, and a byte more that ends no line: it is added, where there is room
 module _ (t : Termios) (f : List ℕ) (b : ℕ) (canonical : t.icanon ≡ true) (stays : fresh t f ≡ f)
@@ -146,14 +121,14 @@ module _ (t : Termios) (f : List ℕ) (b : ℕ) (canonical : t.icanon ≡ true) 
       (ap (list_any (ends t)) (sym (sym (canonically f) ∙ stays))
       ∙ none-in-front (ends t) most (after_last (ends t) f) (none-after (ends t) f))
 
-  pub fresh-added : length f < most → fresh t (f ++ b ∷ []) ≡ f ++ b ∷ []
-  fresh-added room =
+  pub fresh_added : length f < most → fresh t (f ++ b ∷ []) ≡ f ++ b ∷ []
+  fresh_added room =
       front-of-more
       ∙ ap (λ ys. take most (ys ++ b ∷ [])) all-fresh
       ∙ take_all most (f ++ b ∷ []) (omega (arith, length-append f (b ∷ [])))
 
-  pub fresh-full : most ≤ length f → fresh t (f ++ b ∷ []) ≡ f
-  fresh-full full =
+  pub fresh_full : most ≤ length f → fresh t (f ++ b ∷ []) ≡ f
+  fresh_full full =
       front-of-more
       ∙ ap (λ ys. take most (ys ++ b ∷ [])) all-fresh
       ∙ take-append-le most f (b ∷ []) full

@@ -15,72 +15,72 @@ use Rattle.vt_events.specs.declared.event.Event.{Event}
 use Rattle.vt_events.specs.declared.event.Event.TheVariants as event
 use Rattle.vt_events.specs.declared.reply.Reply.{Reply}
 use Rattle.vt_events.specs.declared.reply.Reply.TheVariants as reply
-use Rattle.vt_world.specs.Heard.{cleared}
+use Rattle.vt_world.specs.Heard.{without_marks}
 use Rattle.vt_world.specs.History.{IsLegal, replay}
 use Rattle.vt_world.specs.Inputs.{input_at}
 use Rattle.vt_world.specs.Refusals.{Refusal, common_refusals, first_refusal, is_empty, needs_open, needs_sense, own_refusals, refusal, target, transfer_limit}
 use Rattle.vt_world.specs.Rows.{row}
 use Rattle.vt_world.specs.State.{WorldState}
-use Rattle.vt_world.specs.Step.{answered, effect_after, effect_of, step}
+use Rattle.vt_world.specs.Step.{outcome_of_row, row_result_after, row_result, step}
 use Rattle.cooked.specs.Turn.{ReadAnswer, WriteAnswer}
 
 -- where nothing refuses, the first of some refusals doesn't
-none-first : (r : Refusal) (more : List Refusal) → first_refusal (r ∷ more) ≡ None
+none_first : (r : Refusal) (more : List Refusal) → first_refusal (r ∷ more) ≡ None
     → (r.applies ≡ false) × (first_refusal more ≡ None)
-none-first r more none = by_test r.applies refl
+none_first r more none = by_test r.applies refl
   where
     by_test : (test : Bool) → r.applies ≡ test → (r.applies ≡ false) × (first_refusal more ≡ None)
     by_test true is = absurd (let wrong : ⊥ = cc (sym (ap (λ t. cond t (Some r.with) (first_refusal more)) is) ∙ none) in wrong)
     by_test false is = (is, sym (ap (λ t. cond t (Some r.with) (first_refusal more)) is) ∙ none)
 
 -- bytes from the front of a queue that has some
-front-answer : (most : ℕ) (queue : List ℕ) → 1 ≤ most → 1 ≤ length queue
+front_answer : (most : ℕ) (queue : List ℕ) → 1 ≤ most → 1 ≤ length queue
     → ReadAnswer most (reply.Text (text (take (min most (length queue)) queue)))
-front-answer most queue some bytes =
+front_answer most queue some bytes =
     let long = length-take (min most (length queue)) queue in
     (omega (arith, long), omega (arith, long))
 
-pub read-answer : (w : WorldState) (p fd most : ℕ) → ReadAnswer most (step w p (event.ReadIn fd most)).reply
-read-answer w p fd most = by_common (first_refusal (common_refusals (cleared w) p (event.ReadIn fd most)))
+pub read_answer : (w : WorldState) (p fd most : ℕ) → ReadAnswer most (step w p (event.ReadIn fd most)).reply
+read_answer w p fd most = by_common (first_refusal (common_refusals (without_marks w) p (event.ReadIn fd most)))
   where
-    by_own : (o : Option Errno) → first_refusal (own_refusals (cleared w) p (event.ReadIn fd most)) ≡ o
-        → ReadAnswer most (answered (effect_of (cleared w) o (row (cleared w) p (event.ReadIn fd most)))).reply
+    by_own : (o : Option Errno) → first_refusal (own_refusals (without_marks w) p (event.ReadIn fd most)) ≡ o
+        → ReadAnswer most (outcome_of_row (row_result (without_marks w) o (row (without_marks w) p (event.ReadIn fd most)))).reply
     by_own (Some errno) is = tt
     by_own None is =
-        let here : WorldState = cleared w in
+        let here : WorldState = without_marks w in
         let makes_sense : Bool = nat_le 1 most && nat_le most transfer_limit in
         let empty : Refusal = refusal (is_empty here (target here p fd)) Again in
-        let open_fd = none-first (needs_open here p fd) (needs_sense makes_sense ∷ empty ∷ []) is in
-        let sense = none-first (needs_sense makes_sense) (empty ∷ []) open_fd.1 in
-        let some = none-first empty [] sense.1 in
-        let queue : List ℕ = (input_at (cleared w).inputs (target (cleared w) p fd)).queue.bytes in
+        let open_fd = none_first (needs_open here p fd) (needs_sense makes_sense ∷ empty ∷ []) is in
+        let sense = none_first (needs_sense makes_sense) (empty ∷ []) open_fd.1 in
+        let some = none_first empty [] sense.1 in
+        let queue : List ℕ = (input_at (without_marks w).inputs (target (without_marks w) p fd)).queue.bytes in
         let least : 1 ≤ most = leb-true 1 most (and_parts (nat_le 1 most) (nat_le most transfer_limit) (not-false makes_sense sense.0)).0 in
         let filled : length queue ≡ 0 → ⊥ = eqb-false (length queue) 0 some.0 in
-        front-answer most queue least (omega (arith, filled))
+        front_answer most queue least (omega (arith, filled))
 
     by_common : (o : Option Errno)
-        → ReadAnswer most (answered (effect_after (cleared w) p (event.ReadIn fd most) o)).reply
+        → ReadAnswer most (outcome_of_row (row_result_after (without_marks w) p (event.ReadIn fd most) o)).reply
     by_common (Some errno) = tt
-    by_common None = by_own (first_refusal (own_refusals (cleared w) p (event.ReadIn fd most))) refl
+    by_common None = by_own (first_refusal (own_refusals (without_marks w) p (event.ReadIn fd most))) refl
 
-pub write-answer : (w : WorldState) (p fd : ℕ) (b : Text) → WriteAnswer (step w p (event.Write fd b)).reply
-write-answer w p fd b = by_common (first_refusal (common_refusals (cleared w) p (event.Write fd b)))
+pub write_answer : (w : WorldState) (p fd : ℕ) (b : Text) → WriteAnswer (step w p (event.Write fd b)).reply
+write_answer w p fd b = by_common (first_refusal (common_refusals (without_marks w) p (event.Write fd b)))
   where
     by_own : (o : Option Errno)
-        → WriteAnswer (answered (effect_of (cleared w) o (row (cleared w) p (event.Write fd b)))).reply
+        → WriteAnswer (outcome_of_row (row_result (without_marks w) o (row (without_marks w) p (event.Write fd b)))).reply
     by_own (Some errno) = tt
     by_own None = tt
 
     by_common : (o : Option Errno)
-        → WriteAnswer (answered (effect_after (cleared w) p (event.Write fd b) o)).reply
+        → WriteAnswer (outcome_of_row (row_result_after (without_marks w) p (event.Write fd b) o)).reply
     by_common (Some errno) = tt
-    by_common None = by_own (first_refusal (own_refusals (cleared w) p (event.Write fd b)))
+    by_common None = by_own (first_refusal (own_refusals (without_marks w) p (event.Write fd b)))
 
 -- the last entry of a legal history has the answer of the console
-last-answer : (P : Reply → Type 0) (start : WorldState) (before : List Entry) (entry : Entry) (e : Event)
+last_answer : (P : Reply → Type 0) (start : WorldState) (before : List Entry) (entry : Entry) (e : Event)
     → IsLegal start (before ++ entry ∷ []) → entry.event ≡ e
     → ((w : WorldState) (p : ℕ) → P (step w p e).reply) → P (plain_reply entry.reply)
-last-answer P start before entry e legal is answers =
+last_answer P start before entry e legal is answers =
     let history : List Entry = before ++ entry ∷ [] in
     let next = legal (length before) entry (here before entry) in
     subst P (sym next.answer)
@@ -93,26 +93,26 @@ last-answer P start before entry e legal is answers =
         (omega (arith, length-append before (entry ∷ [])))
         ∙ ap Some (get_or-append_seam before entry [] entry)
 
-plain-read : (most : ℕ) (r : Reply) → ReadAnswer most (plain_reply r) → ReadAnswer most r
-plain-read most (reply.Text b) is = is
-plain-read most (reply.Err errno) is = is
-plain-read most r is = is
+plain_read : (most : ℕ) (r : Reply) → ReadAnswer most (plain_reply r) → ReadAnswer most r
+plain_read most (reply.Text b) is = is
+plain_read most (reply.Err errno) is = is
+plain_read most r is = is
 
-plain-write : (r : Reply) → WriteAnswer (plain_reply r) → is_wait r ≡ false
-plain-write reply.Wait is = absurd is
-plain-write r is = refl
+plain_write : (r : Reply) → WriteAnswer (plain_reply r) → is_wait r ≡ false
+plain_write reply.Wait is = absurd is
+plain_write r is = refl
 
-pub legal-read : (start : WorldState) (before : List Entry) (entry : Entry) (fd most : ℕ) (r : Reply)
+pub legal_read : (start : WorldState) (before : List Entry) (entry : Entry) (fd most : ℕ) (r : Reply)
     → IsLegal start (before ++ entry ∷ []) → entry.event ≡ event.ReadIn fd most
     → plain_reply entry.reply ≡ plain_reply r → ReadAnswer most r
-legal-read start before entry fd most r legal is same =
-    plain-read most r
+legal_read start before entry fd most r legal is same =
+    plain_read most r
     (subst (ReadAnswer most) same
-    (last-answer (ReadAnswer most) start before entry (event.ReadIn fd most) legal is
-    (λ w p. read-answer w p fd most)))
+    (last_answer (ReadAnswer most) start before entry (event.ReadIn fd most) legal is
+    (λ w p. read_answer w p fd most)))
 
-pub legal-write : (start : WorldState) (before : List Entry) (entry : Entry) (fd : ℕ) (b : Text)
+pub legal_write : (start : WorldState) (before : List Entry) (entry : Entry) (fd : ℕ) (b : Text)
     → IsLegal start (before ++ entry ∷ []) → entry.event ≡ event.Write fd b → is_wait entry.reply ≡ false
-legal-write start before entry fd b legal is =
-    plain-write entry.reply
-    (last-answer WriteAnswer start before entry (event.Write fd b) legal is (λ w p. write-answer w p fd b))
+legal_write start before entry fd b legal is =
+    plain_write entry.reply
+    (last_answer WriteAnswer start before entry (event.Write fd b) legal is (λ w p. write_answer w p fd b))

@@ -3,41 +3,41 @@ use Rattle.std.proofs.Common.{◌≡◌, ℕ, suc, ◌+◌, ◌-◌, ◌≤◌, 
 use Rattle.std.proofs.lemmas.List.{drop-append-le, length-drop, length-take, take_all, take-append-le, take-append-drop}
 use Rattle.std.proofs.Math.Seq.{drop-append_seam, take-append_seam}
 use Rattle.std.specs.List.{concat}
-use Rattle.cooked.specs.Kept.{but_last, last_of}
+use Rattle.cooked.specs.KeptText.{but_last, last_of}
 use Rattle.cooked.specs.Sizes.{IsLastSize, parts, total, with_joined}
 
-pub total-more : (sizes : List ℕ) (n : ℕ) → total (sizes ++ n ∷ []) ≡ total sizes + n
-total-more [] n = omega arith
-total-more (m ∷ sizes) n = omega (arith, total-more sizes n)
+pub total_more : (sizes : List ℕ) (n : ℕ) → total (sizes ++ n ∷ []) ≡ total sizes + n
+total_more [] n = omega arith
+total_more (m ∷ sizes) n = omega (arith, total_more sizes n)
 
-pub no-bytes : (bytes : List ℕ) → length bytes ≡ 0 → bytes ≡ []
-no-bytes [] is = refl
-no-bytes (b ∷ bytes) is = absurd (omega (arith, is))
+pub no_bytes : (bytes : List ℕ) → length bytes ≡ 0 → bytes ≡ []
+no_bytes [] is = refl
+no_bytes (b ∷ bytes) is = absurd (omega (arith, is))
 
 -- one part more
-pub parts-more : (sizes bytes c : List ℕ) → total sizes ≡ length bytes
+pub parts_more : (sizes bytes c : List ℕ) → total sizes ≡ length bytes
     → parts (sizes ++ length c ∷ []) (bytes ++ c) ≡ parts sizes bytes ++ c ∷ []
-parts-more [] bytes c whole =
-    ap (λ bs. take (length c) (bs ++ c) ∷ []) (no-bytes bytes (sym whole))
+parts_more [] bytes c whole =
+    ap (λ bs. take (length c) (bs ++ c) ∷ []) (no_bytes bytes (sym whole))
     ∙ ap (λ t. t ∷ []) (take_all (length c) c (omega arith))
-parts-more (n ∷ sizes) bytes c whole =
+parts_more (n ∷ sizes) bytes c whole =
     let within : n ≤ length bytes = omega (arith, whole) in
     let left : total sizes ≡ length (drop n bytes) = omega (arith, whole, length-drop n bytes) in
     ap (λ bs. bs ∷ parts (sizes ++ length c ∷ []) (drop n (bytes ++ c))) (take-append-le n bytes c within)
     ∙ ap (λ bs. take n bytes ∷ parts (sizes ++ length c ∷ []) bs) (drop-append-le n bytes c within)
-    ∙ ap (λ ps. take n bytes ∷ ps) (parts-more sizes (drop n bytes) c left)
+    ∙ ap (λ ps. take n bytes ∷ ps) (parts_more sizes (drop n bytes) c left)
 
 -- all parts together are the bytes
-pub parts-whole : (sizes bytes : List ℕ) → total sizes ≡ length bytes → concat (parts sizes bytes) ≡ bytes
-parts-whole [] bytes whole = sym (no-bytes bytes (sym whole))
-parts-whole (n ∷ sizes) bytes whole =
+pub parts_whole : (sizes bytes : List ℕ) → total sizes ≡ length bytes → concat (parts sizes bytes) ≡ bytes
+parts_whole [] bytes whole = sym (no_bytes bytes (sym whole))
+parts_whole (n ∷ sizes) bytes whole =
     let left : total sizes ≡ length (drop n bytes) = omega (arith, whole, length-drop n bytes) in
-    ap (λ bs. take n bytes ++ bs) (parts-whole sizes (drop n bytes) left) ∙ take-append-drop n bytes
+    ap (λ bs. take n bytes ++ bs) (parts_whole sizes (drop n bytes) left) ∙ take-append-drop n bytes
 
 -- there are as many parts as sizes
-pub parts-count : (sizes bytes : List ℕ) → length (parts sizes bytes) ≡ length sizes
-parts-count [] bytes = refl
-parts-count (n ∷ sizes) bytes = ap suc (parts-count sizes (drop n bytes))
+pub parts_count : (sizes bytes : List ℕ) → length (parts sizes bytes) ≡ length sizes
+parts_count [] bytes = refl
+parts_count (n ∷ sizes) bytes = ap suc (parts_count sizes (drop n bytes))
 
 -- the last part, and the bytes before it
 pub record LastPart (sizes : List ℕ) (size : ℕ) (bytes : List ℕ) : Type 0 where
@@ -48,10 +48,10 @@ pub record LastPart (sizes : List ℕ) (size : ℕ) (bytes : List ℕ) : Type 0 
   pub last_size : length last ≡ size
   pub parts_are : parts (sizes ++ size ∷ []) bytes ≡ parts sizes front ++ last ∷ []
 
-pub last-part : (sizes : List ℕ) (size : ℕ) (bytes : List ℕ) → total (sizes ++ size ∷ []) ≡ length bytes
+pub last_part : (sizes : List ℕ) (size : ℕ) (bytes : List ℕ) → total (sizes ++ size ∷ []) ≡ length bytes
     → LastPart sizes size bytes
-last-part sizes size bytes whole =
-    let sum : total sizes + size ≡ length bytes = sym (total-more sizes size) ∙ whole in
+last_part sizes size bytes whole =
+    let sum : total sizes + size ≡ length bytes = sym (total_more sizes size) ∙ whole in
     let front : List ℕ = take (total sizes) bytes in
     let last : List ℕ = drop (total sizes) bytes in
     let all : bytes ≡ front ++ last = sym (take-append-drop (total sizes) bytes) in
@@ -66,24 +66,24 @@ last-part sizes size bytes whole =
       parts_are =
           ap (λ n. parts (sizes ++ n ∷ []) bytes) (sym last_size)
           ∙ ap (parts (sizes ++ length last ∷ [])) all
-          ∙ parts-more sizes front last front_whole;
+          ∙ parts_more sizes front last front_whole;
     }
 
-pub last-of-more : (cs : List (List ℕ)) (c : List ℕ) → last_of (cs ++ c ∷ []) ≡ c
-last-of-more [] c = refl
-last-of-more (d ∷ []) c = refl
-last-of-more (d ∷ g ∷ cs) c = last-of-more (g ∷ cs) c
+pub last_of_more : (cs : List (List ℕ)) (c : List ℕ) → last_of (cs ++ c ∷ []) ≡ c
+last_of_more [] c = refl
+last_of_more (d ∷ []) c = refl
+last_of_more (d ∷ g ∷ cs) c = last_of_more (g ∷ cs) c
 
-pub but-last-of-more : (cs : List (List ℕ)) (c : List ℕ) → but_last (cs ++ c ∷ []) ≡ cs
-but-last-of-more [] c = refl
-but-last-of-more (d ∷ []) c = refl
-but-last-of-more (d ∷ g ∷ cs) c = ap (λ xs. d ∷ xs) (but-last-of-more (g ∷ cs) c)
+pub but_last_of_more : (cs : List (List ℕ)) (c : List ℕ) → but_last (cs ++ c ∷ []) ≡ cs
+but_last_of_more [] c = refl
+but_last_of_more (d ∷ []) c = refl
+but_last_of_more (d ∷ g ∷ cs) c = ap (λ xs. d ∷ xs) (but_last_of_more (g ∷ cs) c)
 
 -- what the last size says of the sizes and the bytes
 module _ (sizes bytes : List ℕ) (size count : ℕ) (is : IsLastSize sizes size count)
     (whole : total sizes ≡ length bytes) where
   pub the_last : LastPart is.before size bytes
-  the_last = last-part is.before size bytes (ap total (sym is.whole) ∙ whole)
+  the_last = last_part is.before size bytes (ap total (sym is.whole) ∙ whole)
 
   all-parts : parts sizes bytes ≡ parts is.before the_last.front ++ the_last.last ∷ []
   all-parts = ap (λ ns. parts ns bytes) is.whole ∙ the_last.parts_are
@@ -94,21 +94,21 @@ module _ (sizes bytes : List ℕ) (size count : ℕ) (is : IsLastSize sizes size
       ∙ length-append the_last.front the_last.last
       ∙ ap (λ n. length the_last.front + n) the_last.last_size
 
-  pub size-within : size ≤ length bytes
-  size-within = omega (arith, lengths)
+  pub size_within : size ≤ length bytes
+  size_within = omega (arith, lengths)
 
-  pub the-last-of : last_of (parts sizes bytes) ≡ the_last.last
-  the-last-of = ap last_of all-parts ∙ last-of-more (parts is.before the_last.front) the_last.last
+  pub the_last_of : last_of (parts sizes bytes) ≡ the_last.last
+  the_last_of = ap last_of all-parts ∙ last_of_more (parts is.before the_last.front) the_last.last
 
-  pub size-of-last : length (last_of (parts sizes bytes)) ≡ size
-  size-of-last = ap length the-last-of ∙ the_last.last_size
+  pub size_of_last : length (last_of (parts sizes bytes)) ≡ size
+  size_of_last = ap length the_last_of ∙ the_last.last_size
 
   before-last : length bytes - size ≡ length the_last.front
   before-last = omega (arith, lengths)
 
   -- the bytes from there on
-  pub last-bytes : take (length bytes - (length bytes - size)) (drop (length bytes - size) bytes) ≡ last_of (parts sizes bytes)
-  last-bytes =
+  pub last_bytes : take (length bytes - (length bytes - size)) (drop (length bytes - size) bytes) ≡ last_of (parts sizes bytes)
+  last_bytes =
       let cut : drop (length bytes - size) bytes ≡ the_last.last =
       ap (λ n. drop n bytes) before-last
       ∙ ap (drop (length the_last.front)) the_last.bytes_are
@@ -116,7 +116,7 @@ module _ (sizes bytes : List ℕ) (size count : ℕ) (is : IsLastSize sizes size
       ap (take (length bytes - (length bytes - size))) cut
       ∙ take_all (length bytes - (length bytes - size)) the_last.last
       (omega (arith, lengths, the_last.last_size))
-      ∙ sym the-last-of
+      ∙ sym the_last_of
 
   sizes-before : take count sizes ≡ is.before
   sizes-before =
@@ -130,33 +130,29 @@ module _ (sizes bytes : List ℕ) (size count : ℕ) (is : IsLastSize sizes size
       ∙ ap (take (length the_last.front)) the_last.bytes_are
       ∙ take-append_seam the_last.front the_last.last
 
-  pub dropped-whole : total (take count sizes) ≡ length (take (length bytes - size) bytes)
-  dropped-whole = ap total sizes-before ∙ the_last.front_whole ∙ ap length (sym bytes-before)
+  pub dropped_whole : total (take count sizes) ≡ length (take (length bytes - size) bytes)
+  dropped_whole = ap total sizes-before ∙ the_last.front_whole ∙ ap length (sym bytes-before)
 
-  pub dropped-parts : parts (take count sizes) (take (length bytes - size) bytes) ≡ but_last (parts sizes bytes)
-  dropped-parts =
+  pub dropped_parts : parts (take count sizes) (take (length bytes - size) bytes) ≡ but_last (parts sizes bytes)
+  dropped_parts =
       ap (λ ns. parts ns (take (length bytes - size) bytes)) sizes-before
       ∙ ap (parts is.before) bytes-before
-      ∙ sym (ap but_last all-parts ∙ but-last-of-more (parts is.before the_last.front) the_last.last)
-
-  pub sizes-fewer : length (take count sizes) + 1 ≡ length sizes
-  sizes-fewer =
-      omega (arith, ap length sizes-before, ap length is.whole, length-append is.before (size ∷ []))
+      ∙ sym (ap but_last all-parts ∙ but_last_of_more (parts is.before the_last.front) the_last.last)
 
   module _ (b : ℕ) where
-    pub joined-whole : total (take count sizes ++ (size + 1) ∷ []) ≡ length (bytes ++ b ∷ [])
-    joined-whole =
+    pub joined_whole : total (take count sizes ++ (size + 1) ∷ []) ≡ length (bytes ++ b ∷ [])
+    joined_whole =
         omega (
           arith,
-          total-more (take count sizes) (size + 1),
+          total_more (take count sizes) (size + 1),
           ap total sizes-before,
           the_last.front_whole,
           lengths,
           length-append bytes (b ∷ []),
         )
 
-    pub joined-parts : parts (take count sizes ++ (size + 1) ∷ []) (bytes ++ b ∷ []) ≡ with_joined (parts sizes bytes) b
-    joined-parts =
+    pub joined_parts : parts (take count sizes ++ (size + 1) ∷ []) (bytes ++ b ∷ []) ≡ with_joined (parts sizes bytes) b
+    joined_parts =
         let c : List ℕ = the_last.last ++ b ∷ [] in
         let long : size + 1 ≡ length c = omega (arith, length-append the_last.last (b ∷ []), the_last.last_size) in
         let all : bytes ++ b ∷ [] ≡ the_last.front ++ c =
@@ -164,16 +160,16 @@ module _ (sizes bytes : List ℕ) (size count : ℕ) (is : IsLastSize sizes size
         ap (λ ns. parts (ns ++ (size + 1) ∷ []) (bytes ++ b ∷ [])) sizes-before
         ∙ ap (λ n. parts (is.before ++ n ∷ []) (bytes ++ b ∷ [])) long
         ∙ ap (parts (is.before ++ length c ∷ [])) all
-        ∙ parts-more is.before the_last.front c the_last.front_whole
-        ∙ ap (λ cs. cs ++ c ∷ []) (sym (ap but_last all-parts ∙ but-last-of-more (parts is.before the_last.front) the_last.last))
-        ∙ ap (λ d. but_last (parts sizes bytes) ++ (d ++ b ∷ []) ∷ []) (sym the-last-of)
+        ∙ parts_more is.before the_last.front c the_last.front_whole
+        ∙ ap (λ cs. cs ++ c ∷ []) (sym (ap but_last all-parts ∙ but_last_of_more (parts is.before the_last.front) the_last.last))
+        ∙ ap (λ d. but_last (parts sizes bytes) ++ (d ++ b ∷ []) ∷ []) (sym the_last_of)
 
 -- a part of one byte more
-pub added-whole : (sizes bytes : List ℕ) (b : ℕ) → total sizes ≡ length bytes
+pub added_whole : (sizes bytes : List ℕ) (b : ℕ) → total sizes ≡ length bytes
     → total (sizes ++ 1 ∷ []) ≡ length (bytes ++ b ∷ [])
-added-whole sizes bytes b whole =
-    omega (arith, total-more sizes 1, whole, length-append bytes (b ∷ []))
+added_whole sizes bytes b whole =
+    omega (arith, total_more sizes 1, whole, length-append bytes (b ∷ []))
 
-pub added-parts : (sizes bytes : List ℕ) (b : ℕ) → total sizes ≡ length bytes
+pub added_parts : (sizes bytes : List ℕ) (b : ℕ) → total sizes ≡ length bytes
     → parts (sizes ++ 1 ∷ []) (bytes ++ b ∷ []) ≡ parts sizes bytes ++ (b ∷ []) ∷ []
-added-parts sizes bytes b whole = parts-more sizes bytes (b ∷ []) whole
+added_parts sizes bytes b whole = parts_more sizes bytes (b ∷ []) whole

@@ -20,11 +20,11 @@ use Rattle.vt_journal.specs.declared.full.Full.{Full}
 use Rattle.vt_journal.specs.declared.limits.Limits.{Limits}
 use Rattle.vt_world.specs.History.{IsLegal}
 use Rattle.vt_world.specs.State.{WorldState}
-use Rattle.cooked.proofs.ReadLaws.{legal-read, legal-write}
-use Rattle.cooked.specs.Cooked.{Typing, typing}
-use Rattle.cooked.specs.Echo.{echoed}
+use Rattle.cooked.proofs.ReadLaws.{legal_read, legal_write}
+use Rattle.cooked.specs.Cooked.{Typing, make_typing}
+use Rattle.cooked.specs.Echo.{echo_of}
 use Rattle.cooked.specs.Fresh.{fresh}
-use Rattle.cooked.specs.Given.{given, items_of, line_in}
+use Rattle.cooked.specs.Given.{items_after, items_of, line_in}
 use Rattle.cooked.specs.Turn.{Echoes, GoesOn, MetFull, Meets, ReadAnswer, ReadResult, Reads, ReadsByte, ReadsNone, Refused, Refuses, Turns, Writes, Wrote, stop_of}
 use Rattle.cooked.specs.declared.given.Given.TheVariants as answer
 use Rattle.cooked.specs.declared.stop.Stop.{Stop}
@@ -32,9 +32,9 @@ use Rattle.cooked.specs.declared.stop.Stop.TheVariants as stop
 use Rattle.cooked.specs.declared.termios.Termios.{Termios}
 use Rattle.cooked.specs.declared.turn.Turn.{Turn}
 
-last-waits : (known : Bool) (es : List Entry) (e : Entry) → waits_by known (es ++ e ∷ []) ≡ is_wait e.reply
-last-waits known [] e = refl
-last-waits known (x ∷ es) e = last-waits (is_wait x.reply) es e
+last_waits : (known : Bool) (es : List Entry) (e : Entry) → waits_by known (es ++ e ∷ []) ≡ is_wait e.reply
+last_waits known [] e = refl
+last_waits known (x ∷ es) e = last_waits (is_wait x.reply) es e
 
 -- the pass v, before the first call and after calls: what it made so far
 pub record Came (u v : PassView) (made : List Entry) : Type 0 where
@@ -46,8 +46,8 @@ pub record Came (u v : PassView) (made : List Entry) : Type 0 where
   pub later : List Entry
   pub seen : v.seen ≡ u.seen ++ later
 
-came-here : (v : PassView) → Came v v []
-came-here v = record {
+came_here : (v : PassView) → Came v v []
+came_here v = record {
   hub = refl;
   number = refl;
   known = refl;
@@ -57,8 +57,8 @@ came-here v = record {
   seen = sym (append-nil v.seen);
 }
 
-came-on : (start : WorldState) (u v : PassView) (made : List Entry) → GoesOn start u v made → Came u v made
-came-on start u v made g = record {
+came_on : (start : WorldState) (u v : PassView) (made : List Entry) → GoesOn start u v made → Came u v made
+came_on start u v made g = record {
   hub = g.hub;
   number = g.number;
   known = g.known;
@@ -68,9 +68,9 @@ came-on start u v made g = record {
   seen = g.seen;
 }
 
-goes-done : (start : WorldState) (most : Limits) (e : Event) (u v w : PassView) (made : List Entry) (place : ℕ) (r : Reply)
+goes_done : (start : WorldState) (most : Limits) (e : Event) (u v w : PassView) (made : List Entry) (place : ℕ) (r : Reply)
     → Came u v made → (called : Called start most e v w place r) → GoesOn start u w (made ++ called.entry ∷ [])
-goes-done start most e u v w made place r came called = record {
+goes_done start most e u v w made place r came called = record {
   hub = called.hub ∙ came.hub;
   number = called.number ∙ came.number;
   known = called.known ∙ came.known;
@@ -91,9 +91,9 @@ goes-done start most e u v w made place r came called = record {
   kept = subst (λ k. BeginsWith w.seen k) (sym called.read) called.kept;
 }
 
-goes-full : (start : WorldState) (most : Limits) (e : Event) (u v w : PassView) (made : List Entry) (full : Full)
+goes_full : (start : WorldState) (most : Limits) (e : Event) (u v w : PassView) (made : List Entry) (full : Full)
     → Came u v made → Stopped start most e v w full → GoesOn start u w (made ++ [])
-goes-full start most e u v w made full came stopped = record {
+goes_full start most e u v w made full came stopped = record {
   hub = stopped.hub ∙ came.hub;
   number = stopped.number ∙ came.number;
   known = stopped.known ∙ came.known;
@@ -111,93 +111,93 @@ goes-full start most e u v w made full came stopped = record {
 }
 
 -- a call of a read of one is answered by a byte or an error
-pub call-reads : (start : WorldState) (most : Limits) (fd : ℕ) (v w : PassView) (place : ℕ) (r : Reply)
+pub call_reads : (start : WorldState) (most : Limits) (fd : ℕ) (v w : PassView) (place : ℕ) (r : Reply)
     → Called start most (event.ReadIn fd 1) v w place r → ReadAnswer 1 r
-call-reads start most fd v w place r called =
-    legal-read start (v.seen ++ called.between) called.entry fd 1 r
+call_reads start most fd v w place r called =
+    legal_read start (v.seen ++ called.between) called.entry fd 1 r
     (subst (IsLegal start) called.seen called.legal) called.event called.reply
 
-text-is : (a : Reply) (b : ℕ) → plain_reply a ≡ reply.Text (text (b ∷ [])) → is_wait a ≡ false
-text-is reply.Wait b is = absurd (let wrong : ⊥ = cc in wrong)
-text-is a b is = refl
+text_is : (a : Reply) (b : ℕ) → plain_reply a ≡ reply.Text (text (b ∷ [])) → is_wait a ≡ false
+text_is reply.Wait b is = absurd (let wrong : ⊥ = cc in wrong)
+text_is a b is = refl
 
-err-is : (a r : Reply) (stopped : Stop) → plain_reply a ≡ plain_reply r → (refused : Refuses r stopped)
+err_is : (a r : Reply) (stopped : Stop) → plain_reply a ≡ plain_reply r → (refused : Refuses r stopped)
     → a ≡ reply.Err refused.errno
-err-is a r stopped same refused = of_err a refused.errno (same ∙ ap plain_reply refused.told)
+err_is a r stopped same refused = of_err a refused.errno (same ∙ ap plain_reply refused.told)
   where
     of_err : (a : Reply) (errno : Errno) → plain_reply a ≡ reply.Err errno → a ≡ reply.Err errno
     of_err (reply.Text b) errno is = absurd (let wrong : ⊥ = cc in wrong)
     of_err a errno is = is
 
-err-waits : (a : Reply) (r : Reply) (stopped : Stop) → plain_reply a ≡ plain_reply r → Refuses r stopped → is_wait a ≡ false
-err-waits a r stopped same refused = ap is_wait (err-is a r stopped same refused)
+err_waits : (a : Reply) (r : Reply) (stopped : Stop) → plain_reply a ≡ plain_reply r → Refuses r stopped → is_wait a ≡ false
+err_waits a r stopped same refused = ap is_wait (err_is a r stopped same refused)
 
-pub reads-byte : (start : WorldState) (most : Limits) (fd : ℕ) (v w : PassView) (place : ℕ) (r : Reply) (b : ℕ)
+pub reads_byte : (start : WorldState) (most : Limits) (fd : ℕ) (v w : PassView) (place : ℕ) (r : Reply) (b : ℕ)
     → Called start most (event.ReadIn fd 1) v w place r → plain_reply r ≡ reply.Text (text (b ∷ []))
     → ReadsByte start fd v w b
-reads-byte start most fd v w place r b called is = record {
+reads_byte start most fd v w place r b called is = record {
   read = called.entry;
   reads = called.event;
   told = called.reply ∙ is;
-  goes_on = goes-done start most (event.ReadIn fd 1) v v w [] place r (came-here v) called;
+  goes_on = goes_done start most (event.ReadIn fd 1) v v w [] place r (came_here v) called;
   met = called.goes_on;
   free =
       ap awaits called.mine
-      ∙ last-waits false v.mine called.entry
-      ∙ text-is called.entry.reply b (called.reply ∙ is);
+      ∙ last_waits false v.mine called.entry
+      ∙ text_is called.entry.reply b (called.reply ∙ is);
 }
 
-pub reads-error : (start : WorldState) (most : Limits) (fd : ℕ) (v w : PassView) (place : ℕ) (r : Reply) (stopped : Stop)
+pub reads_error : (start : WorldState) (most : Limits) (fd : ℕ) (v w : PassView) (place : ℕ) (r : Reply) (stopped : Stop)
     → Called start most (event.ReadIn fd 1) v w place r → Refuses r stopped → ReadsNone start fd v w stopped
-reads-error start most fd v w place r stopped called refused = record {
+reads_error start most fd v w place r stopped called refused = record {
   made = called.entry ∷ [];
   cause = inl (record {
     read = called.entry;
     reads = called.event;
     errno = refused.errno;
-    told = err-is called.entry.reply r stopped called.reply refused;
+    told = err_is called.entry.reply r stopped called.reply refused;
     alone = refl;
     stop = ap Some refused.stop;
   });
-  goes_on = goes-done start most (event.ReadIn fd 1) v v w [] place r (came-here v) called;
+  goes_on = goes_done start most (event.ReadIn fd 1) v v w [] place r (came_here v) called;
   met = subst (λ s. Meets (Some s) w.stop) (sym refused.stop) called.goes_on;
   free = λ met.
       ap awaits called.mine
-      ∙ last-waits false v.mine called.entry
-      ∙ err-waits called.entry.reply r stopped called.reply refused;
+      ∙ last_waits false v.mine called.entry
+      ∙ err_waits called.entry.reply r stopped called.reply refused;
 }
 
-pub reads-full : (start : WorldState) (most : Limits) (fd : ℕ) (v w : PassView) (full : Full)
+pub reads_full : (start : WorldState) (most : Limits) (fd : ℕ) (v w : PassView) (full : Full)
     → Stopped start most (event.ReadIn fd 1) v w full → ReadsNone start fd v w (stop.Full full)
-reads-full start most fd v w full stopped = record {
+reads_full start most fd v w full stopped = record {
   made = [];
   cause = inr (record { full = full; none = refl; stop = refl });
-  goes_on = goes-full start most (event.ReadIn fd 1) v v w [] full (came-here v) stopped;
+  goes_on = goes_full start most (event.ReadIn fd 1) v v w [] full (came_here v) stopped;
   met = (stopped.by, stopped.met);
   free = λ met. absurd (none-some _ (sym met ∙ stopped.met));
 }
 
-pub reads-done : (start : WorldState) (most : Limits) (fd : ℕ) (v w : PassView) (place : ℕ) (r : Reply) (result : Result ℕ Stop)
+pub reads_done : (start : WorldState) (most : Limits) (fd : ℕ) (v w : PassView) (place : ℕ) (r : Reply) (result : Result ℕ Stop)
     → Called start most (event.ReadIn fd 1) v w place r → ReadResult r result → Reads start fd v w result
-reads-done start most fd v w place r (Ok b) called is = reads-byte start most fd v w place r b called is
-reads-done start most fd v w place r (Err stopped) called is = reads-error start most fd v w place r stopped called is
+reads_done start most fd v w place r (Ok b) called is = reads_byte start most fd v w place r b called is
+reads_done start most fd v w place r (Err stopped) called is = reads_error start most fd v w place r stopped called is
 
-plain-stop : (r : Reply) → stop_of (plain_reply r) ≡ stop_of r
-plain-stop (reply.Text b) = refl
-plain-stop r = refl
+plain_stop : (r : Reply) → stop_of (plain_reply r) ≡ stop_of r
+plain_stop (reply.Text b) = refl
+plain_stop r = refl
 
-meets-none : (r : Reply) (met : Option (Seal Full)) → met ≡ None → Meets (stop_of r) met
-meets-none (reply.Err errno) met is = is
-meets-none r met is = is
+meets_none : (r : Reply) (met : Option (Seal Full)) → met ≡ None → Meets (stop_of r) met
+meets_none (reply.Err errno) met is = is
+meets_none r met is = is
 
-echo-by : (fd : ℕ) (bytes : List ℕ) (made : List Entry) (stopped : Option Stop) → bytes ≢ []
+echo_by : (fd : ℕ) (bytes : List ℕ) (made : List Entry) (stopped : Option Stop) → bytes ≢ []
     → Wrote fd bytes made stopped ⊎ MetFull made stopped → Echoes fd bytes made stopped
-echo-by fd [] made stopped some how = absurd (some refl)
-echo-by fd (b ∷ more) made stopped some how = how
+echo_by fd [] made stopped some how = absurd (some refl)
+echo_by fd (b ∷ more) made stopped some how = how
 
-pub writes-none : (start : WorldState) (fd : ℕ) (v : PassView) (bytes : List ℕ) → bytes ≡ [] → v.stop ≡ None
+pub writes_none : (start : WorldState) (fd : ℕ) (v : PassView) (bytes : List ℕ) → bytes ≡ [] → v.stop ≡ None
     → awaits v.mine ≡ false → Writes start fd bytes v v None
-writes-none start fd v bytes empty met free = record {
+writes_none start fd v bytes empty met free = record {
   made = [];
   echoes = subst (λ bs. Echoes fd bs [] None) (sym empty) (refl, refl);
   goes_on = λ first before goes. subst (GoesOn start first v) (sym (append-nil before)) goes;
@@ -205,59 +205,59 @@ writes-none start fd v bytes empty met free = record {
   free = λ _. free;
 }
 
-pub writes-done : (start : WorldState) (most : Limits) (fd : ℕ) (bytes : List ℕ) (sent : Text) (v w : PassView) (place : ℕ) (r : Reply)
+pub writes_done : (start : WorldState) (most : Limits) (fd : ℕ) (bytes : List ℕ) (sent : Text) (v w : PassView) (place : ℕ) (r : Reply)
     → bytes ≢ [] → sent.bytes ≡ bytes → Called start most (event.Write fd sent) v w place r
     → Writes start fd bytes v w (stop_of r)
-writes-done start most fd bytes sent v w place r some same called = record {
+writes_done start most fd bytes sent v w place r some same called = record {
   made = called.entry ∷ [];
   echoes =
-      echo-by fd bytes (called.entry ∷ []) (stop_of r) some
+      echo_by fd bytes (called.entry ∷ []) (stop_of r) some
       (inl (record {
         entry = called.entry;
         alone = refl;
         event = ap plain_event called.event ∙ ap (λ bs. event.Write fd (text bs)) same;
         stop =
-            sym (plain-stop r) ∙ ap stop_of (sym called.reply) ∙ plain-stop called.entry.reply;
+            sym (plain_stop r) ∙ ap stop_of (sym called.reply) ∙ plain_stop called.entry.reply;
       }));
   goes_on = λ first before goes.
-      goes-done start most (event.Write fd sent) first v w before place r (came-on start first v before goes) called;
-  met = meets-none r w.stop called.goes_on;
+      goes_done start most (event.Write fd sent) first v w before place r (came_on start first v before goes) called;
+  met = meets_none r w.stop called.goes_on;
   free = λ met.
       ap awaits called.mine
-      ∙ last-waits false v.mine called.entry
-      ∙ legal-write start (v.seen ++ called.between) called.entry fd sent
+      ∙ last_waits false v.mine called.entry
+      ∙ legal_write start (v.seen ++ called.between) called.entry fd sent
       (subst (IsLegal start) called.seen called.legal) called.event;
 }
 
-pub writes-full : (start : WorldState) (most : Limits) (fd : ℕ) (bytes : List ℕ) (sent : Text) (v w : PassView) (full : Full)
+pub writes_full : (start : WorldState) (most : Limits) (fd : ℕ) (bytes : List ℕ) (sent : Text) (v w : PassView) (full : Full)
     → bytes ≢ [] → Stopped start most (event.Write fd sent) v w full
     → Writes start fd bytes v w (Some (stop.Full full))
-writes-full start most fd bytes sent v w full some stopped = record {
+writes_full start most fd bytes sent v w full some stopped = record {
   made = [];
-  echoes = echo-by fd bytes [] (Some (stop.Full full)) some (inr (record { full = full; none = refl; stop = refl }));
+  echoes = echo_by fd bytes [] (Some (stop.Full full)) some (inr (record { full = full; none = refl; stop = refl }));
   goes_on = λ first before goes.
-      goes-full start most (event.Write fd sent) first v w before full (came-on start first v before goes) stopped;
+      goes_full start most (event.Write fd sent) first v w before full (came_on start first v before goes) stopped;
   met = (stopped.by, stopped.met);
   free = λ met. absurd (none-some _ (sym met ∙ stopped.met));
 }
 
-typing-is : (v : Typing) (t : Termios) (f line : List ℕ) → v.termios ≡ t → v.fresh ≡ f → v.line ≡ line
-    → v ≡ typing t f line
-typing-is v t f line termios typed given_line =
-    ap (λ x. typing x v.fresh v.line) termios
-    ∙ ap (λ x. typing t x v.line) typed
-    ∙ ap (typing t f) given_line
+make_typing_is : (v : Typing) (t : Termios) (f line : List ℕ) → v.termios ≡ t → v.fresh ≡ f → v.line ≡ line
+    → v ≡ make_typing t f line
+make_typing_is v t f line termios typed given_line =
+    ap (λ x. make_typing x v.fresh v.line) termios
+    ∙ ap (λ x. make_typing t x v.line) typed
+    ∙ ap (make_typing t f) given_line
 
 -- a read of a byte, its push, and the write of its echo
-pub typed-turn : (start : WorldState) (fd : ℕ) (old new : Typing) (turn : Turn) (v u w : PassView) (byte : ℕ) (echo : List ℕ)
+pub typed_turn : (start : WorldState) (fd : ℕ) (old new : Typing) (turn : Turn) (v u w : PassView) (byte : ℕ) (echo : List ℕ)
     → ReadsByte start fd v u byte → new.termios ≡ old.termios
     → new.fresh ≡ fresh old.termios (old.fresh ++ byte ∷ [])
-    → new.line ≡ line_in (given old.termios old.fresh byte)
-    → items_of turn.given new.line ≡ given old.termios old.fresh byte
-    → echo ≡ echoed old.termios old.fresh byte
+    → new.line ≡ line_in (items_after old.termios old.fresh byte)
+    → items_of turn.given new.line ≡ items_after old.termios old.fresh byte
+    → echo ≡ echo_of old.termios old.fresh byte
     → Writes start fd echo u w turn.stop
     → Turns start fd old new turn v w
-typed-turn start fd old new turn v u w byte echo reads termios typed given_line gave shown writes = record {
+typed_turn start fd old new turn v u w byte echo reads termios typed given_line gave shown writes = record {
   made = reads.read ∷ writes.made;
   is = inl (record {
     byte = byte;
@@ -267,28 +267,12 @@ typed-turn start fd old new turn v u w byte echo reads termios typed given_line 
     writes = writes.made;
     made_are = refl;
     pushed =
-        typing-is new old.termios (fresh old.termios (old.fresh ++ byte ∷ []))
-        (line_in (given old.termios old.fresh byte)) termios typed given_line;
+        make_typing_is new old.termios (fresh old.termios (old.fresh ++ byte ∷ []))
+        (line_in (items_after old.termios old.fresh byte)) termios typed given_line;
     gave = gave;
     echoes = subst (λ bs. Echoes fd bs writes.made turn.stop) shown writes.echoes;
   });
   goes_on = writes.goes_on v (reads.read ∷ []) reads.goes_on;
   met = writes.met;
   free = writes.free;
-}
-
--- a read of none
-pub untyped-turn : (start : WorldState) (fd : ℕ) (old : Typing) (turn : Turn) (v w : PassView) (stopped : Stop)
-    → turn.given ≡ answer.Nothing → turn.stop ≡ Some stopped → ReadsNone start fd v w stopped
-    → Turns start fd old old turn v w
-untyped-turn start fd old turn v w stopped nothing stops reads = record {
-  made = reads.made;
-  is = inr (record {
-    same = refl;
-    nothing = nothing;
-    cause = subst (λ s. Refused fd reads.made s ⊎ MetFull reads.made s) (sym stops) reads.cause;
-  });
-  goes_on = reads.goes_on;
-  met = subst (λ s. Meets s w.stop) (sym stops) reads.met;
-  free = reads.free;
 }

@@ -3,7 +3,7 @@ use Rattle.std.specs.Prelude.{◌≡◌, ◌≤◌, ◌+◌, ℕ, Bool, false, n
 use Rattle.std.specs.List.{concat}
 use Rattle.vt_base.specs.Bytes.{Text}
 use Rattle.cooked.specs.Fresh.{fresh, most}
-use Rattle.cooked.specs.Kept.{kept, kept_bytes}
+use Rattle.cooked.specs.KeptText.{kept_characters, kept_bytes}
 use Rattle.cooked.specs.Termios.{IsValid}
 use Rattle.cooked.specs.declared.termios.Termios.{Termios}
 
@@ -14,14 +14,14 @@ pub record Typing : Type 0 where
   pub fresh : List ℕ
   pub line : List ℕ
 
-abbrev pub typing : Termios → List ℕ → List ℕ → Typing
-typing t fresh line = record { termios = t; fresh = fresh; line = line }
+abbrev pub make_typing : Termios → List ℕ → List ℕ → Typing
+make_typing t fresh line = record { termios = t; fresh = fresh; line = line }
 
 -- what is held stands for the fresh bytes, and there is room for a full line
 pub record Stands (t : Termios) (typed : Text) (held : List (List ℕ)) (line : Text) : Type 0 where
   pub valid : IsValid t
   pub stays : fresh t typed.bytes ≡ typed.bytes
-  pub held_are : held ≡ kept t typed.bytes
+  pub held_are : held ≡ kept_characters t typed.bytes
   pub bytes : length (concat held) ≤ length typed.bytes
   pub characters : length held ≤ length typed.bytes
   pub typed_room : length typed.bytes + typed.room ≡ most
@@ -34,6 +34,6 @@ ends_open erase (b ∷ []) = not (b == erase)
 ends_open erase (b ∷ c ∷ more) = ends_open erase (c ∷ more)
 
 -- the line of a typing that ends: its kept bytes, and 0A where the end belongs to it
-abbrev pub finished : Typing → Bool → List ℕ
-finished v with_end =
+abbrev pub ended_line : Typing → Bool → List ℕ
+ended_line v with_end =
     if with_end then kept_bytes v.termios v.fresh ++ 0x0A ∷ [] else kept_bytes v.termios v.fresh

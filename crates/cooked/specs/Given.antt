@@ -1,8 +1,8 @@
 -- What a byte gives.
 use Rattle.std.specs.Prelude.{ℕ, List, [], ◌∷◌, ◌++◌, if◌then◌else◌}
-use Rattle.cooked.specs.Kept.{kept_bytes}
+use Rattle.cooked.specs.KeptText.{kept_bytes}
 use Rattle.cooked.specs.Kinds.{kind}
-use Rattle.cooked.specs.Termios.{heard}
+use Rattle.cooked.specs.Termios.{mapped_byte}
 use Rattle.cooked.specs.declared.given.Given.{Given}
 use Rattle.cooked.specs.declared.given.Given.TheVariants as answer
 use Rattle.cooked.specs.declared.kind.Kind.{Kind}
@@ -34,8 +34,8 @@ given_by t fresh b End = line (kept_bytes t fresh ++ 0x0A ∷ []) ∷ []
 given_by t fresh b Data = if t.icanon then [] else byte b ∷ []
 
 -- what a byte gives after these fresh bytes: one item or none
-abbrev pub given : Termios → List ℕ → ℕ → List Item
-given t fresh b = given_by t fresh (heard t b) (kind t b)
+abbrev pub items_after : Termios → List ℕ → ℕ → List Item
+items_after t fresh b = given_by t fresh (mapped_byte t b) (kind t b)
 
 -- the items that an answer and the line beside it stand for
 abbrev pub items_of : Given → List ℕ → List Item

@@ -1,6 +1,6 @@
 -- What a byte is to the line discipline.
 use Rattle.std.specs.Prelude.{ℕ, Bool, true, false, ◌==◌, ◌&&◌, not, if◌then◌else◌}
-use Rattle.cooked.specs.Termios.{heard}
+use Rattle.cooked.specs.Termios.{mapped_byte}
 use Rattle.cooked.specs.declared.kind.Kind.{Kind}
 use Rattle.cooked.specs.declared.kind.Kind.TheVariants.{Interrupt, Quit, Kill, Erase, Eof, End, Data}
 use Rattle.cooked.specs.declared.termios.Termios.{Termios}
@@ -19,7 +19,7 @@ kind_of t b =
 
 -- the kind of a byte
 abbrev pub kind : Termios → ℕ → Kind
-kind t b = kind_of t (heard t b)
+kind t b = kind_of t (mapped_byte t b)
 
 -- the byte ends what was typed: each kind does but an erase and data
 abbrev pub ends_line : Kind → Bool

@@ -1,17 +1,17 @@
 -- The laws of cooked lines.
 use Rattle.std.specs.Prelude.{◌≡◌, ◌<◌, ℕ, List, [], ◌∷◌, ◌++◌}
-use Rattle.cooked.specs.Echo.{echoed}
+use Rattle.cooked.specs.Echo.{echo_of}
 use Rattle.cooked.specs.Fresh.{fresh}
-use Rattle.cooked.specs.Given.{Item, given}
-use Rattle.cooked.specs.Kept.{but_last, kept}
+use Rattle.cooked.specs.Given.{Item, items_after}
+use Rattle.cooked.specs.KeptText.{but_last, kept_characters}
 use Rattle.cooked.specs.Whole.{all_echo, all_items}
 use Rattle.cooked.specs.declared.termios.Termios.{Termios}
 
 -- what a byte more at the end changes: one push, on the fresh bytes and the byte
 pub record IsOneMore (t : Termios) (bytes : List ℕ) (b : ℕ) : Type 0 where
   pub left : fresh t (bytes ++ b ∷ []) ≡ fresh t (fresh t bytes ++ b ∷ [])
-  pub items : all_items t (bytes ++ b ∷ []) ≡ all_items t bytes ++ given t (fresh t bytes) b
-  pub echo : all_echo t (bytes ++ b ∷ []) ≡ all_echo t bytes ++ echoed t (fresh t bytes) b
+  pub items : all_items t (bytes ++ b ∷ []) ≡ all_items t bytes ++ items_after t (fresh t bytes) b
+  pub echo : all_echo t (bytes ++ b ∷ []) ≡ all_echo t bytes ++ echo_of t (fresh t bytes) b
 
 abbrev pub OneMore : Type 0
 OneMore = (t : Termios) (bytes : List ℕ) (b : ℕ) → IsOneMore t bytes b
@@ -29,8 +29,8 @@ nothing_pushed = record { fresh = []; items = []; echo = [] }
 abbrev pub push : Termios → Pushed → ℕ → Pushed
 push t p b = record {
   fresh = fresh t (p.fresh ++ b ∷ []);
-  items = p.items ++ given t p.fresh b;
-  echo = p.echo ++ echoed t p.fresh b;
+  items = p.items ++ items_after t p.fresh b;
+  echo = p.echo ++ echo_of t p.fresh b;
 }
 
 -- pushes in order
@@ -49,4 +49,4 @@ ListIsItsPushes =
 abbrev pub EraseDropsLast : Type 0
 EraseDropsLast =
     (t : Termios) (bytes : List ℕ) → t.erase < 0x80
-    → kept t (bytes ++ t.erase ∷ []) ≡ but_last (kept t bytes)
+    → kept_characters t (bytes ++ t.erase ∷ []) ≡ but_last (kept_characters t bytes)

@@ -2,7 +2,7 @@ pub mod Cooked
 pub mod Echo
 pub mod Fresh
 pub mod Given
-pub mod Kept
+pub mod KeptText
 pub mod Kinds
 pub mod Laws
 pub mod Reading

@@ -1,6 +1,6 @@
 -- Turns one after another, and what they read. This project's own.
 use Rattle.std.specs.Prelude.{◌≡◌, ℕ, List, [], ◌∷◌, ◌++◌}
-use Rattle.cooked.specs.Cooked.{Typing, typing}
+use Rattle.cooked.specs.Cooked.{Typing, make_typing}
 use Rattle.cooked.specs.Fresh.{fresh}
 use Rattle.cooked.specs.Given.{Item, items_of}
 use Rattle.cooked.specs.Turn.{Turns}
@@ -55,4 +55,4 @@ pub record CameTo (t : Termios) (p q : PassView) (turns : List Made) (w : Typing
 abbrev pub TurnsRead : Type 0
 TurnsRead =
     (start : WorldState) (t : Termios) (p : PassView) (turns : List Made) (w : Typing) (q : PassView)
-    → Lead start (typing t [] []) p turns w q → CameTo t p q turns w
+    → Lead start (make_typing t [] []) p turns w q → CameTo t p q turns w

@@ -1,6 +1,6 @@
 -- Characters as their bytes and the sizes of each.
 use Rattle.std.specs.Prelude.{◌≡◌, ◌+◌, ℕ, Bool, List, [], ◌∷◌, ◌++◌, length, take, drop, if◌then◌else◌}
-use Rattle.cooked.specs.Kept.{but_last, last_of}
+use Rattle.cooked.specs.KeptText.{but_last, last_of}
 use Rattle.vt_base.specs.Bytes.{Text}
 
 -- the bytes cut into parts of these sizes

@@ -43,5 +43,5 @@ abbrev pub IsValid : Termios → Type 0
 IsValid t = IsTrue (is_valid t)
 
 -- what a byte counts as: ICRNL makes 0A of 0D
-abbrev pub heard : Termios → ℕ → ℕ
-heard t b = if t.icrnl && b == 0x0D then 0x0A else b
+abbrev pub mapped_byte : Termios → ℕ → ℕ
+mapped_byte t b = if t.icrnl && b == 0x0D then 0x0A else b

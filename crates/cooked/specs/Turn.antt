@@ -12,10 +12,10 @@ use Rattle.vt_hub.specs.Views.{PassView}
 use Rattle.vt_journal.specs.declared.full.Full.{Full}
 use Rattle.vt_world.specs.History.{IsLegal}
 use Rattle.vt_world.specs.State.{WorldState}
-use Rattle.cooked.specs.Cooked.{Typing, typing}
-use Rattle.cooked.specs.Echo.{echoed}
+use Rattle.cooked.specs.Cooked.{Typing, make_typing}
+use Rattle.cooked.specs.Echo.{echo_of}
 use Rattle.cooked.specs.Fresh.{fresh}
-use Rattle.cooked.specs.Given.{given, items_of, line_in}
+use Rattle.cooked.specs.Given.{items_after, items_of, line_in}
 use Rattle.cooked.specs.declared.given.Given.TheVariants as answer
 use Rattle.cooked.specs.declared.stop.Stop.{Stop}
 use Rattle.cooked.specs.declared.stop.Stop.TheVariants as stop
@@ -58,10 +58,10 @@ pub record Typed (fd : ℕ) (old new : Typing) (turn : Turn) (made : List Entry)
   pub writes : List Entry
   pub made_are : made ≡ read ∷ writes
   pub pushed : new
-      ≡ typing old.termios (fresh old.termios (old.fresh ++ byte ∷ []))
-      (line_in (given old.termios old.fresh byte))
-  pub gave : items_of turn.given new.line ≡ given old.termios old.fresh byte
-  pub echoes : Echoes fd (echoed old.termios old.fresh byte) writes turn.stop
+      ≡ make_typing old.termios (fresh old.termios (old.fresh ++ byte ∷ []))
+      (line_in (items_after old.termios old.fresh byte))
+  pub gave : items_of turn.given new.line ≡ items_after old.termios old.fresh byte
+  pub echoes : Echoes fd (echo_of old.termios old.fresh byte) writes turn.stop
 
 -- the read was refused
 pub record Refused (fd : ℕ) (made : List Entry) (stopped : Option Stop) : Type 0 where

@@ -1,9 +1,9 @@
 -- All that was typed since the start, and what it gives and echoes.
 use Rattle.std.specs.Prelude.{ℕ, List, [], ◌∷◌, ◌++◌}
-use Rattle.cooked.specs.Echo.{echoed}
+use Rattle.cooked.specs.Echo.{echo_of}
 use Rattle.cooked.specs.Fresh.{fresh}
-use Rattle.cooked.specs.Given.{Item, given}
-use Rattle.cooked.specs.Kept.{kept_bytes}
+use Rattle.cooked.specs.Given.{Item, items_after}
+use Rattle.cooked.specs.KeptText.{kept_bytes}
 use Rattle.cooked.specs.declared.termios.Termios.{Termios}
 
 -- of each byte in order, what f says of it and of those before it
@@ -13,11 +13,11 @@ each f before (b ∷ more) = f before b ++ each f (before ++ b ∷ []) more
 
 -- the items that all the bytes give
 abbrev pub all_items : Termios → List ℕ → List Item
-all_items t bytes = each (λ before b. given t (fresh t before) b) [] bytes
+all_items t bytes = each (λ before b. items_after t (fresh t before) b) [] bytes
 
 -- what is echoed of all the bytes
 abbrev pub all_echo : Termios → List ℕ → List ℕ
-all_echo t bytes = each (λ before b. echoed t (fresh t before) b) [] bytes
+all_echo t bytes = each (λ before b. echo_of t (fresh t before) b) [] bytes
 
 -- what is kept of all the bytes, and not given yet
 abbrev pub rest : Termios → List ℕ → List ℕ

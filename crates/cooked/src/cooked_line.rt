@@ -1,20 +1,20 @@
 ghost use Rattle.std.specs.Prelude.{◌≡◌, ◌<◌, ◌≤◌, [], ◌∷◌, ◌++◌, ◌&&◌, true, length, IfOk, if◌then◌else◌};
 ghost use Rattle.std.specs.Bool.{OnFalse, OnTrue};
-ghost use Rattle.cooked.specs.Cooked.{ends_open, finished, typing};
-ghost use Rattle.cooked.specs.Echo.{echo_by, echoed};
+ghost use Rattle.cooked.specs.Cooked.{ends_open, ended_line, make_typing};
+ghost use Rattle.cooked.specs.Echo.{echo_by, echo_of};
 ghost use Rattle.cooked.specs.Fresh.{fresh, is_full};
-ghost use Rattle.cooked.specs.Given.{given, items_of, line_in};
-ghost use Rattle.cooked.specs.Kept.{kept, kept_bytes, last_of};
+ghost use Rattle.cooked.specs.Given.{items_after, items_of, line_in};
+ghost use Rattle.cooked.specs.KeptText.{kept_characters, kept_bytes, last_of};
 ghost use Rattle.cooked.specs.Kinds.{kind};
-ghost use Rattle.cooked.specs.Termios.{IsValid, heard};
+ghost use Rattle.cooked.specs.Termios.{IsValid, mapped_byte};
 ghost use Rattle.vt_chars.specs.Characters.{is_part};
 ghost use Rattle.cooked.specs.declared.given.Given.TheVariants.{Nothing, Line, Byte, Sig};
 ghost use Rattle.cooked.specs.declared.kind.Kind.TheVariants.{Erase, Data};
 
-use crate::echo::{BELL, caret, columns_of, newline, shown, wiped};
+use crate::echo::{BELL, caret, columns_of, data_echo, erase_echo, newline};
 use crate::echo_bytes::EchoBytes;
 use crate::given::Given;
-use crate::kept::{Kept, LINE_BYTES};
+use crate::kept_text::{KeptText, LINE_BYTES};
 use crate::kind::Kind;
 use crate::termios::Termios;
 use std::alloc::Global;
@@ -23,7 +23,7 @@ use vt_base::{Bytes, NoMemory, Signal};
 use vt_chars::{ascii_cuts, byte_more};
 
 /// How many bytes may be fresh.
-const MOST: usize = 4_095;
+const MOST_FRESH: usize = 4_095;
 
 /// A line discipline: bytes as they are typed become lines, signals and an echo. Contracts see the
 /// settings, the bytes that are fresh and the line that was given last.
@@ -31,16 +31,16 @@ const MOST: usize = 4_095;
 pub struct Cooked {
     termios: Termios,
     fresh: Bytes,
-    kept: Kept,
+    kept: KeptText,
     line: Bytes,
 }
 
 impl Model for Cooked {
-    ghost use Rattle.cooked.specs.Cooked.{Stands, Typing, typing};
+    ghost use Rattle.cooked.specs.Cooked.{Stands, Typing, make_typing};
 
     ghost Value = { Typing };
 
-    ghost view = { λ c. typing c.termios c.fresh.bytes c.line.bytes };
+    ghost view = { λ c. make_typing c.termios c.fresh.bytes c.line.bytes };
 
     ghost invariant = { λ c. Stands c.termios c.fresh c.kept c.line };
 }
@@ -49,10 +49,10 @@ impl Cooked {
     /// Nothing typed yet. All its memory is taken here.
     pub fn start(alloc: Global, t: Termios) -> Result<Cooked, NoMemory>
         requires { IsValid t }
-        ensures { IfOk result (λ c. c ≡ typing t [] []) }
+        ensures { IfOk result (λ c. c ≡ make_typing t [] []) }
     {
-        let fresh = Bytes::with_room(alloc, MOST)?;
-        let kept = Kept::new(alloc)?;
+        let fresh = Bytes::with_room(alloc, MOST_FRESH)?;
+        let kept = KeptText::new(alloc)?;
         let line = Bytes::with_room(alloc, LINE_BYTES)?;
         Ok(Cooked {
             termios: t,
@@ -67,9 +67,9 @@ impl Cooked {
         requires { echo.old ≡ [] }
         ensures termios { self.new.termios ≡ self.old.termios }
         ensures fresh { self.new.fresh ≡ fresh self.old.termios (self.old.fresh ++ b ∷ []) }
-        ensures given { items_of result self.new.line ≡ given self.old.termios self.old.fresh b }
-        ensures line { self.new.line ≡ line_in (given self.old.termios self.old.fresh b) }
-        ensures echo { echo.new ≡ echoed self.old.termios self.old.fresh b }
+        ensures given { items_of result self.new.line ≡ items_after self.old.termios self.old.fresh b }
+        ensures line { self.new.line ≡ line_in (items_after self.old.termios self.old.fresh b) }
+        ensures echo { echo.new ≡ echo_of self.old.termios self.old.fresh b }
     {
         let heard = self.termios.heard(b);
         let kind = self.termios.kind_of(heard);
@@ -108,7 +108,7 @@ impl Cooked {
         self.fresh.room() == 0
     }
 
-    // Echoes a byte that counts as `heard`.
+    // Echoes a byte that counts as `mapped_byte`.
     fn show(&self, heard: u8, kind: Kind, echo: &mut EchoBytes)
         requires { echo.old ≡ [] }
         ensures { echo.new ≡ if self.now.termios.echo
@@ -125,7 +125,7 @@ impl Cooked {
                 if self.is_full() {
                     echo.push(BELL);
                 } else {
-                    wiped(columns_of(self.kept.last()), echo);
+                    erase_echo(columns_of(self.kept.last()), echo);
                 }
             }
             Kind::Eof => {}
@@ -134,7 +134,7 @@ impl Cooked {
                 if self.is_full() {
                     echo.push(BELL);
                 } else {
-                    shown(&self.termios, heard, echo);
+                    data_echo(&self.termios, heard, echo);
                 }
             }
         }
@@ -142,7 +142,7 @@ impl Cooked {
 
     // A signal: what was typed is forgotten.
     fn signal(&mut self, s: Signal) -> Given
-        ensures state { self.new ≡ typing self.old.termios [] [] }
+        ensures state { self.new ≡ make_typing self.old.termios [] [] }
         ensures given { result ≡ Sig s }
     {
         self.restart();
@@ -151,7 +151,7 @@ impl Cooked {
 
     // A kill: what was typed is forgotten.
     fn kill(&mut self) -> Given
-        ensures state { self.new ≡ typing self.old.termios [] [] }
+        ensures state { self.new ≡ make_typing self.old.termios [] [] }
         ensures given { result ≡ Nothing }
     {
         self.restart();
@@ -160,7 +160,7 @@ impl Cooked {
 
     // Nothing is fresh any more, and no line was given.
     fn restart(&mut self)
-        ensures { self.new ≡ typing self.old.termios [] [] }
+        ensures { self.new ≡ make_typing self.old.termios [] [] }
     {
         self.end();
         self.line.truncate(0);
@@ -169,7 +169,7 @@ impl Cooked {
     // What is kept becomes the line, and nothing is fresh any more.
     fn end(&mut self)
         ensures state { self.new
-            ≡ typing self.old.termios [] (kept_bytes self.old.termios self.old.fresh) }
+            ≡ make_typing self.old.termios [] (kept_bytes self.old.termios self.old.fresh) }
         ensures few { length self.new.line ≤ 4095 }
     {
         self.kept.give(&mut self.line);
@@ -178,7 +178,7 @@ impl Cooked {
 
     // The end of a line, which gives what is kept, and 0A where that belongs to it.
     fn finish(&mut self, with_end: bool) -> Given
-        ensures state { self.new ≡ typing self.old.termios [] (finished self.old with_end) }
+        ensures state { self.new ≡ make_typing self.old.termios [] (ended_line self.old with_end) }
         ensures given { result ≡ Line }
     {
         self.end();
@@ -191,7 +191,7 @@ impl Cooked {
     // An erase, which drops the last character that is kept.
     fn erase(&mut self, b: u8) -> Given
         requires kind { kind self.old.termios b ≡ Erase }
-        ensures state { self.new ≡ typing self.old.termios
+        ensures state { self.new ≡ make_typing self.old.termios
             (fresh self.old.termios (self.old.fresh ++ b ∷ [])) [] }
         ensures given { result ≡ Nothing }
     {
@@ -208,7 +208,7 @@ impl Cooked {
     // Data, which is given at once where lines aren't.
     fn data(&mut self, b: u8, heard: u8) -> Given
         requires kind { kind self.old.termios b ≡ Data }
-        ensures state { self.new ≡ typing self.old.termios
+        ensures state { self.new ≡ make_typing self.old.termios
             (fresh self.old.termios (self.old.fresh ++ b ∷ [])) [] }
         ensures given { result ≡ if self.old.termios.icanon then Nothing else Byte heard }
     {
@@ -225,7 +225,7 @@ impl Cooked {
     fn add(&mut self, b: u8)
         requires canonical { self.old.termios.icanon ≡ true }
         requires kind { kind self.old.termios b ≡ Data }
-        ensures { self.new ≡ typing self.old.termios
+        ensures { self.new ≡ make_typing self.old.termios
             (fresh self.old.termios (self.old.fresh ++ b ∷ [])) self.old.line }
     {
         if self.is_full() {
@@ -242,7 +242,7 @@ impl Cooked {
     // nor is it an erase.
     fn goes_on(&self, b: u8) -> bool
         ensures { result ≡ (ends_open self.now.termios.erase self.now.fresh
-            && is_part (last_of (kept self.now.termios self.now.fresh) ++ b ∷ [])) }
+            && is_part (last_of (kept_characters self.now.termios self.now.fresh) ++ b ∷ [])) }
     {
         ends_open(self.termios.erase, self.fresh.as_slice()) && self.kept.joins(b)
     }

@@ -1,6 +1,6 @@
 //! What is echoed of a byte.
 ghost use Rattle.std.specs.Prelude.{◌≡◌, ◌≤◌, [], ◌++◌, length};
-ghost use Rattle.cooked.specs.Echo.{caret, columns_of, columns_shown, newline, shown, wiped};
+ghost use Rattle.cooked.specs.Echo.{caret, columns_of, columns_shown, newline, data_echo, erase_echo};
 
 use crate::echo_bytes::EchoBytes;
 use crate::termios::{Termios, is_control};
@@ -8,9 +8,9 @@ use vt_cells::columns;
 use vt_chars::{Decoded, decode_all};
 
 /// BEL: nothing comes of the byte.
-pub const BELL: u8 = 0x07;
+pub(crate) const BELL: u8 = 0x07;
 
-pub fn newline(t: &Termios, echo: &mut EchoBytes)
+pub(crate) fn newline(t: &Termios, echo: &mut EchoBytes)
     requires { echo.old ≡ [] }
     ensures { echo.new ≡ newline t.now }
 {
@@ -21,7 +21,7 @@ pub fn newline(t: &Termios, echo: &mut EchoBytes)
 }
 
 /// A control character is shown as `^` and a sign.
-pub fn caret(b: u8, echo: &mut EchoBytes)
+pub(crate) fn caret(b: u8, echo: &mut EchoBytes)
     requires { echo.old ≡ [] }
     ensures { echo.new ≡ caret b }
 {
@@ -30,9 +30,9 @@ pub fn caret(b: u8, echo: &mut EchoBytes)
 }
 
 /// Data as it is shown.
-pub fn shown(t: &Termios, b: u8, echo: &mut EchoBytes)
+pub(crate) fn data_echo(t: &Termios, b: u8, echo: &mut EchoBytes)
     requires { echo.old ≡ [] }
-    ensures { echo.new ≡ shown t.now b }
+    ensures { echo.new ≡ data_echo t.now b }
 {
     if b == 0x0A {
         newline(t, echo);
@@ -44,10 +44,10 @@ pub fn shown(t: &Termios, b: u8, echo: &mut EchoBytes)
 }
 
 /// Goes back over columns and wipes them.
-pub fn wiped(columns: u8, echo: &mut EchoBytes)
+pub(crate) fn erase_echo(columns: u8, echo: &mut EchoBytes)
     requires empty { echo.old ≡ [] }
     requires few { columns ≤ 2 }
-    ensures { echo.new ≡ wiped columns }
+    ensures { echo.new ≡ erase_echo columns }
 {
     if 1 <= columns {
         wipe_one(echo);
@@ -59,7 +59,7 @@ pub fn wiped(columns: u8, echo: &mut EchoBytes)
 
 fn wipe_one(echo: &mut EchoBytes)
     requires { length echo.old ≤ 3 }
-    ensures { echo.new ≡ echo.old ++ wiped 1 }
+    ensures { echo.new ≡ echo.old ++ erase_echo 1 }
 {
     echo.push(0x08);
     echo.push(0x20);
@@ -67,7 +67,7 @@ fn wipe_one(echo: &mut EchoBytes)
 }
 
 /// The columns that an erase of this character takes.
-pub fn columns_of(character: &[u8]) -> u8
+pub(crate) fn columns_of(character: &[u8]) -> u8
     ensures value { result ≡ columns_of character.now }
     ensures bound { result ≤ 2 }
 {

@@ -1,6 +1,6 @@
 /// What a byte is to the line discipline.
 #[derive(Clone, Copy, PartialEq, Eq)]
-pub enum Kind {
+pub(crate) enum Kind {
     Interrupt,
     Quit,
     Kill,

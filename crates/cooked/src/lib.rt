@@ -5,7 +5,7 @@ mod cooked_line;
 mod echo;
 mod echo_bytes;
 mod given;
-mod kept;
+mod kept_text;
 mod kind;
 mod laws;
 mod stop;

@@ -1,7 +1,7 @@
 ghost use Rattle.std.specs.Prelude.{◌≡◌, ◌==◌};
 ghost use Rattle.std.specs.List.{list_all, list_any};
 ghost use Rattle.cooked.specs.Kinds.{kind_of};
-ghost use Rattle.cooked.specs.Termios.{all_differ, heard, is_control, is_valid, may_be_named, named_bytes, usual};
+ghost use Rattle.cooked.specs.Termios.{all_differ, mapped_byte, is_control, is_valid, may_be_named, named_bytes, usual};
 
 use crate::kind::Kind;
 
@@ -77,7 +77,7 @@ impl Termios {
 
     /// What a byte counts as.
     pub(crate) fn heard(&self, b: u8) -> u8
-        ensures { result ≡ heard self.now b }
+        ensures { result ≡ mapped_byte self.now b }
     {
         if self.icrnl && b == 0x0D { 0x0A } else { b }
     }

@@ -1,5 +1,5 @@
 ghost use Rattle.std.specs.Prelude.{◌≡◌, ◌≤◌, [], false, None, IfOk, OnErr};
-ghost use Rattle.cooked.specs.Cooked.{typing};
+ghost use Rattle.cooked.specs.Cooked.{make_typing};
 ghost use Rattle.cooked.specs.Termios.{IsValid};
 ghost use Rattle.cooked.specs.Turn.{ReadAnswer, ReadResult, Reads, Turns, Writes, stop_of};
 ghost use Rattle.vt_hub.specs.Histories.{awaits};
@@ -39,7 +39,7 @@ impl Tty {
     /// Nothing typed yet. All its memory is taken here.
     pub fn start(alloc: Global, t: Termios) -> Result<Tty, NoMemory>
         requires { IsValid t }
-        ensures { IfOk result (λ tty. tty ≡ typing t [] []) }
+        ensures { IfOk result (λ tty. tty ≡ make_typing t [] []) }
     {
         let cooked = Cooked::start(alloc, t)?;
         Ok(Tty { cooked })

@@ -9,7 +9,7 @@ use vt_events::Event;
 use vt_hub::{Opening, Pass, Seat};
 
 /// Its thread: it writes the text once its console has the display, and exits, also where memory is missing.
-pub fn ask<J: Opening, R: Wait>(
+pub(crate) fn ask<J: Opening, R: Wait>(
     seat: &Seat<J, R>,
     pass: Pass<J>,
     text: &[u8],

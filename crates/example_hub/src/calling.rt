@@ -10,7 +10,7 @@ use vt_hub::{Answer, Opening, Pass, Seat};
 use vt_world::Spare;
 
 /// Makes the call. Where its answer is "wait", that of the call behind it is given, which tells how the wait ended.
-pub fn call<J: Opening, R: Wait>(
+pub(crate) fn call<J: Opening, R: Wait>(
     seat: &Seat<J, R>,
     pass: &mut Pass<J>,
     event: Event,
@@ -28,7 +28,7 @@ pub fn call<J: Opening, R: Wait>(
 }
 
 /// The last call of a process, for which no memory is needed.
-pub fn exit<J: Opening, R: Wait>(seat: &Seat<J, R>, pass: &mut Pass<J>)
+pub(crate) fn exit<J: Opening, R: Wait>(seat: &Seat<J, R>, pass: &mut Pass<J>)
     requires ready { IsReady seat.now false pass.old }
     ensures hub { pass.new.hub ≡ seat.now }
     ensures number { pass.new.number ≡ pass.old.number }

@@ -12,7 +12,7 @@ use vt_world::{World, nobody_waits_at_start};
 const CONSOLES: u64 = 0b110;
 
 /// Console 1 is in front, and no key types anything. Processes 1 and 2 are each at home on the console of their number.
-pub fn started(alloc: Global) -> Result<World, NoMemory>
+pub(crate) fn started(alloc: Global) -> Result<World, NoMemory>
     ensures { IfOk result (λ world. (p : ℕ) → is_waiting world p ≡ false) }
 {
     nobody_waits_at_start();

@@ -12,7 +12,7 @@ use vt_hub::{Answer, Opening, Pass, Seat};
 const BY_SIGNALS: Event = Event::SetMode(0, 1, 0, 10, 12, 0);
 
 /// What it does before anybody asks for another console.
-pub fn take_switches<J: Opening, R: Wait>(
+pub(crate) fn take_switches<J: Opening, R: Wait>(
     seat: &Seat<J, R>,
     pass: &mut Pass<J>,
 ) -> Result<(), NoMemory>
@@ -26,7 +26,10 @@ pub fn take_switches<J: Opening, R: Wait>(
 }
 
 /// Its thread: it lets the display go once it is told to, and exits, also where memory is missing.
-pub fn serve<J: Opening, R: Wait>(seat: &Seat<J, R>, pass: Pass<J>) -> Result<Pass<J>, NoMemory>
+pub(crate) fn serve<J: Opening, R: Wait>(
+    seat: &Seat<J, R>,
+    pass: Pass<J>,
+) -> Result<Pass<J>, NoMemory>
     requires ready { IsReady seat.now false pass }
     ensures hub { IfOk result (λ after. after.hub ≡ seat.now) }
     ensures number { IfOk result (λ after. after.number ≡ pass.number) }

@@ -2,7 +2,7 @@
 ghost use Rattle.std.specs.Prelude.{◌≡◌, ℕ, false, IfOk, slice_set};
 ghost use Rattle.vt_hub.specs.Ready.{IsReady};
 ghost use Rattle.vt_hub.specs.Views.{stand_at};
-ghost use Rattle.vt_hub.specs.declared.stand.Stand.TheVariants.{Home, Unmade};
+ghost use Rattle.vt_hub.specs.declared.pass_place.PassPlace.TheVariants.{Home, Unmade};
 ghost use Rattle.vt_world.specs.History.{IsLegal, replay};
 ghost use Rattle.vt_world.specs.State.{is_waiting};
 
@@ -26,7 +26,7 @@ const LIMITS: Limits = Limits {
 };
 
 /// What both processes make of this console. It is the one that picks the name of the world for the proofs.
-pub fn shared<R: Threads + Wait + Sync>(
+pub(crate) fn shared<R: Threads + Wait + Sync>(
     rt: &R,
     alloc: Global,
     world: World,

@@ -8,7 +8,7 @@ use vt_hub::Run;
 use vt_world::World;
 
 /// The calls of each process in its own order, the display, and the rows of console 2.
-pub fn told(alloc: Global, run: &Run) -> Result<Bytes, NoMemory> {
+pub(crate) fn told(alloc: Global, run: &Run) -> Result<Bytes, NoMemory> {
     let mut lines = Bytes::new(alloc);
     add_calls(alloc, run.log.entries(), 1, &mut lines)?;
     add_calls(alloc, run.log.entries(), 2, &mut lines)?;

@@ -8,14 +8,14 @@ use vt_base::NoMemory;
 
 /// What comes of a keymap text.
 #[derive(Drop)]
-pub enum Keymap {
+pub(crate) enum Keymap {
     Tables(KeyTables),
     /// The first fault, with its kind, line and column.
     Refused(KeyFault),
 }
 
 /// The tables of the text, or its first fault. No text is given to include.
-pub fn compiled(alloc: Global, text: &[u8]) -> Result<Keymap, NoMemory> {
+pub(crate) fn compiled(alloc: Global, text: &[u8]) -> Result<Keymap, NoMemory> {
     match tables_of(alloc, text) {
         Ok(tables) => Ok(Keymap::Tables(tables)),
         Err(KeyError::Fault(fault)) => Ok(Keymap::Refused(fault)),

@@ -7,7 +7,12 @@ use vt_base::{Bytes, NoMemory};
 use vt_journal::{add, add_hex};
 
 /// Adds the line of a scan byte.
-pub fn add_line(alloc: Global, scan: u8, out: &KeyOut, lines: &mut Bytes) -> Result<(), NoMemory> {
+pub(crate) fn add_line(
+    alloc: Global,
+    scan: u8,
+    out: &KeyOut,
+    lines: &mut Bytes,
+) -> Result<(), NoMemory> {
     add_hex(alloc, lines, &[scan])?;
     match out {
         KeyOut::Bytes(bytes) => {
@@ -25,7 +30,11 @@ pub fn add_line(alloc: Global, scan: u8, out: &KeyOut, lines: &mut Bytes) -> Res
 }
 
 /// Adds where and why the keymap is refused.
-pub fn add_refusal(alloc: Global, fault: &KeyFault, lines: &mut Bytes) -> Result<(), NoMemory> {
+pub(crate) fn add_refusal(
+    alloc: Global,
+    fault: &KeyFault,
+    lines: &mut Bytes,
+) -> Result<(), NoMemory> {
     add(alloc, lines, b"fault ")?;
     add_number(alloc, u32::from(fault.kind), lines)?;
     add(alloc, lines, b" in line ")?;

@@ -14,7 +14,11 @@ const SCANS: [u8; 24] = [
 
 /// Adds a line for each scan byte, which says nothing where no key ends with it. A keyboard has its own scanner, and a
 /// console its own key state, and the modes of its screen.
-pub fn add_typed(alloc: Global, tables: &KeyTables, lines: &mut Bytes) -> Result<(), NoMemory> {
+pub(crate) fn add_typed(
+    alloc: Global,
+    tables: &KeyTables,
+    lines: &mut Bytes,
+) -> Result<(), NoMemory> {
     let mut scanner = Scanner::start();
     let mut keyboard = Keyboard::start();
     let mut state = KbState::start();

@@ -10,7 +10,7 @@ use vt_screen::{BLANK, Emu};
 const PIECE_BYTES: usize = 4_096;
 
 /// The picture of the screen after the source's bytes.
-pub fn drawn<S: Source>(alloc: Global, source: &mut S, size: Size) -> Result<Bytes, Ending> {
+pub(crate) fn drawn<S: Source>(alloc: Global, source: &mut S, size: Size) -> Result<Bytes, Ending> {
     let mut emu = Emu::new(Grid::blank(alloc, size, BLANK)?);
     let mut piece = [0; PIECE_BYTES];
     for _ in 0..u64::MAX {

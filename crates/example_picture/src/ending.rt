@@ -3,7 +3,7 @@ use vt_io::Failed;
 
 /// How the program ends.
 #[derive(Clone, Copy, Drop)]
-pub enum Ending {
+pub(crate) enum Ending {
     Fine,
     Usage,
     ReadFault,
@@ -13,7 +13,7 @@ pub enum Ending {
 
 impl Ending {
     /// The exit status.
-    pub fn number(self) -> u8 {
+    pub(crate) fn number(self) -> u8 {
         match self {
             Ending::Fine => 0,
             Ending::Usage => 1,
@@ -24,7 +24,7 @@ impl Ending {
     }
 
     /// The line on standard error.
-    pub fn line(self) -> &'static [u8] {
+    pub(crate) fn line(self) -> &'static [u8] {
         match self {
             Ending::Fine => b"",
             Ending::Usage => b"picture: usage: picture R C\n",

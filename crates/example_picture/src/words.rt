@@ -7,7 +7,7 @@ use vt_base::{Size, parse_decimal};
 const WORD_BYTES: usize = 16;
 
 /// The rows and columns, if these are the two words.
-pub fn size_of_words(env: &impl Env) -> Option<Size> {
+pub(crate) fn size_of_words(env: &impl Env) -> Option<Size> {
     let rows = number_at(env, 1)?;
     let cols = number_at(env, 2)?;
     let mut buffer = [0; WORD_BYTES];

@@ -8,14 +8,14 @@ use vt_screen::{BLANK, Emu};
 
 /// The text that draws a screen again, if there is one.
 #[derive(Drop)]
-pub enum Drawing {
+pub(crate) enum Drawing {
     Text(Bytes),
     /// No text draws the screen.
     Refused,
 }
 
 /// Runs the input on a screen of this size, and draws what it makes.
-pub fn drawn(alloc: Global, size: Size, input: &[u8]) -> Result<Drawing, NoMemory> {
+pub(crate) fn drawn(alloc: Global, size: Size, input: &[u8]) -> Result<Drawing, NoMemory> {
     let mut emu = Emu::new(Grid::blank(alloc, size, BLANK)?);
     emu.write(input);
     if !redrawable(&emu) {

@@ -6,7 +6,7 @@ use vt_base::{Size, parse_decimal};
 const WORD_BYTES: usize = 8;
 
 /// The rows and columns that the two arguments are, each from 1 to 255, if they are.
-pub fn size_of(env: &impl Env) -> Option<Size> {
+pub(crate) fn size_of(env: &impl Env) -> Option<Size> {
     let rows = number_at(env, 1)?;
     let cols = number_at(env, 2)?;
     let mut buffer = [0; WORD_BYTES];

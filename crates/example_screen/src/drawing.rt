@@ -13,7 +13,7 @@ const SIZE: Size = Size { rows: 3, cols: 20 };
 
 /// For each line of the text a line for each thing that it says beside the screen, and then the rows that it
 /// changed.
-pub fn drawn(alloc: Global, text: &[u8]) -> Result<Bytes, NoMemory> {
+pub(crate) fn drawn(alloc: Global, text: &[u8]) -> Result<Bytes, NoMemory> {
     let mut teller = Teller::new(alloc);
     let mut emu = Emu::new(Grid::blank(alloc, SIZE, BLANK)?);
     let mut shown = Grid::blank(alloc, SIZE, BLANK)?;

@@ -10,7 +10,7 @@ use vt_screen::{Listener, Out};
 
 /// The lines so far. A listener can't answer that memory ran out, so that is kept until the end.
 #[derive(Drop)]
-pub struct Teller {
+pub(crate) struct Teller {
     alloc: Global,
     lines: Bytes,
     is_short: bool,
@@ -18,7 +18,7 @@ pub struct Teller {
 
 impl Teller {
     /// No lines yet.
-    pub fn new(alloc: Global) -> Teller {
+    pub(crate) fn new(alloc: Global) -> Teller {
         Teller {
             alloc,
             lines: Bytes::new(alloc),
@@ -27,7 +27,7 @@ impl Teller {
     }
 
     /// Adds a row after its number.
-    pub fn add_row(&mut self, grid: &Grid, y: u8) -> Result<(), NoMemory>
+    pub(crate) fn add_row(&mut self, grid: &Grid, y: u8) -> Result<(), NoMemory>
         requires { y < grid.now.rows }
     {
         let row = text_row(self.alloc, grid, y)?;
@@ -37,7 +37,7 @@ impl Teller {
     }
 
     /// The lines, if memory was found for all of them.
-    pub fn finish(self) -> Result<Bytes, NoMemory> {
+    pub(crate) fn finish(self) -> Result<Bytes, NoMemory> {
         if self.is_short {
             return Err(NoMemory);
         }

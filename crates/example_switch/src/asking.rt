@@ -8,7 +8,7 @@ use vt_events::{Event, Reply};
 use vt_world::World;
 
 /// Process 2 asks for the console of each digit of the text, one after another. The lines of all calls.
-pub fn ask_for_each(alloc: Global, text: &[u8]) -> Result<Bytes, NoMemory> {
+pub(crate) fn ask_for_each(alloc: Global, text: &[u8]) -> Result<Bytes, NoMemory> {
     let mut lines = Bytes::new(alloc);
     let mut world = opened(alloc)?;
     for byte in text {

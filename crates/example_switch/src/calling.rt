@@ -2,11 +2,11 @@
 use vt_base::CallerNo;
 
 /// The process that handles the switches of console 1.
-pub fn server() -> CallerNo {
+pub(crate) fn server() -> CallerNo {
     CallerNo::numbered(1)
 }
 
 /// The one that asks for consoles.
-pub fn asker() -> CallerNo {
+pub(crate) fn asker() -> CallerNo {
     CallerNo::numbered(2)
 }

@@ -14,7 +14,7 @@ const CONSOLES: u64 = 0b110;
 const BY_SIGNALS: Event = Event::SetMode(0, 1, 0, 10, 12, 0);
 
 /// A console on which each process has its own console open as descriptor 0.
-pub fn opened(alloc: Global) -> Result<World, NoMemory> {
+pub(crate) fn opened(alloc: Global) -> Result<World, NoMemory> {
     let mut world = started(alloc)?;
     world.call(alloc, server(), &Event::OpenCon(1))?;
     world.call(alloc, server(), &BY_SIGNALS)?;

@@ -5,7 +5,7 @@ use vt_base::{Bytes, ConsoleNo, NoMemory};
 use vt_events::Reply;
 
 /// Adds a line: the call in words, its answer, and the console that has the display after it.
-pub fn add_line(
+pub(crate) fn add_line(
     alloc: Global,
     words: &[u8],
     reply: &Reply,
@@ -36,7 +36,7 @@ fn add_number(alloc: Global, n: u16, lines: &mut Bytes) -> Result<(), NoMemory> 
 }
 
 /// Adds the words.
-pub fn add(alloc: Global, words: &[u8], lines: &mut Bytes) -> Result<(), NoMemory> {
+pub(crate) fn add(alloc: Global, words: &[u8], lines: &mut Bytes) -> Result<(), NoMemory> {
     lines.grow(alloc, words.len())?;
     lines.append(words);
     Ok(())

@@ -69,9 +69,9 @@ has_table lines tables fit are =
     let found = declared_some lines fit in
     list_any_at is_some tables.maps found.0 None (let e = are.whole.tall in omega (arith, found.1, e)) (are.exist found.0 found.1 ∙ found.2)
 
-usual-real : list_all is_real usual ≡ true
+usual_real : list_all is_real usual ≡ true
 unfolding usual
-usual-real = refl
+usual_real = refl
 
 pairs_real : (telling : Telling) → IsTrue (is_fit telling) → list_all is_real (pairs_by telling) ≡ true
 pairs_real (keymaps tables) fit = refl
@@ -81,7 +81,7 @@ pairs_real (string func bytes) fit = refl
 pairs_real (compose pair) fit = and_from (is_real pair) true fit refl
 pairs_real alt_is_meta fit = refl
 pairs_real usual_strings fit = refl
-pairs_real usual_pairs fit = usual-real
+pairs_real usual_pairs fit = usual_real
 
 all_real : (lines : List KeymapLine) → AreFit lines → list_all is_real (pairs_in lines) ≡ true
 all_real [] fit = refl

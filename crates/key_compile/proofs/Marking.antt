@@ -38,19 +38,9 @@ marked_none names lines marks e = record {
   each = λ t h. ap (λ ms. slice_index_or ms t false) e ∙ get_or-replicate 256 t false false h;
 }
 
-pub marked_more : (base : ℕ → Bool) (names : ℕ → Telling → Bool) (lines : List KeymapLine) (marks new : List Bool) (i : ℕ) (d : KeymapLine) → IsSetOf marks (λ t. base t || list_any (λ l. names t l.telling) (take i lines)) → i < length lines → length new ≡ 256 → ((t : ℕ) → t < 256 → slice_index_or new t false ≡ (slice_index_or marks t false || names t (get_or lines i d).telling)) → IsSetOf new (λ t. base t || list_any (λ l. names t l.telling) (take (i + 1) lines))
-marked_more base names lines marks new i d so_far h full each = record {
-  full = full;
-  each = λ t k.
-      each t k
-      ∙ ap (λ b. b || names t (get_or lines i d).telling) (so_far.each t k)
-      ∙ sym (or_assoc (base t) (list_any (λ l. names t l.telling) (take i lines)) (names t (get_or lines i d).telling))
-      ∙ ap (λ b. base t || b) (sym (any_more (λ (l : KeymapLine). names t l.telling) lines i d h));
-}
-
-pub passing_below-none : (test : ℕ → Bool) → passing_below test 0 ≡ []
+pub passing_below_none : (test : ℕ → Bool) → passing_below test 0 ≡ []
 unfolding passing_below
-passing_below-none test = refl
+passing_below_none test = refl
 
 pub passing_below-suc : (test : ℕ → Bool) (n : ℕ) → passing_below test (suc n) ≡ passing_below test n ++ cond (test n) (n ∷ []) []
 unfolding passing_below
@@ -59,23 +49,23 @@ passing_below-suc test n = refl
 up : (n : ℕ) → n + 1 ≡ suc n
 up n = omega arith
 
-pub passing_below-yes : (test : ℕ → Bool) (n : ℕ) → test n ≡ true → passing_below test (n + 1) ≡ passing_below test n ++ n ∷ []
-passing_below-yes test n e =
+pub passing_below_yes : (test : ℕ → Bool) (n : ℕ) → test n ≡ true → passing_below test (n + 1) ≡ passing_below test n ++ n ∷ []
+passing_below_yes test n e =
     ap (passing_below test) (up n) ∙ passing_below-suc test n ∙ ap (λ b. passing_below test n ++ cond b (n ∷ []) []) e
 
-pub passing_below-no : (test : ℕ → Bool) (n : ℕ) → test n ≡ false → passing_below test (n + 1) ≡ passing_below test n
-passing_below-no test n e =
+pub passing_below_no : (test : ℕ → Bool) (n : ℕ) → test n ≡ false → passing_below test (n + 1) ≡ passing_below test n
+passing_below_no test n e =
     ap (passing_below test) (up n) ∙ passing_below-suc test n ∙ ap (λ b. passing_below test n ++ cond b (n ∷ []) []) e ∙ append-nil (passing_below test n)
 
-pub passing_below-same : (n : ℕ) (f g : ℕ → Bool) → ((t : ℕ) → t < n → f t ≡ g t) → passing_below f n ≡ passing_below g n
-passing_below-same zero f g same = passing_below-none f ∙ sym (passing_below-none g)
-passing_below-same (suc n) f g same =
+pub passing_below_same : (n : ℕ) (f g : ℕ → Bool) → ((t : ℕ) → t < n → f t ≡ g t) → passing_below f n ≡ passing_below g n
+passing_below_same zero f g same = passing_below_none f ∙ sym (passing_below_none g)
+passing_below_same (suc n) f g same =
     passing_below-suc f n
-    ∙ ap (λ front. front ++ cond (f n) (n ∷ []) []) (passing_below-same n f g (λ t h. same t (omega arith)))
+    ∙ ap (λ front. front ++ cond (f n) (n ∷ []) []) (passing_below_same n f g (λ t h. same t (omega arith)))
     ∙ ap (λ b. passing_below g n ++ cond b (n ∷ []) []) (same n (omega arith))
     ∙ sym (passing_below-suc g n)
 
 -- the tables of the marks of a union
 pub marks_union : (lines : List KeymapLine) (marks : List Bool) → IsSetOf marks (in_union lines) → passing_below (λ t. slice_index_or marks t false) 256 ≡ union_of lines
 unfolding union_of
-marks_union lines marks set = passing_below-same 256 (λ t. slice_index_or marks t false) (in_union lines) set.each
+marks_union lines marks set = passing_below_same 256 (λ t. slice_index_or marks t false) (in_union lines) set.each

@@ -9,9 +9,9 @@ use Rattle.std.specs.Option.{option_map, option_or}
 use Rattle.key_syms.specs.Act.{Act}
 use Rattle.key_tables.specs.Tables.{Tables, entry_of, exists_in, map_of, with_entry}
 use Rattle.key_text.specs.KeymapLine.{Telling, KeymapLine}
-use Rattle.key_compile.specs.Entries.{by_symbols, decided, everywhere, gives, paired}
+use Rattle.key_compile.specs.Entries.{by_symbols, last_action, everywhere, gives, action_of_table}
 use Rattle.key_compile.specs.Existing.{HasOwnTable, HasTables}
-use Rattle.key_compile.specs.Fill.{filled}
+use Rattle.key_compile.specs.Fill.{filled_action}
 use Rattle.key_compile.specs.Puts.{Puts}
 use Rattle.key_compile.proofs.Marking.{any_more}
 
@@ -88,32 +88,32 @@ puts_one old new table code a there each funcs pairs = record {
     ])
 
 -- the lines so far, and one more
-decided_more : (union : List ℕ) (lines : List KeymapLine) (l : KeymapLine) (t c : ℕ) → decided union (lines ++ l ∷ []) t c ≡ option_or (gives union l.telling t c) (decided union lines t c)
+decided_more : (union : List ℕ) (lines : List KeymapLine) (l : KeymapLine) (t c : ℕ) → last_action union (lines ++ l ∷ []) t c ≡ option_or (gives union l.telling t c) (last_action union lines t c)
 decided_more union [] l t c = or_none (gives union l.telling t c)
   where
     or_none : (x : Option Act) → option_or None x ≡ option_or x None
     or_none None = refl
     or_none (Some a) = refl
-decided_more union (m ∷ lines) l t c = ap (λ x. option_or x (gives union m.telling t c)) (decided_more union lines l t c) ∙ or_moved (gives union l.telling t c) (decided union lines t c) (gives union m.telling t c)
+decided_more union (m ∷ lines) l t c = ap (λ x. option_or x (gives union m.telling t c)) (decided_more union lines l t c) ∙ or_moved (gives union l.telling t c) (last_action union lines t c) (gives union m.telling t c)
   where
     or_moved : (x y z : Option Act) → option_or (option_or x y) z ≡ option_or x (option_or y z)
     or_moved None y z = refl
     or_moved (Some a) y z = refl
 
-pub decided_next : (union : List ℕ) (lines : List KeymapLine) (i : ℕ) (d : KeymapLine) → i < length lines → (t c : ℕ) → option_or (gives union (get_or lines i d).telling t c) (decided union (take i lines) t c) ≡ decided union (take (i + 1) lines) t c
+pub decided_next : (union : List ℕ) (lines : List KeymapLine) (i : ℕ) (d : KeymapLine) → i < length lines → (t c : ℕ) → option_or (gives union (get_or lines i d).telling t c) (last_action union (take i lines) t c) ≡ last_action union (take (i + 1) lines) t c
 decided_next union lines i d h t c =
-    sym (ap (λ ls. decided union ls t c) (take_more lines i d h) ∙ decided_more union (take i lines) (get_or lines i d) t c)
+    sym (ap (λ ls. last_action union ls t c) (take_more lines i d h) ∙ decided_more union (take i lines) (get_or lines i d) t c)
 
 -- one more table of a symbol that stands alone
-pub everywhere_next : (union : List ℕ) (action : Act) (code i : ℕ) → i < length union → (t c : ℕ) → option_or (cond (t == get_or union i 0 && c == code) (Some (filled (get_or union i 0) action)) None) (cond (c == code) (everywhere (take i union) action t) None) ≡ cond (c == code) (everywhere (take (i + 1) union) action t) None
+pub everywhere_next : (union : List ℕ) (action : Act) (code i : ℕ) → i < length union → (t c : ℕ) → option_or (cond (t == get_or union i 0 && c == code) (Some (filled_action (get_or union i 0) action)) None) (cond (c == code) (everywhere (take i union) action t) None) ≡ cond (c == code) (everywhere (take (i + 1) union) action t) None
 everywhere_next union action code i h t c =
     by_tests (c == code) (t == get_or union i 0) (list_any (λ u. t == u) (take i union)) (λ e. elim (eqb_tells t (get_or union i 0)) [
-      | inl same ↦ ap (λ u. filled u action) (sym same.1)
+      | inl same ↦ ap (λ u. filled_action u action) (sym same.1)
       | inr other ↦ absurd (false≢true (sym other.0 ∙ e))
     ])
-    ∙ ap (λ b. cond (c == code) (cond b (Some (filled t action)) None) None) (sym (any_more (λ u. t == u) union i 0 h))
+    ∙ ap (λ b. cond (c == code) (cond b (Some (filled_action t action)) None) None) (sym (any_more (λ u. t == u) union i 0 h))
   where
-    by_tests : (here now before : Bool) → (now ≡ true → filled (get_or union i 0) action ≡ filled t action) → option_or (cond (now && here) (Some (filled (get_or union i 0) action)) None) (cond here (cond before (Some (filled t action)) None) None) ≡ cond here (cond (before || now) (Some (filled t action)) None) None
+    by_tests : (here now before : Bool) → (now ≡ true → filled_action (get_or union i 0) action ≡ filled_action t action) → option_or (cond (now && here) (Some (filled_action (get_or union i 0) action)) None) (cond here (cond before (Some (filled_action t action)) None) None) ≡ cond here (cond (before || now) (Some (filled_action t action)) None) None
     by_tests true true true e = ap Some (e refl)
     by_tests true true false e = ap Some (e refl)
     by_tests true false true e = refl
@@ -122,7 +122,7 @@ everywhere_next union action code i h t c =
     by_tests false false before e = refl
 
 -- one more symbol of many
-paired_more : (us : List ℕ) (acts : List Act) (u : ℕ) (a : Act) (t : ℕ) → length us ≡ length acts → paired (us ++ u ∷ []) (acts ++ a ∷ []) t ≡ option_or (cond (t == u) (Some a) None) (paired us acts t)
+paired_more : (us : List ℕ) (acts : List Act) (u : ℕ) (a : Act) (t : ℕ) → length us ≡ length acts → action_of_table (us ++ u ∷ []) (acts ++ a ∷ []) t ≡ option_or (cond (t == u) (Some a) None) (action_of_table us acts t)
 paired_more [] [] u a t e = or_none (cond (t == u) (Some a) None)
   where
     or_none : (x : Option Act) → option_or None x ≡ option_or x None
@@ -132,18 +132,18 @@ paired_more [] (b ∷ acts) u a t e = absurd (omega arith)
 paired_more (v ∷ us) [] u a t e = absurd (omega arith)
 paired_more (v ∷ us) (b ∷ acts) u a t e =
     ap (λ x. option_or x (cond (t == v) (Some b) None)) (paired_more us acts u a t (omega arith))
-    ∙ or_moved (cond (t == u) (Some a) None) (paired us acts t) (cond (t == v) (Some b) None)
+    ∙ or_moved (cond (t == u) (Some a) None) (action_of_table us acts t) (cond (t == v) (Some b) None)
   where
     or_moved : (x y z : Option Act) → option_or (option_or x y) z ≡ option_or x (option_or y z)
     or_moved None y z = refl
     or_moved (Some w) y z = refl
 
-pub paired_next : (union : List ℕ) (actions : List Act) (code i : ℕ) (d : Act) → i < length union → i < length actions → (t c : ℕ) → option_or (cond (t == get_or union i 0 && c == code) (Some (get_or actions i d)) None) (cond (c == code) (paired (take i union) (take i actions) t) None) ≡ cond (c == code) (paired (take (i + 1) union) (take (i + 1) actions) t) None
+pub paired_next : (union : List ℕ) (actions : List Act) (code i : ℕ) (d : Act) → i < length union → i < length actions → (t c : ℕ) → option_or (cond (t == get_or union i 0 && c == code) (Some (get_or actions i d)) None) (cond (c == code) (action_of_table (take i union) (take i actions) t) None) ≡ cond (c == code) (action_of_table (take (i + 1) union) (take (i + 1) actions) t) None
 paired_next union actions code i d h k t c =
-    by_tests (c == code) (t == get_or union i 0) (paired (take i union) (take i actions) t)
+    by_tests (c == code) (t == get_or union i 0) (action_of_table (take i union) (take i actions) t)
     ∙ ap (λ x. cond (c == code) x None)
-    (sym (ap (λ us. paired us (take (i + 1) actions) t) (take_more union i 0 h)
-    ∙ ap (λ acts. paired (take i union ++ get_or union i 0 ∷ []) acts t) (take_more actions i d k)
+    (sym (ap (λ us. action_of_table us (take (i + 1) actions) t) (take_more union i 0 h)
+    ∙ ap (λ acts. action_of_table (take i union ++ get_or union i 0 ∷ []) acts t) (take_more actions i d k)
     ∙ paired_more (take i union) (take i actions) (get_or union i 0) (get_or actions i d) t (omega (arith, length-take i union, length-take i actions))))
   where
     by_tests : (here now : Bool) (before : Option Act) → option_or (cond (now && here) (Some (get_or actions i d)) None) (cond here before None) ≡ cond here (option_or (cond now (Some (get_or actions i d)) None) before) None
@@ -169,17 +169,17 @@ tables_stay f union old now has puts t e = puts_exist f old now puts t ∙ has t
 pub own_table_stays : (f : ℕ → ℕ → Option Act) (telling : Telling) (old now : Tables) → HasOwnTable telling old → Puts f old now → HasOwnTable telling now
 own_table_stays f telling old now has puts t h e = puts_exist f old now puts t ∙ has t h e
 
-pub paired_front : (us : List ℕ) (acts : List Act) (t : ℕ) → paired (take (length acts) us) acts t ≡ paired us acts t
+pub paired_front : (us : List ℕ) (acts : List Act) (t : ℕ) → action_of_table (take (length acts) us) acts t ≡ action_of_table us acts t
 paired_front [] [] t = refl
 paired_front [] (a ∷ acts) t = refl
 paired_front (u ∷ us) [] t = refl
 paired_front (u ∷ us) (a ∷ acts) t = ap (λ x. option_or x (cond (t == u) (Some a) None)) (paired_front us acts t)
 
-pub by_symbols-many : (union : List ℕ) (actions : List Act) (t : ℕ) → (length actions ≡ 1 → ⊥) → paired union actions t ≡ by_symbols union actions t
-by_symbols-many [] [] t h = refl
-by_symbols-many (u ∷ us) [] t h = refl
-by_symbols-many union (a ∷ []) t h = absurd (h refl)
-by_symbols-many union (a ∷ b ∷ rest) t h = refl
+pub by_symbols_many : (union : List ℕ) (actions : List Act) (t : ℕ) → (length actions ≡ 1 → ⊥) → action_of_table union actions t ≡ by_symbols union actions t
+by_symbols_many [] [] t h = refl
+by_symbols_many (u ∷ us) [] t h = refl
+by_symbols_many union (a ∷ []) t h = absurd (h refl)
+by_symbols_many union (a ∷ b ∷ rest) t h = refl
 
 -- a table that has an entry exists
 pub table_there : (m : Option (List Act)) (c : ℕ) → IsSome (option_map (λ map. get_or map c (record { kind = 0; value = 0 })) m) → is_some m ≡ true

@@ -10,7 +10,7 @@ use Rattle.key_text.specs.KeymapLine.{KeymapLine}
 use Rattle.key_compile.specs.Pairs.{usual}
 use Rattle.key_compile.specs.Puts.{PutsTexts}
 use Rattle.key_compile.specs.Strings.{last_text, some_text, text_by, usual_string, usual_texts}
-use Rattle.key_compile.specs.Usual.{UsualPairsAreKept, UsualStringsAreKept, trimmed}
+use Rattle.key_compile.specs.Usual.{UsualPairsAreKept, UsualStringsAreKept, bytes_before_zero}
 use Rattle.key_compile.specs.declared.usual.TheConstants.{USUAL_STRINGS, USUAL_STRING_COUNT}
 
 pub texts_same : (f g : ℕ → Option (List ℕ)) (old new : Tables) → ((i : ℕ) → f i ≡ g i) → PutsTexts f old new → PutsTexts g old new
@@ -46,26 +46,26 @@ last_more (m ∷ lines) l i = ap (λ x. option_or x (text_by m.telling i)) (last
 pub last_next : (lines : List KeymapLine) (k : ℕ) (d : KeymapLine) → k < length lines → (i : ℕ) → option_or (text_by (get_or lines k d).telling i) (last_text (take k lines) i) ≡ last_text (take (k + 1) lines) i
 last_next lines k d h i = sym (ap (λ ls. last_text ls i) (take_more lines k d h) ∙ last_more (take k lines) (get_or lines k d) i)
 
-pub rows-usual : UsualStringsAreKept
+pub rows_usual : UsualStringsAreKept
 unfolding usual_texts digits
-rows-usual = refl
+rows_usual = refl
 
-length-rows : length USUAL_STRINGS ≡ USUAL_STRING_COUNT
-length-rows = refl
+length_rows : length USUAL_STRINGS ≡ USUAL_STRING_COUNT
+length_rows = refl
 
 length-usual : length usual_texts ≡ USUAL_STRING_COUNT
 unfolding usual_texts
 length-usual = refl
 
-pub usual_row : (i : ℕ) → i < USUAL_STRING_COUNT → some_text (trimmed (slice_index_or USUAL_STRINGS i [])) ≡ usual_string i
+pub usual_row : (i : ℕ) → i < USUAL_STRING_COUNT → some_text (bytes_before_zero (slice_index_or USUAL_STRINGS i [])) ≡ usual_string i
 unfolding usual_string
 usual_row i h =
-    let long : i < length USUAL_STRINGS = subst (λ (n : ℕ). i < n) (sym length-rows) h in
-    ap some_text (sym (get_or-map trimmed USUAL_STRINGS i [] [] long) ∙ ap (λ rows. get_or rows i []) rows-usual)
+    let long : i < length USUAL_STRINGS = subst (λ (n : ℕ). i < n) (sym length_rows) h in
+    ap some_text (sym (get_or-map bytes_before_zero USUAL_STRINGS i [] [] long) ∙ ap (λ rows. get_or rows i []) rows_usual)
 
-pub pairs-usual : UsualPairsAreKept
+pub pairs_usual : UsualPairsAreKept
 unfolding usual
-pairs-usual = refl
+pairs_usual = refl
 
 -- past the usual strings there are none
 past_usual : (j : ℕ) → USUAL_STRING_COUNT ≤ j → None ≡ usual_string j

@@ -12,7 +12,7 @@ use Rattle.key_tables.specs.Tables.{IsEmpty, IsWhole, Tables, entry_of, exists_i
 use Rattle.key_text.specs.KeymapLine.{Telling, KeymapLine, keymaps, keys, one, string, compose, alt_is_meta, usual_strings, usual_pairs}
 use Rattle.key_text.specs.declared.fault.KeyFault.{KeyFault}
 use Rattle.key_compile.specs.Compiled.{AreStart, AreTablesOf}
-use Rattle.key_compile.specs.Entries.{decided, entry_in, is_alt, is_ascii_act, line_entry, meta_over}
+use Rattle.key_compile.specs.Entries.{last_action, entry_in, is_alt, is_ascii_act, line_entry, meta_over}
 use Rattle.key_compile.specs.Existing.{FitUnion, HasTables, HaveOwnTables, fits_union}
 use Rattle.key_compile.specs.Faults.{at_line, compile_fault, fault_of, first_fault, is_key, pairs_fault, pairs_of_line}
 use Rattle.key_compile.specs.Metas.{meta_at, meta_of, metas_below}
@@ -20,7 +20,7 @@ use Rattle.key_compile.specs.Pairs.{pairs_by, pairs_in, usual}
 use Rattle.key_compile.specs.Puts.{Puts, PutsTexts}
 use Rattle.key_compile.specs.Strings.{last_text}
 use Rattle.key_compile.specs.Union.{IsSetOf, in_union, is_declared, modifies_table, passing_below, union_of}
-use Rattle.key_compile.proofs.Marking.{passing_below-none, passing_below-suc}
+use Rattle.key_compile.proofs.Marking.{passing_below_none, passing_below-suc}
 use Rattle.key_compile.proofs.Steps.{puts_exist}
 
 any_append : (test : ℕ → Bool) (xs ys : List ℕ) → list_any test (xs ++ ys) ≡ (list_any test xs || list_any test ys)
@@ -51,7 +51,7 @@ and_false false = refl
 
 -- which numbers are among those that pass
 none_from : (pass : ℕ → Bool) (n t : ℕ) → n ≤ t → list_any (λ d. d == t) (passing_below pass n) ≡ false
-none_from pass zero t h = ap (list_any (λ d. d == t)) (passing_below-none pass)
+none_from pass zero t h = ap (list_any (λ d. d == t)) (passing_below_none pass)
 none_from pass (suc n) t h =
     any_suc (λ d. d == t) pass n
     ∙ ap (λ b. b || (pass n && (n == t))) (none_from pass n t (omega arith))
@@ -81,8 +81,8 @@ among pass (suc n) t h = any_suc (λ d. d == t) pass n ∙ (elim (eqb_tells n t)
     or_false true = refl
     or_false false = refl
 
-eqb-comm : (a b : ℕ) → (a == b) ≡ (b == a)
-eqb-comm a b = elim (eqb_tells a b) [
+eqb_comm : (a b : ℕ) → (a == b) ≡ (b == a)
+eqb_comm a b = elim (eqb_tells a b) [
   | inl e ↦ e.0 ∙ sym (eq-eqb b a (sym e.1))
   | inr e ↦ elim (eqb_tells b a) [
     | inl f ↦ absurd (e.1 (sym f.1))
@@ -92,7 +92,7 @@ eqb-comm a b = elim (eqb_tells a b) [
 
 flipped : (t : ℕ) (xs : List ℕ) → list_any (λ u. t == u) xs ≡ list_any (λ d. d == t) xs
 flipped t [] = refl
-flipped t (x ∷ xs) = ap (λ b. b || list_any (λ u. t == u) xs) (eqb-comm t x) ∙ ap (λ b. (x == t) || b) (flipped t xs)
+flipped t (x ∷ xs) = ap (λ b. b || list_any (λ u. t == u) xs) (eqb_comm t x) ∙ ap (λ b. (x == t) || b) (flipped t xs)
 
 named : (pass : ℕ → Bool) (t : ℕ) → list_any (λ u. t == u) (passing_below pass 256) ≡ true → (t < 256) × (pass t ≡ true)
 named pass t e = elim (cases_lt t 256) [
@@ -188,13 +188,13 @@ unfolding compile_fault
 pairs_fit lines pairs e good = omega (arith, pairs_few (length (union_of lines)) false 0 lines good (omega arith), ap length e)
 
 -- the entries that the lines decide
-entry_first : (lines : List KeymapLine) (union : List ℕ) (k0 k1 : Tables) → AreStart lines k0 → union ≡ union_of lines → Puts (decided union lines) k0 k1 → (t c : ℕ) → t < 256 → entry_of k1 t c ≡ cond (is_declared lines t) (Some (line_entry lines t c)) None
+entry_first : (lines : List KeymapLine) (union : List ℕ) (k0 k1 : Tables) → AreStart lines k0 → union ≡ union_of lines → Puts (last_action union lines) k0 k1 → (t c : ℕ) → t < 256 → entry_of k1 t c ≡ cond (is_declared lines t) (Some (line_entry lines t c)) None
 unfolding line_entry
 entry_first lines union k0 k1 start e puts t c h =
     puts.entries t c
-    ∙ ap (option_map (λ a. unwrap_or (decided union lines t c) a)) (start.entries t c ∙ ap (λ b. cond b (Some hole) None) (start.exist t h))
-    ∙ mapped (is_declared lines t) (decided union lines t c)
-    ∙ ap (λ us. cond (is_declared lines t) (Some (unwrap_or (decided us lines t c) hole)) None) e
+    ∙ ap (option_map (λ a. unwrap_or (last_action union lines t c) a)) (start.entries t c ∙ ap (λ b. cond b (Some hole) None) (start.exist t h))
+    ∙ mapped (is_declared lines t) (last_action union lines t c)
+    ∙ ap (λ us. cond (is_declared lines t) (Some (unwrap_or (last_action us lines t c) hole)) None) e
   where
     mapped : (b : Bool) (g : Option Act) → option_map (λ a. unwrap_or g a) (cond b (Some hole) None) ≡ cond b (Some (unwrap_or g hole)) None
     mapped true g = refl
@@ -251,13 +251,13 @@ entry_last lines k1 k2 first metas t c h i j =
     by_test true e = ap Some (e refl)
     by_test false e = refl
 
-pub finish : (lines : List KeymapLine) (union : List ℕ) (pairs : List Pair) (k0 k1 k2 k3 k4 : Tables) → AreStart lines k0 → union ≡ union_of lines → Puts (decided union lines) k0 k1 → Puts (λ t c. cond (list_any (λ l. is_alt l.telling) lines) (metas_below k1 8 t c) None) k1 k2 → PutsTexts (last_text lines) k2 k3 → k4 ≡ with_pairs k3 pairs → pairs ≡ pairs_in lines → IsWhole k4 → AreTablesOf lines k4
+pub finish : (lines : List KeymapLine) (union : List ℕ) (pairs : List Pair) (k0 k1 k2 k3 k4 : Tables) → AreStart lines k0 → union ≡ union_of lines → Puts (last_action union lines) k0 k1 → Puts (λ t c. cond (list_any (λ l. is_alt l.telling) lines) (metas_below k1 8 t c) None) k1 k2 → PutsTexts (last_text lines) k2 k3 → k4 ≡ with_pairs k3 pairs → pairs ≡ pairs_in lines → IsWhole k4 → AreTablesOf lines k4
 finish lines union pairs k0 k1 k2 k3 k4 start e puts metas texts is same whole = record {
   whole = whole;
   exist = λ t h.
       ap (λ maps. exists_in (record { maps = maps; funcs = []; pairs = [] }) t) (ap (λ (k : Tables). k.maps) is ∙ texts.maps)
       ∙ puts_exist (λ u d. cond (list_any (λ l. is_alt l.telling) lines) (metas_below k1 8 u d) None) k1 k2 metas t
-      ∙ puts_exist (decided union lines) k0 k1 puts t
+      ∙ puts_exist (last_action union lines) k0 k1 puts t
       ∙ start.exist t h;
   entries = λ t c h i j.
       ap (λ maps. entry_of (record { maps = maps; funcs = []; pairs = [] }) t c) (ap (λ (k : Tables). k.maps) is ∙ texts.maps)

@@ -6,24 +6,24 @@ use Rattle.key_syms.specs.Act.{Act, act}
 use Rattle.key_syms.specs.Kinds.{HOLE, META}
 use Rattle.key_tables.specs.Tables.{hole}
 use Rattle.key_text.specs.KeymapLine.{Telling, KeymapLine, keymaps, keys, one, string, compose, alt_is_meta, usual_strings, usual_pairs}
-use Rattle.key_compile.specs.Fill.{filled, is_character_act}
+use Rattle.key_compile.specs.Fill.{filled_action, is_character_act}
 use Rattle.key_compile.specs.Union.{is_declared, union_of}
 
 -- the action of a table, where actions stand for tables in order
-abbrev pub paired : List ℕ → List Act → ℕ → Option Act
-paired [] actions t = None
-paired (u ∷ us) [] t = None
-paired (u ∷ us) (a ∷ rest) t = option_or (paired us rest t) (cond (t == u) (Some a) None)
+abbrev pub action_of_table : List ℕ → List Act → ℕ → Option Act
+action_of_table [] actions t = None
+action_of_table (u ∷ us) [] t = None
+action_of_table (u ∷ us) (a ∷ rest) t = option_or (action_of_table us rest t) (cond (t == u) (Some a) None)
 
 -- the action of a table, where one symbol stands for all of them
 abbrev pub everywhere : List ℕ → Act → ℕ → Option Act
-everywhere tables a t = cond (list_any (λ u. t == u) tables) (Some (filled t a)) None
+everywhere tables a t = cond (list_any (λ u. t == u) tables) (Some (filled_action t a)) None
 
 -- what symbols give a table: one for all tables of the union, more for the first of them
 abbrev pub by_symbols : List ℕ → List Act → ℕ → Option Act
 by_symbols union [] t = None
 by_symbols union (a ∷ []) t = everywhere union a t
-by_symbols union (a ∷ b ∷ rest) t = paired union (a ∷ b ∷ rest) t
+by_symbols union (a ∷ b ∷ rest) t = action_of_table union (a ∷ b ∷ rest) t
 
 -- what a line gives a table and a code, if it names them
 abbrev pub gives : List ℕ → Telling → ℕ → ℕ → Option Act
@@ -37,13 +37,13 @@ gives union usual_strings t c = None
 gives union usual_pairs t c = None
 
 -- what the last line that names a table and a code gives
-abbrev pub decided : List ℕ → List KeymapLine → ℕ → ℕ → Option Act
-decided union [] t c = None
-decided union (l ∷ ls) t c = option_or (decided union ls t c) (gives union l.telling t c)
+abbrev pub last_action : List ℕ → List KeymapLine → ℕ → ℕ → Option Act
+last_action union [] t c = None
+last_action union (l ∷ ls) t c = option_or (last_action union ls t c) (gives union l.telling t c)
 
 -- the entry that the lines decide: a hole where none names it
 unfoldable pub line_entry : List KeymapLine → ℕ → ℕ → Act
-line_entry lines t c = unwrap_or (decided (union_of lines) lines t c) hole
+line_entry lines t c = unwrap_or (last_action (union_of lines) lines t c) hole
 
 -- a line `alt_is_meta`
 abbrev pub is_alt : Telling → Bool

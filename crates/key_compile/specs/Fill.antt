@@ -33,18 +33,18 @@ abbrev pub has_alt : ℕ → Bool
 has_alt t = t / 8 % 2 == 1
 
 -- the value of a letter in a table below 16: the other case with Shift, the low five bits with Control
-abbrev pub shifted : ℕ → ℕ → ℕ
-shifted t v = cond (has_shift t) (other_case v) v
+abbrev pub value_with_shift : ℕ → ℕ → ℕ
+value_with_shift t v = cond (has_shift t) (other_case v) v
 
-abbrev pub controlled : ℕ → ℕ → ℕ
-controlled t v = cond (has_control t) (shifted t v % 32) (shifted t v)
+abbrev pub value_with_control : ℕ → ℕ → ℕ
+value_with_control t v = cond (has_control t) (value_with_shift t v % 32) (value_with_shift t v)
 
 -- a meta with Alt, else a character with Control, else a letter
 abbrev pub kind_in : ℕ → ℕ
 kind_in t = cond (has_alt t) META (cond (has_control t) CHARACTER LETTER)
 
 -- an ASCII letter by the table, a hole from 16 on; another symbol as it is
-unfoldable pub filled : ℕ → Act → Act
-filled t a =
+unfoldable pub filled_action : ℕ → Act → Act
+filled_action t a =
     cond (is_letter a)
-    (cond (nat_le 16 t) hole (act (kind_in t) (controlled t a.value))) a
+    (cond (nat_le 16 t) hole (act (kind_in t) (value_with_control t a.value))) a

@@ -1,20 +1,20 @@
 ghost use Rattle.std.specs.Prelude.{◌≡◌, ◌≢◌, ◌≤◌, ◌==◌, ◌&&◌, true, length, Some, None, cond};
 ghost use Rattle.key_tables.specs.Tables.{exists_in};
-ghost use Rattle.key_compile.specs.Entries.{by_symbols, decided, everywhere, gives, paired};
+ghost use Rattle.key_compile.specs.Entries.{by_symbols, last_action, everywhere, gives, action_of_table};
 ghost use Rattle.key_compile.specs.Existing.{FitUnion, HasOwnTable, HasTables, HaveOwnTables, fits_union};
 ghost use Rattle.key_compile.specs.Puts.{Puts};
 
-use crate::fill::filled;
+use crate::fill::filled_action;
 use key_syms::Action;
 use key_tables::KeyTables;
 use key_text::{Line, LineKind};
 
 /// Sets what the lines give, one behind another.
-pub fn put_lines(tables: &mut KeyTables, union: &[u8], lines: &[Line])
+pub(crate) fn put_lines(tables: &mut KeyTables, union: &[u8], lines: &[Line])
     requires exist { HasTables union.now tables.old }
     requires own { HaveOwnTables lines.now tables.old }
     requires fit { FitUnion (length union.now) lines.now }
-    ensures { Puts (decided union.now lines.now) tables.old tables.new }
+    ensures { Puts (last_action union.now lines.now) tables.old tables.new }
 {
     for i in 0..lines.len() {
         put_line(tables, union, &lines[i]);
@@ -71,7 +71,7 @@ fn put_everywhere(tables: &mut KeyTables, union: &[u8], code: u8, action: Action
 {
     for i in 0..union.len() {
         let table = union[i];
-        tables.set_entry(table, code, filled(table, action));
+        tables.set_entry(table, code, filled_action(table, action));
     }
 }
 
@@ -79,7 +79,7 @@ fn put_paired(tables: &mut KeyTables, union: &[u8], code: u8, actions: &[Action]
     requires exist { HasTables union.now tables.old }
     requires key { code ≢ 0 }
     requires fit { length actions.now ≤ length union.now }
-    ensures { Puts (λ t c. cond (c == code) (paired union.now actions.now t) None)
+    ensures { Puts (λ t c. cond (c == code) (action_of_table union.now actions.now t) None)
         tables.old tables.new }
 {
     for i in 0..actions.len() {

@@ -1,14 +1,14 @@
 ghost use Rattle.std.specs.Prelude.{◌≡◌, ◌≤◌};
 ghost use Rattle.key_syms.specs.Act.{act};
 ghost use Rattle.key_tables.specs.Tables.{hole};
-ghost use Rattle.key_compile.specs.Fill.{controlled, filled, is_character_act, is_letter, is_lower, is_upper, kind_in, other_case, shifted};
+ghost use Rattle.key_compile.specs.Fill.{value_with_control, filled_action, is_character_act, is_letter, is_lower, is_upper, kind_in, other_case, value_with_shift};
 
 use key_syms::{Action, kind};
 
 /// What a symbol that stands alone on a key line does in a table.
-#[tactic(auto, unfolding(crate::specs::Fill::filled))]
-pub fn filled(t: u8, a: Action) -> Action
-    ensures { result ≡ filled t a }
+#[tactic(auto, unfolding(crate::specs::Fill::filled_action))]
+pub(crate) fn filled_action(t: u8, a: Action) -> Action
+    ensures { result ≡ filled_action t a }
 {
     if !is_letter(a) {
         return a;
@@ -18,12 +18,12 @@ pub fn filled(t: u8, a: Action) -> Action
     }
     Action {
         kind: kind_in(t),
-        value: controlled(t, a.value),
+        value: value_with_control(t, a.value),
     }
 }
 
 /// The action of a key that does nothing.
-pub fn hole() -> Action
+pub(crate) fn hole() -> Action
     ensures { result ≡ hole }
 {
     Action {
@@ -39,7 +39,7 @@ fn is_letter(a: Action) -> bool
 }
 
 /// Whether an action is a character, obeying CapsLock or not.
-pub fn is_character_act(a: Action) -> bool
+pub(crate) fn is_character_act(a: Action) -> bool
     ensures { result ≡ is_character_act a }
 {
     a.kind == kind::CHARACTER || a.kind == kind::LETTER
@@ -69,18 +69,18 @@ fn kind_in(t: u8) -> u8
     }
 }
 
-fn controlled(t: u8, v: u16) -> u16
+fn value_with_control(t: u8, v: u16) -> u16
     requires { v ≤ 127 }
-    ensures value { result ≡ controlled t v }
+    ensures value { result ≡ value_with_control t v }
     ensures small { result ≤ 127 }
 {
-    let v = shifted(t, v);
+    let v = value_with_shift(t, v);
     if t / 4 % 2 == 1 { v % 32 } else { v }
 }
 
-fn shifted(t: u8, v: u16) -> u16
+fn value_with_shift(t: u8, v: u16) -> u16
     requires { v ≤ 127 }
-    ensures value { result ≡ shifted t v }
+    ensures value { result ≡ value_with_shift t v }
     ensures small { result ≤ 127 }
 {
     if t % 2 == 1 { other_case(v) } else { v }

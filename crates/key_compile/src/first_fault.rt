@@ -10,7 +10,7 @@ use key_text::{KeyFault, Line, LineKind};
 const PAIRS: usize = 256;
 
 /// The first fault of the lines, where there are n tables in the union.
-pub fn first_fault(lines: &[Line], n: usize) -> Option<KeyFault>
+pub(crate) fn first_fault(lines: &[Line], n: usize) -> Option<KeyFault>
     ensures { result ≡ first_fault n false 0 lines.now }
 {
     let mut seen = false;

@@ -11,13 +11,13 @@ use key_tables::KeyTables;
 use key_text::{Line, LineKind};
 
 // How many tables there are without Alt below those with it.
-const TABLES: u8 = 8;
+const PLAIN_TABLES: u8 = 8;
 
 // One past the greatest keycode.
-const CODES: u16 = 256;
+const KEYCODES: u16 = 256;
 
 /// Whether a line is `alt_is_meta`.
-pub fn has_alt_is_meta(lines: &[Line]) -> bool
+pub(crate) fn has_alt_is_meta(lines: &[Line]) -> bool
     ensures { result ≡ list_any (λ l. is_alt l.telling) lines.now }
 {
     for i in 0..lines.len() {
@@ -35,10 +35,10 @@ fn is_alt(line: &Line) -> bool
 }
 
 /// Fills the holes of the tables with Alt: each gets the meta of the character below it.
-pub fn put_metas(tables: &mut KeyTables)
+pub(crate) fn put_metas(tables: &mut KeyTables)
     ensures { Puts (metas_below tables.old 8) tables.old tables.new }
 {
-    for t in 0..TABLES {
+    for t in 0..PLAIN_TABLES {
         put_metas_of(tables, t);
     }
 }
@@ -49,7 +49,7 @@ fn put_metas_of(tables: &mut KeyTables, t: u8)
     ensures { Puts (λ u c. cond (u == t + 8) (meta_at tables.old t c) None)
         tables.old tables.new }
 {
-    for c in 1..CODES {
+    for c in 1..KEYCODES {
         put_meta(tables, t, c as u8);
     }
 }

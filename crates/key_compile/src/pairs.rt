@@ -7,7 +7,7 @@ use key_text::{Line, LineKind};
 use std::alloc::{AllocError, Global};
 
 /// The pairs of the lines, in order.
-pub fn pairs_in(alloc: Global, lines: &[Line]) -> Result<Vec<Pair>, AllocError>
+pub(crate) fn pairs_in(alloc: Global, lines: &[Line]) -> Result<Vec<Pair>, AllocError>
     ensures { IfOk result (λ pairs. pairs.items ≡ pairs_in lines.now) }
 {
     let mut pairs = Vec::new(alloc);

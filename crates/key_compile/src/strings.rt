@@ -8,7 +8,7 @@ use key_tables::KeyTables;
 use key_text::{Line, LineKind};
 
 /// Sets the strings of the lines, one line behind another.
-pub fn put_strings(tables: &mut KeyTables, lines: &[Line])
+pub(crate) fn put_strings(tables: &mut KeyTables, lines: &[Line])
     ensures { PutsTexts (last_text lines.now) tables.old tables.new }
 {
     for i in 0..lines.len() {

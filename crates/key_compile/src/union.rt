@@ -6,11 +6,11 @@ use key_text::{Line, LineKind};
 use std::alloc::{AllocError, Global};
 
 // How many tables there may be.
-const TABLES: usize = 256;
+const TABLE_COUNT: usize = 256;
 
 /// For each table whether it is in the union.
 #[tactic(auto, unfolding(crate::specs::Union::in_union))]
-pub fn union_marks(alloc: Global, lines: &[Line]) -> Result<Vec<bool>, AllocError>
+pub(crate) fn union_marks(alloc: Global, lines: &[Line]) -> Result<Vec<bool>, AllocError>
     ensures { IfOk result (λ marks. IsSetOf marks.items (in_union lines.now)) }
 {
     if has_keymaps(lines) {
@@ -52,7 +52,7 @@ fn no_marks(alloc: Global) -> Result<Vec<bool>, AllocError>
     ensures { IfOk result (λ marks. marks.items ≡ replicate 256 false) }
 {
     let mut marks = Vec::new(alloc);
-    marks.resize(TABLES, false)?;
+    marks.resize(TABLE_COUNT, false)?;
     Ok(marks)
 }
 
@@ -63,7 +63,7 @@ fn mark_named(marks: &mut Vec<bool>, line: &Line)
     ensures each { (t : ℕ) → t < 256 → slice_index_or marks.new.items t false
         ≡ (slice_index_or marks.old.items t false || names_table t line.now.telling) }
 {
-    for t in 0..TABLES {
+    for t in 0..TABLE_COUNT {
         if names_table(t as u8, line) {
             marks[t] = true;
         }
@@ -83,7 +83,7 @@ fn usual_tables(alloc: Global) -> Result<Vec<bool>, AllocError>
     ensures { IfOk result (λ marks. IsSetOf marks.items is_usual_table) }
 {
     let mut marks = Vec::new(alloc);
-    for t in 0..TABLES {
+    for t in 0..TABLE_COUNT {
         marks.push(is_usual_table(t))?;
     }
     Ok(marks)
@@ -97,7 +97,7 @@ fn is_usual_table(t: usize) -> bool
 
 /// For each table whether it is declared. `union` says it of the union.
 #[tactic(auto, unfolding(crate::specs::Union::is_declared))]
-pub fn declared_marks(
+pub(crate) fn declared_marks(
     alloc: Global,
     lines: &[Line],
     union: &[bool],
@@ -126,13 +126,13 @@ fn mark_modified(marks: &mut Vec<bool>, line: &Line)
 }
 
 /// The tables that are marked, in rising order.
-pub fn marked_tables(alloc: Global, marks: &[bool]) -> Result<Vec<u8>, AllocError>
+pub(crate) fn marked_tables(alloc: Global, marks: &[bool]) -> Result<Vec<u8>, AllocError>
     requires { length marks.now ≡ 256 }
     ensures { IfOk result (λ tables. tables.items
         ≡ passing_below (λ t. slice_index_or marks.now t false) 256) }
 {
     let mut tables = Vec::new(alloc);
-    for t in 0..TABLES {
+    for t in 0..TABLE_COUNT {
         if !marks[t] {
             continue;
         }

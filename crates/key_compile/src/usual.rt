@@ -3,14 +3,14 @@
 use key_syms::Pair;
 
 /// How many function keys have a row among the usual strings.
-pub const USUAL_STRING_COUNT: usize = 30;
+pub(crate) const USUAL_STRING_COUNT: usize = 30;
 
 /// How many usual pairs there are.
-pub const USUAL_PAIR_COUNT: usize = 66;
+pub(crate) const USUAL_PAIR_COUNT: usize = 66;
 
 /// The usual strings of the function keys in order, each up to its first 0.
 #[rattlefmt::skip]
-pub static USUAL_STRINGS: [[u8; 5]; USUAL_STRING_COUNT] = [
+pub(crate) static USUAL_STRINGS: [[u8; 5]; USUAL_STRING_COUNT] = [
     *b"\x1B[[A\0", // F1
     *b"\x1B[[B\0", // F2
     *b"\x1B[[C\0", // F3
@@ -45,7 +45,7 @@ pub static USUAL_STRINGS: [[u8; 5]; USUAL_STRING_COUNT] = [
 
 /// The usual pairs: an accent or a first character, a character, and what the two make.
 #[rattlefmt::skip]
-pub static USUAL_PAIRS: [Pair; USUAL_PAIR_COUNT] = [
+pub(crate) static USUAL_PAIRS: [Pair; USUAL_PAIR_COUNT] = [
     Pair { accent: b'`' as u16, base: b'A' as u16, result: 0xC0 }, // À
     Pair { accent: b'`' as u16, base: b'E' as u16, result: 0xC8 }, // È
     Pair { accent: b'`' as u16, base: b'I' as u16, result: 0xCC }, // Ì

@@ -7,18 +7,18 @@ use Rattle.std.specs.Option.{option_map, option_map_or}
 use Rattle.key_syms.specs.Act.{Act}
 use Rattle.key_tables.specs.Tables.{IsMap, IsWhole, Tables, entry_of, exists_in, hole, map_of}
 use Rattle.key_dump.specs.Dump.{Modifier, entry_rows, row_text, rows_from, table_numbers, table_rows}
-use Rattle.key_dump.specs.Spaced.{spaced}
+use Rattle.key_dump.specs.Spaced.{blank_after_each}
 
 pub flat_map-append : {X Y : Type 0} (f : X → List Y) (xs ys : List X) → flat_map f (xs ++ ys) ≡ flat_map f xs ++ flat_map f ys
 flat_map-append f [] ys = refl
 flat_map-append f (x ∷ xs) ys = ap (λ rest. f x ++ rest) (flat_map-append f xs ys) ∙ sym (append_assoc (f x) (flat_map f xs) (flat_map f ys))
 
-rows_from-more : {X Row : Type 0} (rows : ℕ → X → List Row) (from : ℕ) (xs : List X) (i : ℕ) (d : X) → i < length xs → rows_from rows from (take (suc i) xs) ≡ rows_from rows from (take i xs) ++ rows (from + i) (get_or xs i d)
-rows_from-more rows from [] i d h = absurd (omega arith)
-rows_from-more rows from (x ∷ xs) zero d h =
+rows_from_more : {X Row : Type 0} (rows : ℕ → X → List Row) (from : ℕ) (xs : List X) (i : ℕ) (d : X) → i < length xs → rows_from rows from (take (suc i) xs) ≡ rows_from rows from (take i xs) ++ rows (from + i) (get_or xs i d)
+rows_from_more rows from [] i d h = absurd (omega arith)
+rows_from_more rows from (x ∷ xs) zero d h =
     append-nil (rows from x) ∙ ap (λ n. rows n x) (let e : from ≡ from + 0 = omega arith in e)
-rows_from-more rows from (x ∷ xs) (suc i) d h =
-    ap (λ rest. rows from x ++ rest) (rows_from-more rows (suc from) xs i d (omega arith))
+rows_from_more rows from (x ∷ xs) (suc i) d h =
+    ap (λ rest. rows from x ++ rest) (rows_from_more rows (suc from) xs i d (omega arith))
     ∙ sym (append_assoc (rows from x) (rows_from rows (suc from) (take i xs)) (rows (suc from + i) (get_or xs i d)))
     ∙ ap (λ n. (rows from x ++ rows_from rows (suc from) (take i xs)) ++ rows n (get_or xs i d)) (let e : suc from + i ≡ from + suc i = omega arith in e)
 
@@ -30,24 +30,24 @@ rows_more text rows xs i d start before after h added so_far =
     ∙ ap (λ rest. start ++ rest)
     (ap (λ n. flat_map text (rows_from rows 0 (take i xs)) ++ flat_map text (rows n (get_or xs i d))) (let k : i ≡ 0 + i = omega arith in k)
     ∙ sym (flat_map-append text (rows_from rows 0 (take i xs)) (rows (0 + i) (get_or xs i d)))
-    ∙ ap (flat_map text) (sym (rows_from-more rows 0 xs i d h))
+    ∙ ap (flat_map text) (sym (rows_from_more rows 0 xs i d h))
     ∙ ap (λ n. flat_map text (rows_from rows 0 (take n xs))) (let k : suc i ≡ i + 1 = omega arith in k))
 
 -- the rows of all items
 pub rows_all : {X Row : Type 0} (text : Row → List ℕ) (rows : ℕ → X → List Row) (xs : List X) (i : ℕ) (start after : List ℕ) → length xs ≤ i → after ≡ start ++ flat_map text (rows_from rows 0 (take i xs)) → after ≡ start ++ flat_map text (rows_from rows 0 xs)
 rows_all text rows xs i start after h e = e ∙ ap (λ ys. start ++ flat_map text (rows_from rows 0 ys)) (take_all i xs h)
 
-take-more : {X : Type 0} (xs : List X) (i : ℕ) (d : X) → i < length xs → take (suc i) xs ≡ take i xs ++ get_or xs i d ∷ []
-take-more [] i d h = absurd (omega arith)
-take-more (x ∷ xs) zero d h = refl
-take-more (x ∷ xs) (suc i) d h = ap (λ rest. x ∷ rest) (take-more xs i d (omega arith))
+take_more : {X : Type 0} (xs : List X) (i : ℕ) (d : X) → i < length xs → take (suc i) xs ≡ take i xs ++ get_or xs i d ∷ []
+take_more [] i d h = absurd (omega arith)
+take_more (x ∷ xs) zero d h = refl
+take_more (x ∷ xs) (suc i) d h = ap (λ rest. x ∷ rest) (take_more xs i d (omega arith))
 
 -- one item more, of items that are mapped
 pub mapped_more : {X Row : Type 0} (text : Row → List ℕ) (row : X → Row) (xs : List X) (i : ℕ) (d : X) (start before after : List ℕ) → i < length xs → after ≡ before ++ text (row (get_or xs i d)) → before ≡ start ++ flat_map text (map row (take i xs)) → after ≡ start ++ flat_map text (map row (take (i + 1) xs))
 mapped_more {X = X} text row xs i d start before after h added so_far =
     added ∙ ap (λ b. b ++ text (row (get_or xs i d))) so_far
     ∙ append_assoc start (flat_map text (map row (take i xs))) (text (row (get_or xs i d)))
-    ∙ ap (λ rest. start ++ rest) (sym (pushed (take i xs) (get_or xs i d)) ∙ ap (λ ys. flat_map text (map row ys)) (sym (take-more xs i d h)) ∙ ap (λ n. flat_map text (map row (take n xs))) (let k : suc i ≡ i + 1 = omega arith in k))
+    ∙ ap (λ rest. start ++ rest) (sym (pushed (take i xs) (get_or xs i d)) ∙ ap (λ ys. flat_map text (map row ys)) (sym (take_more xs i d h)) ∙ ap (λ n. flat_map text (map row (take n xs))) (let k : suc i ≡ i + 1 = omega arith in k))
   where
     pushed : (ys : List X) (y : X) → flat_map text (map row (ys ++ y ∷ [])) ≡ flat_map text (map row ys) ++ text (row y)
     pushed [] y = append-nil (text (row y))
@@ -82,25 +82,25 @@ eight_more start a b c d e f g h u v w x y z k l p q r s t o m n =
     two_more start a h u (v ++ (w ++ (x ++ (y ++ (z ++ (k ++ l)))))) p (seven_more a b c d e f g h v w x y z k l q r s t o m n)
 
 -- words with blanks between, of which the first ones have one after each
-pub join-spaced : (ws : List (List ℕ)) (w : List ℕ) (vs : List (List ℕ)) → join_with_byte 0x20 (ws ++ w ∷ vs) ≡ spaced ws ++ join_with_byte 0x20 (w ∷ vs)
-join-spaced [] w vs = refl
-join-spaced (x ∷ []) w vs =
+pub join_blank_after_each : (ws : List (List ℕ)) (w : List ℕ) (vs : List (List ℕ)) → join_with_byte 0x20 (ws ++ w ∷ vs) ≡ blank_after_each ws ++ join_with_byte 0x20 (w ∷ vs)
+join_blank_after_each [] w vs = refl
+join_blank_after_each (x ∷ []) w vs =
     sym (ap (λ t. t ++ join_with_byte 0x20 (w ∷ vs)) (append-nil (x ++ 0x20 ∷ [])) ∙ append_assoc x (0x20 ∷ []) (join_with_byte 0x20 (w ∷ vs)))
-join-spaced (x ∷ y ∷ ys) w vs =
-    ap (λ rest. x ++ (0x20 ∷ rest)) (join-spaced (y ∷ ys) w vs)
-    ∙ sym (append_assoc (x ++ 0x20 ∷ []) (spaced (y ∷ ys)) (join_with_byte 0x20 (w ∷ vs))
-    ∙ append_assoc x (0x20 ∷ []) (spaced (y ∷ ys) ++ join_with_byte 0x20 (w ∷ vs)))
+join_blank_after_each (x ∷ y ∷ ys) w vs =
+    ap (λ rest. x ++ (0x20 ∷ rest)) (join_blank_after_each (y ∷ ys) w vs)
+    ∙ sym (append_assoc (x ++ 0x20 ∷ []) (blank_after_each (y ∷ ys)) (join_with_byte 0x20 (w ∷ vs))
+    ∙ append_assoc x (0x20 ∷ []) (blank_after_each (y ∷ ys) ++ join_with_byte 0x20 (w ∷ vs)))
 
 -- the words of the modifiers that pass, one after another
 abbrev pub spaced_each : (Modifier → Bool) → List Modifier → List ℕ
 spaced_each test [] = []
 spaced_each test (m ∷ ms) = cond (test m) (m.word ++ codes " ") [] ++ spaced_each test ms
 
-pub spaced-each : (test : Modifier → Bool) (ms : List Modifier) → spaced (map (λ m. m.word) (filter test ms)) ≡ spaced_each test ms
-spaced-each test [] = refl
-spaced-each test (m ∷ ms) = by_test (spaced-each test ms) (test m)
+pub blank_after_each_each : (test : Modifier → Bool) (ms : List Modifier) → blank_after_each (map (λ m. m.word) (filter test ms)) ≡ spaced_each test ms
+blank_after_each_each test [] = refl
+blank_after_each_each test (m ∷ ms) = by_test (blank_after_each_each test ms) (test m)
   where
-    by_test : spaced (map (λ m. m.word) (filter test ms)) ≡ spaced_each test ms → (b : Bool) → spaced (map (λ m. m.word) (cond b (m ∷ filter test ms) (filter test ms))) ≡ cond b (m.word ++ codes " ") [] ++ spaced_each test ms
+    by_test : blank_after_each (map (λ m. m.word) (filter test ms)) ≡ spaced_each test ms → (b : Bool) → blank_after_each (map (λ m. m.word) (cond b (m ∷ filter test ms) (filter test ms))) ≡ cond b (m.word ++ codes " ") [] ++ spaced_each test ms
     by_test rest true = ap (λ t. (m.word ++ codes " ") ++ t) rest
     by_test rest false = rest
 
@@ -117,13 +117,13 @@ pub record AreNumbered (test : ℕ → Bool) (start bytes : List ℕ) (some : Bo
   pub text : bytes ≡ start ++ join_with_byte 0x2C (map decimal (numbers_below test n))
   pub any : some ≡ some_items (numbers_below test n)
 
-pub numbers_below-none : (test : ℕ → Bool) → numbers_below test 0 ≡ []
+pub numbers_below_none : (test : ℕ → Bool) → numbers_below test 0 ≡ []
 unfolding numbers_below
-numbers_below-none test = refl
+numbers_below_none test = refl
 
-pub numbers_below-more : (test : ℕ → Bool) (n : ℕ) → numbers_below test (n + 1) ≡ numbers_below test n ++ cond (test n) (n ∷ []) []
+pub numbers_below_more : (test : ℕ → Bool) (n : ℕ) → numbers_below test (n + 1) ≡ numbers_below test n ++ cond (test n) (n ∷ []) []
 unfolding numbers_below
-numbers_below-more test n =
+numbers_below_more test n =
     ap (λ m. filter test (range_with_len 0 m)) (let e : n + 1 ≡ suc n = omega arith in e)
     ∙ ap (filter test) (range-more 0 n)
     ∙ filter-more (range_with_len 0 n) (0 + n)
@@ -147,29 +147,29 @@ pub numbers_all : (k : Tables) (n : ℕ) → n ≡ 256 → numbers_below (exists
 unfolding numbers_below table_numbers
 numbers_all k n e = ap (λ m. filter (exists_in k) (range_with_len 0 m)) e
 
-join-more : (ws : List (List ℕ)) (w : List ℕ) → join_with_byte 0x2C (ws ++ w ∷ []) ≡ join_with_byte 0x2C ws ++ (cond (some_items ws) (codes ",") [] ++ w)
-join-more [] w = refl
-join-more (x ∷ []) w = refl
-join-more (x ∷ y ∷ ys) w =
-    ap (λ rest. x ++ (0x2C ∷ rest)) (join-more (y ∷ ys) w)
+join_more : (ws : List (List ℕ)) (w : List ℕ) → join_with_byte 0x2C (ws ++ w ∷ []) ≡ join_with_byte 0x2C ws ++ (cond (some_items ws) (codes ",") [] ++ w)
+join_more [] w = refl
+join_more (x ∷ []) w = refl
+join_more (x ∷ y ∷ ys) w =
+    ap (λ rest. x ++ (0x2C ∷ rest)) (join_more (y ∷ ys) w)
     ∙ sym (append_assoc x (0x2C ∷ join_with_byte 0x2C (y ∷ ys)) (codes "," ++ w))
 
-map-more : (ns : List ℕ) (n : ℕ) → map decimal (ns ++ n ∷ []) ≡ map decimal ns ++ decimal n ∷ []
-map-more [] n = refl
-map-more (m ∷ ns) n = ap (λ rest. decimal m ∷ rest) (map-more ns n)
+map_more : (ns : List ℕ) (n : ℕ) → map decimal (ns ++ n ∷ []) ≡ map decimal ns ++ decimal n ∷ []
+map_more [] n = refl
+map_more (m ∷ ns) n = ap (λ rest. decimal m ∷ rest) (map_more ns n)
 
 some_items-map : (ns : List ℕ) → some_items (map decimal ns) ≡ some_items ns
 some_items-map [] = refl
 some_items-map (n ∷ ns) = refl
 
-some_items-more : (ns : List ℕ) (n : ℕ) → some_items (ns ++ n ∷ []) ≡ true
-some_items-more [] n = refl
-some_items-more (m ∷ ns) n = refl
+some_items_more : (ns : List ℕ) (n : ℕ) → some_items (ns ++ n ∷ []) ≡ true
+some_items_more [] n = refl
+some_items_more (m ∷ ns) n = refl
 
 pub numbered_start : (test : ℕ → Bool) (start : List ℕ) → AreNumbered test start start false 0
 numbered_start test start = record {
-  text = sym (ap (λ ns. start ++ join_with_byte 0x2C (map decimal ns)) (numbers_below-none test) ∙ append-nil start);
-  any = sym (ap some_items (numbers_below-none test));
+  text = sym (ap (λ ns. start ++ join_with_byte 0x2C (map decimal ns)) (numbers_below_none test) ∙ append-nil start);
+  any = sym (ap some_items (numbers_below_none test));
 }
 
 numbered_as : (test : ℕ → Bool) (start bytes : List ℕ) (some : Bool) (n : ℕ) (ns : List ℕ) → numbers_below test n ≡ ns → bytes ≡ start ++ join_with_byte 0x2C (map decimal ns) → some ≡ some_items ns → AreNumbered test start bytes some n
@@ -181,21 +181,21 @@ numbered_as test start bytes some n ns e text any = record {
 pub numbered_no : (test : ℕ → Bool) (start bytes : List ℕ) (some : Bool) (n : ℕ) → AreNumbered test start bytes some n → test n ≡ false → AreNumbered test start bytes some (n + 1)
 numbered_no test start bytes some n so_far no_table =
     numbered_as test start bytes some (n + 1) (numbers_below test n)
-    (numbers_below-more test n ∙ ap (λ b. numbers_below test n ++ cond b (n ∷ []) []) no_table ∙ append-nil (numbers_below test n))
+    (numbers_below_more test n ∙ ap (λ b. numbers_below test n ++ cond b (n ∷ []) []) no_table ∙ append-nil (numbers_below test n))
     so_far.text so_far.any
 
 pub numbered_yes : (test : ℕ → Bool) (start bytes comma after : List ℕ) (some : Bool) (n : ℕ) → AreNumbered test start bytes some n → test n ≡ true → comma ≡ bytes ++ cond some (codes ",") [] → after ≡ comma ++ decimal n → AreNumbered test start after true (n + 1)
 numbered_yes test start bytes comma after some n so_far table first second =
     let ns = numbers_below test n in
     numbered_as test start after true (n + 1) (ns ++ n ∷ [])
-    (numbers_below-more test n ∙ ap (λ b. ns ++ cond b (n ∷ []) []) table)
+    (numbers_below_more test n ∙ ap (λ b. ns ++ cond b (n ∷ []) []) table)
     (two_more bytes comma after (cond some (codes ",") []) (decimal n) first second
     ∙ ap (λ b. b ++ (cond some (codes ",") [] ++ decimal n)) so_far.text
     ∙ append_assoc start (join_with_byte 0x2C (map decimal ns)) (cond some (codes ",") [] ++ decimal n)
     ∙ ap (λ b. start ++ (join_with_byte 0x2C (map decimal ns) ++ (cond b (codes ",") [] ++ decimal n))) (so_far.any ∙ sym (some_items-map ns))
-    ∙ ap (λ t. start ++ t) (sym (join-more (map decimal ns) (decimal n)))
-    ∙ ap (λ ws. start ++ join_with_byte 0x2C ws) (sym (map-more ns n)))
-    (sym (some_items-more ns n))
+    ∙ ap (λ t. start ++ t) (sym (join_more (map decimal ns) (decimal n)))
+    ∙ ap (λ ws. start ++ join_with_byte 0x2C ws) (sym (map_more ns n)))
+    (sym (some_items_more ns n))
 
 -- the entries of a table
 pub entry_more : (k : Tables) (t c : ℕ) (start before after : List ℕ) → IsWhole k → t < 256 → exists_in k t ≡ true → c < 256 → after ≡ before ++ option_map_or (λ a. flat_map row_text (entry_rows t c a)) (entry_of k t c) [] → before ≡ start ++ flat_map row_text (rows_from (entry_rows t) 0 (take c (unwrap_or (map_of k t) []))) → after ≡ start ++ flat_map row_text (rows_from (entry_rows t) 0 (take (c + 1) (unwrap_or (map_of k t) [])))
@@ -214,10 +214,3 @@ entries_all k t c start after whole low exists all e =
     by_map : (m : Option (List Act)) → is_some m ≡ true → IfSome m IsMap → after ≡ start ++ flat_map row_text (rows_from (entry_rows t) 0 (take c (unwrap_or m []))) → after ≡ start ++ flat_map row_text (table_rows t m)
     by_map None e is text = absurd (false≢true e)
     by_map (Some map) e is text = rows_all row_text (entry_rows t) map c start after (let full = is.full in omega (arith, full, all)) text
-
-pub no_entries : (k : Tables) (t : ℕ) (start : List ℕ) → exists_in k t ≡ false → start ≡ start ++ flat_map row_text (table_rows t (map_of k t))
-no_entries k t start e = by_map (map_of k t) e
-  where
-    by_map : (m : Option (List Act)) → is_some m ≡ false → start ≡ start ++ flat_map row_text (table_rows t m)
-    by_map None e = sym (append-nil start)
-    by_map (Some map) e = absurd (false≢true (sym e))

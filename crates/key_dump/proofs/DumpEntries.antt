@@ -17,164 +17,164 @@ use Rattle.key_compile.specs.Union.{is_declared, union_of}
 use Rattle.key_dump.specs.Dump.{rows_from}
 use Rattle.key_dump.proofs.Adding.{flat_map-append}
 use Rattle.key_dump.proofs.DumpSays.{entry_tellings, string_tellings, table_tellings, tables_telling}
-use Rattle.key_dump.proofs.DumpTables.{AreDumped, any-dumped, items-any, tables-any}
-use Rattle.key_dump.proofs.Tellings.{decided-last, last-append, last-at, last_by, no-last, no-pairs, or-none, pairs-tellings, tellings_of, text-last}
+use Rattle.key_dump.proofs.DumpTables.{AreDumped, any_dumped, items_any, tables_any}
+use Rattle.key_dump.proofs.Tellings.{last_action_last, last_append, last_at, last_by, no_last, no_pairs, or_none, pairs_tellings, tellings_of, text_last}
 
 -- lines of entries that give nothing
-entry-last : {X : Type 0} (f : Telling → Option X) (t c : ℕ) (a : Act) → f (one t c a) ≡ None → last_by f (entry_tellings t c a) ≡ None
-entry-last f t c a e = by_test (a.kind == HOLE)
+entry_last : {X : Type 0} (f : Telling → Option X) (t c : ℕ) (a : Act) → f (one t c a) ≡ None → last_by f (entry_tellings t c a) ≡ None
+entry_last f t c a e = by_test (a.kind == HOLE)
   where
     by_test : (b : Bool) → last_by f (cond b [] (one t c a ∷ [])) ≡ None
     by_test true = refl
     by_test false = e
 
-table-last : {X : Type 0} (f : Telling → Option X) (t : ℕ) (m : Option (List Act)) → ((c : ℕ) (a : Act) → f (one t c a) ≡ None) → last_by f (table_tellings t m) ≡ None
-table-last f t None each = refl
-table-last f t (Some map) each =
-    no-last f (entry_tellings t) map hole (λ c h. entry-last f t c (get_or map c hole) (each c (get_or map c hole)))
+table_last : {X : Type 0} (f : Telling → Option X) (t : ℕ) (m : Option (List Act)) → ((c : ℕ) (a : Act) → f (one t c a) ≡ None) → last_by f (table_tellings t m) ≡ None
+table_last f t None each = refl
+table_last f t (Some map) each =
+    no_last f (entry_tellings t) map hole (λ c h. entry_last f t c (get_or map c hole) (each c (get_or map c hole)))
 
-strings-last : {X : Type 0} (f : Telling → Option X) (funcs : List (List ℕ)) → ((i : ℕ) (text : List ℕ) → f (string i text) ≡ None) → last_by f (rows_from string_tellings 0 funcs) ≡ None
-strings-last {X = X} f funcs each = no-last f string_tellings funcs [] (λ i h. by_text i (get_or funcs i []))
+strings_last : {X : Type 0} (f : Telling → Option X) (funcs : List (List ℕ)) → ((i : ℕ) (text : List ℕ) → f (string i text) ≡ None) → last_by f (rows_from string_tellings 0 funcs) ≡ None
+strings_last {X = X} f funcs each = no_last f string_tellings funcs [] (λ i h. by_text i (get_or funcs i []))
   where
     by_text : (i : ℕ) (text : List ℕ) → last_by f (string_tellings i text) ≡ None
     by_text i [] = refl
     by_text i (b ∷ bs) = each i (b ∷ bs)
 
-pairs-last : {X : Type 0} (f : Telling → Option X) (pairs : List Pair) → ((pair : Pair) → f (compose pair) ≡ None) → last_by f (map compose pairs) ≡ None
-pairs-last f [] each = refl
-pairs-last f (pair ∷ pairs) each =
-    ap (λ a. option_or a (f (compose pair))) (pairs-last f pairs each) ∙ each pair
+pairs_last : {X : Type 0} (f : Telling → Option X) (pairs : List Pair) → ((pair : Pair) → f (compose pair) ≡ None) → last_by f (map compose pairs) ≡ None
+pairs_last f [] each = refl
+pairs_last f (pair ∷ pairs) each =
+    ap (λ a. option_or a (f (compose pair))) (pairs_last f pairs each) ∙ each pair
 
-last-three : {X : Type 0} (f : Telling → Option X) (first : Telling) (us vs ws : List Telling) → f first ≡ None → last_by f ws ≡ None → last_by f (first ∷ (us ++ (vs ++ ws))) ≡ option_or (last_by f vs) (last_by f us)
-last-three f first us vs ws p q =
+last_three : {X : Type 0} (f : Telling → Option X) (first : Telling) (us vs ws : List Telling) → f first ≡ None → last_by f ws ≡ None → last_by f (first ∷ (us ++ (vs ++ ws))) ≡ option_or (last_by f vs) (last_by f us)
+last_three f first us vs ws p q =
     ap (option_or (last_by f (us ++ (vs ++ ws)))) p
-    ∙ or-none (last_by f (us ++ (vs ++ ws)))
-    ∙ last-append f us (vs ++ ws)
-    ∙ ap (λ a. option_or a (last_by f us)) (last-append f vs ws ∙ ap (λ a. option_or a (last_by f vs)) q)
+    ∙ or_none (last_by f (us ++ (vs ++ ws)))
+    ∙ last_append f us (vs ++ ws)
+    ∙ ap (λ a. option_or a (last_by f us)) (last_append f vs ws ∙ ap (λ a. option_or a (last_by f vs)) q)
 
-gives-other : (union : List ℕ) (t c u d : ℕ) (a : Act) → (t == u && c == d) ≡ false → gives union (one u d a) t c ≡ None
-gives-other union t c u d a e = ap (λ b. cond b (Some a) None) e
+gives_other : (union : List ℕ) (t c u d : ℕ) (a : Act) → (t == u && c == d) ≡ false → gives union (one u d a) t c ≡ None
+gives_other union t c u d a e = ap (λ b. cond b (Some a) None) e
 
 -- what the lines give an entry
-decided-is : (union : List ℕ) (lines : List KeymapLine) (tables : Tables) (t c : ℕ) (map : List Act) → AreDumped lines tables → t < 256 → c < 256 → map_of tables t ≡ Some map → length map ≡ 256 → last_by (λ telling. gives union telling t c) (tellings_of lines) ≡ last_by (λ telling. gives union telling t c) (entry_tellings t c (get_or map c hole))
-decided-is union lines tables t c map are low small e full =
+decided_is : (union : List ℕ) (lines : List KeymapLine) (tables : Tables) (t c : ℕ) (map : List Act) → AreDumped lines tables → t < 256 → c < 256 → map_of tables t ≡ Some map → length map ≡ 256 → last_by (λ telling. gives union telling t c) (tellings_of lines) ≡ last_by (λ telling. gives union telling t c) (entry_tellings t c (get_or map c hole))
+decided_is union lines tables t c map are low small e full =
     let f : Telling → Option Act = λ telling. gives union telling t c in
     let entries = rows_from table_tellings 0 tables.maps in
     let strings = rows_from string_tellings 0 tables.funcs in
     ap (last_by f) are.tell
-    ∙ last-three f (tables_telling tables) entries strings _ refl (pairs-last f tables.pairs (λ pair. refl))
-    ∙ ap (λ a. option_or a (last_by f entries)) (strings-last f tables.funcs (λ i text. refl))
-    ∙ last-at f table_tellings tables.maps None t (let tall = are.whole.tall in omega (arith, tall, low))
-    (λ j h other. table-last f j (get_or tables.maps j None) (λ d a.
-    gives-other union t c j d a (and_left (t == j) (c == d) (ne_eqb t j (λ (same : t ≡ j). other (sym same))))))
+    ∙ last_three f (tables_telling tables) entries strings _ refl (pairs_last f tables.pairs (λ pair. refl))
+    ∙ ap (λ a. option_or a (last_by f entries)) (strings_last f tables.funcs (λ i text. refl))
+    ∙ last_at f table_tellings tables.maps None t (let tall = are.whole.tall in omega (arith, tall, low))
+    (λ j h other. table_last f j (get_or tables.maps j None) (λ d a.
+    gives_other union t c j d a (and_left (t == j) (c == d) (ne_eqb t j (λ (same : t ≡ j). other (sym same))))))
     ∙ ap (λ m. last_by f (table_tellings t m)) e
-    ∙ last-at f (entry_tellings t) map hole c (omega (arith, full, small))
-    (λ d h other. entry-last f t d (get_or map d hole)
-    (gives-other union t c t d (get_or map d hole) (and_right (t == t) (c == d) (ne_eqb c d (λ (same : c ≡ d). other (sym same))))))
+    ∙ last_at f (entry_tellings t) map hole c (omega (arith, full, small))
+    (λ d h other. entry_last f t d (get_or map d hole)
+    (gives_other union t c t d (get_or map d hole) (and_right (t == t) (c == d) (ne_eqb c d (λ (same : c ≡ d). other (sym same))))))
 
 -- an action of this kind is the hole
-hole-value : (v : ℕ) → is_action HOLE v ≡ true → v ≡ 0
-hole-value v e = elim (eqb_tells v 0) [
+hole_value : (v : ℕ) → is_action HOLE v ≡ true → v ≡ 0
+hole_value v e = elim (eqb_tells v 0) [
   | inl zero_value ↦ zero_value.1
   | inr other ↦ (let no : is_action HOLE v ≡ false = rw other.0 refl in absurd (false≢true (sym no ∙ e)))
 ]
 
-hole-is : (a : Act) → IsTrue (is_action a.kind a.value) → (a.kind == HOLE) ≡ true → a ≡ hole
-hole-is a action e =
+hole_is : (a : Act) → IsTrue (is_action a.kind a.value) → (a.kind == HOLE) ≡ true → a ≡ hole
+hole_is a action e =
     let kind : a.kind ≡ HOLE = eqb-true a.kind HOLE e in
-    let value : a.value ≡ 0 = hole-value a.value (ap (λ k. is_action k a.value) (sym kind) ∙ action) in
+    let value : a.value ≡ 0 = hole_value a.value (ap (λ k. is_action k a.value) (sym kind) ∙ action) in
     ap (λ k. act k a.value) kind ∙ ap (act HOLE) value
 
-entry-back : (union : List ℕ) (t c : ℕ) (a : Act) → IsTrue (is_action a.kind a.value) → unwrap_or (last_by (λ telling. gives union telling t c) (entry_tellings t c a)) hole ≡ a
-entry-back union t c a action = by_test (a.kind == HOLE) refl
+entry_back : (union : List ℕ) (t c : ℕ) (a : Act) → IsTrue (is_action a.kind a.value) → unwrap_or (last_by (λ telling. gives union telling t c) (entry_tellings t c a)) hole ≡ a
+entry_back union t c a action = by_test (a.kind == HOLE) refl
   where
     by_test : (b : Bool) → (a.kind == HOLE) ≡ b → unwrap_or (last_by (λ telling. gives union telling t c) (cond b [] (one t c a ∷ []))) hole ≡ a
-    by_test true e = sym (hole-is a action e)
+    by_test true e = sym (hole_is a action e)
     by_test false e =
         ap (λ b. unwrap_or (cond b (Some a) None) hole) (and_from (t == t) (c == c) (eq-eqb t t refl) (eq-eqb c c refl))
 
-no-alt : (lines : List KeymapLine) (tables : Tables) → AreDumped lines tables → list_any (λ l. is_alt l.telling) lines ≡ false
-no-alt lines tables are =
-    any-dumped is_alt lines tables are
-    ∙ items-any is_alt tables (tables-any is_alt tables (λ t c a. refl)) (λ i text. refl) (λ pair. refl)
+no_alt : (lines : List KeymapLine) (tables : Tables) → AreDumped lines tables → list_any (λ l. is_alt l.telling) lines ≡ false
+no_alt lines tables are =
+    any_dumped is_alt lines tables are
+    ∙ items_any is_alt tables (tables_any is_alt tables (λ t c a. refl)) (λ i text. refl) (λ pair. refl)
 
 -- the entry that the lines decide is the table's
-entry-is : (lines : List KeymapLine) (tables : Tables) (t c : ℕ) (map : List Act) → AreDumped lines tables → t < 256 → c < 256 → map_of tables t ≡ Some map → IsMap map → entry_in lines t c ≡ get_or map c hole
+entry_is : (lines : List KeymapLine) (tables : Tables) (t c : ℕ) (map : List Act) → AreDumped lines tables → t < 256 → c < 256 → map_of tables t ≡ Some map → IsMap map → entry_in lines t c ≡ get_or map c hole
 unfolding entry_in line_entry
-entry-is lines tables t c map are low small e is =
-    ap (λ b. cond (b && (leb 8 t && ltb t 16) && is_declared lines (t - 8)) (meta_over (line_entry lines (t - 8) c) (line_entry lines t c)) (line_entry lines t c)) (no-alt lines tables are)
-    ∙ ap (λ a. unwrap_or a hole) (decided-last (union_of lines) t c lines ∙ decided-is (union_of lines) lines tables t c map are low small e is.full)
-    ∙ entry-back (union_of lines) t c (get_or map c hole) (is.known c hole (let full = is.full in omega (arith, full, small)))
+entry_is lines tables t c map are low small e is =
+    ap (λ b. cond (b && (leb 8 t && ltb t 16) && is_declared lines (t - 8)) (meta_over (line_entry lines (t - 8) c) (line_entry lines t c)) (line_entry lines t c)) (no_alt lines tables are)
+    ∙ ap (λ a. unwrap_or a hole) (last_action_last (union_of lines) t c lines ∙ decided_is (union_of lines) lines tables t c map are low small e is.full)
+    ∙ entry_back (union_of lines) t c (get_or map c hole) (is.known c hole (let full = is.full in omega (arith, full, small)))
 
-pub entries-are : (lines : List KeymapLine) (tables : Tables) (t c : ℕ) → AreDumped lines tables → t < 256 → c < 256 → entry_of tables t c ≡ cond (exists_in tables t) (Some (entry_in lines t c)) None
-entries-are lines tables t c are low small =
+pub entries_are : (lines : List KeymapLine) (tables : Tables) (t c : ℕ) → AreDumped lines tables → t < 256 → c < 256 → entry_of tables t c ≡ cond (exists_in tables t) (Some (entry_in lines t c)) None
+entries_are lines tables t c are low small =
     by_map (map_of tables t) refl (are.whole.maps t None (let tall = are.whole.tall in omega (arith, tall, low)))
   where
     by_map : (m : Option (List Act)) → map_of tables t ≡ m → IfSome m IsMap → option_map (λ map. get_or map c hole) m ≡ cond (is_some m) (Some (entry_in lines t c)) None
     by_map None e is = refl
-    by_map (Some map) e is = ap Some (sym (entry-is lines tables t c map are low small e is))
+    by_map (Some map) e is = ap Some (sym (entry_is lines tables t c map are low small e is))
 
 -- the string that the lines give a function key
-texts-are : (lines : List KeymapLine) (tables : Tables) (i : ℕ) → AreDumped lines tables → last_text lines i ≡ last_by (λ telling. text_by telling i) (rows_from string_tellings 0 tables.funcs)
-texts-are lines tables i are =
+texts_are : (lines : List KeymapLine) (tables : Tables) (i : ℕ) → AreDumped lines tables → last_text lines i ≡ last_by (λ telling. text_by telling i) (rows_from string_tellings 0 tables.funcs)
+texts_are lines tables i are =
     let f : Telling → Option (List ℕ) = λ telling. text_by telling i in
     let entries = rows_from table_tellings 0 tables.maps in
     let strings = rows_from string_tellings 0 tables.funcs in
-    text-last i lines
+    text_last i lines
     ∙ ap (last_by f) are.tell
-    ∙ last-three f (tables_telling tables) entries strings _ refl (pairs-last f tables.pairs (λ pair. refl))
-    ∙ ap (option_or (last_by f strings)) (no-last f table_tellings tables.maps None (λ t h. table-last f t (get_or tables.maps t None) (λ c a. refl)))
-    ∙ or-none (last_by f strings)
+    ∙ last_three f (tables_telling tables) entries strings _ refl (pairs_last f tables.pairs (λ pair. refl))
+    ∙ ap (option_or (last_by f strings)) (no_last f table_tellings tables.maps None (λ t h. table_last f t (get_or tables.maps t None) (λ c a. refl)))
+    ∙ or_none (last_by f strings)
 
-text-other : (i j : ℕ) (text : List ℕ) → i ≢ j → last_by (λ telling. text_by telling i) (string_tellings j text) ≡ None
-text-other i j [] other = refl
-text-other i j (b ∷ bs) other = ap (λ t. cond t (Some (b ∷ bs)) None) (ne_eqb i j other)
+text_other : (i j : ℕ) (text : List ℕ) → i ≢ j → last_by (λ telling. text_by telling i) (string_tellings j text) ≡ None
+text_other i j [] other = refl
+text_other i j (b ∷ bs) other = ap (λ t. cond t (Some (b ∷ bs)) None) (ne_eqb i j other)
 
-text-own : (i : ℕ) (text : List ℕ) → unwrap_or (last_by (λ telling. text_by telling i) (string_tellings i text)) [] ≡ text
-text-own i [] = refl
-text-own i (b ∷ bs) = ap (λ t. unwrap_or (cond t (Some (b ∷ bs)) None) []) (eq-eqb i i refl)
+text_own : (i : ℕ) (text : List ℕ) → unwrap_or (last_by (λ telling. text_by telling i) (string_tellings i text)) [] ≡ text
+text_own i [] = refl
+text_own i (b ∷ bs) = ap (λ t. unwrap_or (cond t (Some (b ∷ bs)) None) []) (eq-eqb i i refl)
 
-pub strings-are : (lines : List KeymapLine) (tables : Tables) (i : ℕ) → AreDumped lines tables → func_of tables i ≡ string_in lines i
-strings-are lines tables i are = elim (cases_lt i (length tables.funcs)) [
+pub strings_are : (lines : List KeymapLine) (tables : Tables) (i : ℕ) → AreDumped lines tables → func_of tables i ≡ string_in lines i
+strings_are lines tables i are = elim (cases_lt i (length tables.funcs)) [
   | inl low ↦
-      sym (ap (λ a. unwrap_or a []) (texts-are lines tables i are
-      ∙ last-at (λ telling. text_by telling i) string_tellings tables.funcs [] i low
-      (λ j h other. text-other i j (get_or tables.funcs j []) (λ (same : i ≡ j). other (sym same))))
-      ∙ text-own i (get_or tables.funcs i []))
+      sym (ap (λ a. unwrap_or a []) (texts_are lines tables i are
+      ∙ last_at (λ telling. text_by telling i) string_tellings tables.funcs [] i low
+      (λ j h other. text_other i j (get_or tables.funcs j []) (λ (same : i ≡ j). other (sym same))))
+      ∙ text_own i (get_or tables.funcs i []))
   | inr past ↦
       get_or-eq_default tables.funcs [] past
-      ∙ sym (ap (λ a. unwrap_or a []) (texts-are lines tables i are
-      ∙ no-last (λ telling. text_by telling i) string_tellings tables.funcs []
-      (λ j h. text-other i j (get_or tables.funcs j []) (λ (same : i ≡ j). omega arith))))
+      ∙ sym (ap (λ a. unwrap_or a []) (texts_are lines tables i are
+      ∙ no_last (λ telling. text_by telling i) string_tellings tables.funcs []
+      (λ j h. text_other i j (get_or tables.funcs j []) (λ (same : i ≡ j). omega arith))))
 ]
 
 composed : (pairs : List Pair) → flat_map pairs_by (map compose pairs) ≡ pairs
 composed [] = refl
 composed (pair ∷ pairs) = ap (λ ps. pair ∷ ps) (composed pairs)
 
-entry-pairs : (t c : ℕ) (a : Act) → flat_map pairs_by (entry_tellings t c a) ≡ []
-entry-pairs t c a = by_test (a.kind == HOLE)
+entry_pairs : (t c : ℕ) (a : Act) → flat_map pairs_by (entry_tellings t c a) ≡ []
+entry_pairs t c a = by_test (a.kind == HOLE)
   where
     by_test : (b : Bool) → flat_map pairs_by (cond b [] (one t c a ∷ [])) ≡ []
     by_test true = refl
     by_test false = refl
 
-table-pairs : (t : ℕ) (m : Option (List Act)) → flat_map pairs_by (table_tellings t m) ≡ []
-table-pairs t None = refl
-table-pairs t (Some map) = no-pairs (entry_tellings t) map hole (λ c h. entry-pairs t c (get_or map c hole))
+table_pairs : (t : ℕ) (m : Option (List Act)) → flat_map pairs_by (table_tellings t m) ≡ []
+table_pairs t None = refl
+table_pairs t (Some map) = no_pairs (entry_tellings t) map hole (λ c h. entry_pairs t c (get_or map c hole))
 
-string-pairs : (i : ℕ) (text : List ℕ) → flat_map pairs_by (string_tellings i text) ≡ []
-string-pairs i [] = refl
-string-pairs i (b ∷ bs) = refl
+string_pairs : (i : ℕ) (text : List ℕ) → flat_map pairs_by (string_tellings i text) ≡ []
+string_pairs i [] = refl
+string_pairs i (b ∷ bs) = refl
 
-pub pairs-are : (lines : List KeymapLine) (tables : Tables) → AreDumped lines tables → tables.pairs ≡ pairs_in lines
-pairs-are lines tables are =
+pub pairs_are : (lines : List KeymapLine) (tables : Tables) → AreDumped lines tables → tables.pairs ≡ pairs_in lines
+pairs_are lines tables are =
     let entries = rows_from table_tellings 0 tables.maps in
     let strings = rows_from string_tellings 0 tables.funcs in
-    sym (pairs-tellings lines
+    sym (pairs_tellings lines
     ∙ ap (flat_map pairs_by) are.tell
     ∙ flat_map-append pairs_by entries (strings ++ map compose tables.pairs)
-    ∙ ap (λ ps. ps ++ flat_map pairs_by (strings ++ map compose tables.pairs)) (no-pairs table_tellings tables.maps None (λ t h. table-pairs t (get_or tables.maps t None)))
+    ∙ ap (λ ps. ps ++ flat_map pairs_by (strings ++ map compose tables.pairs)) (no_pairs table_tellings tables.maps None (λ t h. table_pairs t (get_or tables.maps t None)))
     ∙ flat_map-append pairs_by strings (map compose tables.pairs)
-    ∙ ap (λ ps. ps ++ flat_map pairs_by (map compose tables.pairs)) (no-pairs string_tellings tables.funcs [] (λ i h. string-pairs i (get_or tables.funcs i [])))
+    ∙ ap (λ ps. ps ++ flat_map pairs_by (map compose tables.pairs)) (no_pairs string_tellings tables.funcs [] (λ i h. string_pairs i (get_or tables.funcs i [])))
     ∙ composed tables.pairs)

@@ -16,11 +16,11 @@ faultless n seen count (telling ∷ tellings) =
     (fault_of n seen count telling ≡ None)
     × faultless n (seen || is_key telling) (count + pairs_of_line telling) tellings
 
-pub first-none : (n : ℕ) (seen : Bool) (count : ℕ) (lines : List KeymapLine) → faultless n seen count (tellings_of lines) → first_fault n seen count lines ≡ None
-first-none n seen count [] free = refl
-first-none n seen count (l ∷ ls) free =
+pub first_none : (n : ℕ) (seen : Bool) (count : ℕ) (lines : List KeymapLine) → faultless n seen count (tellings_of lines) → first_fault n seen count lines ≡ None
+first_none n seen count [] free = refl
+first_none n seen count (l ∷ ls) free =
     ap (λ fault. option_or (option_map (at_line l) fault) (first_fault n (seen || is_key l.telling) (count + pairs_of_line l.telling) ls)) free.0
-    ∙ first-none n (seen || is_key l.telling) (count + pairs_of_line l.telling) ls free.1
+    ∙ first_none n (seen || is_key l.telling) (count + pairs_of_line l.telling) ls free.1
 
 -- lines that may have a fault
 abbrev pub is_loud : Telling → Bool
@@ -36,22 +36,22 @@ is_loud usual_pairs = true
 none_more : (n count : ℕ) (seen : Bool) (tellings : List Telling) → faultless n seen count tellings → faultless n seen (count + 0) tellings
 none_more n count seen tellings free = subst (λ (k : ℕ). faultless n seen k tellings) (let e : count ≡ count + 0 = omega arith in e) free
 
-pub quiet-first : (n : ℕ) (seen : Bool) (count : ℕ) (us vs : List Telling) → list_any is_loud us ≡ false → ((s : Bool) → faultless n s count vs) → faultless n seen count (us ++ vs)
-quiet-first n seen count [] vs quiet free = free seen
-quiet-first n seen count (keymaps tables ∷ us) vs quiet free = cc
-quiet-first n seen count (keys code actions ∷ us) vs quiet free = cc
-quiet-first n seen count (one table code action ∷ us) vs quiet free =
-    (refl, none_more n count (seen || true) (us ++ vs) (quiet-first n (seen || true) count us vs quiet free))
-quiet-first n seen count (string func bytes ∷ us) vs quiet free =
-    (refl, none_more n count (seen || false) (us ++ vs) (quiet-first n (seen || false) count us vs quiet free))
-quiet-first n seen count (compose pair ∷ us) vs quiet free = cc
-quiet-first n seen count (alt_is_meta ∷ us) vs quiet free = cc
-quiet-first n seen count (usual_strings ∷ us) vs quiet free = cc
-quiet-first n seen count (usual_pairs ∷ us) vs quiet free = cc
+pub quiet_first : (n : ℕ) (seen : Bool) (count : ℕ) (us vs : List Telling) → list_any is_loud us ≡ false → ((s : Bool) → faultless n s count vs) → faultless n seen count (us ++ vs)
+quiet_first n seen count [] vs quiet free = free seen
+quiet_first n seen count (keymaps tables ∷ us) vs quiet free = cc
+quiet_first n seen count (keys code actions ∷ us) vs quiet free = cc
+quiet_first n seen count (one table code action ∷ us) vs quiet free =
+    (refl, none_more n count (seen || true) (us ++ vs) (quiet_first n (seen || true) count us vs quiet free))
+quiet_first n seen count (string func bytes ∷ us) vs quiet free =
+    (refl, none_more n count (seen || false) (us ++ vs) (quiet_first n (seen || false) count us vs quiet free))
+quiet_first n seen count (compose pair ∷ us) vs quiet free = cc
+quiet_first n seen count (alt_is_meta ∷ us) vs quiet free = cc
+quiet_first n seen count (usual_strings ∷ us) vs quiet free = cc
+quiet_first n seen count (usual_pairs ∷ us) vs quiet free = cc
 
-pub pairs-few : (n : ℕ) (seen : Bool) (count : ℕ) (pairs : List Pair) → count + length pairs ≤ 256 → faultless n seen count (map compose pairs)
-pairs-few n seen count [] few = tt
-pairs-few n seen count (pair ∷ pairs) few = (
+pub pairs_few : (n : ℕ) (seen : Bool) (count : ℕ) (pairs : List Pair) → count + length pairs ≤ 256 → faultless n seen count (map compose pairs)
+pairs_few n seen count [] few = tt
+pairs_few n seen count (pair ∷ pairs) few = (
   ap (λ b. cond b (Some TOO_MANY_PAIRS) None) (le-ltb 256 (count + 1) (omega arith)),
-  pairs-few n (seen || false) (count + 1) pairs (omega arith),
+  pairs_few n (seen || false) (count + 1) pairs (omega arith),
 )

@@ -9,7 +9,7 @@ use Rattle.key_syms.specs.Kinds.{HOLE}
 use Rattle.key_syms.specs.Laws.{CodePointsAreTheirOwn, NamesAreTheirOwn}
 use Rattle.key_syms.specs.declared.pair.Pair.{Pair}
 use Rattle.key_tables.specs.Tables.{IsMap, IsWhole, Tables, exists_in, hole}
-use Rattle.key_text.specs.Lines.{marked}
+use Rattle.key_text.specs.Lines.{table_marks}
 use Rattle.key_text.specs.KeymapLine.{Telling, compose, is_real, keymaps, one, string}
 use Rattle.key_compile.specs.Dumpable.{is_dumpable}
 use Rattle.key_dump.specs.Dump.{dump_rows, entry_rows, entry_words, pair_words, rows_from, string_rows, table_numbers, table_rows}
@@ -18,8 +18,8 @@ use Rattle.key_dump.proofs.KeymapsLine.{are_small, keymaps_says, only}
 use Rattle.key_dump.proofs.PairLines.{pair_says}
 use Rattle.key_dump.proofs.QuotedWords.{AreBytes}
 use Rattle.key_dump.proofs.StringLines.{string_says}
-use Rattle.key_dump.proofs.Tellings.{rows-say}
-use Rattle.key_dump.proofs.TextRows.{AllSay, Says, all_say-append}
+use Rattle.key_dump.proofs.Tellings.{rows_say}
+use Rattle.key_dump.proofs.TextRows.{AllSay, Says, all_say_append}
 
 -- what the line of an entry tells, where it isn't a hole
 abbrev pub entry_tellings : ℕ → ℕ → Act → List Telling
@@ -41,7 +41,7 @@ item_tellings tables =
 
 -- what the line of the tables that exist tells
 abbrev pub tables_telling : Tables → Telling
-tables_telling tables = keymaps (marked (map only (table_numbers tables)))
+tables_telling tables = keymaps (table_marks (map only (table_numbers tables)))
 
 -- what the lines of a dump tell
 abbrev pub dump_tellings : Tables → List Telling
@@ -63,7 +63,7 @@ entry_say own t c a low small action no_key = by_test (a.kind == HOLE) refl
 table_say : NamesAreTheirOwn → (t : ℕ) (m : Option (List Act)) → t < 256 → IfSome m IsMap → AllSay (table_rows t m) (table_tellings t m)
 table_say own t None low is = tt
 table_say own t (Some map) low is =
-    rows-say (entry_rows t) (entry_tellings t) map hole (λ c h.
+    rows_say (entry_rows t) (entry_tellings t) map hole (λ c h.
     entry_say own t c (get_or map c hole) low (let full = is.full in omega (arith, full, h)) (is.known c hole h)
     (λ (none : c ≡ 0). ap (λ n. get_or map n hole) none ∙ is.no_key))
 
@@ -77,62 +77,62 @@ pairs_say points (pair ∷ pairs) e =
     let parts = and_parts (is_real pair) (list_all is_real pairs) e in
     (pair_says points pair parts.0, pairs_say points pairs parts.1)
 
-filter-all : (test kept : ℕ → Bool) (xs : List ℕ) → list_all kept xs ≡ true → list_all kept (filter test xs) ≡ true
-filter-all test kept [] e = refl
-filter-all test kept (x ∷ xs) e =
+filter_all : (test kept : ℕ → Bool) (xs : List ℕ) → list_all kept xs ≡ true → list_all kept (filter test xs) ≡ true
+filter_all test kept [] e = refl
+filter_all test kept (x ∷ xs) e =
     let parts = and_parts (kept x) (list_all kept xs) e in
-    by_test parts.0 (filter-all test kept xs parts.1) (test x)
+    by_test parts.0 (filter_all test kept xs parts.1) (test x)
   where
     by_test : kept x ≡ true → list_all kept (filter test xs) ≡ true → (b : Bool) → list_all kept (cond b (x ∷ filter test xs) (filter test xs)) ≡ true
     by_test first rest true = and_from (kept x) (list_all kept (filter test xs)) first rest
     by_test first rest false = rest
 
-filter-some : (test : ℕ → Bool) (xs : List ℕ) → list_any test xs ≡ true → 0 < length (filter test xs)
-filter-some test [] e = absurd (false≢true e)
-filter-some test (x ∷ xs) e = by_test (filter-some test xs) (test x) refl
+filter_some : (test : ℕ → Bool) (xs : List ℕ) → list_any test xs ≡ true → 0 < length (filter test xs)
+filter_some test [] e = absurd (false≢true e)
+filter_some test (x ∷ xs) e = by_test (filter_some test xs) (test x) refl
   where
     by_test : (list_any test xs ≡ true → 0 < length (filter test xs)) → (b : Bool) → test x ≡ b → 0 < length (cond b (x ∷ filter test xs) (filter test xs))
     by_test rest true f = omega arith
     by_test rest false f = rest (sym (ap (λ b. b || list_any test xs) f) ∙ e)
 
-some-at : (maps : List (Option (List Act))) → list_any is_some maps ≡ true → (k : ℕ) × (k < length maps) × (is_some (get_or maps k None) ≡ true)
-some-at [] e = absurd (false≢true e)
-some-at (Some map ∷ maps) e = (0, omega arith, refl)
-some-at (None ∷ maps) e = let rest = some-at maps e in (suc rest.0, omega (arith, rest.1), rest.2)
+some_at : (maps : List (Option (List Act))) → list_any is_some maps ≡ true → (k : ℕ) × (k < length maps) × (is_some (get_or maps k None) ≡ true)
+some_at [] e = absurd (false≢true e)
+some_at (Some map ∷ maps) e = (0, omega arith, refl)
+some_at (None ∷ maps) e = let rest = some_at maps e in (suc rest.0, omega (arith, rest.1), rest.2)
 
-small-range : are_small (range_with_len 0 256) ≡ true
-small-range = refl
+small_range : are_small (range_with_len 0 256) ≡ true
+small_range = refl
 
-numbers-small : (tables : Tables) → are_small (table_numbers tables) ≡ true
+numbers_small : (tables : Tables) → are_small (table_numbers tables) ≡ true
 unfolding table_numbers
-numbers-small tables = filter-all (exists_in tables) (λ n. ltb n 256) (range_with_len 0 256) small-range
+numbers_small tables = filter_all (exists_in tables) (λ n. ltb n 256) (range_with_len 0 256) small_range
 
-numbers-some : (tables : Tables) → length tables.maps ≡ 256 → list_any is_some tables.maps ≡ true → 0 < length (table_numbers tables)
+numbers_some : (tables : Tables) → length tables.maps ≡ 256 → list_any is_some tables.maps ≡ true → 0 < length (table_numbers tables)
 unfolding table_numbers
-numbers-some tables tall some =
-    let found = some-at tables.maps some in
+numbers_some tables tall some =
+    let found = some_at tables.maps some in
     let k = found.0 in
     let low : k < 256 = omega (arith, found.1, tall) in
-    filter-some (exists_in tables) (range_with_len 0 256)
+    filter_some (exists_in tables) (range_with_len 0 256)
     (list_any_at (exists_in tables) (range_with_len 0 256) k 0 (omega (arith, length-range_with_len 0 256, low))
     (ap (exists_in tables) (get_or-range_with_len 0 256 k 0 low ∙ (let e : 0 + k ≡ k = omega arith in e)) ∙ found.2))
 
-keymaps-say : (ns : List ℕ) → 0 < length ns → are_small ns ≡ true → Says (join_with_byte 0x20 (codes "keymaps" ∷ join_with_byte 0x2C (map decimal ns) ∷ [])) (keymaps (marked (map only ns)))
-keymaps-say [] some small = absurd (omega arith)
-keymaps-say (n ∷ ns) some small = keymaps_says n ns small
+keymaps_say : (ns : List ℕ) → 0 < length ns → are_small ns ≡ true → Says (join_with_byte 0x20 (codes "keymaps" ∷ join_with_byte 0x2C (map decimal ns) ∷ [])) (keymaps (table_marks (map only ns)))
+keymaps_say [] some small = absurd (omega arith)
+keymaps_say (n ∷ ns) some small = keymaps_says n ns small
 
 pub dump_say : NamesAreTheirOwn → CodePointsAreTheirOwn → (tables : Tables) → IsWhole tables → IsTrue (is_dumpable tables) → AllSay (dump_rows tables) (dump_tellings tables)
 unfolding dump_rows
 dump_say own points tables whole dumpable =
     let parts = and_parts (list_any is_some tables.maps) (list_all is_real tables.pairs) dumpable in (
-      keymaps-say (table_numbers tables) (numbers-some tables whole.tall parts.0) (numbers-small tables),
-      all_say-append (rows_from table_rows 0 tables.maps) (rows_from string_rows 0 tables.funcs ++ map pair_words tables.pairs)
+      keymaps_say (table_numbers tables) (numbers_some tables whole.tall parts.0) (numbers_small tables),
+      all_say_append (rows_from table_rows 0 tables.maps) (rows_from string_rows 0 tables.funcs ++ map pair_words tables.pairs)
           (rows_from table_tellings 0 tables.maps) (rows_from string_tellings 0 tables.funcs ++ map compose tables.pairs)
-          (rows-say table_rows table_tellings tables.maps None (λ t h.
+          (rows_say table_rows table_tellings tables.maps None (λ t h.
           table_say own t (get_or tables.maps t None) (let tall = whole.tall in omega (arith, tall, h)) (whole.maps t None h)))
-          (all_say-append (rows_from string_rows 0 tables.funcs) (map pair_words tables.pairs)
+          (all_say_append (rows_from string_rows 0 tables.funcs) (map pair_words tables.pairs)
           (rows_from string_tellings 0 tables.funcs) (map compose tables.pairs)
-          (rows-say string_rows string_tellings tables.funcs [] (λ i h.
+          (rows_say string_rows string_tellings tables.funcs [] (λ i h.
           string_say own i (get_or tables.funcs i []) (let all = whole.strings in omega (arith, all, h)) (whole.bytes i [] h) (whole.short i [] h)))
           (pairs_say points tables.pairs parts.1)),
     )

@@ -9,17 +9,17 @@ use Rattle.key_syms.specs.Laws.{NamesAreTheirOwn}
 use Rattle.key_syms.specs.Names.{name_text}
 use Rattle.key_text.specs.Fault.{fault, ◌>>=◌}
 use Rattle.key_text.specs.FaultKinds.{UNKNOWN_WORD}
-use Rattle.key_text.specs.Fields.{code_at, ended, keyword_at, symbol_at}
+use Rattle.key_text.specs.Fields.{code_at, end_of_line, keyword_at, symbol_at}
 use Rattle.key_text.specs.Lines.{alt_is_meta_line, charset_line, compose_line, include_line, keymaps_line, keys_line, modified_by, modified_line, modifiers_at, modifiers_by, string_line, tells, usual_strings_line, weight_of}
 use Rattle.key_text.specs.KeymapLine.{one}
 use Rattle.key_text.specs.Words.{bytes, next, spot}
 use Rattle.key_text.specs.declared.placed.Place.{Place}
 use Rattle.key_text.specs.declared.placed.Placed.{Placed}
 use Rattle.key_dump.specs.Dump.{Modifier, entry_words, modifier, modifier_words, modifiers}
-use Rattle.key_dump.proofs.NamedWords.{decimal-word, name-word}
+use Rattle.key_dump.proofs.NamedWords.{decimal_word, name_word}
 use Rattle.key_dump.proofs.NextWord.{is_word_text, length-bytes}
-use Rattle.key_dump.proofs.ReadFields.{Reads, code-read, ended-read, keyword-read, next-is, symbol-read, tail, word-of}
-use Rattle.key_dump.proofs.RowsSay.{line_with, says_by, weight-by, weight_by, word-row}
+use Rattle.key_dump.proofs.ReadFields.{Reads, code_read, end_of_line_read, keyword_read, next_is, symbol_read, tail, word_of}
+use Rattle.key_dump.proofs.RowsSay.{line_with, says_by, weight-by, weight_by, word_row}
 use Rattle.key_dump.proofs.TextRows.{Says, is_row}
 
 -- the modifiers of a table, or the word `plain`
@@ -28,8 +28,8 @@ modifiers_of t =
     cond (t == 0) (modifier 0 (codes "plain") ∷ [])
     (filter (λ m. t / m.weight % 2 == 1) modifiers)
 
-words-of : (t : ℕ) → map (λ m. m.word) (modifiers_of t) ≡ modifier_words t
-words-of t = by_test (t == 0)
+words_of : (t : ℕ) → map (λ m. m.word) (modifiers_of t) ≡ modifier_words t
+words_of t = by_test (t == 0)
   where
     by_test : (b : Bool) → map (λ m. m.word) (cond b (modifier 0 (codes "plain") ∷ []) (filter (λ m. t / m.weight % 2 == 1) modifiers)) ≡ cond b (codes "plain" ∷ []) (map (λ m. m.word) (filter (λ m. t / m.weight % 2 == 1) modifiers))
     by_test true = refl
@@ -39,9 +39,9 @@ abbrev pub is_weight : ℕ → Option ℕ → Bool
 is_weight n None = false
 is_weight n (Some m) = m == n
 
-is_weight-some : (n : ℕ) (weight : Option ℕ) → is_weight n weight ≡ true → weight ≡ Some n
-is_weight-some n None e = cc
-is_weight-some n (Some m) e = ap Some (eqb-true m n e)
+is_weight_some : (n : ℕ) (weight : Option ℕ) → is_weight n weight ≡ true → weight ≡ Some n
+is_weight_some n None e = cc
+is_weight_some n (Some m) e = ap Some (eqb-true m n e)
 
 -- the word begins a line of another kind
 abbrev pub is_keyword : List ℕ → Bool
@@ -66,8 +66,8 @@ falls false false false false false false true h A B C D E F G H Z none = cc
 falls false false false false false false false true A B C D E F G H Z none = cc
 falls false false false false false false false false A B C D E F G H Z none = refl
 
-modified-first : (text : List ℕ) (end : Place) (w : List Placed × List Placed) → is_keyword text ≡ false → line_with text end w ≡ modified_by end w (weight_by text)
-modified-first text end w none =
+modified_first : (text : List ℕ) (end : Place) (w : List Placed × List Placed) → is_keyword text ≡ false → line_with text end w ≡ modified_by end w (weight_by text)
+modified_first text end w none =
     falls (str_eq_ignore_ascii_case text (codes "keymaps")) (str_eq_ignore_ascii_case text (codes "keycode"))
     (str_eq_ignore_ascii_case text (codes "string")) (str_eq_ignore_ascii_case text (codes "compose"))
     (str_eq_ignore_ascii_case text (codes "include")) (str_eq_ignore_ascii_case text (codes "charset"))
@@ -85,13 +85,13 @@ pub record IsGood (m : Modifier) : Type 0 where
   pub weighs : weight_by m.word ≡ Some m.weight
   pub other : is_keyword m.word ≡ false
 
-good-is : (m : Modifier) → is_good m ≡ true → IsGood m
-good-is m e =
+good_is : (m : Modifier) → is_good m ≡ true → IsGood m
+good_is m e =
     let parts = and_parts (is_word_text m.word) (is_weight m.weight (weight_by m.word) && not (is_keyword m.word)) e in
     let more = and_parts (is_weight m.weight (weight_by m.word)) (not (is_keyword m.word)) parts.1 in
     record {
       word = parts.0;
-      weighs = is_weight-some m.weight (weight_by m.word) more.0;
+      weighs = is_weight_some m.weight (weight_by m.word) more.0;
       other = not-true (is_keyword m.word) more.1;
     }
 
@@ -105,45 +105,45 @@ abbrev pub are_of : ℕ → List Modifier → Bool
 are_of t [] = false
 are_of t (m ∷ ms) = is_good m && (list_all is_good ms && together m.weight ms == t)
 
-modifiers-are : agree_below (λ t. are_of t (modifiers_of t)) (λ t. true) 256 ≡ true
-modifiers-are = refl
+modifiers_are : agree_below (λ t. are_of t (modifiers_of t)) (λ t. true) 256 ≡ true
+modifiers_are = refl
 
-good-words : (ms : List Modifier) → list_all is_good ms ≡ true → list_all is_row (map (λ m. m.word) ms) ≡ true
-good-words [] e = refl
-good-words (m ∷ ms) e =
+good_words : (ms : List Modifier) → list_all is_good ms ≡ true → list_all is_row (map (λ m. m.word) ms) ≡ true
+good_words [] e = refl
+good_words (m ∷ ms) e =
     let parts = and_parts (is_good m) (list_all is_good ms) e in
-    and_from (is_row m.word) (list_all is_row (map (λ m. m.word) ms)) (word-row m.word (good-is m parts.0).word) (good-words ms parts.1)
+    and_from (is_row m.word) (list_all is_row (map (λ m. m.word) ms)) (word_row m.word (good_is m parts.0).word) (good_words ms parts.1)
 
 modifiers_step : (n table : ℕ) (end : Place) (items : List Placed) (v : List Placed × List Placed) (more : Option ℕ) → next UNKNOWN_WORD end items ≡ Ok v → weight_of v.0 ≡ more → modifiers_at (suc n) table end items ≡ modifiers_by (λ more left. modifiers_at n more end left) table v more
 modifiers_step n table end items v more found weighs =
     ap (λ read. read >>= λ u. modifiers_by (λ more left. modifiers_at n more end left) table u (weight_of u.0)) found
     ∙ ap (modifiers_by (λ more left. modifiers_at n more end left) table v) weighs
 
-keycode-weight : weight_by (codes "keycode") ≡ None
-keycode-weight = refl
+keycode_weight : weight_by (codes "keycode") ≡ None
+keycode_weight = refl
 
 -- modifier words and `keycode`
-modifiers-read : (ms : List Modifier) (n table : ℕ) (end : Place) (items : List Placed) (ws : List (List ℕ)) → length ms < n → list_all is_good ms ≡ true → bytes items ≡ tail (map (λ m. m.word) ms ++ codes "keycode" ∷ ws) → Reads (modifiers_at n table end items) (together table ms) ws
-modifiers-read ms zero table end items ws h good e = absurd (omega arith)
-modifiers-read [] (suc n) table end items ws h good e =
-    let w = word-of items (codes "keycode") ws e refl in
+modifiers_read : (ms : List Modifier) (n table : ℕ) (end : Place) (items : List Placed) (ws : List (List ℕ)) → length ms < n → list_all is_good ms ≡ true → bytes items ≡ tail (map (λ m. m.word) ms ++ codes "keycode" ∷ ws) → Reads (modifiers_at n table end items) (together table ms) ws
+modifiers_read ms zero table end items ws h good e = absurd (omega arith)
+modifiers_read [] (suc n) table end items ws h good e =
+    let w = word_of items (codes "keycode") ws e refl in
     record {
       left = w.left;
       is =
-          modifiers_step n table end items (w.word, w.left) None (next-is UNKNOWN_WORD end items (codes "keycode") (tail ws) w)
-          (weight-by w.word ∙ ap weight_by w.spells ∙ keycode-weight)
+          modifiers_step n table end items (w.word, w.left) None (next_is UNKNOWN_WORD end items (codes "keycode") (tail ws) w)
+          (weight-by w.word ∙ ap weight_by w.spells ∙ keycode_weight)
           ∙ ap (λ t. cond (str_eq_ignore_ascii_case t (codes "keycode")) (Ok (table, w.left)) (Err (fault UNKNOWN_WORD (spot w.word)))) w.spells;
       leaves = w.leaves;
     }
-modifiers-read (m ∷ ms) (suc n) table end items ws h good e =
+modifiers_read (m ∷ ms) (suc n) table end items ws h good e =
     let parts = and_parts (is_good m) (list_all is_good ms) good in
-    let is_one = good-is m parts.0 in
-    let w = word-of items m.word (map (λ m. m.word) ms ++ codes "keycode" ∷ ws) e is_one.word in
-    let rest = modifiers-read ms n (bit_or table m.weight) end w.left ws (omega arith) parts.1 w.leaves in
+    let is_one = good_is m parts.0 in
+    let w = word_of items m.word (map (λ m. m.word) ms ++ codes "keycode" ∷ ws) e is_one.word in
+    let rest = modifiers_read ms n (bit_or table m.weight) end w.left ws (omega arith) parts.1 w.leaves in
     record {
       left = rest.left;
       is =
-          modifiers_step n table end items (w.word, w.left) (Some m.weight) (next-is UNKNOWN_WORD end items m.word (tail (map (λ m. m.word) ms ++ codes "keycode" ∷ ws)) w)
+          modifiers_step n table end items (w.word, w.left) (Some m.weight) (next_is UNKNOWN_WORD end items m.word (tail (map (λ m. m.word) ms ++ codes "keycode" ∷ ws)) w)
           (weight-by w.word ∙ ap weight_by w.spells ∙ is_one.weighs)
           ∙ rest.is;
       leaves = rest.leaves;
@@ -156,43 +156,43 @@ length-tail (m ∷ ms) ws =
     let both = length-append m.word (tail (map (λ m. m.word) ms ++ ws)) in
     omega arith
 
-modified-by : (weight : ℕ) (end : Place) (items : List Placed) (table code : ℕ) (a : Act) (p q r s : List Placed) → modifiers_at (length items + 1) weight end items ≡ Ok (table, p) → code_at end p ≡ Ok (code, q) → keyword_at (codes "=") end q ≡ Ok r → symbol_at end r ≡ Ok (a, s) → ended s ≡ Ok tt → modified_line weight end items ≡ Ok (tells (one table code a))
+modified-by : (weight : ℕ) (end : Place) (items : List Placed) (table code : ℕ) (a : Act) (p q r s : List Placed) → modifiers_at (length items + 1) weight end items ≡ Ok (table, p) → code_at end p ≡ Ok (code, q) → keyword_at (codes "=") end q ≡ Ok r → symbol_at end r ≡ Ok (a, s) → end_of_line s ≡ Ok tt → modified_line weight end items ≡ Ok (tells (one table code a))
 unfolding modified_line
 modified-by weight end items table code a p q r s e1 e2 e3 e4 e5 = rw (e1, e2, e3, e4, e5) refl
 
 -- the words behind the first modifier
-modified-read : NamesAreTheirOwn → (ms : List Modifier) (weight : ℕ) (end : Place) (items : List Placed) (c : ℕ) (a : Act) → list_all is_good ms ≡ true → 1 ≤ c → c < 256 → IsTrue (is_action a.kind a.value) → bytes items ≡ tail (map (λ m. m.word) ms ++ codes "keycode" ∷ decimal c ∷ codes "=" ∷ name_text a ∷ []) → modified_line weight end items ≡ Ok (tells (one (together weight ms) c a))
-modified-read own ms weight end items c a good some small action e =
+modified_read : NamesAreTheirOwn → (ms : List Modifier) (weight : ℕ) (end : Place) (items : List Placed) (c : ℕ) (a : Act) → list_all is_good ms ≡ true → 1 ≤ c → c < 256 → IsTrue (is_action a.kind a.value) → bytes items ≡ tail (map (λ m. m.word) ms ++ codes "keycode" ∷ decimal c ∷ codes "=" ∷ name_text a ∷ []) → modified_line weight end items ≡ Ok (tells (one (together weight ms) c a))
+modified_read own ms weight end items c a good some small action e =
     let few : length ms < length items + 1 =
     (let short = length-tail ms (codes "keycode" ∷ decimal c ∷ codes "=" ∷ name_text a ∷ []) in
     let same = ap length e in
     let bytes_of = length-bytes items in omega arith) in
-    let table = modifiers-read ms (length items + 1) weight end items (decimal c ∷ codes "=" ∷ name_text a ∷ []) few good e in
-    let code = code-read end table.left c (codes "=" ∷ name_text a ∷ []) some small table.leaves in
-    let equals = keyword-read (codes "=") end code.left (name_text a ∷ []) refl refl code.leaves in
-    let only = symbol-read own end equals.left a [] action equals.leaves in
-    modified-by weight end items (together weight ms) c a table.left code.left equals.left only.left table.is code.is equals.is only.is (ended-read only.left only.leaves)
+    let table = modifiers_read ms (length items + 1) weight end items (decimal c ∷ codes "=" ∷ name_text a ∷ []) few good e in
+    let code = code_read end table.left c (codes "=" ∷ name_text a ∷ []) some small table.leaves in
+    let equals = keyword_read (codes "=") end code.left (name_text a ∷ []) refl refl code.leaves in
+    let only = symbol_read own end equals.left a [] action equals.leaves in
+    modified-by weight end items (together weight ms) c a table.left code.left equals.left only.left table.is code.is equals.is only.is (end_of_line_read only.left only.leaves)
 
 by_words : NamesAreTheirOwn → (t c : ℕ) (a : Act) (ms : List Modifier) → are_of t ms ≡ true → 1 ≤ c → c < 256 → IsTrue (is_action a.kind a.value) → Says (join_with_byte 0x20 (map (λ m. m.word) ms ++ codes "keycode" ∷ decimal c ∷ codes "=" ∷ name_text a ∷ [])) (one t c a)
 by_words own t c a [] are some small action = cc
 by_words own t c a (m ∷ ms) are some small action =
     let parts = and_parts (is_good m) (list_all is_good ms && together m.weight ms == t) are in
     let more = and_parts (list_all is_good ms) (together m.weight ms == t) parts.1 in
-    let is_one = good-is m parts.0 in
+    let is_one = good_is m parts.0 in
     let key = codes "keycode" ∷ decimal c ∷ codes "=" ∷ name_text a ∷ [] in
     says_by m.word (map (λ m. m.word) ms ++ key) (one t c a) is_one.word
     (list_all-append is_row (map (λ m. m.word) ms) key
-    ∙ and_from (list_all is_row (map (λ m. m.word) ms)) (list_all is_row key) (good-words ms more.0)
-    (and_from (is_row (decimal c)) (is_row (name_text a) && true) (word-row (decimal c) (decimal-word c small))
-    (and_from (is_row (name_text a)) true (word-row (name_text a) (name-word a)) refl)))
+    ∙ and_from (list_all is_row (map (λ m. m.word) ms)) (list_all is_row key) (good_words ms more.0)
+    (and_from (is_row (decimal c)) (is_row (name_text a) && true) (word_row (decimal c) (decimal_word c small))
+    (and_from (is_row (name_text a)) true (word_row (name_text a) (name_word a)) refl)))
     (λ end word left leaves.
-    modified-first m.word end (word, left) is_one.other
+    modified_first m.word end (word, left) is_one.other
     ∙ ap (modified_by end (word, left)) is_one.weighs
-    ∙ modified-read own ms m.weight end left c a more.0 some small action leaves
+    ∙ modified_read own ms m.weight end left c a more.0 some small action leaves
     ∙ ap (λ table. Ok (tells (one table c a))) (eqb-true (together m.weight ms) t more.1))
 
 -- the row of an entry
 pub entry_says : NamesAreTheirOwn → (t c : ℕ) (a : Act) → t < 256 → 1 ≤ c → c < 256 → IsTrue (is_action a.kind a.value) → Says (join_with_byte 0x20 (entry_words t c a)) (one t c a)
 entry_says own t c a low some small action =
-    subst (λ (ws : List (List ℕ)). Says (join_with_byte 0x20 (ws ++ codes "keycode" ∷ decimal c ∷ codes "=" ∷ name_text a ∷ [])) (one t c a)) (words-of t)
-    (by_words own t c a (modifiers_of t) (agree_below_at (λ t. are_of t (modifiers_of t)) (λ t. true) 256 t modifiers-are low) some small action)
+    subst (λ (ws : List (List ℕ)). Says (join_with_byte 0x20 (ws ++ codes "keycode" ∷ decimal c ∷ codes "=" ∷ name_text a ∷ [])) (one t c a)) (words_of t)
+    (by_words own t c a (modifiers_of t) (agree_below_at (λ t. are_of t (modifiers_of t)) (λ t. true) 256 t modifiers_are low) some small action)

@@ -12,55 +12,55 @@ use Rattle.key_syms.specs.Symbols.{Symbol, symbols}
 use Rattle.key_dump.specs.Dump.{code_point}
 use Rattle.key_dump.proofs.NextWord.{is_word_byte, is_word_text}
 
-hex_digit-word : (d : ℕ) → d < 16 → is_word_byte (hex_digit d) ≡ true
-hex_digit-word d h = agree_below_at (λ d. is_word_byte (hex_digit d)) (λ d. true) 16 d refl h
+hex_digit_word : (d : ℕ) → d < 16 → is_word_byte (hex_digit d) ≡ true
+hex_digit_word d h = agree_below_at (λ d. is_word_byte (hex_digit d)) (λ d. true) 16 d refl h
 
-hex4-words : (n : ℕ) → list_all is_word_byte (hex4 n) ≡ true
-hex4-words n =
-    and_from (is_word_byte (hex_digit (n / 4096 % 16))) _ (hex_digit-word (n / 4096 % 16) (omega arith))
-    (and_from (is_word_byte (hex_digit (n / 256 % 16))) _ (hex_digit-word (n / 256 % 16) (omega arith))
-    (and_from (is_word_byte (hex_digit (n / 16 % 16))) _ (hex_digit-word (n / 16 % 16) (omega arith))
-    (and_from (is_word_byte (hex_digit (n % 16))) true (hex_digit-word (n % 16) (omega arith)) refl)))
+hex4_words : (n : ℕ) → list_all is_word_byte (hex4 n) ≡ true
+hex4_words n =
+    and_from (is_word_byte (hex_digit (n / 4096 % 16))) _ (hex_digit_word (n / 4096 % 16) (omega arith))
+    (and_from (is_word_byte (hex_digit (n / 256 % 16))) _ (hex_digit_word (n / 256 % 16) (omega arith))
+    (and_from (is_word_byte (hex_digit (n / 16 % 16))) _ (hex_digit_word (n / 16 % 16) (omega arith))
+    (and_from (is_word_byte (hex_digit (n % 16))) true (hex_digit_word (n % 16) (omega arith)) refl)))
 
-pub code_point-word : (n : ℕ) → is_word_text (code_point n) ≡ true
-code_point-word n = hex4-words n
+pub code_point_word : (n : ℕ) → is_word_text (code_point n) ≡ true
+code_point_word n = hex4_words n
 
-code_name-word : (a : Act) → is_word_text (code_name a) ≡ true
-code_name-word a = by_kind (a.kind == LETTER)
+code_name_word : (a : Act) → is_word_text (code_name a) ≡ true
+code_name_word a = by_kind (a.kind == LETTER)
   where
     by_kind : (b : Bool) → is_word_text (cond b (codes "+U+") (codes "U+") ++ hex4 a.value) ≡ true
-    by_kind true = hex4-words a.value
-    by_kind false = hex4-words a.value
+    by_kind true = hex4_words a.value
+    by_kind false = hex4_words a.value
 
 unfoldable are_words : List Symbol → Bool
 are_words rows = list_all (λ s. is_word_text s.name) rows
 
-symbols-words : are_words symbols ≡ true
+symbols_words : are_words symbols ≡ true
 unfolding are_words symbols digits
-symbols-words = refl
+symbols_words = refl
 
-found-word : (rows : List Symbol) (test : Symbol → Bool) (other : List ℕ) → list_all (λ s. is_word_text s.name) rows ≡ true → is_word_text other ≡ true → is_word_text (unwrap_or (option_map (λ s. s.name) (find test rows)) other) ≡ true
-found-word [] test other e word = word
-found-word (s ∷ rows) test other e word =
+found_word : (rows : List Symbol) (test : Symbol → Bool) (other : List ℕ) → list_all (λ s. is_word_text s.name) rows ≡ true → is_word_text other ≡ true → is_word_text (unwrap_or (option_map (λ s. s.name) (find test rows)) other) ≡ true
+found_word [] test other e word = word
+found_word (s ∷ rows) test other e word =
     let parts = and_parts (is_word_text s.name) (list_all (λ s. is_word_text s.name) rows) e in
-    by_test parts.0 (found-word rows test other parts.1 word) (test s)
+    by_test parts.0 (found_word rows test other parts.1 word) (test s)
   where
     by_test : is_word_text s.name ≡ true → is_word_text (unwrap_or (option_map (λ s. s.name) (find test rows)) other) ≡ true → (b : Bool) → is_word_text (unwrap_or (option_map (λ s. s.name) (cond b (Some s) (find test rows))) other) ≡ true
     by_test first rest true = first
     by_test first rest false = rest
 
-pub name-word : (a : Act) → is_word_text (name_text a) ≡ true
+pub name_word : (a : Act) → is_word_text (name_text a) ≡ true
 unfolding name_text are_words
-name-word a = found-word symbols (λ s. same_act s.act a) (code_name a) symbols-words (code_name-word a)
+name_word a = found_word symbols (λ s. same_act s.act a) (code_name a) symbols_words (code_name_word a)
 
 -- the number is read back
 abbrev pub is_number : ℕ → Option ℕ → Bool
 is_number n None = false
 is_number n (Some m) = m == n
 
-is_number-some : (n : ℕ) (read : Option ℕ) → is_number n read ≡ true → read ≡ Some n
-is_number-some n None e = cc
-is_number-some n (Some m) e = ap Some (eqb-true m n e)
+is_number_some : (n : ℕ) (read : Option ℕ) → is_number n read ≡ true → read ≡ Some n
+is_number_some n None e = cc
+is_number_some n (Some m) e = ap Some (eqb-true m n e)
 
 -- a byte of a number: a digit
 abbrev pub is_digit : ℕ → Bool
@@ -70,18 +70,18 @@ decimals : agree_below (λ n. is_word_text (decimal n) && (is_number n (number_o
 unfolding digits
 decimals = refl
 
-decimal-parts : (n : ℕ) → n < 256 → (is_word_text (decimal n) && (is_number n (number_of (decimal n)) && list_all is_digit (decimal n))) ≡ true
-decimal-parts n h = agree_below_at (λ n. is_word_text (decimal n) && (is_number n (number_of (decimal n)) && list_all is_digit (decimal n))) (λ n. true) 256 n decimals h
+decimal_parts : (n : ℕ) → n < 256 → (is_word_text (decimal n) && (is_number n (number_of (decimal n)) && list_all is_digit (decimal n))) ≡ true
+decimal_parts n h = agree_below_at (λ n. is_word_text (decimal n) && (is_number n (number_of (decimal n)) && list_all is_digit (decimal n))) (λ n. true) 256 n decimals h
 
-pub decimal-word : (n : ℕ) → n < 256 → is_word_text (decimal n) ≡ true
-decimal-word n h = (and_parts (is_word_text (decimal n)) (is_number n (number_of (decimal n)) && list_all is_digit (decimal n)) (decimal-parts n h)).0
+pub decimal_word : (n : ℕ) → n < 256 → is_word_text (decimal n) ≡ true
+decimal_word n h = (and_parts (is_word_text (decimal n)) (is_number n (number_of (decimal n)) && list_all is_digit (decimal n)) (decimal_parts n h)).0
 
-pub decimal-number : (n : ℕ) → n < 256 → number_of (decimal n) ≡ Some n
-decimal-number n h =
-    let more = (and_parts (is_word_text (decimal n)) (is_number n (number_of (decimal n)) && list_all is_digit (decimal n)) (decimal-parts n h)).1 in
-    is_number-some n (number_of (decimal n)) (and_parts (is_number n (number_of (decimal n))) (list_all is_digit (decimal n)) more).0
+pub decimal_number : (n : ℕ) → n < 256 → number_of (decimal n) ≡ Some n
+decimal_number n h =
+    let more = (and_parts (is_word_text (decimal n)) (is_number n (number_of (decimal n)) && list_all is_digit (decimal n)) (decimal_parts n h)).1 in
+    is_number_some n (number_of (decimal n)) (and_parts (is_number n (number_of (decimal n))) (list_all is_digit (decimal n)) more).0
 
 pub decimal-digits : (n : ℕ) → n < 256 → list_all is_digit (decimal n) ≡ true
 decimal-digits n h =
-    let more = (and_parts (is_word_text (decimal n)) (is_number n (number_of (decimal n)) && list_all is_digit (decimal n)) (decimal-parts n h)).1 in
+    let more = (and_parts (is_word_text (decimal n)) (is_number n (number_of (decimal n)) && list_all is_digit (decimal n)) (decimal_parts n h)).1 in
     (and_parts (is_number n (number_of (decimal n))) (list_all is_digit (decimal n)) more).1

@@ -31,12 +31,12 @@ abbrev pub is_behind : List ℕ → Bool
 is_behind [] = true
 is_behind (b ∷ bs) = b == 0x20
 
-pub word_byte-low : (b : ℕ) → is_word_byte b ≡ true → 0x28 ≤ b
-word_byte-low b e = leb-true 0x28 b (and_parts (leb 0x28 b) (leb b 0x7E) (and_parts (leb 0x28 b && leb b 0x7E) (not (b == 0x5C)) e).0).0
+pub word_byte_low : (b : ℕ) → is_word_byte b ≡ true → 0x28 ≤ b
+word_byte_low b e = leb-true 0x28 b (and_parts (leb 0x28 b) (leb b 0x7E) (and_parts (leb 0x28 b && leb b 0x7E) (not (b == 0x5C)) e).0).0
 
-pub word_byte-seen : (b : ℕ) → is_word_byte b ≡ true → is_seen b ≡ true
-word_byte-seen b e =
-    let low = word_byte-low b e in
+pub word_byte_seen : (b : ℕ) → is_word_byte b ≡ true → is_seen b ≡ true
+word_byte_seen b e =
+    let low = word_byte_low b e in
     let parts = and_parts (leb 0x28 b) (leb b 0x7E) (and_parts (leb 0x28 b && leb b 0x7E) (not (b == 0x5C)) e).0 in
     seen b low parts.1
   where
@@ -47,23 +47,23 @@ pub all_seen : (text : List ℕ) → list_all is_word_byte text ≡ true → lis
 all_seen [] e = refl
 all_seen (b ∷ bs) e =
     let parts = and_parts (is_word_byte b) (list_all is_word_byte bs) e in
-    and_from (is_seen b) (list_all is_seen bs) (word_byte-seen b parts.0) (all_seen bs parts.1)
+    and_from (is_seen b) (list_all is_seen bs) (word_byte_seen b parts.0) (all_seen bs parts.1)
 
-pub seen-ascii : (text : List ℕ) → list_all is_seen text ≡ true → IsAscii text
-seen-ascii [] e i = omega arith
-seen-ascii (b ∷ bs) e zero =
+pub seen_ascii : (text : List ℕ) → list_all is_seen text ≡ true → IsAscii text
+seen_ascii [] e i = omega arith
+seen_ascii (b ∷ bs) e zero =
     let parts = and_parts (is_seen b) (list_all is_seen bs) e in
     let high = leb-true b 0x7E (and_parts (leb 0x20 b) (leb b 0x7E) parts.0).1 in omega arith
-seen-ascii (b ∷ bs) e (suc i) = seen-ascii bs (and_parts (is_seen b) (list_all is_seen bs) e).1 i
+seen_ascii (b ∷ bs) e (suc i) = seen_ascii bs (and_parts (is_seen b) (list_all is_seen bs) e).1 i
 
-is_bare-from : (b : ℕ) → 0x28 ≤ b → is_bare b ≡ true
-is_bare-from b h = grind (arith, nat_tests)
+is_bare_from : (b : ℕ) → 0x28 ≤ b → is_bare b ≡ true
+is_bare_from b h = grind (arith, nat_tests)
 
-is_blank-from : (b : ℕ) → 0x28 ≤ b → is_blank b ≡ false
-is_blank-from b h = grind (arith, nat_tests)
+is_blank_from : (b : ℕ) → 0x28 ≤ b → is_blank b ≡ false
+is_blank_from b h = grind (arith, nat_tests)
 
-is_quote-from : (b : ℕ) → 0x28 ≤ b → is_quote b ≡ false
-is_quote-from b h = grind (arith, nat_tests)
+is_quote_from : (b : ℕ) → 0x28 ≤ b → is_quote b ≡ false
+is_quote_from b h = grind (arith, nat_tests)
 
 pub prefix_len-bytes : (test : ℕ → Bool) (items : List Placed) → prefix_len (λ p. test p.byte) items ≡ prefix_len test (bytes items)
 prefix_len-bytes test [] = refl
@@ -73,16 +73,16 @@ pub length-bytes : (items : List Placed) → length (bytes items) ≡ length ite
 length-bytes [] = refl
 length-bytes (p ∷ ps) = ap (λ n. suc n) (length-bytes ps)
 
-pub bare-none : (rest : List ℕ) → is_behind rest ≡ true → prefix_len is_bare rest ≡ 0
-bare-none [] e = refl
-bare-none (b ∷ bs) e = rw (eqb-true b 0x20 e) refl
+pub bare_none : (rest : List ℕ) → is_behind rest ≡ true → prefix_len is_bare rest ≡ 0
+bare_none [] e = refl
+bare_none (b ∷ bs) e = rw (eqb-true b 0x20 e) refl
 
-bare-all : (text rest : List ℕ) → list_all is_word_byte text ≡ true → is_behind rest ≡ true → prefix_len is_bare (text ++ rest) ≡ length text
-bare-all [] rest e behind = bare-none rest behind
-bare-all (b ∷ bs) rest e behind =
+bare_all : (text rest : List ℕ) → list_all is_word_byte text ≡ true → is_behind rest ≡ true → prefix_len is_bare (text ++ rest) ≡ length text
+bare_all [] rest e behind = bare_none rest behind
+bare_all (b ∷ bs) rest e behind =
     let parts = and_parts (is_word_byte b) (list_all is_word_byte bs) e in
-    ap (λ t. cond t (1 + prefix_len is_bare (bs ++ rest)) 0) (is_bare-from b (word_byte-low b parts.0))
-    ∙ (let more = bare-all bs rest parts.1 behind in
+    ap (λ t. cond t (1 + prefix_len is_bare (bs ++ rest)) 0) (is_bare_from b (word_byte_low b parts.0))
+    ∙ (let more = bare_all bs rest parts.1 behind in
     let count : 1 + prefix_len is_bare (bs ++ rest) ≡ suc (length bs) = omega arith in count)
 
 -- a word that is read: the word and what is left
@@ -94,17 +94,17 @@ pub record WordIs (read : Option (List Placed × List Placed)) (text rest : List
   pub spells : bytes word ≡ text
   pub leaves : bytes left ≡ rest
 
-whole-is : (word left : List Placed) (text : List ℕ) → bytes word ≡ text → IsAscii text → whole (word, left) ≡ Ok (word, left)
+whole_is : (word left : List Placed) (text : List ℕ) → bytes word ≡ text → IsAscii text → whole (word, left) ≡ Ok (word, left)
 unfolding whole
-whole-is word left text spells ascii =
+whole_is word left text spells ascii =
     let all : utf8_valid_len (bytes word) ≡ length word =
     ap utf8_valid_len spells ∙ utf8_valid_len-IsUtf8 text (IsUtf8-from_ascii text ascii) ∙ ap length (sym spells) ∙ length-bytes word in
     ap (λ valid. cond (valid == length word) (Ok (word, left)) (Err (fault BAD_TEXT (nth_place word valid)))) all
     ∙ ap (λ t. cond t (Ok (word, left)) (Err (fault BAD_TEXT (nth_place word (length word))))) (eq-eqb (length word) (length word) refl)
 
 -- a word of this length begins the items
-pub word_in-is : (items : List Placed) (text rest : List ℕ) → bytes items ≡ text ++ rest → word_len items ≡ length text → length text ≢ 0 → IsAscii text → WordIs (word_in items) text rest
-word_in-is items text rest e len some ascii =
+pub word_in_is : (items : List Placed) (text rest : List ℕ) → bytes items ≡ text ++ rest → word_len items ≡ length text → length text ≢ 0 → IsAscii text → WordIs (word_in items) text rest
+word_in_is items text rest e len some ascii =
     let n = length text in
     let spelled : bytes (take n items) ≡ text = sym (take-map (λ (p : Placed). p.byte) n items) ∙ ap (take n) e ∙ take-append_seam text rest in
     let left_over : bytes (drop n items) ≡ rest = sym (drop-map (λ (p : Placed). p.byte) n items) ∙ ap (drop n) e ∙ drop-append_seam text rest in
@@ -114,7 +114,7 @@ word_in-is items text rest e len some ascii =
       found =
           ap (λ m. cond (m == 0) None (Some (take m items, drop m items))) len
           ∙ ap (λ t. cond t None (Some (take n items, drop n items))) (ne_eqb n 0 some);
-      good = whole-is (take n items) (drop n items) text spelled ascii;
+      good = whole_is (take n items) (drop n items) text spelled ascii;
       spells = spelled;
       leaves = left_over;
     }
@@ -123,42 +123,42 @@ no_quote : (items : List Placed) (b : ℕ) (bs : List ℕ) → bytes items ≡ b
 no_quote [] b bs e h = absurd (cc)
 no_quote (p ∷ ps) b bs e h =
     let same : p.byte ≡ b = cc in
-    let other : is_quote p.byte ≡ false = ap is_quote same ∙ is_quote-from b h in
+    let other : is_quote p.byte ≡ false = ap is_quote same ∙ is_quote_from b h in
     rw other refl
 
-plain-len : (items : List Placed) (text rest : List ℕ) → bytes items ≡ text ++ rest → is_word_text text ≡ true → is_behind rest ≡ true → word_len items ≡ length text
-plain-len items [] rest e word behind = absurd (cc)
-plain-len items (b ∷ bs) rest e word behind =
-    let low = word_byte-low b (and_parts (is_word_byte b) (list_all is_word_byte bs) word).0 in
+plain_len : (items : List Placed) (text rest : List ℕ) → bytes items ≡ text ++ rest → is_word_text text ≡ true → is_behind rest ≡ true → word_len items ≡ length text
+plain_len items [] rest e word behind = absurd (cc)
+plain_len items (b ∷ bs) rest e word behind =
+    let low = word_byte_low b (and_parts (is_word_byte b) (list_all is_word_byte bs) word).0 in
     let none = no_quote items b (bs ++ rest) e low in
     ap (λ n. n + prefix_len (λ p. is_bare p.byte) (drop n items)) none
-    ∙ (let bare : prefix_len (λ p. is_bare p.byte) (drop 0 items) ≡ suc (length bs) = prefix_len-bytes is_bare items ∙ ap (prefix_len is_bare) e ∙ bare-all (b ∷ bs) rest word behind in
+    ∙ (let bare : prefix_len (λ p. is_bare p.byte) (drop 0 items) ≡ suc (length bs) = prefix_len-bytes is_bare items ∙ ap (prefix_len is_bare) e ∙ bare_all (b ∷ bs) rest word behind in
     let sum : 0 + prefix_len (λ p. is_bare p.byte) (drop 0 items) ≡ suc (length bs) = omega arith in sum)
 
-word_text-some : (text : List ℕ) → is_word_text text ≡ true → length text ≢ 0
-word_text-some [] e none = cc
-word_text-some (b ∷ bs) e none = omega arith
+word_text_some : (text : List ℕ) → is_word_text text ≡ true → length text ≢ 0
+word_text_some [] e none = cc
+word_text_some (b ∷ bs) e none = omega arith
 
-pub word_text-all : (text : List ℕ) → is_word_text text ≡ true → list_all is_word_byte text ≡ true
-word_text-all [] e = refl
-word_text-all (b ∷ bs) e = e
+pub word_text_all : (text : List ℕ) → is_word_text text ≡ true → list_all is_word_byte text ≡ true
+word_text_all [] e = refl
+word_text_all (b ∷ bs) e = e
 
 plain_in : (items : List Placed) (text rest : List ℕ) → bytes items ≡ text ++ rest → is_word_text text ≡ true → is_behind rest ≡ true → WordIs (word_in items) text rest
 plain_in items text rest e word behind =
-    word_in-is items text rest e (plain-len items text rest e word behind) (word_text-some text word)
-    (seen-ascii text (all_seen text (word_text-all text word)))
+    word_in_is items text rest e (plain_len items text rest e word behind) (word_text_some text word)
+    (seen_ascii text (all_seen text (word_text_all text word)))
 
 -- no blank stands before a word
 no_blank : (items : List Placed) (b : ℕ) (bs : List ℕ) → bytes items ≡ b ∷ bs → is_blank b ≡ false → prefix_len (λ p. is_blank p.byte) items ≡ 0
 no_blank items b bs e seen = prefix_len-bytes is_blank items ∙ ap (prefix_len is_blank) e ∙ ap (λ t. cond t (1 + prefix_len is_blank bs) 0) seen
 
-pub word_at-here : (items : List Placed) (b : ℕ) (bs : List ℕ) → bytes items ≡ b ∷ bs → is_blank b ≡ false → word_at items ≡ word_in items
+pub word_at_here : (items : List Placed) (b : ℕ) (bs : List ℕ) → bytes items ≡ b ∷ bs → is_blank b ≡ false → word_at items ≡ word_in items
 unfolding word_at
-word_at-here items b bs e seen = ap (λ n. word_in (drop n items)) (no_blank items b bs e seen)
+word_at_here items b bs e seen = ap (λ n. word_in (drop n items)) (no_blank items b bs e seen)
 
-pub word_at-behind : (p : Placed) (ps : List Placed) (b : ℕ) (bs : List ℕ) → p.byte ≡ 0x20 → bytes ps ≡ b ∷ bs → is_blank b ≡ false → word_at (p ∷ ps) ≡ word_in ps
+pub word_at_behind : (p : Placed) (ps : List Placed) (b : ℕ) (bs : List ℕ) → p.byte ≡ 0x20 → bytes ps ≡ b ∷ bs → is_blank b ≡ false → word_at (p ∷ ps) ≡ word_in ps
 unfolding word_at
-word_at-behind p ps b bs blank e seen =
+word_at_behind p ps b bs blank e seen =
     let one : prefix_len (λ (q : Placed). is_blank q.byte) (p ∷ ps) ≡ 1 =
     ap (λ c. cond (is_blank c) (1 + prefix_len (λ (q : Placed). is_blank q.byte) ps) 0) blank
     ∙ ap (λ n. 1 + n) (no_blank ps b bs e seen) in
@@ -168,9 +168,9 @@ word_at-behind p ps b bs blank e seen =
 pub first_word : (items : List Placed) (text rest : List ℕ) → bytes items ≡ text ++ rest → is_word_text text ≡ true → is_behind rest ≡ true → WordIs (word_at items) text rest
 first_word items [] rest e word behind = absurd (cc)
 first_word items (b ∷ bs) rest e word behind =
-    let low = word_byte-low b (and_parts (is_word_byte b) (list_all is_word_byte bs) word).0 in
+    let low = word_byte_low b (and_parts (is_word_byte b) (list_all is_word_byte bs) word).0 in
     subst (λ (read : Option (List Placed × List Placed)). WordIs read (b ∷ bs) rest)
-    (sym (word_at-here items b (bs ++ rest) e (is_blank-from b low)))
+    (sym (word_at_here items b (bs ++ rest) e (is_blank_from b low)))
     (plain_in items (b ∷ bs) rest e word behind)
 
 -- the word behind a blank
@@ -178,9 +178,9 @@ pub next_word : (items : List Placed) (text rest : List ℕ) → bytes items ≡
 next_word [] text rest e word behind = absurd (cc)
 next_word (p ∷ ps) [] rest e word behind = absurd (cc)
 next_word (p ∷ ps) (b ∷ bs) rest e word behind =
-    let low = word_byte-low b (and_parts (is_word_byte b) (list_all is_word_byte bs) word).0 in
+    let low = word_byte_low b (and_parts (is_word_byte b) (list_all is_word_byte bs) word).0 in
     let blank : p.byte ≡ 0x20 = cc in
     let more : bytes ps ≡ b ∷ (bs ++ rest) = cc in
     subst (λ (read : Option (List Placed × List Placed)). WordIs read (b ∷ bs) rest)
-    (sym (word_at-behind p ps b (bs ++ rest) blank more (is_blank-from b low)))
+    (sym (word_at_behind p ps b (bs ++ rest) blank more (is_blank_from b low)))
     (plain_in ps (b ∷ bs) rest more word behind)

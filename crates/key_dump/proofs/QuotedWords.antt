@@ -6,19 +6,19 @@ use Rattle.std.proofs.lemmas.List.{drop-map}
 use Rattle.std.proofs.lemmas.List.Elements.{All-head, All-tail}
 use Rattle.std.specs.List.{flat_map, list_all, prefix_len}
 use Rattle.std.specs.Option.{option_and_then, option_map, option_map_or}
-use Rattle.key_text.specs.Quoted.{before_rest, between, closed, escape_in, first_of, is_octal, letter_escape, octal_len, octal_value, text_of, unescaped, unescaped_whole}
+use Rattle.key_text.specs.Quoted.{before_rest, text_between, text_before_quote, escape_in, first_of, is_octal, letter_escape, octal_len, octal_value, text_of, unescaped_bytes, unescaped_whole}
 use Rattle.key_text.specs.Quoted as quoted_texts
 use Rattle.key_text.specs.Rows.{backslash}
 use Rattle.key_text.specs.Words.{bytes, close_at, is_bare, is_quote, quoted_len, word_at, word_in, word_len}
 use Rattle.key_text.specs.declared.placed.Placed.{Placed}
-use Rattle.key_dump.specs.Dump.{escaped, is_plain, octal_escape, quoted}
-use Rattle.key_dump.proofs.NextWord.{WordIs, bare-none, is_behind, is_seen, length-bytes, prefix_len-bytes, seen-ascii, word_at-behind, word_in-is}
-use Rattle.key_dump.proofs.ReadFields.{tail, tail-behind}
-use Rattle.key_dump.proofs.TextRows.{goes_on, is_row, row-append}
+use Rattle.key_dump.specs.Dump.{escape_of, is_plain, octal_escape, quoted_text}
+use Rattle.key_dump.proofs.NextWord.{WordIs, bare_none, is_behind, is_seen, length-bytes, prefix_len-bytes, seen_ascii, word_at_behind, word_in_is}
+use Rattle.key_dump.proofs.ReadFields.{tail, tail_behind}
+use Rattle.key_dump.proofs.TextRows.{goes_on, is_row, row_append}
 
 -- the text as it stands between the quotes
 abbrev pub inner : List ℕ → List ℕ
-inner text = flat_map escaped text
+inner text = flat_map escape_of text
 
 -- where a quoted text is closed, by its bytes
 abbrev pub close_by : ℕ → Bool → List ℕ → Option ℕ
@@ -27,10 +27,10 @@ close_by q is_escaped (b ∷ bs) =
     cond (not is_escaped && b == q) (Some 0)
     (option_map suc (close_by q (not is_escaped && b == backslash) bs))
 
-close-bytes : (q : ℕ) (is_escaped : Bool) (items : List Placed) → close_at q is_escaped items ≡ close_by q is_escaped (bytes items)
-close-bytes q is_escaped [] = refl
-close-bytes q is_escaped (p ∷ ps) =
-    ap (λ close. cond (not is_escaped && p.byte == q) (Some 0) (option_map suc close)) (close-bytes q (not is_escaped && p.byte == backslash) ps)
+close_bytes : (q : ℕ) (is_escaped : Bool) (items : List Placed) → close_at q is_escaped items ≡ close_by q is_escaped (bytes items)
+close_bytes q is_escaped [] = refl
+close_bytes q is_escaped (p ∷ ps) =
+    ap (λ close. cond (not is_escaped && p.byte == q) (Some 0) (option_map suc close)) (close_bytes q (not is_escaped && p.byte == backslash) ps)
 
 -- digits of a byte's escape
 abbrev pub is_digit : ℕ → Bool
@@ -42,110 +42,110 @@ pub record AreDigits (b x y z : ℕ) : Type 0 where
   pub third : is_digit z ≡ true
   pub value : octal_value (x ∷ y ∷ z ∷ []) ≡ b
 
-digits-computed : agree_below (λ b. is_digit (0x30 + b / 64) && (is_digit (0x30 + b / 8 % 8) && (is_digit (0x30 + b % 8) && octal_value ((0x30 + b / 64) ∷ (0x30 + b / 8 % 8) ∷ (0x30 + b % 8) ∷ []) == b))) (λ b. true) 256 ≡ true
-digits-computed = refl
+digits_computed : agree_below (λ b. is_digit (0x30 + b / 64) && (is_digit (0x30 + b / 8 % 8) && (is_digit (0x30 + b % 8) && octal_value ((0x30 + b / 64) ∷ (0x30 + b / 8 % 8) ∷ (0x30 + b % 8) ∷ []) == b))) (λ b. true) 256 ≡ true
+digits_computed = refl
 
-digits-of : (b : ℕ) → b < 256 → AreDigits b (0x30 + b / 64) (0x30 + b / 8 % 8) (0x30 + b % 8)
-digits-of b h =
+digits_of : (b : ℕ) → b < 256 → AreDigits b (0x30 + b / 64) (0x30 + b / 8 % 8) (0x30 + b % 8)
+digits_of b h =
     let x = 0x30 + b / 64 in
     let y = 0x30 + b / 8 % 8 in
     let z = 0x30 + b % 8 in
-    let all = agree_below_at (λ b. is_digit (0x30 + b / 64) && (is_digit (0x30 + b / 8 % 8) && (is_digit (0x30 + b % 8) && octal_value ((0x30 + b / 64) ∷ (0x30 + b / 8 % 8) ∷ (0x30 + b % 8) ∷ []) == b))) (λ b. true) 256 b digits-computed h in
+    let all = agree_below_at (λ b. is_digit (0x30 + b / 64) && (is_digit (0x30 + b / 8 % 8) && (is_digit (0x30 + b % 8) && octal_value ((0x30 + b / 64) ∷ (0x30 + b / 8 % 8) ∷ (0x30 + b % 8) ∷ []) == b))) (λ b. true) 256 b digits_computed h in
     let one = and_parts (is_digit x) (is_digit y && (is_digit z && octal_value (x ∷ y ∷ z ∷ []) == b)) all in
     let two = and_parts (is_digit y) (is_digit z && octal_value (x ∷ y ∷ z ∷ []) == b) one.1 in
     let three = and_parts (is_digit z) (octal_value (x ∷ y ∷ z ∷ []) == b) two.1 in
     record { first = one.0; second = two.0; third = three.0; value = eqb-true (octal_value (x ∷ y ∷ z ∷ [])) b three.1 }
 
-digit-octal : (b : ℕ) → is_digit b ≡ true → is_octal b ≡ true
-digit-octal b e = (and_parts (is_octal b) (not (b == 0x22) && not (b == backslash)) e).0
+digit_octal : (b : ℕ) → is_digit b ≡ true → is_octal b ≡ true
+digit_octal b e = (and_parts (is_octal b) (not (b == 0x22) && not (b == backslash)) e).0
 
-digit-no_quote : (b : ℕ) → is_digit b ≡ true → (b == 0x22) ≡ false
-digit-no_quote b e = not-true (b == 0x22) (and_parts (not (b == 0x22)) (not (b == backslash)) (and_parts (is_octal b) (not (b == 0x22) && not (b == backslash)) e).1).0
+digit_no_quote : (b : ℕ) → is_digit b ≡ true → (b == 0x22) ≡ false
+digit_no_quote b e = not-true (b == 0x22) (and_parts (not (b == 0x22)) (not (b == backslash)) (and_parts (is_octal b) (not (b == 0x22) && not (b == backslash)) e).1).0
 
-digit-no_backslash : (b : ℕ) → is_digit b ≡ true → (b == backslash) ≡ false
-digit-no_backslash b e = not-true (b == backslash) (and_parts (not (b == 0x22)) (not (b == backslash)) (and_parts (is_octal b) (not (b == 0x22) && not (b == backslash)) e).1).1
+digit_no_backslash : (b : ℕ) → is_digit b ≡ true → (b == backslash) ≡ false
+digit_no_backslash b e = not-true (b == backslash) (and_parts (not (b == 0x22)) (not (b == backslash)) (and_parts (is_octal b) (not (b == 0x22) && not (b == backslash)) e).1).1
 
-plain-no_quote : (b : ℕ) → is_plain b ≡ true → (b == 0x22) ≡ false
-plain-no_quote b e =
+plain_no_quote : (b : ℕ) → is_plain b ≡ true → (b == 0x22) ≡ false
+plain_no_quote b e =
     let low = and_parts (leb 0x20 b && leb b 0x7E && not (b == 0x22)) (not (b == 0x5C)) e in
     not-true (b == 0x22) (and_parts (leb 0x20 b && leb b 0x7E) (not (b == 0x22)) low.0).1
 
-plain-no_backslash : (b : ℕ) → is_plain b ≡ true → (b == backslash) ≡ false
-plain-no_backslash b e =
+plain_no_backslash : (b : ℕ) → is_plain b ≡ true → (b == backslash) ≡ false
+plain_no_backslash b e =
     not-true (b == backslash) (and_parts (leb 0x20 b && leb b 0x7E && not (b == 0x22)) (not (b == 0x5C)) e).1
 
 -- what closes a text behind an escape closes it behind what the escape has
-close-digit : (b : ℕ) (bs : List ℕ) → is_digit b ≡ true → close_by 0x22 false (b ∷ bs) ≡ option_map suc (close_by 0x22 false bs)
-close-digit b bs e = rw (digit-no_quote b e, digit-no_backslash b e) refl
+close_digit : (b : ℕ) (bs : List ℕ) → is_digit b ≡ true → close_by 0x22 false (b ∷ bs) ≡ option_map suc (close_by 0x22 false bs)
+close_digit b bs e = rw (digit_no_quote b e, digit_no_backslash b e) refl
 
-close-escape : (b : ℕ) (bs : List ℕ) → b < 256 → close_by 0x22 false (octal_escape b ++ bs) ≡ option_map suc (option_map suc (option_map suc (option_map suc (close_by 0x22 false bs))))
-close-escape b bs h =
-    let are = digits-of b h in
+close_escape : (b : ℕ) (bs : List ℕ) → b < 256 → close_by 0x22 false (octal_escape b ++ bs) ≡ option_map suc (option_map suc (option_map suc (option_map suc (close_by 0x22 false bs))))
+close_escape b bs h =
+    let are = digits_of b h in
     let y = 0x30 + b / 8 % 8 in
     let z = 0x30 + b % 8 in
-    ap (λ close. option_map suc (option_map suc close)) (close-digit y (z ∷ bs) are.second ∙ ap (option_map suc) (close-digit z bs are.third))
+    ap (λ close. option_map suc (option_map suc close)) (close_digit y (z ∷ bs) are.second ∙ ap (option_map suc) (close_digit z bs are.third))
 
-close-plain : (b : ℕ) (bs : List ℕ) → is_plain b ≡ true → close_by 0x22 false (b ∷ bs) ≡ option_map suc (close_by 0x22 false bs)
-close-plain b bs e = rw (plain-no_quote b e, plain-no_backslash b e) refl
+close_plain : (b : ℕ) (bs : List ℕ) → is_plain b ≡ true → close_by 0x22 false (b ∷ bs) ≡ option_map suc (close_by 0x22 false bs)
+close_plain b bs e = rw (plain_no_quote b e, plain_no_backslash b e) refl
 
 -- texts of bytes
 abbrev pub AreBytes : List ℕ → Type 0
 AreBytes text = All (λ b. b < 256) text
 
-close-inner : (text rest : List ℕ) → AreBytes text → close_by 0x22 false (inner text ++ 0x22 ∷ rest) ≡ Some (length (inner text))
-close-inner [] rest are = refl
-close-inner (b ∷ bs) rest are =
-    by_test (All-head (λ b. b < 256) b bs are) (close-inner bs rest (All-tail (λ b. b < 256) b bs are)) (is_plain b) refl
+close_inner : (text rest : List ℕ) → AreBytes text → close_by 0x22 false (inner text ++ 0x22 ∷ rest) ≡ Some (length (inner text))
+close_inner [] rest are = refl
+close_inner (b ∷ bs) rest are =
+    by_test (All-head (λ b. b < 256) b bs are) (close_inner bs rest (All-tail (λ b. b < 256) b bs are)) (is_plain b) refl
   where
     by_test : b < 256 → close_by 0x22 false (inner bs ++ 0x22 ∷ rest) ≡ Some (length (inner bs)) → (t : Bool) → is_plain b ≡ t → close_by 0x22 false ((cond t (b ∷ []) (octal_escape b) ++ inner bs) ++ 0x22 ∷ rest) ≡ Some (length (cond t (b ∷ []) (octal_escape b) ++ inner bs))
-    by_test h more true e = close-plain b (inner bs ++ 0x22 ∷ rest) e ∙ ap (option_map suc) more
+    by_test h more true e = close_plain b (inner bs ++ 0x22 ∷ rest) e ∙ ap (option_map suc) more
     by_test h more false e =
-        close-escape b (inner bs ++ 0x22 ∷ rest) h
+        close_escape b (inner bs ++ 0x22 ∷ rest) h
         ∙ ap (λ close. option_map suc (option_map suc (option_map suc (option_map suc close)))) more
 
-escape-read : (b : ℕ) (x y z : ℕ) (rest : List ℕ) → AreDigits b x y z → b < 256 → escape_in (x ∷ y ∷ z ∷ rest) ≡ Some (b, 3)
+escape_read : (b : ℕ) (x y z : ℕ) (rest : List ℕ) → AreDigits b x y z → b < 256 → escape_in (x ∷ y ∷ z ∷ rest) ≡ Some (b, 3)
 unfolding escape_in
-escape-read b x y z rest are h =
+escape_read b x y z rest are h =
     let text = x ∷ y ∷ z ∷ rest in
-    let first = digit-octal x are.first in
-    let second = digit-octal y are.second in
-    let third = digit-octal z are.third in
+    let first = digit_octal x are.first in
+    let second = digit_octal y are.second in
+    let third = digit_octal z are.third in
     let len : octal_len text ≡ 3 = rw (first, second, third) refl in
     ap (λ n. cond (n == 0) (letter_escape text) (quoted_texts.octal_escape (take n text))) len
     ∙ ap (λ v. cond (leb v 255) (Some (v, 3)) None) are.value
     ∙ ap (λ t. cond t (Some (b, 3)) None) (le-leb b 255 (omega arith))
 
-unescaped_none : (n : ℕ) → unescaped n [] ≡ Some []
+unescaped_none : (n : ℕ) → unescaped_bytes n [] ≡ Some []
 unescaped_none zero = refl
 unescaped_none (suc n) = refl
 
-unescaped-plain : (n b : ℕ) (bs : List ℕ) → is_plain b ≡ true → unescaped (suc n) (b ∷ bs) ≡ option_map (λ more. b ∷ more) (unescaped n bs)
-unescaped-plain n b bs e =
-    ap (λ t. option_and_then (before_rest (unescaped n)) (cond t (option_map (λ e. (e.0, drop e.1 bs)) (escape_in bs)) (Some (b, bs)))) (plain-no_backslash b e)
+unescaped_bytes_plain : (n b : ℕ) (bs : List ℕ) → is_plain b ≡ true → unescaped_bytes (suc n) (b ∷ bs) ≡ option_map (λ more. b ∷ more) (unescaped_bytes n bs)
+unescaped_bytes_plain n b bs e =
+    ap (λ t. option_and_then (before_rest (unescaped_bytes n)) (cond t (option_map (λ e. (e.0, drop e.1 bs)) (escape_in bs)) (Some (b, bs)))) (plain_no_backslash b e)
 
-unescaped-escape : (n b : ℕ) (bs : List ℕ) → b < 256 → unescaped (suc n) (octal_escape b ++ bs) ≡ option_map (λ more. b ∷ more) (unescaped n bs)
-unescaped-escape n b bs h =
+unescaped_bytes_escape : (n b : ℕ) (bs : List ℕ) → b < 256 → unescaped_bytes (suc n) (octal_escape b ++ bs) ≡ option_map (λ more. b ∷ more) (unescaped_bytes n bs)
+unescaped_bytes_escape n b bs h =
     let x = 0x30 + b / 64 in
     let y = 0x30 + b / 8 % 8 in
     let z = 0x30 + b % 8 in
-    ap (λ e. option_and_then (before_rest (unescaped n)) (option_map (λ e. (e.0, drop e.1 (x ∷ y ∷ z ∷ bs))) e)) (escape-read b x y z bs (digits-of b h) h)
+    ap (λ e. option_and_then (before_rest (unescaped_bytes n)) (option_map (λ e. (e.0, drop e.1 (x ∷ y ∷ z ∷ bs))) e)) (escape_read b x y z bs (digits_of b h) h)
 
 -- what is escaped is read back
-unescaped-inner : (text : List ℕ) (n : ℕ) → length text ≤ n → AreBytes text → unescaped n (inner text) ≡ Some text
-unescaped-inner [] n h are = unescaped_none n
-unescaped-inner (b ∷ bs) zero h are = absurd (omega arith)
-unescaped-inner (b ∷ bs) (suc n) h are =
-    by_test (All-head (λ b. b < 256) b bs are) (unescaped-inner bs n (omega arith) (All-tail (λ b. b < 256) b bs are)) (is_plain b) refl
+unescaped_bytes-inner : (text : List ℕ) (n : ℕ) → length text ≤ n → AreBytes text → unescaped_bytes n (inner text) ≡ Some text
+unescaped_bytes-inner [] n h are = unescaped_none n
+unescaped_bytes-inner (b ∷ bs) zero h are = absurd (omega arith)
+unescaped_bytes-inner (b ∷ bs) (suc n) h are =
+    by_test (All-head (λ b. b < 256) b bs are) (unescaped_bytes-inner bs n (omega arith) (All-tail (λ b. b < 256) b bs are)) (is_plain b) refl
   where
-    by_test : b < 256 → unescaped n (inner bs) ≡ Some bs → (t : Bool) → is_plain b ≡ t → unescaped (suc n) (cond t (b ∷ []) (octal_escape b) ++ inner bs) ≡ Some (b ∷ bs)
-    by_test h more true e = unescaped-plain n b (inner bs) e ∙ ap (option_map (λ more. b ∷ more)) more
-    by_test h more false e = unescaped-escape n b (inner bs) h ∙ ap (option_map (λ more. b ∷ more)) more
+    by_test : b < 256 → unescaped_bytes n (inner bs) ≡ Some bs → (t : Bool) → is_plain b ≡ t → unescaped_bytes (suc n) (cond t (b ∷ []) (octal_escape b) ++ inner bs) ≡ Some (b ∷ bs)
+    by_test h more true e = unescaped_bytes_plain n b (inner bs) e ∙ ap (option_map (λ more. b ∷ more)) more
+    by_test h more false e = unescaped_bytes_escape n b (inner bs) h ∙ ap (option_map (λ more. b ∷ more)) more
 
 length-inner : (text : List ℕ) → length text ≤ length (inner text)
 length-inner [] = omega arith
 length-inner (b ∷ bs) =
     let more = length-inner bs in
-    let both = length-append (escaped b) (inner bs) in
+    let both = length-append (escape_of b) (inner bs) in
     let some = some_escaped (is_plain b) in
     omega arith
   where
@@ -153,32 +153,32 @@ length-inner (b ∷ bs) =
     some_escaped true = omega arith
     some_escaped false = omega arith
 
-escaped-computed : agree_below (λ b. is_row (escaped b) && list_all is_seen (escaped b)) (λ b. true) 256 ≡ true
-escaped-computed = refl
+escape_of_computed : agree_below (λ b. is_row (escape_of b) && list_all is_seen (escape_of b)) (λ b. true) 256 ≡ true
+escape_of_computed = refl
 
-inner-row : (text : List ℕ) → AreBytes text → is_row (inner text) ≡ true
-inner-row [] are = refl
-inner-row (b ∷ bs) are =
-    row-append (escaped b) (inner bs)
-    (and_parts (is_row (escaped b)) (list_all is_seen (escaped b)) (agree_below_at (λ b. is_row (escaped b) && list_all is_seen (escaped b)) (λ b. true) 256 b escaped-computed (All-head (λ b. b < 256) b bs are))).0
-    (inner-row bs (All-tail (λ b. b < 256) b bs are))
+inner_row : (text : List ℕ) → AreBytes text → is_row (inner text) ≡ true
+inner_row [] are = refl
+inner_row (b ∷ bs) are =
+    row_append (escape_of b) (inner bs)
+    (and_parts (is_row (escape_of b)) (list_all is_seen (escape_of b)) (agree_below_at (λ b. is_row (escape_of b) && list_all is_seen (escape_of b)) (λ b. true) 256 b escape_of_computed (All-head (λ b. b < 256) b bs are))).0
+    (inner_row bs (All-tail (λ b. b < 256) b bs are))
 
-pub quoted-row : (text : List ℕ) → AreBytes text → is_row (quoted text) ≡ true
-quoted-row text are = quote-row (inner text ++ codes "\"") (row-append (inner text) (codes "\"") (inner-row text are) refl)
+pub quoted_text_row : (text : List ℕ) → AreBytes text → is_row (quoted_text text) ≡ true
+quoted_text_row text are = quote-row (inner text ++ codes "\"") (row_append (inner text) (codes "\"") (inner_row text are) refl)
   where
     quote-row : (row : List ℕ) → is_row row ≡ true → is_row (0x22 ∷ row) ≡ true
     quote-row [] e = refl
     quote-row (b ∷ bs) e = e
 
-row-seen : (row : List ℕ) → is_row row ≡ true → list_all is_seen row ≡ true
-row-seen [] e = refl
-row-seen (b ∷ bs) e =
+row_seen : (row : List ℕ) → is_row row ≡ true → list_all is_seen row ≡ true
+row_seen [] e = refl
+row_seen (b ∷ bs) e =
     let parts = and_parts (is_seen b) (goes_on b bs && is_row bs) e in
-    and_from (is_seen b) (list_all is_seen bs) parts.0 (row-seen bs (and_parts (goes_on b bs) (is_row bs) parts.1).1)
+    and_from (is_seen b) (list_all is_seen bs) parts.0 (row_seen bs (and_parts (goes_on b bs) (is_row bs) parts.1).1)
 
 -- the bytes behind the opening quote
 closes : (text rest : List ℕ) (ps : List Placed) → bytes ps ≡ inner text ++ 0x22 ∷ rest → AreBytes text → close_at 0x22 false ps ≡ Some (length (inner text))
-closes text rest ps e are = close-bytes 0x22 false ps ∙ ap (close_by 0x22 false) e ∙ close-inner text rest are
+closes text rest ps e are = close_bytes 0x22 false ps ∙ ap (close_by 0x22 false) e ∙ close_inner text rest are
 
 behind_quote : (text rest : List ℕ) → (inner text ++ codes "\"") ++ rest ≡ inner text ++ 0x22 ∷ rest
 behind_quote text rest = append_assoc (inner text) (codes "\"") rest
@@ -188,41 +188,41 @@ quoted-len text rest p ps quote e are =
     ap (λ q. cond (is_quote q) (suc (option_map_or suc (close_at q false ps) (length ps))) 0) quote
     ∙ ap (λ close. suc (option_map_or suc close (length ps))) (closes text rest ps e are)
 
-length-quoted : (text : List ℕ) → length (quoted text) ≡ suc (suc (length (inner text)))
-length-quoted text = let both = length-append (inner text) (codes "\"") in omega arith
+length-quoted_text : (text : List ℕ) → length (quoted_text text) ≡ suc (suc (length (inner text)))
+length-quoted_text text = let both = length-append (inner text) (codes "\"") in omega arith
 
-word-len : (text rest : List ℕ) (p : Placed) (ps : List Placed) → p.byte ≡ 0x22 → bytes ps ≡ inner text ++ 0x22 ∷ rest → bytes (p ∷ ps) ≡ quoted text ++ rest → is_behind rest ≡ true → AreBytes text → word_len (p ∷ ps) ≡ length (quoted text)
+word-len : (text rest : List ℕ) (p : Placed) (ps : List Placed) → p.byte ≡ 0x22 → bytes ps ≡ inner text ++ 0x22 ∷ rest → bytes (p ∷ ps) ≡ quoted_text text ++ rest → is_behind rest ≡ true → AreBytes text → word_len (p ∷ ps) ≡ length (quoted_text text)
 word-len text rest p ps quote e all behind are =
-    let n = length (quoted text) in
-    let len : quoted_len (p ∷ ps) ≡ n = quoted-len text rest p ps quote e are ∙ sym (length-quoted text) in
+    let n = length (quoted_text text) in
+    let len : quoted_len (p ∷ ps) ≡ n = quoted-len text rest p ps quote e are ∙ sym (length-quoted_text text) in
     let none : prefix_len (λ (q : Placed). is_bare q.byte) (drop n (p ∷ ps)) ≡ 0 =
     prefix_len-bytes is_bare (drop n (p ∷ ps))
-    ∙ ap (prefix_len is_bare) (sym (drop-map (λ (q : Placed). q.byte) n (p ∷ ps)) ∙ ap (drop n) all ∙ drop-append_seam (quoted text) rest)
-    ∙ bare-none rest behind in
+    ∙ ap (prefix_len is_bare) (sym (drop-map (λ (q : Placed). q.byte) n (p ∷ ps)) ∙ ap (drop n) all ∙ drop-append_seam (quoted_text text) rest)
+    ∙ bare_none rest behind in
     ap (λ m. m + prefix_len (λ (q : Placed). is_bare q.byte) (drop m (p ∷ ps))) len
     ∙ (let sum : n + prefix_len (λ (q : Placed). is_bare q.byte) (drop n (p ∷ ps)) ≡ n = omega arith in sum)
 
-quoted_in : (text rest : List ℕ) (p : Placed) (ps : List Placed) → p.byte ≡ 0x22 → bytes ps ≡ inner text ++ 0x22 ∷ rest → bytes (p ∷ ps) ≡ quoted text ++ rest → is_behind rest ≡ true → AreBytes text → WordIs (word_in (p ∷ ps)) (quoted text) rest
+quoted_in : (text rest : List ℕ) (p : Placed) (ps : List Placed) → p.byte ≡ 0x22 → bytes ps ≡ inner text ++ 0x22 ∷ rest → bytes (p ∷ ps) ≡ quoted_text text ++ rest → is_behind rest ≡ true → AreBytes text → WordIs (word_in (p ∷ ps)) (quoted_text text) rest
 quoted_in text rest p ps quote e all behind are =
-    word_in-is (p ∷ ps) (quoted text) rest all (word-len text rest p ps quote e all behind are)
-    (let len = length-quoted text in λ (none : length (quoted text) ≡ 0). omega arith)
-    (seen-ascii (quoted text) (row-seen (quoted text) (quoted-row text are)))
+    word_in_is (p ∷ ps) (quoted_text text) rest all (word-len text rest p ps quote e all behind are)
+    (let len = length-quoted_text text in λ (none : length (quoted_text text) ≡ 0). omega arith)
+    (seen_ascii (quoted_text text) (row_seen (quoted_text text) (quoted_text_row text are)))
 
 -- the next word is a text between quotes
-pub quoted-of : (items : List Placed) (text : List ℕ) (ws : List (List ℕ)) → bytes items ≡ tail (quoted text ∷ ws) → AreBytes text → WordIs (word_at items) (quoted text) (tail ws)
-quoted-of [] text ws e are = absurd (cc)
-quoted-of (p ∷ []) text ws e are = absurd (cc)
-quoted-of (p ∷ q ∷ qs) text ws e are =
+pub quoted_text_of : (items : List Placed) (text : List ℕ) (ws : List (List ℕ)) → bytes items ≡ tail (quoted_text text ∷ ws) → AreBytes text → WordIs (word_at items) (quoted_text text) (tail ws)
+quoted_text_of [] text ws e are = absurd (cc)
+quoted_text_of (p ∷ []) text ws e are = absurd (cc)
+quoted_text_of (p ∷ q ∷ qs) text ws e are =
     let blank : p.byte ≡ 0x20 = cc in
-    let all : bytes (q ∷ qs) ≡ quoted text ++ tail ws = cc in
+    let all : bytes (q ∷ qs) ≡ quoted_text text ++ tail ws = cc in
     let quote : q.byte ≡ 0x22 = cc in
     let more : bytes qs ≡ (inner text ++ codes "\"") ++ tail ws = cc in
-    subst (λ read. WordIs read (quoted text) (tail ws))
-    (sym (word_at-behind p (q ∷ qs) 0x22 ((inner text ++ codes "\"") ++ tail ws) blank all refl))
-    (quoted_in text (tail ws) q qs quote (more ∙ behind_quote text (tail ws)) all (tail-behind ws) are)
+    subst (λ read. WordIs read (quoted_text text) (tail ws))
+    (sym (word_at_behind p (q ∷ qs) 0x22 ((inner text ++ codes "\"") ++ tail ws) blank all refl))
+    (quoted_in text (tail ws) q qs quote (more ∙ behind_quote text (tail ws)) all (tail_behind ws) are)
 
 -- the word stands for its text
-pub text-of : (word : List Placed) (text : List ℕ) → bytes word ≡ quoted text → AreBytes text → text_of word ≡ Some text
+pub text-of : (word : List Placed) (text : List ℕ) → bytes word ≡ quoted_text text → AreBytes text → text_of word ≡ Some text
 unfolding text_of
 text-of [] text e are = absurd (cc)
 text-of (p ∷ ps) text e are =
@@ -234,9 +234,9 @@ text-of (p ∷ ps) text e are =
     (let same = ap length more in
     let one = length-bytes ps in
     let both = length-append (inner text) (codes "\"") in omega arith) in
-    ap (λ b. option_and_then unescaped_whole (cond (b == 0x22) (closed ps (close_at 0x22 false ps)) None)) quote
-    ∙ ap (λ close. option_and_then unescaped_whole (closed ps close)) (closes text [] ps more are)
+    ap (λ b. option_and_then unescaped_whole (cond (b == 0x22) (text_before_quote ps (close_at 0x22 false ps)) None)) quote
+    ∙ ap (λ close. option_and_then unescaped_whole (text_before_quote ps close)) (closes text [] ps more are)
     ∙ ap (λ t. option_and_then unescaped_whole (cond t (Some (take n (bytes ps))) None)) len
     ∙ ap (λ bs. unescaped_whole (take n bs)) more
     ∙ ap unescaped_whole (take-append_seam (inner text) (codes "\""))
-    ∙ unescaped-inner text n (length-inner text) are
+    ∙ unescaped_bytes-inner text n (length-inner text) are

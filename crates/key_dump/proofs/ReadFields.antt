@@ -10,14 +10,14 @@ use Rattle.key_syms.specs.Names.{name_text, symbol}
 use Rattle.key_syms.specs.Numbers.{number_of}
 use Rattle.key_text.specs.Fault.{fault, ◌>>=◌}
 use Rattle.key_text.specs.FaultKinds.{OUT_OF_RANGE, UNKNOWN_SYMBOL, UNKNOWN_WORD, WRONG_COUNT}
-use Rattle.key_text.specs.Fields.{action_of, character_at, character_by, character_in, code_at, ended, function_at, function_by, good, is_quoted, keyword_at, known, named_character, ranged, real, symbol_at}
+use Rattle.key_text.specs.Fields.{action_of, character_at, character_by, character_in, code_at, end_of_line, function_at, function_by, good, is_quoted, keyword_at, symbol_action, named_character, number_in_range, real, symbol_at}
 use Rattle.key_text.specs.Quoted.{character_of}
-use Rattle.key_text.specs.Words.{bytes, is_quote, is_word, next, spot, taken, word_at}
+use Rattle.key_text.specs.Words.{bytes, is_quote, is_word, next, spot, required_word, word_at}
 use Rattle.key_text.specs.declared.fault.KeyFault.{KeyFault}
 use Rattle.key_text.specs.declared.placed.Place.{Place}
 use Rattle.key_text.specs.declared.placed.Placed.{Placed}
 use Rattle.key_dump.specs.Dump.{code_point}
-use Rattle.key_dump.proofs.NamedWords.{code_point-word, decimal-number, decimal-word, name-word}
+use Rattle.key_dump.proofs.NamedWords.{code_point_word, decimal_number, decimal_word, name_word}
 use Rattle.key_dump.proofs.NextWord.{WordIs, is_behind, is_word_text, next_word}
 
 -- the further words of a row, each behind a blank
@@ -25,13 +25,13 @@ abbrev pub tail : List (List ℕ) → List ℕ
 tail [] = []
 tail (w ∷ ws) = 0x20 ∷ (w ++ tail ws)
 
-pub join-tail : (w : List ℕ) (ws : List (List ℕ)) → join_with_byte 0x20 (w ∷ ws) ≡ w ++ tail ws
-join-tail w [] = sym (append-nil w)
-join-tail w (v ∷ ws) = ap (λ rest. w ++ (0x20 ∷ rest)) (join-tail v ws)
+pub join_tail : (w : List ℕ) (ws : List (List ℕ)) → join_with_byte 0x20 (w ∷ ws) ≡ w ++ tail ws
+join_tail w [] = sym (append-nil w)
+join_tail w (v ∷ ws) = ap (λ rest. w ++ (0x20 ∷ rest)) (join_tail v ws)
 
-pub tail-behind : (ws : List (List ℕ)) → is_behind (tail ws) ≡ true
-tail-behind [] = refl
-tail-behind (w ∷ ws) = refl
+pub tail_behind : (ws : List (List ℕ)) → is_behind (tail ws) ≡ true
+tail_behind [] = refl
+tail_behind (w ∷ ws) = refl
 
 -- a field is read as this value, and these words are left
 pub record Reads {X : Type 0} (read : Result (X × List Placed) KeyFault) (value : X) (words : List (List ℕ)) : Type 0 where
@@ -45,61 +45,61 @@ pub record ReadsOn (read : Result (List Placed) KeyFault) (words : List (List �
   pub is : read ≡ Ok left
   pub leaves : bytes left ≡ tail words
 
-pub next-is : (kind : ℕ) (end : Place) (items : List Placed) (text rest : List ℕ) (w : WordIs (word_at items) text rest) → next kind end items ≡ Ok (w.word, w.left)
+pub next_is : (kind : ℕ) (end : Place) (items : List Placed) (text rest : List ℕ) (w : WordIs (word_at items) text rest) → next kind end items ≡ Ok (w.word, w.left)
 unfolding next
-next-is kind end items text rest w = ap (taken kind end) w.found ∙ w.good
+next_is kind end items text rest w = ap (required_word kind end) w.found ∙ w.good
 
 -- the next word of a row that has words left
-pub word-of : (items : List Placed) (text : List ℕ) (ws : List (List ℕ)) → bytes items ≡ tail (text ∷ ws) → is_word_text text ≡ true → WordIs (word_at items) text (tail ws)
-word-of items text ws e word = next_word items text (tail ws) e word (tail-behind ws)
+pub word_of : (items : List Placed) (text : List ℕ) (ws : List (List ℕ)) → bytes items ≡ tail (text ∷ ws) → is_word_text text ≡ true → WordIs (word_at items) text (tail ws)
+word_of items text ws e word = next_word items text (tail ws) e word (tail_behind ws)
 
-pub keyword-read : (text : List ℕ) (end : Place) (items : List Placed) (ws : List (List ℕ)) → is_word_text text ≡ true → str_eq_ignore_ascii_case text text ≡ true → bytes items ≡ tail (text ∷ ws) → ReadsOn (keyword_at text end items) ws
+pub keyword_read : (text : List ℕ) (end : Place) (items : List Placed) (ws : List (List ℕ)) → is_word_text text ≡ true → str_eq_ignore_ascii_case text text ≡ true → bytes items ≡ tail (text ∷ ws) → ReadsOn (keyword_at text end items) ws
 unfolding keyword_at
-keyword-read text end items ws word same e =
-    let w = word-of items text ws e word in
+keyword_read text end items ws word same e =
+    let w = word_of items text ws e word in
     record {
       left = w.left;
       is =
-          ap (λ read. read >>= λ v. cond (is_word text v.0) (Ok v.1) (Err (fault UNKNOWN_WORD (spot v.0)))) (next-is UNKNOWN_WORD end items text (tail ws) w)
+          ap (λ read. read >>= λ v. cond (is_word text v.0) (Ok v.1) (Err (fault UNKNOWN_WORD (spot v.0)))) (next_is UNKNOWN_WORD end items text (tail ws) w)
           ∙ ap (λ t. cond (str_eq_ignore_ascii_case t text) (Ok w.left) (Err (fault UNKNOWN_WORD (spot w.word)))) w.spells
           ∙ ap (λ b. cond b (Ok w.left) (Err (fault UNKNOWN_WORD (spot w.word)))) same;
       leaves = w.leaves;
     }
 
-ranged-is : (low high : ℕ) (word : List Placed) (n : ℕ) → low ≤ n → n ≤ high → ranged low high word (Some n) ≡ Ok n
-ranged-is low high word n h k =
+number_in_range_is : (low high : ℕ) (word : List Placed) (n : ℕ) → low ≤ n → n ≤ high → number_in_range low high word (Some n) ≡ Ok n
+number_in_range_is low high word n h k =
     ap (λ b. cond b (Ok n) (Err (fault OUT_OF_RANGE (spot word)))) (and_from (leb low n) (leb n high) (le-leb low n h) (le-leb n high k))
 
 -- the number of a word
-pub number-ranged : (low : ℕ) (word : List Placed) (n : ℕ) (text : List ℕ) → text ≡ decimal n → low ≤ n → n < 256 → ranged low 255 word (number_of text) ≡ Ok n
-number-ranged low word n text e h k =
-    ap (λ t. ranged low 255 word (number_of t)) e
-    ∙ ap (ranged low 255 word) (decimal-number n k)
-    ∙ ranged-is low 255 word n h (omega arith)
+pub number_number_in_range : (low : ℕ) (word : List Placed) (n : ℕ) (text : List ℕ) → text ≡ decimal n → low ≤ n → n < 256 → number_in_range low 255 word (number_of text) ≡ Ok n
+number_number_in_range low word n text e h k =
+    ap (λ t. number_in_range low 255 word (number_of t)) e
+    ∙ ap (number_in_range low 255 word) (decimal_number n k)
+    ∙ number_in_range_is low 255 word n h (omega arith)
 
-pub code-read : (end : Place) (items : List Placed) (c : ℕ) (ws : List (List ℕ)) → 1 ≤ c → c < 256 → bytes items ≡ tail (decimal c ∷ ws) → Reads (code_at end items) c ws
+pub code_read : (end : Place) (items : List Placed) (c : ℕ) (ws : List (List ℕ)) → 1 ≤ c → c < 256 → bytes items ≡ tail (decimal c ∷ ws) → Reads (code_at end items) c ws
 unfolding code_at
-code-read end items c ws some small e =
-    let w = word-of items (decimal c) ws e (decimal-word c small) in
+code_read end items c ws some small e =
+    let w = word_of items (decimal c) ws e (decimal_word c small) in
     record {
       left = w.left;
       is =
-          ap (λ read. read >>= λ v. ranged 1 255 v.0 (number_of (bytes v.0)) >>= λ n. Ok (n, v.1)) (next-is UNKNOWN_WORD end items (decimal c) (tail ws) w)
-          ∙ ap (λ read. read >>= λ n. Ok (n, w.left)) (number-ranged 1 w.word c (bytes w.word) w.spells some small);
+          ap (λ read. read >>= λ v. number_in_range 1 255 v.0 (number_of (bytes v.0)) >>= λ n. Ok (n, v.1)) (next_is UNKNOWN_WORD end items (decimal c) (tail ws) w)
+          ∙ ap (λ read. read >>= λ n. Ok (n, w.left)) (number_number_in_range 1 w.word c (bytes w.word) w.spells some small);
       leaves = w.leaves;
     }
 
 action-of : (word : List Placed) (text : List ℕ) (a : Act) → bytes word ≡ text → symbol text ≡ Some a → action_of word ≡ Ok a
-action-of word text a e own = ap (λ t. known word (symbol t)) e ∙ ap (known word) own
+action-of word text a e own = ap (λ t. symbol_action word (symbol t)) e ∙ ap (symbol_action word) own
 
-pub symbol-read : NamesAreTheirOwn → (end : Place) (items : List Placed) (a : Act) (ws : List (List ℕ)) → IsTrue (is_action a.kind a.value) → bytes items ≡ tail (name_text a ∷ ws) → Reads (symbol_at end items) a ws
+pub symbol_read : NamesAreTheirOwn → (end : Place) (items : List Placed) (a : Act) (ws : List (List ℕ)) → IsTrue (is_action a.kind a.value) → bytes items ≡ tail (name_text a ∷ ws) → Reads (symbol_at end items) a ws
 unfolding symbol_at
-symbol-read own end items a ws good e =
-    let w = word-of items (name_text a) ws e (name-word a) in
+symbol_read own end items a ws good e =
+    let w = word_of items (name_text a) ws e (name_word a) in
     record {
       left = w.left;
       is =
-          ap (λ read. read >>= λ v. action_of v.0 >>= λ action. Ok (action, v.1)) (next-is WRONG_COUNT end items (name_text a) (tail ws) w)
+          ap (λ read. read >>= λ v. action_of v.0 >>= λ action. Ok (action, v.1)) (next_is WRONG_COUNT end items (name_text a) (tail ws) w)
           ∙ ap (λ read. read >>= λ action. Ok (action, w.left)) (action-of w.word (name_text a) a w.spells (own a good));
       leaves = w.leaves;
     }
@@ -107,15 +107,15 @@ symbol-read own end items a ws good e =
 is_function : (i : ℕ) → i < 256 → IsTrue (is_action FUNCTION i)
 is_function i h = let within : leb i 255 ≡ true = le-leb i 255 (omega arith) in rw within refl
 
-pub function-read : NamesAreTheirOwn → (end : Place) (items : List Placed) (i : ℕ) (ws : List (List ℕ)) → i < 256 → bytes items ≡ tail (name_text (act FUNCTION i) ∷ ws) → Reads (function_at end items) i ws
+pub function_read : NamesAreTheirOwn → (end : Place) (items : List Placed) (i : ℕ) (ws : List (List ℕ)) → i < 256 → bytes items ≡ tail (name_text (act FUNCTION i) ∷ ws) → Reads (function_at end items) i ws
 unfolding function_at
-function-read own end items i ws small e =
+function_read own end items i ws small e =
     let a = act FUNCTION i in
-    let w = word-of items (name_text a) ws e (name-word a) in
+    let w = word_of items (name_text a) ws e (name_word a) in
     record {
       left = w.left;
       is =
-          ap (λ read. read >>= λ v. action_of v.0 >>= λ action. function_by v.0 action >>= λ i. Ok (i, v.1)) (next-is UNKNOWN_SYMBOL end items (name_text a) (tail ws) w)
+          ap (λ read. read >>= λ v. action_of v.0 >>= λ action. function_by v.0 action >>= λ i. Ok (i, v.1)) (next_is UNKNOWN_SYMBOL end items (name_text a) (tail ws) w)
           ∙ ap (λ read. read >>= λ action. function_by w.word action >>= λ i. Ok (i, w.left)) (action-of w.word (name_text a) a w.spells (own a (is_function i small)));
       leaves = w.leaves;
     }
@@ -131,19 +131,19 @@ character-in own word n good_code e =
     ∙ ap (λ read. (read >>= λ action. character_by word action) >>= λ code. real word code) (action-of word (code_point n) (act CHARACTER n) e (own n good_code))
     ∙ ap (λ b. cond b (Ok n) (Err (fault UNKNOWN_SYMBOL (spot word)))) good_code
 
-pub character-read : CodePointsAreTheirOwn → (end : Place) (items : List Placed) (n : ℕ) (ws : List (List ℕ)) → IsTrue (is_character n) → bytes items ≡ tail (code_point n ∷ ws) → Reads (character_at end items) n ws
+pub character_read : CodePointsAreTheirOwn → (end : Place) (items : List Placed) (n : ℕ) (ws : List (List ℕ)) → IsTrue (is_character n) → bytes items ≡ tail (code_point n ∷ ws) → Reads (character_at end items) n ws
 unfolding character_at
-character-read own end items n ws good_code e =
-    let w = word-of items (code_point n) ws e (code_point-word n) in
+character_read own end items n ws good_code e =
+    let w = word_of items (code_point n) ws e (code_point_word n) in
     record {
       left = w.left;
       is =
-          ap (λ read. read >>= λ v. character_in v.0 >>= λ code. Ok (code, v.1)) (next-is UNKNOWN_SYMBOL end items (code_point n) (tail ws) w)
+          ap (λ read. read >>= λ v. character_in v.0 >>= λ code. Ok (code, v.1)) (next_is UNKNOWN_SYMBOL end items (code_point n) (tail ws) w)
           ∙ ap (λ read. read >>= λ code. Ok (code, w.left)) (character-in own w.word n good_code w.spells);
       leaves = w.leaves;
     }
 
-pub ended-read : (items : List Placed) → bytes items ≡ [] → ended items ≡ Ok tt
-unfolding ended word_at
-ended-read [] e = refl
-ended-read (p ∷ ps) e = cc
+pub end_of_line_read : (items : List Placed) → bytes items ≡ [] → end_of_line items ≡ Ok tt
+unfolding end_of_line word_at
+end_of_line_read [] e = refl
+end_of_line_read (p ∷ ps) e = cc

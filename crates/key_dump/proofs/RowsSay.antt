@@ -10,38 +10,38 @@ use Rattle.key_text.specs.Words.{bytes, word_at}
 use Rattle.key_text.specs.declared.fault.KeyFault.{KeyFault}
 use Rattle.key_text.specs.declared.placed.Place.{Place}
 use Rattle.key_text.specs.declared.placed.Placed.{Placed}
-use Rattle.key_dump.proofs.NextWord.{WordIs, first_word, is_seen, is_word_byte, is_word_text, word_byte-seen}
-use Rattle.key_dump.proofs.ReadFields.{join-tail, tail, tail-behind}
-use Rattle.key_dump.proofs.TextRows.{Says, SaysAt, goes_on, is_row, row-append}
+use Rattle.key_dump.proofs.NextWord.{WordIs, first_word, is_seen, is_word_byte, is_word_text, word_byte_seen}
+use Rattle.key_dump.proofs.ReadFields.{join_tail, tail, tail_behind}
+use Rattle.key_dump.proofs.TextRows.{Says, SaysAt, goes_on, is_row, row_append}
 
-word_bytes-row : (text : List ℕ) → list_all is_word_byte text ≡ true → is_row text ≡ true
-word_bytes-row [] e = refl
-word_bytes-row (b ∷ bs) e =
+word_bytes_row : (text : List ℕ) → list_all is_word_byte text ≡ true → is_row text ≡ true
+word_bytes_row [] e = refl
+word_bytes_row (b ∷ bs) e =
     let parts = and_parts (is_word_byte b) (list_all is_word_byte bs) e in
-    and_from (is_seen b) (goes_on b bs && is_row bs) (word_byte-seen b parts.0)
-    (and_from (goes_on b bs) (is_row bs) (on b bs parts.0) (word_bytes-row bs parts.1))
+    and_from (is_seen b) (goes_on b bs && is_row bs) (word_byte_seen b parts.0)
+    (and_from (goes_on b bs) (is_row bs) (on b bs parts.0) (word_bytes_row bs parts.1))
   where
     on : (b : ℕ) (bs : List ℕ) → is_word_byte b ≡ true → goes_on b bs ≡ true
     on b [] e = (and_parts (leb 0x28 b && leb b 0x7E) (not (b == 0x5C)) e).1
     on b (c ∷ cs) e = refl
 
-pub word-row : (text : List ℕ) → is_word_text text ≡ true → is_row text ≡ true
-word-row [] e = refl
-word-row (b ∷ bs) e = word_bytes-row (b ∷ bs) e
+pub word_row : (text : List ℕ) → is_word_text text ≡ true → is_row text ≡ true
+word_row [] e = refl
+word_row (b ∷ bs) e = word_bytes_row (b ∷ bs) e
 
-blank-row : (text : List ℕ) → is_row text ≡ true → is_row (0x20 ∷ text) ≡ true
-blank-row [] e = refl
-blank-row (b ∷ bs) e = e
+blank_row : (text : List ℕ) → is_row text ≡ true → is_row (0x20 ∷ text) ≡ true
+blank_row [] e = refl
+blank_row (b ∷ bs) e = e
 
-tail-row : (ws : List (List ℕ)) → list_all is_row ws ≡ true → is_row (tail ws) ≡ true
-tail-row [] e = refl
-tail-row (w ∷ ws) e =
+tail_row : (ws : List (List ℕ)) → list_all is_row ws ≡ true → is_row (tail ws) ≡ true
+tail_row [] e = refl
+tail_row (w ∷ ws) e =
     let parts = and_parts (is_row w) (list_all is_row ws) e in
-    blank-row (w ++ tail ws) (row-append w (tail ws) parts.0 (tail-row ws parts.1))
+    blank_row (w ++ tail ws) (row_append w (tail ws) parts.0 (tail_row ws parts.1))
 
 -- words that are seen are a row
-pub words-row : (w : List ℕ) (ws : List (List ℕ)) → is_row w ≡ true → list_all is_row ws ≡ true → is_row (join_with_byte 0x20 (w ∷ ws)) ≡ true
-words-row w ws first more = ap is_row (join-tail w ws) ∙ row-append w (tail ws) first (tail-row ws more)
+pub words_row : (w : List ℕ) (ws : List (List ℕ)) → is_row w ≡ true → list_all is_row ws ≡ true → is_row (join_with_byte 0x20 (w ∷ ws)) ≡ true
+words_row w ws first more = ap is_row (join_tail w ws) ∙ row_append w (tail ws) first (tail_row ws more)
 
 -- the weight of a modifier word
 abbrev pub weight_by : List ℕ → Option ℕ
@@ -81,8 +81,8 @@ line-with end w = refl
 pub says_by : (w : List ℕ) (ws : List (List ℕ)) (telling : Telling) → is_word_text w ≡ true → list_all is_row ws ≡ true → ((end : Place) (word left : List Placed) → bytes left ≡ tail ws → line_with w end (word, left) ≡ Ok (tells telling)) → Says (join_with_byte 0x20 (w ∷ ws)) telling
 unfolding said_from
 says_by w ws telling word more by_word = record {
-  plain = words-row w ws (word-row w word) more;
-  says = λ end items e. at end items (first_word items w (tail ws) (e ∙ join-tail w ws) word (tail-behind ws));
+  plain = words_row w ws (word_row w word) more;
+  says = λ end items e. at end items (first_word items w (tail ws) (e ∙ join_tail w ws) word (tail_behind ws));
 }
   where
     at : (end : Place) (items : List Placed) → WordIs (word_at items) w (tail ws) → SaysAt end items telling

@@ -7,53 +7,53 @@ use Rattle.key_syms.specs.Kinds.{FUNCTION}
 use Rattle.key_syms.specs.Laws.{NamesAreTheirOwn}
 use Rattle.key_syms.specs.Names.{name_text}
 use Rattle.key_text.specs.FaultKinds.{BAD_TEXT}
-use Rattle.key_text.specs.Fields.{ended, function_at, keyword_at, string_at, text_at}
+use Rattle.key_text.specs.Fields.{end_of_line, function_at, keyword_at, string_at, text_at}
 use Rattle.key_text.specs.Lines.{string_line, tells}
 use Rattle.key_text.specs.Quoted.{text_of}
 use Rattle.key_text.specs.KeymapLine.{string}
 use Rattle.key_text.specs.Words.{bytes, next, spot}
 use Rattle.key_text.specs.declared.placed.Place.{Place}
 use Rattle.key_text.specs.declared.placed.Placed.{Placed}
-use Rattle.key_dump.specs.Dump.{quoted, string_words}
-use Rattle.key_dump.proofs.NamedWords.{name-word}
-use Rattle.key_dump.proofs.QuotedWords.{AreBytes, quoted-of, quoted-row, text-of}
-use Rattle.key_dump.proofs.ReadFields.{Reads, ended-read, function-read, keyword-read, next-is, tail}
-use Rattle.key_dump.proofs.RowsSay.{says_by, word-row}
+use Rattle.key_dump.specs.Dump.{quoted_text, string_words}
+use Rattle.key_dump.proofs.NamedWords.{name_word}
+use Rattle.key_dump.proofs.QuotedWords.{AreBytes, quoted_text_of, quoted_text_row, text-of}
+use Rattle.key_dump.proofs.ReadFields.{Reads, end_of_line_read, function_read, keyword_read, next_is, tail}
+use Rattle.key_dump.proofs.RowsSay.{says_by, word_row}
 use Rattle.key_dump.proofs.TextRows.{Says, is_row}
 
-text-by : (end : Place) (items w left : List Placed) (text : List ℕ) → next BAD_TEXT end items ≡ Ok (w, left) → text_of w ≡ Some text → text_at end items ≡ Ok (text, spot w, left)
+text_by : (end : Place) (items w left : List Placed) (text : List ℕ) → next BAD_TEXT end items ≡ Ok (w, left) → text_of w ≡ Some text → text_at end items ≡ Ok (text, spot w, left)
 unfolding text_at
-text-by end items w left text e1 e2 = rw (e1, e2) refl
+text_by end items w left text e1 e2 = rw (e1, e2) refl
 
-short-by : (end : Place) (items left : List Placed) (text : List ℕ) (at : Place) → text_at end items ≡ Ok (text, at, left) → leb (length text) 255 ≡ true → string_at end items ≡ Ok (text, left)
+short_by : (end : Place) (items left : List Placed) (text : List ℕ) (at : Place) → text_at end items ≡ Ok (text, at, left) → leb (length text) 255 ≡ true → string_at end items ≡ Ok (text, left)
 unfolding string_at
-short-by end items left text at e1 e2 = rw (e1, e2) refl
+short_by end items left text at e1 e2 = rw (e1, e2) refl
 
-string-read : (end : Place) (items : List Placed) (text : List ℕ) (ws : List (List ℕ)) → AreBytes text → length text ≤ 255 → bytes items ≡ tail (quoted text ∷ ws) → Reads (string_at end items) text ws
-string-read end items text ws are short e =
-    let w = quoted-of items text ws e are in
+string_read : (end : Place) (items : List Placed) (text : List ℕ) (ws : List (List ℕ)) → AreBytes text → length text ≤ 255 → bytes items ≡ tail (quoted_text text ∷ ws) → Reads (string_at end items) text ws
+string_read end items text ws are short e =
+    let w = quoted_text_of items text ws e are in
     record {
       left = w.left;
       is =
-          short-by end items w.left text (spot w.word)
-          (text-by end items w.word w.left text (next-is BAD_TEXT end items (quoted text) (tail ws) w) (text-of w.word text w.spells are))
+          short_by end items w.left text (spot w.word)
+          (text_by end items w.word w.left text (next_is BAD_TEXT end items (quoted_text text) (tail ws) w) (text-of w.word text w.spells are))
           (le-leb (length text) 255 short);
       leaves = w.leaves;
     }
 
-string-by : (end : Place) (items : List Placed) (i : ℕ) (text : List ℕ) (p q r : List Placed) → function_at end items ≡ Ok (i, p) → keyword_at (codes "=") end p ≡ Ok q → string_at end q ≡ Ok (text, r) → ended r ≡ Ok tt → string_line end items ≡ Ok (tells (string i text))
+string_by : (end : Place) (items : List Placed) (i : ℕ) (text : List ℕ) (p q r : List Placed) → function_at end items ≡ Ok (i, p) → keyword_at (codes "=") end p ≡ Ok q → string_at end q ≡ Ok (text, r) → end_of_line r ≡ Ok tt → string_line end items ≡ Ok (tells (string i text))
 unfolding string_line
-string-by end items i text p q r e1 e2 e3 e4 = rw (e1, e2, e3, e4) refl
+string_by end items i text p q r e1 e2 e3 e4 = rw (e1, e2, e3, e4) refl
 
 -- the row of a string
 pub string_says : NamesAreTheirOwn → (i : ℕ) (text : List ℕ) → i < 256 → AreBytes text → length text ≤ 255 → Says (join_with_byte 0x20 (string_words i text)) (string i text)
 string_says own i text low are short =
     let name = name_text (act FUNCTION i) in
-    says_by (codes "string") (name ∷ codes "=" ∷ quoted text ∷ []) (string i text) refl
-    (and_from (is_row name) _ (word-row name (name-word (act FUNCTION i)))
-    (and_from (is_row (quoted text)) true (quoted-row text are) refl))
+    says_by (codes "string") (name ∷ codes "=" ∷ quoted_text text ∷ []) (string i text) refl
+    (and_from (is_row name) _ (word_row name (name_word (act FUNCTION i)))
+    (and_from (is_row (quoted_text text)) true (quoted_text_row text are) refl))
     (λ end word left leaves.
-    let func = function-read own end left i (codes "=" ∷ quoted text ∷ []) low leaves in
-    let equals = keyword-read (codes "=") end func.left (quoted text ∷ []) refl refl func.leaves in
-    let bytes_of = string-read end equals.left text [] are short equals.leaves in
-    string-by end left i text func.left equals.left bytes_of.left func.is equals.is bytes_of.is (ended-read bytes_of.left bytes_of.leaves))
+    let func = function_read own end left i (codes "=" ∷ quoted_text text ∷ []) low leaves in
+    let equals = keyword_read (codes "=") end func.left (quoted_text text ∷ []) refl refl func.leaves in
+    let bytes_of = string_read end equals.left text [] are short equals.leaves in
+    string_by end left i text func.left equals.left bytes_of.left func.is equals.is bytes_of.is (end_of_line_read bytes_of.left bytes_of.leaves))

@@ -4,8 +4,8 @@ use Rattle.std.proofs.lemmas.Bool.{and_from, and_left, and_parts, and_right, leb
 use Rattle.std.specs.List.{flat_map, join_with_byte}
 use Rattle.key_text.specs.Fault.{◌>>=◌}
 use Rattle.key_text.specs.Lines.{tells, said_from}
-use Rattle.key_text.specs.Reading.{Deeper, Got, blamed, given, got, lines_of, most_deep, read_row, read_row_by, read_rows, start, with_lines, within}
-use Rattle.key_text.specs.Rows.{Row, after, backslash, begins_end, begins_lf, carriage_return, joined, line_feed, next_line, place_of, placed, put_at, row_of, rows, rows_of, with_item}
+use Rattle.key_text.specs.Reading.{Deeper, Got, at_outer_include, got_from_row, make_got, lines_of, most_deep, read_row, read_row_by, read_rows, start, with_lines, within}
+use Rattle.key_text.specs.Rows.{Row, after, backslash, begins_end, begins_lf, carriage_return, join_continuations, line_feed, next_line, place_of, with_places, put_at, row_of, rows, rows_of, with_item}
 use Rattle.key_text.specs.KeymapLine.{Telling, KeymapLine}
 use Rattle.key_text.specs.View.{keymap_line}
 use Rattle.key_text.specs.Words.{bytes, spot, word_at}
@@ -37,37 +37,37 @@ bytes-spread : (at : Place) (row : List ℕ) → bytes (spread at row) ≡ row
 bytes-spread at [] = refl
 bytes-spread at (b ∷ bs) = ap (λ rest. b ∷ rest) (bytes-spread (after at) bs)
 
-seen-low : (b : ℕ) → is_seen b ≡ true → 0x20 ≤ b
-seen-low b e = leb-true 0x20 b (and_parts (leb 0x20 b) (leb b 0x7E) e).0
+seen_low : (b : ℕ) → is_seen b ≡ true → 0x20 ≤ b
+seen_low b e = leb-true 0x20 b (and_parts (leb 0x20 b) (leb b 0x7E) e).0
 
-seen-no_lf : (b : ℕ) → is_seen b ≡ true → (b == line_feed) ≡ false
-seen-no_lf b e = let low = seen-low b e in ne_eqb b line_feed (λ (same : b ≡ line_feed). omega arith)
+seen_no_lf : (b : ℕ) → is_seen b ≡ true → (b == line_feed) ≡ false
+seen_no_lf b e = let low = seen_low b e in ne_eqb b line_feed (λ (same : b ≡ line_feed). omega arith)
 
-seen-no_cr : (b : ℕ) → is_seen b ≡ true → (b == carriage_return) ≡ false
-seen-no_cr b e = let low = seen-low b e in ne_eqb b carriage_return (λ (same : b ≡ carriage_return). omega arith)
+seen_no_cr : (b : ℕ) → is_seen b ≡ true → (b == carriage_return) ≡ false
+seen_no_cr b e = let low = seen_low b e in ne_eqb b carriage_return (λ (same : b ≡ carriage_return). omega arith)
 
-joined-plain : (p : Placed) (ps : List Placed) → (p.byte == backslash && begins_end ps) ≡ false → (p.byte == carriage_return && begins_lf ps) ≡ false → joined (p ∷ ps) ≡ p ∷ joined ps
-joined-plain p ps no_join no_end = rw (no_join, no_end) refl
+join_continuations_plain : (p : Placed) (ps : List Placed) → (p.byte == backslash && begins_end ps) ≡ false → (p.byte == carriage_return && begins_lf ps) ≡ false → join_continuations (p ∷ ps) ≡ p ∷ join_continuations ps
+join_continuations_plain p ps no_join no_end = rw (no_join, no_end) refl
 
-stays : (at : Place) (b : ℕ) (bs rest : List ℕ) → goes_on b bs ≡ true → is_row bs ≡ true → (b == backslash && begins_end (placed at (bs ++ 0x0A ∷ rest))) ≡ false
-stays at b [] rest on row = and_left (b == backslash) (begins_end (placed at (0x0A ∷ rest))) (not-true (b == backslash) on)
+stays : (at : Place) (b : ℕ) (bs rest : List ℕ) → goes_on b bs ≡ true → is_row bs ≡ true → (b == backslash && begins_end (with_places at (bs ++ 0x0A ∷ rest))) ≡ false
+stays at b [] rest on row = and_left (b == backslash) (begins_end (with_places at (0x0A ∷ rest))) (not-true (b == backslash) on)
 stays at b (c ∷ cs) rest on row =
     let seen = (and_parts (is_seen c) (goes_on c cs && is_row cs) row).0 in
-    and_right (b == backslash) (begins_end (placed at (c ∷ (cs ++ 0x0A ∷ rest))))
-    (or_from (c == line_feed) (c == carriage_return && _) (seen-no_lf c seen) (and_left (c == carriage_return) _ (seen-no_cr c seen)))
+    and_right (b == backslash) (begins_end (with_places at (c ∷ (cs ++ 0x0A ∷ rest))))
+    (or_from (c == line_feed) (c == carriage_return && _) (seen_no_lf c seen) (and_left (c == carriage_return) _ (seen_no_cr c seen)))
 
 -- the first row of a text, and the rows of what follows it
-row_first : (at : Place) (row rest : List ℕ) → is_row row ≡ true → rows at (joined (placed at (row ++ 0x0A ∷ rest))) ≡ row_of (spread at row) (past at row) ∷ rows (next_line (past at row)) (joined (placed (next_line (past at row)) rest))
+row_first : (at : Place) (row rest : List ℕ) → is_row row ≡ true → rows at (join_continuations (with_places at (row ++ 0x0A ∷ rest))) ≡ row_of (spread at row) (past at row) ∷ rows (next_line (past at row)) (join_continuations (with_places (next_line (past at row)) rest))
 row_first at [] rest e = refl
 row_first at (b ∷ bs) rest e =
     let parts = and_parts (is_seen b) (goes_on b bs && is_row bs) e in
     let more = and_parts (goes_on b bs) (is_row bs) parts.1 in
-    let lf = seen-no_lf b parts.0 in
+    let lf = seen_no_lf b parts.0 in
     let p = put_at at b in
-    let ps = placed (after at) (bs ++ 0x0A ∷ rest) in
-    ap (λ place. rows at (joined (p ∷ placed place (bs ++ 0x0A ∷ rest)))) (ap (λ t. cond t (next_line at) (after at)) lf)
-    ∙ ap (rows at) (joined-plain p ps (stays (after at) b bs rest more.0 more.1) (and_left (b == carriage_return) (begins_lf ps) (seen-no_cr b parts.0)))
-    ∙ ap (λ t. cond t (row_of [] (place_of p) ∷ rows (next_line (place_of p)) (joined ps)) (with_item p (rows (after (place_of p)) (joined ps)))) lf
+    let ps = with_places (after at) (bs ++ 0x0A ∷ rest) in
+    ap (λ place. rows at (join_continuations (p ∷ with_places place (bs ++ 0x0A ∷ rest)))) (ap (λ t. cond t (next_line at) (after at)) lf)
+    ∙ ap (rows at) (join_continuations_plain p ps (stays (after at) b bs rest more.0 more.1) (and_left (b == carriage_return) (begins_lf ps) (seen_no_cr b parts.0)))
+    ∙ ap (λ t. cond t (row_of [] (place_of p) ∷ rows (next_line (place_of p)) (join_continuations ps)) (with_item p (rows (after (place_of p)) (join_continuations ps)))) lf
     ∙ ap (with_item p) (row_first (after at) bs rest more.1)
 
 -- these items of a row are read as this line
@@ -89,51 +89,51 @@ AllSay [] (telling ∷ tellings) = ⊥
 AllSay (row ∷ rs) [] = ⊥
 AllSay (row ∷ rs) (telling ∷ tellings) = Says (join_with_byte 0x20 row) telling × AllSay rs tellings
 
-pub all_say-append : (xs ys : List (List (List ℕ))) (us vs : List Telling) → AllSay xs us → AllSay ys vs → AllSay (xs ++ ys) (us ++ vs)
-all_say-append [] ys [] vs p q = q
-all_say-append [] ys (u ∷ us) vs p q = absurd p
-all_say-append (x ∷ xs) ys [] vs p q = absurd p
-all_say-append (x ∷ xs) ys (u ∷ us) vs p q = (p.0, all_say-append xs ys us vs p.1 q)
+pub all_say_append : (xs ys : List (List (List ℕ))) (us vs : List Telling) → AllSay xs us → AllSay ys vs → AllSay (xs ++ ys) (us ++ vs)
+all_say_append [] ys [] vs p q = q
+all_say_append [] ys (u ∷ us) vs p q = absurd p
+all_say_append (x ∷ xs) ys [] vs p q = absurd p
+all_say_append (x ∷ xs) ys (u ∷ us) vs p q = (p.0, all_say_append xs ys us vs p.1 q)
 
 -- lines that were read tell this
 pub record LinesTell (read : Result Got KeyFault) (tellings : List Telling) : Type 0 where
   pub lines : List KeymapLine
-  pub is : read ≡ Ok (got lines 0)
+  pub is : read ≡ Ok (make_got lines 0)
   pub tell : map (λ l. l.telling) lines ≡ tellings
 
-read_row-says : (deeper : Deeper) (end : Place) (items : List Placed) (telling : Telling) (says : SaysAt end items telling) → read_row deeper [] None 0 end items ≡ Ok (got (keymap_line telling (spot says.word).line (spot says.word).column ∷ []) 0)
+read_row_says : (deeper : Deeper) (end : Place) (items : List Placed) (telling : Telling) (says : SaysAt end items telling) → read_row deeper [] None 0 end items ≡ Ok (make_got (keymap_line telling (spot says.word).line (spot says.word).column ∷ []) 0)
 unfolding read_row
-read_row-says deeper end items telling says =
+read_row_says deeper end items telling says =
     ap (read_row_by deeper [] None 0 end) says.found
-    ∙ ap (λ read. blamed None read >>= λ said. given deeper [] None (spot says.word) 0 said) says.said
+    ∙ ap (λ read. at_outer_include None read >>= λ said. got_from_row deeper [] None (spot says.word) 0 said) says.said
 
-no_row : (deeper : Deeper) (at : Place) → read_rows deeper [] None 0 (rows at (joined (placed at []))) ≡ Ok (got [] 0)
+no_row : (deeper : Deeper) (at : Place) → read_rows deeper [] None 0 (rows at (join_continuations (with_places at []))) ≡ Ok (make_got [] 0)
 unfolding read_row word_at
 no_row deeper at = refl
 
-one_row : (deeper : Deeper) (end : Place) (items : List Placed) (left : List Row) (telling : KeymapLine) (lines : List KeymapLine) → read_row deeper [] None 0 end items ≡ Ok (got (telling ∷ []) 0) → read_rows deeper [] None 0 left ≡ Ok (got lines 0) → read_rows deeper [] None 0 (row_of items end ∷ left) ≡ Ok (got (telling ∷ lines) 0)
+one_row : (deeper : Deeper) (end : Place) (items : List Placed) (left : List Row) (telling : KeymapLine) (lines : List KeymapLine) → read_row deeper [] None 0 end items ≡ Ok (make_got (telling ∷ []) 0) → read_rows deeper [] None 0 left ≡ Ok (make_got lines 0) → read_rows deeper [] None 0 (row_of items end ∷ left) ≡ Ok (make_got (telling ∷ lines) 0)
 one_row deeper end items left telling lines first more =
     ap (λ read. read >>= λ g. with_lines g.lines (read_rows deeper [] None g.count left)) first
     ∙ ap (with_lines (telling ∷ [])) more
 
-rows-read : (deeper : Deeper) (at : Place) (rs : List (List (List ℕ))) (tellings : List Telling) → AllSay rs tellings → LinesTell (read_rows deeper [] None 0 (rows at (joined (placed at (flat_map row_text rs))))) tellings
-rows-read deeper at [] [] said = record { lines = []; is = no_row deeper at; tell = refl }
-rows-read deeper at [] (telling ∷ tellings) said = absurd said
-rows-read deeper at (ws ∷ rs) [] said = absurd said
-rows-read deeper at (ws ∷ rs) (telling ∷ tellings) said =
+rows_read : (deeper : Deeper) (at : Place) (rs : List (List (List ℕ))) (tellings : List Telling) → AllSay rs tellings → LinesTell (read_rows deeper [] None 0 (rows at (join_continuations (with_places at (flat_map row_text rs))))) tellings
+rows_read deeper at [] [] said = record { lines = []; is = no_row deeper at; tell = refl }
+rows_read deeper at [] (telling ∷ tellings) said = absurd said
+rows_read deeper at (ws ∷ rs) [] said = absurd said
+rows_read deeper at (ws ∷ rs) (telling ∷ tellings) said =
     let row = join_with_byte 0x20 ws in
     let rest = flat_map row_text rs in
     let next = next_line (past at row) in
     let says = said.0.says (past at row) (spread at row) (bytes-spread at row) in
-    let more = rows-read deeper next rs tellings said.1 in
+    let more = rows_read deeper next rs tellings said.1 in
     let line = keymap_line telling (spot says.word).line (spot says.word).column in
     record {
       lines = line ∷ more.lines;
       is =
-          ap (λ text. read_rows deeper [] None 0 (rows at (joined (placed at text)))) (append_assoc row (codes "\n") rest)
+          ap (λ text. read_rows deeper [] None 0 (rows at (join_continuations (with_places at text)))) (append_assoc row (codes "\n") rest)
           ∙ ap (read_rows deeper [] None 0) (row_first at row rest said.0.plain)
-          ∙ one_row deeper (past at row) (spread at row) (rows next (joined (placed next rest))) line more.lines
-          (read_row-says deeper (past at row) (spread at row) telling says) more.is;
+          ∙ one_row deeper (past at row) (spread at row) (rows next (join_continuations (with_places next rest))) line more.lines
+          (read_row_says deeper (past at row) (spread at row) telling says) more.is;
       tell = ap (λ ts. telling ∷ ts) more.tell;
     }
 
@@ -143,10 +143,10 @@ pub record TextTells (text : List ℕ) (tellings : List Telling) : Type 0 where
   pub is : lines_of [] text ≡ Ok lines
   pub tell : map (λ l. l.telling) lines ≡ tellings
 
-pub text-read : (rs : List (List (List ℕ))) (tellings : List Telling) → AllSay rs tellings → TextTells (flat_map row_text rs) tellings
+pub text_read : (rs : List (List (List ℕ))) (tellings : List Telling) → AllSay rs tellings → TextTells (flat_map row_text rs) tellings
 unfolding lines_of rows_of
-text-read rs tellings said =
-    let read = rows-read (within most_deep []) start rs tellings said in
+text_read rs tellings said =
+    let read = rows_read (within most_deep []) start rs tellings said in
     record {
       lines = read.lines;
       is = ap (λ r. r >>= λ g. Ok g.lines) read.is;
@@ -154,13 +154,13 @@ text-read rs tellings said =
     }
 
 -- a row of two parts
-pub row-append : (a b : List ℕ) → is_row a ≡ true → is_row b ≡ true → is_row (a ++ b) ≡ true
-row-append [] b p q = q
-row-append (x ∷ xs) b p q =
+pub row_append : (a b : List ℕ) → is_row a ≡ true → is_row b ≡ true → is_row (a ++ b) ≡ true
+row_append [] b p q = q
+row_append (x ∷ xs) b p q =
     let parts = and_parts (is_seen x) (goes_on x xs && is_row xs) p in
     let more = and_parts (goes_on x xs) (is_row xs) parts.1 in
     and_from (is_seen x) (goes_on x (xs ++ b) && is_row (xs ++ b)) parts.0
-    (and_from (goes_on x (xs ++ b)) (is_row (xs ++ b)) (on x xs b more.0) (row-append xs b more.1 q))
+    (and_from (goes_on x (xs ++ b)) (is_row (xs ++ b)) (on x xs b more.0) (row_append xs b more.1 q))
   where
     on : (x : ℕ) (xs b : List ℕ) → goes_on x xs ≡ true → goes_on x (xs ++ b) ≡ true
     on x [] [] e = e

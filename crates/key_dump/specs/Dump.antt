@@ -50,17 +50,17 @@ abbrev pub octal_escape : ℕ → List ℕ
 octal_escape b = 0x5C ∷ (0x30 + b / 64) ∷ (0x30 + b / 8 % 8) ∷ (0x30 + b % 8) ∷ []
 
 -- a byte between quotes
-abbrev pub escaped : ℕ → List ℕ
-escaped b = cond (is_plain b) (b ∷ []) (octal_escape b)
+abbrev pub escape_of : ℕ → List ℕ
+escape_of b = cond (is_plain b) (b ∷ []) (octal_escape b)
 
 -- a text between double quotes
-abbrev pub quoted : List ℕ → List ℕ
-quoted text = codes "\"" ++ (flat_map escaped text ++ codes "\"")
+abbrev pub quoted_text : List ℕ → List ℕ
+quoted_text text = codes "\"" ++ (flat_map escape_of text ++ codes "\"")
 
 -- `string NAME = "TEXT"`
 abbrev pub string_words : ℕ → List ℕ → List (List ℕ)
 string_words i text =
-    codes "string" ∷ name_text (act FUNCTION i) ∷ codes "=" ∷ quoted text ∷ []
+    codes "string" ∷ name_text (act FUNCTION i) ∷ codes "=" ∷ quoted_text text ∷ []
 
 -- a character by its code point
 abbrev pub code_point : ℕ → List ℕ

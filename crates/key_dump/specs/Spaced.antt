@@ -2,5 +2,5 @@
 use Rattle.std.specs.Prelude.{ℕ, List, ◌++◌, codes}
 use Rattle.std.specs.List.{flat_map}
 
-abbrev pub spaced : List (List ℕ) → List ℕ
-spaced words = flat_map (λ word. word ++ codes " ") words
+abbrev pub blank_after_each : List (List ℕ) → List ℕ
+blank_after_each words = flat_map (λ word. word ++ codes " ") words

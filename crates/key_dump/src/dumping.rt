@@ -16,7 +16,7 @@ use std::alloc::Global;
 use vt_base::{Bytes, NoMemory};
 
 // How many tables there may be, and how many function keys.
-const COUNT: usize = 256;
+const TABLE_COUNT: usize = 256;
 
 /// Whether tables can be written as a keymap text: at least one exists, and the pairs are of
 /// characters.
@@ -47,7 +47,7 @@ fn has_table(tables: &KeyTables) -> bool
     ensures { result ≡ list_any is_some tables.now.maps }
 {
     tables.stays_whole();
-    for t in 0..COUNT {
+    for t in 0..TABLE_COUNT {
         if tables.exists(t as u8) {
             return true;
         }
@@ -84,7 +84,7 @@ fn add_numbers(alloc: Global, text: &mut Bytes, tables: &KeyTables) -> Result<()
         ≡ text.old.bytes ++ join_with_byte 0x2C (map decimal (table_numbers tables.now))) }
 {
     let mut some = false;
-    for t in 0..COUNT {
+    for t in 0..TABLE_COUNT {
         if tables.exists(t as u8) {
             add_comma(alloc, text, some)?;
             add_number(alloc, text, t as u8)?;
@@ -110,7 +110,7 @@ fn add_tables(alloc: Global, text: &mut Bytes, tables: &KeyTables) -> Result<(),
         ≡ text.old.bytes ++ flat_map row_text (rows_from table_rows 0 tables.now.maps)) }
 {
     tables.stays_whole();
-    for t in 0..COUNT {
+    for t in 0..TABLE_COUNT {
         add_table(alloc, text, tables, t as u8)?;
     }
     Ok(())
@@ -122,7 +122,7 @@ fn add_strings(alloc: Global, text: &mut Bytes, tables: &KeyTables) -> Result<()
         ≡ text.old.bytes ++ flat_map row_text (rows_from string_rows 0 tables.now.funcs)) }
 {
     tables.stays_whole();
-    for i in 0..COUNT {
+    for i in 0..TABLE_COUNT {
         add_string(alloc, text, i as u8, tables.func(i as u8))?;
     }
     Ok(())

@@ -4,7 +4,7 @@ ghost use Rattle.std.specs.Option.{option_map_or};
 ghost use Rattle.key_syms.specs.Kinds.{HOLE};
 ghost use Rattle.key_tables.specs.Tables.{map_of};
 ghost use Rattle.key_dump.specs.Dump.{entry_rows, entry_words, modifier_words, row_text, table_rows};
-ghost use Rattle.key_dump.specs.Spaced.{spaced};
+ghost use Rattle.key_dump.specs.Spaced.{blank_after_each};
 
 use crate::numerals::{add, add_number};
 use key_syms::{Action, kind, name_of};
@@ -13,17 +13,22 @@ use std::alloc::Global;
 use vt_base::{Bytes, NoMemory};
 
 // One past the greatest keycode.
-const CODES: u16 = 256;
+const KEYCODES: u16 = 256;
 
 /// Adds the rows of a table, where it exists.
-pub fn add_table(alloc: Global, text: &mut Bytes, tables: &KeyTables, t: u8) -> Result<(), NoMemory>
+pub(crate) fn add_table(
+    alloc: Global,
+    text: &mut Bytes,
+    tables: &KeyTables,
+    t: u8,
+) -> Result<(), NoMemory>
     ensures { OnOk result (text.new.bytes
         ≡ text.old.bytes ++ flat_map row_text (table_rows t (map_of tables.now t))) }
 {
     if !tables.exists(t) {
         return Ok(());
     }
-    for c in 0..CODES {
+    for c in 0..KEYCODES {
         add_entry(alloc, text, t, c as u8, tables.entry(t, c as u8))?;
     }
     Ok(())
@@ -83,7 +88,7 @@ fn add_entry_row(
 
 // Adds the words of a table's modifiers, with a blank after each.
 fn add_modifiers(alloc: Global, text: &mut Bytes, t: u8) -> Result<(), NoMemory>
-    ensures { OnOk result (text.new.bytes ≡ text.old.bytes ++ spaced (modifier_words t)) }
+    ensures { OnOk result (text.new.bytes ≡ text.old.bytes ++ blank_after_each (modifier_words t)) }
 {
     if t == 0 {
         return add(alloc, text, b"plain ");

@@ -7,7 +7,7 @@ use std::alloc::Global;
 use vt_base::{Bytes, NoMemory};
 
 /// Adds bytes, with room for them.
-pub fn add(alloc: Global, text: &mut Bytes, b: &[u8]) -> Result<(), NoMemory>
+pub(crate) fn add(alloc: Global, text: &mut Bytes, b: &[u8]) -> Result<(), NoMemory>
     ensures { OnOk result (text.new.bytes ≡ text.old.bytes ++ b.now) }
 {
     text.grow(alloc, b.len())?;
@@ -16,7 +16,7 @@ pub fn add(alloc: Global, text: &mut Bytes, b: &[u8]) -> Result<(), NoMemory>
 }
 
 /// Adds a decimal number.
-pub fn add_number(alloc: Global, text: &mut Bytes, n: u8) -> Result<(), NoMemory>
+pub(crate) fn add_number(alloc: Global, text: &mut Bytes, n: u8) -> Result<(), NoMemory>
     ensures { OnOk result (text.new.bytes ≡ text.old.bytes ++ decimal n) }
 {
     let mut buffer = Buffer::new();
@@ -24,7 +24,7 @@ pub fn add_number(alloc: Global, text: &mut Bytes, n: u8) -> Result<(), NoMemory
 }
 
 /// Adds the code point of a character.
-pub fn add_code_point(alloc: Global, text: &mut Bytes, code: u16) -> Result<(), NoMemory>
+pub(crate) fn add_code_point(alloc: Global, text: &mut Bytes, code: u16) -> Result<(), NoMemory>
     ensures { OnOk result (text.new.bytes ≡ text.old.bytes ++ code_point code) }
 {
     add(

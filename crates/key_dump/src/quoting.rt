@@ -1,6 +1,6 @@
 ghost use Rattle.std.specs.Prelude.{◌≡◌, ◌++◌, [], ◌∷◌, OnOk};
 ghost use Rattle.std.specs.List.{flat_map};
-ghost use Rattle.key_dump.specs.Dump.{escaped, is_plain, octal_escape, quoted, row_text, string_rows, string_words};
+ghost use Rattle.key_dump.specs.Dump.{escape_of, is_plain, octal_escape, quoted_text, row_text, string_rows, string_words};
 
 use crate::numerals::add;
 use key_syms::{Action, kind, name_of};
@@ -8,7 +8,12 @@ use std::alloc::Global;
 use vt_base::{Bytes, NoMemory};
 
 /// Adds the row of the string of a function key, where it isn't empty.
-pub fn add_string(alloc: Global, text: &mut Bytes, i: u8, string: &[u8]) -> Result<(), NoMemory>
+pub(crate) fn add_string(
+    alloc: Global,
+    text: &mut Bytes,
+    i: u8,
+    string: &[u8],
+) -> Result<(), NoMemory>
     ensures { OnOk result (text.new.bytes
         ≡ text.old.bytes ++ flat_map row_text (string_rows i string.now)) }
 {
@@ -36,7 +41,7 @@ fn add_string_row(alloc: Global, text: &mut Bytes, i: u8, string: &[u8]) -> Resu
 
 // Adds a text as it stands between quotes.
 fn add_escaped(alloc: Global, text: &mut Bytes, string: &[u8]) -> Result<(), NoMemory>
-    ensures { OnOk result (text.new.bytes ≡ text.old.bytes ++ flat_map escaped string.now) }
+    ensures { OnOk result (text.new.bytes ≡ text.old.bytes ++ flat_map escape_of string.now) }
 {
     for b in string {
         add_byte(alloc, text, *b)?;
@@ -45,7 +50,7 @@ fn add_escaped(alloc: Global, text: &mut Bytes, string: &[u8]) -> Result<(), NoM
 }
 
 fn add_byte(alloc: Global, text: &mut Bytes, b: u8) -> Result<(), NoMemory>
-    ensures { OnOk result (text.new.bytes ≡ text.old.bytes ++ escaped b) }
+    ensures { OnOk result (text.new.bytes ≡ text.old.bytes ++ escape_of b) }
 {
     if is_plain(b) {
         return add(alloc, text, &[b]);

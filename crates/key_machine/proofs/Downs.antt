@@ -4,7 +4,7 @@ use Rattle.std.specs.Prelude.{filter, find, slice_set}
 use Rattle.std.specs.List.{list_any}
 use Rattle.std.specs.Option.{option_map}
 use Rattle.key_machine.specs.Held.{downs, downs_from, holds_modifier}
-use Rattle.key_machine.specs.Keys.{Down, down_as, is_before, is_key, is_modifier, recorded, with_key, without_key}
+use Rattle.key_machine.specs.Keys.{Down, down_as, is_before, is_key, is_modifier, recorded_action, with_key, without_key}
 use Rattle.key_machine.proofs.Places.{after, before, elsewhere, here, not-after, not-before}
 use Rattle.key_syms.specs.Act.{Act}
 
@@ -23,45 +23,45 @@ abbrev first : ℕ → Act → List Down → List Down
 first n a ds = down_as (n / 256) (n % 256) a ∷ ds
 
 -- the keys from place n on are none of those below
-none-at : (entries : List (Option Act)) (n from code : ℕ) → code < 256 → 256 * from + code < n
+none_at : (entries : List (Option Act)) (n from code : ℕ) → code < 256 → 256 * from + code < n
     → find (is_key from code) (downs_from n entries) ≡ None
-none-at [] n from code low lt = refl
-none-at (None ∷ entries) n from code low lt = none-at entries (n + 1) from code low (omega arith)
-none-at (Some a ∷ entries) n from code low lt =
-    rw (elsewhere n from code (omega arith) low) (none-at entries (n + 1) from code low (omega arith))
+none_at [] n from code low lt = refl
+none_at (None ∷ entries) n from code low lt = none_at entries (n + 1) from code low (omega arith)
+none_at (Some a ∷ entries) n from code low lt =
+    rw (elsewhere n from code (omega arith) low) (none_at entries (n + 1) from code low (omega arith))
 
-none-below : (entries : List (Option Act)) (n from code : ℕ) → code < 256 → 256 * from + code ≤ n
+none_below : (entries : List (Option Act)) (n from code : ℕ) → code < 256 → 256 * from + code ≤ n
     → filter (is_below from code) (downs_from n entries) ≡ []
-none-below [] n from code low le = refl
-none-below (None ∷ entries) n from code low le = none-below entries (n + 1) from code low (omega arith)
-none-below (Some a ∷ entries) n from code low le =
-    rw (not-before n from code le low) (none-below entries (n + 1) from code low (omega arith))
+none_below [] n from code low le = refl
+none_below (None ∷ entries) n from code low le = none_below entries (n + 1) from code low (omega arith)
+none_below (Some a ∷ entries) n from code low le =
+    rw (not-before n from code le low) (none_below entries (n + 1) from code low (omega arith))
 
-all-above : (entries : List (Option Act)) (n from code : ℕ) → code < 256 → 256 * from + code < n
+all_above : (entries : List (Option Act)) (n from code : ℕ) → code < 256 → 256 * from + code < n
     → filter (is_above from code) (downs_from n entries) ≡ downs_from n entries
-all-above [] n from code low lt = refl
-all-above (None ∷ entries) n from code low lt = all-above entries (n + 1) from code low (omega arith)
-all-above (Some a ∷ entries) n from code low lt =
-    rw (after n from code lt low) (ap (first n a) (all-above entries (n + 1) from code low (omega arith)))
+all_above [] n from code low lt = refl
+all_above (None ∷ entries) n from code low lt = all_above entries (n + 1) from code low (omega arith)
+all_above (Some a ∷ entries) n from code low lt =
+    rw (after n from code lt low) (ap (first n a) (all_above entries (n + 1) from code low (omega arith)))
 
-all-other : (entries : List (Option Act)) (n from code : ℕ) → code < 256 → 256 * from + code < n
+all_other : (entries : List (Option Act)) (n from code : ℕ) → code < 256 → 256 * from + code < n
     → filter (is_other from code) (downs_from n entries) ≡ downs_from n entries
-all-other [] n from code low lt = refl
-all-other (None ∷ entries) n from code low lt = all-other entries (n + 1) from code low (omega arith)
-all-other (Some a ∷ entries) n from code low lt =
+all_other [] n from code low lt = refl
+all_other (None ∷ entries) n from code low lt = all_other entries (n + 1) from code low (omega arith)
+all_other (Some a ∷ entries) n from code low lt =
     rw (elsewhere n from code (omega arith) low)
-    (ap (first n a) (all-other entries (n + 1) from code low (omega arith)))
+    (ap (first n a) (all_other entries (n + 1) from code low (omega arith)))
 
 -- what is found of a key, which is that of place i
-found-at : (entries : List (Option Act)) (n i from code : ℕ) → code < 256 → 256 * from + code ≡ n + i
+found_at : (entries : List (Option Act)) (n i from code : ℕ) → code < 256 → 256 * from + code ≡ n + i
     → option_map (λ (d : Down). d.action) (find (is_key from code) (downs_from n entries)) ≡ get_or entries i None
-found-at [] n i from code low is = refl
-found-at (None ∷ entries) n zero from code low is =
-    rw (none-at entries (n + 1) from code low (omega arith)) refl
-found-at (Some a ∷ entries) n zero from code low is = rw (here n from code (omega arith) low) refl
-found-at (None ∷ entries) n (suc i) from code low is = found-at entries (n + 1) i from code low (omega arith)
-found-at (Some a ∷ entries) n (suc i) from code low is =
-    rw (elsewhere n from code (omega arith) low) (found-at entries (n + 1) i from code low (omega arith))
+found_at [] n i from code low is = refl
+found_at (None ∷ entries) n zero from code low is =
+    rw (none_at entries (n + 1) from code low (omega arith)) refl
+found_at (Some a ∷ entries) n zero from code low is = rw (here n from code (omega arith) low) refl
+found_at (None ∷ entries) n (suc i) from code low is = found_at entries (n + 1) i from code low (omega arith)
+found_at (Some a ∷ entries) n (suc i) from code low is =
+    rw (elsewhere n from code (omega arith) low) (found_at entries (n + 1) i from code low (omega arith))
 
 -- a key between those before it and those after it
 abbrev placed : List Down → ℕ → ℕ → Act → List Down
@@ -69,73 +69,73 @@ placed down from code a =
     filter (is_below from code) down ++ down_as from code a ∷ filter (is_above from code) down
 
 -- the key of a place
-key-of : (n from code : ℕ) (a : Act) → code < 256 → n ≡ 256 * from + code
+key_of : (n from code : ℕ) (a : Act) → code < 256 → n ≡ 256 * from + code
     → down_as (n / 256) (n % 256) a ≡ down_as from code a
-key-of n from code a low is =
+key_of n from code a low is =
     let high : n / 256 ≡ from = omega arith in
     let rest : n % 256 ≡ code = omega arith in
     rw (high, rest) refl
 
-placed-at : (entries : List (Option Act)) (n i from code : ℕ) (a : Act) → code < 256
+placed_at : (entries : List (Option Act)) (n i from code : ℕ) (a : Act) → code < 256
     → 256 * from + code ≡ n + i → i < length entries
     → downs_from n (slice_set entries i (Some a)) ≡ placed (downs_from n entries) from code a
-placed-at [] n i from code a low is lt = absurd (omega arith)
-placed-at (None ∷ entries) n zero from code a low is lt =
-    rw (none-below entries (n + 1) from code low (omega arith), all-above entries (n + 1) from code low (omega arith))
-    (ap (λ d. d ∷ downs_from (n + 1) entries) (key-of n from code a low (omega arith)))
-placed-at (Some b ∷ entries) n zero from code a low is lt =
+placed_at [] n i from code a low is lt = absurd (omega arith)
+placed_at (None ∷ entries) n zero from code a low is lt =
+    rw (none_below entries (n + 1) from code low (omega arith), all_above entries (n + 1) from code low (omega arith))
+    (ap (λ d. d ∷ downs_from (n + 1) entries) (key_of n from code a low (omega arith)))
+placed_at (Some b ∷ entries) n zero from code a low is lt =
     rw (not-before n from code (omega arith) low, not-after n from code (omega arith) low)
-    (rw (none-below entries (n + 1) from code low (omega arith), all-above entries (n + 1) from code low (omega arith))
-    (ap (λ d. d ∷ downs_from (n + 1) entries) (key-of n from code a low (omega arith))))
-placed-at (None ∷ entries) n (suc i) from code a low is lt =
-    placed-at entries (n + 1) i from code a low (omega arith) (omega arith)
-placed-at (Some b ∷ entries) n (suc i) from code a low is lt =
+    (rw (none_below entries (n + 1) from code low (omega arith), all_above entries (n + 1) from code low (omega arith))
+    (ap (λ d. d ∷ downs_from (n + 1) entries) (key_of n from code a low (omega arith))))
+placed_at (None ∷ entries) n (suc i) from code a low is lt =
+    placed_at entries (n + 1) i from code a low (omega arith) (omega arith)
+placed_at (Some b ∷ entries) n (suc i) from code a low is lt =
     rw (before n from code (omega arith) low, not-after n from code (omega arith) low)
-    (ap (first n b) (placed-at entries (n + 1) i from code a low (omega arith) (omega arith)))
+    (ap (first n b) (placed_at entries (n + 1) i from code a low (omega arith) (omega arith)))
 
-left-at : (entries : List (Option Act)) (n i from code : ℕ) → code < 256 → 256 * from + code ≡ n + i
+left_at : (entries : List (Option Act)) (n i from code : ℕ) → code < 256 → 256 * from + code ≡ n + i
     → i < length entries
     → downs_from n (slice_set entries i None) ≡ filter (is_other from code) (downs_from n entries)
-left-at [] n i from code low is lt = absurd (omega arith)
-left-at (None ∷ entries) n zero from code low is lt =
-    sym (all-other entries (n + 1) from code low (omega arith))
-left-at (Some b ∷ entries) n zero from code low is lt =
-    rw (here n from code (omega arith) low) (sym (all-other entries (n + 1) from code low (omega arith)))
-left-at (None ∷ entries) n (suc i) from code low is lt =
-    left-at entries (n + 1) i from code low (omega arith) (omega arith)
-left-at (Some b ∷ entries) n (suc i) from code low is lt =
+left_at [] n i from code low is lt = absurd (omega arith)
+left_at (None ∷ entries) n zero from code low is lt =
+    sym (all_other entries (n + 1) from code low (omega arith))
+left_at (Some b ∷ entries) n zero from code low is lt =
+    rw (here n from code (omega arith) low) (sym (all_other entries (n + 1) from code low (omega arith)))
+left_at (None ∷ entries) n (suc i) from code low is lt =
+    left_at entries (n + 1) i from code low (omega arith) (omega arith)
+left_at (Some b ∷ entries) n (suc i) from code low is lt =
     rw (elsewhere n from code (omega arith) low)
-    (ap (first n b) (left-at entries (n + 1) i from code low (omega arith) (omega arith)))
+    (ap (first n b) (left_at entries (n + 1) i from code low (omega arith) (omega arith)))
 
-any-from : (entries : List (Option Act)) (n v : ℕ)
+any_from : (entries : List (Option Act)) (n v : ℕ)
     → list_any (λ (d : Down). is_modifier v d.action) (downs_from n entries) ≡ list_any (holds_modifier v) entries
-any-from [] n v = refl
-any-from (None ∷ entries) n v = any-from entries (n + 1) v
-any-from (Some a ∷ entries) n v = rw (any-from entries (n + 1) v) refl
+any_from [] n v = refl
+any_from (None ∷ entries) n v = any_from entries (n + 1) v
+any_from (Some a ∷ entries) n v = rw (any_from entries (n + 1) v) refl
 
-pub recorded-downs : (entries : List (Option Act)) (from code : ℕ) → code < 256
-    → recorded (downs entries) from code ≡ get_or entries (256 * from + code) None
-unfolding recorded downs
-recorded-downs entries from code low = found-at entries 0 (256 * from + code) from code low (omega arith)
+pub recorded_action-downs : (entries : List (Option Act)) (from code : ℕ) → code < 256
+    → recorded_action (downs entries) from code ≡ get_or entries (256 * from + code) None
+unfolding recorded_action downs
+recorded_action-downs entries from code low = found_at entries 0 (256 * from + code) from code low (omega arith)
 
 pub with_key-downs : (entries : List (Option Act)) (from code : ℕ) (a : Act) → code < 256
     → 256 * from + code < length entries
     → downs (slice_set entries (256 * from + code) (Some a)) ≡ with_key (downs entries) from code a
 unfolding with_key downs
 with_key-downs entries from code a low lt =
-    placed-at entries 0 (256 * from + code) from code a low (omega arith) lt
+    placed_at entries 0 (256 * from + code) from code a low (omega arith) lt
 
 pub without_key-downs : (entries : List (Option Act)) (from code : ℕ) → code < 256
     → 256 * from + code < length entries
     → downs (slice_set entries (256 * from + code) None) ≡ without_key (downs entries) from code
 unfolding without_key downs
 without_key-downs entries from code low lt =
-    left-at entries 0 (256 * from + code) from code low (omega arith) lt
+    left_at entries 0 (256 * from + code) from code low (omega arith) lt
 
-pub any-downs : (entries : List (Option Act)) (v : ℕ)
+pub any_downs : (entries : List (Option Act)) (v : ℕ)
     → list_any (λ (d : Down). is_modifier v d.action) (downs entries) ≡ list_any (holds_modifier v) entries
 unfolding downs
-any-downs entries v = any-from entries 0 v
+any_downs entries v = any_from entries 0 v
 
 -- what a proof about the entries needs
-pub ruleset entries_as_keys = (recorded-downs, with_key-downs, without_key-downs)
+pub ruleset entries_as_keys = (recorded_action-downs, with_key-downs, without_key-downs)

@@ -14,58 +14,58 @@ pub apart : (a b : ℕ) → a ≢ b → (a == b) ≡ false
 apart a b ne = grind (arith, nat_tests)
 
 -- a test of two numbers, by their order
-pub both-same : (a b c d : ℕ) → a ≡ b → c ≡ d → (a == b && c == d) ≡ true
-both-same a b c d first second = rw (eq-eqb a b first, eq-eqb c d second) refl
+pub both_same : (a b c d : ℕ) → a ≡ b → c ≡ d → (a == b && c == d) ≡ true
+both_same a b c d first second = rw (eq-eqb a b first, eq-eqb c d second) refl
 
-pub both-other : (a b c d : ℕ) → (a ≡ b → c ≢ d) → (a == b && c == d) ≡ false
-both-other a b c d other = elim (eqb_tells a b) [
+pub both_other : (a b c d : ℕ) → (a ≡ b → c ≢ d) → (a == b && c == d) ≡ false
+both_other a b c d other = elim (eqb_tells a b) [
   | inl same ↦ rw same.0 (apart c d (other same.1))
   | inr differ ↦ rw differ.0 refl
 ]
 
-pub first-before : (a b c d : ℕ) → a < b → is_before a c b d ≡ true
-first-before a b c d lt = rw (less a b lt) refl
+pub first_before : (a b c d : ℕ) → a < b → is_before a c b d ≡ true
+first_before a b c d lt = rw (less a b lt) refl
 
-pub second-before : (a b c d : ℕ) → a ≡ b → c < d → is_before a c b d ≡ true
-second-before a b c d same lt = rw (not-less a b (omega (arith, same)), eq-eqb a b same, less c d lt) refl
+pub second_before : (a b c d : ℕ) → a ≡ b → c < d → is_before a c b d ≡ true
+second_before a b c d same lt = rw (not-less a b (omega (arith, same)), eq-eqb a b same, less c d lt) refl
 
-pub first-after : (a b c d : ℕ) → b < a → is_before a c b d ≡ false
-first-after a b c d lt = rw (not-less a b (omega (arith, lt)), apart a b (λ same. omega (arith, lt, same))) refl
+pub first_after : (a b c d : ℕ) → b < a → is_before a c b d ≡ false
+first_after a b c d lt = rw (not-less a b (omega (arith, lt)), apart a b (λ same. omega (arith, lt, same))) refl
 
-pub second-after : (a b c d : ℕ) → a ≡ b → d ≤ c → is_before a c b d ≡ false
-second-after a b c d same le = rw (not-less a b (omega (arith, same)), eq-eqb a b same, not-less c d le) refl
+pub second_after : (a b c d : ℕ) → a ≡ b → d ≤ c → is_before a c b d ≡ false
+second_after a b c d same le = rw (not-less a b (omega (arith, same)), eq-eqb a b same, not-less c d le) refl
 
 -- the key of place n
 pub here : (n from code : ℕ) → n ≡ 256 * from + code → code < 256 → (n / 256 == from && n % 256 == code) ≡ true
-here n from code is low = both-same (n / 256) from (n % 256) code (omega arith) (omega arith)
+here n from code is low = both_same (n / 256) from (n % 256) code (omega arith) (omega arith)
 
 pub elsewhere : (n from code : ℕ) → n ≢ 256 * from + code → code < 256 → (n / 256 == from && n % 256 == code) ≡ false
-elsewhere n from code other low = both-other (n / 256) from (n % 256) code (λ first second. other (omega arith))
+elsewhere n from code other low = both_other (n / 256) from (n % 256) code (λ first second. other (omega arith))
 
 pub before : (n from code : ℕ) → n < 256 * from + code → code < 256 → is_before (n / 256) (n % 256) from code ≡ true
 before n from code lt low = ⊎_elim
-    (λ (first : n / 256 < from). first-before (n / 256) from (n % 256) code first)
+    (λ (first : n / 256 < from). first_before (n / 256) from (n % 256) code first)
     (λ (not_first : from ≤ n / 256).
-    second-before (n / 256) from (n % 256) code (omega arith) (omega arith))
+    second_before (n / 256) from (n % 256) code (omega arith) (omega arith))
     (cases_lt (n / 256) from)
 
 pub not-before : (n from code : ℕ) → 256 * from + code ≤ n → code < 256 → is_before (n / 256) (n % 256) from code ≡ false
 not-before n from code le low = ⊎_elim
-    (λ (first : from < n / 256). first-after (n / 256) from (n % 256) code first)
+    (λ (first : from < n / 256). first_after (n / 256) from (n % 256) code first)
     (λ (not_first : n / 256 ≤ from).
-    second-after (n / 256) from (n % 256) code (omega arith) (omega arith))
+    second_after (n / 256) from (n % 256) code (omega arith) (omega arith))
     (cases_lt from (n / 256))
 
 pub after : (n from code : ℕ) → 256 * from + code < n → code < 256 → is_before from code (n / 256) (n % 256) ≡ true
 after n from code lt low = ⊎_elim
-    (λ (first : from < n / 256). first-before from (n / 256) code (n % 256) first)
+    (λ (first : from < n / 256). first_before from (n / 256) code (n % 256) first)
     (λ (not_first : n / 256 ≤ from).
-    second-before from (n / 256) code (n % 256) (omega arith) (omega arith))
+    second_before from (n / 256) code (n % 256) (omega arith) (omega arith))
     (cases_lt from (n / 256))
 
 pub not-after : (n from code : ℕ) → n ≤ 256 * from + code → code < 256 → is_before from code (n / 256) (n % 256) ≡ false
 not-after n from code le low = ⊎_elim
-    (λ (first : n / 256 < from). first-after from (n / 256) code (n % 256) first)
+    (λ (first : n / 256 < from). first_after from (n / 256) code (n % 256) first)
     (λ (not_first : from ≤ n / 256).
-    second-after from (n / 256) code (n % 256) (omega arith) (omega arith))
+    second_after from (n / 256) code (n % 256) (omega arith) (omega arith))
     (cases_lt (n / 256) from)

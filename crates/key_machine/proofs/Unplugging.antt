@@ -11,9 +11,9 @@ none_yet : (from : ℕ) (d : Down) → stays from 0 d ≡ true
 none_yet from d =
     rw (not-less d.code 0 (omega arith)) (rw (and_right (d.from == from) false refl) refl)
 
-pub left-first : (from : ℕ) (down : List Down) → left_to from 0 down ≡ down
-left-first from [] = refl
-left-first from (d ∷ down) = rw (none_yet from d) (ap (λ (ds : List Down). d ∷ ds) (left-first from down))
+pub left_first : (from : ℕ) (down : List Down) → left_to from 0 down ≡ down
+left_first from [] = refl
+left_first from (d ∷ down) = rw (none_yet from d) (ap (λ (ds : List Down). d ∷ ds) (left_first from down))
 
 -- one key more
 stays_next : (from n : ℕ) (d : Down) → stays from (n + 1) d ≡ (stays from n d && not (is_key from n d))
@@ -37,10 +37,10 @@ filter_twice p q r both (d ∷ down) = ⊎_elim
     (λ (left : p d ≡ false). rw (both d, left) (filter_twice p q r both down))
     (cases_Bool (p d))
 
-pub left-next : (from n : ℕ) (down : List Down)
+pub left_next : (from n : ℕ) (down : List Down)
     → without_key (left_to from n down) from n ≡ left_to from (n + 1) down
 unfolding without_key
-left-next from n down =
+left_next from n down =
     filter_twice (stays from n) (λ d. not (is_key from n d)) (stays from (n + 1)) (stays_next from n) down
 
 -- below 256 are all keycodes
@@ -55,7 +55,7 @@ all_from (Some a ∷ entries) from n =
     rw other (ap (λ (ds : List Down). down_as (n / 256) (n % 256) a ∷ ds) (all_from entries from (n + 1))))
     (cases_Bool (n / 256 == from)))
 
-pub left-all : (entries : List (Option Act)) (from : ℕ)
+pub left_all : (entries : List (Option Act)) (from : ℕ)
     → left_to from 256 (downs entries) ≡ without_keyboard (downs entries) from
 unfolding downs without_keyboard
-left-all entries from = all_from entries from 0
+left_all entries from = all_from entries from 0

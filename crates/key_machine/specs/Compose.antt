@@ -11,8 +11,8 @@ pub record Typed : Type 0 where
   pub codes : List ℕ
   pub waiting : Waiting
 
-abbrev pub typed : List ℕ → Waiting → Typed
-typed codes waiting = record { codes = codes; waiting = waiting }
+abbrev pub make_typed : List ℕ → Waiting → Typed
+make_typed codes waiting = record { codes = codes; waiting = waiting }
 
 -- a character waits as accent
 abbrev pub waits : ℕ → Waiting
@@ -26,31 +26,31 @@ joined_by None accent code =
     if code == 0x20 || code == accent then accent ∷ [] else accent ∷ code ∷ []
 
 -- a character without Compose before it: with the accent that waits
-abbrev pub joined : List Pair → Option ℕ → ℕ → Typed
-joined pairs None code = typed (code ∷ []) nothing_waits
-joined pairs (Some accent) code =
-    typed (joined_by (found_in pairs accent code) accent code) nothing_waits
+abbrev pub typed_character : List Pair → Option ℕ → ℕ → Typed
+typed_character pairs None code = make_typed (code ∷ []) nothing_waits
+typed_character pairs (Some accent) code =
+    make_typed (joined_by (found_in pairs accent code) accent code) nothing_waits
 
 -- a character; the first one after Compose waits as accent in place of one that waits
 unfoldable pub character : List Pair → Waiting → ℕ → Typed
 character pairs w code =
-    if w.composing then typed [] (waits code) else joined pairs w.accent code
+    if w.composing then make_typed [] (waits code) else typed_character pairs w.accent code
 
 -- a second accent: the result of their first pair; else the accent, where both are the same; else
 -- the first goes out and the second waits
 abbrev pub accented_by : Option ℕ → ℕ → ℕ → Typed
-accented_by (Some result) accent new = typed (result ∷ []) nothing_waits
+accented_by (Some result) accent new = make_typed (result ∷ []) nothing_waits
 accented_by None accent new =
-    typed (accent ∷ []) (if accent == new then nothing_waits else waits new)
+    make_typed (accent ∷ []) (if accent == new then nothing_waits else waits new)
 
 -- a dead key without Compose before it
-abbrev pub accented : List Pair → Option ℕ → ℕ → Typed
-accented pairs None new = typed [] (waits new)
-accented pairs (Some accent) new = accented_by (found_in pairs accent new) accent new
+abbrev pub typed_dead_key : List Pair → Option ℕ → ℕ → Typed
+typed_dead_key pairs None new = make_typed [] (waits new)
+typed_dead_key pairs (Some accent) new = accented_by (found_in pairs accent new) accent new
 
 -- a dead key; after Compose its accent waits in place of one that waits
 unfoldable pub dead : List Pair → Waiting → ℕ → Typed
-dead pairs w new = if w.composing then typed [] (waits new) else accented pairs w.accent new
+dead pairs w new = if w.composing then make_typed [] (waits new) else typed_dead_key pairs w.accent new
 
 -- the accents of the dead keys: grave, acute, circumflex, tilde, diaeresis, cedilla
 unfoldable pub accent_of : ℕ → ℕ

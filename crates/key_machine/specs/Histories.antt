@@ -2,7 +2,7 @@
 use Rattle.std.specs.Prelude.{◌≡◌, ◌≢◌, ℕ, ◌≤◌, ◌==◌, ◌&&◌, Bool, false, is_some, Option, Some, None, List, [], ◌∷◌, All, IsFalse, IsTrue, if◌then◌else◌}
 use Rattle.std.specs.List.{flat_map}
 use Rattle.key_machine.specs.Bytes.{idle_bytes}
-use Rattle.key_machine.specs.Keys.{Keys, State, is_on, recorded, start_keys, table_of, unplugged, weight_of}
+use Rattle.key_machine.specs.Keys.{Keys, State, is_on, recorded_action, start_keys, table_of, after_unplug, weight_of}
 use Rattle.key_machine.specs.Numbers.{CAPS, MEDIUMRAW}
 use Rattle.key_machine.specs.Step.{action_of, key_step}
 use Rattle.key_machine.specs.declared.key_modes.KeyModes.{KeyModes}
@@ -21,7 +21,7 @@ pub record Turn : Type 0 where
   pub state : State
 
 abbrev pub keys_by : Option KeyEvent → Turn → Keys → Keys
-keys_by None t keys = unplugged t.from keys
+keys_by None t keys = after_unplug t.from keys
 keys_by (Some e) t keys = (key_step t.tables t.modes t.from e keys t.state).keys
 
 -- the keys of all keyboards after a history
@@ -44,7 +44,7 @@ last_says (t ∷ turns) before on code =
 abbrev pub DownsAreLast : Type 0
 DownsAreLast =
     (turns : List Turn) (on code : ℕ)
-    → is_some (recorded (keys_after turns start_keys).down on code) ≡ last_says turns false on code
+    → is_some (recorded_action (keys_after turns start_keys).down on code) ≡ last_says turns false on code
 
 -- where every key that went down came up again, or its keyboard went, no key is down and no modifier
 -- weighs, whatever the tables, the modes and the states were in between
@@ -63,8 +63,8 @@ looked_up tables code keys s =
 abbrev pub PressesRecord : Type 0
 PressesRecord =
     (tables : Tables) (modes : KeyModes) (from : ℕ) (e : KeyEvent) (keys : Keys) (s : State)
-    → IsTrue e.down → IsFalse (is_some (recorded keys.down from e.code))
-    → recorded (key_step tables modes from e keys s).keys.down from e.code
+    → IsTrue e.down → IsFalse (is_some (recorded_action keys.down from e.code))
+    → recorded_action (key_step tables modes from e keys s).keys.down from e.code
     ≡ Some (looked_up tables e.code keys s)
 
 -- the release of a key takes its own record and no other
@@ -73,8 +73,8 @@ ReleasesTake =
     (tables : Tables) (modes : KeyModes) (from : ℕ) (e : KeyEvent) (keys : Keys) (s : State)
     (on code : ℕ)
     → IsFalse e.down
-    → recorded (key_step tables modes from e keys s).keys.down on code
-    ≡ (if on == from && code == e.code then None else recorded keys.down on code)
+    → recorded_action (key_step tables modes from e keys s).keys.down on code
+    ≡ (if on == from && code == e.code then None else recorded_action keys.down on code)
 
 -- locks change only at a press whose action is a lock
 abbrev pub LocksStay : Type 0

@@ -43,8 +43,8 @@ abbrev pub is_before : ℕ → ℕ → ℕ → ℕ → Bool
 is_before from code from2 code2 = nat_lt from from2 || (from == from2 && nat_lt code code2)
 
 -- the action that was recorded at the press of a key, where it is down
-unfoldable pub recorded : List Down → ℕ → ℕ → Option Act
-recorded down from code = option_map (λ d. d.action) (find (is_key from code) down)
+unfoldable pub recorded_action : List Down → ℕ → ℕ → Option Act
+recorded_action down from code = option_map (λ d. d.action) (find (is_key from code) down)
 
 -- a key goes down: it stands between those before it and those after it
 unfoldable pub with_key : List Down → ℕ → ℕ → Act → List Down
@@ -60,8 +60,8 @@ without_key down from code = filter (λ d. not (is_key from code d)) down
 unfoldable pub without_keyboard : List Down → ℕ → List Down
 without_keyboard down from = filter (λ d. not (d.from == from)) down
 
-abbrev pub unplugged : ℕ → Keys → Keys
-unplugged from keys = record keys { down = without_keyboard keys.down from }
+abbrev pub after_unplug : ℕ → Keys → Keys
+after_unplug from keys = record keys { down = without_keyboard keys.down from }
 
 -- an action is this modifier
 abbrev pub is_modifier : ℕ → Act → Bool

@@ -3,7 +3,7 @@
 use Rattle.std.specs.Prelude.{ℕ, ◌+◌, ◌*◌, ◌^◌, min, Bool, true, false, ◌==◌, ◌&&◌, ◌||◌, not, is_some, unwrap_or, Option, Some, None, List, [], ◌∷◌, bit_or, bit_xor, if◌then◌else◌}
 use Rattle.key_machine.specs.Bytes.{character_bytes, characters_bytes, idle_bytes, meta_bytes, out_of, return_bytes}
 use Rattle.key_machine.specs.Compose.{Typed, accent_of, character, dead}
-use Rattle.key_machine.specs.Keys.{Keys, State, is_on, recorded, table_of, weight_of, with_key, without_key}
+use Rattle.key_machine.specs.Keys.{Keys, State, is_on, recorded_action, table_of, weight_of, with_key, without_key}
 use Rattle.key_machine.specs.Pads.{cursor_bytes, pad_bytes}
 use Rattle.key_machine.specs.Numbers.{BARE_NUM_LOCK, CAPS, CAPS_LOCK, CAPS_ON, COMPOSE, DECR_CONSOLE, INCR_CONSOLE, KEYBOARD_SIGNAL, LAST_CONSOLE, NUM, NUM_LOCK, RETURN, SAK, SCROLL, SCROLL_LOCK, UNICODE, XLATE}
 use Rattle.key_machine.specs.declared.key_modes.KeyModes.{KeyModes}
@@ -65,8 +65,8 @@ special modes v keys s =
     else step keys s Nothing
 
 -- what an action does, by its kind
-unfoldable pub acted : Tables → KeyModes → ℕ → Act → Keys → State → Step
-acted tables modes weight a keys s =
+unfoldable pub action_step : Tables → KeyModes → ℕ → Act → Keys → State → Step
+action_step tables modes weight a keys s =
     if a.kind == HOLE then step keys s Nothing
     else if a.kind == CHARACTER then types (character tables.pairs keys.waiting a.value) keys s
     else if a.kind == LETTER then types (character tables.pairs keys.waiting a.value) keys s
@@ -95,8 +95,8 @@ unfoldable pub keeps_sticky : Act → Bool
 keeps_sticky a = a.kind == MODIFIER || a.kind == STICKY || a.kind == HOLE
 
 -- they go off with any other action
-abbrev pub spent : Act → State → State
-spent a s = if keeps_sticky a then s else record s { sticky = 0 }
+abbrev pub after_sticky_use : Act → State → State
+after_sticky_use a s = if keeps_sticky a then s else record s { sticky = 0 }
 
 -- what a press says in one of the other modes
 abbrev pub idle_out : ℕ → ℕ → Act → KeyOut
@@ -105,10 +105,10 @@ idle_out mode code a =
     else out_of (idle_bytes mode code true)
 
 -- a press that acts
-unfoldable pub performed : Tables → KeyModes → ℕ → Act → ℕ → Keys → State → Step
-performed tables modes weight a code keys s =
-    let done = acted tables modes weight a keys s in
-    if acts_in s.mode then step done.keys (spent a done.state) done.out
+unfoldable pub acting_press_step : Tables → KeyModes → ℕ → Act → ℕ → Keys → State → Step
+acting_press_step tables modes weight a code keys s =
+    let done = action_step tables modes weight a keys s in
+    if acts_in s.mode then step done.keys (after_sticky_use a done.state) done.out
     else step keys s (idle_out s.mode code a)
 
 -- the specials that change a flag
@@ -124,13 +124,13 @@ repeats a =
 
 -- a key goes down: it is recorded with its action, unless that same keyboard holds it down already.
 -- Then it repeats: its action is looked up again, and what is recorded stays
-unfoldable pub pressed : Tables → KeyModes → ℕ → ℕ → Keys → State → Step
-pressed tables modes from code keys s =
+unfoldable pub press_step : Tables → KeyModes → ℕ → ℕ → Keys → State → Step
+press_step tables modes from code keys s =
     let weight = weight_of keys.down in
     let a = action_of tables (table_of weight s) (is_on s.flags CAPS) code in
-    if not (is_some (recorded keys.down from code)) then
-    performed tables modes weight a code (record keys { down = with_key keys.down from code a }) s
-    else if modes.repeat && repeats a then performed tables modes weight a code keys s
+    if not (is_some (recorded_action keys.down from code)) then
+    acting_press_step tables modes weight a code (record keys { down = with_key keys.down from code a }) s
+    else if modes.repeat && repeats a then acting_press_step tables modes weight a code keys s
     else step keys s (out_of (idle_bytes s.mode code true))
 
 -- the number that Ascii keys have begun goes out as a character, without an accent
@@ -144,14 +144,14 @@ was_modifier None = false
 was_modifier (Some a) = a.kind == MODIFIER
 
 -- a key goes up: where it was a modifier by its record, the number goes out
-unfoldable pub released : ℕ → ℕ → Keys → State → Step
-released from code keys s =
+unfoldable pub release_step : ℕ → ℕ → Keys → State → Step
+release_step from code keys s =
     let up = record keys { down = without_key keys.down from code } in
-    if acts_in s.mode && was_modifier (recorded keys.down from code) then
+    if acts_in s.mode && was_modifier (recorded_action keys.down from code) then
     step (record up { number = None }) s (out_of (number_bytes s.mode keys.number))
     else step up s (out_of (idle_bytes s.mode code false))
 
 -- one key event of a keyboard
 abbrev pub key_step : Tables → KeyModes → ℕ → KeyEvent → Keys → State → Step
 key_step tables modes from e keys s =
-    if e.down then pressed tables modes from e.code keys s else released from e.code keys s
+    if e.down then press_step tables modes from e.code keys s else release_step from e.code keys s

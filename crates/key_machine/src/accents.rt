@@ -11,7 +11,7 @@ const SPACE: u16 = 0x20;
 
 /// The characters that go out.
 #[derive(Clone, Copy, Debug, PartialEq, Eq)]
-pub(crate) enum Codes {
+pub(crate) enum TypedCodes {
     Zero,
     One(u16),
     Two(u16, u16),
@@ -19,29 +19,29 @@ pub(crate) enum Codes {
 
 /// A character is typed.
 #[tactic(auto, unfolding(crate::specs::Compose::character))]
-pub(crate) fn character(t: &KeyTables, waiting: Waiting, code: u16) -> (Codes, Waiting)
+pub(crate) fn character(t: &KeyTables, waiting: Waiting, code: u16) -> (TypedCodes, Waiting)
     ensures { typed_of result.0 result.1 ≡ character t.now.pairs waiting code }
 {
     if waiting.composing {
-        return (Codes::Zero, Waiting::accent(code));
+        return (TypedCodes::Zero, Waiting::accent(code));
     }
     match waiting.accent {
-        None => (Codes::One(code), Waiting::nothing()),
+        None => (TypedCodes::One(code), Waiting::nothing()),
         Some(before) => (join(t.find(before, code), before, code), Waiting::nothing()),
     }
 }
 
 // What an accent and a character make, where the pair has this result.
-fn join(pair: Option<u16>, accent: u16, code: u16) -> Codes
+fn join(pair: Option<u16>, accent: u16, code: u16) -> TypedCodes
     ensures { codes_of result ≡ joined_by pair accent code }
 {
     match pair {
-        Some(made) => Codes::One(made),
+        Some(made) => TypedCodes::One(made),
         None => {
             if code == SPACE || code == accent {
-                Codes::One(accent)
+                TypedCodes::One(accent)
             } else {
-                Codes::Two(accent, code)
+                TypedCodes::Two(accent, code)
             }
         }
     }
@@ -49,17 +49,17 @@ fn join(pair: Option<u16>, accent: u16, code: u16) -> Codes
 
 /// A dead key with this accent is typed.
 #[tactic(auto, unfolding(crate::specs::Compose::dead))]
-pub(crate) fn dead(t: &KeyTables, waiting: Waiting, new: u16) -> (Codes, Waiting)
+pub(crate) fn dead(t: &KeyTables, waiting: Waiting, new: u16) -> (TypedCodes, Waiting)
     ensures { typed_of result.0 result.1 ≡ dead t.now.pairs waiting new }
 {
     if waiting.composing {
-        return (Codes::Zero, Waiting::accent(new));
+        return (TypedCodes::Zero, Waiting::accent(new));
     }
     match waiting.accent {
-        None => (Codes::Zero, Waiting::accent(new)),
+        None => (TypedCodes::Zero, Waiting::accent(new)),
         Some(before) => match t.find(before, new) {
-            Some(made) => (Codes::One(made), Waiting::nothing()),
-            None => (Codes::One(before), second(before, new)),
+            Some(made) => (TypedCodes::One(made), Waiting::nothing()),
+            None => (TypedCodes::One(before), second(before, new)),
         },
     }
 }

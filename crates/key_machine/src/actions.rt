@@ -2,7 +2,7 @@ ghost use Rattle.std.specs.Prelude.{◌≡◌, ◌≤◌, ◌^◌, [], ◌∷◌
 ghost use Rattle.key_machine.specs.Bytes.{idle_bytes, out_of};
 ghost use Rattle.key_machine.specs.Keys.{is_on, table_of};
 ghost use Rattle.key_machine.specs.Numbers.{NUM};
-ghost use Rattle.key_machine.specs.Step.{action_of, acts_in, changes_flag, flips, idle_out, keeps_sticky, repeats, spent};
+ghost use Rattle.key_machine.specs.Step.{action_of, acts_in, changes_flag, flips, idle_out, keeps_sticky, repeats, after_sticky_use};
 
 use crate::bytes::{code_bytes, sent};
 use crate::{KbState, KeyBytes, KeyOut, flag, mode, special};
@@ -100,7 +100,7 @@ pub(crate) fn table_of(weight: u8, s: &KbState) -> u8
 
 /// The sticky modifiers go with an action.
 pub(crate) fn spend(a: Action, s: &mut KbState)
-    ensures { s.new ≡ spent a s.old }
+    ensures { s.new ≡ after_sticky_use a s.old }
 {
     if !keeps_sticky(a) {
         s.sticky = 0;

@@ -2,7 +2,7 @@ ghost use Rattle.std.specs.Prelude.{◌≡◌, ◌≤◌, ◌+◌, ◌++◌, len
 ghost use Rattle.key_machine.specs.Bytes.{character_bytes, characters_bytes, code_bytes, meta_bytes, out_of, return_bytes};
 ghost use Rattle.key_machine.specs.Codes.{codes_of};
 
-use crate::accents::Codes;
+use crate::accents::TypedCodes;
 use crate::{KeyBytes, KeyOut, meta, mode};
 
 /// The bytes go out, where there are any.
@@ -16,14 +16,14 @@ pub(crate) fn sent(bytes: KeyBytes) -> KeyOut
 }
 
 /// The bytes of characters in a mode.
-pub(crate) fn characters_bytes(mode: u8, codes: Codes) -> KeyBytes
+pub(crate) fn characters_bytes(mode: u8, codes: TypedCodes) -> KeyBytes
     ensures { result ≡ characters_bytes mode (codes_of codes) }
 {
     let mut bytes = KeyBytes::new();
     match codes {
-        Codes::Zero => {}
-        Codes::One(code) => add(&mut bytes, mode, code),
-        Codes::Two(first, second) => {
+        TypedCodes::Zero => {}
+        TypedCodes::One(code) => add(&mut bytes, mode, code),
+        TypedCodes::Two(first, second) => {
             add(&mut bytes, mode, first);
             add(&mut bytes, mode, second);
         }

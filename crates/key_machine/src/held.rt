@@ -1,24 +1,24 @@
 ghost use Rattle.std.specs.Prelude.{◌≡◌, ◌<◌, ◌+◌, ◌*◌, [], None, cond, is_some, nat_lt, IfSome};
 ghost use Rattle.key_machine.specs.Held.{left_to, modifier_of};
-ghost use Rattle.key_machine.specs.Keys.{recorded, weight_of, with_key, without_key, without_keyboard};
+ghost use Rattle.key_machine.specs.Keys.{recorded_action, weight_of, with_key, without_key, without_keyboard};
 ghost use Rattle.key_machine.specs.Step.{was_modifier};
 
 use key_syms::{Action, kind};
 use std::marker::Model;
 
 /// The keycodes of a keyboard, from 0 on.
-const CODES: usize = 256;
+const KEYCODES: usize = 256;
 
 /// The keys that are down on all keyboards, each with the action of its press.
 #[derive(Debug, Drop)]
-pub(crate) struct Held {
+pub(crate) struct HeldKeys {
     // By keyboard and keycode.
     entries: [Option<Action>; 1024],
     // How many keys are down as each modifier.
     counts: [u16; 8],
 }
 
-impl Model for Held {
+impl Model for HeldKeys {
     ghost use Rattle.std.specs.Prelude.{List};
     ghost use Rattle.key_machine.specs.Held.{IsCounted, downs};
     ghost use Rattle.key_machine.specs.Keys.{Down};
@@ -30,12 +30,12 @@ impl Model for Held {
     ghost invariant = { λ h. IsCounted h.entries h.counts };
 }
 
-impl Held {
+impl HeldKeys {
     #[tactic(auto, unfolding(crate::specs::Held::downs))]
-    pub(crate) fn none() -> Held
+    pub(crate) fn none() -> HeldKeys
         ensures { result ≡ [] }
     {
-        Held {
+        HeldKeys {
             entries: [None; 1024],
             counts: [0; 8],
         }
@@ -44,7 +44,7 @@ impl Held {
     #[tactic(auto, using(crate::proofs::Downs::entries_as_keys))]
     pub(crate) fn is_down(&self, from: u8, code: u8) -> bool
         requires { from < 4 }
-        ensures { result ≡ is_some (recorded self.now from code) }
+        ensures { result ≡ is_some (recorded_action self.now from code) }
     {
         self.entries[place(from, code)].is_some()
     }
@@ -53,7 +53,7 @@ impl Held {
     #[tactic(auto, using(crate::proofs::Downs::entries_as_keys))]
     pub(crate) fn press(&mut self, from: u8, code: u8, a: Action)
         requires keyboard { from < 4 }
-        requires up { recorded self.old from code ≡ None }
+        requires up { recorded_action self.old from code ≡ None }
         ensures { self.new ≡ with_key self.old from code a }
     {
         self.entries[place(from, code)] = Some(a);
@@ -66,7 +66,7 @@ impl Held {
     #[tactic(auto, using(crate::proofs::Downs::entries_as_keys))]
     pub(crate) fn release(&mut self, from: u8, code: u8) -> bool
         requires { from < 4 }
-        ensures was { result ≡ was_modifier (recorded self.old from code) }
+        ensures was { result ≡ was_modifier (recorded_action self.old from code) }
         ensures up { self.new ≡ without_key self.old from code }
     {
         let at = place(from, code);
@@ -88,7 +88,7 @@ impl Held {
         ensures { self.new ≡ without_keyboard self.old from }
     {
         self.has_bytes(from);
-        for code in 0..CODES {
+        for code in 0..KEYCODES {
             let _ = self.release(from, code as u8);
         }
     }
@@ -122,7 +122,7 @@ fn place(from: u8, code: u8) -> usize
     ensures place { result ≡ 256 * from + code }
     ensures high { result < 1024 }
 {
-    CODES * usize::from(from) + usize::from(code)
+    KEYCODES * usize::from(from) + usize::from(code)
 }
 
 // Which modifier an action is.

@@ -1,7 +1,7 @@
 ghost use Rattle.std.specs.Prelude.{◌≡◌, ◌<◌, ◌≤◌, Some, None};
 ghost use Rattle.key_machine.specs.Compose.{accent_of, character, dead};
-ghost use Rattle.key_machine.specs.Keys.{start_keys, unplugged};
-ghost use Rattle.key_machine.specs.Step.{acted, key_step, number_bytes, number_with, performed, pressed, released, special, step, types};
+ghost use Rattle.key_machine.specs.Keys.{start_keys, after_unplug};
+ghost use Rattle.key_machine.specs.Step.{action_step, key_step, number_bytes, number_with, acting_press_step, press_step, release_step, special, step, types};
 
 use crate::accents::{accent_of, character, dead};
 use crate::actions::{
@@ -9,7 +9,7 @@ use crate::actions::{
     table_of,
 };
 use crate::bytes::{add, characters_bytes, meta_bytes, return_bytes, sent};
-use crate::held::Held;
+use crate::held::HeldKeys;
 use crate::pad::{cursor_bytes, function_bytes, pad_bytes};
 use crate::waiting::Waiting;
 use crate::{KbState, KeyBytes, KeyModes, KeyOut, flag, special};
@@ -22,7 +22,7 @@ use std::marker::Model;
 /// press, and what waits for the next key. A key takes no memory, and the same time whatever is down.
 #[derive(Debug, Drop)]
 pub struct Keyboard {
-    held: Held,
+    held: HeldKeys,
     waiting: Waiting,
     number: Option<u16>,
 }
@@ -41,7 +41,7 @@ impl Keyboard {
         ensures { result ≡ start_keys }
     {
         Keyboard {
-            held: Held::none(),
+            held: HeldKeys::none(),
             waiting: Waiting::nothing(),
             number: None,
         }
@@ -72,16 +72,16 @@ impl Keyboard {
     /// the number and the other keyboards' keys stay. It looks at every keycode.
     pub fn unplug(&mut self, from: u8)
         requires { from < 4 }
-        ensures { self.new ≡ unplugged from self.old }
+        ensures { self.new ≡ after_unplug from self.old }
     {
         self.held.unplug(from);
     }
 
     // A key goes down. That its weight is taken before it is recorded is part of the rule.
-    #[tactic(auto, unfolding(crate::specs::Step::pressed))]
+    #[tactic(auto, unfolding(crate::specs::Step::press_step))]
     fn press(&mut self, from: u8, code: u8, t: &KeyTables, s: &mut KbState, m: KeyModes) -> KeyOut
         requires { from < 4 }
-        ensures { pressed t.now m from code self.old s.old ≡ step self.new s.new result }
+        ensures { press_step t.now m from code self.old s.old ≡ step self.new s.new result }
     {
         let weight = self.held.weight();
         let a = action_of(t, table_of(weight, s), is_on(s.flags, flag::CAPS), code);
@@ -96,10 +96,10 @@ impl Keyboard {
     }
 
     // A key goes up.
-    #[tactic(auto, unfolding(crate::specs::Step::released))]
+    #[tactic(auto, unfolding(crate::specs::Step::release_step))]
     fn release(&mut self, from: u8, code: u8, s: &KbState) -> KeyOut
         requires { from < 4 }
-        ensures { released from code self.old s.now ≡ step self.new s.now result }
+        ensures { release_step from code self.old s.now ≡ step self.new s.now result }
     {
         let was_modifier = self.held.release(from, code);
         if acts_in(s.mode) && was_modifier {
@@ -110,7 +110,7 @@ impl Keyboard {
     }
 
     // An action of a key that goes down or repeats.
-    #[tactic(auto, unfolding(crate::specs::Step::performed))]
+    #[tactic(auto, unfolding(crate::specs::Step::acting_press_step))]
     fn perform(
         &mut self,
         code: u8,
@@ -120,7 +120,7 @@ impl Keyboard {
         s: &mut KbState,
         m: KeyModes,
     ) -> KeyOut
-        ensures { performed t.now m weight a code self.old s.old ≡ step self.new s.new result }
+        ensures { acting_press_step t.now m weight a code self.old s.old ≡ step self.new s.new result }
     {
         if !acts_in(s.mode) {
             return idle_out(s.mode, code, a);
@@ -131,9 +131,9 @@ impl Keyboard {
     }
 
     // What an action does, by its kind.
-    #[tactic(auto, unfolding(crate::specs::Step::acted))]
+    #[tactic(auto, unfolding(crate::specs::Step::action_step))]
     fn act(&mut self, a: Action, weight: u8, t: &KeyTables, s: &mut KbState, m: KeyModes) -> KeyOut
-        ensures { acted t.now m weight a self.old s.old ≡ step self.new s.new result }
+        ensures { action_step t.now m weight a self.old s.old ≡ step self.new s.new result }
     {
         let v = a.value;
         match a.kind {

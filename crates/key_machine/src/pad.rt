@@ -7,7 +7,7 @@ use crate::{KeyBytes, KeyModes, cursor, flag, function};
 use key_tables::KeyTables;
 
 /// KP_Enter.
-pub const ENTER: u16 = 14;
+pub(crate) const ENTER: u16 = 14;
 
 // The letters of the pad's keys with DECPAM, by the values of the keys.
 static LETTERS: [u8; 17] = *b"pqrstuvwxylSRQMnn";

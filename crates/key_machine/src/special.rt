@@ -1,37 +1,37 @@
 //! The special actions that do something, by the values of docs/KEYS.md.
 
 /// CR.
-pub const RETURN: u16 = 1;
+pub(crate) const RETURN: u16 = 1;
 
 /// The flag Caps changes.
-pub const CAPS_LOCK: u16 = 2;
+pub(crate) const CAPS_LOCK: u16 = 2;
 
 /// The flag Num changes, or PF1 of the pad is sent.
-pub const NUM_LOCK: u16 = 3;
+pub(crate) const NUM_LOCK: u16 = 3;
 
 /// The flag Scroll changes.
-pub const SCROLL_LOCK: u16 = 4;
+pub(crate) const SCROLL_LOCK: u16 = 4;
 
 /// A switch to the console that was in front before.
-pub const LAST_CONSOLE: u16 = 5;
+pub(crate) const LAST_CONSOLE: u16 = 5;
 
 /// A switch to the next console.
-pub const INCR_CONSOLE: u16 = 6;
+pub(crate) const INCR_CONSOLE: u16 = 6;
 
 /// A switch to the console before.
-pub const DECR_CONSOLE: u16 = 7;
+pub(crate) const DECR_CONSOLE: u16 = 7;
 
 /// A signal to the process that accepts it.
-pub const KEYBOARD_SIGNAL: u16 = 8;
+pub(crate) const KEYBOARD_SIGNAL: u16 = 8;
 
 /// The secure attention key.
-pub const SAK: u16 = 9;
+pub(crate) const SAK: u16 = 9;
 
 /// The next character waits as accent.
-pub const COMPOSE: u16 = 10;
+pub(crate) const COMPOSE: u16 = 10;
 
 /// The flag Num changes.
-pub const BARE_NUM_LOCK: u16 = 11;
+pub(crate) const BARE_NUM_LOCK: u16 = 11;
 
 /// The flag Caps is set.
-pub const CAPS_ON: u16 = 12;
+pub(crate) const CAPS_ON: u16 = 12;

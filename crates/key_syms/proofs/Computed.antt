@@ -21,19 +21,19 @@ pub length-names : length names ≡ NAME_COUNT
 unfolding symbols names
 length-names = refl
 
-pub names-lie : lie_at names STARTS LENGTHS 0 NAMES ≡ true
+pub names_lie : lie_at names STARTS LENGTHS 0 NAMES ≡ true
 unfolding symbols names digits
-names-lie = refl
+names_lie = refl
 
-pub names-rise : rises (map (λ p. get_or names p []) ORDER) ≡ true
+pub names_rise : rises (map (λ p. get_or names p []) ORDER) ≡ true
 unfolding symbols names digits
-names-rise = refl
+names_rise = refl
 
-pub ranks-within : list_all (λ p. ltb p NAME_COUNT) ORDER ≡ true
-ranks-within = refl
+pub ranks_within : list_all (λ p. ltb p NAME_COUNT) ORDER ≡ true
+ranks_within = refl
 
-pub ranks-all : counts_among 0 NAME_COUNT ORDER ≡ true
-ranks-all = refl
+pub ranks_all : counts_among 0 NAME_COUNT ORDER ≡ true
+ranks_all = refl
 
 -- the symbols have these kinds and values, which are actions, and short names of ASCII
 abbrev pub acts_are : List Symbol → List ℕ → List ℕ → Bool
@@ -44,14 +44,14 @@ acts_are (s ∷ rows) (k ∷ kinds) (v ∷ values) =
     same_act s.act (act k v) && (is_action k v && (leb (length s.name) 32
     && (list_all (λ b. ltb b 128) s.name && acts_are rows kinds values)))
 
-pub symbols-acts : acts_are symbols KINDS VALUES ≡ true
+pub symbols_acts : acts_are symbols KINDS VALUES ≡ true
 unfolding symbols digits
-symbols-acts = refl
+symbols_acts = refl
 
-pub names-packed : NamesArePacked
+pub names_packed : NamesArePacked
 unfolding symbols digits
-names-packed = refl
+names_packed = refl
 
-pub acts-packed : ActsArePacked
+pub acts_packed : ActsArePacked
 unfolding symbols digits
-acts-packed = (refl, refl)
+acts_packed = (refl, refl)

@@ -9,7 +9,7 @@ use Rattle.std.specs.Ordering.{is_eq, nat_cmp, ordering_reverse}
 use Rattle.std.specs.declared.cmp.Ordering.TheVariants.{Less, Equal, Greater}
 use Rattle.key_syms.specs.Index.{name_at, place_of_rank}
 use Rattle.key_syms.specs.declared.table.TheConstants.{NAME_COUNT}
-use Rattle.key_syms.proofs.Places.{apart_from, rank-of, ranks-in_order}
+use Rattle.key_syms.proofs.Places.{apart_from, rank_of, ranks_in_order}
 use Rattle.key_syms.proofs.Ranks.{IsBefore}
 
 abbrev pub ranked : ℕ → List ℕ
@@ -22,17 +22,9 @@ pub record IsLeft (name : List ℕ) (low high : ℕ) : Type 0 where
   pub below : (rank : ℕ) → rank < low → IsBefore (ranked rank) name
   pub above : (rank : ℕ) → high ≤ rank → rank < NAME_COUNT → IsBefore name (ranked rank)
 
-pub all_left : (name : List ℕ) → IsLeft name 0 NAME_COUNT
-all_left name = record {
-  order = omega arith;
-  bound = omega arith;
-  below = λ rank h. absurd (omega arith);
-  above = λ rank h k. absurd (omega arith);
-}
-
 upto_middle : (name : List ℕ) (middle : ℕ) → middle < NAME_COUNT → IsBefore (ranked middle) name → (rank : ℕ) → rank < middle + 1 → IsBefore (ranked rank) name
 upto_middle name middle h before rank k = elim (cases_lt rank middle) [
-  | inl lt ↦ nat_list_cmp_total.trans (ranked rank) (ranked middle) name (ranks-in_order rank middle lt h) before
+  | inl lt ↦ nat_list_cmp_total.trans (ranked rank) (ranked middle) name (ranks_in_order rank middle lt h) before
   | inr ge ↦ let same : middle ≡ rank = omega arith in subst (λ (r : ℕ). IsBefore (ranked r) name) same before
 ]
 
@@ -46,7 +38,7 @@ left_above name low high middle left h k before = record {
 
 from_middle : (name : List ℕ) (middle : ℕ) → middle < NAME_COUNT → IsBefore name (ranked middle) → (rank : ℕ) → middle ≤ rank → rank < NAME_COUNT → IsBefore name (ranked rank)
 from_middle name middle h after rank k within = elim (cases_lt middle rank) [
-  | inl lt ↦ nat_list_cmp_total.trans name (ranked middle) (ranked rank) after (ranks-in_order middle rank lt within)
+  | inl lt ↦ nat_list_cmp_total.trans name (ranked middle) (ranked rank) after (ranks_in_order middle rank lt within)
   | inr ge ↦ let same : middle ≡ rank = omega arith in subst (λ (r : ℕ). IsBefore name (ranked r)) same after
 ]
 
@@ -61,7 +53,7 @@ left_below name low high middle left h k after = record {
 
 pub none_left : (name : List ℕ) (low high : ℕ) → IsLeft name low high → high ≤ low → (place : ℕ) → place < NAME_COUNT → name_at place ≡ name → ⊥
 none_left name low high left done place h e =
-    let rank = rank-of place h in
+    let rank = rank_of place h in
     let same : ranked rank.0 ≡ name = ap name_at rank.2 ∙ e in
     elim (cases_lt rank.0 low) [
       | inl lt ↦ apart_from _ _ same (left.below rank.0 lt)

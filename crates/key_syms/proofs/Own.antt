@@ -9,14 +9,14 @@ use Rattle.std.specs.Option.{option_and_then, option_map, option_or}
 use Rattle.std.specs.Str.{bytes_eq}
 use Rattle.key_syms.specs.Act.{Act, act, is_action, is_character}
 use Rattle.key_syms.specs.Laws.{CodePointsAreTheirOwn, NamesAreTheirOwn}
-use Rattle.key_syms.specs.Names.{code_name, code_point, first_name, hex4, hex_digit, listed, name_text, same_act, small_number, symbol, unlisted}
-use Rattle.key_syms.specs.Numbers.{digit_in, passing, spelled}
+use Rattle.key_syms.specs.Names.{code_name, code_point, first_name, hex4, hex_digit, listed_action, name_text, same_act, small_number, symbol, unlisted_action}
+use Rattle.key_syms.specs.Numbers.{digit_in, number_if, number_in_base}
 use Rattle.key_syms.specs.Symbols.{Symbol, symbols}
 use Rattle.key_syms.specs.declared.table.TheConstants.{NAME_COUNT}
 use Rattle.key_syms.proofs.Computed.{length-symbols}
-use Rattle.key_syms.proofs.Listed.{find-at}
+use Rattle.key_syms.proofs.Listed.{find_at}
 use Rattle.key_syms.proofs.Named.{is_named, named_or_character}
-use Rattle.key_syms.proofs.Rows.{listed-found, no_symbol, row, row-name, row_at, same_act-true}
+use Rattle.key_syms.proofs.Rows.{listed_action_found, no_symbol, row, row_name, row_at, same_act-true}
 
 -- the first item that passes, or that none does
 pub data Search {X : Type 0} (test : X → Bool) (xs : List X) (d : X) : Type 0 where
@@ -72,17 +72,17 @@ unlisted_code (s ∷ rows) name e code =
     by_first first rest true same = absurd (false≢true (sym (not-true (is_code s.name) first) ∙ ap is_code ((bytes_eq-Decides s.name name).0 same) ∙ code))
     by_first first rest false other = rw other rest
 
-code-listed : (name : List ℕ) → is_code name ≡ true → listed symbols name ≡ None
+code_listed_action : (name : List ℕ) → is_code name ≡ true → listed_action symbols name ≡ None
 unfolding no_codes
-code-listed name code = ap (option_map (λ (s : Symbol). s.act)) (unlisted_code symbols name symbols-no_codes code)
+code_listed_action name code = ap (option_map (λ (s : Symbol). s.act)) (unlisted_code symbols name symbols-no_codes code)
 
-code-symbol : (name : List ℕ) → is_code name ≡ true → symbol name ≡ unlisted name
+code_symbol : (name : List ℕ) → is_code name ≡ true → symbol name ≡ unlisted_action name
 unfolding symbol
-code-symbol name code = ap (λ x. option_or x (unlisted name)) (code-listed name code)
+code_symbol name code = ap (λ x. option_or x (unlisted_action name)) (code_listed_action name code)
 
 -- a hexadecimal digit is read back
-digit-back : (d : ℕ) → d < 16 → digit_in 16 (hex_digit d) ≡ Some d
-digit-back d h = elim (cases_lt d 10) [
+digit_back : (d : ℕ) → d < 16 → digit_in 16 (hex_digit d) ≡ Some d
+digit_back d h = elim (cases_lt d 10) [
   | inl low ↦ rw (lt-ltb d 10 low) (low_digit d low)
   | inr high ↦ rw (le-ltb d 10 high) (high_digit d high h)
 ]
@@ -93,12 +93,12 @@ digit-back d h = elim (cases_lt d 10) [
     high_digit : (d : ℕ) → 10 ≤ d → d < 16 → digit_in 16 (0x37 + d) ≡ Some d
     high_digit d h k = grind (arith, nat_tests)
 
-four-back : (a b c d : ℕ) → a < 16 → b < 16 → c < 16 → d < 16 → spelled 16 (hex_digit a ∷ hex_digit b ∷ hex_digit c ∷ hex_digit d ∷ []) ≡ Some ((((0 + a) * 16 + b) * 16 + c) * 16 + d)
-four-back a b c d ha hb hc hd = rw (digit-back a ha, digit-back b hb, digit-back c hc, digit-back d hd) refl
+four_back : (a b c d : ℕ) → a < 16 → b < 16 → c < 16 → d < 16 → number_in_base 16 (hex_digit a ∷ hex_digit b ∷ hex_digit c ∷ hex_digit d ∷ []) ≡ Some ((((0 + a) * 16 + b) * 16 + c) * 16 + d)
+four_back a b c d ha hb hc hd = rw (digit_back a ha, digit_back b hb, digit_back c hc, digit_back d hd) refl
 
-pub hex4-back : (n : ℕ) → n < 65536 → spelled 16 (hex4 n) ≡ Some n
-hex4-back n h =
-    four-back (n / 4096 % 16) (n / 256 % 16) (n / 16 % 16) (n % 16) (omega arith) (omega arith) (omega arith) (omega arith)
+pub hex4_back : (n : ℕ) → n < 65536 → number_in_base 16 (hex4 n) ≡ Some n
+hex4_back n h =
+    four_back (n / 4096 % 16) (n / 256 % 16) (n / 16 % 16) (n % 16) (omega arith) (omega arith) (omega arith) (omega arith)
     ∙ ap Some (digits n h)
   where
     digits : (n : ℕ) → n < 65536 → (((0 + n / 4096 % 16) * 16 + n / 256 % 16) * 16 + n / 16 % 16) * 16 + n % 16 ≡ n
@@ -107,26 +107,26 @@ hex4-back n h =
 is_small : (n : ℕ) → is_character n ≡ true → n < 65536
 is_small n e = omega (arith, leb-true n 65535 (and_parts (leb n 65535) _ e).0)
 
-code_point-back : (n : ℕ) → is_character n ≡ true → code_point (codes "U+" ++ hex4 n) ≡ Some n
-code_point-back n e =
-    ap (option_and_then (passing is_character)) (hex4-back n (is_small n e))
+code_point_back : (n : ℕ) → is_character n ≡ true → code_point (codes "U+" ++ hex4 n) ≡ Some n
+code_point_back n e =
+    ap (option_and_then (number_if is_character)) (hex4_back n (is_small n e))
     ∙ ap (λ t. cond t (Some n) None) e
 
 pub code_points_are_their_own : CodePointsAreTheirOwn
 code_points_are_their_own n e =
-    code-symbol (codes "U+" ++ hex4 n) refl
-    ∙ ap (λ x. option_map (act 1) (option_or x (small_number (codes "U+" ++ hex4 n)))) (code_point-back n e)
+    code_symbol (codes "U+" ++ hex4 n) refl
+    ∙ ap (λ x. option_map (act 1) (option_or x (small_number (codes "U+" ++ hex4 n)))) (code_point_back n e)
 
-letter-back : (n : ℕ) → is_character n ≡ true → symbol (codes "+U+" ++ hex4 n) ≡ Some (act 2 n)
-letter-back n e =
-    code-symbol (codes "+U+" ++ hex4 n) refl
-    ∙ ap (option_map (act 2)) (code_point-back n e)
+letter_back : (n : ℕ) → is_character n ≡ true → symbol (codes "+U+" ++ hex4 n) ≡ Some (act 2 n)
+letter_back n e =
+    code_symbol (codes "+U+" ++ hex4 n) refl
+    ∙ ap (option_map (act 2)) (code_point_back n e)
 
-code_name-back : (a : Act) → ((a.kind ≡ 1) ⊎ (a.kind ≡ 2)) → is_character a.value ≡ true → symbol (code_name a) ≡ Some a
-code_name-back a (inl character) e =
+code_name_back : (a : Act) → ((a.kind ≡ 1) ⊎ (a.kind ≡ 2)) → is_character a.value ≡ true → symbol (code_name a) ≡ Some a
+code_name_back a (inl character) e =
     subst (λ (k : ℕ). symbol (code_name (act k a.value)) ≡ Some (act k a.value)) (sym character) (code_points_are_their_own a.value e)
-code_name-back a (inr letter) e =
-    subst (λ (k : ℕ). symbol (code_name (act k a.value)) ≡ Some (act k a.value)) (sym letter) (letter-back a.value e)
+code_name_back a (inr letter) e =
+    subst (λ (k : ℕ). symbol (code_name (act k a.value)) ≡ Some (act k a.value)) (sym letter) (letter_back a.value e)
 
 -- an action that a row has
 found_back : (a : Act) (k : ℕ) → k < length symbols → same_act (row_at k).act a ≡ true → ((j : ℕ) → j < k → same_act (row_at j).act a ≡ false) → symbol (name_text a) ≡ Some a
@@ -134,11 +134,11 @@ unfolding name_text symbol
 found_back a k h same before =
     let test : Symbol → Bool = λ s. same_act s.act a in
     let place : k < NAME_COUNT = subst (λ (n : ℕ). k < n) length-symbols h in
-    let name : first_name symbols a ≡ Some (row_at k).name = ap (option_map (λ (s : Symbol). s.name)) (find-at test symbols no_symbol k h same before) in
-    let back : listed symbols (row_at k).name ≡ Some a =
-    listed-found (row_at k).name k place (row-name k place) ∙ ap Some (sym (row k place).action ∙ same_act-true _ _ same) in
+    let name : first_name symbols a ≡ Some (row_at k).name = ap (option_map (λ (s : Symbol). s.name)) (find_at test symbols no_symbol k h same before) in
+    let back : listed_action symbols (row_at k).name ≡ Some a =
+    listed_action_found (row_at k).name k place (row_name k place) ∙ ap Some (sym (row k place).action ∙ same_act-true _ _ same) in
     ap (λ x. symbol (unwrap_or x (code_name a))) name
-    ∙ ap (λ x. option_or x (unlisted (row_at k).name)) back
+    ∙ ap (λ x. option_or x (unlisted_action (row_at k).name)) back
 
 -- an action that no row has
 missing_back : (a : Act) → is_action a.kind a.value ≡ true → list_any (λ s. same_act s.act a) symbols ≡ false → symbol (name_text a) ≡ Some a
@@ -147,7 +147,7 @@ missing_back a e none =
     ap (λ x. symbol (unwrap_or (option_map (λ (s : Symbol). s.name) x) (code_name a))) (find-missing (λ s. same_act s.act a) symbols none)
     ∙ elim (named_or_character a.kind a.value e) [
       | inl named ↦ absurd (false≢true (sym none ∙ named))
-      | inr character ↦ code_name-back a character.0 character.1
+      | inr character ↦ code_name_back a character.0 character.1
     ]
 
 pub names_are_their_own : NamesAreTheirOwn

@@ -51,11 +51,11 @@ pub record LiesAt (text name : List ℕ) (start len : ℕ) : Type 0 where
 shorter : (k n : ℕ) → suc k < suc n → k < n
 shorter k n h = omega arith
 
-pub lie_at-each : (names : List (List ℕ)) (starts lengths : List ℕ) (from : ℕ) (text : List ℕ) → lie_at names starts lengths from (drop from text) ≡ true → (k : ℕ) → k < length names → LiesAt text (get_or names k []) (get_or starts k 0) (get_or lengths k 0)
-lie_at-each [] starts lengths from text e k h = absurd (omega arith)
-lie_at-each (name ∷ names) [] lengths from text e k h = absurd (false≢true e)
-lie_at-each (name ∷ names) (s ∷ starts) [] from text e k h = absurd (false≢true e)
-lie_at-each (name ∷ names) (s ∷ starts) (l ∷ lengths) from text e zero h =
+pub lie_at_each : (names : List (List ℕ)) (starts lengths : List ℕ) (from : ℕ) (text : List ℕ) → lie_at names starts lengths from (drop from text) ≡ true → (k : ℕ) → k < length names → LiesAt text (get_or names k []) (get_or starts k 0) (get_or lengths k 0)
+lie_at_each [] starts lengths from text e k h = absurd (omega arith)
+lie_at_each (name ∷ names) [] lengths from text e k h = absurd (false≢true e)
+lie_at_each (name ∷ names) (s ∷ starts) [] from text e k h = absurd (false≢true e)
+lie_at_each (name ∷ names) (s ∷ starts) (l ∷ lengths) from text e zero h =
     let first = both_of _ _ e in
     let second = both_of _ _ first.1 in
     let third = both_of _ _ second.1 in
@@ -64,12 +64,12 @@ lie_at-each (name ∷ names) (s ∷ starts) (l ∷ lengths) from text e zero h =
       spells = subst (λ (t : List ℕ). take l t ≡ name) (drop_further s from text le) ((bytes_eq-Decides _ _).0 third.0);
       within = leb-true _ _ second.0;
     }
-lie_at-each (name ∷ names) (s ∷ starts) (l ∷ lengths) from text e (suc k) h =
+lie_at_each (name ∷ names) (s ∷ starts) (l ∷ lengths) from text e (suc k) h =
     let first = both_of _ _ e in
     let second = both_of _ _ first.1 in
     let third = both_of _ _ second.1 in
     let le : from ≤ s = leb-true _ _ first.0 in
-    lie_at-each names starts lengths s text
+    lie_at_each names starts lengths s text
     (subst (λ (t : List ℕ). lie_at names starts lengths s t ≡ true) (drop_further s from text le) third.1) k (shorter k (length names) h)
 
 is_lt-Less : (o : Ordering) → is_lt o ≡ true → o ≡ Less
@@ -80,38 +80,38 @@ is_lt-Less Greater e = absurd (false≢true e)
 abbrev pub IsBefore : List ℕ → List ℕ → Type 0
 IsBefore x y = slice_cmp nat_cmp x y ≡ Less
 
-rises_from-each : (x : List ℕ) (ys : List (List ℕ)) → rises_from x ys ≡ true → (k : ℕ) → k < length ys → IsBefore x (get_or ys k [])
-rises_from-each x [] e k h = absurd (omega arith)
-rises_from-each x (y ∷ ys) e zero h = is_lt-Less _ (both_of _ _ e).0
-rises_from-each x (y ∷ ys) e (suc k) h =
+rises_from_each : (x : List ℕ) (ys : List (List ℕ)) → rises_from x ys ≡ true → (k : ℕ) → k < length ys → IsBefore x (get_or ys k [])
+rises_from_each x [] e k h = absurd (omega arith)
+rises_from_each x (y ∷ ys) e zero h = is_lt-Less _ (both_of _ _ e).0
+rises_from_each x (y ∷ ys) e (suc k) h =
     nat_list_cmp_total.trans x y (get_or ys k []) (is_lt-Less _ (both_of _ _ e).0)
-    (rises_from-each y ys (both_of _ _ e).1 k (omega arith))
+    (rises_from_each y ys (both_of _ _ e).1 k (omega arith))
 
 rises_from-rises : (x : List ℕ) (ys : List (List ℕ)) → rises_from x ys ≡ true → rises ys ≡ true
 rises_from-rises x [] e = refl
 rises_from-rises x (y ∷ ys) e = (both_of _ _ e).1
 
-pub rises-each : (xs : List (List ℕ)) → rises xs ≡ true → (i j : ℕ) → i < j → j < length xs → IsBefore (get_or xs i []) (get_or xs j [])
-rises-each [] e i j h k = absurd (omega arith)
-rises-each (x ∷ xs) e i zero h k = absurd (omega arith)
-rises-each (x ∷ xs) e zero (suc j) h k = rises_from-each x xs e j (omega arith)
-rises-each (x ∷ xs) e (suc i) (suc j) h k = rises-each xs (rises_from-rises x xs e) i j (omega arith) (omega arith)
+pub rises_each : (xs : List (List ℕ)) → rises xs ≡ true → (i j : ℕ) → i < j → j < length xs → IsBefore (get_or xs i []) (get_or xs j [])
+rises_each [] e i j h k = absurd (omega arith)
+rises_each (x ∷ xs) e i zero h k = absurd (omega arith)
+rises_each (x ∷ xs) e zero (suc j) h k = rises_from_each x xs e j (omega arith)
+rises_each (x ∷ xs) e (suc i) (suc j) h k = rises_each xs (rises_from-rises x xs e) i j (omega arith) (omega arith)
 
-pub among-rank : (j : ℕ) (items : List ℕ) → list_any (λ p. eqb p j) items ≡ true → (r : ℕ) × (r < length items) × (get_or items r 0 ≡ j)
-among-rank j [] e = absurd (false≢true e)
-among-rank j (p ∷ items) e = elim (eqb_tells p j) [
+pub among_rank : (j : ℕ) (items : List ℕ) → list_any (λ p. eqb p j) items ≡ true → (r : ℕ) × (r < length items) × (get_or items r 0 ≡ j)
+among_rank j [] e = absurd (false≢true e)
+among_rank j (p ∷ items) e = elim (eqb_tells p j) [
   | inl h ↦ (0, omega arith, h.1)
-  | inr h ↦ let rest = among-rank j items (subst (λ (b : Bool). (b || list_any (λ q. eqb q j) items) ≡ true) h.0 e) in (suc rest.0, omega arith, rest.2)
+  | inr h ↦ let rest = among_rank j items (subst (λ (b : Bool). (b || list_any (λ q. eqb q j) items) ≡ true) h.0 e) in (suc rest.0, omega arith, rest.2)
 ]
 
-pub counts_among-rank : (n from : ℕ) (items : List ℕ) → counts_among from n items ≡ true → (j : ℕ) → from ≤ j → j < from + n → (r : ℕ) × (r < length items) × (get_or items r 0 ≡ j)
-counts_among-rank zero from items e j h k = absurd (omega arith)
-counts_among-rank (suc n) from items e j h k = elim (eqb_tells from j) [
-  | inl q ↦ among-rank j items (subst (λ (i : ℕ). list_any (λ p. eqb p i) items ≡ true) q.1 (both_of _ _ e).0)
-  | inr q ↦ counts_among-rank n (suc from) items (both_of _ _ e).1 j (let ne : from ≢ j = q.1 in omega arith) (omega arith)
+pub counts_among_rank : (n from : ℕ) (items : List ℕ) → counts_among from n items ≡ true → (j : ℕ) → from ≤ j → j < from + n → (r : ℕ) × (r < length items) × (get_or items r 0 ≡ j)
+counts_among_rank zero from items e j h k = absurd (omega arith)
+counts_among_rank (suc n) from items e j h k = elim (eqb_tells from j) [
+  | inl q ↦ among_rank j items (subst (λ (i : ℕ). list_any (λ p. eqb p i) items ≡ true) q.1 (both_of _ _ e).0)
+  | inr q ↦ counts_among_rank n (suc from) items (both_of _ _ e).1 j (let ne : from ≢ j = q.1 in omega arith) (omega arith)
 ]
 
-pub list_all-each : (test : ℕ → Bool) (items : List ℕ) → list_all test items ≡ true → (k : ℕ) → k < length items → test (get_or items k 0) ≡ true
-list_all-each test [] e k h = absurd (omega arith)
-list_all-each test (x ∷ xs) e zero h = (both_of _ _ e).0
-list_all-each test (x ∷ xs) e (suc k) h = list_all-each test xs (both_of _ _ e).1 k (omega arith)
+pub list_all_each : (test : ℕ → Bool) (items : List ℕ) → list_all test items ≡ true → (k : ℕ) → k < length items → test (get_or items k 0) ≡ true
+list_all_each test [] e k h = absurd (omega arith)
+list_all_each test (x ∷ xs) e zero h = (both_of _ _ e).0
+list_all_each test (x ∷ xs) e (suc k) h = list_all_each test xs (both_of _ _ e).1 k (omega arith)

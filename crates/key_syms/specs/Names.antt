@@ -4,35 +4,35 @@ use Rattle.std.specs.List.{starts_with}
 use Rattle.std.specs.Option.{option_and_then, option_map, option_or}
 use Rattle.std.specs.Str.{bytes_eq}
 use Rattle.key_syms.specs.Act.{Act, act, is_character}
-use Rattle.key_syms.specs.Numbers.{number_of, passing, spelled}
+use Rattle.key_syms.specs.Numbers.{number_of, number_if, number_in_base}
 use Rattle.key_syms.specs.Symbols.{Symbol, symbols}
 use Rattle.key_syms.specs.Kinds.{CHARACTER, LETTER}
 
 -- the action of the first of these symbols that has the name
-abbrev pub listed : List Symbol → List ℕ → Option Act
-listed rows name = option_map (λ row. row.act) (find (λ row. bytes_eq row.name name) rows)
+abbrev pub listed_action : List Symbol → List ℕ → Option Act
+listed_action rows name = option_map (λ row. row.act) (find (λ row. bytes_eq row.name name) rows)
 
 -- the character that `U+` and four hexadecimal digits spell
 abbrev pub code_point : List ℕ → Option ℕ
 code_point name =
     cond (length name == 6 && starts_with nat_eq name (codes "U+"))
-    (option_and_then (passing is_character) (spelled 16 (drop 2 name)))
+    (option_and_then (number_if is_character) (number_in_base 16 (drop 2 name)))
     None
 
 -- the character that a number below 256 is
 abbrev pub small_number : List ℕ → Option ℕ
-small_number name = option_and_then (passing (λ n. nat_lt n 256)) (number_of name)
+small_number name = option_and_then (number_if (λ n. nat_lt n 256)) (number_of name)
 
 -- the action of a name without a row: `+U+xxxx` is a letter, `U+xxxx` and a number are characters
-abbrev pub unlisted : List ℕ → Option Act
-unlisted name =
+abbrev pub unlisted_action : List ℕ → Option Act
+unlisted_action name =
     cond (starts_with nat_eq name (codes "+"))
     (option_map (act LETTER) (code_point (drop 1 name)))
     (option_map (act CHARACTER) (option_or (code_point name) (small_number name)))
 
 -- the action that a name stands for
 unfoldable pub symbol : List ℕ → Option Act
-symbol name = option_or (listed symbols name) (unlisted name)
+symbol name = option_or (listed_action symbols name) (unlisted_action name)
 
 -- two actions are the same
 abbrev pub same_act : Act → Act → Bool

@@ -15,25 +15,25 @@ digit_of b =
     (cond (is_between 0x61 0x66 b) (Some (b - 0x57)) None))
 
 -- the number where it passes the test
-abbrev pub passing : (ℕ → Bool) → ℕ → Option ℕ
-passing test n = cond (test n) (Some n) None
+abbrev pub number_if : (ℕ → Bool) → ℕ → Option ℕ
+number_if test n = cond (test n) (Some n) None
 
 -- the value of a digit of a base
 abbrev pub digit_in : ℕ → ℕ → Option ℕ
-digit_in base b = option_and_then (passing (λ value. nat_lt value base)) (digit_of b)
+digit_in base b = option_and_then (number_if (λ value. nat_lt value base)) (digit_of b)
 
 -- a number, if there is one, with one more digit
-abbrev pub appended : ℕ → Option ℕ → ℕ → Option ℕ
-appended base number b =
+abbrev pub with_digit : ℕ → Option ℕ → ℕ → Option ℕ
+with_digit base number b =
     option_and_then (λ n. option_map (λ value. n * base + value) (digit_in base b)) number
 
 -- the number that one digit or more spell in a base, the most significant first
-abbrev pub spelled : ℕ → List ℕ → Option ℕ
-spelled base [] = None
-spelled base (b ∷ bs) = fold (appended base) (Some 0) (b ∷ bs)
+abbrev pub number_in_base : ℕ → List ℕ → Option ℕ
+number_in_base base [] = None
+number_in_base base (b ∷ bs) = fold (with_digit base) (Some 0) (b ∷ bs)
 
 -- a number: hexadecimal after 0x, octal after 0, else decimal
 abbrev pub number_of : List ℕ → Option ℕ
 number_of text =
-    cond (starts_with nat_eq text (codes "0x")) (spelled 16 (drop 2 text))
-    (cond (starts_with nat_eq text (codes "0")) (spelled 8 text) (spelled 10 text))
+    cond (starts_with nat_eq text (codes "0x")) (number_in_base 16 (drop 2 text))
+    (cond (starts_with nat_eq text (codes "0")) (number_in_base 8 text) (number_in_base 10 text))

@@ -34,12 +34,12 @@ abbrev pub own_names : ℕ → ℕ → List (List ℕ)
 own_names first n = map (λ code. code ∷ []) (range_with_len first n)
 
 -- a text with each of n numbers behind it, from the first one on
-abbrev pub numbered : List ℕ → ℕ → ℕ → List (List ℕ)
-numbered text first n = map (λ i. text ++ decimal i) (range_with_len first n)
+abbrev pub names_with_numbers : List ℕ → ℕ → ℕ → List (List ℕ)
+names_with_numbers text first n = map (λ i. text ++ decimal i) (range_with_len first n)
 
 -- the names in lower case
-abbrev pub lowered : List (List ℕ) → List (List ℕ)
-lowered names = map str_to_ascii_lowercase names
+abbrev pub lower_case_names : List (List ℕ) → List (List ℕ)
+lower_case_names names = map str_to_ascii_lowercase names
 
 -- the control characters of n letters, from the first one on
 abbrev pub control_names : ℕ → ℕ → List (List ℕ)
@@ -85,20 +85,20 @@ names_of_latin1 =
     ++ names_in (codes "onequarter onehalf threequarters questiondown")
     ++ names_from_C0 ++ names_in (codes "multiply")
     ++ names_from_D8 ++ names_in (codes "ssharp")
-    ++ lowered names_from_C0 ++ names_in (codes "division")
-    ++ lowered names_from_D8 ++ names_in (codes "ydiaeresis")
+    ++ lower_case_names names_from_C0 ++ names_in (codes "division")
+    ++ lower_case_names names_from_D8 ++ names_in (codes "ydiaeresis")
 
 -- the function keys
 abbrev pub names_of_functions : List (List ℕ)
 names_of_functions =
-    numbered (codes "F") 1 20
+    names_with_numbers (codes "F") 1 20
     ++ names_in (codes "Find Insert Remove Select Prior Next Macro Help Do Pause")
-    ++ numbered (codes "F") 21 226
+    ++ names_with_numbers (codes "F") 21 226
 
 -- the pad keys
 abbrev pub names_of_pad : List (List ℕ)
 names_of_pad =
-    numbered (codes "KP_") 0 10
+    names_with_numbers (codes "KP_") 0 10
     ++ with_before (codes "KP_")
     (names_in (codes "Add Subtract Multiply Divide Enter Comma Period"))
 
@@ -145,6 +145,6 @@ symbols =
     ++ run_of MODIFIER 0 names_of_modifiers
     ++ run_of LOCK 0 (with_after (codes "_Lock") names_of_modifiers)
     ++ run_of STICKY 0 (with_before (codes "S") names_of_modifiers)
-    ++ run_of CONSOLE 1 (numbered (codes "Console_") 1 63)
+    ++ run_of CONSOLE 1 (names_with_numbers (codes "Console_") 1 63)
     ++ run_of SPECIAL 1 names_of_specials
-    ++ run_of ASCII 0 (numbered (codes "Ascii_") 0 10)
+    ++ run_of ASCII 0 (names_with_numbers (codes "Ascii_") 0 10)

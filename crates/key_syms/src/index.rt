@@ -5,7 +5,7 @@ use crate::table::NAME_COUNT;
 
 /// Where each name starts in the table's text.
 #[rattlefmt::skip]
-pub static STARTS: [u16; NAME_COUNT] = [
+pub(crate) static STARTS: [u16; NAME_COUNT] = [
     0, 11, 15, 25, 35, 45, 55, 65, 75, 85, 95, 99, 108, 118, 128, 138, 148, 158, 168, 178, 188,
     198, 208, 218, 228, 238, 248, 258, 268, 275, 293, 314, 334, 353, 359, 366, 375, 386, 393,
     401, 411, 422, 432, 443, 452, 457, 463, 469, 476, 482, 487, 491, 495, 501, 506, 511, 515,
@@ -75,7 +75,7 @@ pub static STARTS: [u16; NAME_COUNT] = [
 
 /// How many bytes each name has.
 #[rattlefmt::skip]
-pub static LENGTHS: [u8; NAME_COUNT] = [
+pub(crate) static LENGTHS: [u8; NAME_COUNT] = [
     10, 3, 9, 9, 9, 9, 9, 9, 9, 9, 3, 8, 9, 9, 9, 9, 9, 9, 9, 9, 9, 9, 9, 9, 9, 9, 9, 9, 6, 17,
     20, 19, 18, 5, 6, 8, 10, 6, 7, 9, 10, 9, 10, 8, 4, 5, 5, 6, 5, 4, 3, 3, 5, 4, 4, 3, 5, 5, 4,
     5, 9, 4, 5, 7, 8, 2, 1, 1, 1, 1, 1, 1, 1, 1, 1, 1, 1, 1, 1, 1, 1, 1, 1, 1, 1, 1, 1, 1, 1, 1,
@@ -116,7 +116,7 @@ pub static LENGTHS: [u8; NAME_COUNT] = [
 
 /// The places of the names, in the order of their bytes.
 #[rattlefmt::skip]
-pub static ORDER: [u16; NAME_COUNT] = [
+pub(crate) static ORDER: [u16; NAME_COUNT] = [
     294, 398, 393, 394, 396, 392, 397, 395, 295, 237, 296, 399, 230, 259, 231, 257, 258, 232,
     233, 234, 235, 236, 357, 358, 359, 240, 241, 242, 243, 244, 245, 246, 247, 248, 249, 250,
     260, 251, 252, 253, 254, 255, 297, 356, 298, 408, 401, 402, 403, 400, 256, 299, 300, 301,
@@ -175,7 +175,7 @@ pub static ORDER: [u16; NAME_COUNT] = [
 
 /// The kind of each name's action.
 #[rattlefmt::skip]
-pub static KINDS: [u8; NAME_COUNT] = [
+pub(crate) static KINDS: [u8; NAME_COUNT] = [
     0, 1, 1, 1, 1, 1, 1, 1, 1, 1, 1, 1, 1, 1, 1, 1, 1, 1, 1, 1, 1, 1, 1, 1, 1, 1, 1, 1, 1, 1, 1,
     1, 1, 1, 1, 1, 1, 1, 1, 1, 1, 1, 1, 1, 1, 1, 1, 1, 1, 1, 1, 1, 1, 1, 1, 1, 1, 1, 1, 1, 1, 1,
     1, 1, 1, 1, 1, 1, 1, 1, 1, 1, 1, 1, 1, 1, 1, 1, 1, 1, 1, 1, 1, 1, 1, 1, 1, 1, 1, 1, 1, 1, 1,
@@ -214,7 +214,7 @@ pub static KINDS: [u8; NAME_COUNT] = [
 
 /// The value of each name's action.
 #[rattlefmt::skip]
-pub static VALUES: [u16; NAME_COUNT] = [
+pub(crate) static VALUES: [u16; NAME_COUNT] = [
     0, 0, 1, 2, 3, 4, 5, 6, 7, 8, 9, 10, 11, 12, 13, 14, 15, 16, 17, 18, 19, 20, 21, 22, 23, 24,
     25, 26, 27, 28, 29, 30, 31, 32, 33, 34, 35, 36, 37, 38, 39, 40, 41, 42, 43, 44, 45, 46, 47,
     48, 49, 50, 51, 52, 53, 54, 55, 56, 57, 58, 59, 60, 61, 62, 63, 64, 65, 66, 67, 68, 69, 70,

@@ -1,6 +1,6 @@
 ghost use Rattle.std.specs.Prelude.{◌≡◌, ◌<◌, ◌≤◌, min, IfSome};
 ghost use Rattle.std.specs.Option.{option_map};
-ghost use Rattle.key_syms.specs.Numbers.{digit_in, number_of, spelled};
+ghost use Rattle.key_syms.specs.Numbers.{digit_in, number_of, number_in_base};
 
 /// The number that a text spells: hexadecimal after `0x`, octal after `0`, else decimal
 /// (keymaps(5)). A number past 65,535 is given as 65,536.
@@ -20,7 +20,7 @@ pub fn number(text: &[u8]) -> Option<u32>
 pub(crate) fn digits(base: u32, text: &[u8]) -> Option<u32>
     requires some { 1 ≤ base }
     requires known { base ≤ 16 }
-    ensures { result ≡ option_map (min 65536) (spelled base text.now) }
+    ensures { result ≡ option_map (min 65536) (number_in_base base text.now) }
 {
     if text.is_empty() {
         return None;

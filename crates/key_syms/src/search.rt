@@ -6,7 +6,7 @@ use crate::table::{NAME_COUNT, NAMES, NAMES_SIZE};
 use std::cmp::Ordering;
 
 /// The place of a name in the table, found by halving the names in their order.
-pub fn place_of(name: &[u8]) -> Option<usize>
+pub(crate) fn place_of(name: &[u8]) -> Option<usize>
     ensures found { IfSome result (λ place. (place < NAME_COUNT) × (name_at place ≡ name.now)) }
     ensures missing { IfNone result
         ((place : ℕ) → place < NAME_COUNT → name_at place ≢ name.now) }
@@ -43,7 +43,7 @@ fn place_of_rank(rank: usize) -> usize
 
 /// The name at a place.
 #[tactic(auto, using(crate::proofs::Places::name_is_within), unfolding(crate::specs::Index::name_at))]
-pub fn name_at(place: usize) -> &'static [u8]
+pub(crate) fn name_at(place: usize) -> &'static [u8]
     requires { place < NAME_COUNT }
     ensures { result.now ≡ name_at place }
 {

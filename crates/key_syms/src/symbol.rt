@@ -1,8 +1,8 @@
 ghost use Rattle.std.specs.Prelude.{◌≡◌, ℕ, ◌<◌, nat_lt, min, Option, IsTrue, IfSome, slice_index};
 ghost use Rattle.std.specs.Option.{option_and_then, option_map};
 ghost use Rattle.key_syms.specs.Act.{act, is_character};
-ghost use Rattle.key_syms.specs.Names.{code_point, small_number, symbol, unlisted};
-ghost use Rattle.key_syms.specs.Numbers.{passing};
+ghost use Rattle.key_syms.specs.Names.{code_point, small_number, symbol, unlisted_action};
+ghost use Rattle.key_syms.specs.Numbers.{number_if};
 ghost use Rattle.key_syms.specs.Kinds.{CHARACTER, LETTER};
 
 use crate::action::is_character;
@@ -25,12 +25,12 @@ pub fn by_bytes(name: &[u8]) -> Option<Action>
 {
     match place_of(name) {
         Some(place) => Some(action_at(place)),
-        None => unlisted(name),
+        None => unlisted_action(name),
     }
 }
 
-fn unlisted(name: &[u8]) -> Option<Action>
-    ensures { result ≡ unlisted name.now }
+fn unlisted_action(name: &[u8]) -> Option<Action>
+    ensures { result ≡ unlisted_action name.now }
 {
     if name.starts_with(b"+".as_slice()) {
         let code = code_point(&name[1..])?;
@@ -78,7 +78,7 @@ fn code_point(name: &[u8]) -> Option<u16>
 // The character of a number, which may be given as 65,536 where it is more.
 fn character(code: Option<u32>) -> Option<u16>
     ensures value { (n : Option ℕ) → code ≡ option_map (min 65536) n
-        → result ≡ option_and_then (passing is_character) n }
+        → result ≡ option_and_then (number_if is_character) n }
     ensures real { IfSome result (λ code. IsTrue (is_character code)) }
 {
     let code = code?;
@@ -99,7 +99,7 @@ fn small_number(name: &[u8]) -> Option<u16>
 // The same for a number below 256.
 fn small(code: Option<u32>) -> Option<u16>
     ensures value { (n : Option ℕ) → code ≡ option_map (min 65536) n
-        → result ≡ option_and_then (passing (λ m. nat_lt m 256)) n }
+        → result ≡ option_and_then (number_if (λ m. nat_lt m 256)) n }
     ensures real { IfSome result (λ code. IsTrue (is_character code)) }
 {
     let code = code?;
@@ -107,7 +107,7 @@ fn small(code: Option<u32>) -> Option<u16>
 }
 
 /// The action at a place of the table.
-pub fn action_at(place: usize) -> Action
+pub(crate) fn action_at(place: usize) -> Action
     requires { place < NAME_COUNT }
     ensures { result ≡ act (slice_index KINDS place) (slice_index VALUES place) }
 {

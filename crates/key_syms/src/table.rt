@@ -1,14 +1,14 @@
 //! The names of the symbol table. Written by tools/key_index.py, and proved to be those of the definition.
 
 /// How many names there are.
-pub const NAME_COUNT: usize = 991;
+pub(crate) const NAME_COUNT: usize = 991;
 
 /// How many bytes the text of the names has.
-pub const NAMES_SIZE: usize = 7614;
+pub(crate) const NAMES_SIZE: usize = 7614;
 
 /// The names in order, with a blank behind each.
 #[rattlefmt::skip]
-pub static NAMES: [u8; NAMES_SIZE] = *b"\
+pub(crate) static NAMES: [u8; NAMES_SIZE] = *b"\
     VoidSymbol nul Control_a Control_b Control_c Control_d Control_e Control_f Control_g \
     BackSpace Tab Linefeed Control_k Control_l Control_m Control_n Control_o Control_p Control_q \
     Control_r Control_s Control_t Control_u Control_v Control_w Control_x Control_y Control_z \

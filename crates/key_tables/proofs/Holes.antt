@@ -13,10 +13,6 @@ use Rattle.key_tables.specs.Kept.{AreKept, maps_at}
 use Rattle.key_tables.specs.Tables.{AreHoles, AreMaps, IsEmpty, IsMap, IsWhole, hole, tables_of}
 use Rattle.key_tables.proofs.Places.{kept_at, kept_maps, map_at}
 
--- the map of a table that is declared or not
-abbrev pub start_map : List ℕ → ℕ → Option (List Act)
-start_map declared t = cond (list_any (λ d. d == t) declared) (Some (replicate 256 hole)) None
-
 holes_at : (c : ℕ) → slice_index_or (replicate 256 hole) c hole ≡ hole
 holes_at c = elim (cases_lt c 256) [
   | inl lt ↦ get_or-replicate 256 c hole hole lt
@@ -41,19 +37,6 @@ pub record AreBegun (declared : List ℕ) (places : List (Option ℕ)) (kept : L
   pub named : (t : ℕ) → t < n → is_some (slice_index_or places t None) ≡ list_any (λ d. d == t) declared
   pub within : (t p : ℕ) → slice_index_or places t None ≡ Some p → p < length kept
   pub own : (t u p : ℕ) → slice_index_or places t None ≡ Some p → slice_index_or places u None ≡ Some p → t ≡ u
-
-pub begun_none : (declared : List ℕ) (places : List (Option ℕ)) (kept : List (List Act)) → places ≡ [] → kept ≡ [] → AreBegun declared places kept 0
-begun_none declared places kept no_places no_tables =
-    subst (λ (xs : List (Option ℕ)). AreBegun declared xs kept 0) (sym no_places)
-    (subst (λ (xs : List (List Act)). AreBegun declared [] xs 0) (sym no_tables)
-    (record {
-      tall = refl;
-      few = omega arith;
-      holes = λ k d h. absurd (omega arith);
-      named = λ t h. absurd (omega arith);
-      within = λ t p e. absurd (none-some _ e);
-      own = λ t u p e f. absurd (none-some _ e);
-    }))
 
 -- a place behind others is one of them or the last
 place_in : (places : List (Option ℕ)) (x : Option ℕ) (t p : ℕ) → slice_index_or (places ++ x ∷ []) t None ≡ Some p → (slice_index_or places t None ≡ Some p) ⊎ ((t ≡ length places) × (x ≡ Some p))
@@ -140,17 +123,6 @@ begun_kept declared places kept is = record {
   own = is.own;
 }
 
-pub begun_holes : (declared : List ℕ) (places : List (Option ℕ)) (kept : List (List Act)) → AreBegun declared places kept 256 → AreHoles declared (maps_at places kept)
-begun_holes declared places kept is = record {
-  tall = (kept_maps places kept (begun_kept declared places kept is)).tall;
-  each = λ t h. map_at places kept t ∙ by_place t (slice_index_or places t None) refl (is.named t h);
-}
-  where
-    by_place : (t : ℕ) (o : Option ℕ) → slice_index_or places t None ≡ o → is_some o ≡ list_any (λ d. d == t) declared → option_map (kept_at kept) o ≡ start_map declared t
-    by_place t None e named = ap (λ b. cond b (Some (replicate 256 hole)) None) named
-    by_place t (Some p) e named =
-        ap Some (is.holes p [] (is.within t p e)) ∙ ap (λ b. cond b (Some (replicate 256 hole)) None) named
-
 none_named : (declared : List ℕ) (t : ℕ) → ((i : ℕ) → get_or declared i 0 < 256) → 256 ≤ t → list_any (λ d. d == t) declared ≡ false
 none_named [] t bytes h = refl
 none_named (d ∷ ds) t bytes h =
@@ -161,13 +133,13 @@ none_named (d ∷ ds) t bytes h =
     let rest : list_any (λ x. x == t) ds ≡ false = none_named ds t (λ i. bytes (suc i)) h in
     rw (apart, rest) refl
 
-start-exists : (b : Bool) → is_some (cond b (Some (replicate 256 hole)) None) ≡ b
-start-exists true = refl
-start-exists false = refl
+start_exists : (b : Bool) → is_some (cond b (Some (replicate 256 hole)) None) ≡ b
+start_exists true = refl
+start_exists false = refl
 
 exists_as : (declared : List ℕ) (maps : List (Option (List Act))) → AreHoles declared maps → ((i : ℕ) → get_or declared i 0 < 256) → (t : ℕ) → is_some (slice_index_or maps t None) ≡ list_any (λ d. d == t) declared
 exists_as declared maps holes bytes t = elim (cases_lt t 256) [
-  | inl lt ↦ ap is_some (holes.each t lt) ∙ start-exists (list_any (λ d. d == t) declared)
+  | inl lt ↦ ap is_some (holes.each t lt) ∙ start_exists (list_any (λ d. d == t) declared)
   | inr ge ↦ ap is_some (get_or_past maps t None (omega (arith, holes.tall))) ∙ sym (none_named declared t bytes ge)
 ]
 

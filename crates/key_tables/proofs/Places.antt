@@ -76,12 +76,6 @@ maps_put places kept is t p low at f x y read new =
           ∙ sym (get_or-set_other (maps_at places kept) t i put None apart.1 ∙ map_at places kept i)
     ]
 
--- where there is no table, nothing is changed
-pub maps_same : (places : List (Option ℕ)) (kept : List (List Act)) (t : ℕ) → slice_index_or places t None ≡ None → (f : List Act → List Act) → maps_at places kept ≡ slice_set (maps_at places kept) t (option_map f (slice_index_or (maps_at places kept) t None))
-maps_same places kept t at f =
-    let none : slice_index_or (maps_at places kept) t None ≡ None = map_by places kept t None at in
-    sym (ap (λ m. slice_set (maps_at places kept) t m) (ap (option_map f) none ∙ sym none) ∙ set-get_or (maps_at places kept) t None)
-
 -- the tables stay whole, where one is changed into a whole one
 pub kept_put : (places : List (Option ℕ)) (kept : List (List Act)) → AreKept places kept → (p : ℕ) (y : List Act) → IsMap y → AreKept places (slice_set kept p y)
 kept_put places kept is p y map = record {

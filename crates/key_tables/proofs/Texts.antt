@@ -5,12 +5,12 @@ use Rattle.std.specs.Option.{unwrap_or}
 use Rattle.key_syms.specs.Act.{Act}
 use Rattle.key_tables.specs.Listing.{entry_text, map_text, number_text, table_text, texts_from}
 
-texts_from-more : {X : Type 0} (text : ℕ → X → List ℕ) (from : ℕ) (xs : List X) (i : ℕ) (d : X) → i < length xs → texts_from text from (take (suc i) xs) ≡ texts_from text from (take i xs) ++ text (from + i) (get_or xs i d)
-texts_from-more text from [] i d h = absurd (omega arith)
-texts_from-more text from (x ∷ xs) zero d h =
+texts_from_more : {X : Type 0} (text : ℕ → X → List ℕ) (from : ℕ) (xs : List X) (i : ℕ) (d : X) → i < length xs → texts_from text from (take (suc i) xs) ≡ texts_from text from (take i xs) ++ text (from + i) (get_or xs i d)
+texts_from_more text from [] i d h = absurd (omega arith)
+texts_from_more text from (x ∷ xs) zero d h =
     append-nil (text from x) ∙ ap (λ n. text n x) (let e : from ≡ from + 0 = omega arith in e)
-texts_from-more text from (x ∷ xs) (suc i) d h =
-    ap (λ rest. text from x ++ rest) (texts_from-more text (suc from) xs i d (omega arith))
+texts_from_more text from (x ∷ xs) (suc i) d h =
+    ap (λ rest. text from x ++ rest) (texts_from_more text (suc from) xs i d (omega arith))
     ∙ sym (append_assoc (text from x) (texts_from text (suc from) (take i xs)) (text (suc from + i) (get_or xs i d)))
     ∙ ap (λ n. (text from x ++ texts_from text (suc from) (take i xs)) ++ text n (get_or xs i d)) (let e : suc from + i ≡ from + suc i = omega arith in e)
 
@@ -22,18 +22,8 @@ texts_more text xs i x start before after h e added so_far =
     ∙ ap (λ rest. start ++ rest)
     (ap (λ y. texts_from text 0 (take i xs) ++ text i y) e
     ∙ ap (λ n. texts_from text 0 (take i xs) ++ text n (get_or xs i x)) (let k : i ≡ 0 + i = omega arith in k)
-    ∙ sym (texts_from-more text 0 xs i x h)
+    ∙ sym (texts_from_more text 0 xs i x h)
     ∙ ap (λ n. texts_from text 0 (take n xs)) (let k : suc i ≡ i + 1 = omega arith in k))
-
-flat_texts : {X : Type 0} (f : X → List ℕ) (from : ℕ) (xs : List X) → texts_from (λ _ x. f x) from xs ≡ flat_map f xs
-flat_texts f from [] = refl
-flat_texts f from (x ∷ xs) = ap (λ rest. f x ++ rest) (flat_texts f (suc from) xs)
-
--- one more item whose index doesn't matter
-pub flat_more : {X : Type 0} (f : X → List ℕ) (xs : List X) (i : ℕ) (x : X) (start before after : List ℕ) → i < length xs → x ≡ get_or xs i x → after ≡ before ++ f x → before ≡ start ++ flat_map f (take i xs) → after ≡ start ++ flat_map f (take (i + 1) xs)
-flat_more f xs i x start before after h e added so_far =
-    texts_more (λ _ y. f y) xs i x start before after h e added (so_far ∙ ap (λ rest. start ++ rest) (sym (flat_texts f 0 (take i xs))))
-    ∙ ap (λ rest. start ++ rest) (flat_texts f 0 (take (i + 1) xs))
 
 -- four texts, one behind another
 pub four_more : (start a b c d w x y z : List ℕ) → a ≡ start ++ w → b ≡ a ++ x → c ≡ b ++ y → d ≡ c ++ z → d ≡ start ++ (w ++ (x ++ (y ++ z)))

@@ -1,4 +1,4 @@
 use vt_base::ShortList;
 
 /// The string of a function key, in room of its own.
-pub type FuncText = ShortList<u8, 255>;
+pub(crate) type FuncText = ShortList<u8, 255>;

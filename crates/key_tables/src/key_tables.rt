@@ -11,7 +11,7 @@ use std::marker::Model;
 use vt_base::{Bytes, NoMemory};
 
 // How many function keys and pairs there may be.
-const COUNT: usize = 256;
+const STRING_COUNT: usize = 256;
 
 /// Which tables exist and what each keycode does in them, the strings of the function keys, and the
 /// pairs. All memory is taken at the start, of the tables for the declared ones alone.
@@ -42,7 +42,7 @@ impl KeyTables {
         Ok(KeyTables {
             maps: Maps::holes(alloc, declared)?,
             funcs: empty_funcs(alloc)?,
-            pairs: Vec::with_capacity(alloc, COUNT)?,
+            pairs: Vec::with_capacity(alloc, STRING_COUNT)?,
         })
     }
 
@@ -50,7 +50,7 @@ impl KeyTables {
     pub fn copy(&self, alloc: Global) -> Result<KeyTables, NoMemory>
         ensures { IfOk result (λ copy. copy ≡ self.now) }
     {
-        let mut pairs = Vec::with_capacity(alloc, COUNT)?;
+        let mut pairs = Vec::with_capacity(alloc, STRING_COUNT)?;
         pairs.extend_from_slice(self.pairs.as_slice())?;
         Ok(KeyTables {
             maps: self.maps.copy(alloc)?,
@@ -170,8 +170,8 @@ fn copy_funcs(alloc: Global, funcs: &[FuncText]) -> Result<Vec<FuncText>, NoMemo
 fn empty_funcs(alloc: Global) -> Result<Vec<FuncText>, NoMemory>
     ensures { IfOk result (λ funcs. funcs.items ≡ replicate 256 []) }
 {
-    let mut funcs = Vec::with_capacity(alloc, COUNT)?;
-    for _i in 0..COUNT {
+    let mut funcs = Vec::with_capacity(alloc, STRING_COUNT)?;
+    for _i in 0..STRING_COUNT {
         funcs.push(FuncText::new())?;
     }
     Ok(funcs)

@@ -11,11 +11,11 @@ use std::alloc::Global;
 use vt_base::{Bytes, NoMemory};
 
 // How many tables there may be.
-const COUNT: u16 = 256;
+const TABLE_COUNT: u16 = 256;
 
 /// Adds the whole listing.
 #[tactic(auto, using(crate::proofs::Texts::four_more), unfolding(crate::specs::Listing::listing_of))]
-pub fn add_tables(
+pub(crate) fn add_tables(
     alloc: Global,
     text: &mut Bytes,
     maps: &Maps,
@@ -39,7 +39,7 @@ fn add_maps(alloc: Global, text: &mut Bytes, maps: &Maps) -> Result<(), NoMemory
     ensures { OnOk result (text.new.bytes ≡ text.old.bytes ++ maps_text maps.now) }
 {
     add(alloc, text, b"maps")?;
-    for t in 0..COUNT {
+    for t in 0..TABLE_COUNT {
         add_table(alloc, text, t, maps.exists(t as u8))?;
     }
     add(alloc, text, b"\n")
@@ -59,7 +59,7 @@ fn add_entries(alloc: Global, text: &mut Bytes, maps: &Maps) -> Result<(), NoMem
     requires { length maps.now ≡ 256 }
     ensures { OnOk result (text.new.bytes ≡ text.old.bytes ++ texts_from map_text 0 maps.now) }
 {
-    for t in 0..COUNT {
+    for t in 0..TABLE_COUNT {
         add_map(alloc, text, t, maps.entries(t as u8))?;
     }
     Ok(())

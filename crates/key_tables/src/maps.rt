@@ -9,11 +9,11 @@ use std::marker::Model;
 use vt_base::NoMemory;
 
 // How many tables there may be.
-const COUNT: usize = 256;
+const TABLE_COUNT: usize = 256;
 
 /// The tables by number. Those that are declared are kept alone, each at a place of its own.
 #[derive(Debug, Drop)]
-pub struct Maps {
+pub(crate) struct Maps {
     places: Vec<Option<u8>>,
     kept: Vec<Table>,
 }
@@ -32,20 +32,20 @@ impl Model for Maps {
 
 impl Maps {
     /// Tables of holes for these numbers.
-    pub fn holes(alloc: Global, declared: &[u8]) -> Result<Maps, NoMemory>
+    pub(crate) fn holes(alloc: Global, declared: &[u8]) -> Result<Maps, NoMemory>
         ensures holes { IfOk result (AreHoles declared.now) }
         ensures whole { IfOk result AreMaps }
     {
-        let mut places = Vec::with_capacity(alloc, COUNT)?;
+        let mut places = Vec::with_capacity(alloc, TABLE_COUNT)?;
         let mut kept = Vec::new(alloc);
-        for t in 0..COUNT {
+        for t in 0..TABLE_COUNT {
             places.push(declare(alloc, &mut kept, declared.contains(&(t as u8)))?)?;
         }
         Ok(Maps { places, kept })
     }
 
     /// The same tables.
-    pub fn copy(&self, alloc: Global) -> Result<Maps, NoMemory>
+    pub(crate) fn copy(&self, alloc: Global) -> Result<Maps, NoMemory>
         ensures { IfOk result (λ copy. copy ≡ self.now) }
     {
         Ok(Maps {
@@ -54,14 +54,14 @@ impl Maps {
         })
     }
 
-    pub fn exists(&self, t: u8) -> bool
+    pub(crate) fn exists(&self, t: u8) -> bool
         ensures value { result ≡ is_some (slice_index_or self.now t None) }
         ensures whole { AreMaps self.now }
     {
         self.places[usize::from(t)].is_some()
     }
 
-    pub fn at(&self, t: u8, c: u8) -> Option<Action>
+    pub(crate) fn at(&self, t: u8, c: u8) -> Option<Action>
         ensures { result
             ≡ option_map (λ map. slice_index_or map c hole) (slice_index_or self.now t None) }
     {
@@ -72,7 +72,7 @@ impl Maps {
     }
 
     /// The actions by code, or none where the table doesn't exist.
-    pub fn entries(&self, t: u8) -> &[Action]
+    pub(crate) fn entries(&self, t: u8) -> &[Action]
         ensures value { result.now ≡ unwrap_or (slice_index_or self.entry.now t None) [] }
         ensures few { length result.now ≤ 256 }
     {
@@ -93,7 +93,7 @@ impl Maps {
     }
 
     /// Sets an action of a table, where the table exists.
-    pub fn put(&mut self, t: u8, c: u8, a: Action)
+    pub(crate) fn put(&mut self, t: u8, c: u8, a: Action)
         requires { c ≢ 0 }
         ensures maps { self.new ≡ slice_set self.old t
             (option_map (λ map. slice_set map c a) (slice_index_or self.old t None)) }

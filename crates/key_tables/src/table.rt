@@ -7,11 +7,11 @@ use std::marker::Model;
 use vt_base::NoMemory;
 
 // How many codes a table has entries for.
-const CODES: usize = 256;
+const KEYCODES: usize = 256;
 
 /// A table: the actions by code.
 #[derive(Debug, Drop)]
-pub struct Table {
+pub(crate) struct Table {
     entries: Vec<Action>,
 }
 
@@ -29,7 +29,7 @@ impl Model for Table {
 
 impl Table {
     /// A table of holes.
-    pub fn holes(alloc: Global) -> Result<Table, NoMemory>
+    pub(crate) fn holes(alloc: Global) -> Result<Table, NoMemory>
         ensures { IfOk result (λ table. table ≡ replicate 256 hole) }
     {
         let entries = hole_entries(alloc)?;
@@ -37,7 +37,7 @@ impl Table {
     }
 
     /// The same table.
-    pub fn copy(&self, alloc: Global) -> Result<Table, NoMemory>
+    pub(crate) fn copy(&self, alloc: Global) -> Result<Table, NoMemory>
         ensures { IfOk result (λ copy. copy ≡ self.now) }
     {
         Ok(Table {
@@ -46,20 +46,20 @@ impl Table {
     }
 
     /// The actions by code.
-    pub fn entries(&self) -> &[Action]
+    pub(crate) fn entries(&self) -> &[Action]
         ensures value { result.now ≡ self.now }
         ensures whole { IsMap self.now }
     {
         self.entries.as_slice()
     }
 
-    pub fn at(&self, c: u8) -> Action
+    pub(crate) fn at(&self, c: u8) -> Action
         ensures { result ≡ slice_index_or self.now c hole }
     {
         self.entries[usize::from(c)]
     }
 
-    pub fn put(&mut self, c: u8, a: Action)
+    pub(crate) fn put(&mut self, c: u8, a: Action)
         requires { c ≢ 0 }
         ensures map { self.new ≡ slice_set self.old c a }
         ensures whole { IsMap self.new }
@@ -74,7 +74,7 @@ fn hole_entries(alloc: Global) -> Result<Vec<Action>, AllocError>
 {
     let mut entries = Vec::new(alloc);
     entries.resize(
-        CODES,
+        KEYCODES,
         Action {
             kind: kind::HOLE,
             value: 0,

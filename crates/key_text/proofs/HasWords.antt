@@ -31,36 +31,36 @@ pub none_there : (ws : List (List ℕ)) (i : List Placed) → HasWords ws i → 
 none_there ws i (none_left _ e) h = e
 none_there ws i (one_more w rest _ v e f t) h = absurd (not_nil w rest h)
 
-second-none : (i j : List Placed) → word_at i ≡ None → (ws : List (List ℕ)) → HasWords ws j → [] ≡ ws → SameWords SameBytes i j
-second-none i j e ws h k = both_end i j e (none_there ws j h k)
+second_none : (i j : List Placed) → word_at i ≡ None → (ws : List (List ℕ)) → HasWords ws j → [] ≡ ws → SameWords SameBytes i j
+second_none i j e ws h k = both_end i j e (none_there ws j h k)
 
-second-word : (i j : List Placed) (w : List ℕ) (ws : List (List ℕ)) (v : List Placed × List Placed) → word_at i ≡ Some v → bytes v.0 ≡ w
+second_word : (i j : List Placed) (w : List ℕ) (ws : List (List ℕ)) (v : List Placed × List Placed) → word_at i ≡ Some v → bytes v.0 ≡ w
     → ((j : List Placed) → HasWords ws j → SameWords SameBytes v.1 j) → (us : List (List ℕ)) → HasWords us j → us ≡ w ∷ ws → SameWords SameBytes i j
-second-word i j w ws v e f rest us (none_left _ k) h = absurd (not_nil w ws h)
-second-word i j w ws v e f rest us (one_more u uss _ x k l t) h =
+second_word i j w ws v e f rest us (none_left _ k) h = absurd (not_nil w ws h)
+second_word i j w ws v e f rest us (one_more u uss _ x k l t) h =
     both_word i j v x e k (f ∙ sym (head_same u w uss ws h) ∙ sym l)
     (rest x.1 (subst (λ (y : List (List ℕ)). HasWords y x.1) (tail_same u w uss ws h) t))
 
-pub same-words : (ws : List (List ℕ)) (i j : List Placed) → HasWords ws i → HasWords ws j → SameWords SameBytes i j
-same-words ws i j (none_left _ e) k = second-none i j e [] k refl
-same-words ws i j (one_more w rest _ v e f t) k = second-word i j w rest v e f (λ j' k'. same-words rest v.1 j' t k') (w ∷ rest) k refl
+pub same_words : (ws : List (List ℕ)) (i j : List Placed) → HasWords ws i → HasWords ws j → SameWords SameBytes i j
+same_words ws i j (none_left _ e) k = second_none i j e [] k refl
+same_words ws i j (one_more w rest _ v e f t) k = second_word i j w rest v e f (λ j' k'. same_words rest v.1 j' t k') (w ∷ rest) k refl
 
-rows-none : (wss : List (List (List ℕ))) (ss : List Row) → HasRows wss ss → [] ≡ wss → SameRows (SameWords SameBytes) [] ss
-rows-none wss ss no_row h = both_done
-rows-none wss ss (a_row ws rest s ss' t k) h = absurd (not_nil ws rest h)
-rows-none wss ss (an_empty _ s ss' t k) h = right s [] ss' (none_there [] s.items t refl) (rows-none wss ss' k h)
+rows_none : (wss : List (List (List ℕ))) (ss : List Row) → HasRows wss ss → [] ≡ wss → SameRows (SameWords SameBytes) [] ss
+rows_none wss ss no_row h = both_done
+rows_none wss ss (a_row ws rest s ss' t k) h = absurd (not_nil ws rest h)
+rows_none wss ss (an_empty _ s ss' t k) h = right s [] ss' (none_there [] s.items t refl) (rows_none wss ss' k h)
 
-rows-row : (ws : List (List ℕ)) (wss : List (List (List ℕ))) (r : Row) (rs : List Row) → HasWords ws r.items
+rows_row : (ws : List (List ℕ)) (wss : List (List (List ℕ))) (r : Row) (rs : List Row) → HasWords ws r.items
     → ((ss : List Row) → HasRows wss ss → SameRows (SameWords SameBytes) rs ss) → (uss : List (List (List ℕ))) (ss : List Row) → HasRows uss ss → uss ≡ ws ∷ wss → SameRows (SameWords SameBytes) (r ∷ rs) ss
-rows-row ws wss r rs t rest uss ss no_row h = absurd (not_nil ws wss h)
-rows-row ws wss r rs t rest uss ss (a_row us uss' s ss' k l) h =
+rows_row ws wss r rs t rest uss ss no_row h = absurd (not_nil ws wss h)
+rows_row ws wss r rs t rest uss ss (a_row us uss' s ss' k l) h =
     both_row r s rs ss'
-    (same-words ws r.items s.items t (subst (λ (x : List (List ℕ)). HasWords x s.items) (head_same us ws uss' wss h) k))
+    (same_words ws r.items s.items t (subst (λ (x : List (List ℕ)). HasWords x s.items) (head_same us ws uss' wss h) k))
     (rest ss' (subst (λ (x : List (List (List ℕ))). HasRows x ss') (tail_same us ws uss' wss h) l))
-rows-row ws wss r rs t rest uss ss (an_empty _ s ss' k l) h =
-    right s (r ∷ rs) ss' (none_there [] s.items k refl) (rows-row ws wss r rs t rest uss ss' l h)
+rows_row ws wss r rs t rest uss ss (an_empty _ s ss' k l) h =
+    right s (r ∷ rs) ss' (none_there [] s.items k refl) (rows_row ws wss r rs t rest uss ss' l h)
 
-pub same-rows : (wss : List (List (List ℕ))) (rs : List Row) → HasRows wss rs → (ss : List Row) → HasRows wss ss → SameRows (SameWords SameBytes) rs ss
-same-rows wss rs no_row ss k = rows-none [] ss k refl
-same-rows wss rs (a_row ws rest r rs' t l) ss k = rows-row ws rest r rs' t (same-rows rest rs' l) (ws ∷ rest) ss k refl
-same-rows wss rs (an_empty _ r rs' t l) ss k = left r rs' ss (none_there [] r.items t refl) (same-rows wss rs' l ss k)
+pub same_rows : (wss : List (List (List ℕ))) (rs : List Row) → HasRows wss rs → (ss : List Row) → HasRows wss ss → SameRows (SameWords SameBytes) rs ss
+same_rows wss rs no_row ss k = rows_none [] ss k refl
+same_rows wss rs (a_row ws rest r rs' t l) ss k = rows_row ws rest r rs' t (same_rows rest rs' l) (ws ∷ rest) ss k refl
+same_rows wss rs (an_empty _ r rs' t l) ss k = left r rs' ss (none_there [] r.items t refl) (same_rows wss rs' l ss k)

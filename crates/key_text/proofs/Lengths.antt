@@ -19,15 +19,6 @@ whole_text text bytes e h = ap length e ∙ sym (utf8_valid_len-IsUtf8 bytes h)
 abbrev pub PassesBelow : {X : Type 0} → (X → Bool) → List X → ℕ → Type 0
 PassesBelow test items i = i + prefix_len test (drop i items) ≡ prefix_len test items
 
-pub passes_more : {X : Type 0} (test : X → Bool) (items : List X) (i : ℕ) (d : X) → PassesBelow test items i → i < length items → test (get_or items i d) ≡ true → PassesBelow test items (i + 1)
-passes_more test items i d h k e = omega (arith, prefix_len-drop_yes test items i d k e, h)
-
-pub passes_stop : {X : Type 0} (test : X → Bool) (items : List X) (i : ℕ) (d : X) → PassesBelow test items i → i < length items → test (get_or items i d) ≡ false → i ≡ prefix_len test items
-passes_stop test items i d h k e = omega (arith, prefix_len-drop_no test items i d k e, h)
-
-pub passes_all : {X : Type 0} (test : X → Bool) (items : List X) (i : ℕ) → PassesBelow test items i → length items ≤ i → i ≡ prefix_len test items
-passes_all test items i h k = omega (arith, prefix_len-drop_all test items i k, h)
-
 -- the first i items don't close the text
 abbrev pub OpenBelow : ℕ → List Placed → ℕ → Bool → Type 0
 OpenBelow q items i escaped =

@@ -10,7 +10,7 @@ use Rattle.key_text.specs.Fields.{is_quoted}
 use Rattle.key_text.specs.Lines.{tables_in}
 use Rattle.key_text.specs.Quoted.{character_of, text_of}
 use Rattle.key_text.specs.SameWords.{SameWords, ended, word}
-use Rattle.key_text.specs.Words.{bytes, is_word, next, nth_place, taken, whole, word_at}
+use Rattle.key_text.specs.Words.{bytes, is_word, next, nth_place, required_word, whole, word_at}
 use Rattle.key_text.specs.declared.placed.Place.{Place}
 use Rattle.key_text.specs.declared.placed.Placed.{Placed}
 
@@ -56,7 +56,7 @@ wholes v w l =
     (Ok w) (Err (fault BAD_TEXT (nth_place w.0 (utf8_valid_len (bytes w.0)))))
     (l.0).valid l refl
 
-takens : (kind : ℕ) (d e : Place) (x y : Option (List Placed × List Placed)) → Nexts x y → Same Words (taken kind d x) (taken kind e y)
+takens : (kind : ℕ) (d e : Place) (x y : Option (List Placed × List Placed)) → Nexts x y → Same Words (required_word kind d x) (required_word kind e y)
 takens kind d e None None l = refl
 takens kind d e None (Some w) l = absurd l
 takens kind d e (Some v) None l = absurd l

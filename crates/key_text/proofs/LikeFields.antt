@@ -8,7 +8,7 @@ use Rattle.key_text.proofs.Like.{Alike, Like, Nexts, Words, begins_key, nexts, t
 use Rattle.key_text.proofs.Same.{Same, pick, then}
 use Rattle.key_text.specs.Fault.{fault}
 use Rattle.key_text.specs.FaultKinds.{BAD_TEXT, LONG_STRING, OUT_OF_RANGE, UNKNOWN_SYMBOL, UNKNOWN_WORD, WRONG_COUNT, LEFT_OVER}
-use Rattle.key_text.specs.Fields.{action_of, character_at, character_by, character_in, code_at, ended, ended_by, function_at, function_by, good, is_quoted, keyword_at, known, named_character, ranged, real, string_at, symbol_at, text_at}
+use Rattle.key_text.specs.Fields.{action_of, character_at, character_by, character_in, code_at, end_of_line, ended_by, function_at, function_by, good, is_quoted, keyword_at, symbol_action, named_character, number_in_range, real, string_at, symbol_at, text_at}
 use Rattle.key_text.specs.Quoted.{character_of, text_of}
 use Rattle.key_text.specs.Words.{bytes, is_word, next, spot, whole, word_at}
 use Rattle.key_text.specs.declared.placed.Place.{Place}
@@ -29,8 +29,8 @@ endeds (Some v) (Some w) l =
     then Words Equal (whole v) (whole w) (λ u. Err (fault LEFT_OVER (spot u.0))) (λ u. Err (fault LEFT_OVER (spot u.0)))
     (wholes v w l) (λ u t k. refl)
 
-pub ending : (i j : List Placed) → Alike i j → Same Equal (ended i) (ended j)
-unfolding ended
+pub ending : (i j : List Placed) → Alike i j → Same Equal (end_of_line i) (end_of_line j)
+unfolding end_of_line
 ending i j s = endeds (word_at i) (word_at j) (nexts i j s)
 
 pub keywords : (text : List ℕ) → IsTrue (begins_key text) → (d e : Place) (i j : List Placed) → Alike i j → Same Alike (keyword_at text d i) (keyword_at text e j)
@@ -39,28 +39,28 @@ keywords text key d e i j s =
     then Words Alike (next UNKNOWN_WORD d i) (next UNKNOWN_WORD e j) _ _ (taking UNKNOWN_WORD d e i j s)
     (λ v w l. pick Alike (is_word text v.0) (is_word text w.0) (Ok v.1) (Err (fault UNKNOWN_WORD (spot v.0))) (Ok w.1) (Err (fault UNKNOWN_WORD (spot w.0))) ((l.0).keyword text key) l.1 refl)
 
-rangeds-at : (low high : ℕ) (v w : List Placed) (n : Option ℕ) → Same Equal (ranged low high v n) (ranged low high w n)
-rangeds-at low high v w None = refl
-rangeds-at low high v w (Some n) =
+rangeds_at : (low high : ℕ) (v w : List Placed) (n : Option ℕ) → Same Equal (number_in_range low high v n) (number_in_range low high w n)
+rangeds_at low high v w None = refl
+rangeds_at low high v w (Some n) =
     pick Equal (nat_le low n && nat_le n high) (nat_le low n && nat_le n high) (Ok n) (Err (fault OUT_OF_RANGE (spot v))) (Ok n) (Err (fault OUT_OF_RANGE (spot w))) refl refl refl
 
-pub rangeds : (low high : ℕ) (v w : List Placed) (n m : Option ℕ) → n ≡ m → Same Equal (ranged low high v n) (ranged low high w m)
-rangeds low high v w n m e = subst (λ (x : Option ℕ). Same Equal (ranged low high v n) (ranged low high w x)) e (rangeds-at low high v w n)
+pub rangeds : (low high : ℕ) (v w : List Placed) (n m : Option ℕ) → n ≡ m → Same Equal (number_in_range low high v n) (number_in_range low high w m)
+rangeds low high v w n m e = subst (λ (x : Option ℕ). Same Equal (number_in_range low high v n) (number_in_range low high w x)) e (rangeds_at low high v w n)
 
 pub coding : (d e : Place) (i j : List Placed) → Alike i j → Same With (code_at d i) (code_at e j)
 unfolding code_at
 coding d e i j s =
     then Words With (next UNKNOWN_WORD d i) (next UNKNOWN_WORD e j) _ _ (taking UNKNOWN_WORD d e i j s)
-    (λ v w l. then Equal With (ranged 1 255 v.0 (number_of (bytes v.0))) (ranged 1 255 w.0 (number_of (bytes w.0))) _ _
+    (λ v w l. then Equal With (number_in_range 1 255 v.0 (number_of (bytes v.0))) (number_in_range 1 255 w.0 (number_of (bytes w.0))) _ _
     (rangeds 1 255 v.0 w.0 (number_of (bytes v.0)) (number_of (bytes w.0)) (l.0).number)
     (λ n m e. (e, l.1)))
 
-knowns-at : (v w : List Placed) (a : Option Act) → Same Equal (known v a) (known w a)
-knowns-at v w None = refl
-knowns-at v w (Some a) = refl
+knowns_at : (v w : List Placed) (a : Option Act) → Same Equal (symbol_action v a) (symbol_action w a)
+knowns_at v w None = refl
+knowns_at v w (Some a) = refl
 
 pub actions : (v w : List Placed) → Like v w → Same Equal (action_of v) (action_of w)
-actions v w l = subst (λ (x : Option Act). Same Equal (known v (symbol (bytes v))) (known w x)) l.symbol (knowns-at v w (symbol (bytes v)))
+actions v w l = subst (λ (x : Option Act). Same Equal (symbol_action v (symbol (bytes v))) (symbol_action w x)) l.symbol (knowns_at v w (symbol (bytes v)))
 
 pub symbolic : (d e : Place) (i j : List Placed) → Alike i j → Same With (symbol_at d i) (symbol_at e j)
 unfolding symbol_at
@@ -80,12 +80,12 @@ functions d e i j s =
     (λ v w l. then Equal With (action_of v.0) (action_of w.0) _ _ (actions v.0 w.0 l.0)
     (λ a b e. then Equal With (function_by v.0 a) (function_by w.0 b) _ _ (function_bys v.0 w.0 a b e) (λ n m f. (f, l.1))))
 
-goods-at : {X : Type 0} (v w : List Placed) (x : Option X) → Same Equal (good v x) (good w x)
-goods-at v w None = refl
-goods-at v w (Some x) = refl
+goods_at : {X : Type 0} (v w : List Placed) (x : Option X) → Same Equal (good v x) (good w x)
+goods_at v w None = refl
+goods_at v w (Some x) = refl
 
 goods : {X : Type 0} (v w : List Placed) (x y : Option X) → x ≡ y → Same Equal (good v x) (good w y)
-goods {X} v w x y e = subst (λ (z : Option X). Same Equal (good v x) (good w z)) e (goods-at v w x)
+goods {X} v w x y e = subst (λ (z : Option X). Same Equal (good v x) (good w z)) e (goods_at v w x)
 
 -- a text, its place, and rows that are read alike
 abbrev pub Texts : List ℕ × Place × List Placed → List ℕ × Place × List Placed → Type 0
@@ -118,9 +118,9 @@ reals v w n m e =
 named : (v w : List Placed) → Like v w → Same Equal (named_character v) (named_character w)
 named v w l = then Equal Equal (action_of v) (action_of w) _ _ (actions v w l) (λ a b e. character_bys v w a b e)
 
-pub characters-in : (v w : List Placed) → Like v w → Same Equal (character_in v) (character_in w)
+pub characters_in : (v w : List Placed) → Like v w → Same Equal (character_in v) (character_in w)
 unfolding character_in
-characters-in v w l =
+characters_in v w l =
     then Equal Equal
     (cond (is_quoted v) (good v (character_of v)) (named_character v))
     (cond (is_quoted w) (good w (character_of w)) (named_character w)) _ _
@@ -132,4 +132,4 @@ pub characters : (d e : Place) (i j : List Placed) → Alike i j → Same With (
 unfolding character_at
 characters d e i j s =
     then Words With (next UNKNOWN_SYMBOL d i) (next UNKNOWN_SYMBOL e j) _ _ (taking UNKNOWN_SYMBOL d e i j s)
-    (λ v w l. then Equal With (character_in v.0) (character_in w.0) _ _ (characters-in v.0 w.0 l.0) (λ n m f. (f, l.1)))
+    (λ v w l. then Equal With (character_in v.0) (character_in w.0) _ _ (characters_in v.0 w.0 l.0) (λ n m f. (f, l.1)))

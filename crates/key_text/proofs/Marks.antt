@@ -7,7 +7,7 @@ use Rattle.std.proofs.lemmas.List.Folds.{list_any_at}
 use Rattle.std.proofs.lemmas.List.FromFn.{fill_by_all}
 use Rattle.std.specs.List.{list_any, slice_index_or}
 use Rattle.key_text.specs.Fault.{◌>>=◌}
-use Rattle.key_text.specs.Lines.{before, comma, covers, marked, pieces, range_of, ranges_of, tables_in, with_byte}
+use Rattle.key_text.specs.Lines.{before, comma, covers, table_marks, pieces, range_of, ranges_of, tables_in, with_byte}
 use Rattle.key_text.specs.Tables.{IsTableSet, is_table_set}
 use Rattle.key_text.specs.declared.fault.KeyFault.{KeyFault}
 use Rattle.key_text.specs.declared.keymaps_line.TableRange.{TableRange}
@@ -58,8 +58,8 @@ marked_none tables e = record {
   each = λ k h. ap (λ ts. slice_index_or ts k false) e ∙ get_or-replicate 256 k false false h;
 }
 
-pub marked_all : (tables : List Bool) (ranges : List TableRange) → AreMarked tables ranges → tables ≡ marked ranges
-unfolding marked
+pub marked_all : (tables : List Bool) (ranges : List TableRange) → AreMarked tables ranges → tables ≡ table_marks ranges
+unfolding table_marks
 marked_all tables ranges marks = fill_by_all (λ t. list_any (covers t) ranges) tables 256 false marks.full marks.each
 
 -- a set with a range in order has a table
@@ -164,7 +164,7 @@ ranged_last word text tables rest so_far n e h range good new long each =
     sym so_far.same
     ∙ ap (λ ps. with_ranges so_far.front (ranges_of word ps)) cut
     ∙ ap (λ read. with_ranges so_far.front (read >>= λ r. Ok (r ∷ []))) good in
-    ap (λ read. read >>= λ ranges. Ok (marked ranges)) all
+    ap (λ read. read >>= λ ranges. Ok (table_marks ranges)) all
     ∙ ap Ok (sym (marked_all new (so_far.front ++ range ∷ []) (marked_more tables new so_far.front range so_far.marks long each)))
 
 pub ranged_bad : (word : List Placed) (text : List ℕ) (tables : List Bool) (rest : List ℕ) → AreRanged word text tables rest → (n : ℕ) → n ≡ before comma rest → n ≤ length rest → (f : KeyFault) → range_of word (take n rest) ≡ Err f → tables_in word text ≡ Err f
@@ -172,7 +172,7 @@ ranged_bad word text tables rest so_far n e h f bad =
     elim (eqb_tells n (length rest)) [
       | inl last ↦
           let cut : pieces rest ≡ take n rest ∷ [] = pieces_last rest (sym e ∙ last.1) ∙ ap (λ t. t ∷ []) (sym (take_all n rest (at_end n (length rest) last.1))) in
-          ap (λ read. read >>= λ ranges. Ok (marked ranges))
+          ap (λ read. read >>= λ ranges. Ok (table_marks ranges))
           (sym so_far.same
           ∙ ap (λ ps. with_ranges so_far.front (ranges_of word ps)) cut
           ∙ ap (λ read. with_ranges so_far.front (read >>= λ r. Ok (r ∷ []))) bad)
@@ -181,7 +181,7 @@ ranged_bad word text tables rest so_far n e h f bad =
           let cut : pieces rest ≡ take n rest ∷ left =
           pieces_more rest (subst (λ (m : ℕ). m < length rest) e (below n (length rest) more.1 h))
           ∙ ap (λ m. take m rest ∷ pieces (drop (m + 1) rest)) (sym e) in
-          ap (λ read. read >>= λ ranges. Ok (marked ranges))
+          ap (λ read. read >>= λ ranges. Ok (table_marks ranges))
           (sym so_far.same
           ∙ ap (λ ps. with_ranges so_far.front (ranges_of word ps)) cut
           ∙ ap (λ read. with_ranges so_far.front (read >>= λ r. ranges_of word left >>= λ rs. Ok (r ∷ rs))) bad)

@@ -12,7 +12,7 @@ use Rattle.std.specs.Str.{bytes_eq}
 use Rattle.std.specs.declared.cmp.Ordering.{Ordering}
 use Rattle.std.specs.declared.cmp.Ordering.TheVariants.{Less, Equal, Greater}
 use Rattle.std.specs.declared.vec.Vec.{Vec}
-use Rattle.key_text.specs.Included.{Named, named, text_named}
+use Rattle.key_text.specs.Included.{Named, make_named, text_named}
 use Rattle.key_text.specs.Places.{HasPlaces, at_name, place_of}
 
 -- the text of a name that has a place
@@ -58,10 +58,10 @@ place_none texts name none = by_place (place_of name texts) refl
   where
     by_place : (p : Option ℕ) → place_of name texts ≡ p → p ≡ None
     by_place None e = refl
-    by_place (Some i) e = absurd (false≢true (sym none ∙ ap is_some (stands_at texts name i (named [] []) e).text))
+    by_place (Some i) e = absurd (false≢true (sym none ∙ ap is_some (stands_at texts name i (make_named [] []) e).text))
 
 -- a text more, of a name that wasn't there
-pub place_more : (texts : List Named) (name text other : List ℕ) → place_of name texts ≡ None → place_of other (texts ++ named name text ∷ []) ≡ cond (bytes_eq name other) (Some (length texts)) (place_of other texts)
+pub place_more : (texts : List Named) (name text other : List ℕ) → place_of name texts ≡ None → place_of other (texts ++ make_named name text ∷ []) ≡ cond (bytes_eq name other) (Some (length texts)) (place_of other texts)
 place_more [] name text other e = refl
 place_more (n ∷ ns) name text other e = by_name (place_more ns name text other) (bytes_eq n.name name) refl
   where
@@ -76,7 +76,7 @@ place_more (n ∷ ns) name text other e = by_name (place_more ns name text other
         rw not_other refl
     by_same false unlike apart = refl
 
-    by_name : (place_of name ns ≡ None → place_of other (ns ++ named name text ∷ []) ≡ cond (bytes_eq name other) (Some (length ns)) (place_of other ns)) → (b : Bool) → bytes_eq n.name name ≡ b → place_of other ((n ∷ ns) ++ named name text ∷ []) ≡ cond (bytes_eq name other) (Some (length (n ∷ ns))) (place_of other (n ∷ ns))
+    by_name : (place_of name ns ≡ None → place_of other (ns ++ make_named name text ∷ []) ≡ cond (bytes_eq name other) (Some (length ns)) (place_of other ns)) → (b : Bool) → bytes_eq n.name name ≡ b → place_of other ((n ∷ ns) ++ make_named name text ∷ []) ≡ cond (bytes_eq name other) (Some (length (n ∷ ns))) (place_of other (n ∷ ns))
     by_name more true same = absurd (let s : Some 0 ≡ None = sym (ap (λ t. cond t (Some 0) (option_map suc (place_of name ns))) same) ∙ e in cc)
     by_name more false apart =
         let rest = more (none_left (place_of name ns) (sym (ap (λ t. cond t (Some 0) (option_map suc (place_of name ns))) apart) ∙ e)) in
@@ -138,7 +138,7 @@ inserted (e ∷ es) key place text = by_order (inserted es key place text) (by_i
         rw o (ap (λ rest. cond (at_text text e.0) (Some e.1) rest) rest ∙ later (bytes_eq key.items text) refl o)
 
 -- the places after a text more
-pub places_more : {A : Type 0} (places new : BTreeMap (Vec ℕ A) ℕ) (texts grown : List Named) (name text key : List ℕ) (place : ℕ) → HasPlaces places texts → is_some (text_named name texts) ≡ false → ((other : List ℕ) → at_name new other ≡ cond (bytes_eq key other) (Some place) (at_name places other)) → key ≡ name → place ≡ length texts → grown ≡ texts ++ named name text ∷ [] → HasPlaces new grown
+pub places_more : {A : Type 0} (places new : BTreeMap (Vec ℕ A) ℕ) (texts grown : List Named) (name text key : List ℕ) (place : ℕ) → HasPlaces places texts → is_some (text_named name texts) ≡ false → ((other : List ℕ) → at_name new other ≡ cond (bytes_eq key other) (Some place) (at_name places other)) → key ≡ name → place ≡ length texts → grown ≡ texts ++ make_named name text ∷ [] → HasPlaces new grown
 places_more places new texts grown name text key place has absent put same last added = λ other.
     put other
     ∙ ap (λ k. cond (bytes_eq k other) (Some place) (at_name places other)) same

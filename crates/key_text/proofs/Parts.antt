@@ -2,115 +2,99 @@
 use Rattle.std.proofs.Common.{◌≡◌, ◌≢◌, ℕ, zero, suc, ◌+◌, ◌==◌, ◌≤◌, ◌&&◌, Bool, not, true, false, cond, IsTrue, List, [], ◌∷◌, ◌++◌, length, refl, sym, ap, ◌∙◌, subst, inl, inr, arith}
 use Rattle.std.proofs.lemmas.Bool.{false≢true}
 use Rattle.std.proofs.lemmas.Bool.Decides.{eqb_tells}
-use Rattle.key_text.proofs.Turns.{Ends, byte_turn, crlf, ends, joining-some, lf, rows_from, rows_of-from}
-use Rattle.key_text.specs.Cut.{end_len, join_len, joining, lf_len}
-use Rattle.key_text.specs.Parted.{is_ended, is_line_end, place_behind}
-use Rattle.key_text.specs.Rows.{Row, after, backslash, behind, carriage_return, line_feed, next_line, put_at, row_of, rows_of, with_item}
+use Rattle.key_text.proofs.Turns.{Ends, byte_turn, crlf, ends, len_with_backslash_some, lf, rows_from, rows_of_from}
+use Rattle.key_text.specs.Cut.{end_len, join_len, len_with_backslash, lf_len}
+use Rattle.key_text.specs.Parted.{is_ended, is_line_end, place_after_text}
+use Rattle.key_text.specs.Rows.{Row, after, backslash, place_after, carriage_return, line_feed, next_line, put_at, row_of, rows_of, with_item}
 use Rattle.key_text.specs.declared.placed.Place.{Place}
 
 -- the rows of a text that ends a line stand before those of what follows, whatever that is
 pub record Parts (from here : Place) (text : List ℕ) : Type 0 where
   pub first : Row
   pub others : List Row
-  pub same : (z : List ℕ) → rows_from from here (text ++ z) ≡ (first ∷ others) ++ rows_of (place_behind here text) z
+  pub same : (z : List ℕ) → rows_from from here (text ++ z) ≡ (first ∷ others) ++ rows_of (place_after_text here text) z
 
-and-left : (a b : Bool) → IsTrue (a && b) → a ≡ true
-and-left true b h = refl
-and-left false b h = absurd (false≢true h)
+and_right : (a b : Bool) → IsTrue (a && b) → b ≡ true
+and_right true b h = h
+and_right false b h = absurd (false≢true h)
 
-and-right : (a b : Bool) → IsTrue (a && b) → b ≡ true
-and-right true b h = h
-and-right false b h = absurd (false≢true h)
+rest_ended : (b c : ℕ) (bs : List ℕ) → IsTrue (is_ended (b ∷ c ∷ bs)) → IsTrue (is_ended (c ∷ bs))
+rest_ended b c bs h = and_right (not (b == backslash && is_line_end (c ∷ bs))) (is_ended (c ∷ bs)) h
 
-rest-ended : (b c : ℕ) (bs : List ℕ) → IsTrue (is_ended (b ∷ c ∷ bs)) → IsTrue (is_ended (c ∷ bs))
-rest-ended b c bs h = and-right (not (b == backslash && is_line_end (c ∷ bs))) (is_ended (c ∷ bs)) h
-
--- what stands at a byte that goes on doesn't depend on what follows the text
-lf-alone : (b : ℕ) (bs z : List ℕ) → lf_len ((b ∷ bs) ++ z) ≡ lf_len (b ∷ bs)
-lf-alone b bs z = refl
-
-end-alone : (b : ℕ) (bs z : List ℕ) → IsTrue (is_ended (b ∷ bs)) → end_len ((b ∷ bs) ++ z) ≡ end_len (b ∷ bs)
-end-alone b (c ∷ bs) z h = refl
-end-alone b [] z h = elim (eqb_tells b line_feed) [
+end_alone : (b : ℕ) (bs z : List ℕ) → IsTrue (is_ended (b ∷ bs)) → end_len ((b ∷ bs) ++ z) ≡ end_len (b ∷ bs)
+end_alone b (c ∷ bs) z h = refl
+end_alone b [] z h = elim (eqb_tells b line_feed) [
   | inl e ↦ ap (λ t. cond t 1 (cond (b == carriage_return) (lf_len z + lf_len z) 0)) e.0 ∙ sym (ap (λ t. cond t 1 (cond (b == carriage_return) 0 0)) e.0)
   | inr e ↦ absurd (false≢true (sym e.0 ∙ h))
 ]
 
-join-alone : (b : ℕ) (bs z : List ℕ) → IsTrue (is_ended (b ∷ bs)) → join_len (b ∷ bs) ≡ 0 → join_len ((b ∷ bs) ++ z) ≡ 0
-join-alone b (c ∷ bs) z h e = ap (λ n. cond (b == backslash) (joining n) 0) (end-alone c bs z (rest-ended b c bs h)) ∙ e
-join-alone b [] z h e = elim (eqb_tells b backslash) [
+join_alone : (b : ℕ) (bs z : List ℕ) → IsTrue (is_ended (b ∷ bs)) → join_len (b ∷ bs) ≡ 0 → join_len ((b ∷ bs) ++ z) ≡ 0
+join_alone b (c ∷ bs) z h e = ap (λ n. cond (b == backslash) (len_with_backslash n) 0) (end_alone c bs z (rest_ended b c bs h)) ∙ e
+join_alone b [] z h e = elim (eqb_tells b backslash) [
   | inl f ↦ absurd (false≢true (subst (λ (x : ℕ). (x == line_feed) ≡ true) f.1 h))
-  | inr f ↦ ap (λ t. cond t (joining (end_len z)) 0) f.0
+  | inr f ↦ ap (λ t. cond t (len_with_backslash (end_len z)) 0) f.0
 ]
 
 -- no backslash stands before the text's last end
-not-last : (bs : List ℕ) → IsTrue (is_line_end bs) → IsTrue (is_ended (backslash ∷ bs)) → ⊥
-not-last [] h k = false≢true h
-not-last (c ∷ bs) h k = false≢true (sym (ap (λ t. not t && is_ended (c ∷ bs)) h) ∙ k)
+not_last : (bs : List ℕ) → IsTrue (is_line_end bs) → IsTrue (is_ended (backslash ∷ bs)) → ⊥
+not_last [] h k = false≢true h
+not_last (c ∷ bs) h k = false≢true (sym (ap (λ t. not t && is_ended (c ∷ bs)) h) ∙ k)
 
--- one byte more before the rows
-item-first : (at : Place) (b : ℕ) (r : Row) (rs left : List Row) → with_item (put_at at b) ((r ∷ rs) ++ left) ≡ (row_of (put_at at b ∷ r.items) r.end ∷ rs) ++ left
-item-first at b r rs left = refl
-
-not-feed-at : (b : ℕ) (bs : List ℕ) → end_len (b ∷ bs) ≡ 0 → (b == line_feed) ≡ false
-not-feed-at b bs h = elim (eqb_tells b line_feed) [
+not_feed_at : (b : ℕ) (bs : List ℕ) → end_len (b ∷ bs) ≡ 0 → (b == line_feed) ≡ false
+not_feed_at b bs h = elim (eqb_tells b line_feed) [
   | inl e ↦ absurd (let one : end_len (b ∷ bs) ≡ 1 = ap (λ t. cond t 1 (cond (b == carriage_return) (lf_len bs + lf_len bs) 0)) e.0 in omega (arith, one, h))
   | inr e ↦ e.0
 ]
 
-some-after : (b : ℕ) (bs : List ℕ) → (b == line_feed) ≡ false → IsTrue (is_ended (b ∷ bs)) → (c : ℕ) × (cs : List ℕ) × (bs ≡ c ∷ cs)
-some-after b [] e h = absurd (false≢true (sym e ∙ h))
-some-after b (c ∷ cs) e h = (c, cs, refl)
-
 -- after a line's end comes nothing, or a text that ends a line
-parts-end : (from here : Place) (bs : List ℕ) → Ends bs → IsTrue (is_ended bs) → ((rest : List ℕ) → suc (length rest) ≤ length bs → IsTrue (is_ended rest) → (at : Place) → Parts at at rest) → Parts from here bs
-parts-end from here bs (lf []) h deeper = record {
+parts_end : (from here : Place) (bs : List ℕ) → Ends bs → IsTrue (is_ended bs) → ((rest : List ℕ) → suc (length rest) ≤ length bs → IsTrue (is_ended rest) → (at : Place) → Parts at at rest) → Parts from here bs
+parts_end from here bs (lf []) h deeper = record {
   first = row_of [] here;
   others = [];
-  same = λ z. ap (λ x. row_of [] here ∷ x) (sym (rows_of-from (next_line here) z));
+  same = λ z. ap (λ x. row_of [] here ∷ x) (sym (rows_of_from (next_line here) z));
 }
-parts-end from here bs (lf (c ∷ cs)) h deeper =
-    let p = deeper (c ∷ cs) (omega arith) (rest-ended line_feed c cs h) (next_line here) in
+parts_end from here bs (lf (c ∷ cs)) h deeper =
+    let p = deeper (c ∷ cs) (omega arith) (rest_ended line_feed c cs h) (next_line here) in
     record {
       first = row_of [] here;
       others = p.first ∷ p.others;
       same = λ z. ap (λ x. row_of [] here ∷ x) (p.same z);
     }
-parts-end from here bs (crlf []) h deeper = record {
+parts_end from here bs (crlf []) h deeper = record {
   first = row_of [] here;
   others = [];
-  same = λ z. ap (λ x. row_of [] here ∷ x) (sym (rows_of-from (next_line here) z));
+  same = λ z. ap (λ x. row_of [] here ∷ x) (sym (rows_of_from (next_line here) z));
 }
-parts-end from here bs (crlf (c ∷ cs)) h deeper =
-    let p = deeper (c ∷ cs) (omega arith) (rest-ended line_feed c cs (rest-ended carriage_return line_feed (c ∷ cs) h)) (next_line here) in
+parts_end from here bs (crlf (c ∷ cs)) h deeper =
+    let p = deeper (c ∷ cs) (omega arith) (rest_ended line_feed c cs (rest_ended carriage_return line_feed (c ∷ cs) h)) (next_line here) in
     record {
       first = row_of [] here;
       others = p.first ∷ p.others;
       same = λ z. ap (λ x. row_of [] here ∷ x) (p.same z);
     }
 
-parts-join : (from here : Place) (bs : List ℕ) → Ends bs → IsTrue (is_ended (backslash ∷ bs)) → ((rest : List ℕ) → suc (length rest) ≤ length bs → IsTrue (is_ended rest) → (at : Place) → Parts from at rest) → Parts from here (backslash ∷ bs)
-parts-join from here bs (lf []) h deeper = absurd (not-last (line_feed ∷ []) refl h)
-parts-join from here bs (lf (c ∷ cs)) h deeper =
-    let p = deeper (c ∷ cs) (omega arith) (rest-ended line_feed c cs (rest-ended backslash line_feed (c ∷ cs) h)) (next_line here) in
+parts_join : (from here : Place) (bs : List ℕ) → Ends bs → IsTrue (is_ended (backslash ∷ bs)) → ((rest : List ℕ) → suc (length rest) ≤ length bs → IsTrue (is_ended rest) → (at : Place) → Parts from at rest) → Parts from here (backslash ∷ bs)
+parts_join from here bs (lf []) h deeper = absurd (not_last (line_feed ∷ []) refl h)
+parts_join from here bs (lf (c ∷ cs)) h deeper =
+    let p = deeper (c ∷ cs) (omega arith) (rest_ended line_feed c cs (rest_ended backslash line_feed (c ∷ cs) h)) (next_line here) in
     record { first = p.first; others = p.others; same = p.same }
-parts-join from here bs (crlf []) h deeper = absurd (not-last (carriage_return ∷ line_feed ∷ []) refl h)
-parts-join from here bs (crlf (c ∷ cs)) h deeper =
-    let p = deeper (c ∷ cs) (omega arith) (rest-ended line_feed c cs (rest-ended carriage_return line_feed (c ∷ cs) (rest-ended backslash carriage_return (line_feed ∷ c ∷ cs) h))) (next_line here) in
+parts_join from here bs (crlf []) h deeper = absurd (not_last (carriage_return ∷ line_feed ∷ []) refl h)
+parts_join from here bs (crlf (c ∷ cs)) h deeper =
+    let p = deeper (c ∷ cs) (omega arith) (rest_ended line_feed c cs (rest_ended carriage_return line_feed (c ∷ cs) (rest_ended backslash carriage_return (line_feed ∷ c ∷ cs) h))) (next_line here) in
     record { first = p.first; others = p.others; same = p.same }
 
-parts-byte : (from here : Place) (b : ℕ) (bs : List ℕ) → end_len (b ∷ bs) ≡ 0 → join_len (b ∷ bs) ≡ 0 → IsTrue (is_ended (b ∷ bs)) → (IsTrue (is_ended bs) → Parts (after here) (after here) bs) → Parts from here (b ∷ bs)
-parts-byte from here b [] e j h deeper = absurd (false≢true (sym (not-feed-at b [] e) ∙ h))
-parts-byte from here b (c ∷ cs) e j h deeper =
-    let p = deeper (rest-ended b c cs h) in
-    let there : behind here b ≡ after here = ap (λ t. cond t (next_line here) (after here)) (not-feed-at b (c ∷ cs) e) in
+parts_byte : (from here : Place) (b : ℕ) (bs : List ℕ) → end_len (b ∷ bs) ≡ 0 → join_len (b ∷ bs) ≡ 0 → IsTrue (is_ended (b ∷ bs)) → (IsTrue (is_ended bs) → Parts (after here) (after here) bs) → Parts from here (b ∷ bs)
+parts_byte from here b [] e j h deeper = absurd (false≢true (sym (not_feed_at b [] e) ∙ h))
+parts_byte from here b (c ∷ cs) e j h deeper =
+    let p = deeper (rest_ended b c cs h) in
+    let there : place_after here b ≡ after here = ap (λ t. cond t (next_line here) (after here)) (not_feed_at b (c ∷ cs) e) in
     record {
       first = row_of (put_at here b ∷ (p.first).items) (p.first).end;
       others = p.others;
       same = λ z.
-          byte_turn from here b ((c ∷ cs) ++ z) (end-alone b (c ∷ cs) z h ∙ e) (join-alone b (c ∷ cs) z h j)
+          byte_turn from here b ((c ∷ cs) ++ z) (end_alone b (c ∷ cs) z h ∙ e) (join_alone b (c ∷ cs) z h j)
           ∙ ap (with_item (put_at here b)) (p.same z)
-          ∙ ap (λ at. (row_of (put_at here b ∷ (p.first).items) (p.first).end ∷ p.others) ++ rows_of (place_behind at (c ∷ cs)) z) (sym there);
+          ∙ ap (λ at. (row_of (put_at here b ∷ (p.first).items) (p.first).end ∷ p.others) ++ rows_of (place_after_text at (c ∷ cs)) z) (sym there);
     }
 
 -- what begins a text: a line's end, a join or another byte
@@ -131,20 +115,20 @@ begins b bs = elim (eqb_tells (end_len (b ∷ bs)) 0) [
     joined : join_len (b ∷ bs) ≢ 0 → Begins (b ∷ bs)
     joined some = elim (eqb_tells b backslash) [
       | inl g ↦ subst (λ (x : ℕ). Begins (x ∷ bs)) (sym g.1)
-          (a_join bs (ends bs (joining-some (end_len bs) (λ z. some (ap (λ t. cond t (joining (end_len bs)) 0) g.0 ∙ z)))))
-      | inr g ↦ absurd (some (ap (λ t. cond t (joining (end_len bs)) 0) g.0))
+          (a_join bs (ends bs (len_with_backslash_some (end_len bs) (λ z. some (ap (λ t. cond t (len_with_backslash (end_len bs)) 0) g.0 ∙ z)))))
+      | inr g ↦ absurd (some (ap (λ t. cond t (len_with_backslash (end_len bs)) 0) g.0))
     ]
 
-parts-at : (from here : Place) (bs : List ℕ) → Begins bs → IsTrue (is_ended bs)
+parts_at : (from here : Place) (bs : List ℕ) → Begins bs → IsTrue (is_ended bs)
     → ((rest : List ℕ) → suc (length rest) ≤ length bs → IsTrue (is_ended rest) → (from at : Place) → Parts from at rest) → Parts from here bs
-parts-at from here bs (an_end _ e) h deeper = parts-end from here bs e h (λ rest l k at. deeper rest l k at at)
-parts-at from here bs (a_join cs e) h deeper = parts-join from here cs e h (λ rest l k at. deeper rest (omega (arith, l)) k from at)
-parts-at from here bs (a_byte b cs e j) h deeper = parts-byte from here b cs e j h (λ k. deeper cs (omega arith) k (after here) (after here))
+parts_at from here bs (an_end _ e) h deeper = parts_end from here bs e h (λ rest l k at. deeper rest l k at at)
+parts_at from here bs (a_join cs e) h deeper = parts_join from here cs e h (λ rest l k at. deeper rest (omega (arith, l)) k from at)
+parts_at from here bs (a_byte b cs e j) h deeper = parts_byte from here b cs e j h (λ k. deeper cs (omega arith) k (after here) (after here))
 
-parts-up_to : (n : ℕ) (text : List ℕ) → length text ≤ n → IsTrue (is_ended text) → (from here : Place) → Parts from here text
-parts-up_to n [] h e from here = absurd (false≢true e)
-parts-up_to zero (b ∷ bs) h e from here = absurd (omega (arith, h))
-parts-up_to (suc n) (b ∷ bs) h e from here = parts-at from here (b ∷ bs) (begins b bs) e (λ rest l k from at. parts-up_to n rest (omega (arith, l, h)) k from at)
+parts_up_to : (n : ℕ) (text : List ℕ) → length text ≤ n → IsTrue (is_ended text) → (from here : Place) → Parts from here text
+parts_up_to n [] h e from here = absurd (false≢true e)
+parts_up_to zero (b ∷ bs) h e from here = absurd (omega (arith, h))
+parts_up_to (suc n) (b ∷ bs) h e from here = parts_at from here (b ∷ bs) (begins b bs) e (λ rest l k from at. parts_up_to n rest (omega (arith, l, h)) k from at)
 
 pub parts : (at : Place) (text : List ℕ) → IsTrue (is_ended text) → Parts at at text
-parts at text e = parts-up_to (length text) text (omega arith) e at at
+parts at text e = parts_up_to (length text) text (omega arith) e at at

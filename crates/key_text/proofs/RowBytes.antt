@@ -3,44 +3,44 @@ use Rattle.std.proofs.Common.{◌≡◌, ℕ, ◌+◌, ◌==◌, ◌&&◌, ◌||
 use Rattle.std.proofs.lemmas.Bool.{false≢true}
 use Rattle.std.proofs.lemmas.Bool.Decides.{eqb_tells}
 use Rattle.key_text.proofs.HasWords.{HasRows, a_row, an_empty, no_row}
-use Rattle.key_text.proofs.Turns.{byte_turn, rows_from, rows_of-from, with_items, with_items-row}
-use Rattle.key_text.proofs.WordBytes.{spaced-words}
-use Rattle.key_text.specs.Cut.{end_len, join_len, joining, lf_len}
+use Rattle.key_text.proofs.Turns.{byte_turn, rows_from, rows_of_from, with_items, with_items_row}
+use Rattle.key_text.proofs.WordBytes.{spaced_words}
+use Rattle.key_text.specs.Cut.{end_len, join_len, len_with_backslash, lf_len}
 use Rattle.key_text.specs.Rows.{Row, after, backslash, carriage_return, line_feed, next_line, put_at, row_of, rows_of, with_item}
 use Rattle.key_text.specs.Spelled.{IsEnd, Joined, Spells, byte, ended, crlf, end, is_row, join, join_crlf, last, last_empty, lf, nothing, row, row_empty}
 use Rattle.key_text.specs.Words.{bytes}
 use Rattle.key_text.specs.declared.placed.Place.{Place}
 use Rattle.key_text.specs.declared.placed.Placed.{Placed}
 
-and-left : (a b : Bool) → IsTrue (a && b) → a ≡ true
-and-left true b h = refl
-and-left false b h = absurd (false≢true h)
+and_left : (a b : Bool) → IsTrue (a && b) → a ≡ true
+and_left true b h = refl
+and_left false b h = absurd (false≢true h)
 
-and-right : (a b : Bool) → IsTrue (a && b) → b ≡ true
-and-right true b h = h
-and-right false b h = absurd (false≢true h)
+and_right : (a b : Bool) → IsTrue (a && b) → b ≡ true
+and_right true b h = h
+and_right false b h = absurd (false≢true h)
 
 not-true : (a : Bool) → IsTrue (not a) → a ≡ false
 not-true true h = absurd (false≢true h)
 not-true false h = refl
 
-or-first : (a b c : Bool) → (a || b || c) ≡ false → a ≡ false
-or-first true b c h = absurd (false≢true (sym h))
-or-first false b c h = refl
+or_first : (a b c : Bool) → (a || b || c) ≡ false → a ≡ false
+or_first true b c h = absurd (false≢true (sym h))
+or_first false b c h = refl
 
 -- the first byte of a row is no line feed
-no-feed : (b : ℕ) (bs : List ℕ) → IsTrue (is_row (b ∷ bs)) → (b == line_feed) ≡ false
-no-feed b [] h = or-first (b == line_feed) (b == carriage_return) (b == backslash) (not-true (b == line_feed || b == carriage_return || b == backslash) h)
-no-feed b (c ∷ bs) h = not-true (b == line_feed) (and-left (not (b == line_feed)) (is_row (c ∷ bs)) h)
+no_feed : (b : ℕ) (bs : List ℕ) → IsTrue (is_row (b ∷ bs)) → (b == line_feed) ≡ false
+no_feed b [] h = or_first (b == line_feed) (b == carriage_return) (b == backslash) (not-true (b == line_feed || b == carriage_return || b == backslash) h)
+no_feed b (c ∷ bs) h = not-true (b == line_feed) (and_left (not (b == line_feed)) (is_row (c ∷ bs)) h)
 
 -- a row goes on after this byte
 abbrev goes_on : List ℕ → Bool
 goes_on [] = false
 goes_on (b ∷ bs) = true
 
-rest-row : (b : ℕ) (bs : List ℕ) → IsTrue (is_row (b ∷ bs)) → IsTrue (is_row bs)
-rest-row b [] h = refl
-rest-row b (c ∷ bs) h = and-right (not (b == line_feed)) (is_row (c ∷ bs)) h
+rest_row : (b : ℕ) (bs : List ℕ) → IsTrue (is_row (b ∷ bs)) → IsTrue (is_row bs)
+rest_row b [] h = refl
+rest_row b (c ∷ bs) h = and_right (not (b == line_feed)) (is_row (c ∷ bs)) h
 
 goes-on : (b : ℕ) (bs : List ℕ) → (b == carriage_return || b == backslash) ≡ true → IsTrue (is_row (b ∷ bs)) → IsTrue (goes_on bs)
 goes-on b (c ∷ bs) e h = refl
@@ -50,40 +50,40 @@ goes-on b [] e h = absurd (false≢true (sym (no-end (b == line_feed) (b == carr
     no-end true y z e = refl
     no-end false y z e = ap not e
 
-no-feed-next : (bs text z : List ℕ) → Joined bs text → IsTrue (is_row bs) → IsTrue (goes_on bs) → lf_len (text ++ z) ≡ 0
-no-feed-next bs text z end h g = absurd (false≢true g)
-no-feed-next bs text z (byte b cs t j) h g = ap (λ x. cond x 1 0) (no-feed b cs h)
-no-feed-next bs text z (join _ t j) h g = refl
-no-feed-next bs text z (join_crlf _ t j) h g = refl
+no_feed_next : (bs text z : List ℕ) → Joined bs text → IsTrue (is_row bs) → IsTrue (goes_on bs) → lf_len (text ++ z) ≡ 0
+no_feed_next bs text z end h g = absurd (false≢true g)
+no_feed_next bs text z (byte b cs t j) h g = ap (λ x. cond x 1 0) (no_feed b cs h)
+no_feed_next bs text z (join _ t j) h g = refl
+no_feed_next bs text z (join_crlf _ t j) h g = refl
 
-no-end-next : (bs text z : List ℕ) → Joined bs text → IsTrue (is_row bs) → IsTrue (goes_on bs) → end_len (text ++ z) ≡ 0
-no-end-next bs text z end h g = absurd (false≢true g)
-no-end-next bs text z (join _ t j) h g = refl
-no-end-next bs text z (join_crlf _ t j) h g = refl
-no-end-next bs text z (byte b cs t j) h g = elim (eqb_tells b carriage_return) [
+no_end_next : (bs text z : List ℕ) → Joined bs text → IsTrue (is_row bs) → IsTrue (goes_on bs) → end_len (text ++ z) ≡ 0
+no_end_next bs text z end h g = absurd (false≢true g)
+no_end_next bs text z (join _ t j) h g = refl
+no_end_next bs text z (join_crlf _ t j) h g = refl
+no_end_next bs text z (byte b cs t j) h g = elim (eqb_tells b carriage_return) [
   | inl e ↦
-      let none = no-feed-next cs t z j (rest-row b cs h) (goes-on b cs (ap (λ x. x || b == backslash) e.0) h) in
-      ap (λ x. cond x 1 (cond (b == carriage_return) (lf_len (t ++ z) + lf_len (t ++ z)) 0)) (no-feed b cs h)
+      let none = no_feed_next cs t z j (rest_row b cs h) (goes-on b cs (ap (λ x. x || b == backslash) e.0) h) in
+      ap (λ x. cond x 1 (cond (b == carriage_return) (lf_len (t ++ z) + lf_len (t ++ z)) 0)) (no_feed b cs h)
       ∙ ap (λ x. cond x (lf_len (t ++ z) + lf_len (t ++ z)) 0) e.0
       ∙ ap (λ n. n + n) none
   | inr e ↦
-      ap (λ x. cond x 1 (cond (b == carriage_return) (lf_len (t ++ z) + lf_len (t ++ z)) 0)) (no-feed b cs h)
+      ap (λ x. cond x 1 (cond (b == carriage_return) (lf_len (t ++ z) + lf_len (t ++ z)) 0)) (no_feed b cs h)
       ∙ ap (λ x. cond x (lf_len (t ++ z) + lf_len (t ++ z)) 0) e.0
 ]
 
-no-end-here : (b : ℕ) (bs text z : List ℕ) → Joined bs text → IsTrue (is_row (b ∷ bs)) → end_len (b ∷ text ++ z) ≡ 0
-no-end-here b bs text z j h = no-end-next (b ∷ bs) (b ∷ text) z (byte b bs text j) h refl
+no_end_here : (b : ℕ) (bs text z : List ℕ) → Joined bs text → IsTrue (is_row (b ∷ bs)) → end_len (b ∷ text ++ z) ≡ 0
+no_end_here b bs text z j h = no_end_next (b ∷ bs) (b ∷ text) z (byte b bs text j) h refl
 
-or-second : (a : Bool) → (a || true) ≡ true
-or-second true = refl
-or-second false = refl
+or_second : (a : Bool) → (a || true) ≡ true
+or_second true = refl
+or_second false = refl
 
-no-join-here : (b : ℕ) (bs text z : List ℕ) → Joined bs text → IsTrue (is_row (b ∷ bs)) → join_len (b ∷ text ++ z) ≡ 0
-no-join-here b bs text z j h = elim (eqb_tells b backslash) [
+no_join_here : (b : ℕ) (bs text z : List ℕ) → Joined bs text → IsTrue (is_row (b ∷ bs)) → join_len (b ∷ text ++ z) ≡ 0
+no_join_here b bs text z j h = elim (eqb_tells b backslash) [
   | inl e ↦
-      let none = no-end-next bs text z j (rest-row b bs h) (goes-on b bs (ap (λ x. b == carriage_return || x) e.0 ∙ or-second (b == carriage_return)) h) in
-      ap (λ x. cond x (joining (end_len (text ++ z))) 0) e.0 ∙ ap joining none
-  | inr e ↦ ap (λ x. cond x (joining (end_len (text ++ z))) 0) e.0
+      let none = no_end_next bs text z j (rest_row b bs h) (goes-on b bs (ap (λ x. b == carriage_return || x) e.0 ∙ or_second (b == carriage_return)) h) in
+      ap (λ x. cond x (len_with_backslash (end_len (text ++ z))) 0) e.0 ∙ ap len_with_backslash none
+  | inr e ↦ ap (λ x. cond x (len_with_backslash (end_len (text ++ z))) 0) e.0
 ]
 
 -- the bytes of the row were read, up to what follows it
@@ -97,12 +97,12 @@ pub record Reads (from here : Place) (bs text z : List ℕ) : Type 0 where
 reads : (bs text z : List ℕ) → Joined bs text → IsTrue (is_row bs) → (from here : Place) → Reads from here bs text z
 reads bs text z end h from here = record { items = []; to = from; at = here; same = refl; has = refl }
 reads bs text z (byte b cs t j) h from here =
-    let r = reads cs t z j (rest-row b cs h) (after here) (after here) in
+    let r = reads cs t z j (rest_row b cs h) (after here) (after here) in
     record {
       items = put_at here b ∷ r.items;
       to = r.to;
       at = r.at;
-      same = byte_turn from here b (t ++ z) (no-end-here b cs t z j h) (no-join-here b cs t z j h) ∙ ap (with_item (put_at here b)) r.same;
+      same = byte_turn from here b (t ++ z) (no_end_here b cs t z j h) (no_join_here b cs t z j h) ∙ ap (with_item (put_at here b)) r.same;
       has = ap (λ x. b ∷ x) r.has;
     }
 reads bs text z (join _ t j) h from here =
@@ -120,8 +120,8 @@ pub record Begins (at : Place) (bs text : List ℕ) (left : List ℕ) : Type 0 w
   pub same : rows_of at text ≡ row_of items end_at ∷ rows_of next left
   pub has : bytes items ≡ bs
 
-row-then : (items : List Placed) (e : Place) (left : List Row) → with_items items (row_of [] e ∷ left) ≡ row_of items e ∷ left
-row-then items e left = with_items-row items [] e left ∙ ap (λ ps. row_of ps e ∷ left) (append-nil items)
+row_then : (items : List Placed) (e : Place) (left : List Row) → with_items items (row_of [] e ∷ left) ≡ row_of items e ∷ left
+row_then items e left = with_items_row items [] e left ∙ ap (λ ps. row_of ps e ∷ left) (append-nil items)
 
 ended-row : (bs text z rest : List ℕ) → IsEnd z → Joined bs text → IsTrue (is_row bs) → (at : Place) → Begins at bs (text ++ (z ++ rest)) rest
 ended-row bs text z rest lf j h at =
@@ -131,8 +131,8 @@ ended-row bs text z rest lf j h at =
       end_at = r.at;
       next = next_line r.at;
       has = r.has;
-      same = rows_of-from at (text ++ line_feed ∷ rest) ∙ r.same ∙ row-then r.items r.at (rows_from (next_line r.at) (next_line r.at) rest)
-          ∙ ap (λ x. row_of r.items r.at ∷ x) (sym (rows_of-from (next_line r.at) rest));
+      same = rows_of_from at (text ++ line_feed ∷ rest) ∙ r.same ∙ row_then r.items r.at (rows_from (next_line r.at) (next_line r.at) rest)
+          ∙ ap (λ x. row_of r.items r.at ∷ x) (sym (rows_of_from (next_line r.at) rest));
     }
 ended-row bs text z rest crlf j h at =
     let r = reads bs text (carriage_return ∷ line_feed ∷ rest) j h at at in
@@ -141,32 +141,32 @@ ended-row bs text z rest crlf j h at =
       end_at = r.at;
       next = next_line r.at;
       has = r.has;
-      same = rows_of-from at (text ++ carriage_return ∷ line_feed ∷ rest) ∙ r.same ∙ row-then r.items r.at (rows_from (next_line r.at) (next_line r.at) rest)
-          ∙ ap (λ x. row_of r.items r.at ∷ x) (sym (rows_of-from (next_line r.at) rest));
+      same = rows_of_from at (text ++ carriage_return ∷ line_feed ∷ rest) ∙ r.same ∙ row_then r.items r.at (rows_from (next_line r.at) (next_line r.at) rest)
+          ∙ ap (λ x. row_of r.items r.at ∷ x) (sym (rows_of_from (next_line r.at) rest));
     }
 
 last-row : (bs text : List ℕ) → Joined bs text → IsTrue (is_row bs) → (at : Place) → (items : List Placed) × (e : Place) × (rows_of at text ≡ row_of items e ∷ []) × (bytes items ≡ bs)
 last-row bs text j h at =
     let r = reads bs text [] j h at at in
-    (r.items, r.to, rows_of-from at text ∙ ap (rows_from at at) (sym (append-nil text)) ∙ r.same ∙ row-then r.items r.to [], r.has)
+    (r.items, r.to, rows_of_from at text ∙ ap (rows_from at at) (sym (append-nil text)) ∙ r.same ∙ row_then r.items r.to [], r.has)
 
-no-items : (at : Place) → rows_of at [] ≡ row_of [] at ∷ []
+no_items : (at : Place) → rows_of at [] ≡ row_of [] at ∷ []
 unfolding rows_of
-no-items at = refl
+no_items at = refl
 
 -- a text has the rows of words that it spells
-pub spelled-rows : (rows : List (List (List ℕ))) (text : List ℕ) → Spells rows text → (at : Place) → HasRows rows (rows_of at text)
-spelled-rows rows text nothing at =
-    subst (λ (x : List Row). HasRows [] x) (sym (no-items at)) (an_empty [] (row_of [] at) [] (spaced-words [] [] ended [] refl) no_row)
-spelled-rows rows text (last words _ is) at =
+pub spelled_rows : (rows : List (List (List ℕ))) (text : List ℕ) → Spells rows text → (at : Place) → HasRows rows (rows_of at text)
+spelled_rows rows text nothing at =
+    subst (λ (x : List Row). HasRows [] x) (sym (no_items at)) (an_empty [] (row_of [] at) [] (spaced_words [] [] ended [] refl) no_row)
+spelled_rows rows text (last words _ is) at =
     let r = last-row is.bytes text is.joined is.one_row at in
-    subst (λ (x : List Row). HasRows (words ∷ []) x) (sym r.2) (a_row words [] (row_of r.0 r.1) [] (spaced-words words is.bytes is.spaced r.0 r.3) no_row)
-spelled-rows rows text (last_empty _ is) at =
+    subst (λ (x : List Row). HasRows (words ∷ []) x) (sym r.2) (a_row words [] (row_of r.0 r.1) [] (spaced_words words is.bytes is.spaced r.0 r.3) no_row)
+spelled_rows rows text (last_empty _ is) at =
     let r = last-row is.bytes text is.joined is.one_row at in
-    subst (λ (x : List Row). HasRows [] x) (sym r.2) (an_empty [] (row_of r.0 r.1) [] (spaced-words [] is.bytes is.spaced r.0 r.3) no_row)
-spelled-rows rows text (row words more t z rest is e s) at =
+    subst (λ (x : List Row). HasRows [] x) (sym r.2) (an_empty [] (row_of r.0 r.1) [] (spaced_words [] is.bytes is.spaced r.0 r.3) no_row)
+spelled_rows rows text (row words more t z rest is e s) at =
     let r = ended-row is.bytes t z rest e is.joined is.one_row at in
-    subst (λ (x : List Row). HasRows (words ∷ more) x) (sym r.same) (a_row words more (row_of r.items r.end_at) (rows_of r.next rest) (spaced-words words is.bytes is.spaced r.items r.has) (spelled-rows more rest s r.next))
-spelled-rows rows text (row_empty more t z rest is e s) at =
+    subst (λ (x : List Row). HasRows (words ∷ more) x) (sym r.same) (a_row words more (row_of r.items r.end_at) (rows_of r.next rest) (spaced_words words is.bytes is.spaced r.items r.has) (spelled_rows more rest s r.next))
+spelled_rows rows text (row_empty more t z rest is e s) at =
     let r = ended-row is.bytes t z rest e is.joined is.one_row at in
-    subst (λ (x : List Row). HasRows more x) (sym r.same) (an_empty more (row_of r.items r.end_at) (rows_of r.next rest) (spaced-words [] is.bytes is.spaced r.items r.has) (spelled-rows more rest s r.next))
+    subst (λ (x : List Row). HasRows more x) (sym r.same) (an_empty more (row_of r.items r.end_at) (rows_of r.next rest) (spaced_words [] is.bytes is.spaced r.items r.has) (spelled_rows more rest s r.next))

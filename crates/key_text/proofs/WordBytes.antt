@@ -6,7 +6,7 @@ use Rattle.std.proofs.lemmas.List.{append_assoc, drop_at, length-append, take_at
 use Rattle.std.specs.List.{list_all, prefix_len}
 use Rattle.std.specs.Option.{option_map, option_map_or}
 use Rattle.key_text.proofs.HasWords.{HasWords, moved, none_left, one_more}
-use Rattle.key_text.proofs.SameBytes.{bare, bares, close-bare, length-bare}
+use Rattle.key_text.proofs.SameBytes.{bare, bares, close_bare, length-bare}
 use Rattle.key_text.specs.Rows.{backslash}
 use Rattle.key_text.specs.Spelled.{Inside, IsWord, Spaced, is_apart, is_comment, blank, comment, empty, ended, escaped, plain, quoted, bare as bare_word, word}
 use Rattle.key_text.specs.Words.{bytes, close_at, is_bare, is_blank, is_quote, quoted_len, word_at, word_in, word_len}
@@ -16,15 +16,15 @@ abbrev bare_test : Placed → Bool
 bare_test p = is_bare p.byte
 
 -- only the bytes count for the length of a word
-quoted-bare-len : (i : List Placed) → quoted_len i ≡ quoted_len (bares (bytes i))
-quoted-bare-len [] = refl
-quoted-bare-len (p ∷ ps) =
-    ap (λ c. cond (is_quote p.byte) (suc (option_map_or suc c (length ps))) 0) (close-bare p.byte false ps)
+quoted-bare_len : (i : List Placed) → quoted_len i ≡ quoted_len (bares (bytes i))
+quoted-bare_len [] = refl
+quoted-bare_len (p ∷ ps) =
+    ap (λ c. cond (is_quote p.byte) (suc (option_map_or suc c (length ps))) 0) (close_bare p.byte false ps)
     ∙ ap (λ n. cond (is_quote p.byte) (suc (option_map_or suc (close_at p.byte false (bares (bytes ps))) n)) 0) (length-bare ps)
 
-prefix-bare : (i : List Placed) → prefix_len bare_test i ≡ prefix_len bare_test (bares (bytes i))
-prefix-bare [] = refl
-prefix-bare (p ∷ ps) = ap (λ n. cond (is_bare p.byte) (1 + n) 0) (prefix-bare ps)
+prefix_bare : (i : List Placed) → prefix_len bare_test i ≡ prefix_len bare_test (bares (bytes i))
+prefix_bare [] = refl
+prefix_bare (p ∷ ps) = ap (λ n. cond (is_bare p.byte) (1 + n) 0) (prefix_bare ps)
 
 drop-bare : (n : ℕ) (i : List Placed) → bares (bytes (drop n i)) ≡ drop n (bares (bytes i))
 drop-bare zero i = refl
@@ -33,25 +33,20 @@ drop-bare (suc n) (p ∷ ps) = drop-bare n ps
 
 pub word_len-bare : (i : List Placed) → word_len i ≡ word_len (bares (bytes i))
 word_len-bare i =
-    ap (λ n. n + prefix_len bare_test (drop n i)) (quoted-bare-len i)
+    ap (λ n. n + prefix_len bare_test (drop n i)) (quoted-bare_len i)
     ∙ ap (λ n. quoted_len (bares (bytes i)) + n)
-    (prefix-bare (drop (quoted_len (bares (bytes i))) i) ∙ ap (prefix_len bare_test) (drop-bare (quoted_len (bares (bytes i))) i))
+    (prefix_bare (drop (quoted_len (bares (bytes i))) i) ∙ ap (prefix_len bare_test) (drop-bare (quoted_len (bares (bytes i))) i))
 
--- bytes of a word without quotes, up to what stands apart
-bares-more : (xs ys : List ℕ) → bares (xs ++ ys) ≡ bares xs ++ bares ys
-bares-more [] ys = refl
-bares-more (x ∷ xs) ys = ap (λ z. bare x ∷ z) (bares-more xs ys)
-
-apart-none : (bs : List ℕ) → IsTrue (is_apart bs) → prefix_len bare_test (bares bs) ≡ 0
-apart-none [] h = refl
-apart-none (b ∷ bs) h = by_bare (is_bare b) refl
+apart_none : (bs : List ℕ) → IsTrue (is_apart bs) → prefix_len bare_test (bares bs) ≡ 0
+apart_none [] h = refl
+apart_none (b ∷ bs) h = by_bare (is_bare b) refl
   where
     by_bare : (t : Bool) → is_bare b ≡ t → prefix_len bare_test (bares (b ∷ bs)) ≡ 0
     by_bare true e = absurd (false≢true (sym (ap not e) ∙ h))
     by_bare false e = rw e refl
 
 run : (w bs : List ℕ) → IsTrue (list_all is_bare w) → IsTrue (is_apart bs) → prefix_len bare_test (bares (w ++ bs)) ≡ length w
-run [] bs all apart = apart-none bs apart
+run [] bs all apart = apart_none bs apart
 run (b ∷ w) bs all apart = by_bare (is_bare b) refl (λ all'. run w bs all' apart)
   where
     by_bare : (t : Bool) → is_bare b ≡ t → (IsTrue (list_all is_bare w) → prefix_len bare_test (bares (w ++ bs)) ≡ length w) → prefix_len bare_test (bares (b ∷ w ++ bs)) ≡ suc (length w)
@@ -121,8 +116,8 @@ and-true : (a b : Bool) → IsTrue (a && b) → a ≡ true
 and-true true b h = refl
 and-true false b h = absurd (false≢true h)
 
-quote-not-blank : (q : ℕ) → IsTrue (is_quote q) → is_blank q ≡ false
-quote-not-blank q h = elim (eqb_tells q 0x22) [
+quote_not-blank : (q : ℕ) → IsTrue (is_quote q) → is_blank q ≡ false
+quote_not-blank q h = elim (eqb_tells q 0x22) [
   | inl e ↦ subst (λ (x : ℕ). is_blank x ≡ false) (sym e.1) refl
   | inr e ↦ elim (eqb_tells q 0x27) [
     | inl f ↦ subst (λ (x : ℕ). is_blank x ≡ false) (sym f.1) refl
@@ -134,45 +129,45 @@ abbrev starts_blank : List ℕ → Bool
 starts_blank [] = true
 starts_blank (b ∷ bs) = is_blank b
 
-word-starts : (w bs : List ℕ) → IsWord w → starts_blank (w ++ bs) ≡ false
-word-starts w bs (bare_word b cs unquoted all) = not-blank b (and-true (is_bare b) (list_all is_bare cs) all)
-word-starts w bs (quoted q inside tail h t all) = quote-not-blank q h
+word_starts : (w bs : List ℕ) → IsWord w → starts_blank (w ++ bs) ≡ false
+word_starts w bs (bare_word b cs unquoted all) = not-blank b (and-true (is_bare b) (list_all is_bare cs) all)
+word_starts w bs (quoted q inside tail h t all) = quote_not-blank q h
 
-no-blanks : (i : List Placed) → starts_blank (bytes i) ≡ false → drop (prefix_len (λ p. is_blank p.byte) i) i ≡ i
-no-blanks [] h = refl
-no-blanks (p ∷ ps) h = rw h refl
+no_blanks : (i : List Placed) → starts_blank (bytes i) ≡ false → drop (prefix_len (λ p. is_blank p.byte) i) i ≡ i
+no_blanks [] h = refl
+no_blanks (p ∷ ps) h = rw h refl
 
-some-bytes : (w : List ℕ) → IsWord w → (length w == 0) ≡ false
-some-bytes w (bare_word b bs unquoted all) = elim (eqb_tells (suc (length bs)) 0) [
+some_bytes : (w : List ℕ) → IsWord w → (length w == 0) ≡ false
+some_bytes w (bare_word b bs unquoted all) = elim (eqb_tells (suc (length bs)) 0) [
   | inl e ↦ absurd (let h = e.1 in omega (arith, h))
   | inr e ↦ e.0
 ]
-some-bytes w (quoted q inside tail h t all) = elim (eqb_tells (suc (length (inside ++ q ∷ tail))) 0) [
+some_bytes w (quoted q inside tail h t all) = elim (eqb_tells (suc (length (inside ++ q ∷ tail))) 0) [
   | inl e ↦ absurd (let h = e.1 in omega (arith, h))
   | inr e ↦ e.0
 ]
 
-pub first-word : (w bs : List ℕ) (i : List Placed) → IsWord w → IsTrue (is_apart bs) → bytes i ≡ w ++ bs → word_at i ≡ Some (take (length w) i, drop (length w) i)
+pub first_word : (w bs : List ℕ) (i : List Placed) → IsWord w → IsTrue (is_apart bs) → bytes i ≡ w ++ bs → word_at i ≡ Some (take (length w) i, drop (length w) i)
 unfolding word_at
-first-word w bs i is apart e =
+first_word w bs i is apart e =
     let len : word_len i ≡ length w = word_len-bare i ∙ ap (λ x. word_len (bares x)) e ∙ begins w bs is apart in
-    ap word_in (no-blanks i (ap starts_blank e ∙ word-starts w bs is))
+    ap word_in (no_blanks i (ap starts_blank e ∙ word_starts w bs is))
     ∙ ap (λ n. cond (n == 0) None (Some (take n i, drop n i))) len
-    ∙ ap (λ t. cond t None (Some (take (length w) i, drop (length w) i))) (some-bytes w is)
+    ∙ ap (λ t. cond t None (Some (take (length w) i, drop (length w) i))) (some_bytes w is)
 
-pub blank-first : (p : Placed) (ps : List Placed) → IsTrue (is_blank p.byte) → word_at (p ∷ ps) ≡ word_at ps
+pub blank_first : (p : Placed) (ps : List Placed) → IsTrue (is_blank p.byte) → word_at (p ∷ ps) ≡ word_at ps
 unfolding word_at
-blank-first p ps h =
+blank_first p ps h =
     let n = prefix_len (λ q. is_blank q.byte) ps in
     let first : prefix_len (λ q. is_blank q.byte) (p ∷ ps) ≡ suc n = ap (λ t. cond t (1 + n) 0) h ∙ (let e : 1 + n ≡ suc n = omega arith in e) in
     ap (λ k. word_in (drop k (p ∷ ps))) first
 
-comment-byte : (p : Placed) (ps : List Placed) (b : ℕ) → p.byte ≡ b → word_at (record { byte = b; line = p.line; column = p.column } ∷ ps) ≡ None → word_at (p ∷ ps) ≡ None
-comment-byte p ps b e h = subst (λ (x : ℕ). word_at (record { byte = x; line = p.line; column = p.column } ∷ ps) ≡ None) (sym e) h
+comment_byte : (p : Placed) (ps : List Placed) (b : ℕ) → p.byte ≡ b → word_at (record { byte = b; line = p.line; column = p.column } ∷ ps) ≡ None → word_at (p ∷ ps) ≡ None
+comment_byte p ps b e h = subst (λ (x : ℕ). word_at (record { byte = x; line = p.line; column = p.column } ∷ ps) ≡ None) (sym e) h
 
-comment-at : (b line column : ℕ) (ps : List Placed) → IsTrue (b == 0x21 || b == 0x23) → word_at (record { byte = b; line = line; column = column } ∷ ps) ≡ None
+comment_at : (b line column : ℕ) (ps : List Placed) → IsTrue (b == 0x21 || b == 0x23) → word_at (record { byte = b; line = line; column = column } ∷ ps) ≡ None
 unfolding word_at
-comment-at b line column ps h = elim (eqb_tells b 0x21) [
+comment_at b line column ps h = elim (eqb_tells b 0x21) [
   | inl e ↦ subst (λ (x : ℕ). word_in (drop (prefix_len (λ p. is_blank p.byte) (record { byte = x; line = line; column = column } ∷ ps)) (record { byte = x; line = line; column = column } ∷ ps)) ≡ None) (sym e.1) refl
   | inr e ↦ elim (eqb_tells b 0x23) [
     | inl f ↦ subst (λ (x : ℕ). word_in (drop (prefix_len (λ p. is_blank p.byte) (record { byte = x; line = line; column = column } ∷ ps)) (record { byte = x; line = line; column = column } ∷ ps)) ≡ None) (sym f.1) refl
@@ -180,39 +175,39 @@ comment-at b line column ps h = elim (eqb_tells b 0x21) [
   ]
 ]
 
-pub no-word : word_at [] ≡ None
+pub no_word : word_at [] ≡ None
 unfolding word_at
-no-word = refl
+no_word = refl
 
 nil-bytes : (i : List Placed) → bytes i ≡ [] → i ≡ []
 nil-bytes [] e = refl
 nil-bytes (p ∷ ps) e = absurd (let h : p.byte ∷ bytes ps ≡ [] = e in cc)
 
-head-byte : (b c : ℕ) (bs cs : List ℕ) → b ∷ bs ≡ c ∷ cs → b ≡ c
-head-byte b c bs cs e = cc
+head_byte : (b c : ℕ) (bs cs : List ℕ) → b ∷ bs ≡ c ∷ cs → b ≡ c
+head_byte b c bs cs e = cc
 
-tail-bytes : (b c : ℕ) (bs cs : List ℕ) → b ∷ bs ≡ c ∷ cs → bs ≡ cs
-tail-bytes b c bs cs e = cc
+tail_bytes : (b c : ℕ) (bs cs : List ℕ) → b ∷ bs ≡ c ∷ cs → bs ≡ cs
+tail_bytes b c bs cs e = cc
 
 -- a row has the words that its bytes spell
-blank-words : (b : ℕ) (ws : List (List ℕ)) (bs : List ℕ) (i : List Placed) → IsTrue (is_blank b) → bytes i ≡ b ∷ bs → ((j : List Placed) → bytes j ≡ bs → HasWords ws j) → HasWords ws i
-blank-words b ws bs [] h e rest = absurd (let k : [] ≡ b ∷ bs = e in cc)
-blank-words b ws bs (p ∷ ps) h e rest =
-    moved ws (p ∷ ps) ps (rest ps (tail-bytes p.byte b (bytes ps) bs e))
-    (blank-first p ps (subst (λ (x : ℕ). is_blank x ≡ true) (sym (head-byte p.byte b (bytes ps) bs e)) h))
+blank_words : (b : ℕ) (ws : List (List ℕ)) (bs : List ℕ) (i : List Placed) → IsTrue (is_blank b) → bytes i ≡ b ∷ bs → ((j : List Placed) → bytes j ≡ bs → HasWords ws j) → HasWords ws i
+blank_words b ws bs [] h e rest = absurd (let k : [] ≡ b ∷ bs = e in cc)
+blank_words b ws bs (p ∷ ps) h e rest =
+    moved ws (p ∷ ps) ps (rest ps (tail_bytes p.byte b (bytes ps) bs e))
+    (blank_first p ps (subst (λ (x : ℕ). is_blank x ≡ true) (sym (head_byte p.byte b (bytes ps) bs e)) h))
 
-comment-words : (bs : List ℕ) (i : List Placed) → IsTrue (is_comment bs) → bytes i ≡ bs → HasWords [] i
-comment-words bs [] h e = none_left [] no-word
-comment-words [] (p ∷ ps) h e = absurd (false≢true h)
-comment-words (b ∷ bs) (p ∷ ps) h e =
-    none_left (p ∷ ps) (comment-byte p ps b (head-byte p.byte b (bytes ps) bs e) (comment-at b p.line p.column ps h))
+comment_words : (bs : List ℕ) (i : List Placed) → IsTrue (is_comment bs) → bytes i ≡ bs → HasWords [] i
+comment_words bs [] h e = none_left [] no_word
+comment_words [] (p ∷ ps) h e = absurd (false≢true h)
+comment_words (b ∷ bs) (p ∷ ps) h e =
+    none_left (p ∷ ps) (comment_byte p ps b (head_byte p.byte b (bytes ps) bs e) (comment_at b p.line p.column ps h))
 
-pub spaced-words : (ws : List (List ℕ)) (bs : List ℕ) → Spaced ws bs → (i : List Placed) → bytes i ≡ bs → HasWords ws i
-spaced-words ws bs ended i e = none_left i (ap word_at (nil-bytes i e) ∙ no-word)
-spaced-words ws bs (comment _ h) i e = comment-words bs i h e
-spaced-words ws bs (blank b _ cs h t) i e = blank-words b ws cs i h e (spaced-words ws cs t)
-spaced-words ws bs (word w us cs is apart t) i e =
+pub spaced_words : (ws : List (List ℕ)) (bs : List ℕ) → Spaced ws bs → (i : List Placed) → bytes i ≡ bs → HasWords ws i
+spaced_words ws bs ended i e = none_left i (ap word_at (nil-bytes i e) ∙ no_word)
+spaced_words ws bs (comment _ h) i e = comment_words bs i h e
+spaced_words ws bs (blank b _ cs h t) i e = blank_words b ws cs i h e (spaced_words ws cs t)
+spaced_words ws bs (word w us cs is apart t) i e =
     let n = length w in
-    one_more w us i (take n i, drop n i) (first-word w cs i is apart e)
+    one_more w us i (take n i, drop n i) (first_word w cs i is apart e)
     (bytes-take n i ∙ ap (take n) e ∙ take_at w cs n refl)
-    (spaced-words us cs t (drop n i) (bytes-drop n i ∙ ap (drop n) e ∙ drop_at w cs n refl))
+    (spaced_words us cs t (drop n i) (bytes-drop n i ∙ ap (drop n) e ∙ drop_at w cs n refl))

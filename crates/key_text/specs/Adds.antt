@@ -1,7 +1,7 @@
 -- What a call that adds lines did.
 use Rattle.std.specs.Prelude.{◌≡◌, ℕ, Result, Ok, Err, List, ◌++◌}
 use Rattle.key_text.specs.Fault.{Fails}
-use Rattle.key_text.specs.Reading.{Got, got}
+use Rattle.key_text.specs.Reading.{Got, make_got}
 use Rattle.key_text.specs.KeymapLine.{KeymapLine}
 use Rattle.key_text.specs.declared.fault.KeyError.{KeyError}
 use Rattle.key_text.specs.declared.fault.KeyFault.{KeyFault}
@@ -10,5 +10,5 @@ use Rattle.key_text.specs.declared.fault.KeyFault.{KeyFault}
 -- failed as reading does, or for want of memory
 abbrev pub Adds : List KeymapLine → List KeymapLine → Result ℕ KeyError → Result Got KeyFault → Type 0
 Adds old new (Ok count) read =
-    (lines : List KeymapLine) × (read ≡ Ok (got lines count)) × (new ≡ old ++ lines)
+    (lines : List KeymapLine) × (read ≡ Ok (make_got lines count)) × (new ≡ old ++ lines)
 Adds old new (Err e) read = Fails e read

@@ -14,9 +14,9 @@ end_len (b ∷ bs) =
     cond (b == line_feed) 1 (cond (b == carriage_return) (lf_len bs + lf_len bs) 0)
 
 -- the bytes of a join that begins the bytes
-abbrev pub joining : ℕ → ℕ
-joining n = cond (n == 0) 0 (n + 1)
+abbrev pub len_with_backslash : ℕ → ℕ
+len_with_backslash n = cond (n == 0) 0 (n + 1)
 
 abbrev pub join_len : List ℕ → ℕ
 join_len [] = 0
-join_len (b ∷ bs) = cond (b == backslash) (joining (end_len bs)) 0
+join_len (b ∷ bs) = cond (b == backslash) (len_with_backslash (end_len bs)) 0

@@ -17,8 +17,8 @@ abbrev pub ended_by : Option (List Placed × List Placed) → Result (Unit {0}) 
 ended_by None = Ok tt
 ended_by (Some word) = whole word >>= λ w. Err (fault LEFT_OVER (spot w.0))
 
-unfoldable pub ended : List Placed → Result (Unit {0}) KeyFault
-ended items = ended_by (word_at items)
+unfoldable pub end_of_line : List Placed → Result (Unit {0}) KeyFault
+end_of_line items = ended_by (word_at items)
 
 -- this keyword, and what follows it
 unfoldable pub keyword_at : List ℕ → Place → List Placed → Result (List Placed) KeyFault
@@ -27,25 +27,25 @@ keyword_at text end items = do
   cond (is_word text w.0) (Ok w.1) (Err (fault UNKNOWN_WORD (spot w.0)))
 
 -- a number of a word, within a range
-abbrev pub ranged : ℕ → ℕ → List Placed → Option ℕ → Result ℕ KeyFault
-ranged low high word None = Err (fault UNKNOWN_WORD (spot word))
-ranged low high word (Some n) =
+abbrev pub number_in_range : ℕ → ℕ → List Placed → Option ℕ → Result ℕ KeyFault
+number_in_range low high word None = Err (fault UNKNOWN_WORD (spot word))
+number_in_range low high word (Some n) =
     cond (nat_le low n && nat_le n high) (Ok n) (Err (fault OUT_OF_RANGE (spot word)))
 
 -- a keycode, and what follows it
 unfoldable pub code_at : Place → List Placed → Result (ℕ × List Placed) KeyFault
 code_at end items = do
   w ← next UNKNOWN_WORD end items
-  n ← ranged 1 255 w.0 (number_of (bytes w.0))
+  n ← number_in_range 1 255 w.0 (number_of (bytes w.0))
   Ok (n, w.1)
 
 -- the action of a word that is a symbol
-abbrev pub known : List Placed → Option Act → Result Act KeyFault
-known word None = Err (fault UNKNOWN_SYMBOL (spot word))
-known word (Some action) = Ok action
+abbrev pub symbol_action : List Placed → Option Act → Result Act KeyFault
+symbol_action word None = Err (fault UNKNOWN_SYMBOL (spot word))
+symbol_action word (Some action) = Ok action
 
 abbrev pub action_of : List Placed → Result Act KeyFault
-action_of word = known word (symbol (bytes word))
+action_of word = symbol_action word (symbol (bytes word))
 
 -- the first symbol of a key line, and what follows it
 unfoldable pub symbol_at : Place → List Placed → Result (Act × List Placed) KeyFault

@@ -8,8 +8,8 @@ pub record Named : Type 0 where
   pub name : List ℕ
   pub text : List ℕ
 
-abbrev pub named : List ℕ → List ℕ → Named
-named name text = record { name = name; text = text }
+abbrev pub make_named : List ℕ → List ℕ → Named
+make_named name text = record { name = name; text = text }
 
 -- the first text of a name
 abbrev pub text_named : List ℕ → List Named → Option (List ℕ)
@@ -18,4 +18,4 @@ text_named name texts = option_map (λ n. n.text) (find (λ n. bytes_eq n.name n
 -- a text is added where its name isn't there yet
 abbrev pub with_text : List ℕ → List ℕ → List Named → List Named
 with_text name text texts =
-    cond (is_some (text_named name texts)) texts (texts ++ named name text ∷ [])
+    cond (is_some (text_named name texts)) texts (texts ++ make_named name text ∷ [])

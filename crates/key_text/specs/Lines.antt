@@ -5,7 +5,7 @@ use Rattle.std.specs.Result.{result_err}
 use Rattle.key_syms.specs.Numbers.{number_of}
 use Rattle.key_syms.specs.declared.pair.Pair.{Pair}
 use Rattle.key_text.specs.Fault.{fault, ◌>>=◌}
-use Rattle.key_text.specs.Fields.{character_at, code_at, ended, keyword_at, ranged, string_at, symbol_at, symbols_at, function_at, text_at, with_actions}
+use Rattle.key_text.specs.Fields.{character_at, code_at, end_of_line, keyword_at, number_in_range, string_at, symbol_at, symbols_at, function_at, text_at, with_actions}
 use Rattle.key_text.specs.KeymapLine.{Telling, keymaps, keys, one, string, compose, alt_is_meta, usual_strings, usual_pairs}
 use Rattle.key_text.specs.Words.{bytes, is_word, next, spot, whole, word_at}
 use Rattle.key_text.specs.declared.fault.KeyFault.{KeyFault}
@@ -43,7 +43,7 @@ pieces (b ∷ bs) = cond (b == comma) ([] ∷ pieces bs) (with_byte b (pieces bs
 
 -- the number of a table
 abbrev pub table_of : List Placed → List ℕ → Result ℕ KeyFault
-table_of word piece = ranged 0 255 word (number_of piece)
+table_of word piece = number_in_range 0 255 word (number_of piece)
 
 -- a range in order
 abbrev pub in_order : List Placed → ℕ → ℕ → Result TableRange KeyFault
@@ -72,19 +72,19 @@ abbrev pub covers : ℕ → TableRange → Bool
 covers t range = nat_le range.low t && nat_le t range.high
 
 -- for each table whether a range has it
-unfoldable pub marked : List TableRange → List Bool
-marked ranges = map (λ t. list_any (covers t) ranges) (range_with_len 0 256)
+unfoldable pub table_marks : List TableRange → List Bool
+table_marks ranges = map (λ t. list_any (covers t) ranges) (range_with_len 0 256)
 
 -- the tables of a word of ranges
 abbrev pub tables_in : List Placed → List ℕ → Result (List Bool) KeyFault
-tables_in word text = ranges_of word (pieces text) >>= λ ranges. Ok (marked ranges)
+tables_in word text = ranges_of word (pieces text) >>= λ ranges. Ok (table_marks ranges)
 
 -- `keymaps` and ranges
 unfoldable pub keymaps_line : Place → List Placed → Result Said KeyFault
 keymaps_line end items = do
   w ← next UNKNOWN_WORD end items
   tables ← tables_in w.0 (bytes w.0)
-  done ← ended w.1
+  done ← end_of_line w.1
   Ok (tells (keymaps tables))
 
 -- `keycode N =` and symbols
@@ -132,7 +132,7 @@ modified_line weight end items = do
   code ← code_at end table.1
   rest ← keyword_at (codes "=") end code.1
   only ← symbol_at end rest
-  done ← ended only.1
+  done ← end_of_line only.1
   Ok (tells (one table.0 code.0 only.0))
 
 -- `string NAME = "text"`
@@ -141,7 +141,7 @@ string_line end items = do
   func ← function_at end items
   rest ← keyword_at (codes "=") end func.1
   bytes ← string_at end rest
-  done ← ended bytes.1
+  done ← end_of_line bytes.1
   Ok (tells (string func.0 bytes.0))
 
 -- `A B to C`
@@ -154,7 +154,7 @@ pair_line end items = do
   base ← character_at end accent.1
   rest ← keyword_at (codes "to") end base.1
   result ← character_at end rest
-  done ← ended result.1
+  done ← end_of_line result.1
   Ok (tells (compose (pair_of accent.0 base.0 result.0)))
 
 -- the next word is this one
@@ -178,7 +178,7 @@ usual_pairs_line end items = do
   rest ← keyword_at (codes "as") end items
   rest ← keyword_at (codes "usual") end rest
   rest ← after_charset end rest
-  done ← ended rest
+  done ← end_of_line rest
   Ok (tells usual_pairs)
 
 unfoldable pub compose_line : Place → List Placed → Result Said KeyFault
@@ -190,23 +190,23 @@ unfoldable pub usual_strings_line : Place → List Placed → Result Said KeyFau
 usual_strings_line end items = do
   rest ← keyword_at (codes "as") end items
   rest ← keyword_at (codes "usual") end rest
-  done ← ended rest
+  done ← end_of_line rest
   Ok (tells usual_strings)
 
 unfoldable pub alt_is_meta_line : List Placed → Result Said KeyFault
-alt_is_meta_line items = ended items >>= λ done. Ok (tells alt_is_meta)
+alt_is_meta_line items = end_of_line items >>= λ done. Ok (tells alt_is_meta)
 
 -- `include "name"`
 unfoldable pub include_line : Place → List Placed → Result Said KeyFault
 include_line end items = do
   name ← text_at end items
-  Ok (includes name.0 name.1 (result_err (ended name.2)))
+  Ok (includes name.0 name.1 (result_err (end_of_line name.2)))
 
 -- `charset "name"`, which has no effect
 unfoldable pub charset_line : Place → List Placed → Result Said KeyFault
 charset_line end items = do
   name ← text_at end items
-  done ← ended name.2
+  done ← end_of_line name.2
   Ok nothing
 
 -- a line that begins with modifier words, or with no word that is known

@@ -5,8 +5,8 @@ use Rattle.key_text.specs.Fault.{◌>>=◌}
 use Rattle.key_text.specs.Included.{Named}
 use Rattle.key_text.specs.KeymapLine.{KeymapLine}
 use Rattle.key_text.specs.Reading.{Got, lines_of, most_deep, read_rows, start, with_lines, within}
-use Rattle.key_text.specs.Rows.{backslash, behind, line_feed, rows_of}
-use Rattle.key_text.specs.Tellings.{told}
+use Rattle.key_text.specs.Rows.{backslash, place_after, line_feed, rows_of}
+use Rattle.key_text.specs.Tellings.{tellings_or_fault}
 use Rattle.key_text.specs.declared.fault.KeyFault.{KeyFault}
 use Rattle.key_text.specs.declared.placed.Place.{Place}
 
@@ -22,9 +22,9 @@ is_ended (b ∷ []) = b == line_feed
 is_ended (b ∷ c ∷ bs) = not (b == backslash && is_line_end (c ∷ bs)) && is_ended (c ∷ bs)
 
 -- the place behind a text that starts at this one
-abbrev pub place_behind : Place → List ℕ → Place
-place_behind at [] = at
-place_behind at (b ∷ bs) = place_behind (behind at b) bs
+abbrev pub place_after_text : Place → List ℕ → Place
+place_after_text at [] = at
+place_after_text at (b ∷ bs) = place_after_text (place_after at b) bs
 
 -- what a text gives that starts at this place, where so many texts were included before
 abbrev pub read_from : List Named → Place → ℕ → List ℕ → Result Got KeyFault
@@ -42,7 +42,7 @@ StartsThere = (texts : List Named) (text : List ℕ) → lines_of texts text ≡
 abbrev pub PlacesTell : Type 0
 PlacesTell =
     (texts : List Named) (at there : Place) (count : ℕ) (text : List ℕ)
-    → told (lines_from texts at count text) ≡ told (lines_from texts there count text)
+    → tellings_or_fault (lines_from texts at count text) ≡ tellings_or_fault (lines_from texts there count text)
 
 -- where a text that ends a line has no fault, its lines stand before those of what follows it, which
 -- is read as it would be there
@@ -50,7 +50,7 @@ abbrev pub TextsFollow : Type 0
 TextsFollow =
     (texts : List Named) (at : Place) (count : ℕ) (a b : List ℕ) (g : Got)
     → IsTrue (is_ended a) → read_from texts at count a ≡ Ok g
-    → read_from texts at count (a ++ b) ≡ with_lines g.lines (read_from texts (place_behind at a) g.count b)
+    → read_from texts at count (a ++ b) ≡ with_lines g.lines (read_from texts (place_after_text at a) g.count b)
 
 -- where it has a fault, nothing that follows it changes the answer
 abbrev pub FaultsStop : Type 0
@@ -66,4 +66,4 @@ FaultsAreFirst =
     (texts : List Named) (at : Place) (count : ℕ) (a b : List ℕ) (f : KeyFault)
     → IsTrue (is_ended a) → read_from texts at count (a ++ b) ≡ Err f
     → (read_from texts at count a ≡ Err f)
-    ⊎ ((g : Got) × (read_from texts at count a ≡ Ok g) × (read_from texts (place_behind at a) g.count b ≡ Err f))
+    ⊎ ((g : Got) × (read_from texts at count a ≡ Ok g) × (read_from texts (place_after_text at a) g.count b ≡ Err f))

@@ -6,7 +6,7 @@ use Rattle.std.specs.Option.{option_map}
 use Rattle.std.specs.Ordering.{nat_cmp}
 use Rattle.std.specs.Str.{bytes_eq}
 use Rattle.std.specs.declared.vec.Vec.{Vec}
-use Rattle.key_text.specs.Included.{Named, named}
+use Rattle.key_text.specs.Included.{Named, make_named}
 
 -- the place of the first text of a name
 abbrev pub place_of : List ℕ → List Named → Option ℕ
@@ -15,7 +15,7 @@ place_of name (n ∷ ns) = cond (bytes_eq n.name name) (Some 0) (option_map suc 
 
 -- the text at a place
 abbrev pub text_in : List Named → ℕ → List ℕ
-text_in texts place = (slice_index_or texts place (named [] [])).text
+text_in texts place = (slice_index_or texts place (make_named [] [])).text
 
 -- what an ordered map has at a name
 abbrev pub at_name : {A : Type 0} → BTreeMap (Vec ℕ A) ℕ → List ℕ → Option ℕ

@@ -7,14 +7,14 @@ use Rattle.key_text.specs.Words.{bytes, close_at}
 use Rattle.key_text.specs.declared.placed.Placed.{Placed}
 
 -- what stands before the closing quote, where the word ends with it
-abbrev pub closed : List Placed → Option ℕ → Option (List ℕ)
-closed ps None = None
-closed ps (Some n) = cond (suc n == length ps) (Some (take n (bytes ps))) None
+abbrev pub text_before_quote : List Placed → Option ℕ → Option (List ℕ)
+text_before_quote ps None = None
+text_before_quote ps (Some n) = cond (suc n == length ps) (Some (take n (bytes ps))) None
 
 -- what stands between two quotes of this kind that are the first and the last byte of a word
-abbrev pub between : ℕ → List Placed → Option (List ℕ)
-between q [] = None
-between q (p ∷ ps) = cond (p.byte == q) (closed ps (close_at q false ps)) None
+abbrev pub text_between : ℕ → List Placed → Option (List ℕ)
+text_between q [] = None
+text_between q (p ∷ ps) = cond (p.byte == q) (text_before_quote ps (close_at q false ps)) None
 
 abbrev pub is_octal : ℕ → Bool
 is_octal b = nat_le 0x30 b && nat_le b 0x37
@@ -54,26 +54,26 @@ abbrev pub before_rest : (List ℕ → Option (List ℕ)) → ℕ × List ℕ �
 before_rest rest first = option_map (λ bs. first.0 ∷ bs) (rest first.1)
 
 -- the bytes that a quoted text stands for, of which there are n at most
-abbrev pub unescaped : ℕ → List ℕ → Option (List ℕ)
-unescaped n [] = Some []
-unescaped zero (b ∷ bs) = None
-unescaped (suc n) (b ∷ bs) = option_and_then (before_rest (unescaped n)) (first_of b bs)
+abbrev pub unescaped_bytes : ℕ → List ℕ → Option (List ℕ)
+unescaped_bytes n [] = Some []
+unescaped_bytes zero (b ∷ bs) = None
+unescaped_bytes (suc n) (b ∷ bs) = option_and_then (before_rest (unescaped_bytes n)) (first_of b bs)
 
 abbrev pub unescaped_whole : List ℕ → Option (List ℕ)
-unescaped_whole text = unescaped (length text) text
+unescaped_whole text = unescaped_bytes (length text) text
 
 -- what a word in double quotes stands for
 unfoldable pub text_of : List Placed → Option (List ℕ)
-text_of word = option_and_then unescaped_whole (between 0x22 word)
+text_of word = option_and_then unescaped_whole (text_between 0x22 word)
 
 -- the character that one, two or three bytes of UTF-8 are (Unicode Table 3-6)
-abbrev pub decoded : List ℕ → Option ℕ
-decoded [] = None
-decoded (a ∷ []) = Some a
-decoded (a ∷ b ∷ []) = cond (nat_le 0xC0 a) (Some ((a - 0xC0) * 64 + (b - 0x80))) None
-decoded (a ∷ b ∷ c ∷ []) =
+abbrev pub character_of_utf8 : List ℕ → Option ℕ
+character_of_utf8 [] = None
+character_of_utf8 (a ∷ []) = Some a
+character_of_utf8 (a ∷ b ∷ []) = cond (nat_le 0xC0 a) (Some ((a - 0xC0) * 64 + (b - 0x80))) None
+character_of_utf8 (a ∷ b ∷ c ∷ []) =
     cond (nat_le 0xE0 a) (Some ((a - 0xE0) * 4096 + (b - 0x80) * 64 + (c - 0x80))) None
-decoded (a ∷ b ∷ c ∷ d ∷ bs) = None
+character_of_utf8 (a ∷ b ∷ c ∷ d ∷ bs) = None
 
 -- an escape that is the whole of a text
 abbrev pub only : List ℕ → ℕ × ℕ → Option ℕ
@@ -83,8 +83,8 @@ only text escape = cond (escape.1 == length text) (Some escape.0) None
 abbrev pub one_character : List ℕ → Option ℕ
 one_character [] = None
 one_character (b ∷ bs) =
-    cond (b == backslash) (option_and_then (only bs) (escape_in bs)) (decoded (b ∷ bs))
+    cond (b == backslash) (option_and_then (only bs) (escape_in bs)) (character_of_utf8 (b ∷ bs))
 
 -- what a word in single quotes stands for
 unfoldable pub character_of : List Placed → Option ℕ
-character_of word = option_and_then one_character (between 0x27 word)
+character_of word = option_and_then one_character (text_between 0x27 word)

@@ -18,8 +18,8 @@ pub record Got : Type 0 where
   pub lines : List KeymapLine
   pub count : ℕ
 
-abbrev pub got : List KeymapLine → ℕ → Got
-got lines count = record { lines = lines; count = count }
+abbrev pub make_got : List KeymapLine → ℕ → Got
+make_got lines count = record { lines = lines; count = count }
 
 -- where a text begins
 abbrev pub start : Place
@@ -30,15 +30,15 @@ abbrev pub blamed_fault : Option Place → KeyFault → KeyFault
 blamed_fault outer f =
     fault f.kind (unwrap_or outer (record { line = f.line; column = f.column }))
 
-abbrev pub blamed : {A : Type 0} → Option Place → Result A KeyFault → Result A KeyFault
-blamed outer (Ok x) = Ok x
-blamed outer (Err f) = Err (blamed_fault outer f)
+abbrev pub at_outer_include : {A : Type 0} → Option Place → Result A KeyFault → Result A KeyFault
+at_outer_include outer (Ok x) = Ok x
+at_outer_include outer (Err f) = Err (blamed_fault outer f)
 
 -- the text of an include line, read by `deeper`, where it is given; the place is that of the quoted
 -- name
-abbrev pub included : (List ℕ → Result Got KeyFault) → Place → Option (List ℕ) → Result Got KeyFault
-included deeper quoted None = Err (fault NOT_GIVEN quoted)
-included deeper quoted (Some text) = deeper text
+abbrev pub got_from_include : (List ℕ → Result Got KeyFault) → Place → Option (List ℕ) → Result Got KeyFault
+got_from_include deeper quoted None = Err (fault NOT_GIVEN quoted)
+got_from_include deeper quoted (Some text) = deeper text
 
 -- how a text is read at a place: where the quoted name stands, where the include line starts, the
 -- fault of what follows the name, and how many texts were included before
@@ -46,21 +46,21 @@ abbrev pub Deeper : Type 0
 Deeper = Place → Place → Option KeyFault → ℕ → List ℕ → Result Got KeyFault
 
 -- what a row gives that starts at this place
-abbrev pub given : Deeper → List Named → Option Place → Place → ℕ → Said → Result Got KeyFault
-given deeper texts outer first count nothing = Ok (got [] count)
-given deeper texts outer first count (tells telling) =
+abbrev pub got_from_row : Deeper → List Named → Option Place → Place → ℕ → Said → Result Got KeyFault
+got_from_row deeper texts outer first count nothing = Ok (make_got [] count)
+got_from_row deeper texts outer first count (tells telling) =
     let at = unwrap_or outer first in
-    Ok (got (keymap_line telling at.line at.column ∷ []) count)
-given deeper texts outer first count (includes name quoted bad_end) =
+    Ok (make_got (keymap_line telling at.line at.column ∷ []) count)
+got_from_row deeper texts outer first count (includes name quoted bad_end) =
     let at = unwrap_or outer quoted in
-    included (deeper at (unwrap_or outer first) (option_map (blamed_fault outer) bad_end) count) at
+    got_from_include (deeper at (unwrap_or outer first) (option_map (blamed_fault outer) bad_end) count) at
     (text_named name texts)
 
 -- what a row gives by its first word; without one it gives nothing
 abbrev pub read_row_by : Deeper → List Named → Option Place → ℕ → Place → Option (List Placed × List Placed) → Result Got KeyFault
-read_row_by deeper texts outer count end None = Ok (got [] count)
+read_row_by deeper texts outer count end None = Ok (make_got [] count)
 read_row_by deeper texts outer count end (Some word) =
-    blamed outer (said_from end word) >>= λ said. given deeper texts outer (spot word.0) count said
+    at_outer_include outer (said_from end word) >>= λ said. got_from_row deeper texts outer (spot word.0) count said
 
 unfoldable pub read_row : Deeper → List Named → Option Place → ℕ → Place → List Placed → Result Got KeyFault
 read_row deeper texts outer count end items =
@@ -68,11 +68,11 @@ read_row deeper texts outer count end items =
 
 -- lines before those that are read
 abbrev pub with_lines : List KeymapLine → Result Got KeyFault → Result Got KeyFault
-with_lines front read = read >>= λ g. Ok (got (front ++ g.lines) g.count)
+with_lines front read = read >>= λ g. Ok (make_got (front ++ g.lines) g.count)
 
 -- what rows give, one behind another
 abbrev pub read_rows : Deeper → List Named → Option Place → ℕ → List Row → Result Got KeyFault
-read_rows deeper texts outer count [] = Ok (got [] count)
+read_rows deeper texts outer count [] = Ok (make_got [] count)
 read_rows deeper texts outer count (row ∷ rows) =
     read_row deeper texts outer count row.end row.items >>= λ g.
     with_lines g.lines (read_rows deeper texts outer g.count rows)

@@ -34,13 +34,13 @@ abbrev pub place_of : Placed → Place
 place_of p = record { line = p.line; column = p.column }
 
 -- the place behind a byte: a new line begins behind a line feed
-abbrev pub behind : Place → ℕ → Place
-behind at b = cond (b == line_feed) (next_line at) (after at)
+abbrev pub place_after : Place → ℕ → Place
+place_after at b = cond (b == line_feed) (next_line at) (after at)
 
 -- each byte of a text with its place
-abbrev pub placed : Place → List ℕ → List Placed
-placed at [] = []
-placed at (b ∷ bs) = put_at at b ∷ placed (behind at b) bs
+abbrev pub with_places : Place → List ℕ → List Placed
+with_places at [] = []
+with_places at (b ∷ bs) = put_at at b ∷ with_places (place_after at b) bs
 
 -- a line's end begins the list: LF
 abbrev pub begins_lf : List Placed → Bool
@@ -53,13 +53,13 @@ begins_end [] = false
 begins_end (p ∷ ps) = p.byte == line_feed || (p.byte == carriage_return && begins_lf ps)
 
 -- a backslash before a line's end goes with it, and of CR LF a line feed is left at the place of CR
-abbrev pub joined : List Placed → List Placed
-joined [] = []
-joined (p ∷ ps) =
-    cond (p.byte == backslash && begins_end ps) (drop 1 (joined ps))
+abbrev pub join_continuations : List Placed → List Placed
+join_continuations [] = []
+join_continuations (p ∷ ps) =
+    cond (p.byte == backslash && begins_end ps) (drop 1 (join_continuations ps))
     (cond (p.byte == carriage_return && begins_lf ps)
-    (put_at (place_of p) line_feed ∷ drop 1 (joined ps))
-    (p ∷ joined ps))
+    (put_at (place_of p) line_feed ∷ drop 1 (join_continuations ps))
+    (p ∷ join_continuations ps))
 
 -- a row: its bytes, and the place behind the last one
 pub record Row : Type 0 where
@@ -84,4 +84,4 @@ rows at (p ∷ ps) =
 
 -- the rows of a text that starts at this place
 unfoldable pub rows_of : Place → List ℕ → List Row
-rows_of at text = rows at (joined (placed at text))
+rows_of at text = rows at (join_continuations (with_places at text))

@@ -7,6 +7,6 @@ abbrev pub tellings : List KeymapLine → List Telling
 tellings lines = map (λ line. line.telling) lines
 
 -- what the lines tell, in order, or the kind of the first fault
-abbrev pub told : Result (List KeymapLine) KeyFault → Result (List Telling) ℕ
-told (Ok lines) = Ok (tellings lines)
-told (Err f) = Err f.kind
+abbrev pub tellings_or_fault : Result (List KeymapLine) KeyFault → Result (List Telling) ℕ
+tellings_or_fault (Ok lines) = Ok (tellings lines)
+tellings_or_fault (Err f) = Err f.kind

@@ -73,12 +73,12 @@ whole word =
     cond (valid == length word.0) (Ok word) (Err (fault BAD_TEXT (nth_place word.0 valid)))
 
 -- a word that must be there, else the fault of this kind is behind the row's last byte
-abbrev pub taken : ℕ → Place → Option (List Placed × List Placed) → Result (List Placed × List Placed) KeyFault
-taken kind end None = Err (fault kind end)
-taken kind end (Some word) = whole word
+abbrev pub required_word : ℕ → Place → Option (List Placed × List Placed) → Result (List Placed × List Placed) KeyFault
+required_word kind end None = Err (fault kind end)
+required_word kind end (Some word) = whole word
 
 unfoldable pub next : ℕ → Place → List Placed → Result (List Placed × List Placed) KeyFault
-next kind end items = taken kind end (word_at items)
+next kind end items = required_word kind end (word_at items)
 
 -- the word is this one, in any ASCII case
 abbrev pub is_word : List ℕ → List Placed → Bool

@@ -3,7 +3,7 @@ ghost use Rattle.std.specs.Option.{option_map};
 ghost use Rattle.key_syms.specs.Act.{is_character};
 ghost use Rattle.key_text.specs.Quoted.{character_of};
 ghost use Rattle.key_text.specs.Fault.{Gives};
-ghost use Rattle.key_text.specs.Fields.{action_of, character_at, character_in, code_at, ended, function_at, function_by, good, is_quoted, keyword_at, named_character, ranged, real, string_at, text_at};
+ghost use Rattle.key_text.specs.Fields.{action_of, character_at, character_in, code_at, end_of_line, function_at, function_by, good, is_quoted, keyword_at, named_character, number_in_range, real, string_at, text_at};
 
 use crate::fault::KeyError;
 use crate::fault_kind::{
@@ -12,7 +12,7 @@ use crate::fault_kind::{
 use crate::named::{named_action, named_number};
 use crate::placed::{Place, Placed};
 use crate::quoted::{character_of, text_of};
-use crate::words::{fault, is_quote, is_word, next, spot, whole, word_at};
+use crate::words::{check_utf8, fault, is_quote, is_word, next, place_of_word, word_at};
 use key_syms::{Action, kind};
 use std::alloc::Global;
 
@@ -20,14 +20,14 @@ use std::alloc::Global;
 const STRING_BYTES: usize = 255;
 
 /// The row ends: no word is left.
-#[tactic(auto, unfolding(crate::specs::Fields::ended))]
-pub fn ended(alloc: Global, items: &[Placed]) -> Result<(), KeyError>
-    ensures { Gives (λ x. x) result (ended items.now) }
+#[tactic(auto, unfolding(crate::specs::Fields::end_of_line))]
+pub(crate) fn end_of_line(alloc: Global, items: &[Placed]) -> Result<(), KeyError>
+    ensures { Gives (λ x. x) result (end_of_line items.now) }
 {
     match word_at(items) {
         Some((word, rest)) => {
-            let (word, _rest) = whole(alloc, word, rest)?;
-            Err(fault(LEFT_OVER, spot(word)))
+            let (word, _rest) = check_utf8(alloc, word, rest)?;
+            Err(fault(LEFT_OVER, place_of_word(word)))
         }
         None => Ok(()),
     }
@@ -35,7 +35,7 @@ pub fn ended(alloc: Global, items: &[Placed]) -> Result<(), KeyError>
 
 /// This keyword, and what follows it.
 #[tactic(auto, unfolding(crate::specs::Fields::keyword_at))]
-pub fn keyword_at<'a>(
+pub(crate) fn keyword_at<'a>(
     alloc: Global,
     text: &[u8],
     end: Place,
@@ -47,14 +47,19 @@ pub fn keyword_at<'a>(
     if is_word(text, word) {
         return Ok(rest);
     }
-    Err(fault(UNKNOWN_WORD, spot(word)))
+    Err(fault(UNKNOWN_WORD, place_of_word(word)))
 }
 
 /// A number of a word, within a range. A greater number may be given as 65,536.
-pub fn ranged(low: u32, high: u32, word: &[Placed], n: Option<u32>) -> Result<u8, KeyError>
+pub(crate) fn number_in_range(
+    low: u32,
+    high: u32,
+    word: &[Placed],
+    n: Option<u32>,
+) -> Result<u8, KeyError>
     requires { high ≤ 255 }
     ensures value { (m : Option ℕ) → n ≡ option_map (min 65536) m
-        → Gives (λ x. x) result (ranged low high word.now m) }
+        → Gives (λ x. x) result (number_in_range low high word.now m) }
     ensures within { IfOk result (λ x. (low ≤ x) × (x ≤ high)) }
 {
     match n {
@@ -62,36 +67,44 @@ pub fn ranged(low: u32, high: u32, word: &[Placed], n: Option<u32>) -> Result<u8
             if low <= n && n <= high {
                 return Ok(n as u8);
             }
-            Err(fault(OUT_OF_RANGE, spot(word)))
+            Err(fault(OUT_OF_RANGE, place_of_word(word)))
         }
-        None => Err(fault(UNKNOWN_WORD, spot(word))),
+        None => Err(fault(UNKNOWN_WORD, place_of_word(word))),
     }
 }
 
 /// A keycode, and what follows it.
 #[tactic(auto, unfolding(crate::specs::Fields::code_at))]
-pub fn code_at(alloc: Global, end: Place, items: &[Placed]) -> Result<(u8, &[Placed]), KeyError>
+pub(crate) fn code_at(
+    alloc: Global,
+    end: Place,
+    items: &[Placed],
+) -> Result<(u8, &[Placed]), KeyError>
     ensures value { Gives (λ x. (x.0, x.1.now)) result (code_at end items.now) }
     ensures key { IfOk result (λ x. 1 ≤ x.0) }
 {
     let (word, rest) = next(alloc, UNKNOWN_WORD, end, items)?;
-    let code = ranged(1, 255, word, named_number(alloc, word)?)?;
+    let code = number_in_range(1, 255, word, named_number(alloc, word)?)?;
     Ok((code, rest))
 }
 
 /// The action of a word that is a symbol.
-pub fn action_of(alloc: Global, word: &[Placed]) -> Result<Action, KeyError>
+pub(crate) fn action_of(alloc: Global, word: &[Placed]) -> Result<Action, KeyError>
     ensures { Gives (λ x. x) result (action_of word.now) }
 {
     match named_action(alloc, word)? {
         Some(action) => Ok(action),
-        None => Err(fault(UNKNOWN_SYMBOL, spot(word))),
+        None => Err(fault(UNKNOWN_SYMBOL, place_of_word(word))),
     }
 }
 
 /// The function key that a word names, and what follows it.
 #[tactic(auto, unfolding(crate::specs::Fields::function_at))]
-pub fn function_at(alloc: Global, end: Place, items: &[Placed]) -> Result<(u8, &[Placed]), KeyError>
+pub(crate) fn function_at(
+    alloc: Global,
+    end: Place,
+    items: &[Placed],
+) -> Result<(u8, &[Placed]), KeyError>
     ensures { Gives (λ x. (x.0, x.1.now)) result (function_at end items.now) }
 {
     let (word, rest) = next(alloc, UNKNOWN_SYMBOL, end, items)?;
@@ -106,12 +119,12 @@ fn function_by(word: &[Placed], action: Action) -> Result<u8, KeyError>
     if action.kind == kind::FUNCTION {
         return Ok(action.value as u8);
     }
-    Err(fault(UNKNOWN_SYMBOL, spot(word)))
+    Err(fault(UNKNOWN_SYMBOL, place_of_word(word)))
 }
 
 /// A quoted text, the place of its word, and what follows it.
 #[tactic(auto, unfolding(crate::specs::Fields::text_at))]
-pub fn text_at(
+pub(crate) fn text_at(
     alloc: Global,
     end: Place,
     items: &[Placed],
@@ -120,14 +133,14 @@ pub fn text_at(
 {
     let (word, rest) = next(alloc, BAD_TEXT, end, items)?;
     match text_of(alloc, word)? {
-        Some(text) => Ok((text, spot(word), rest)),
-        None => Err(fault(BAD_TEXT, spot(word))),
+        Some(text) => Ok((text, place_of_word(word), rest)),
+        None => Err(fault(BAD_TEXT, place_of_word(word))),
     }
 }
 
 /// A string of a function key, and what follows it.
 #[tactic(auto, unfolding(crate::specs::Fields::string_at))]
-pub fn string_at(
+pub(crate) fn string_at(
     alloc: Global,
     end: Place,
     items: &[Placed],
@@ -161,7 +174,7 @@ fn quoted_character(alloc: Global, word: &[Placed]) -> Result<u32, KeyError>
 {
     match character_of(alloc, word)? {
         Some(code) => Ok(code),
-        None => Err(fault(BAD_TEXT, spot(word))),
+        None => Err(fault(BAD_TEXT, place_of_word(word))),
     }
 }
 
@@ -172,7 +185,7 @@ fn named_character(alloc: Global, word: &[Placed]) -> Result<u32, KeyError>
     if action.kind == kind::CHARACTER {
         return Ok(u32::from(action.value));
     }
-    Err(fault(UNKNOWN_SYMBOL, spot(word)))
+    Err(fault(UNKNOWN_SYMBOL, place_of_word(word)))
 }
 
 fn real(word: &[Placed], code: u32) -> Result<u16, KeyError>
@@ -182,7 +195,7 @@ fn real(word: &[Placed], code: u32) -> Result<u16, KeyError>
     if code <= 0xFFFF && !(0xD800 <= code && code <= 0xDFFF) {
         return Ok(code as u16);
     }
-    Err(fault(UNKNOWN_SYMBOL, spot(word)))
+    Err(fault(UNKNOWN_SYMBOL, place_of_word(word)))
 }
 
 fn is_quoted(word: &[Placed]) -> bool
@@ -196,7 +209,7 @@ fn is_quoted(word: &[Placed]) -> bool
 
 /// A character, and what follows it.
 #[tactic(auto, unfolding(crate::specs::Fields::character_at))]
-pub fn character_at(
+pub(crate) fn character_at(
     alloc: Global,
     end: Place,
     items: &[Placed],

@@ -1,7 +1,7 @@
 ghost use Rattle.std.specs.Prelude.{◌≡◌, IfOk, IsTrue};
 ghost use Rattle.key_text.specs.Fault.{Gives};
 ghost use Rattle.key_text.specs.Lines.{line_by, modified_by, said_from, weight_of};
-ghost use Rattle.key_text.specs.Sayings.{is_fit_said, said};
+ghost use Rattle.key_text.specs.Sayings.{is_fit_said, statement_view};
 
 use crate::fault::KeyError;
 use crate::fault_kind::UNKNOWN_WORD;
@@ -11,30 +11,35 @@ use crate::lines::{
     alt_is_meta_line, charset_line, compose_line, include_line, string_line, usual_strings_line,
 };
 use crate::placed::{Place, Placed};
-use crate::saying::Saying;
-use crate::words::{fault, is_word, spot, whole};
+use crate::statement::Statement;
+use crate::words::{check_utf8, fault, is_word, place_of_word};
 use std::alloc::Global;
 
 /// What a row says whose first word is this.
 #[tactic(auto, unfolding(crate::specs::Lines::said_from))]
-pub fn said_from(
+pub(crate) fn statement_from(
     alloc: Global,
     end: Place,
     word: &[Placed],
     rest: &[Placed],
-) -> Result<Saying, KeyError>
-    ensures value { Gives said result (said_from end (word.now, rest.now)) }
-    ensures fit { IfOk result (λ s. IsTrue (is_fit_said (said s))) }
+) -> Result<Statement, KeyError>
+    ensures value { Gives statement_view result (said_from end (word.now, rest.now)) }
+    ensures fit { IfOk result (λ s. IsTrue (is_fit_said (statement_view s))) }
 {
-    let (word, rest) = whole(alloc, word, rest)?;
-    line_by(alloc, end, word, rest)
+    let (word, rest) = check_utf8(alloc, word, rest)?;
+    statement_by_keyword(alloc, end, word, rest)
 }
 
 // A line by its first word.
 #[tactic(auto, unfolding(crate::specs::Lines::line_by))]
-fn line_by(alloc: Global, end: Place, word: &[Placed], rest: &[Placed]) -> Result<Saying, KeyError>
-    ensures value { Gives said result (line_by end (word.now, rest.now)) }
-    ensures fit { IfOk result (λ s. IsTrue (is_fit_said (said s))) }
+fn statement_by_keyword(
+    alloc: Global,
+    end: Place,
+    word: &[Placed],
+    rest: &[Placed],
+) -> Result<Statement, KeyError>
+    ensures value { Gives statement_view result (line_by end (word.now, rest.now)) }
+    ensures fit { IfOk result (λ s. IsTrue (is_fit_said (statement_view s))) }
 {
     if is_word(b"keymaps", word) {
         return keymaps_line(alloc, end, rest);
@@ -68,13 +73,13 @@ fn modified_by(
     end: Place,
     word: &[Placed],
     rest: &[Placed],
-) -> Result<Saying, KeyError>
-    ensures value { Gives said result
+) -> Result<Statement, KeyError>
+    ensures value { Gives statement_view result
         (modified_by end (word.now, rest.now) (weight_of word.now)) }
-    ensures fit { IfOk result (λ s. IsTrue (is_fit_said (said s))) }
+    ensures fit { IfOk result (λ s. IsTrue (is_fit_said (statement_view s))) }
 {
     match weight_of(word) {
         Some(weight) => modified_line(alloc, weight, end, rest),
-        None => Err(fault(UNKNOWN_WORD, spot(word))),
+        None => Err(fault(UNKNOWN_WORD, place_of_word(word))),
     }
 }

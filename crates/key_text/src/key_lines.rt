@@ -2,31 +2,31 @@ ghost use Rattle.std.specs.Prelude.{◌≡◌, ◌+◌, [], ◌∷◌, length, I
 ghost use Rattle.key_text.specs.Fault.{Gives};
 ghost use Rattle.key_text.specs.Lines.{keycode_by, keys_line, modified_line, modifiers_at, weight_of};
 ghost use Rattle.key_text.specs.Fields.{symbols_at, with_actions};
-ghost use Rattle.key_text.specs.Sayings.{is_fit_said, said};
+ghost use Rattle.key_text.specs.Sayings.{is_fit_said, statement_view};
 
 use crate::fault::KeyError;
 use crate::fault_kind::{UNKNOWN_WORD, WRONG_COUNT};
-use crate::fields::{action_of, code_at, ended, keyword_at};
+use crate::fields::{action_of, code_at, end_of_line, keyword_at};
 use crate::line_kind::LineKind;
 use crate::placed::{Place, Placed};
-use crate::saying::Saying;
+use crate::statement::Statement;
 use crate::syms::Syms;
-use crate::words::{fault, is_word, next, spot, whole, word_at};
+use crate::words::{check_utf8, fault, is_word, next, place_of_word, word_at};
 use key_syms::Action;
 use std::alloc::Global;
 
 /// `keycode N =` and symbols.
 #[tactic(auto, unfolding(crate::specs::Lines::keys_line, crate::specs::Fields::symbol_at))]
-pub fn keys_line(alloc: Global, end: Place, items: &[Placed]) -> Result<Saying, KeyError>
-    ensures value { Gives said result (keys_line end items.now) }
-    ensures fit { IfOk result (λ s. IsTrue (is_fit_said (said s))) }
+pub(crate) fn keys_line(alloc: Global, end: Place, items: &[Placed]) -> Result<Statement, KeyError>
+    ensures value { Gives statement_view result (keys_line end items.now) }
+    ensures fit { IfOk result (λ s. IsTrue (is_fit_said (statement_view s))) }
 {
     let (code, rest) = code_at(alloc, end, items)?;
     let rest = keyword_at(alloc, b"=", end, rest)?;
     let (word, rest) = next(alloc, WRONG_COUNT, end, rest)?;
     let first = action_of(alloc, word)?;
     let syms = symbols(alloc, first, rest)?;
-    Ok(Saying::Tells(LineKind::Keys { code, syms }))
+    Ok(Statement::Tells(LineKind::Keys { code, syms }))
 }
 
 // The symbols up to the row's end, behind a first one.
@@ -42,7 +42,7 @@ fn symbols(alloc: Global, first: Action, items: &[Placed]) -> Result<Syms, KeyEr
             Some(found) => found,
             None => return Ok(Syms::of(actions)),
         };
-        let (word, left) = whole(alloc, word, left)?;
+        let (word, left) = check_utf8(alloc, word, left)?;
         let action = action_of(alloc, word)?;
         actions.push(action)?;
         rest = left;
@@ -52,22 +52,22 @@ fn symbols(alloc: Global, first: Action, items: &[Placed]) -> Result<Syms, KeyEr
 
 /// Modifier words, of which the first weighs this, before `keycode N =` and one symbol.
 #[tactic(auto, unfolding(crate::specs::Lines::modified_line, crate::specs::Fields::symbol_at))]
-pub fn modified_line(
+pub(crate) fn modified_line(
     alloc: Global,
     weight: u8,
     end: Place,
     items: &[Placed],
-) -> Result<Saying, KeyError>
-    ensures value { Gives said result (modified_line weight end items.now) }
-    ensures fit { IfOk result (λ s. IsTrue (is_fit_said (said s))) }
+) -> Result<Statement, KeyError>
+    ensures value { Gives statement_view result (modified_line weight end items.now) }
+    ensures fit { IfOk result (λ s. IsTrue (is_fit_said (statement_view s))) }
 {
     let (table, rest) = modifiers_at(alloc, weight, end, items)?;
     let (code, rest) = code_at(alloc, end, rest)?;
     let rest = keyword_at(alloc, b"=", end, rest)?;
     let (word, rest) = next(alloc, WRONG_COUNT, end, rest)?;
     let action = action_of(alloc, word)?;
-    ended(alloc, rest)?;
-    Ok(Saying::Tells(LineKind::One {
+    end_of_line(alloc, rest)?;
+    Ok(Statement::Tells(LineKind::One {
         table,
         code,
         action,
@@ -111,12 +111,12 @@ fn keycode_by<'a>(
     if is_word(b"keycode", word) {
         return Ok((table, rest));
     }
-    Err(fault(UNKNOWN_WORD, spot(word)))
+    Err(fault(UNKNOWN_WORD, place_of_word(word)))
 }
 
 /// The weight of a modifier word: 2 to its number, as key_syms has it, and 0 for `plain`.
 #[tactic(auto, unfolding(crate::specs::Lines::weight_of))]
-pub fn weight_of(word: &[Placed]) -> Option<u8>
+pub(crate) fn weight_of(word: &[Placed]) -> Option<u8>
     ensures { result ≡ weight_of word.now }
 {
     if is_word(b"plain", word) {

@@ -1,23 +1,23 @@
 ghost use Rattle.std.specs.Prelude.{◌≡◌, ℕ, ◌<◌, ◌≤◌, ◌||◌, false, length, slice_index_or, replicate, IfOk, IsTrue};
 ghost use Rattle.key_text.specs.Fault.{Gives};
 ghost use Rattle.key_text.specs.Lines.{before, covers, in_order, keymaps_line, range_by, range_of, table_of, tables_in};
-ghost use Rattle.key_text.specs.Sayings.{is_fit_said, said};
+ghost use Rattle.key_text.specs.Sayings.{is_fit_said, statement_view};
 ghost use Rattle.key_text.specs.Tables.{is_table_set};
 
 use crate::fault::KeyError;
 use crate::fault_kind::{OUT_OF_RANGE, UNKNOWN_WORD};
-use crate::fields::{ended, ranged};
+use crate::fields::{end_of_line, number_in_range};
 use crate::line_kind::LineKind;
 use crate::pieces::{rest_of, start_of};
 use crate::placed::{Place, Placed};
-use crate::saying::Saying;
+use crate::statement::Statement;
 use crate::table_set::TableSet;
-use crate::words::{bytes, fault, next, spot};
+use crate::words::{bytes, fault, next, place_of_word};
 use key_syms::number;
 use std::alloc::{AllocError, Global};
 
 // How many tables there may be.
-const TABLES: usize = 256;
+const TABLE_COUNT: usize = 256;
 
 /// Tables from a first to a last one.
 #[derive(Clone, Copy)]
@@ -28,15 +28,19 @@ pub struct TableRange {
 
 /// `keymaps` and ranges.
 #[tactic(auto, unfolding(crate::specs::Lines::keymaps_line))]
-pub fn keymaps_line(alloc: Global, end: Place, items: &[Placed]) -> Result<Saying, KeyError>
-    ensures value { Gives said result (keymaps_line end items.now) }
-    ensures fit { IfOk result (λ s. IsTrue (is_fit_said (said s))) }
+pub(crate) fn keymaps_line(
+    alloc: Global,
+    end: Place,
+    items: &[Placed],
+) -> Result<Statement, KeyError>
+    ensures value { Gives statement_view result (keymaps_line end items.now) }
+    ensures fit { IfOk result (λ s. IsTrue (is_fit_said (statement_view s))) }
 {
     let (word, rest) = next(alloc, UNKNOWN_WORD, end, items)?;
     let text = bytes(alloc, word)?;
     let tables = tables_in(alloc, word, text.as_slice())?;
-    ended(alloc, rest)?;
-    Ok(Saying::Tells(LineKind::Keymaps(tables)))
+    end_of_line(alloc, rest)?;
+    Ok(Statement::Tells(LineKind::Keymaps(tables)))
 }
 
 // The tables of a word of ranges, whose bytes are the text.
@@ -61,7 +65,7 @@ fn no_tables(alloc: Global) -> Result<Vec<bool>, AllocError>
     ensures { IfOk result (λ tables. tables.items ≡ replicate 256 false) }
 {
     let mut tables = Vec::new(alloc);
-    tables.resize(TABLES, false)?;
+    tables.resize(TABLE_COUNT, false)?;
     Ok(tables)
 }
 
@@ -72,7 +76,7 @@ fn mark(tables: &mut Vec<bool>, range: TableRange)
     ensures each { (k : ℕ) → k < 256 → slice_index_or tables.new.items k false
         ≡ (slice_index_or tables.old.items k false || covers k range) }
 {
-    for t in 0..TABLES {
+    for t in 0..TABLE_COUNT {
         if usize::from(range.low) <= t && t <= usize::from(range.high) {
             tables[t] = true;
         }
@@ -109,13 +113,13 @@ fn in_order(word: &[Placed], low: u8, high: u8) -> Result<TableRange, KeyError>
     if low <= high {
         return Ok(TableRange { low, high });
     }
-    Err(fault(OUT_OF_RANGE, spot(word)))
+    Err(fault(OUT_OF_RANGE, place_of_word(word)))
 }
 
 fn table_of(word: &[Placed], piece: &[u8]) -> Result<u8, KeyError>
     ensures { Gives (λ x. x) result (table_of word.now piece.now) }
 {
-    ranged(0, 255, word, number(piece))
+    number_in_range(0, 255, word, number(piece))
 }
 
 // How many bytes stand before the first of this kind.

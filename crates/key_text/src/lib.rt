@@ -20,7 +20,7 @@ mod pieces;
 mod placed;
 mod quoted;
 mod reading;
-mod saying;
+mod statement;
 mod syms;
 mod table_set;
 mod words;

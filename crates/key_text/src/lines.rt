@@ -1,15 +1,15 @@
 ghost use Rattle.std.specs.Prelude.{◌≡◌, IfOk, IsTrue};
 ghost use Rattle.std.specs.Result.{result_err};
 ghost use Rattle.key_text.specs.Fault.{Gives};
-ghost use Rattle.key_text.specs.Fields.{ended};
+ghost use Rattle.key_text.specs.Fields.{end_of_line};
 ghost use Rattle.key_text.specs.Lines.{after_charset, alt_is_meta_line, charset_line, compose_line, include_line, is_next, pair_line, string_line, usual_pairs_line, usual_strings_line};
-ghost use Rattle.key_text.specs.Sayings.{is_fit_said, said};
+ghost use Rattle.key_text.specs.Sayings.{is_fit_said, statement_view};
 
 use crate::fault::{KeyError, KeyFault};
-use crate::fields::{character_at, ended, function_at, keyword_at, string_at, text_at};
+use crate::fields::{character_at, end_of_line, function_at, keyword_at, string_at, text_at};
 use crate::line_kind::LineKind;
 use crate::placed::{Place, Placed};
-use crate::saying::Saying;
+use crate::statement::Statement;
 use crate::words::{is_word, word_at};
 use key_syms::Pair;
 use std::alloc::Global;
@@ -17,23 +17,31 @@ use vt_base::{Bytes, NoMemory};
 
 /// `string NAME = "text"`.
 #[tactic(auto, unfolding(crate::specs::Lines::string_line))]
-pub fn string_line(alloc: Global, end: Place, items: &[Placed]) -> Result<Saying, KeyError>
-    ensures value { Gives said result (string_line end items.now) }
-    ensures fit { IfOk result (λ s. IsTrue (is_fit_said (said s))) }
+pub(crate) fn string_line(
+    alloc: Global,
+    end: Place,
+    items: &[Placed],
+) -> Result<Statement, KeyError>
+    ensures value { Gives statement_view result (string_line end items.now) }
+    ensures fit { IfOk result (λ s. IsTrue (is_fit_said (statement_view s))) }
 {
     let (func, rest) = function_at(alloc, end, items)?;
     let rest = keyword_at(alloc, b"=", end, rest)?;
     let (text, rest) = string_at(alloc, end, rest)?;
-    ended(alloc, rest)?;
+    end_of_line(alloc, rest)?;
     let text = Bytes::from_slice(alloc, text.as_slice())?;
-    Ok(Saying::Tells(LineKind::Text { func, text }))
+    Ok(Statement::Tells(LineKind::Text { func, text }))
 }
 
 /// `compose A B to C`, or `compose as usual`.
 #[tactic(auto, unfolding(crate::specs::Lines::compose_line))]
-pub fn compose_line(alloc: Global, end: Place, items: &[Placed]) -> Result<Saying, KeyError>
-    ensures value { Gives said result (compose_line end items.now) }
-    ensures fit { IfOk result (λ s. IsTrue (is_fit_said (said s))) }
+pub(crate) fn compose_line(
+    alloc: Global,
+    end: Place,
+    items: &[Placed],
+) -> Result<Statement, KeyError>
+    ensures value { Gives statement_view result (compose_line end items.now) }
+    ensures fit { IfOk result (λ s. IsTrue (is_fit_said (statement_view s))) }
 {
     if is_next(b"as", items) {
         return usual_pairs_line(alloc, end, items);
@@ -42,16 +50,16 @@ pub fn compose_line(alloc: Global, end: Place, items: &[Placed]) -> Result<Sayin
 }
 
 #[tactic(auto, unfolding(crate::specs::Lines::pair_line))]
-fn pair_line(alloc: Global, end: Place, items: &[Placed]) -> Result<Saying, KeyError>
-    ensures value { Gives said result (pair_line end items.now) }
-    ensures fit { IfOk result (λ s. IsTrue (is_fit_said (said s))) }
+fn pair_line(alloc: Global, end: Place, items: &[Placed]) -> Result<Statement, KeyError>
+    ensures value { Gives statement_view result (pair_line end items.now) }
+    ensures fit { IfOk result (λ s. IsTrue (is_fit_said (statement_view s))) }
 {
     let (accent, rest) = character_at(alloc, end, items)?;
     let (base, rest) = character_at(alloc, end, rest)?;
     let rest = keyword_at(alloc, b"to", end, rest)?;
     let (result, rest) = character_at(alloc, end, rest)?;
-    ended(alloc, rest)?;
-    Ok(Saying::Tells(LineKind::Compose(Pair {
+    end_of_line(alloc, rest)?;
+    Ok(Statement::Tells(LineKind::Compose(Pair {
         accent,
         base,
         result,
@@ -59,15 +67,15 @@ fn pair_line(alloc: Global, end: Place, items: &[Placed]) -> Result<Saying, KeyE
 }
 
 #[tactic(auto, unfolding(crate::specs::Lines::usual_pairs_line))]
-fn usual_pairs_line(alloc: Global, end: Place, items: &[Placed]) -> Result<Saying, KeyError>
-    ensures value { Gives said result (usual_pairs_line end items.now) }
-    ensures fit { IfOk result (λ s. IsTrue (is_fit_said (said s))) }
+fn usual_pairs_line(alloc: Global, end: Place, items: &[Placed]) -> Result<Statement, KeyError>
+    ensures value { Gives statement_view result (usual_pairs_line end items.now) }
+    ensures fit { IfOk result (λ s. IsTrue (is_fit_said (statement_view s))) }
 {
     let rest = keyword_at(alloc, b"as", end, items)?;
     let rest = keyword_at(alloc, b"usual", end, rest)?;
     let rest = after_charset(alloc, end, rest)?;
-    ended(alloc, rest)?;
-    Ok(Saying::Tells(LineKind::UsualPairs))
+    end_of_line(alloc, rest)?;
+    Ok(Statement::Tells(LineKind::UsualPairs))
 }
 
 // What follows `for "name"`, where it is there.
@@ -96,42 +104,50 @@ fn is_next(text: &[u8], items: &[Placed]) -> bool
 
 /// `strings as usual`.
 #[tactic(auto, unfolding(crate::specs::Lines::usual_strings_line))]
-pub fn usual_strings_line(alloc: Global, end: Place, items: &[Placed]) -> Result<Saying, KeyError>
-    ensures value { Gives said result (usual_strings_line end items.now) }
-    ensures fit { IfOk result (λ s. IsTrue (is_fit_said (said s))) }
+pub(crate) fn usual_strings_line(
+    alloc: Global,
+    end: Place,
+    items: &[Placed],
+) -> Result<Statement, KeyError>
+    ensures value { Gives statement_view result (usual_strings_line end items.now) }
+    ensures fit { IfOk result (λ s. IsTrue (is_fit_said (statement_view s))) }
 {
     let rest = keyword_at(alloc, b"as", end, items)?;
     let rest = keyword_at(alloc, b"usual", end, rest)?;
-    ended(alloc, rest)?;
-    Ok(Saying::Tells(LineKind::UsualStrings))
+    end_of_line(alloc, rest)?;
+    Ok(Statement::Tells(LineKind::UsualStrings))
 }
 
 /// `alt_is_meta`.
 #[tactic(auto, unfolding(crate::specs::Lines::alt_is_meta_line))]
-pub fn alt_is_meta_line(alloc: Global, items: &[Placed]) -> Result<Saying, KeyError>
-    ensures value { Gives said result (alt_is_meta_line items.now) }
-    ensures fit { IfOk result (λ s. IsTrue (is_fit_said (said s))) }
+pub(crate) fn alt_is_meta_line(alloc: Global, items: &[Placed]) -> Result<Statement, KeyError>
+    ensures value { Gives statement_view result (alt_is_meta_line items.now) }
+    ensures fit { IfOk result (λ s. IsTrue (is_fit_said (statement_view s))) }
 {
-    ended(alloc, items)?;
-    Ok(Saying::Tells(LineKind::AltIsMeta))
+    end_of_line(alloc, items)?;
+    Ok(Statement::Tells(LineKind::AltIsMeta))
 }
 
 /// `include "name"`.
 #[tactic(auto, unfolding(crate::specs::Lines::include_line))]
-pub fn include_line(alloc: Global, end: Place, items: &[Placed]) -> Result<Saying, KeyError>
-    ensures value { Gives said result (include_line end items.now) }
-    ensures fit { IfOk result (λ s. IsTrue (is_fit_said (said s))) }
+pub(crate) fn include_line(
+    alloc: Global,
+    end: Place,
+    items: &[Placed],
+) -> Result<Statement, KeyError>
+    ensures value { Gives statement_view result (include_line end items.now) }
+    ensures fit { IfOk result (λ s. IsTrue (is_fit_said (statement_view s))) }
 {
     let (name, at, rest) = text_at(alloc, end, items)?;
     let bad_end = end_fault(alloc, rest)?;
-    Ok(Saying::Includes(name, at, bad_end))
+    Ok(Statement::Includes(name, at, bad_end))
 }
 
 // The fault of a row that doesn't end.
 fn end_fault(alloc: Global, items: &[Placed]) -> Result<Option<KeyFault>, NoMemory>
-    ensures { IfOk result (λ fault. fault ≡ result_err (ended items.now)) }
+    ensures { IfOk result (λ fault. fault ≡ result_err (end_of_line items.now)) }
 {
-    match ended(alloc, items) {
+    match end_of_line(alloc, items) {
         Ok(()) => Ok(None),
         Err(KeyError::Fault(fault)) => Ok(Some(fault)),
         Err(KeyError::NoMemory) => Err(NoMemory),
@@ -140,11 +156,15 @@ fn end_fault(alloc: Global, items: &[Placed]) -> Result<Option<KeyFault>, NoMemo
 
 /// `charset "name"`, which has no effect.
 #[tactic(auto, unfolding(crate::specs::Lines::charset_line))]
-pub fn charset_line(alloc: Global, end: Place, items: &[Placed]) -> Result<Saying, KeyError>
-    ensures value { Gives said result (charset_line end items.now) }
-    ensures fit { IfOk result (λ s. IsTrue (is_fit_said (said s))) }
+pub(crate) fn charset_line(
+    alloc: Global,
+    end: Place,
+    items: &[Placed],
+) -> Result<Statement, KeyError>
+    ensures value { Gives statement_view result (charset_line end items.now) }
+    ensures fit { IfOk result (λ s. IsTrue (is_fit_said (statement_view s))) }
 {
     let (_name, _at, rest) = text_at(alloc, end, items)?;
-    ended(alloc, rest)?;
-    Ok(Saying::Nothing)
+    end_of_line(alloc, rest)?;
+    Ok(Statement::Nothing)
 }

@@ -13,7 +13,7 @@ use std::alloc::{AllocError, Global};
 const SHORT: usize = 32;
 
 /// The action that a word names.
-pub fn named_action(alloc: Global, word: &[Placed]) -> Result<Option<Action>, AllocError>
+pub(crate) fn named_action(alloc: Global, word: &[Placed]) -> Result<Option<Action>, AllocError>
     ensures { IfOk result (λ action. action ≡ symbol (bytes word.now)) }
 {
     if word.len() <= SHORT {
@@ -25,7 +25,7 @@ pub fn named_action(alloc: Global, word: &[Placed]) -> Result<Option<Action>, Al
 }
 
 /// The number that a word spells. A greater one may be given as 65,536.
-pub fn named_number(alloc: Global, word: &[Placed]) -> Result<Option<u32>, AllocError>
+pub(crate) fn named_number(alloc: Global, word: &[Placed]) -> Result<Option<u32>, AllocError>
     ensures { IfOk result (λ n. n ≡ option_map (min 65536) (number_of (bytes word.now))) }
 {
     if word.len() <= SHORT {

@@ -8,7 +8,7 @@ use vt_base::NoMemory;
 /// What is told of a row beside its bytes: the place behind the last one, and where the next row
 /// starts, if there is one.
 #[derive(Clone, Copy)]
-pub struct Row {
+pub(crate) struct LogicalLine {
     pub end: Place,
     pub more: bool,
     pub at: usize,
@@ -17,12 +17,12 @@ pub struct Row {
 
 /// Reads a row into `items`, in place of what they hold: its bytes without the joins. `at` is where
 /// it starts in the text, and `place` is the place there.
-pub fn next_row(
+pub(crate) fn next_row(
     text: &[u8],
     at: usize,
     place: Place,
     items: &mut Vec<Placed>,
-) -> Result<Row, NoMemory>
+) -> Result<LogicalLine, NoMemory>
     requires { at ≤ length text.now }
     ensures rows { IfOk result (λ row. rows_of place (drop at text.now)
         ≡ row_of items.new.items row.end
@@ -37,7 +37,7 @@ pub fn next_row(
     while i < text.len() {
         let ended = end_len(text, i);
         if ended != 0 {
-            return Ok(Row {
+            return Ok(LogicalLine {
                 end: here,
                 more: true,
                 at: i + ended,
@@ -50,12 +50,12 @@ pub fn next_row(
             here = here.next_line();
             continue;
         }
-        items.push(placed(here, text[i]))?;
+        items.push(with_places(here, text[i]))?;
         here = here.after();
         end = here;
         i += 1;
     }
-    Ok(Row {
+    Ok(LogicalLine {
         end,
         more: false,
         at: i,
@@ -94,7 +94,7 @@ fn join_len(text: &[u8], i: usize) -> usize
     if ended == 0 { 0 } else { ended + 1 }
 }
 
-fn placed(here: Place, byte: u8) -> Placed
+fn with_places(here: Place, byte: u8) -> Placed
     ensures { result ≡ put_at here byte }
 {
     Placed {

@@ -2,7 +2,7 @@
 ghost use Rattle.std.specs.Prelude.{◌≡◌, ◌≤◌, length, take, drop};
 
 /// The first n items.
-pub fn start_of<T>(items: &[T], n: usize) -> &[T]
+pub(crate) fn start_of<T>(items: &[T], n: usize) -> &[T]
     requires { n ≤ length items.now }
     ensures { result.now ≡ take n items.now }
 {
@@ -10,7 +10,7 @@ pub fn start_of<T>(items: &[T], n: usize) -> &[T]
 }
 
 /// The items after the first n.
-pub fn rest_of<T>(items: &[T], n: usize) -> &[T]
+pub(crate) fn rest_of<T>(items: &[T], n: usize) -> &[T]
     requires { n ≤ length items.now }
     ensures { result.now ≡ drop n items.now }
 {

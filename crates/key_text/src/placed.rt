@@ -19,7 +19,7 @@ pub struct Placed {
 
 impl Place {
     /// The place of the byte behind one here.
-    pub fn after(self) -> Place
+    pub(crate) fn after(self) -> Place
         ensures { result ≡ after self }
     {
         Place {
@@ -29,7 +29,7 @@ impl Place {
     }
 
     /// The first place of the next line.
-    pub fn next_line(self) -> Place
+    pub(crate) fn next_line(self) -> Place
         ensures { result ≡ next_line self }
     {
         Place {

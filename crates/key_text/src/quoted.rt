@@ -1,7 +1,7 @@
 ghost use Rattle.std.specs.Prelude.{◌≡◌, ◌-◌, ◌≤◌, length, take, IfOk, IfSome};
 ghost use Rattle.std.specs.List.{prefix_len};
 ghost use Rattle.std.specs.Option.{option_map};
-ghost use Rattle.key_text.specs.Quoted.{between, character_of, decoded, escape_in, first_of, is_octal, letter_escape, octal_escape, octal_len, octal_value, one_character, text_of, unescaped_whole};
+ghost use Rattle.key_text.specs.Quoted.{text_between, character_of, character_of_utf8, escape_in, first_of, is_octal, letter_escape, octal_escape, octal_len, octal_value, one_character, text_of, unescaped_whole};
 
 use crate::pieces::{rest_of, start_of};
 use crate::placed::Placed;
@@ -17,29 +17,29 @@ struct Escape {
 
 /// What a word in double quotes stands for.
 #[tactic(auto, unfolding(crate::specs::Quoted::text_of))]
-pub fn text_of(alloc: Global, word: &[Placed]) -> Result<Option<Vec<u8>>, AllocError>
+pub(crate) fn text_of(alloc: Global, word: &[Placed]) -> Result<Option<Vec<u8>>, AllocError>
     ensures { IfOk result (λ text. option_map (λ v. v.items) text ≡ text_of word.now) }
 {
-    match between(alloc, b'"', word)? {
-        Some(text) => unescaped(alloc, text.as_slice()),
+    match text_between(alloc, b'"', word)? {
+        Some(text) => unescaped_bytes(alloc, text.as_slice()),
         None => Ok(None),
     }
 }
 
 /// The character that a word in single quotes stands for.
 #[tactic(auto, unfolding(crate::specs::Quoted::character_of))]
-pub fn character_of(alloc: Global, word: &[Placed]) -> Result<Option<u32>, AllocError>
+pub(crate) fn character_of(alloc: Global, word: &[Placed]) -> Result<Option<u32>, AllocError>
     ensures { IfOk result (λ code. code ≡ character_of word.now) }
 {
-    match between(alloc, b'\'', word)? {
+    match text_between(alloc, b'\'', word)? {
         Some(text) => Ok(one_character(text.as_slice())),
         None => Ok(None),
     }
 }
 
 // What stands between two quotes that are the first and the last byte of a word.
-fn between(alloc: Global, quote: u8, word: &[Placed]) -> Result<Option<Vec<u8>>, AllocError>
-    ensures { IfOk result (λ text. option_map (λ v. v.items) text ≡ between quote word.now) }
+fn text_between(alloc: Global, quote: u8, word: &[Placed]) -> Result<Option<Vec<u8>>, AllocError>
+    ensures { IfOk result (λ text. option_map (λ v. v.items) text ≡ text_between quote word.now) }
 {
     match word.split_first() {
         Some((first, rest)) if first.byte == quote => match close_at(quote, rest) {
@@ -55,7 +55,7 @@ fn between(alloc: Global, quote: u8, word: &[Placed]) -> Result<Option<Vec<u8>>,
 }
 
 // The bytes that a quoted text stands for.
-fn unescaped(alloc: Global, text: &[u8]) -> Result<Option<Vec<u8>>, AllocError>
+fn unescaped_bytes(alloc: Global, text: &[u8]) -> Result<Option<Vec<u8>>, AllocError>
     ensures { IfOk result
         (λ bytes. option_map (λ v. v.items) bytes ≡ unescaped_whole text.now) }
 {
@@ -197,14 +197,14 @@ fn one_character(text: &[u8]) -> Option<u32>
                 None
             }
         }
-        Some(_) => decoded(text),
+        Some(_) => character_of_utf8(text),
         None => None,
     }
 }
 
 // The character that one, two or three bytes of UTF-8 are.
-fn decoded(text: &[u8]) -> Option<u32>
-    ensures { result ≡ decoded text.now }
+fn character_of_utf8(text: &[u8]) -> Option<u32>
+    ensures { result ≡ character_of_utf8 text.now }
 {
     match text {
         [a] => Some(u32::from(*a)),

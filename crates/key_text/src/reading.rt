@@ -3,20 +3,20 @@ ghost use Rattle.std.specs.Option.{option_map};
 ghost use Rattle.key_text.specs.Included.{text_named};
 ghost use Rattle.key_text.specs.Adds.{Adds};
 ghost use Rattle.key_text.specs.Fault.{Fails, Gives};
-ghost use Rattle.key_text.specs.Reading.{blamed, blamed_fault, included, lines_of, read_row, read_rows, start, within};
+ghost use Rattle.key_text.specs.Reading.{at_outer_include, blamed_fault, got_from_include, lines_of, read_row, read_rows, start, within};
 ghost use Rattle.key_text.specs.Lines.{Said};
 ghost use Rattle.key_text.specs.Rows.{rows_of};
 ghost use Rattle.key_text.specs.declared.fault.KeyFault.{KeyFault};
 
 use crate::fault::{KeyError, KeyFault};
 use crate::fault_kind::{NOT_GIVEN, TOO_DEEP, TOO_MANY_INCLUDES};
-use crate::first_word::said_from;
+use crate::first_word::statement_from;
 use crate::includes::Includes;
 use crate::line::Line;
 use crate::next_row::next_row;
 use crate::placed::{Place, Placed};
-use crate::saying::Saying;
-use crate::words::{fault, spot, word_at};
+use crate::statement::Statement;
+use crate::words::{fault, place_of_word, word_at};
 use std::alloc::Global;
 
 // How deep texts may be included.
@@ -106,14 +106,14 @@ fn read_row(
         Some(found) => found,
         None => return Ok(count),
     };
-    let first = depth.outer.unwrap_or(spot(word));
-    let said = match said_from(alloc, end, word, rest) {
+    let first = depth.outer.unwrap_or(place_of_word(word));
+    let said = match statement_from(alloc, end, word, rest) {
         Ok(said) => said,
-        Err(error) => return Err(blamed(depth.outer, error)),
+        Err(error) => return Err(at_outer_include(depth.outer, error)),
     };
     match said {
-        Saying::Nothing => Ok(count),
-        Saying::Tells(kind) => {
+        Statement::Nothing => Ok(count),
+        Statement::Tells(kind) => {
             out.push(Line {
                 kind,
                 line: first.line,
@@ -121,7 +121,7 @@ fn read_row(
             })?;
             Ok(count)
         }
-        Saying::Includes(name, quoted, bad_end) => {
+        Statement::Includes(name, quoted, bad_end) => {
             let at = IncludeAt {
                 left: depth.left,
                 first,
@@ -144,7 +144,7 @@ fn include(
     out: &mut Vec<Line>,
 ) -> Result<u16, KeyError>
     ensures { Adds out.old.items out.new.items result
-        (included (within at.left texts.now at.quoted at.first at.bad_end count) at.quoted
+        (got_from_include (within at.left texts.now at.quoted at.first at.bad_end count) at.quoted
         (text_named name.now texts.now)) }
 {
     let text = match texts.text_named(name) {
@@ -168,8 +168,8 @@ fn include(
 }
 
 // A fault in an included text, at the outermost include line.
-fn blamed(outer: Option<Place>, error: KeyError) -> KeyError
-    ensures { (read : Result Said KeyFault) → Fails error read → Fails result (blamed outer read) }
+fn at_outer_include(outer: Option<Place>, error: KeyError) -> KeyError
+    ensures { (read : Result Said KeyFault) → Fails error read → Fails result (at_outer_include outer read) }
 {
     match error {
         KeyError::Fault(fault) => KeyError::Fault(blamed_fault(outer, fault)),

@@ -13,14 +13,14 @@ use crate::placed::{Place, Placed};
 use std::alloc::{AllocError, Global};
 
 /// The bytes of a word, without their places.
-pub fn bytes(alloc: Global, word: &[Placed]) -> Result<Vec<u8>, AllocError>
+pub(crate) fn bytes(alloc: Global, word: &[Placed]) -> Result<Vec<u8>, AllocError>
     ensures { IfOk result (λ v. v.items ≡ bytes word.now) }
 {
     word.iter().map(|p| p.byte).collect(alloc)
 }
 
 /// The fault of this kind at a place.
-pub fn fault(kind: u16, at: Place) -> KeyError
+pub(crate) fn fault(kind: u16, at: Place) -> KeyError
     ensures { result ≡ KeyError.Fault (fault kind at) }
 {
     KeyError::Fault(KeyFault {
@@ -31,7 +31,7 @@ pub fn fault(kind: u16, at: Place) -> KeyError
 }
 
 /// The place of a word.
-pub fn spot(word: &[Placed]) -> Place
+pub(crate) fn place_of_word(word: &[Placed]) -> Place
     ensures { result ≡ spot word.now }
 {
     nth_place(word, 0)
@@ -51,7 +51,7 @@ fn nth_place(word: &[Placed], i: usize) -> Place
 
 /// The next word and what follows it, or the fault of this kind behind the row's last byte.
 #[tactic(auto, unfolding(crate::specs::Words::next))]
-pub fn next(
+pub(crate) fn next(
     alloc: Global,
     kind: u16,
     end: Place,
@@ -60,14 +60,14 @@ pub fn next(
     ensures { Gives (λ w. (w.0.now, w.1.now)) result (next kind end items.now) }
 {
     match word_at(items) {
-        Some((word, rest)) => whole(alloc, word, rest),
+        Some((word, rest)) => check_utf8(alloc, word, rest),
         None => Err(fault(kind, end)),
     }
 }
 
 /// The next word and what follows it, whatever its bytes are.
 #[tactic(auto, unfolding(crate::specs::Words::word_at))]
-pub fn word_at(items: &[Placed]) -> Option<(&[Placed], &[Placed])>
+pub(crate) fn word_at(items: &[Placed]) -> Option<(&[Placed], &[Placed])>
     ensures { option_map (λ w. (w.0.now, w.1.now)) result ≡ word_at items.now }
 {
     let items = rest_of(items, blank_len(items));
@@ -80,7 +80,7 @@ pub fn word_at(items: &[Placed]) -> Option<(&[Placed], &[Placed])>
 
 /// A word that was come to, and what follows it.
 #[tactic(auto, unfolding(crate::specs::Words::whole))]
-pub fn whole<'a>(
+pub(crate) fn check_utf8<'a>(
     alloc: Global,
     word: &'a [Placed],
     rest: &'a [Placed],
@@ -167,7 +167,7 @@ fn quoted_len(items: &[Placed]) -> usize
 }
 
 /// How many bytes stand before the quote that closes a quoted text.
-pub fn close_at(quote: u8, items: &[Placed]) -> Option<usize>
+pub(crate) fn close_at(quote: u8, items: &[Placed]) -> Option<usize>
     ensures value { result ≡ close_at quote false items.now }
     ensures within { IfSome result (λ n. n < length items.now) }
 {
@@ -206,14 +206,14 @@ fn is_bare(b: u8) -> bool
     !(is_blank(b) || b == b'!' || b == b'#')
 }
 
-pub fn is_quote(b: u8) -> bool
+pub(crate) fn is_quote(b: u8) -> bool
     ensures { result ≡ is_quote b }
 {
     b == b'"' || b == b'\''
 }
 
 /// Whether a word is this one, in any ASCII case.
-pub fn is_word(text: &[u8], word: &[Placed]) -> bool
+pub(crate) fn is_word(text: &[u8], word: &[Placed]) -> bool
     ensures { result ≡ is_word text.now word.now }
 {
     if word.len() != text.len() {

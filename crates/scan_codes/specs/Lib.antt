@@ -1,5 +1,5 @@
 pub mod Groups
-pub mod Kept
+pub mod ScanPrefix
 pub mod Laws
 pub mod Scan
 pub mod Start

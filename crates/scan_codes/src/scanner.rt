@@ -1,6 +1,6 @@
 ghost use Rattle.std.specs.Prelude.{◌≡◌, ◌≤◌, ◌↔◌, ◌⊎◌, [], ◌∷◌, ◌++◌, None, IsTrue, IsOk, OnOk, OnErr, IfOk, slice_index};
 ghost use Rattle.scan_codes.specs.Groups.{Begins, is_down, is_group, is_scan, key, named_by, pause};
-ghost use Rattle.scan_codes.specs.Kept.{IsTranslation, bytes_of};
+ghost use Rattle.scan_codes.specs.ScanPrefix.{IsTranslation, bytes_of};
 ghost use Rattle.scan_codes.specs.Scan.{bytes_after, event_after, start_scan, with_code};
 
 use crate::KeyEvent;
@@ -13,7 +13,7 @@ const PAUSE: u8 = 119;
 
 // The bytes since the last whole group: they begin one.
 #[derive(Debug, Clone, Copy, PartialEq, Eq)]
-enum Kept {
+enum ScanPrefix {
     Nothing,
     E0,
     E1,
@@ -23,13 +23,13 @@ enum Kept {
 /// The scan bytes of a keyboard, read one by one, and the keycodes of their scan numbers.
 #[derive(Debug, Drop)]
 pub struct Scanner {
-    kept: Kept,
+    kept: ScanPrefix,
     codes: [u8; 256],
 }
 
 impl Model for Scanner {
     ghost use Rattle.scan_codes.specs.Scan.{Scan, scan_of};
-    ghost use Rattle.scan_codes.specs.Kept.{IsTranslation, bytes_of};
+    ghost use Rattle.scan_codes.specs.ScanPrefix.{IsTranslation, bytes_of};
 
     ghost Value = { Scan };
 
@@ -48,7 +48,7 @@ impl Scanner {
             codes[scan] = start_code(scan as u8);
         }
         Scanner {
-            kept: Kept::Nothing,
+            kept: ScanPrefix::Nothing,
             codes,
         }
     }
@@ -98,30 +98,30 @@ fn is_scan(scan: u16) -> bool
 }
 
 // What b makes of the bytes before it, and what is then kept.
-fn step(kept: Kept, codes: &[u8; 256], b: u8) -> (Option<KeyEvent>, Kept)
+fn step(kept: ScanPrefix, codes: &[u8; 256], b: u8) -> (Option<KeyEvent>, ScanPrefix)
     requires { IsTranslation codes.now }
     ensures event { result.0 ≡ event_after codes.now (bytes_of kept) b }
     ensures rest { bytes_of result.1 ≡ bytes_after (bytes_of kept) b }
 {
     match kept {
-        Kept::Nothing => first(codes, b),
-        Kept::E0 => (key(codes, 0x80 + b % 0x80, b < 0x80), Kept::Nothing),
-        Kept::E1 => (None, Kept::E1And(b)),
-        Kept::E1And(before) => (pause(before, b), Kept::Nothing),
+        ScanPrefix::Nothing => first(codes, b),
+        ScanPrefix::E0 => (key(codes, 0x80 + b % 0x80, b < 0x80), ScanPrefix::Nothing),
+        ScanPrefix::E1 => (None, ScanPrefix::E1And(b)),
+        ScanPrefix::E1And(before) => (pause(before, b), ScanPrefix::Nothing),
     }
 }
 
 // The byte stands first.
-fn first(codes: &[u8; 256], b: u8) -> (Option<KeyEvent>, Kept)
+fn first(codes: &[u8; 256], b: u8) -> (Option<KeyEvent>, ScanPrefix)
     requires { IsTranslation codes.now }
     ensures event { result.0 ≡ event_after codes.now [] b }
     ensures rest { bytes_of result.1 ≡ bytes_after [] b }
 {
     match b {
-        0xE0 => (None, Kept::E0),
-        0xE1 => (None, Kept::E1),
-        0xFF => (None, Kept::Nothing),
-        _ => (key(codes, b % 0x80, b < 0x80), Kept::Nothing),
+        0xE0 => (None, ScanPrefix::E0),
+        0xE1 => (None, ScanPrefix::E1),
+        0xFF => (None, ScanPrefix::Nothing),
+        _ => (key(codes, b % 0x80, b < 0x80), ScanPrefix::Nothing),
     }
 }
 

@@ -4,8 +4,8 @@ use Rattle.std.proofs.Common.{◌≡◌, ℕ, ◌<◌, zero, suc, Bool, true, fa
 use Rattle.std.proofs.lemmas.Bool.{cases_eq, cases_lt, false≢true}
 use Rattle.std.proofs.lemmas.List.{get_or-set_other, get_or-set_same, set_past}
 use Rattle.std.specs.List.{list_any}
-use Rattle.vt_procs.specs.Callers.{Callers, adds_open, caller_at, ended, gone, loses_open, no_caller, opened, shut, with_caller}
-use Rattle.vt_procs.specs.Tickets.{accepting, broken, can_go, collected, filled, is_for_display, is_for_input, left, raised, settled, shown, signalled, succeeded, taken, waited_of, with_waiting, without_pending}
+use Rattle.vt_procs.specs.Callers.{Callers, adds_open, caller_at, after_exit, dead_process, loses_open, no_caller, after_open, after_close, with_caller}
+use Rattle.vt_procs.specs.Tickets.{with_accepter, after_signal, can_go, after_wait_report, after_input_on, is_for_display, is_for_input, waiting_after_report, after_raise, after_idle_rule, after_display_of, with_signal_pending, after_success, after_taking_signals, waited_of, with_waiting, without_pending}
 use Rattle.vt_procs.specs.declared.process.Process.{Process}
 use Rattle.vt_procs.specs.declared.ticket.Ticket.{Ticket}
 use Rattle.vt_procs.specs.declared.waiting.Waiting.{Waiting}
@@ -32,19 +32,19 @@ then_ages a b c ab bc = record {
 }
 
 -- what a wait can become
-broken_held : (w : Waiting) → holds (broken w) ≡ true → holds w ≡ true
+broken_held : (w : Waiting) → holds (after_signal w) ≡ true → holds w ≡ true
 broken_held Nothing h = h
 broken_held (Open ticket) h = refl
 broken_held Done h = refl
 broken_held Broken h = refl
 
-left_held : (w : Waiting) → holds (left w) ≡ true → holds w ≡ true
+left_held : (w : Waiting) → holds (waiting_after_report w) ≡ true → holds w ≡ true
 left_held Nothing h = h
 left_held (Open ticket) h = refl
 left_held Done h = refl
 left_held Broken h = refl
 
-done_held : (ends : Ticket → Bool) (w : Waiting) → holds (succeeded ends w) ≡ true
+done_held : (ends : Ticket → Bool) (w : Waiting) → holds (after_success ends w) ≡ true
     → holds w ≡ true
 done_held ends Nothing h = h
 done_held ends (Open ticket) h = refl
@@ -55,10 +55,10 @@ waiting_ages : (a : Process) (w : Waiting) → (holds w ≡ true → holds a.wai
     → Ages a (with_waiting a w)
 waiting_ages a w held = record { live = λ h. h; held = held; lives = λ h l. l }
 
-signalled_ages : (a : Process) (s : ℕ) → Ages a (signalled a s)
+signalled_ages : (a : Process) (s : ℕ) → Ages a (with_signal_pending a s)
 signalled_ages a s = record { live = λ h. h; held = broken_held a.waiting; lives = λ h l. l }
 
-gone_ages : (a : Process) → Ages a (gone a)
+gone_ages : (a : Process) → Ages a (dead_process a)
 gone_ages a = record {
   live = λ h. absurd (false≢true h);
   held = λ h. absurd (false≢true h);
@@ -66,10 +66,10 @@ gone_ages a = record {
 }
 
 -- a caller of a list in which one has changed
-pub at-set : (P : Process → Type 0) (list : List Process) (p q : ℕ) (x : Process)
+pub at_set : (P : Process → Type 0) (list : List Process) (p q : ℕ) (x : Process)
     → P (get_or list q no_caller) → (q ≡ p → p < length list → P x)
     → P (get_or (set list p x) q no_caller)
-at-set P list p q x old new = ⊎_elim
+at_set P list p q x old new = ⊎_elim
     (λ same. ⊎_elim
     (λ within. subst (λ k. P (get_or (set list p x) k no_caller)) (sym same)
     (subst P (sym (get_or-set_same list p x no_caller within)) (new same within)))
@@ -79,90 +79,90 @@ at-set P list p q x old new = ⊎_elim
     (cases_eq q p)
 
 -- a caller of a list in which all have changed
-pub at-map : (f : Process → Process) → f no_caller ≡ no_caller → (list : List Process) (q : ℕ)
+pub at_map : (f : Process → Process) → f no_caller ≡ no_caller → (list : List Process) (q : ℕ)
     → get_or (map f list) q no_caller ≡ f (get_or list q no_caller)
-at-map f none [] q = sym none
-at-map f none (x ∷ list) zero = refl
-at-map f none (x ∷ list) (suc q) = at-map f none list q
+at_map f none [] q = sym none
+at_map f none (x ∷ list) zero = refl
+at_map f none (x ∷ list) (suc q) = at_map f none list q
 
 -- all callers age
 abbrev pub AllAge : Callers → Callers → Type 0
 AllAge c d = (q : ℕ) → Ages (caller_at c q) (caller_at d q)
 
-pub all-stay : (c : Callers) → AllAge c c
-all-stay c q = stays (caller_at c q)
+pub all_stay : (c : Callers) → AllAge c c
+all_stay c q = stays (caller_at c q)
 
 pub then_all : (c d e : Callers) → AllAge c d → AllAge d e → AllAge c e
 then_all c d e cd de q = then_ages (caller_at c q) (caller_at d q) (caller_at e q) (cd q) (de q)
 
 one_ages : (c : Callers) (p : ℕ) (x : Process) → Ages (caller_at c p) x → AllAge c (with_caller c p x)
 one_ages c p x ages q =
-    at-set (Ages (caller_at c q)) c.list p q x (stays (caller_at c q))
+    at_set (Ages (caller_at c q)) c.list p q x (stays (caller_at c q))
     (λ same within. subst (λ k. Ages (caller_at c k) x) (sym same) ages)
 
-pub opened-age : (c : Callers) (p n : ℕ) → AllAge c (opened p n c)
-opened-age c p n =
+pub after_open_age : (c : Callers) (p n : ℕ) → AllAge c (after_open p n c)
+after_open_age c p n =
     one_ages c p (adds_open (caller_at c p) n)
     (record { live = λ h. h; held = λ h. h; lives = λ h l. l })
 
-pub shut-age : (c : Callers) (p fd : ℕ) → AllAge c (shut p fd c)
-shut-age c p fd =
+pub after_close_age : (c : Callers) (p fd : ℕ) → AllAge c (after_close p fd c)
+after_close_age c p fd =
     one_ages c p (loses_open (caller_at c p) fd)
     (record { live = λ h. h; held = λ h. h; lives = λ h l. l })
 
-pub taken-age : (c : Callers) (p : ℕ) → AllAge c (taken p c)
-taken-age c p =
+pub after_taking_signals_age : (c : Callers) (p : ℕ) → AllAge c (after_taking_signals p c)
+after_taking_signals_age c p =
     one_ages c p (without_pending (caller_at c p))
     (record { live = λ h. h; held = λ h. h; lives = λ h l. l })
 
-pub collected-age : (c : Callers) (p : ℕ) → AllAge c (collected p c)
-collected-age c p =
-    one_ages c p (with_waiting (caller_at c p) (left (caller_at c p).waiting))
-    (waiting_ages (caller_at c p) (left (caller_at c p).waiting) (left_held (caller_at c p).waiting))
+pub after_wait_report_age : (c : Callers) (p : ℕ) → AllAge c (after_wait_report p c)
+after_wait_report_age c p =
+    one_ages c p (with_waiting (caller_at c p) (waiting_after_report (caller_at c p).waiting))
+    (waiting_ages (caller_at c p) (waiting_after_report (caller_at c p).waiting) (left_held (caller_at c p).waiting))
 
-pub raised-age : (c : Callers) (p s : ℕ) → AllAge c (raised p s c)
-raised-age c p s =
-    one_ages c p (signalled (caller_at c p) s) (signalled_ages (caller_at c p) s)
+pub after_raise_age : (c : Callers) (p s : ℕ) → AllAge c (after_raise p s c)
+after_raise_age c p s =
+    one_ages c p (with_signal_pending (caller_at c p) s) (signalled_ages (caller_at c p) s)
 
-pub ended-age : (c : Callers) (p : ℕ) → AllAge c (ended p c)
-ended-age c p = one_ages c p (gone (caller_at c p)) (gone_ages (caller_at c p))
+pub after_exit_age : (c : Callers) (p : ℕ) → AllAge c (after_exit p c)
+after_exit_age c p = one_ages c p (dead_process (caller_at c p)) (gone_ages (caller_at c p))
 
-pub accepting-age : (c : Callers) (p s : ℕ) → AllAge c (accepting p s c)
-accepting-age c p s q = stays (caller_at c q)
+pub with_accepter_age : (c : Callers) (p s : ℕ) → AllAge c (with_accepter p s c)
+with_accepter_age c p s q = stays (caller_at c q)
 
 -- each caller changed so
 abbrev pub with_all : (Process → Process) → Callers → Callers
 with_all f c = record c { list = map f c.list }
 
-all-age : (c : Callers) (f : Process → Process) → f no_caller ≡ no_caller
+all_age : (c : Callers) (f : Process → Process) → f no_caller ≡ no_caller
     → ((a : Process) → Ages a (f a)) → AllAge c (with_all f c)
-all-age c f none ages q =
-    subst (Ages (caller_at c q)) (sym (at-map f none c.list q)) (ages (caller_at c q))
+all_age c f none ages q =
+    subst (Ages (caller_at c q)) (sym (at_map f none c.list q)) (ages (caller_at c q))
 
 -- open tickets that pass a test end
 abbrev done_all : (Ticket → Bool) → Callers → Callers
 done_all ends c =
-    with_all (λ process. with_waiting process (succeeded ends process.waiting)) c
+    with_all (λ process. with_waiting process (after_success ends process.waiting)) c
 
-done-age : (c : Callers) (ends : Ticket → Bool) → AllAge c (done_all ends c)
-done-age c ends =
-    all-age c (λ process. with_waiting process (succeeded ends process.waiting)) refl
-    (λ a. waiting_ages a (succeeded ends a.waiting) (done_held ends a.waiting))
+done_age : (c : Callers) (ends : Ticket → Bool) → AllAge c (done_all ends c)
+done_age c ends =
+    all_age c (λ process. with_waiting process (after_success ends process.waiting)) refl
+    (λ a. waiting_ages a (after_success ends a.waiting) (done_held ends a.waiting))
 
-pub shown-age : (c : Callers) (n : ℕ) → AllAge c (shown n c)
-shown-age c n = done-age c (is_for_display n)
+pub after_display_of_age : (c : Callers) (n : ℕ) → AllAge c (after_display_of n c)
+after_display_of_age c n = done_age c (is_for_display n)
 
-pub filled-age : (c : Callers) (n : ℕ) → AllAge c (filled n c)
-filled-age c n = done-age c (is_for_input n)
+pub after_input_on_age : (c : Callers) (n : ℕ) → AllAge c (after_input_on n c)
+after_input_on_age c n = done_age c (is_for_input n)
 
 -- every open ticket ends
 abbrev pub breaks : Process → Process
-breaks process = with_waiting process (broken process.waiting)
+breaks process = with_waiting process (after_signal process.waiting)
 
-pub settled-age : (c : Callers) → AllAge c (settled c)
-settled-age c =
+pub after_idle_rule_age : (c : Callers) → AllAge c (after_idle_rule c)
+after_idle_rule_age c =
     elim (list_any can_go c.list) as (λ b. AllAge c (cond b c (with_all breaks c))) [
-      | true ↦ all-stay c
-      | false ↦ all-age c breaks refl
-          (λ a. waiting_ages a (broken a.waiting) (broken_held a.waiting))
+      | true ↦ all_stay c
+      | false ↦ all_age c breaks refl
+          (λ a. waiting_ages a (after_signal a.waiting) (broken_held a.waiting))
     ]

@@ -18,11 +18,11 @@ abbrev pub Walked : (List Call → Option Event) → List Call → Type 0
 Walked f [] = ⊤
 Walked f (c ∷ made) = (f [] ≡ Some c.event) × Walked (λ more. f (c ∷ more)) made
 
-pub walked-more : (f : List Call → Option Event) (made : List Call) (e : Event) (r : Reply)
+pub walked_more : (f : List Call → Option Event) (made : List Call) (e : Event) (r : Reply)
     → Walked f made → f made ≡ Some e → Walked f (made ++ call e r ∷ [])
-walked-more f [] e r walked is = (is, tt)
-walked-more f (c ∷ made) e r walked is =
-    (walked.0, walked-more (λ more. f (c ∷ more)) made e r walked.1 is)
+walked_more f [] e r walked is = (is, tt)
+walked_more f (c ∷ made) e r walked is =
+    (walked.0, walked_more (λ more. f (c ∷ more)) made e r walked.1 is)
 
 -- the calls ahead go on until one ends them
 pub record Alive (f : List Call → Option Event) : Type 0 where
@@ -31,8 +31,8 @@ pub record Alive (f : List Call → Option Event) : Type 0 where
       (made : List Call) (e : Event) (r : Reply) → Walked f made → f made ≡ Some e
       → f (made ++ call e r ∷ []) ≡ None → ends e r ≡ true
 
-some-none : (e : Event) → Some e ≡ None → ⊥
-some-none e is = none-some e (sym is)
+some_none : (e : Event) → Some e ≡ None → ⊥
+some_none e is = none-some e (sym is)
 
 goes_calls : (e : Event) (behind : List Call → Option Event) → Alive behind → (made : List Call)
     (next : Event) (r : Reply) → Walked (calls e behind) made → calls e behind made ≡ Some next
@@ -41,7 +41,7 @@ goes_calls e behind alive [] next r = λ walked here.
     elim (ends next r) as (λ b. behind_first b (is_wait r) behind [] ≡ None → b ≡ true) [
       | true ↦ λ none. refl
       | false ↦ elim (is_wait r) as (λ b. behind_first false b behind [] ≡ None → false ≡ true) [
-        | true ↦ λ none. absurd (some-none event.WaitEnd none)
+        | true ↦ λ none. absurd (some_none event.WaitEnd none)
         | false ↦ λ none. absurd (alive.starts none)
       ]
     ]
@@ -55,9 +55,9 @@ goes_calls e behind alive (c ∷ made) next r = λ walked.
     ])
     walked.1
 
-calls-alive : (e : Event) (behind : List Call → Option Event) → Alive behind → Alive (calls e behind)
-calls-alive e behind alive = record {
-  starts = some-none e;
+calls_alive : (e : Event) (behind : List Call → Option Event) → Alive behind → Alive (calls e behind)
+calls_alive e behind alive = record {
+  starts = some_none e;
   goes = goes_calls e behind alive;
 }
 
@@ -72,47 +72,47 @@ goes_exits (c ∷ made) e r walked here none =
     ap (λ b. behind_first b (is_wait c.reply) nothing made) last in
     absurd (none-some e (sym over ∙ here))
 
-exits-alive : Alive exits
-exits-alive = record { starts = some-none event.Exit; goes = goes_exits }
+exits_alive : Alive exits
+exits_alive = record { starts = some_none event.Exit; goes = goes_exits }
 
-all-alive : (events : List Event) (behind : List Call → Option Event) → Alive behind
+all_alive : (events : List Event) (behind : List Call → Option Event) → Alive behind
     → Alive (all_calls events behind)
-all-alive [] behind alive = alive
-all-alive (e ∷ events) behind alive =
-    calls-alive e (all_calls events behind) (all-alive events behind alive)
+all_alive [] behind alive = alive
+all_alive (e ∷ events) behind alive =
+    calls_alive e (all_calls events behind) (all_alive events behind alive)
 
-taken-alive : (table : List Act) (behind : List Call → Option Event) → Alive behind → (set : ℕ)
+taken_alive : (table : List Act) (behind : List Call → Option Event) → Alive behind → (set : ℕ)
     → Alive (taken table behind set)
-taken-alive table behind alive set =
-    calls-alive event.TakeSignals (all_calls (calls_from table set 1) behind)
-    (all-alive (calls_from table set 1) behind alive)
+taken_alive table behind alive set =
+    calls_alive event.TakeSignals (all_calls (calls_from table set 1) behind)
+    (all_alive (calls_from table set 1) behind alive)
 
 goes_takes : (table : List Act) (behind : List Call → Option Event) → Alive behind
     → (made : List Call) (e : Event) (r : Reply) → Walked (takes table behind) made
     → takes table behind made ≡ Some e → takes table behind (made ++ call e r ∷ []) ≡ None
     → ends e r ≡ true
 goes_takes table behind alive [] e r walked here none =
-    (taken-alive table behind alive (signals_in r)).goes [] e r tt here none
+    (taken_alive table behind alive (signals_in r)).goes [] e r tt here none
 goes_takes table behind alive (c ∷ made) e r walked here none =
-    (taken-alive table behind alive (signals_in c.reply)).goes (c ∷ made) e r walked here none
+    (taken_alive table behind alive (signals_in c.reply)).goes (c ∷ made) e r walked here none
 
-takes-alive : (table : List Act) (behind : List Call → Option Event) → Alive behind
+takes_alive : (table : List Act) (behind : List Call → Option Event) → Alive behind
     → Alive (takes table behind)
-takes-alive table behind alive = record {
-  starts = some-none event.TakeSignals;
+takes_alive table behind alive = record {
+  starts = some_none event.TakeSignals;
   goes = goes_takes table behind alive;
 }
 
-script-alive : (table : List Act) (items : List Event) → Alive (script table items)
-script-alive table [] = exits-alive
-script-alive table (item ∷ items) =
-    calls-alive (plain_event item) (takes table (script table items))
-    (takes-alive table (script table items) (script-alive table items))
+script_alive : (table : List Act) (items : List Event) → Alive (script table items)
+script_alive table [] = exits_alive
+script_alive table (item ∷ items) =
+    calls_alive (plain_event item) (takes table (script table items))
+    (takes_alive table (script table items) (script_alive table items))
 
-scans-alive : (bytes : List ℕ) → Alive (scans bytes)
-scans-alive [] = exits-alive
-scans-alive (b ∷ bytes) = calls-alive (event.Scan b) (scans bytes) (scans-alive bytes)
+scans_alive : (bytes : List ℕ) → Alive (scans bytes)
+scans_alive [] = exits_alive
+scans_alive (b ∷ bytes) = calls_alive (event.Scan b) (scans bytes) (scans_alive bytes)
 
-pub next-alive : (p : Program) → Alive (next p)
-next-alive (program.Keys bytes) = scans-alive bytes.bytes
-next-alive (program.Script items table) = script-alive table items.events
+pub next_alive : (p : Program) → Alive (next p)
+next_alive (program.Keys bytes) = scans_alive bytes.bytes
+next_alive (program.Script items table) = script_alive table items.events

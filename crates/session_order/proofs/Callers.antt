@@ -5,9 +5,9 @@ use Rattle.std.proofs.lemmas.List.{get_or-set_other, get_or-set_same, get_or_pas
 use Rattle.std.proofs.lemmas.Option.{none-some}
 use Rattle.std.specs.List.{list_any}
 use Rattle.std.specs.Prelude.{not, ◌&&◌, if◌then◌else◌}
-use Rattle.session_order.proofs.Ages.{AllAge, all-stay, at-map, at-set, breaks, holds, settled-age, then_all, with_all}
-use Rattle.session_order.proofs.Deeds.{NoWait, OneWait, RowDoes, all-done-age, row-does, tell-age}
-use Rattle.session_order.proofs.Steps.{Accepted, RefusedByAll, RefusedByOwn, StepDoes, accepted, common-none, none-common, step-does}
+use Rattle.session_order.proofs.Ages.{AllAge, all_stay, at_map, at_set, breaks, holds, after_idle_rule_age, then_all, with_all}
+use Rattle.session_order.proofs.Deeds.{NoWait, OneWait, RowDoes, apply_deeds_age, row_does, apply_marks_age}
+use Rattle.session_order.proofs.Steps.{Accepted, RefusedByAll, RefusedByOwn, StepDoes, accepted, common_none, none_common, step_does}
 use Rattle.session_text.specs.Programs.{is_exit}
 use Rattle.vt_events.specs.Waits.{is_wait}
 use Rattle.vt_base.specs.Keyboards.{is_keyboard}
@@ -15,8 +15,8 @@ use Rattle.vt_base.specs.declared.errno.Errno.{Errno}
 use Rattle.vt_base.specs.declared.errno.Errno.TheVariants as errno
 use Rattle.vt_events.specs.declared.event.Event.{Event}
 use Rattle.vt_events.specs.declared.event.Event.TheVariants as event
-use Rattle.vt_procs.specs.Callers.{Callers, caller_at, gone, is_live, no_caller}
-use Rattle.vt_procs.specs.Tickets.{broken, can_go, collected, is_open, left, settled, waits, with_waiting}
+use Rattle.vt_procs.specs.Callers.{Callers, caller_at, dead_process, is_live, no_caller}
+use Rattle.vt_procs.specs.Tickets.{after_signal, can_go, after_wait_report, is_open, waiting_after_report, after_idle_rule, waits, with_waiting}
 use Rattle.vt_procs.specs.declared.process.Process.{Process}
 use Rattle.vt_procs.specs.declared.ticket.Ticket.{Ticket}
 use Rattle.vt_procs.specs.declared.waiting.Waiting.{Waiting}
@@ -25,9 +25,9 @@ use Rattle.vt_switch.specs.Acts.{End}
 use Rattle.vt_switch.specs.Moments.{core_after, hop_marks}
 use Rattle.vt_switch.specs.Acts.{hop_of}
 use Rattle.vt_switch.specs.declared.mark.Mark.TheVariants as mark
-use Rattle.vt_world.specs.Deeds.{all_done}
-use Rattle.vt_world.specs.Heard.{cleared, heard, tell}
-use Rattle.vt_world.specs.Rows.{Row, row}
+use Rattle.vt_world.specs.Deeds.{apply_deeds}
+use Rattle.vt_world.specs.Heard.{without_marks, apply_mark, apply_marks}
+use Rattle.vt_world.specs.Rows.{EventRow, row}
 use Rattle.vt_world.specs.State.{WorldState, core}
 use Rattle.vt_world.specs.Step.{Outcome, step}
 use Rattle.vt_world.specs.Refusals.{ends_wait, may_make}
@@ -52,7 +52,7 @@ pub record Stepped (p : ℕ) (c : Callers) (waits : Bool) (d : Callers) : Type 0
       → holds (caller_at c p).waiting ≡ true
   pub awake : Awake c → Awake d
 
-broken_shut : (w : Waiting) → is_open (broken w) ≡ false
+broken_shut : (w : Waiting) → is_open (after_signal w) ≡ false
 broken_shut Nothing = refl
 broken_shut (Open ticket) = refl
 broken_shut Done = refl
@@ -60,10 +60,10 @@ broken_shut Broken = refl
 
 all_broken : (c : Callers) → Awake (with_all breaks c)
 all_broken c = inr (λ q.
-    ap (λ (a : Process). is_open a.waiting) (at-map breaks refl c.list q)
+    ap (λ (a : Process). is_open a.waiting) (at_map breaks refl c.list q)
     ∙ broken_shut (caller_at c q).waiting)
 
-settled_awake : (c : Callers) → Awake (settled c)
+settled_awake : (c : Callers) → Awake (after_idle_rule c)
 settled_awake c = ⊎_elim
     (λ some. subst Awake (sym (ap (λ b. cond b c (with_all breaks c)) some)) (inl some))
     (λ none. subst Awake (sym (ap (λ b. cond b c (with_all breaks c)) none)) (all_broken c))
@@ -81,17 +81,17 @@ aged p c d waits ages awake = record {
 
 -- p, which lives, begins to wait, and the idle rule comes
 begins : (p : ℕ) (c : Callers) (ticket : Ticket) → is_live c p ≡ true
-    → Stepped p c true (settled (waits p ticket c))
+    → Stepped p c true (after_idle_rule (waits p ticket c))
 begins p c ticket alive =
     let w : Callers = waits p ticket c in
-    let d : Callers = settled w in
-    let ages : AllAge w d = settled-age w in
+    let d : Callers = after_idle_rule w in
+    let ages : AllAge w d = after_idle_rule_age w in
     let lives : (q : ℕ) → is_live w q ≡ true → is_live c q ≡ true =
-    λ q. at-set (λ x. x.live ≡ true → is_live c q ≡ true) c.list p q
+    λ q. at_set (λ x. x.live ≡ true → is_live c q ≡ true) c.list p q
     (with_waiting (caller_at c p) (Open ticket)) (λ h. h)
     (λ same within h. subst (λ k. is_live c k ≡ true) (sym same) alive) in
     let sounds : Sound c → Sound w =
-    λ sound q. at-set (λ x. holds x.waiting ≡ true → x.live ≡ true) c.list p q
+    λ sound q. at_set (λ x. holds x.waiting ≡ true → x.live ≡ true) c.list p q
     (with_waiting (caller_at c p) (Open ticket)) (sound q) (λ same within h. alive) in
     let others : (q : ℕ) → (q ≡ p → ⊥) → holds (caller_at w q).waiting ≡ true → holds (caller_at c q).waiting ≡ true =
     λ q other h.
@@ -106,25 +106,25 @@ begins p c ticket alive =
       awake = λ awake. settled_awake w;
     }
 
-row_steps : (w : WorldState) (p : ℕ) (r : Row) → is_live w.callers p ≡ true → RowDoes p r
+row_steps : (w : WorldState) (p : ℕ) (r : EventRow) → is_live w.callers p ≡ true → RowDoes p r
     → Stepped p w.callers (is_wait r.reply) (accepted w r).world.callers
 row_steps w p _ alive (NoWait r quiet) =
-    let done : Callers = (all_done (cleared w) r.deeds).callers in
-    aged p w.callers (settled done) (is_wait r.reply)
-    (then_all w.callers done (settled done) (all-done-age (cleared w) r.deeds quiet) (settled-age done))
+    let done : Callers = (apply_deeds (without_marks w) r.deeds).callers in
+    aged p w.callers (after_idle_rule done) (is_wait r.reply)
+    (then_all w.callers done (after_idle_rule done) (apply_deeds_age (without_marks w) r.deeds quiet) (after_idle_rule_age done))
     (λ awake. settled_awake done)
 row_steps w p _ alive (OneWait ticket) = begins p w.callers ticket alive
 
 does_step : (w : WorldState) (p : ℕ) (e : Event) (o : Outcome) → StepDoes w p e o
     → Stepped p w.callers (is_wait o.reply) o.world.callers
-does_step w p e o (RefusedByAll with is) = aged p w.callers w.callers false (all-stay w.callers) (λ awake. awake)
-does_step w p e o (RefusedByOwn with none is) = aged p w.callers w.callers false (all-stay w.callers) (λ awake. awake)
+does_step w p e o (RefusedByAll with is) = aged p w.callers w.callers false (all_stay w.callers) (λ awake. awake)
+does_step w p e o (RefusedByOwn with none is) = aged p w.callers w.callers false (all_stay w.callers) (λ awake. awake)
 does_step w p e o (Accepted none is) =
-    row_steps w p (row (cleared w) p e) (common-none w p e none).0 (row-does (cleared w) p e)
+    row_steps w p (row (without_marks w) p e) (common_none w p e none).0 (row_does (without_marks w) p e)
 
 pub stepped : (w : WorldState) (p : ℕ) (e : Event)
     → Stepped p w.callers (is_wait (step w p e).reply) (step w p e).world.callers
-stepped w p e = does_step w p e (step w p e) (step-does w p e)
+stepped w p e = does_step w p e (step w p e) (step_does w p e)
 
 -- a caller that has changed, or isn't there
 at_own : (c : Callers) (p : ℕ) (x : Process) (test : Process → Bool) → test x ≡ false
@@ -135,35 +135,35 @@ at_own c p x test here none = ⊎_elim
     (cases_lt p (length c.list))
 
 end_kills : (w : WorldState) (p : ℕ)
-    → is_live (settled (all_done (cleared w) (row (cleared w) p event.Exit).deeds).callers) p ≡ false
+    → is_live (after_idle_rule (apply_deeds (without_marks w) (row (without_marks w) p event.Exit).deeds).callers) p ≡ false
 end_kills w p =
-    let v : WorldState = cleared w in
+    let v : WorldState = without_marks w in
     let u : WorldState = record v { display = (core_after (core v) (End p)).display } in
     let rest = hop_marks (core_after (core v) (End p)) (hop_of v.display (End p)) in
-    let x : WorldState = heard u (mark.Ended p) in
-    let y : WorldState = tell x rest in
-    let ages : AllAge x.callers (settled y.callers) =
-    then_all x.callers y.callers (settled y.callers) (tell-age rest x) (settled-age y.callers) in
+    let x : WorldState = apply_mark u (mark.Ended p) in
+    let y : WorldState = apply_marks x rest in
+    let ages : AllAge x.callers (after_idle_rule y.callers) =
+    then_all x.callers y.callers (after_idle_rule y.callers) (apply_marks_age rest x) (after_idle_rule_age y.callers) in
     let dead : is_live x.callers p ≡ false =
-    at_own w.callers p (gone (caller_at w.callers p)) (λ a. a.live) refl refl in
-    false_from_ne_true (is_live (settled y.callers) p)
+    at_own w.callers p (dead_process (caller_at w.callers p)) (λ a. a.live) refl refl in
+    false_from_ne_true (is_live (after_idle_rule y.callers) p)
     (λ live. both_ways (is_live x.callers p) dead ((ages p).live live))
 
 exit_does : (w : WorldState) (p : ℕ) (o : Outcome) → StepDoes w p event.Exit o
     → is_live w.callers p ≡ true → holds (caller_at w.callers p).waiting ≡ false
     → is_live o.world.callers p ≡ false
 exit_does w p o (RefusedByAll with is) alive free =
-    absurd (none-some with (sym (none-common w p event.Exit alive refl (λ i. free i && true)) ∙ is))
+    absurd (none-some with (sym (none_common w p event.Exit alive refl (λ i. free i && true)) ∙ is))
 exit_does w p o (RefusedByOwn with none is) alive free = absurd (none-some with is)
 exit_does w p o (Accepted none is) alive free = end_kills w p
 
 -- an exit of who lives and holds no ticket ends it
-pub exit-kills : (w : WorldState) (p : ℕ) (e : Event) → is_exit e ≡ true → is_live w.callers p ≡ true
+pub exit_kills : (w : WorldState) (p : ℕ) (e : Event) → is_exit e ≡ true → is_live w.callers p ≡ true
     → holds (caller_at w.callers p).waiting ≡ false → is_live (step w p e).world.callers p ≡ false
-exit-kills w p event.Exit is = exit_does w p (step w p event.Exit) (step-does w p event.Exit)
-exit-kills w p e is = absurd (false≢true is)
+exit_kills w p event.Exit is = exit_does w p (step w p event.Exit) (step_does w p event.Exit)
+exit_kills w p e is = absurd (false≢true is)
 
-left_free : (w : Waiting) → is_open w ≡ false → holds (left w) ≡ false
+left_free : (w : Waiting) → is_open w ≡ false → holds (waiting_after_report w) ≡ false
 left_free Nothing shut = refl
 left_free (Open ticket) shut = absurd (true≢false shut)
 left_free Done shut = refl
@@ -185,23 +185,23 @@ collect_does : (w : WorldState) (p : ℕ) (o : Outcome) → StepDoes w p event.W
     → holds (caller_at o.world.callers p).waiting ≡ false
 collect_does w p o (RefusedByAll with is) alive process held shut =
     let may : may_make p event.WaitEnd ≡ true = λ i. not (process i) in
-    absurd (none-some with (sym (none-common w p event.WaitEnd alive may (and_right (holds (caller_at w.callers p).waiting) false refl)) ∙ is))
+    absurd (none-some with (sym (none_common w p event.WaitEnd alive may (and_right (holds (caller_at w.callers p).waiting) false refl)) ∙ is))
 collect_does w p o (RefusedByOwn with none is) alive process held shut =
     absurd (none-some with (sym (own_tested (holds (caller_at w.callers p).waiting) (is_open (caller_at w.callers p).waiting) held shut) ∙ is))
 collect_does w p o (Accepted none is) alive process held shut =
-    let d : Callers = collected p w.callers in
+    let d : Callers = after_wait_report p w.callers in
     let free : holds (caller_at d p).waiting ≡ false =
-    at_own w.callers p (with_waiting (caller_at w.callers p) (left (caller_at w.callers p).waiting))
+    at_own w.callers p (with_waiting (caller_at w.callers p) (waiting_after_report (caller_at w.callers p).waiting))
     (λ a. holds a.waiting) (left_free (caller_at w.callers p).waiting shut) refl in
-    false_from_ne_true (holds (caller_at (settled d) p).waiting)
-    (λ h. both_ways (holds (caller_at d p).waiting) free ((settled-age d p).held h))
+    false_from_ne_true (holds (caller_at (after_idle_rule d) p).waiting)
+    (λ h. both_ways (holds (caller_at d p).waiting) free ((after_idle_rule_age d p).held h))
 
 -- waitend of who lives takes its ticket, where that isn't open
-pub waitend-collects : (w : WorldState) (p : ℕ) (e : Event) → ends_wait e ≡ true
+pub waitend_collects : (w : WorldState) (p : ℕ) (e : Event) → ends_wait e ≡ true
     → is_live w.callers p ≡ true → is_keyboard p ≡ false
     → holds (caller_at w.callers p).waiting ≡ true
     → is_open (caller_at w.callers p).waiting ≡ false
     → holds (caller_at (step w p e).world.callers p).waiting ≡ false
-waitend-collects w p event.WaitEnd is =
-    collect_does w p (step w p event.WaitEnd) (step-does w p event.WaitEnd)
-waitend-collects w p e is = absurd (false≢true is)
+waitend_collects w p event.WaitEnd is =
+    collect_does w p (step w p event.WaitEnd) (step_does w p event.WaitEnd)
+waitend_collects w p e is = absurd (false≢true is)

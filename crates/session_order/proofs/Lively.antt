@@ -7,10 +7,10 @@ use Rattle.std.proofs.lemmas.List.Elements.{filter-append}
 use Rattle.std.proofs.lemmas.Option.{none-some, same_Some}
 use Rattle.std.specs.Prelude.{◌==◌, ◌&&◌, not}
 use Rattle.session_order.proofs.Ages.{holds}
-use Rattle.session_order.proofs.Alive.{Walked, next-alive, walked-more}
-use Rattle.session_order.proofs.Callers.{Awake, Sound, Stepped, exit-kills, stepped, waitend-collects}
-use Rattle.session_order.proofs.Programs.{next-fine}
-use Rattle.session_order.proofs.Steps.{exit-never-waits, gone-dead, keyboard-never-waits}
+use Rattle.session_order.proofs.Alive.{Walked, next_alive, walked_more}
+use Rattle.session_order.proofs.Callers.{Awake, Sound, Stepped, exit_kills, stepped, waitend_collects}
+use Rattle.session_order.proofs.Programs.{next_fine}
+use Rattle.session_order.proofs.Steps.{exit_never_waits, gone_dead, keyboard_never_waits}
 use Rattle.session_order.specs.Calls.{call_of, calls_by, next_by, next_of}
 use Rattle.session_text.specs.Programs.{Call, call, ends, is_exit, is_gone, is_kill, next, program_of}
 use Rattle.vt_base.specs.Keyboards.{is_keyboard}
@@ -92,14 +92,14 @@ ending_dies programs h w p e lively now last =
     let same : event.WaitEnd ≡ e =
     same_Some event.WaitEnd e (sym (lively.waits p held).waitend ∙ now.next) in
     absurd (false≢true (subst (λ x. is_exit x ≡ true) (sym same) exit)))
-    (λ free. exit-kills w p e exit live free)
+    (λ free. exit_kills w p e exit live free)
     (cases_Bool (holds (caller_at w.callers p).waiting)))
     stays_dead (cases_Bool (is_live w.callers p)) in
     ⊎_elim exits
     (λ gone.
     let parts : (not (is_kill e) ≡ true) × (is_gone (step w p e).reply ≡ true) =
     and_parts (not (is_kill e)) (is_gone (step w p e).reply) gone in
-    stays_dead (gone-dead w p e (not-true (is_kill e) parts.0) parts.1))
+    stays_dead (gone_dead w p e (not-true (is_kill e) parts.0) parts.1))
     (or_cases (is_exit e) (not (is_kill e) && is_gone (step w p e).reply) last)
 
 -- who holds no ticket before and isn't answered wait, or collects it, holds none behind
@@ -115,7 +115,7 @@ holds_wait programs h w p e lively now held = ⊎_elim
     let same : event.WaitEnd ≡ e = same_Some event.WaitEnd e (sym has.waitend ∙ now.next) in
     let waitend : ends_wait e ≡ true = subst (λ x. ends_wait x ≡ true) same refl in
     absurd (both_ways (holds (caller_at (step w p e).world.callers p).waiting)
-    (waitend-collects w p e waitend (lively.sound p before) has.process before now.shut) held))
+    (waitend_collects w p e waitend (lively.sound p before) has.process before now.shut) held))
     (cases_Bool (is_wait (step w p e).reply))
 
 -- a call that is answered wait doesn't end its program
@@ -124,7 +124,7 @@ wait_goes_on : (w : WorldState) (p : ℕ) (e : Event) → is_wait (step w p e).r
 wait_goes_on w p e wait =
     let exit : is_exit e ≡ false =
     false_from_ne_true (is_exit e)
-    (λ is. both_ways (is_wait (step w p e).reply) (exit-never-waits w p e is) wait) in
+    (λ is. both_ways (is_wait (step w p e).reply) (exit_never_waits w p e is) wait) in
     or_from (is_exit e) (not (is_kill e) && is_gone (step w p e).reply) exit
     (and_right (not (is_kill e)) (is_gone (step w p e).reply) (wait_not_gone (step w p e).reply wait))
 
@@ -135,11 +135,11 @@ of_each Holds p own others q =
     ⊎_elim (λ same. subst Holds (sym same) own) (others q) (cases_eq q p)
 
 -- one entry more
-pub lively-more : (programs : List Program) (h : List Entry) (w : WorldState) (p : ℕ) (e : Event) (entry : Entry)
+pub lively_more : (programs : List Program) (h : List Entry) (w : WorldState) (p : ℕ) (e : Event) (entry : Entry)
     → IsLively programs h w.callers → Now programs h w p e → entry.caller ≡ p
     → call_of entry ≡ call e (step w p e).reply
     → IsLively programs (h ++ entry ∷ []) (step w p e).world.callers
-lively-more programs h w p e entry lively now by is =
+lively_more programs h w p e entry lively now by is =
     let r : Reply = (step w p e).reply in
     let more : List Entry = h ++ entry ∷ [] in
     let d : Callers = (step w p e).world.callers in
@@ -157,13 +157,13 @@ lively-more programs h w p e entry lively now by is =
     λ i. next_of (found.1 i) (mine p refl i) in
     let over_mine : next_by programs p (h ++ entry ∷ []) ≡ None → is_live d p ≡ false =
     λ none. ending_dies programs h w p e lively now
-    ((next-alive program).goes (calls_by p h) e r (lively.walked p program found.1) found.2 (sym next_mine ∙ none)) in
+    ((next_alive program).goes (calls_by p h) e r (lively.walked p program found.1) found.2 (sym next_mine ∙ none)) in
     let waits_mine : holds (caller_at d p).waiting ≡ true → HasWaitEnd p (next_by programs p (h ++ entry ∷ [])) =
     λ held.
     let wait : is_wait r ≡ true = holds_wait programs h w p e lively now held in
     record {
-      waitend = next_mine ∙ (next-fine program).waits (calls_by p h) e r found.2 (wait_goes_on w p e wait) wait;
-      process = keyboard-never-waits w p e wait;
+      waitend = next_mine ∙ (next_fine program).waits (calls_by p h) e r found.2 (wait_goes_on w p e wait) wait;
+      process = keyboard_never_waits w p e wait;
     } in
     record {
       sound = s.sound lively.sound;
@@ -177,7 +177,7 @@ lively-more programs h w p e entry lively now by is =
           (λ k. (other : Program) → program_of programs k ≡ Some other → Walked (next other) (calls_by k more))
           p
           (λ other is_other. subst (Walked (next other)) (sym (mine p refl))
-          (walked-more (next other) (calls_by p h) e r (lively.walked p other is_other)
+          (walked_more (next other) (calls_by p h) e r (lively.walked p other is_other)
           (ap (λ o. next_of o (calls_by p h)) (sym is_other) ∙ now.next)))
           (λ q apart other is_other. subst (Walked (next other)) (sym (others q apart)) (lively.walked q other is_other));
     }

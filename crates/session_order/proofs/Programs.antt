@@ -16,45 +16,45 @@ use Rattle.vt_events.specs.declared.event.Event.TheVariants as event
 use Rattle.vt_events.specs.declared.reply.Reply.{Reply}
 use Rattle.vt_events.specs.declared.reply.Reply.TheVariants as reply
 
-pub plain-twice : (e : Event) → plain_event (plain_event e) ≡ plain_event e
-plain-twice (event.Write fd b) = refl
-plain-twice (event.SetFunc fd i b) = refl
-plain-twice (event.SetDia fd b) = refl
-plain-twice (event.SetMap fd b) = refl
-plain-twice (event.SetPal fd b) = refl
-plain-twice e = refl
+pub plain_twice : (e : Event) → plain_event (plain_event e) ≡ plain_event e
+plain_twice (event.Write fd b) = refl
+plain_twice (event.SetFunc fd i b) = refl
+plain_twice (event.SetDia fd b) = refl
+plain_twice (event.SetMap fd b) = refl
+plain_twice (event.SetPal fd b) = refl
+plain_twice e = refl
 
-pub exit-plain : (e : Event) → is_exit (plain_event e) ≡ is_exit e
-exit-plain (event.Write fd b) = refl
-exit-plain (event.SetFunc fd i b) = refl
-exit-plain (event.SetDia fd b) = refl
-exit-plain (event.SetMap fd b) = refl
-exit-plain (event.SetPal fd b) = refl
-exit-plain e = refl
+pub exit_plain : (e : Event) → is_exit (plain_event e) ≡ is_exit e
+exit_plain (event.Write fd b) = refl
+exit_plain (event.SetFunc fd i b) = refl
+exit_plain (event.SetDia fd b) = refl
+exit_plain (event.SetMap fd b) = refl
+exit_plain (event.SetPal fd b) = refl
+exit_plain e = refl
 
-kill-plain : (e : Event) → is_kill (plain_event e) ≡ is_kill e
-kill-plain (event.Write fd b) = refl
-kill-plain (event.SetFunc fd i b) = refl
-kill-plain (event.SetDia fd b) = refl
-kill-plain (event.SetMap fd b) = refl
-kill-plain (event.SetPal fd b) = refl
-kill-plain e = refl
+kill_plain : (e : Event) → is_kill (plain_event e) ≡ is_kill e
+kill_plain (event.Write fd b) = refl
+kill_plain (event.SetFunc fd i b) = refl
+kill_plain (event.SetDia fd b) = refl
+kill_plain (event.SetMap fd b) = refl
+kill_plain (event.SetPal fd b) = refl
+kill_plain e = refl
 
-pub gone-plain : (r : Reply) → is_gone (plain_reply r) ≡ is_gone r
-gone-plain (reply.Text b) = refl
-gone-plain r = refl
+pub gone_plain : (r : Reply) → is_gone (plain_reply r) ≡ is_gone r
+gone_plain (reply.Text b) = refl
+gone_plain r = refl
 
-pub wait-plain : (r : Reply) → is_wait (plain_reply r) ≡ is_wait r
-wait-plain (reply.Text b) = refl
-wait-plain r = refl
+pub wait_plain : (r : Reply) → is_wait (plain_reply r) ≡ is_wait r
+wait_plain (reply.Text b) = refl
+wait_plain r = refl
 
-signals-plain : (r : Reply) → signals_in (plain_reply r) ≡ signals_in r
-signals-plain (reply.Text b) = refl
-signals-plain r = refl
+signals_plain : (r : Reply) → signals_in (plain_reply r) ≡ signals_in r
+signals_plain (reply.Text b) = refl
+signals_plain r = refl
 
-ends-plain : (c : Call) → ends (as_meant c).event (as_meant c).reply ≡ ends c.event c.reply
-ends-plain c = λ i.
-    exit-plain c.event i || (not (kill-plain c.event i) && gone-plain c.reply i)
+ends_plain : (c : Call) → ends (as_meant c).event (as_meant c).reply ≡ ends c.event c.reply
+ends_plain c = λ i.
+    exit_plain c.event i || (not (kill_plain c.event i) && gone_plain c.reply i)
 
 -- what a list of calls does to what follows it, after its first call: nothing follows, or waitend and
 -- the rest, or the rest
@@ -70,8 +70,8 @@ pub record Fine (f : List Call → Option Event) : Type 0 where
       (made : List Call) (e : Event) (r : Reply) → f made ≡ Some e → ends e r ≡ false
       → is_wait r ≡ true → f (made ++ call e r ∷ []) ≡ Some event.WaitEnd
 
-nothing-fine : Fine nothing
-nothing-fine = record {
+nothing_fine : Fine nothing
+nothing_fine = record {
   same = λ made. refl;
   plain = λ made e is. absurd (none-some e is);
   waits = λ made e r is going wait. absurd (none-some e is);
@@ -81,7 +81,7 @@ same_calls : (e : Event) (behind : List Call → Option Event) → Fine behind �
     → calls e behind (map as_meant made) ≡ calls e behind made
 same_calls e behind fine [] = refl
 same_calls e behind fine (c ∷ made) =
-    (λ i. behind_first (ends-plain c i) (wait-plain c.reply i) behind (map as_meant made))
+    (λ i. behind_first (ends_plain c i) (wait_plain c.reply i) behind (map as_meant made))
     ∙ elim (ends c.event c.reply) as (λ b. behind_first b (is_wait c.reply) behind (map as_meant made) ≡ behind_first b (is_wait c.reply) behind made) [
       | true ↦ refl
       | false ↦ elim (is_wait c.reply) as (λ b. behind_first false b behind (map as_meant made) ≡ behind_first false b behind made)
@@ -113,9 +113,9 @@ waits_calls e behind fine (c ∷ made) next r =
           [ true ↦ waits_calls event.WaitEnd behind fine made next r | false ↦ fine.waits made next r ]
     ]
 
-calls-fine : (e : Event) (behind : List Call → Option Event) → plain_event e ≡ e → Fine behind
+calls_fine : (e : Event) (behind : List Call → Option Event) → plain_event e ≡ e → Fine behind
     → Fine (calls e behind)
-calls-fine e behind is fine = record {
+calls_fine e behind is fine = record {
   same = same_calls e behind fine;
   plain = plain_calls e behind is fine;
   waits = waits_calls e behind fine;
@@ -126,11 +126,11 @@ abbrev ArePlain : List Event → Type 0
 ArePlain [] = ⊤
 ArePlain (e ∷ events) = (plain_event e ≡ e) × ArePlain events
 
-all-fine : (events : List Event) (behind : List Call → Option Event) → ArePlain events
+all_fine : (events : List Event) (behind : List Call → Option Event) → ArePlain events
     → Fine behind → Fine (all_calls events behind)
-all-fine [] behind are fine = fine
-all-fine (e ∷ events) behind are fine =
-    calls-fine e (all_calls events behind) are.0 (all-fine events behind are.1 fine)
+all_fine [] behind are fine = fine
+all_fine (e ∷ events) behind are fine =
+    calls_fine e (all_calls events behind) are.0 (all_fine events behind are.1 fine)
 
 act_plain : (a : Act) (events : List Event) → ArePlain events
     → ArePlain (cons_option (act_call a) events)
@@ -152,56 +152,56 @@ from_plain table set s = acts_plain table set (range_with_len s (65 - s))
 abbrev pub taken : List Act → (List Call → Option Event) → ℕ → List Call → Option Event
 taken table behind set = calls event.TakeSignals (all_calls (calls_from table set 1) behind)
 
-taken-fine : (table : List Act) (behind : List Call → Option Event) → Fine behind → (set : ℕ)
+taken_fine : (table : List Act) (behind : List Call → Option Event) → Fine behind → (set : ℕ)
     → Fine (taken table behind set)
-taken-fine table behind fine set =
-    calls-fine event.TakeSignals (all_calls (calls_from table set 1) behind) refl
-    (all-fine (calls_from table set 1) behind (from_plain table set 1) fine)
+taken_fine table behind fine set =
+    calls_fine event.TakeSignals (all_calls (calls_from table set 1) behind) refl
+    (all_fine (calls_from table set 1) behind (from_plain table set 1) fine)
 
 takes_same : (table : List Act) (behind : List Call → Option Event) → Fine behind
     → (made : List Call) → takes table behind (map as_meant made) ≡ takes table behind made
 takes_same table behind fine [] = refl
 takes_same table behind fine (c ∷ made) =
-    ap (λ set. taken table behind set (map as_meant (c ∷ made))) (signals-plain c.reply)
-    ∙ (taken-fine table behind fine (signals_in c.reply)).same (c ∷ made)
+    ap (λ set. taken table behind set (map as_meant (c ∷ made))) (signals_plain c.reply)
+    ∙ (taken_fine table behind fine (signals_in c.reply)).same (c ∷ made)
 
 takes_plain : (table : List Act) (behind : List Call → Option Event) → Fine behind
     → (made : List Call) (e : Event) → takes table behind made ≡ Some e → plain_event e ≡ e
 takes_plain table behind fine [] e is =
     subst (λ x. plain_event x ≡ x) (same_Some event.TakeSignals e is) refl
 takes_plain table behind fine (c ∷ made) e is =
-    (taken-fine table behind fine (signals_in c.reply)).plain (c ∷ made) e is
+    (taken_fine table behind fine (signals_in c.reply)).plain (c ∷ made) e is
 
 takes_waits : (table : List Act) (behind : List Call → Option Event) → Fine behind
     → (made : List Call) (e : Event) (r : Reply) → takes table behind made ≡ Some e
     → ends e r ≡ false → is_wait r ≡ true
     → takes table behind (made ++ call e r ∷ []) ≡ Some event.WaitEnd
 takes_waits table behind fine [] e r is going wait =
-    (taken-fine table behind fine (signals_in r)).waits [] e r is going wait
+    (taken_fine table behind fine (signals_in r)).waits [] e r is going wait
 takes_waits table behind fine (c ∷ made) e r is going wait =
-    (taken-fine table behind fine (signals_in c.reply)).waits (c ∷ made) e r is going wait
+    (taken_fine table behind fine (signals_in c.reply)).waits (c ∷ made) e r is going wait
 
-takes-fine : (table : List Act) (behind : List Call → Option Event) → Fine behind
+takes_fine : (table : List Act) (behind : List Call → Option Event) → Fine behind
     → Fine (takes table behind)
-takes-fine table behind fine = record {
+takes_fine table behind fine = record {
   same = takes_same table behind fine;
   plain = takes_plain table behind fine;
   waits = takes_waits table behind fine;
 }
 
-exits-fine : Fine exits
-exits-fine = calls-fine event.Exit nothing refl nothing-fine
+exits_fine : Fine exits
+exits_fine = calls_fine event.Exit nothing refl nothing_fine
 
-script-fine : (table : List Act) (items : List Event) → Fine (script table items)
-script-fine table [] = exits-fine
-script-fine table (item ∷ items) =
-    calls-fine (plain_event item) (takes table (script table items)) (plain-twice item)
-    (takes-fine table (script table items) (script-fine table items))
+script_fine : (table : List Act) (items : List Event) → Fine (script table items)
+script_fine table [] = exits_fine
+script_fine table (item ∷ items) =
+    calls_fine (plain_event item) (takes table (script table items)) (plain_twice item)
+    (takes_fine table (script table items) (script_fine table items))
 
-scans-fine : (bytes : List ℕ) → Fine (scans bytes)
-scans-fine [] = exits-fine
-scans-fine (b ∷ bytes) = calls-fine (event.Scan b) (scans bytes) refl (scans-fine bytes)
+scans_fine : (bytes : List ℕ) → Fine (scans bytes)
+scans_fine [] = exits_fine
+scans_fine (b ∷ bytes) = calls_fine (event.Scan b) (scans bytes) refl (scans_fine bytes)
 
-pub next-fine : (p : Program) → Fine (next p)
-next-fine (program.Keys bytes) = scans-fine bytes.bytes
-next-fine (program.Script items table) = script-fine table items.events
+pub next_fine : (p : Program) → Fine (next p)
+next_fine (program.Keys bytes) = scans_fine bytes.bytes
+next_fine (program.Script items table) = script_fine table items.events

@@ -7,16 +7,16 @@ use Rattle.std.proofs.lemmas.Option.{none-some, slice_get_within}
 use Rattle.std.specs.List.{list_all, list_any, range_with_len}
 use Rattle.std.specs.Prelude.{◌==◌, nat_lt, not, is_some, slice_get, if◌then◌else◌}
 use Rattle.session_order.proofs.Ages.{holds}
-use Rattle.session_order.proofs.Alive.{next-alive}
-use Rattle.session_order.proofs.Lively.{IsLively, Now, lively-more}
-use Rattle.session_order.proofs.Rounds.{finished-stays, is_none_none}
-use Rattle.session_order.proofs.Turns.{Enters, FindsFull, Goes, Skips, TurnDoes, event-plain, goes-nothing, reply-plain, turn-does, turns-go}
+use Rattle.session_order.proofs.Alive.{next_alive}
+use Rattle.session_order.proofs.Lively.{IsLively, Now, lively_more}
+use Rattle.session_order.proofs.Rounds.{finished_stays, is_none_none}
+use Rattle.session_order.proofs.Turns.{Enters, FindsFull, Goes, Skips, TurnDoes, event_plain, goes_nothing, reply_plain, turn_does, turns_go}
 use Rattle.session_order.specs.Calls.{all_over, is_none, next_by, next_of}
 use Rattle.session_order.specs.Ends.{Setup}
 use Rattle.session_order.specs.Follows.{is_waiting}
 use Rattle.session_order.specs.Laws.{IsFromStart, RoundsGoOn, SerialEnds}
 use Rattle.session_order.specs.Serial.{Played, call_now, entry_at, is_finished, nothing_played, round, rounds, turn, turns}
-use Rattle.session_text.proofs.WhosePrograms.{some-first, some-keyboard, some-process}
+use Rattle.session_text.proofs.WhosePrograms.{some_first, some_keyboard, some_process}
 use Rattle.session_text.specs.Programs.{call, next, program_of}
 use Rattle.session_text.specs.Sessions.{ArePrograms}
 use Rattle.session_text.specs.declared.program.Program.{Program}
@@ -24,7 +24,7 @@ use Rattle.vt_base.specs.Limits.{callers as every_caller}
 use Rattle.vt_events.specs.declared.entry.Entry.{Entry}
 use Rattle.vt_events.specs.declared.event.Event.{Event}
 use Rattle.vt_journal.specs.declared.full.Full.{Full}
-use Rattle.vt_procs.specs.Callers.{Callers, caller_at, caller_of, callers_of, is_live, keyboard, no_caller, starting}
+use Rattle.vt_procs.specs.Callers.{Callers, caller_at, caller_of, callers_of, is_live, keyboard, no_caller, caller_at_start}
 use Rattle.vt_procs.specs.Tickets.{can_go, is_open}
 use Rattle.vt_procs.specs.declared.proc_start.ProcStart.{ProcStart}
 use Rattle.vt_procs.specs.declared.process.Process.{Process}
@@ -35,13 +35,13 @@ use Rattle.vt_world.specs.Step.{step}
 
 -- a caller at the start
 start_at : (keyboards : ℕ) (starts : List ProcStart) (q : ℕ)
-    → ((q < every_caller) × (caller_at (callers_of keyboards starts) q ≡ starting keyboards starts q))
+    → ((q < every_caller) × (caller_at (callers_of keyboards starts) q ≡ caller_at_start keyboards starts q))
     ⊎ (caller_at (callers_of keyboards starts) q ≡ no_caller)
 start_at keyboards starts q = ⊎_elim
     (λ within. inl
-    (within, get_or-map-range_with_len (starting keyboards starts) 0 68 q q no_caller within (omega arith)))
-    (λ past. inr (get_or_past (map (starting keyboards starts) (range_with_len 0 68)) q no_caller
-    (omega (arith, past, length-map-range_with_len (starting keyboards starts) 0 68))))
+    (within, get_or-map-range_with_len (caller_at_start keyboards starts) 0 68 q q no_caller within (omega arith)))
+    (λ past. inr (get_or_past (map (caller_at_start keyboards starts) (range_with_len 0 68)) q no_caller
+    (omega (arith, past, length-map-range_with_len (caller_at_start keyboards starts) 0 68))))
     (cases_lt q 68)
 
 starting_free : (keyboards q : ℕ) (first further : Bool) (start : Option ProcStart)
@@ -59,12 +59,12 @@ starting_lives : (keyboards : ℕ) (starts : List ProcStart) (programs : List Pr
     → is_some (program_of programs q) ≡ true
 starting_lives keyboards starts programs q true further start are first high here live =
     ap (λ p. is_some (program_of programs p)) (eqb-true q 0 first)
-    ∙ some-first (length starts) keyboards programs are
+    ∙ some_first (length starts) keyboards programs are
 starting_lives keyboards starts programs q false true start are first high here live =
-    some-keyboard (length starts) keyboards programs are q high ∙ live
+    some_keyboard (length starts) keyboards programs are q high ∙ live
 starting_lives keyboards starts programs q false false None are first low here live = absurd (false≢true live)
 starting_lives keyboards starts programs q false false (Some start) are first low here live =
-    some-process (length starts) keyboards programs are q (eqb-false q 0 first) low
+    some_process (length starts) keyboards programs are q (eqb-false q 0 first) low
     ∙ lt-ltb (q - 1) (length starts) (slice_get_within starts (q - 1) start here)
 
 start_free : (keyboards : ℕ) (starts : List ProcStart) (q : ℕ)
@@ -90,7 +90,7 @@ start_known keyboards starts programs q are live = ⊎_elim
 -- a program has a first call
 has_next : (program : Option Program) → (next_of program [] ≡ None) → program ≡ None
 has_next None none = refl
-has_next (Some program) none = absurd ((next-alive program).starts none)
+has_next (Some program) none = absurd ((next_alive program).starts none)
 
 lively_start : (programs : List Program) (keyboards : ℕ) (starts : List ProcStart)
     → ArePrograms (length starts) keyboards programs → IsLively programs [] (callers_of keyboards starts)
@@ -129,14 +129,14 @@ lives_turn o p h _ (Enters e shut next room) lives =
     let entry : Entry = entry_at o.start h p e in
     let now : Now o.programs h w p e = record { next = next; shut = shut } in
     subst (λ (x : WorldState). IsLively o.programs (h ++ entry ∷ []) x.callers) (sym (replay_more o.start h entry))
-    (lively-more o.programs h w p e entry lives now refl
-    (λ i. call (event-plain o.programs p h e next i) (reply-plain w p e i)))
+    (lively_more o.programs h w p e entry lives now refl
+    (λ i. call (event_plain o.programs p h e next i) (reply_plain w p e i)))
 lives_turn o p h _ (FindsFull e shut next none) lives = lives
 
 turn_lives : (o : Setup) (p : ℕ) (h : List Entry) (stop : Option Full) → Lives o h
     → Lives o (turn o p (record { history = h; stop = stop })).history
 turn_lives o p h (Some full) lives = lives
-turn_lives o p h None lives = lives_turn o p h _ (turn-does o p h) lives
+turn_lives o p h None lives = lives_turn o p h _ (turn_does o p h) lives
 
 turns_live : (o : Setup) (callers : List ℕ) (t : Played) → Lives o t.history
     → Lives o (turns o callers t).history
@@ -151,7 +151,7 @@ pub record OnWay (o : Setup) (t : Played) : Type 0 where
 
 round_goes_on : (o : Setup) (t : Played) → OnWay o t → OnWay o (round o t)
 round_goes_on o t way = record {
-  goes = turns-go o (range_with_len 0 every_caller) t way.goes;
+  goes = turns_go o (range_with_len 0 every_caller) t way.goes;
   lives = turns_live o (range_with_len 0 every_caller) t way.lives;
 }
 
@@ -161,7 +161,7 @@ rounds_go_on o (suc n) t way = rounds_go_on o n (round o t) (round_goes_on o t w
 
 first_goes_on : (o : Setup) (first : List ℕ) → IsFromStart o → OnWay o (turns o first nothing_played)
 first_goes_on o first is = record {
-  goes = turns-go o first nothing_played (goes-nothing o);
+  goes = turns_go o first nothing_played (goes_nothing o);
   lives = turns_live o first nothing_played
       (subst (λ (w : WorldState). IsLively o.programs [] w.callers) (sym is.start)
       (lively_start o.programs is.keyboards is.processes is.programs));
@@ -252,7 +252,7 @@ turn_moved : (o : Setup) (p : ℕ) (h g : List Entry) (stop : Option Full)
     → Moved h (turn o p (record { history = g; stop = stop }))
 turn_moved o p h g (Some full) moved = moved
 turn_moved o p h g None moved =
-    moved_on o p h g _ (turn-does o p g)
+    moved_on o p h g _ (turn_does o p g)
     (⊎_elim (λ more. inl more) (λ no. absurd (false≢true no)) moved)
 
 turns_moved : (o : Setup) (callers : List ℕ) (h : List Entry) (t : Played) → Moved h t
@@ -295,7 +295,7 @@ range_moves : (o : Setup) (h : List Entry) (q : ℕ) (e : Event) → call_now o 
 range_moves o h q e now a zero low high = absurd (let no : ⊥ = omega (arith, low, high) in no)
 range_moves o h q e now a (suc n) low high =
     turn_then o h q e (range_with_len (a + 1) n) a (turn o a (still h)) now
-    (moves_or o a h (turn o a (still h)) (turn-does o a h))
+    (moves_or o a h (turn o a (still h)) (turn_does o a h))
     (λ apart. range_moves o h q e now (a + 1) n (above a q low apart) (within a n q high))
 
 round_moves : (o : Setup) (h : List Entry) (stop : Option Full) → Lives o h
@@ -319,9 +319,9 @@ enough : (o : Setup) (n : ℕ) (t : Played) → OnWay o t
 enough o zero t way = inr (omega arith)
 enough o (suc n) t way =
     let done : (u : Played) → is_finished o u ≡ true → is_finished o (rounds o n u) ≡ true =
-    λ u over. subst (λ x. is_finished o x ≡ true) (sym (finished-stays o n u over)) over in
+    λ u over. subst (λ x. is_finished o x ≡ true) (sym (finished_stays o n u over)) over in
     ⊎_elim
-    (λ over. inl (subst (λ x. is_finished o x ≡ true) (sym (finished-stays o (suc n) t over)) over))
+    (λ over. inl (subst (λ x. is_finished o x ≡ true) (sym (finished_stays o (suc n) t over)) over))
     (λ going. ⊎_elim
     (λ longer. ⊎_elim
     (λ over. inl over)
@@ -331,8 +331,8 @@ enough o (suc n) t way =
     (round_moves o t.history t.stop way.lives going))
     (cases_Bool (is_finished o t))
 
-pub serial-ends : SerialEnds
-serial-ends o first is =
+pub serial_ends : SerialEnds
+serial_ends o first is =
     let t : Played = turns o first nothing_played in
     let way : OnWay o t = first_goes_on o first is in
     let n : ℕ = o.limits.events + 1 in

@@ -4,7 +4,7 @@ use Rattle.std.proofs.lemmas.Bool.{and_from, cases_Bool, eq-eqb, false≢true}
 use Rattle.std.proofs.lemmas.Option.{none-some, same_Some}
 use Rattle.std.specs.List.{list_all, range_with_len}
 use Rattle.std.specs.Prelude.{◌==◌, is_some, slice_get}
-use Rattle.session_order.proofs.Turns.{each-more}
+use Rattle.session_order.proofs.Turns.{each_more}
 use Rattle.session_order.specs.Calls.{call_of, calls_by, is_none, made_by, next_by, next_of}
 use Rattle.session_order.specs.Ends.{EndsBy, Setup}
 use Rattle.session_order.specs.Follows.{Follows}
@@ -59,9 +59,9 @@ passes test (y ∷ xs) zero x is yes_x =
 passes test (y ∷ xs) (suc k) x is yes_x =
     passes_more test y xs k x (passes test xs k x is yes_x)
 
-pub runs-grow : RunsGrow
-runs-grow program made entry run is =
-    each-more (λ before e. next program (map call_of before) ≡ Some (plain_event e.event)) made entry run is
+pub runs_grow : RunsGrow
+runs_grow program made entry run is =
+    each_more (λ before e. next program (map call_of before) ≡ Some (plain_event e.event)) made entry run is
 
 -- a program that isn't none is one
 found_or : (program : Option Program) → (program ≡ None → ⊥) → (found : Program) × (program ≡ Some found)
@@ -141,8 +141,8 @@ ends_by o history (Some full) caller closed ended =
       numbers = at.numbers ∙ ap (full_at history) (sym call.charge_is);
     }
 
-pub race-right : RaceIsRight
-race-right o history stop caller closed ended = (
+pub race_right : RaceIsRight
+race_right o history stop caller closed ended = (
   follows o history stop caller closed ended,
   record { within = closed.within; rightly = ends_by o history stop caller closed ended },
 )

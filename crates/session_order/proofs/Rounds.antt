@@ -21,9 +21,9 @@ is_none_none None is = refl
 is_none_none (Some e) is = absurd (both_ways false refl is)
 
 -- where every program is over, nobody has a next call
-pub none-next : (programs : List Program) (history : List Entry) (p : ℕ) → p < every_caller
+pub none_next : (programs : List Program) (history : List Entry) (p : ℕ) → p < every_caller
     → all_over programs history ≡ true → next_by programs p history ≡ None
-none-next programs history p within over =
+none_next programs history p within over =
     let n : ℕ = every_caller in
     let test : ℕ → Bool = λ q. is_none (next_by programs q history) in
     ⊎_elim
@@ -47,42 +47,42 @@ skipped o p history none =
     ∙ elim waits as (λ b. ◌≡◌ {A = Option Event} (cond b None None) None) [ true ↦ refl | false ↦ refl ] in
     ap (λ e. calls o p e history) now
 
-pub turn-stays : (o : Setup) (p : ℕ) (history : List Entry) (stop : Option Full) → p < every_caller
+pub turn_stays : (o : Setup) (p : ℕ) (history : List Entry) (stop : Option Full) → p < every_caller
     → is_finished o (record { history = history; stop = stop }) ≡ true
     → turn o p (record { history = history; stop = stop })
     ≡ record { history = history; stop = stop }
-turn-stays o p history (Some full) within over = refl
-turn-stays o p history None within over =
-    skipped o p history (none-next o.programs history p within over)
+turn_stays o p history (Some full) within over = refl
+turn_stays o p history None within over =
+    skipped o p history (none_next o.programs history p within over)
 
-pub turns-stay : (o : Setup) (p n : ℕ) (t : Played) → p + n ≤ every_caller → is_finished o t ≡ true
+pub turns_stay : (o : Setup) (p n : ℕ) (t : Played) → p + n ≤ every_caller → is_finished o t ≡ true
     → turns o (range_with_len p n) t ≡ t
-turns-stay o p zero t within over = refl
-turns-stay o p (suc n) t within over =
-    ap (turns o (range_with_len (p + 1) n)) (turn-stays o p t.history t.stop (omega (arith, within)) over)
-    ∙ turns-stay o (p + 1) n t (omega (arith, within)) over
+turns_stay o p zero t within over = refl
+turns_stay o p (suc n) t within over =
+    ap (turns o (range_with_len (p + 1) n)) (turn_stays o p t.history t.stop (omega (arith, within)) over)
+    ∙ turns_stay o (p + 1) n t (omega (arith, within)) over
 
-pub finished-stays : FinishedStays
-finished-stays o zero t over = refl
-finished-stays o (suc n) t over =
-    ap (rounds o n) (turns-stay o 0 every_caller t (omega arith) over)
-    ∙ finished-stays o n t over
+pub finished_stays : FinishedStays
+finished_stays o zero t over = refl
+finished_stays o (suc n) t over =
+    ap (rounds o n) (turns_stay o 0 every_caller t (omega arith) over)
+    ∙ finished_stays o n t over
 
 -- rounds and more rounds
-pub rounds-more : (o : Setup) (m n : ℕ) (t : Played)
+pub rounds_more : (o : Setup) (m n : ℕ) (t : Played)
     → rounds o (m + n) t ≡ rounds o n (rounds o m t)
-rounds-more o zero n t = ap (λ k. rounds o k t) (let e : 0 + n ≡ n = omega arith in e)
-rounds-more o (suc m) n t =
+rounds_more o zero n t = ap (λ k. rounds o k t) (let e : 0 + n ≡ n = omega arith in e)
+rounds_more o (suc m) n t =
     ap (λ k. rounds o k t) (let e : suc m + n ≡ suc (m + n) = omega arith in e)
-    ∙ rounds-more o m n (round o t)
+    ∙ rounds_more o m n (round o t)
 
 -- the same rounds in two counts
 same : (o : Setup) (m k : ℕ) (t : Played) → is_finished o (rounds o m t) ≡ true
     → rounds o (m + k) t ≡ rounds o m t
-same o m k t over = rounds-more o m k t ∙ finished-stays o k (rounds o m t) over
+same o m k t over = rounds_more o m k t ∙ finished_stays o k (rounds o m t) over
 
-pub serial-one : SerialIsOne
-serial-one o first a b sa sb =
+pub serial_one : SerialIsOne
+serial_one o first a b sa sb =
     let t : Played = turns o first nothing_played in
     let over_a : is_finished o (rounds o sa.count t) ≡ true =
     subst (λ x. is_finished o x ≡ true) sa.played sa.finished in

@@ -10,7 +10,7 @@ use Rattle.std.specs.List.{All}
 use Rattle.std.specs.Prelude.{◌==◌, count_by}
 use Rattle.session_order.specs.Calls.{as_meant, call_of, calls_by, next_by, next_of}
 use Rattle.session_order.specs.Meant.{NextIsMeant}
-use Rattle.session_order.specs.Standing.{AreAfter, StandingView, StandsAfter}
+use Rattle.session_order.specs.Standing.{AreAfter, SessionProgressView, IsWalkAfter}
 use Rattle.session_text.specs.Programs.{Call, call, next, program_of}
 use Rattle.session_text.specs.Walks.{Place, Stands}
 use Rattle.session_text.specs.declared.program.Program.{Program}
@@ -21,13 +21,13 @@ use Rattle.vt_events.specs.declared.event.Event.{Event}
 use Rattle.vt_events.specs.declared.event.Event.TheVariants as event
 use Rattle.vt_events.specs.declared.reply.Reply.{Reply}
 
-pub event-twice : (e : Event) → plain_event (plain_event e) ≡ plain_event e
-event-twice (event.Write fd b) = refl
-event-twice (event.SetFunc fd i b) = refl
-event-twice (event.SetDia fd b) = refl
-event-twice (event.SetMap fd b) = refl
-event-twice (event.SetPal fd b) = refl
-event-twice e = refl
+pub event_twice : (e : Event) → plain_event (plain_event e) ≡ plain_event e
+event_twice (event.Write fd b) = refl
+event_twice (event.SetFunc fd i b) = refl
+event_twice (event.SetDia fd b) = refl
+event_twice (event.SetMap fd b) = refl
+event_twice (event.SetPal fd b) = refl
+event_twice e = refl
 
 -- an entry of p is one more call of it, and none of another
 calls_mine : (h : List Entry) (entry : Entry) (q : ℕ) → entry.caller ≡ q
@@ -89,10 +89,10 @@ pub record Walks (program : Program) (walk moved : Place) (r : Reply) : Type 0 w
       → Stands program moved (made ++ call e r ∷ [])
 
 -- the walk stands where one call more was made
-pub stands-more : NextIsMeant → (program : Program) (walk moved : Place) (made : List Call) (e : Event) (r : Reply)
-    → StandsAfter program walk made → Walks program walk moved r → next program made ≡ Some e
-    → StandsAfter program moved (made ++ as_meant (call e r) ∷ [])
-stands-more is_meant program walk moved made e r after walks next_is =
+pub stands_more : NextIsMeant → (program : Program) (walk moved : Place) (made : List Call) (e : Event) (r : Reply)
+    → IsWalkAfter program walk made → Walks program walk moved r → next program made ≡ Some e
+    → IsWalkAfter program moved (made ++ as_meant (call e r) ∷ [])
+stands_more is_meant program walk moved made e r after walks next_is =
     let here : next program after.calls ≡ Some e =
     sym (is_meant program after.calls) ∙ ap (next program) after.meant ∙ next_is in
     record {
@@ -102,26 +102,26 @@ stands-more is_meant program walk moved made e r after walks next_is =
     }
 
 -- what it has next is the next call of its program
-pub next-after : NextIsMeant → (program : Program) (walk : Place) (made : List Call) (e : Option Event)
-    → StandsAfter program walk made
+pub next_after : NextIsMeant → (program : Program) (walk : Place) (made : List Call) (e : Option Event)
+    → IsWalkAfter program walk made
     → ((calls : List Call) → Stands program walk calls → e ≡ next program calls)
     → e ≡ next program made
-next-after is_meant program walk made e after gives =
+next_after is_meant program walk made e after gives =
     gives after.calls after.stands
     ∙ sym (is_meant program after.calls)
     ∙ ap (next program) after.meant
 
 -- that of its caller
 pub next-by : NextIsMeant → (programs : List Program) (h : List Entry) (p : ℕ) (program : Program) (walk : Place) (e : Option Event)
-    → program_of programs p ≡ Some program → StandsAfter program walk (calls_by p h)
+    → program_of programs p ≡ Some program → IsWalkAfter program walk (calls_by p h)
     → ((calls : List Call) → Stands program walk calls → e ≡ next program calls)
     → e ≡ next_by programs p h
 next-by is_meant programs h p program walk e is after gives =
-    next-after is_meant program walk (calls_by p h) e after gives
+    next_after is_meant program walk (calls_by p h) e after gives
     ∙ ap (λ found. next_of found (calls_by p h)) (sym is)
 
 -- what a call of p changes
-pub record Took (p : ℕ) (program : Program) (r : Reply) (before after : StandingView) : Type 0 where
+pub record Took (p : ℕ) (program : Program) (r : Reply) (before after : SessionProgressView) : Type 0 where
   pub walk : Place
   pub moved : Place
   pub known : p ≤ 67
@@ -131,7 +131,7 @@ pub record Took (p : ℕ) (program : Program) (r : Reply) (before after : Standi
   pub took : Walks program walk moved r
 
 pub taken : NextIsMeant → (programs : List Program) (h : List Entry) (entry : Entry) (p : ℕ) (program : Program) (r : Reply)
-    (before after : StandingView) → Took p program r before after
+    (before after : SessionProgressView) → Took p program r before after
     → program_of programs p ≡ Some program → AreAfter programs h before → length h ≤ 1_000_000
     → entry.caller ≡ p → next_by programs p h ≡ Some (plain_event entry.event)
     → plain_reply entry.reply ≡ plain_reply r
@@ -141,10 +141,10 @@ taken is_meant programs h entry p program r before after took is at few by follo
     let next_is : next program (calls_by p h) ≡ Some e =
     ap (λ found. next_of found (calls_by p h)) (sym is) ∙ follows in
     let call_is : as_meant (call e r) ≡ call_of entry =
-    λ i. call (event-twice entry.event i) (sym answer i) in
+    λ i. call (event_twice entry.event i) (sym answer i) in
     let within : p < length before.walks = omega (arith, took.known, at.walks) in
-    let stands : StandsAfter program took.moved (calls_by p h ++ as_meant (call e r) ∷ []) =
-    stands-more is_meant program took.walk took.moved (calls_by p h) e r
+    let stands : IsWalkAfter program took.moved (calls_by p h ++ as_meant (call e r) ∷ []) =
+    stands_more is_meant program took.walk took.moved (calls_by p h) e r
     (at.stand p program took.walk took.known is took.read) took.took next_is in
     record {
       walks = ap length took.walks ∙ length-set before.walks p took.moved ∙ at.walks;
@@ -158,15 +158,15 @@ taken is_meant programs h entry p program r before after took is at few by follo
           ∙ get_or-set_same before.walks p took.moved walk within in
           let made : calls_by p h ++ as_meant (call e r) ∷ [] ≡ calls_by q (h ++ entry ∷ []) =
           ap (λ c. calls_by p h ++ c ∷ []) call_is ∙ sym (calls_mine h entry p by) ∙ ap (λ k. calls_by k (h ++ entry ∷ [])) mine in
-          subst (λ m. StandsAfter other walk m) made
-          (subst (λ w. StandsAfter other w (calls_by p h ++ as_meant (call e r) ∷ [])) (sym same_walk)
-          (subst (λ x. StandsAfter x took.moved (calls_by p h ++ as_meant (call e r) ∷ [])) same_program stands)))
+          subst (λ m. IsWalkAfter other walk m) made
+          (subst (λ w. IsWalkAfter other w (calls_by p h ++ as_meant (call e r) ∷ [])) (sym same_walk)
+          (subst (λ x. IsWalkAfter x took.moved (calls_by p h ++ as_meant (call e r) ∷ [])) same_program stands)))
           (λ apart.
           let read : walk ≡ get_or before.walks q walk =
           read_other
           ∙ ap (λ ws. get_or ws q walk) took.walks
           ∙ get_or-set_other before.walks p q took.moved walk (λ same. apart (sym same)) in
-          subst (StandsAfter other walk) (sym (calls_others h entry q (λ same. apart (sym by ∙ same)))) (at.stand q other walk known is_other read))
+          subst (IsWalkAfter other walk) (sym (calls_others h entry q (λ same. apart (sym by ∙ same)))) (at.stand q other walk known is_other read))
           (cases_eq p q);
       places = ap length took.counts ∙ length-set before.counts p _ ∙ at.places;
       counted = λ q within.
@@ -178,10 +178,10 @@ taken is_meant programs h entry p program r before after took is at few by follo
     }
 
 -- before the first entry
-pub first-after : (programs : List Program) (view : StandingView) → length view.walks ≡ callers
+pub first_after : (programs : List Program) (view : SessionProgressView) → length view.walks ≡ callers
     → All (λ walk. (p : Program) → Stands p walk []) view.walks → view.counts ≡ replicate 68 0
     → AreAfter programs [] view
-first-after programs view many stand zero = record {
+first_after programs view many stand zero = record {
   walks = many;
   stand = λ q program walk known is read.
       let within : q < length view.walks = omega (arith, known, many) in

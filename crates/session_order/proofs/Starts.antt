@@ -9,16 +9,16 @@ use Rattle.session_text.specs.declared.program.Program.{Program}
 use Rattle.vt_base.specs.ConsoleSet.{IsFitSet}
 use Rattle.vt_procs.specs.declared.config.Config.{Config}
 use Rattle.vt_world.specs.Laws.{IsStart}
-use Rattle.vt_world.specs.Start.{opening}
+use Rattle.vt_world.specs.Start.{start_world}
 use Rattle.vt_world.specs.State.{WorldState}
 
-pub opens-there : (s : SessionView) (w : WorldState) (c : Config) (t : Tables) → c ≡ s.config → t ≡ s.tables
-    → w ≡ opening c.size.rows c.size.cols c.consoles c.front c.keyboards c.procs t → w ≡ start_of s
-opens-there s w c t config tables is =
-    is ∙ (λ i. opening (config i).size.rows (config i).size.cols (config i).consoles (config i).front (config i).keyboards (config i).procs (tables i))
+pub opens_there : (s : SessionView) (w : WorldState) (c : Config) (t : Tables) → c ≡ s.config → t ≡ s.tables
+    → w ≡ start_world c.size.rows c.size.cols c.consoles c.front c.keyboards c.procs t → w ≡ start_of s
+opens_there s w c t config tables is =
+    is ∙ (λ i. start_world (config i).size.rows (config i).size.cols (config i).consoles (config i).front (config i).keyboards (config i).procs (tables i))
 
-abbrev pub is-start : (s : SessionView) → IsFitSet s.config.consoles s.config.front → IsStart (start_of s)
-is-start s fit = record {
+abbrev pub is_start : (s : SessionView) → IsFitSet s.config.consoles s.config.front → IsStart (start_of s)
+is_start s fit = record {
   rows = s.config.size.rows;
   cols = s.config.size.cols;
   consoles = s.config.consoles;
@@ -30,9 +30,9 @@ is-start s fit = record {
   opened = refl;
 }
 
-pub from-start : (s : SessionView) → ArePrograms (length s.config.procs) s.config.keyboards s.programs
+pub from_start : (s : SessionView) → ArePrograms (length s.config.procs) s.config.keyboards s.programs
     → IsFromStart (setup_of s)
-from-start s are = record {
+from_start s are = record {
   rows = s.config.size.rows;
   cols = s.config.size.cols;
   consoles = s.config.consoles;
@@ -44,9 +44,9 @@ from-start s are = record {
   programs = are;
 }
 
-pub of-callers : CallersHavePrograms → (processes keyboards : ℕ) (list : List Program) → processes ≤ 64
+pub of_callers : CallersHavePrograms → (processes keyboards : ℕ) (list : List Program) → processes ≤ 64
     → keyboards ≤ 4 → ArePrograms processes keyboards list → AreOfCallers list
-of-callers have processes keyboards list few four are = λ p is.
+of_callers have processes keyboards list few four are = λ p is.
     ⊎_elim (λ low. omega (arith, leb-true p processes low, few))
     (λ both.
     omega (arith, ltb-true p (64 + keyboards) (and_parts (nat_lt 64 p) (nat_lt p (64 + keyboards)) both).1, four))

@@ -17,43 +17,43 @@ use Rattle.vt_procs.specs.declared.ticket.Ticket.{Ticket}
 use Rattle.vt_procs.specs.declared.ticket.Ticket.TheVariants.{Active, Input}
 use Rattle.vt_procs.specs.declared.waiting.Waiting.{Waiting}
 use Rattle.vt_procs.specs.declared.waiting.Waiting.TheVariants.{Nothing, Open, Done, Broken}
-use Rattle.vt_world.specs.Deeds.{all_done}
-use Rattle.vt_world.specs.Heard.{cleared}
-use Rattle.vt_world.specs.Rows.{Row, ended_reply, row, waits_unless}
+use Rattle.vt_world.specs.Deeds.{apply_deeds}
+use Rattle.vt_world.specs.Heard.{without_marks}
+use Rattle.vt_world.specs.Rows.{EventRow, ended_reply, row, waits_unless}
 use Rattle.vt_world.specs.State.{WorldState}
-use Rattle.vt_world.specs.Step.{Outcome, answered, effect_after, effect_of, step, with_idle_rule}
+use Rattle.vt_world.specs.Step.{Outcome, outcome_of_row, row_result_after, row_result, step, with_idle_rule}
 use Rattle.vt_world.specs.Refusals.{Refusal, caller, common_refusals, ends_wait, first_refusal, holds_ticket, is_empty, may_make, own_refusals, target}
 
 -- the first of the tests of every event that fails, and of those of this one
 abbrev pub common : WorldState → ℕ → Event → Option Errno
-common w p e = first_refusal (common_refusals (cleared w) p e)
+common w p e = first_refusal (common_refusals (without_marks w) p e)
 
 abbrev pub own : WorldState → ℕ → Event → Option Errno
-own w p e = first_refusal (own_refusals (cleared w) p e)
+own w p e = first_refusal (own_refusals (without_marks w) p e)
 
 abbrev pub refused : WorldState → Errno → Outcome
-refused w with = record { world = cleared w; reply = reply.Err with }
+refused w with = record { world = without_marks w; reply = reply.Err with }
 
-abbrev pub accepted : WorldState → Row → Outcome
-accepted w r = record { world = with_idle_rule (all_done (cleared w) r.deeds); reply = r.reply }
+abbrev pub accepted : WorldState → EventRow → Outcome
+accepted w r = record { world = with_idle_rule (apply_deeds (without_marks w) r.deeds); reply = r.reply }
 
 pub data StepDoes (w : WorldState) (p : ℕ) (e : Event) : Outcome → Type 0 where
   RefusedByAll : (with : Errno) → common w p e ≡ Some with → StepDoes w p e (refused w with)
   RefusedByOwn : (with : Errno) → common w p e ≡ None → own w p e ≡ Some with → StepDoes w p e (refused w with)
-  Accepted : common w p e ≡ None → own w p e ≡ None → StepDoes w p e (accepted w (row (cleared w) p e))
+  Accepted : common w p e ≡ None → own w p e ≡ None → StepDoes w p e (accepted w (row (without_marks w) p e))
 
 own_does : (w : WorldState) (p : ℕ) (e : Event) (o : Option Errno) → common w p e ≡ None
-    → own w p e ≡ o → StepDoes w p e (answered (effect_of (cleared w) o (row (cleared w) p e)))
+    → own w p e ≡ o → StepDoes w p e (outcome_of_row (row_result (without_marks w) o (row (without_marks w) p e)))
 own_does w p e None none is = Accepted none is
 own_does w p e (Some with) none is = RefusedByOwn with none is
 
 all_does : (w : WorldState) (p : ℕ) (e : Event) (o : Option Errno) → common w p e ≡ o
-    → StepDoes w p e (answered (effect_after (cleared w) p e o))
+    → StepDoes w p e (outcome_of_row (row_result_after (without_marks w) p e o))
 all_does w p e None is = own_does w p e (own w p e) is refl
 all_does w p e (Some with) is = RefusedByAll with is
 
-pub step-does : (w : WorldState) (p : ℕ) (e : Event) → StepDoes w p e (step w p e)
-step-does w p e = all_does w p e (common w p e) refl
+pub step_does : (w : WorldState) (p : ℕ) (e : Event) → StepDoes w p e (step w p e)
+step_does w p e = all_does w p e (common w p e) refl
 
 -- the tests of every event, by what they test
 abbrev pub tested : Bool → Bool → Bool → Option Errno
@@ -67,15 +67,15 @@ tested_none true true held none = (refl, refl)
 tested_none true false held none = absurd (none-some errno.Notty (sym none))
 tested_none false may held none = absurd (none-some errno.Srch (sym none))
 
-pub common-none : (w : WorldState) (p : ℕ) (e : Event) → common w p e ≡ None
+pub common_none : (w : WorldState) (p : ℕ) (e : Event) → common w p e ≡ None
     → (is_live w.callers p ≡ true) × (may_make p e ≡ true)
-common-none w p e none =
+common_none w p e none =
     tested_none (is_live w.callers p) (may_make p e) (holds_ticket w p && not (ends_wait e)) none
 
-pub none-common : (w : WorldState) (p : ℕ) (e : Event) → is_live w.callers p ≡ true
+pub none_common : (w : WorldState) (p : ℕ) (e : Event) → is_live w.callers p ≡ true
     → may_make p e ≡ true → (holds_ticket w p && not (ends_wait e)) ≡ false
     → common w p e ≡ None
-none-common w p e live may held = λ i. tested (live i) (may i) (held i)
+none_common w p e live may held = λ i. tested (live i) (may i) (held i)
 
 -- another error is no ESRCH
 other : {A : Type 0} (known with : Errno) → is_srch known ≡ false → Some known ≡ Some with
@@ -134,14 +134,14 @@ gone_does : (w : WorldState) (p : ℕ) (e : Event) (o : Outcome) → StepDoes w 
 gone_does w p e o (RefusedByAll with is) kill gone =
     tested_srch (is_live w.callers p) (may_make p e) (holds_ticket w p && not (ends_wait e)) with is gone
 gone_does w p e o (RefusedByOwn with none is) kill gone =
-    absurd (both_ways (is_srch with) (failing_no_srch (own_refusals (cleared w) p e) with (own_no_srch (cleared w) p e kill) is) gone)
+    absurd (both_ways (is_srch with) (failing_no_srch (own_refusals (without_marks w) p e) with (own_no_srch (without_marks w) p e kill) is) gone)
 gone_does w p e o (Accepted none is) kill gone =
-    absurd (both_ways (is_gone (row (cleared w) p e).reply) (row_replies (cleared w) p e) gone)
+    absurd (both_ways (is_gone (row (without_marks w) p e).reply) (row_replies (without_marks w) p e) gone)
 
 -- who gets ESRCH, but by a kill, is dead
-pub gone-dead : (w : WorldState) (p : ℕ) (e : Event) → is_kill e ≡ false
+pub gone_dead : (w : WorldState) (p : ℕ) (e : Event) → is_kill e ≡ false
     → is_gone (step w p e).reply ≡ true → is_live w.callers p ≡ false
-gone-dead w p e = gone_does w p e (step w p e) (step-does w p e)
+gone_dead w p e = gone_does w p e (step w p e) (step_does w p e)
 
 exit_reply : (w : WorldState) (p : ℕ) (e : Event) → is_exit e ≡ true
     → is_wait (row w p e).reply ≡ false
@@ -152,12 +152,12 @@ exit_waits : (w : WorldState) (p : ℕ) (e : Event) (o : Outcome) → StepDoes w
     → is_exit e ≡ true → is_wait o.reply ≡ false
 exit_waits w p e o (RefusedByAll with is) exit = refl
 exit_waits w p e o (RefusedByOwn with none is) exit = refl
-exit_waits w p e o (Accepted none is) exit = exit_reply (cleared w) p e exit
+exit_waits w p e o (Accepted none is) exit = exit_reply (without_marks w) p e exit
 
 -- exit isn't answered wait
-pub exit-never-waits : (w : WorldState) (p : ℕ) (e : Event) → is_exit e ≡ true
+pub exit_never_waits : (w : WorldState) (p : ℕ) (e : Event) → is_exit e ≡ true
     → is_wait (step w p e).reply ≡ false
-exit-never-waits w p e = exit_waits w p e (step w p e) (step-does w p e)
+exit_never_waits w p e = exit_waits w p e (step w p e) (step_does w p e)
 
 keyboard_reply : (w : WorldState) (p : ℕ) (e : Event) → may_make p e ≡ true
     → is_wait (row w p e).reply ≡ true → is_keyboard p ≡ false
@@ -170,9 +170,9 @@ keyboard_waits : (w : WorldState) (p : ℕ) (e : Event) (o : Outcome) → StepDo
 keyboard_waits w p e o (RefusedByAll with is) wait = absurd (false≢true wait)
 keyboard_waits w p e o (RefusedByOwn with none is) wait = absurd (false≢true wait)
 keyboard_waits w p e o (Accepted none is) wait =
-    keyboard_reply (cleared w) p e (common-none w p e none).1 wait
+    keyboard_reply (without_marks w) p e (common_none w p e none).1 wait
 
 -- no keyboard waits
-pub keyboard-never-waits : (w : WorldState) (p : ℕ) (e : Event)
+pub keyboard_never_waits : (w : WorldState) (p : ℕ) (e : Event)
     → is_wait (step w p e).reply ≡ true → is_keyboard p ≡ false
-keyboard-never-waits w p e = keyboard_waits w p e (step w p e) (step-does w p e)
+keyboard_never_waits w p e = keyboard_waits w p e (step w p e) (step_does w p e)

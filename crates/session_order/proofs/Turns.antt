@@ -9,7 +9,7 @@ use Rattle.std.proofs.lemmas.List.Sums.{sum_by-append}
 use Rattle.std.proofs.lemmas.Option.{get_or_from_slice_get, none-some, same_Some, slice_get-get_or, slice_get_within}
 use Rattle.std.specs.List.{range_with_len}
 use Rattle.std.specs.Prelude.{◌==◌, not, slice_get, if◌then◌else◌, nat_le, nat_lt}
-use Rattle.session_order.proofs.Programs.{next-fine}
+use Rattle.session_order.proofs.Programs.{next_fine}
 use Rattle.session_order.specs.Calls.{calls_by, next_by, next_of}
 use Rattle.session_order.specs.Ends.{Ends, Setup, Stops}
 use Rattle.vt_journal.specs.Room.{IsWithin, full_at, has_room}
@@ -30,8 +30,8 @@ use Rattle.vt_procs.specs.declared.ticket.Ticket.{Ticket}
 use Rattle.vt_procs.specs.declared.ticket.Ticket.TheVariants.{Active, Input}
 use Rattle.vt_procs.specs.declared.waiting.Waiting.{Waiting}
 use Rattle.vt_procs.specs.declared.waiting.Waiting.TheVariants.{Nothing, Open, Done, Broken}
-use Rattle.session_order.proofs.Steps.{Accepted, RefusedByAll, RefusedByOwn, StepDoes, step-does}
-use Rattle.vt_world.specs.Heard.{cleared}
+use Rattle.session_order.proofs.Steps.{Accepted, RefusedByAll, RefusedByOwn, StepDoes, step_does}
+use Rattle.vt_world.specs.Heard.{without_marks}
 use Rattle.vt_world.specs.History.{IsLegal, IsNext, replay}
 use Rattle.vt_world.specs.Rows.{ended_reply, row, waits_unless}
 use Rattle.vt_world.specs.State.{WorldState}
@@ -61,21 +61,21 @@ step_plain : (w : WorldState) (p : ℕ) (e : Event) (o : Outcome) → StepDoes w
     → plain_reply o.reply ≡ o.reply
 step_plain w p e _ (RefusedByAll with is) = refl
 step_plain w p e _ (RefusedByOwn with none is) = refl
-step_plain w p e _ (Accepted none is) = row_plain (cleared w) p e
+step_plain w p e _ (Accepted none is) = row_plain (without_marks w) p e
 
-pub reply-plain : (w : WorldState) (p : ℕ) (e : Event)
+pub reply_plain : (w : WorldState) (p : ℕ) (e : Event)
     → plain_reply (step w p e).reply ≡ (step w p e).reply
-reply-plain w p e = step_plain w p e (step w p e) (step-does w p e)
+reply_plain w p e = step_plain w p e (step w p e) (step_does w p e)
 
 -- a program's next call is as it is meant
 next_plain : (program : Option Program) (made : List _) (e : Event) → next_of program made ≡ Some e
     → plain_event e ≡ e
 next_plain None made e is = absurd (none-some e is)
-next_plain (Some program) made e is = (next-fine program).plain made e is
+next_plain (Some program) made e is = (next_fine program).plain made e is
 
-pub event-plain : (programs : List Program) (p : ℕ) (history : List Entry) (e : Event)
+pub event_plain : (programs : List Program) (p : ℕ) (history : List Entry) (e : Event)
     → next_by programs p history ≡ Some e → plain_event e ≡ e
-event-plain programs p history e is =
+event_plain programs p history e is =
     next_plain (program_of programs p) (calls_by p history) e is
 
 -- what stands in a list with one more element: an element of the list, or that one behind it
@@ -100,9 +100,9 @@ abbrev pub EachIs : (List Entry → Entry → Type 0) → List Entry → Type 0
 EachIs P entries =
     (k : ℕ) (entry : Entry) → slice_get entries k ≡ Some entry → P (take k entries) entry
 
-pub each-more : (P : List Entry → Entry → Type 0) (entries : List Entry) (entry : Entry)
+pub each_more : (P : List Entry → Entry → Type 0) (entries : List Entry) (entry : Entry)
     → EachIs P entries → P entries entry → EachIs P (entries ++ entry ∷ [])
-each-more P entries entry old next k found is = ⊎_elim
+each_more P entries entry old next k found is = ⊎_elim
     (λ here.
     let within : k < length entries = slice_get_within entries k found here in
     subst (λ before. P before found)
@@ -113,8 +113,8 @@ each-more P entries entry old next k found is = ⊎_elim
     subst (λ e. P (take k (entries ++ entry ∷ [])) e) new.1 (subst (λ list. P list entry) before next))
     (at_either entries entry k found is)
 
-pub each-none : (P : List Entry → Entry → Type 0) → EachIs P []
-each-none P k entry is = absurd (none-some entry is)
+pub each_none : (P : List Entry → Entry → Type 0) → EachIs P []
+each_none P k entry is = absurd (none-some entry is)
 
 -- what the turn of p makes of a history
 pub data TurnDoes (o : Setup) (p : ℕ) (h : List Entry) : Played → Type 0 where
@@ -147,9 +147,9 @@ now_does : (o : Setup) (p : ℕ) (h : List Entry) (now : Option Event) → call_
 now_does o p h None is = Skips is
 now_does o p h (Some e) is = room_does o p h e is
 
-pub turn-does : (o : Setup) (p : ℕ) (h : List Entry)
+pub turn_does : (o : Setup) (p : ℕ) (h : List Entry)
     → TurnDoes o p h (turn o p (record { history = h; stop = None }))
-turn-does o p h = now_does o p h (call_now o h p) refl
+turn_does o p h = now_does o p h (call_now o h p) refl
 
 -- a play on its way
 pub record Goes (o : Setup) (t : Played) : Type 0 where
@@ -158,10 +158,10 @@ pub record Goes (o : Setup) (t : Played) : Type 0 where
   pub within : IsWithin o.limits t.history
   pub stops : (full : Full) → t.stop ≡ Some full → Stops o t.history full
 
-pub goes-nothing : (o : Setup) → Goes o nothing_played
-goes-nothing o = record {
-  legal = each-none (IsNext o.start);
-  follows = each-none (IsNextCall o.start o.programs);
+pub goes_nothing : (o : Setup) → Goes o nothing_played
+goes_nothing o = record {
+  legal = each_none (IsNext o.start);
+  follows = each_none (IsNextCall o.start o.programs);
   within = record { events = omega arith; bytes = omega arith };
   stops = λ full is. absurd (none-some full is);
 }
@@ -182,16 +182,16 @@ goes_turn o p h _ (Skips none) goes = goes
 goes_turn o p h _ (Enters e shut next room) goes =
     let entry : Entry = entry_at o.start h p e in
     let is_next : IsNext o.start h entry = record {
-      answer = reply-plain (replay o.start h) p e;
+      answer = reply_plain (replay o.start h) p e;
       number = refl;
     } in
     let is_call : IsNextCall o.start o.programs h entry = record {
-      next = next ∙ ap Some (sym (event-plain o.programs p h e next));
+      next = next ∙ ap Some (sym (event_plain o.programs p h e next));
       ended = λ waitend. shut;
     } in
     record {
-      legal = each-more (IsNext o.start) h entry goes.legal is_next;
-      follows = each-more (IsNextCall o.start o.programs) h entry goes.follows is_call;
+      legal = each_more (IsNext o.start) h entry goes.legal is_next;
+      follows = each_more (IsNextCall o.start o.programs) h entry goes.follows is_call;
       within = within_more o h entry room;
       stops = λ full is. absurd (none-some full is);
     }
@@ -209,19 +209,19 @@ goes_turn o p h _ (FindsFull e shut next none) goes = record {
   };
 }
 
-pub turn-goes : (o : Setup) (p : ℕ) (h : List Entry) (stop : Option Full)
+pub turn_goes : (o : Setup) (p : ℕ) (h : List Entry) (stop : Option Full)
     → Goes o (record { history = h; stop = stop }) → Goes o (turn o p (record { history = h; stop = stop }))
-turn-goes o p h (Some full) goes = goes
-turn-goes o p h None goes = goes_turn o p h _ (turn-does o p h) goes
+turn_goes o p h (Some full) goes = goes
+turn_goes o p h None goes = goes_turn o p h _ (turn_does o p h) goes
 
-pub turns-go : (o : Setup) (callers : List ℕ) (t : Played) → Goes o t → Goes o (turns o callers t)
-turns-go o [] t goes = goes
-turns-go o (p ∷ callers) t goes = turns-go o callers (turn o p t) (turn-goes o p t.history t.stop goes)
+pub turns_go : (o : Setup) (callers : List ℕ) (t : Played) → Goes o t → Goes o (turns o callers t)
+turns_go o [] t goes = goes
+turns_go o (p ∷ callers) t goes = turns_go o callers (turn o p t) (turn_goes o p t.history t.stop goes)
 
-pub rounds-go : (o : Setup) (n : ℕ) (t : Played) → Goes o t → Goes o (rounds o n t)
-rounds-go o zero t goes = goes
-rounds-go o (suc n) t goes =
-    rounds-go o n (round o t) (turns-go o (range_with_len 0 every_caller) t goes)
+pub rounds_go : (o : Setup) (n : ℕ) (t : Played) → Goes o t → Goes o (rounds o n t)
+rounds_go o zero t goes = goes
+rounds_go o (suc n) t goes =
+    rounds_go o n (round o t) (turns_go o (range_with_len 0 every_caller) t goes)
 
 -- a play that is finished ends
 ends : (o : Setup) (h : List Entry) (stop : Option Full)
@@ -233,12 +233,12 @@ ends o h None goes over =
 ends o h (Some full) goes over =
     record { within = goes.within; rightly = goes.stops full refl }
 
-pub serial-right : SerialIsRight
-serial-right o first t serial =
+pub serial_right : SerialIsRight
+serial_right o first t serial =
     let goes : Goes o t =
     subst (Goes o) (sym serial.played)
-    (rounds-go o serial.count (turns o first nothing_played)
-    (turns-go o first nothing_played (goes-nothing o))) in
+    (rounds_go o serial.count (turns o first nothing_played)
+    (turns_go o first nothing_played (goes_nothing o))) in
     record {
       legal = goes.legal;
       follows = goes.follows;

@@ -7,7 +7,7 @@ use Rattle.session_order.specs.Serial.{IsSerial, Played, is_finished, nothing_pl
 use Rattle.session_text.specs.Sessions.{ArePrograms}
 use Rattle.vt_procs.specs.declared.proc_start.ProcStart.{ProcStart}
 use Rattle.vt_world.specs.History.{IsLegal}
-use Rattle.vt_world.specs.Start.{opening}
+use Rattle.vt_world.specs.Start.{start_world}
 
 -- a session begins at a start of the console, with a program for each keyboard and each process
 pub record IsFromStart (o : Setup) : Type 0 where
@@ -18,7 +18,7 @@ pub record IsFromStart (o : Setup) : Type 0 where
   pub keyboards : ℕ
   pub processes : List ProcStart
   pub tables : Tables
-  pub start : o.start ≡ opening rows cols consoles front keyboards processes tables
+  pub start : o.start ≡ start_world rows cols consoles front keyboards processes tables
   pub programs : ArePrograms (length processes) keyboards o.programs
 
 -- further rounds change nothing

@@ -11,7 +11,7 @@ use Rattle.vt_journal.specs.declared.tail.Tail.{Tail}
 use Rattle.vt_switch.specs.Law.{IsExplained, IsLawful}
 use Rattle.vt_world.specs.History.{IsLegal, replay}
 use Rattle.vt_world.specs.Laws.{moments}
-use Rattle.vt_world.specs.Start.{opening}
+use Rattle.vt_world.specs.Start.{start_world}
 use Rattle.vt_world.specs.State.{WorldState, core}
 use Rattle.vt_world.specs.Tapes.{screen_of, tape_of}
 use Rattle.vt_world.specs.Terminals.{machine_of, terminal_at}
@@ -19,7 +19,7 @@ use Rattle.vt_world.specs.Terminals.{machine_of, terminal_at}
 -- the console that a session begins with
 abbrev pub start_of : SessionView → WorldState
 start_of s =
-    opening s.config.size.rows s.config.size.cols s.config.consoles s.config.front s.config.keyboards
+    start_world s.config.size.rows s.config.size.cols s.config.consoles s.config.front s.config.keyboards
     s.config.procs s.tables
 
 -- with its programs and limits

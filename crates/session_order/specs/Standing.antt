@@ -9,23 +9,23 @@ use Rattle.vt_events.specs.declared.entry.Entry.{Entry}
 
 -- what contracts see of `Standing`, by the callers' numbers: where each caller's walk stands, and how
 -- many calls each made
-pub record StandingView : Type 0 where
+pub record SessionProgressView : Type 0 where
   pub walks : List Place
   pub counts : List ℕ
 
 -- the walk stands where these calls, as they are meant, were made
-pub record StandsAfter (program : Program) (walk : Place) (made : List Call) : Type 0 where
+pub record IsWalkAfter (program : Program) (walk : Place) (made : List Call) : Type 0 where
   pub calls : List Call
   pub stands : Stands program walk calls
   pub meant : map as_meant calls ≡ made
 
 -- this is how far the callers of these programs are after a history
-pub record AreAfter (programs : List Program) (history : List Entry) (s : StandingView) : Type 0 where
+pub record AreAfter (programs : List Program) (history : List Entry) (s : SessionProgressView) : Type 0 where
   pub walks : length s.walks ≡ callers
   pub stand :
       (q : ℕ) (program : Program) (walk : Place) → q ≤ greatest_caller
       → program_of programs q ≡ Some program → walk ≡ slice_index_or s.walks q walk
-      → StandsAfter program walk (calls_by q history)
+      → IsWalkAfter program walk (calls_by q history)
   pub places : length s.counts ≡ callers
   pub counted :
       (q : ℕ) → q ≤ greatest_caller

@@ -4,12 +4,12 @@ use std::marker::Model;
 use vt_base::CallerNo;
 
 /// The places for callers by their numbers.
-const PLACES: usize = 68;
+const CALLER_PLACES: usize = 68;
 
 /// How many calls each caller made.
 #[derive(Drop)]
-pub struct Counts {
-    places: [u32; PLACES],
+pub(crate) struct Counts {
+    places: [u32; CALLER_PLACES],
 }
 
 impl Model for Counts {
@@ -22,23 +22,23 @@ impl Model for Counts {
 
 impl Counts {
     /// No calls yet.
-    pub fn new() -> Counts
+    pub(crate) fn new() -> Counts
         ensures { result ≡ replicate 68 0 }
     {
         Counts {
-            places: [0; PLACES],
+            places: [0; CALLER_PLACES],
         }
     }
 
     /// How many calls the caller made.
-    pub fn of(&self, caller: CallerNo) -> u32
+    pub(crate) fn of(&self, caller: CallerNo) -> u32
         ensures { result ≡ slice_index self.now caller }
     {
         self.places[usize::from(caller.get())]
     }
 
     /// The caller made one call more. The greatest count stands still.
-    pub fn add(&mut self, caller: CallerNo)
+    pub(crate) fn add(&mut self, caller: CallerNo)
         ensures { self.new ≡ slice_set self.old caller
             (min (slice_index self.old caller + 1) (2 ^ 32 - 1)) }
     {

@@ -4,9 +4,9 @@
 
 mod counts;
 mod laws;
+mod session_progress;
 mod sessions;
-mod standing;
 
 pub use laws::{meant_laws, race_laws, serial_laws};
+pub use session_progress::SessionProgress;
 pub use sessions::{session_laws, start_of};
-pub use standing::Standing;

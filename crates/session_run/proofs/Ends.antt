@@ -8,7 +8,7 @@ use Rattle.session_order.specs.Laws.{FinishedStays, IsFromStart, RoundsAddUp, Ro
 use Rattle.session_order.specs.Meant.{ReplayIsMeant, plain_history}
 use Rattle.session_order.specs.Serial.{IsSerial, Played, is_finished, nothing_played, round, rounds, turns}
 use Rattle.session_run.specs.Playing.{IsAt, PlayerView}
-use Rattle.session_run.specs.Runs.{played}
+use Rattle.session_run.specs.Runs.{run_result}
 use Rattle.vt_hub.specs.declared.run.Run.{Run}
 use Rattle.vt_journal.specs.Log.{Logged}
 use Rattle.vt_world.specs.History.{replay}
@@ -22,10 +22,10 @@ abbrev pub IsEnd : Setup → List ℕ → PlayerView → Type 0
 IsEnd o first view = (t : Played) × IsSerial o first t × IsAt o t view
 
 -- a round in which the play stopped is its last one
-pub round-stops : RoundsAddUp → (o : Setup) (first : List ℕ) (k : ℕ) (u : Played) (view : PlayerView)
+pub round_stops : RoundsAddUp → (o : Setup) (first : List ℕ) (k : ℕ) (u : Played) (view : PlayerView)
     → u ≡ round o (rounds o k (turns o first nothing_played)) → IsAt o u view
     → is_some view.stop ≡ true → IsEnd o first view
-round-stops sum o first k u view is at stopped =
+round_stops sum o first k u view is at stopped =
     let serial : IsSerial o first u = record {
       count = k + 1;
       played = is ∙ sym (sum o k 1 (turns o first nothing_played));
@@ -34,11 +34,11 @@ round-stops sum o first k u view is at stopped =
     (u, serial, at)
 
 -- and so is one that made no entry
-pub round-stays : FinishedStays → RoundsAddUp → RoundsGoOn → (o : Setup) (first : List ℕ) (k : ℕ) (t u : Played) (before view : PlayerView)
+pub round_stays : FinishedStays → RoundsAddUp → RoundsGoOn → (o : Setup) (first : List ℕ) (k : ℕ) (t u : Played) (before view : PlayerView)
     → IsFromStart o → t ≡ rounds o k (turns o first nothing_played) → u ≡ round o t
     → IsAt o t before → IsAt o u view → length view.log.entries ≡ length before.log.entries
     → IsEnd o first view
-round-stays stays sum goes_on o first k t u before view start is_t is_u old at len =
+round_stays stays sum goes_on o first k t u before view start is_t is_u old at len =
     let moves : is_finished o t ≡ false → (length t.history < length (round o t).history) ⊎ (is_some (round o t).stop ≡ true) =
     subst (λ x. is_finished o x ≡ false → (length x.history < length (round o x).history) ⊎ (is_some (round o x).stop ≡ true)) (sym is_t) (goes_on o first k start) in
     let moved : is_finished o t ≡ false → (length t.history < length u.history) ⊎ (is_some u.stop ≡ true) =
@@ -51,27 +51,27 @@ round-stays stays sum goes_on o first k t u before view start is_t is_u old at l
     let serial : IsSerial o first t = record { count = k; played = is_t; finished = done } in
     (t, serial, subst (λ x. IsAt o x view) same at) in
     let stops : is_some u.stop ≡ true → IsEnd o first view =
-    λ stopped. round-stops sum o first k u view (is_u ∙ ap (round o) is_t) at (ap is_some at.stop ∙ stopped) in
+    λ stopped. round_stops sum o first k u view (is_u ∙ ap (round o) is_t) at (ap is_some at.stop ∙ stopped) in
     let longer : length t.history < length u.history → IsEnd o first view =
     λ more. absurd (not_longer (length t.history) (length u.history) more same_length) in
     ⊎_elim over (λ going. ⊎_elim longer stops (moved going)) (cases_Bool (is_finished o t))
 
 -- what came of a play at its end
-pub run-serial : (o : Setup) (first : List ℕ) (t : Played) (view : PlayerView) (run : Run)
+pub run_serial : (o : Setup) (first : List ℕ) (t : Played) (view : PlayerView) (run : Run)
     → IsSerial o first t → IsAt o t view → run.log ≡ view.log → run.stop ≡ view.stop
-    → IsSerial o first (played run)
-run-serial o first t view run serial at log stop =
-    let same : t ≡ played run =
+    → IsSerial o first (run_result run)
+run_serial o first t view run serial at log stop =
+    let same : t ≡ run_result run =
     λ i. record {
       history = (sym at.history ∙ ap (λ (l : Logged). plain_history l.entries) (sym log)) i;
       stop = (sym at.stop ∙ sym stop) i;
     } in
     subst (IsSerial o first) same serial
 
-pub run-world : ReplayIsMeant → (o : Setup) (t : Played) (view : PlayerView) (run : Run)
+pub run_world : ReplayIsMeant → (o : Setup) (t : Played) (view : PlayerView) (run : Run)
     → IsAt o t view → run.world ≡ view.world → run.log ≡ view.log
     → run.world ≡ replay o.start run.log.entries
-run-world is_meant o t view run at world log =
+run_world is_meant o t view run at world log =
     world
     ∙ at.replayed
     ∙ ap (replay o.start) (sym at.history ∙ ap (λ (l : Logged). plain_history l.entries) (sym log))

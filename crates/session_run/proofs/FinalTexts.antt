@@ -3,9 +3,9 @@ use Rattle.std.proofs.Common.{◌≡◌, ℕ, suc, ◌+◌, ◌-◌, ◌<◌, �
 use Rattle.std.proofs.lemmas.List.{drop_all}
 use Rattle.std.proofs.lemmas.Option.{slice_get-get_or}
 use Rattle.std.specs.List.{flat_map}
-use Rattle.vt_journal.proofs.Lines.{spelled-cons}
+use Rattle.vt_journal.proofs.Lines.{joined_by_blanks-cons}
 use Rattle.vt_journal.specs.Journal.{line_text}
-use Rattle.vt_journal.specs.Text.{spaced}
+use Rattle.vt_journal.specs.Text.{blank_before_each}
 use Rattle.session_run.proofs.Texts.{text_more}
 use Rattle.session_run.specs.Final.{consoles_text, place_text}
 use Rattle.vt_world.specs.Inputs.{input_at}
@@ -35,7 +35,7 @@ consoles_more w n old new whole within added so_far =
 abbrev pub numbers_text : List ℕ → List ℕ
 numbers_text ns = flat_map (λ n. 0x20 ∷ decimal n) ns
 
-spaced_numbers : (ns : List ℕ) → numbers_text ns ≡ spaced (map decimal ns)
+spaced_numbers : (ns : List ℕ) → numbers_text ns ≡ blank_before_each (map decimal ns)
 spaced_numbers [] = refl
 spaced_numbers (n ∷ ns) = ap (λ more. (0x20 ∷ decimal n) ++ more) (spaced_numbers ns)
 
@@ -58,7 +58,7 @@ pub numbers_line : (name : List ℕ) (ns : List ℕ) (t0 t1 t2 t3 : List ℕ)
     → t1 ≡ t0 ++ name → t2 ≡ t1 ++ numbers_text ns → t3 ≡ t2 ++ 0x0A ∷ []
     → t3 ≡ t0 ++ line_text (name ∷ map decimal ns)
 numbers_line name ns t0 t1 t2 t3 is1 is2 is3 =
-    let whole = spelled-cons name (map decimal ns) in
+    let whole = joined_by_blanks-cons name (map decimal ns) in
     rw whole (simp (is3, is2, is1, spaced_numbers, append_assoc))
 
 -- the line of the display, made of its pieces

@@ -10,7 +10,7 @@ use Rattle.std.specs.List.Sorted.{IsStrictlyIncreasing}
 use Rattle.std.specs.Prelude.{filter_map, is_some, option_map, slice_get}
 use Rattle.session_run.specs.Callers.{AreHooked, HasHook, callers_in, has_program}
 use Rattle.session_run.specs.Runs.{HasHooks, table_of}
-use Rattle.session_text.proofs.WhosePrograms.{script-at}
+use Rattle.session_text.proofs.WhosePrograms.{script_at}
 use Rattle.session_text.specs.Programs.{program_by, program_of}
 use Rattle.session_text.specs.Sessions.{ArePrograms, IsKeysProgram, IsScriptProgram}
 use Rattle.session_text.specs.Walks.{HasActs}
@@ -26,10 +26,10 @@ within_all : (k : ℕ) → k < length (range_with_len 0 68) → k < 68
 within_all k within = omega (arith, within, length-range_with_len 0 68)
 
 -- who is one of them has a program
-pub caller-known : (programs : List Program) (i : ℕ) → i < length (callers_in programs)
+pub caller_known : (programs : List Program) (i : ℕ) → i < length (callers_in programs)
     → (has_program programs (get_or (callers_in programs) i 0) ≡ true) × (get_or (callers_in programs) i 0 ≤ 67)
 unfolding callers_in
-caller-known programs i within = (
+caller_known programs i within = (
   filter_passes (has_program programs) (range_with_len 0 68) i 0 within,
   All-filter (has_program programs) (λ p. p ≤ 67) (range_with_len 0 68)
       (λ k d inside. omega (arith, every_place k d (within_all k inside), within_all k inside)) i 0 within,
@@ -52,18 +52,18 @@ kept f (x ∷ xs) (suc j) within is =
     longer (f x) x (get_or xs j 0) (filter f xs) (kept f xs j (omega (arith, within)) is)
 
 -- who has a program is one of them
-pub caller-at : (programs : List Program) (p : ℕ) → p ≤ 67 → has_program programs p ≡ true
+pub caller_at : (programs : List Program) (p : ℕ) → p ≤ 67 → has_program programs p ≡ true
     → (i : ℕ) × (i < length (callers_in programs)) × (get_or (callers_in programs) i 0 ≡ p)
 unfolding callers_in
-caller-at programs p low has =
+caller_at programs p low has =
     let here : get_or (range_with_len 0 68) p 0 ≡ p = every_place p 0 (omega (arith, low)) in
     let inside : p < length (range_with_len 0 68) = omega (arith, low, length-range_with_len 0 68) in
     let at = kept (has_program programs) (range_with_len 0 68) p inside (ap (has_program programs) here ∙ has) in
     (at.0, at.1, at.2 ∙ here)
 
-pub callers-rise : (programs : List Program) → IsStrictlyIncreasing (callers_in programs)
+pub callers_rise : (programs : List Program) → IsStrictlyIncreasing (callers_in programs)
 unfolding callers_in
-callers-rise programs =
+callers_rise programs =
     IsStrictlyIncreasing-filter (has_program programs) (range_with_len 0 68)
     (λ k within.
     let next : k + 1 < 68 = within_all (k + 1) within in
@@ -98,7 +98,7 @@ hook_at : (processes keyboards : ℕ) (programs : List Program) (tables : List (
 hook_at processes keyboards programs tables p program a has is none =
     let apart : p ≡ 0 → ⊥ = not_first p none in
     let there : slice_get a.scripts (p - 1) ≡ Some program =
-    sym (script-at processes keyboards programs a p apart) ∙ ap (program_by programs p) (sym none) ∙ is in
+    sym (script_at processes keyboards programs a p apart) ∙ ap (program_by programs p) (sym none) ∙ is in
     let same : tables ≡ filter_map table_of (a.scripts ++ a.further) =
     has.acts ∙ ap (filter_map table_of) a.are ∙ no_table a.first (a.scripts ++ a.further) (All-head IsKeysProgram a.first a.further a.each_keys) in
     let acts = acts_there a.scripts a.further (p - 1) program a.each_script there in
@@ -120,42 +120,42 @@ filter_more f n =
     ∙ filter_of_map_range_with_len_more f (λ x. x) 0 n n (let e : 0 + n ≡ n = omega arith in e)
     ∙ ap (λ xs. filter f xs ++ cond (f n) (n ∷ []) []) (map-id (range_with_len 0 n))
 
-pub caller-more : (programs : List Program) (n p : ℕ) (old new : List ℕ) → p ≡ n → has_program programs p ≡ true
+pub caller_more : (programs : List Program) (n p : ℕ) (old new : List ℕ) → p ≡ n → has_program programs p ≡ true
     → old ≡ filter (has_program programs) (range_with_len 0 n) → new ≡ old ++ p ∷ []
     → new ≡ filter (has_program programs) (range_with_len 0 (n + 1))
-caller-more programs n p old new same has is pushed =
+caller_more programs n p old new same has is pushed =
     let here : has_program programs n ≡ true = ap (has_program programs) (sym same) ∙ has in
     pushed
     ∙ (λ i. is i ++ same i ∷ [])
     ∙ ap (λ b. filter (has_program programs) (range_with_len 0 n) ++ cond b (n ∷ []) []) (sym here)
     ∙ sym (filter_more (has_program programs) n)
 
-pub caller-less : (programs : List Program) (n p : ℕ) (old : List ℕ) → p ≡ n → has_program programs p ≡ false
+pub caller_less : (programs : List Program) (n p : ℕ) (old : List ℕ) → p ≡ n → has_program programs p ≡ false
     → old ≡ filter (has_program programs) (range_with_len 0 n)
     → old ≡ filter (has_program programs) (range_with_len 0 (n + 1))
-caller-less programs n p old same hasnt is =
+caller_less programs n p old same hasnt is =
     let here : has_program programs n ≡ false = ap (has_program programs) (sym same) ∙ hasnt in
     is
     ∙ sym (append-nil (filter (has_program programs) (range_with_len 0 n)))
     ∙ ap (λ b. filter (has_program programs) (range_with_len 0 n) ++ cond b (n ∷ []) []) (sym here)
     ∙ sym (filter_more (has_program programs) n)
 
-pub callers-are : (programs : List Program) (n : ℕ) (list : List ℕ) → n ≡ 68
+pub callers_are : (programs : List Program) (n : ℕ) (list : List ℕ) → n ≡ 68
     → list ≡ filter (has_program programs) (range_with_len 0 n) → list ≡ callers_in programs
 unfolding callers_in
-callers-are programs n list end is = is ∙ ap (λ k. filter (has_program programs) (range_with_len 0 k)) end
+callers_are programs n list end is = is ∙ ap (λ k. filter (has_program programs) (range_with_len 0 k)) end
 
 -- what is found says whether there is a program
-pub found-tells : {X : Type 0} (f : X → Program) (programs : List Program) (p : ℕ) (found : Option X)
+pub found_tells : {X : Type 0} (f : X → Program) (programs : List Program) (p : ℕ) (found : Option X)
     → option_map f found ≡ program_of programs p → is_some found ≡ has_program programs p
-found-tells f programs p None is = ap is_some is
-found-tells f programs p (Some x) is = ap is_some is
+found_tells f programs p None is = ap is_some is
+found_tells f programs p (Some x) is = ap is_some is
 
 -- one table more, or none
-pub tables-more : (programs : List Program) (i : ℕ) (p : Program) (old : List (List Act)) → i < length programs
+pub tables_more : (programs : List Program) (i : ℕ) (p : Program) (old : List (List Act)) → i < length programs
     → p ≡ get_or programs i p → old ≡ filter_map table_of (take i programs)
     → old ++ filter_map table_of (p ∷ []) ≡ filter_map table_of (take (i + 1) programs)
-tables-more programs i p old within read is =
+tables_more programs i p old within read is =
     (λ j. is j ++ filter_map table_of (p ∷ []))
     ∙ sym (filter_map-append table_of (take i programs) (p ∷ []))
     ∙ ap (filter_map table_of) (ap (λ q. take i programs ++ q ∷ []) read ∙ sym (take_more programs i p within))

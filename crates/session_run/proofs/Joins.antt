@@ -8,43 +8,43 @@ use Rattle.std.proofs.lemmas.Option.{none-some, same_Some}
 use Rattle.std.specs.List.Sorted.{IsStrictlyIncreasing}
 use Rattle.std.specs.Prelude.{slice_get}
 use Rattle.atomic_table.specs.Seated.{TableId}
-use Rattle.session_run.proofs.HavePrograms.{caller-known}
+use Rattle.session_run.proofs.HavePrograms.{caller_known}
 use Rattle.session_run.specs.Callers.{callers_in, has_program}
 use Rattle.session_run.specs.Racing.{AreFresh, AreHome, HasRun, IsFresh, IsSplit}
 use Rattle.session_text.specs.declared.program.Program.{Program}
-use Rattle.vt_hub.specs.Views.{PassView, StewardView, is_made, new_pass, opened, with_pass}
-use Rattle.vt_hub.specs.declared.stand.Stand.{Stand}
-use Rattle.vt_hub.specs.declared.stand.Stand.TheVariants.{Unmade, Out, Home}
+use Rattle.vt_hub.specs.Views.{PassView, StewardView, is_made, new_pass, view_at_open, with_pass}
+use Rattle.vt_hub.specs.declared.pass_place.PassPlace.{PassPlace}
+use Rattle.vt_hub.specs.declared.pass_place.PassPlace.TheVariants.{Unmade, Out, Home}
 use Rattle.vt_world.specs.State.{WorldState}
 
 unmade : (n k : ℕ) → get_or (replicate n Unmade) k Unmade ≡ Unmade
 unmade n k = ⊎_elim
     (λ low. get_or-replicate n k Unmade Unmade low)
-    (λ past. get_or_past (replicate n Unmade) k Unmade (omega (arith, past, length-replicate {A = Stand} n Unmade)))
+    (λ past. get_or_past (replicate n Unmade) k Unmade (omega (arith, past, length-replicate {A = PassPlace} n Unmade)))
     (cases_lt k n)
 
 -- the steward of a hub that was just opened has made no pass
-pub split-start : (start : WorldState) (here : TableId) (callers : List ℕ) (s : StewardView)
-    → s ≡ opened start here → IsSplit here callers 0 s
-split-start start here callers s is = subst (IsSplit here callers 0) (sym is) (record {
+pub split_start : (start : WorldState) (here : TableId) (callers : List ℕ) (s : StewardView)
+    → s ≡ view_at_open start here → IsSplit here callers 0 s
+split_start start here callers s is = subst (IsSplit here callers 0) (sym is) (record {
   own = refl;
-  size = length-replicate {A = Stand} 68 Unmade;
+  size = length-replicate {A = PassPlace} 68 Unmade;
   rest = λ k _. unmade 68 k;
   none_home = refl;
 })
 
 -- the next one has no pass yet
-pub split-free : (here : TableId) (callers : List ℕ) (n p : ℕ) (s : StewardView) → IsStrictlyIncreasing callers
+pub split_free : (here : TableId) (callers : List ℕ) (n p : ℕ) (s : StewardView) → IsStrictlyIncreasing callers
     → n < length callers → p ≡ get_or callers n 0 → IsSplit here callers n s
     → is_made (get_or s.stands p Unmade) ≡ false
-split-free here callers n p s rising within is split =
+split_free here callers n p s rising within is split =
     ap is_made (split.rest p (λ i low same.
     let no : ⊥ = omega (arith, AllPairs-from_increasing callers rising i n 0 low within, same, is) in no))
 
 -- one pass more is made
-pub split-more : (here : TableId) (callers : List ℕ) (n p : ℕ) (s : StewardView) → p ≡ get_or callers n 0
+pub split_more : (here : TableId) (callers : List ℕ) (n p : ℕ) (s : StewardView) → p ≡ get_or callers n 0
     → IsSplit here callers n s → IsSplit here callers (n + 1) (with_pass p s)
-split-more here callers n p s is split = record {
+split_more here callers n p s is split = record {
   own = split.own;
   size = length-set s.stands p Out ∙ split.size;
   rest = λ k none.
@@ -53,11 +53,11 @@ split-more here callers n p s is split = record {
   none_home = split.none_home;
 }
 
-pub fresh-more : (here : TableId) (callers : List ℕ) (n p : ℕ) (s : StewardView) (passes : List PassView)
+pub fresh_more : (here : TableId) (callers : List ℕ) (n p : ℕ) (s : StewardView) (passes : List PassView)
     → p ≡ get_or callers n 0 → IsSplit here callers n s
     → AreFresh here callers passes → length passes ≡ n
     → AreFresh here callers (passes ++ new_pass p s ∷ [])
-fresh-more here callers n p s passes is split fresh many i x within read = ⊎_elim
+fresh_more here callers n p s passes is split fresh many i x within read = ⊎_elim
     (λ low. fresh i x low (read ∙ get_or-append passes (new_pass p s ∷ []) x i low))
     (λ past.
     let last : i ≡ length passes =
@@ -71,24 +71,6 @@ fresh-more here callers n p s passes is split fresh many i x within read = ⊎_e
     }))
     (cases_lt i (length passes))
 
--- none was taken in yet
-pub home-start : (programs : List Program) (here : TableId) (callers : List ℕ) (s : StewardView)
-    → callers ≡ callers_in programs → IsSplit here callers (length callers) s → AreHome programs here 0 s
-home-start programs here callers s same given =
-    let split : IsSplit here (callers_in programs) (length (callers_in programs)) s =
-    subst (λ cs. IsSplit here cs (length cs) s) same given in
-    record {
-      own = split.own;
-      size = split.size;
-      home = λ k low. absurd (none_below k low);
-      rest = split.rest;
-      ran = λ place x is. absurd (none-some x (sym (ap (λ joined. slice_get joined place) split.none_home) ∙ is));
-      each = λ k low. absurd (none_below k low);
-    }
-  where
-    none_below : (k : ℕ) → k < 0 → ⊥
-    none_below k low = omega (arith, low)
-
 -- what was taken in and then one pass more
 at_either : (q : PassView) (joined : List PassView) (place : ℕ) (x : PassView)
     → slice_get (q ∷ joined) place ≡ Some x
@@ -97,31 +79,31 @@ at_either q joined zero x is = inl (same_Some q x is)
 at_either q joined (suc k) x is = inr (k, is)
 
 -- one pass more is taken in
-pub home-more : (programs : List Program) (here : TableId) (callers : List ℕ) (n : ℕ) (s t : StewardView) (q : PassView)
+pub home_more : (programs : List Program) (here : TableId) (callers : List ℕ) (n : ℕ) (s t : StewardView) (q : PassView)
     → callers ≡ callers_in programs → n < length callers
     → t.hub ≡ s.hub → t.stands ≡ set s.stands q.number Home → t.joined ≡ q ∷ s.joined
     → HasRun programs here (get_or callers n 0) q → AreHome programs here n s
     → AreHome programs here (n + 1) t
-home-more programs here callers n s t q same inside hub stands joined given home =
+home_more programs here callers n s t q same inside hub stands joined given home =
     let all : List ℕ = callers_in programs in
     let run : HasRun programs here (get_or all n 0) q =
     subst (λ cs. HasRun programs here (get_or cs n 0) q) same given in
-    let known = caller-known programs n (subst (λ cs. n < length cs) same inside) in
+    let known = caller_known programs n (subst (λ cs. n < length cs) same inside) in
     record {
       own = hub ∙ home.own;
       size = ap length stands ∙ length-set s.stands q.number Home ∙ home.size;
       home = λ i low. ⊎_elim
           (λ mine.
-          ap (λ (list : List Stand). get_or list (get_or all i 0) Unmade) stands
+          ap (λ (list : List PassPlace). get_or list (get_or all i 0) Unmade) stands
           ∙ ap (λ m. get_or (set s.stands q.number Home) m Unmade) (sym mine)
           ∙ get_or-set_same s.stands q.number Home Unmade (omega (arith, run.numbered, known.1, home.size)))
           (λ other.
-          ap (λ (list : List Stand). get_or list (get_or all i 0) Unmade) stands
+          ap (λ (list : List PassPlace). get_or list (get_or all i 0) Unmade) stands
           ∙ get_or-set_other s.stands q.number (get_or all i 0) Home Unmade (λ same. other (sym same))
           ∙ home.home i (less n i low (λ last. other (run.numbered ∙ ap (λ k. get_or all k 0) last))))
           (cases_eq q.number (get_or all i 0));
       rest = λ k none.
-          ap (λ (list : List Stand). get_or list k Unmade) stands
+          ap (λ (list : List PassPlace). get_or list k Unmade) stands
           ∙ get_or-set_other s.stands q.number k Home Unmade (λ last. none n (subst (λ cs. n < length cs) same inside) (sym run.numbered ∙ sym last))
           ∙ home.rest k none;
       ran = λ place x is. ⊎_elim

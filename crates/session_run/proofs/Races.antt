@@ -9,7 +9,7 @@ use Rattle.session_order.specs.Ends.{Ends, Setup}
 use Rattle.session_order.specs.Follows.{Follows, is_waiting}
 use Rattle.session_order.specs.Races.{HasEnded, HasNext, IsClosed, IsRun, RaceIsRight}
 use Rattle.session_order.specs.Sessions.{setup_of, start_of}
-use Rattle.session_run.proofs.HavePrograms.{caller-at, caller-known}
+use Rattle.session_run.proofs.HavePrograms.{caller_at, caller_known}
 use Rattle.session_run.specs.Callers.{callers_in, has_program}
 use Rattle.session_run.specs.Racing.{AreHome, IsNone, IsRunOf, Works}
 use Rattle.session_text.specs.Programs.{next, program_of}
@@ -19,8 +19,8 @@ use Rattle.turn_lock.specs.declared.seal.Seal.{Seal}
 use Rattle.vt_hub.specs.Closed.{IsPart, IsStopped, IsWhole}
 use Rattle.vt_hub.specs.Views.{PassView, StewardView, is_out}
 use Rattle.vt_hub.specs.declared.run.Run.{Run}
-use Rattle.vt_hub.specs.declared.stand.Stand.{Stand}
-use Rattle.vt_hub.specs.declared.stand.Stand.TheVariants.{Unmade, Home}
+use Rattle.vt_hub.specs.declared.pass_place.PassPlace.{PassPlace}
+use Rattle.vt_hub.specs.declared.pass_place.PassPlace.TheVariants.{Unmade, Home}
 use Rattle.vt_journal.specs.Log.{Logged}
 use Rattle.vt_journal.specs.Room.{tail_at}
 use Rattle.vt_journal.specs.declared.full.Full.{Full}
@@ -28,7 +28,7 @@ use Rattle.vt_journal.specs.declared.limits.Limits.{Limits}
 use Rattle.vt_world.specs.State.{WorldState}
 
 -- no pass is out
-none_out : (stands : List Stand)
+none_out : (stands : List PassPlace)
     → ((k : ℕ) → is_out (get_or stands k Unmade) ≡ false) → count_by is_out stands ≡ 0
 none_out [] each = refl
 none_out (s ∷ stands) each =
@@ -47,16 +47,16 @@ AllHome programs here s = AreHome programs here (length (callers_in programs)) s
 no_pass : (programs : List Program) (k : ℕ) → ((has_program programs k ≡ true) → k ≤ 67 → ⊥)
     → IsNone (callers_in programs) (length (callers_in programs)) k
 no_pass programs k none i within is =
-    let known = caller-known programs i within in
+    let known = caller_known programs i within in
     none (ap (has_program programs) (sym is) ∙ known.0) (omega (arith, known.1, is))
 
-pub all-home : (programs : List Program) (here : TableId) (s : StewardView)
+pub all_home : (programs : List Program) (here : TableId) (s : StewardView)
     → AllHome programs here s → count_by is_out s.stands ≡ 0
-all-home programs here s home = none_out s.stands (λ k. ⊎_elim
+all_home programs here s home = none_out s.stands (λ k. ⊎_elim
     (λ has. ⊎_elim
     (λ past. ap is_out (home.rest k (no_pass programs k (λ _ low. let no : ⊥ = omega (arith, past, low) in no))))
     (λ low.
-    let at = caller-at programs k (omega (arith, low)) has in
+    let at = caller_at programs k (omega (arith, low)) has in
     ap is_out (subst (λ p. get_or s.stands p Unmade ≡ Home) at.2 (home.home at.0 at.1)))
     (cases_lt 67 k))
     (λ hasnt. ap is_out (home.rest k (no_pass programs k (λ has _. both_ways (has_program programs k) hasnt has))))
@@ -119,7 +119,7 @@ module _ (o : Setup) (here : TableId) (s : StewardView) (world : WorldState) (lo
       → HasEnded program (made_by p log.entries) stop (p ≡ caller)
   ended caller names p program known =
       let has : has_program o.programs p ≡ true = ap is_some known in
-      let at = caller-at o.programs p (low p has) has in
+      let at = caller_at o.programs p (low p has) has in
       let mine = home.each at.0 at.1 in
       let same : mine.1.number ≡ p = mine.3 ∙ at.2 in
       let x : PassView = mine.1 in
@@ -142,23 +142,23 @@ module _ (o : Setup) (here : TableId) (s : StewardView) (world : WorldState) (lo
             (does.left (record { by = it.pass.number; what = full }) it.met refl);
       }
 
-  pub race-holds : RaceIsRight
+  pub race_holds : RaceIsRight
       → Follows o.start o.programs log.entries × Ends o log.entries (tail_at log.entries stop)
-  race-holds right =
+  race_holds right =
       let caller : (caller : ℕ) × Names caller = named stop refl in
       right o log.entries stop caller.0 (closed caller.0 caller.1) (ended caller.0 caller.1)
 
 -- what comes of the race of a session, once all is taken in
-pub race-raced : RaceIsRight → (s : SessionView) (start : WorldState) (most : Limits) (programs : List Program) (here : TableId) (steward : StewardView) (run : Run)
+pub race_raced : RaceIsRight → (s : SessionView) (start : WorldState) (most : Limits) (programs : List Program) (here : TableId) (steward : StewardView) (run : Run)
     → start ≡ start_of s → most ≡ s.limits → programs ≡ s.programs
     → IsWhole start most steward run.world run.log run.stop
     → AllHome programs here steward → ((p : ℕ) → has_program programs p ≡ true → p ≤ 67) → IsRunOf s run
-race-raced right s start most programs here steward run is_start is_most same given taken low =
+race_raced right s start most programs here steward run is_start is_most same given taken low =
     let whole : IsWhole (start_of s) s.limits steward run.world run.log run.stop =
     subst (λ st. IsWhole st s.limits steward run.world run.log run.stop) is_start
     (subst (λ m. IsWhole start m steward run.world run.log run.stop) is_most given) in
     let home : AllHome s.programs here steward = subst (λ ps. AllHome ps here steward) same taken in
     let few : (p : ℕ) → has_program s.programs p ≡ true → p ≤ 67 =
     subst (λ ps. (p : ℕ) → has_program ps p ≡ true → p ≤ 67) same low in
-    let holds = race-holds (setup_of s) here steward run.world run.log run.stop whole home few right in
+    let holds = race_holds (setup_of s) here steward run.world run.log run.stop whole home few right in
     record { world = whole.replayed; legal = whole.legal; follows = holds.0; ends = holds.1 }

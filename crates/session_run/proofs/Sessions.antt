@@ -3,15 +3,15 @@ use Rattle.std.proofs.Common.{◌≡◌, ℕ, ◌≤◌, true, List, length, ref
 use Rattle.session_order.specs.Laws.{IsFromStart}
 use Rattle.session_order.specs.Sessions.{setup_of, start_of}
 use Rattle.session_run.specs.Callers.{has_program}
-use Rattle.session_text.proofs.Turning.{turn-low}
+use Rattle.session_text.proofs.Turning.{turn_low}
 use Rattle.session_text.specs.Sessions.{ArePrograms, CallersHavePrograms, SessionView}
 use Rattle.session_text.specs.declared.program.Program.{Program}
 use Rattle.vt_base.specs.ConsoleSet.{IsFitSet}
 use Rattle.vt_world.specs.Laws.{IsStart}
 
-pub from-start : (s : SessionView) → ArePrograms (length s.config.procs) s.config.keyboards s.programs
+pub from_start : (s : SessionView) → ArePrograms (length s.config.procs) s.config.keyboards s.programs
     → IsFromStart (setup_of s)
-from-start s are = record {
+from_start s are = record {
   rows = s.config.size.rows;
   cols = s.config.size.cols;
   consoles = s.config.consoles;
@@ -23,8 +23,8 @@ from-start s are = record {
   programs = are;
 }
 
-abbrev pub is-start : (s : SessionView) → IsFitSet s.config.consoles s.config.front → IsStart (start_of s)
-is-start s fit = record {
+abbrev pub is_start : (s : SessionView) → IsFitSet s.config.consoles s.config.front → IsStart (start_of s)
+is_start s fit = record {
   rows = s.config.size.rows;
   cols = s.config.size.cols;
   consoles = s.config.consoles;
@@ -37,8 +37,8 @@ is-start s fit = record {
 }
 
 -- who has a program is one of the callers
-pub has-low : CallersHavePrograms → (processes keyboards : ℕ) (programs : List Program) → processes ≤ 64
+pub has_low : CallersHavePrograms → (processes keyboards : ℕ) (programs : List Program) → processes ≤ 64
     → keyboards ≤ 4 → ArePrograms processes keyboards programs
     → (p : ℕ) → has_program programs p ≡ true → p ≤ 67
-has-low have processes keyboards programs few four are p has =
-    turn-low processes keyboards p four (sym (have processes keyboards programs few are p) ∙ has) few
+has_low have processes keyboards programs few four are p has =
+    turn_low processes keyboards p four (sym (have processes keyboards programs few are p) ∙ has) few

@@ -27,22 +27,14 @@ use Rattle.vt_procs.specs.Tickets.{is_open}
 use Rattle.vt_world.specs.History.{replay}
 
 -- the next call of p is the one that it can make, unless it waits
-pub now-is : (o : Setup) (t : Played) (view : PlayerView) (p : ℕ) (e : Option Event)
+pub now_is : (o : Setup) (t : Played) (view : PlayerView) (p : ℕ) (e : Option Event)
     → e ≡ next_by o.programs p t.history
     → is_open (caller_at view.world.callers p).waiting ≡ false → IsAt o t view
     → e ≡ call_now o t.history p
-now-is o t view p e next_is shut at =
+now_is o t view p e next_is shut at =
     let waits : is_waiting (replay o.start t.history) p ≡ false =
     sym (ap (λ w. is_waiting w p) at.replayed) ∙ shut in
     next_is ∙ ap (λ b. if b then None else next_by o.programs p t.history) (sym waits)
-
--- a waiting caller can make none
-pub none-now : (o : Setup) (t : Played) (view : PlayerView) (p : ℕ)
-    → is_open (caller_at view.world.callers p).waiting ≡ true → IsAt o t view
-    → None ≡ call_now o t.history p
-none-now o t view p open_one at =
-    ap (λ b. if b then None else next_by o.programs p t.history)
-    (sym (sym (ap (λ w. is_waiting w p) at.replayed) ∙ open_one))
 
 -- and who has no program
 none_of : (waits : Bool) → ◌≡◌ {A = Option Event} (if waits then None else None) None
@@ -56,11 +48,6 @@ turn_nobody o p history None none =
     ap (λ e. calls o p e history)
     (ap (λ found. if is_waiting (replay o.start history) p then None else next_of found (calls_by p history)) none
     ∙ none_of (is_waiting (replay o.start history) p))
-
-pub turn-nobody : (o : Setup) (t : Played) (p : ℕ) (view : PlayerView) → program_of o.programs p ≡ None
-    → IsAt o t view → IsAt o (turn o p t) view
-turn-nobody o t p view none at =
-    subst (λ x. IsAt o x view) (sym (turn_nobody o p t.history t.stop none)) at
 
 -- so a round is as good without them
 found_none : (found : Option Program) → is_some found ≡ false → found ≡ None
@@ -85,14 +72,14 @@ turns_skip o [] t = refl
 turns_skip o (p ∷ callers) t =
     skip_one o (has_program o.programs p) p callers t refl (turns_skip o callers)
 
-pub round-is : (o : Setup) (t : Played) → turns o (callers_in o.programs) t ≡ round o t
+pub round_is : (o : Setup) (t : Played) → turns o (callers_in o.programs) t ≡ round o t
 unfolding callers_in
-round-is o t = turns_skip o (range_with_len 0 68) t
+round_is o t = turns_skip o (range_with_len 0 68) t
 
 -- a play that goes on has not stopped
-pub not-stopped : (stop : Option Full) → is_some stop ≡ false → stop ≡ None
-not-stopped None is = refl
-not-stopped (Some full) is = absurd (true≢false is)
+pub not_stopped : (stop : Option Full) → is_some stop ≡ false → stop ≡ None
+not_stopped None is = refl
+not_stopped (Some full) is = absurd (true≢false is)
 
 -- the entries as they are meant are as many, and count for as much
 pub lengths : (o : Setup) (t : Played) (view : PlayerView) → IsAt o t view
@@ -145,29 +132,21 @@ turn-calls o t p now going is =
     ∙ ap (λ e. calls o p e t.history) is
 
 -- where nothing is called, nothing changes
-pub turn-skips : (o : Setup) (t : Played) (p : ℕ) (view : PlayerView) → view.stop ≡ None
+pub turn_skips : (o : Setup) (t : Played) (p : ℕ) (view : PlayerView) → view.stop ≡ None
     → None ≡ call_now o t.history p → IsAt o t view → IsAt o (turn o p t) view
-turn-skips o t p view going none at =
+turn_skips o t p view going none at =
     let stop : t.stop ≡ None = sym at.stop ∙ going in
     let same : t ≡ turn o p t =
     (λ i. record { history = t.history; stop = stop i }) ∙ sym (turn-calls o t p None stop (sym none)) in
     subst (λ x. IsAt o x view) same at
 
-pub turn-stopped : (o : Setup) (t : Played) (p : ℕ) (view : PlayerView) → is_some view.stop ≡ true
-    → IsAt o t view → IsAt o (turn o p t) view
-turn-stopped o t p view stopped at =
-    let same : t ≡ turn o p t =
-    ap (λ b. if b then t else calls o p (call_now o t.history p) t.history)
-    (sym (sym (ap is_some at.stop) ∙ stopped)) in
-    subst (λ x. IsAt o x view) same at
-
 -- where there is room, the call is entered
-pub turn-enters : (o : Setup) (t : Played) (p : ℕ) (e : Event) (before view : PlayerView)
+pub turn_enters : (o : Setup) (t : Played) (p : ℕ) (e : Event) (before view : PlayerView)
     → HasRoom before.log (charge_of e) → IsAt o t before → t.stop ≡ None
     → call_now o t.history p ≡ Some e
     → IsAt o (record { history = t.history ++ entry_at o.start t.history p e ∷ []; stop = None }) view
     → IsAt o (turn o p t) view
-turn-enters o t p e before view room at going now entered =
+turn_enters o t p e before view room at going now entered =
     let enters : Played = record { history = t.history ++ entry_at o.start t.history p e ∷ []; stop = None } in
     let full : Played = record { history = t.history; stop = Some (full_at t.history (charge_of e)) } in
     let test : has_room o.limits t.history (charge_of e) ≡ true = room_is o t before (charge_of e) at room in
@@ -176,12 +155,12 @@ turn-enters o t p e before view room at going now entered =
     subst (λ x. IsAt o x view) (sym same) entered
 
 -- where there is none, the play stops
-pub turn-fills : (o : Setup) (t : Played) (p : ℕ) (e : Event) (before : PlayerView) (full : Full)
+pub turn_fills : (o : Setup) (t : Played) (p : ℕ) (e : Event) (before : PlayerView) (full : Full)
     → (HasRoom before.log (charge_of e) → ⊥) → IsAt o t before → t.stop ≡ None
     → call_now o t.history p ≡ Some e
     → full ≡ full_at before.log.entries (charge_of e)
     → IsAt o (turn o p t) (record before { stop = Some full })
-turn-fills o t p e before full none at going now is =
+turn_fills o t p e before full none at going now is =
     let enters : Played = record { history = t.history ++ entry_at o.start t.history p e ∷ []; stop = None } in
     let stops : Played = record { history = t.history; stop = Some (full_at t.history (charge_of e)) } in
     let test : has_room o.limits t.history (charge_of e) ≡ false =

@@ -5,9 +5,9 @@ use Rattle.std.proofs.lemmas.List.{map-append}
 use Rattle.atomic_table.specs.Seated.{TableId}
 use Rattle.session_order.specs.Calls.{as_meant, call_of}
 use Rattle.session_order.specs.Meant.{NextIsMeant, NextIsPlain}
-use Rattle.session_order.proofs.Standings.{Walks, next-after, stands-more}
+use Rattle.session_order.proofs.Standings.{Walks, next_after, stands_more}
 use Rattle.session_order.specs.Races.{IsRun, RunsGrow}
-use Rattle.session_order.specs.Standing.{StandsAfter}
+use Rattle.session_order.specs.Standing.{IsWalkAfter}
 use Rattle.session_text.specs.Programs.{Call, WaitsAreEnded, call, next}
 use Rattle.session_text.specs.Walks.{Place, Stands}
 use Rattle.session_text.specs.declared.program.Program.{Program}
@@ -33,7 +33,7 @@ pub record AtWork (program : Program) (walk : Place) (here : TableId) (number : 
   pub numbered : q.number ≡ number
   pub goes : q.stop ≡ None
   pub run : IsRun program q.mine
-  pub stands : StandsAfter program walk (map call_of q.mine)
+  pub stands : IsWalkAfter program walk (map call_of q.mine)
 
 -- what a walk gives as the next call
 abbrev pub Gives : Program → Place → Option Event → Type 0
@@ -57,10 +57,10 @@ wait_plain (reply.Text b) = refl
 wait_plain r = refl
 
 -- where the next call isn't waitend, the last answer wasn't wait
-pub not-waiting : NextIsMeant → WaitsAreEnded → (program : Program) (walk : Place) (here : TableId) (number : ℕ) (q : PassView) (e : Event)
+pub not_waiting : NextIsMeant → WaitsAreEnded → (program : Program) (walk : Place) (here : TableId) (number : ℕ) (q : PassView) (e : Event)
     → AtWork program walk here number q → Gives program walk (Some e) → ends_wait e ≡ false
     → awaits q.mine ≡ false
-not-waiting is_meant ended program walk here number q e at gives goes = ⊎_elim
+not_waiting is_meant ended program walk here number q e at gives goes = ⊎_elim
     (λ waits. ⊎_elim
     (λ known. absurd (true≢false (sym known.0)))
     (λ behind.
@@ -69,7 +69,7 @@ not-waiting is_meant ended program walk here number q e at gives goes = ⊎_elim
     let calls : map call_of q.mine ≡ map call_of made ++ call_of last ∷ [] =
     ap (map call_of) behind.2 ∙ map-append call_of made (last ∷ []) in
     let is : next program (map call_of made ++ call_of last ∷ []) ≡ Some e =
-    sym (ap (next program) calls) ∙ sym (next-after is_meant program walk (map call_of q.mine) (Some e) at.stands gives) in
+    sym (ap (next program) calls) ∙ sym (next_after is_meant program walk (map call_of q.mine) (Some e) at.stands gives) in
     let same : e ≡ event.WaitEnd =
     ended program (map call_of made) (call_of last) e (wait_plain last.reply ∙ behind.3) is in
     absurd (true≢false (sym (ap ends_wait same) ∙ goes)))
@@ -84,7 +84,7 @@ works_on : NextIsMeant → NextIsPlain → RunsGrow → (start : WorldState) (mo
     → AtWork program moved here number w
 works_on is_meant is_plain grows start most program walk moved here number e v w place r at gives called walks =
     let next_is : next program (map call_of v.mine) ≡ Some e =
-    sym (next-after is_meant program walk (map call_of v.mine) (Some e) at.stands gives) in
+    sym (next_after is_meant program walk (map call_of v.mine) (Some e) at.stands gives) in
     let plain : plain_event e ≡ e = is_plain program (map call_of v.mine) e next_is in
     let entry : Entry = called.entry in
     let event : plain_event entry.event ≡ e = ap plain_event called.event ∙ plain in
@@ -96,14 +96,14 @@ works_on is_meant is_plain grows start most program walk moved here number e v w
     ap (λ c. map call_of v.mine ++ c ∷ []) call_is
     ∙ sym (map-append call_of v.mine (entry ∷ []))
     ∙ sym (ap (map call_of) called.mine) in
-    let stands : StandsAfter program moved (map call_of v.mine ++ as_meant (call e r) ∷ []) =
-    stands-more is_meant program walk moved (map call_of v.mine) e r at.stands walks next_is in
+    let stands : IsWalkAfter program moved (map call_of v.mine ++ as_meant (call e r) ∷ []) =
+    stands_more is_meant program walk moved (map call_of v.mine) e r at.stands walks next_is in
     record {
       own = called.hub ∙ at.own;
       numbered = called.number ∙ at.numbered;
       goes = called.goes_on;
       run = subst (IsRun program) (sym called.mine) run;
-      stands = subst (StandsAfter program moved) calls stands;
+      stands = subst (IsWalkAfter program moved) calls stands;
     }
 
 pub works-on : NextIsMeant → NextIsPlain → RunsGrow → (start : WorldState) (most : Limits) (program : Program) (walk moved : Place) (here : TableId) (number : ℕ) (e : Event) (v w : PassView) (place : ℕ) (r : Reply) (a : Answer)

@@ -4,7 +4,7 @@ use Rattle.std.specs.List.{range_with_len}
 use Rattle.key_compile.specs.Compiled.{AreTablesOf}
 use Rattle.key_tables.specs.Tables.{Tables}
 use Rattle.key_text.specs.KeymapLine.{KeymapLine}
-use Rattle.session_text.specs.Scripts.{listed}
+use Rattle.session_text.specs.Scripts.{make_listed}
 use Rattle.session_text.specs.Sessions.{SessionView}
 use Rattle.session_text.specs.declared.program.Program.{Program}
 use Rattle.session_text.specs.declared.program.Program.TheVariants as program
@@ -17,8 +17,8 @@ use Rattle.vt_events.specs.declared.event.Event.{Event}
 use Rattle.vt_events.specs.declared.event.Event.TheVariants as event
 
 -- what a draw makes of the number that was drawn last
-abbrev pub drawn : ℕ → ℕ
-drawn x = (x * 6364136223846793005 + 1442695040888963407) % 2 ^ 64
+abbrev pub next_draw : ℕ → ℕ
+next_draw x = (x * 6364136223846793005 + 1442695040888963407) % 2 ^ 64
 
 -- what is made of draws: from the number drawn last, the value and the number drawn last then
 abbrev pub Draws : Type 0 → Type 0
@@ -26,7 +26,7 @@ Draws A = ℕ → A × ℕ
 
 -- a number below m, by one draw
 abbrev pub below : ℕ → Draws ℕ
-below m x = (drawn x / 2 ^ 33 % m, drawn x)
+below m x = (next_draw x / 2 ^ 33 % m, next_draw x)
 
 -- a value by no draw
 abbrev pub just : {A : Type 0} → A → Draws A
@@ -59,45 +59,45 @@ letter p = do
   just (32 + b)
 
 -- the kinds of items, in the order of their numbers: 1 to 32 printed bytes
-abbrev pub printed : Draws Event
-printed = do
+abbrev pub print_item : Draws Event
+print_item = do
   n ← below 32
   bytes ← each letter (1 + n) 0
   just (write bytes)
 
 -- the cursor to a place: the row is drawn before the column
-abbrev pub placed : Draws Event
-placed = do
+abbrev pub cursor_item : Draws Event
+cursor_item = do
   r ← below 25
   c ← below 80
   just (csi (decimal (1 + r) ++ 0x3B ∷ decimal (1 + c) ++ 0x48 ∷ []))
 
 -- a request for a console, and a wait for one
-abbrev pub switched : Draws Event
-switched = do
+abbrev pub activate_item : Draws Event
+activate_item = do
   n ← below 8
   just (event.Activate 0 (1 + n))
 
-abbrev pub awaited : Draws Event
-awaited = do
+abbrev pub wait_item : Draws Event
+wait_item = do
   n ← below 8
   just (event.WaitActive 0 (1 + n))
 
 -- a colour
-abbrev pub coloured : Draws Event
-coloured = do
+abbrev pub colour_item : Draws Event
+colour_item = do
   k ← below 8
   just (csi (decimal (30 + k) ++ 0x6D ∷ []))
 
 -- the item of a kind
 abbrev pub item_of : ℕ → Draws Event
 item_of kind =
-    if kind == 0 then printed
-    else if kind == 1 then placed
-    else if kind == 2 then switched
+    if kind == 0 then print_item
+    else if kind == 1 then cursor_item
+    else if kind == 2 then activate_item
     else if kind == 3 then just (event.ReadIn 0 64)
-    else if kind == 4 then awaited
-    else if kind == 5 then coloured
+    else if kind == 4 then wait_item
+    else if kind == 5 then colour_item
     else if kind == 6 then just (event.RelDisp 0 1)
     else just (csi (codes "6n"))
 
@@ -119,7 +119,7 @@ drill_hooks = with_act (with_act (replicate 64 act.Nothing) 10 (act.Disp 0 1)) 1
 abbrev pub script : ℕ → ℕ → Draws Program
 script n p = do
   items ← each item n 0
-  just (program.Script (listed (opening_calls p ++ items)) drill_hooks)
+  just (program.Script (make_listed (opening_calls p ++ items)) drill_hooks)
 
 -- a key that goes down and up, so often
 abbrev pub keys : ℕ → List ℕ

@@ -3,7 +3,7 @@ use Rattle.std.specs.Prelude.{◌≡◌, Option}
 use Rattle.session_order.specs.Ends.{Setup}
 use Rattle.session_order.specs.Meant.{plain_history}
 use Rattle.session_order.specs.Serial.{Played}
-use Rattle.session_order.specs.Standing.{AreAfter, StandingView}
+use Rattle.session_order.specs.Standing.{AreAfter, SessionProgressView}
 use Rattle.vt_journal.specs.Log.{Logged}
 use Rattle.vt_journal.specs.declared.full.Full.{Full}
 use Rattle.vt_world.specs.History.{replay}
@@ -14,7 +14,7 @@ use Rattle.vt_world.specs.State.{WorldState}
 pub record PlayerView : Type 0 where
   pub world : WorldState
   pub log : Logged
-  pub standing : StandingView
+  pub standing : SessionProgressView
   pub stop : Option Full
 
 -- the player is at this point of a play

@@ -13,7 +13,7 @@ use Rattle.session_text.specs.declared.program.Program.{Program}
 use Rattle.turn_lock.specs.declared.seal.Seal.{Seal}
 use Rattle.vt_hub.specs.Views.{PassView, StewardView, stand_at}
 use Rattle.vt_hub.specs.declared.run.Run.{Run}
-use Rattle.vt_hub.specs.declared.stand.Stand.TheVariants.{Unmade, Home}
+use Rattle.vt_hub.specs.declared.pass_place.PassPlace.TheVariants.{Unmade, Home}
 use Rattle.vt_journal.specs.Room.{tail_at}
 use Rattle.vt_journal.specs.declared.full.Full.{Full}
 use Rattle.vt_switch.specs.Law.{IsExplained, IsLawful}

@@ -17,5 +17,5 @@ pub record HasHooks (programs : List Program) (tables : List (List Act)) : Type 
   pub acts : tables ≡ filter_map table_of programs
 
 -- the history of a run, as it is meant, and where it stopped
-abbrev pub played : Run → Played
-played run = record { history = plain_history run.log.entries; stop = run.stop }
+abbrev pub run_result : Run → Played
+run_result run = record { history = plain_history run.log.entries; stop = run.stop }

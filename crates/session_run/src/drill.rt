@@ -3,7 +3,7 @@ ghost use Rattle.std.specs.Prelude.{◌≡◌, ◌<◌, ◌≤◌, ℕ, ◌∷�
 ghost use Rattle.std.specs.List.{All, range_with_len};
 ghost use Rattle.session_run.specs.Drill.{HasDrillKeymap, IsDrill, drill_hooks, each, item, keys, opening_calls, script};
 ghost use Rattle.session_text.specs.ItemTexts.{is_item};
-ghost use Rattle.session_text.specs.Scripts.{listed};
+ghost use Rattle.session_text.specs.Scripts.{make_listed};
 ghost use Rattle.session_text.specs.Sessions.{ArePrograms, IsScriptProgram};
 ghost use Rattle.session_text.specs.declared.program.Program.TheVariants as programs;
 ghost use Rattle.vt_events.specs.Plain.{text};
@@ -120,7 +120,7 @@ fn script(alloc: Global, draws: &mut Draws, n: usize, p: u16) -> Result<Program,
 fn items(alloc: Global, draws: &mut Draws, n: usize, p: u16) -> Result<Items, NoMemory>
     requires { n ≤ 10_000 }
     ensures value { IfOk result (λ items. items
-        ≡ listed (opening_calls p ++ (each item n 0 draws.old).0)) }
+        ≡ make_listed (opening_calls p ++ (each item n 0 draws.old).0)) }
     ensures next { OnOk result (draws.new ≡ (each item n 0 draws.old).1) }
     ensures few { IfOk result (λ items. length items.events ≤ 10_002) }
     ensures fit { IfOk result (λ items. All (λ e. is_item e ≡ true) items.events) }

@@ -1,6 +1,6 @@
 //! The items of a drill's scripts.
 ghost use Rattle.std.specs.Prelude.{◌≡◌, ◌<◌, ◌≤◌, ℕ, ◌∷◌, ◌++◌, true, decimal, IfOk, OnOk};
-ghost use Rattle.session_run.specs.Drill.{awaited, coloured, each, item, item_of, letter, placed, printed, switched};
+ghost use Rattle.session_run.specs.Drill.{wait_item, colour_item, each, item, item_of, letter, cursor_item, print_item, activate_item};
 ghost use Rattle.session_text.specs.ItemTexts.{is_item};
 ghost use Rattle.vt_events.specs.Plain.{text};
 ghost use Rattle.vt_events.specs.declared.event.Event.TheVariants as event;
@@ -32,12 +32,12 @@ fn item_of(alloc: Global, draws: &mut Draws, kind: u64) -> Result<Event, NoMemor
     ensures fit { IfOk result (λ e. is_item e ≡ true) }
 {
     match kind {
-        0 => printed(alloc, draws),
-        1 => placed(alloc, draws),
+        0 => print_item(alloc, draws),
+        1 => cursor_item(alloc, draws),
         2 => Ok(Event::Activate(0, console(draws))),
         3 => Ok(Event::ReadIn(0, 64)),
         4 => Ok(Event::WaitActive(0, console(draws))),
-        5 => coloured(alloc, draws),
+        5 => colour_item(alloc, draws),
         6 => Ok(Event::RelDisp(0, 1)),
         _ => write(alloc, b"\x1b[6n"),
     }
@@ -45,17 +45,17 @@ fn item_of(alloc: Global, draws: &mut Draws, kind: u64) -> Result<Event, NoMemor
 
 // The number of a console.
 fn console(draws: &mut Draws) -> u16
-    ensures switch { event.Activate 0 result ≡ (switched draws.old).0 }
-    ensures wait { event.WaitActive 0 result ≡ (awaited draws.old).0 }
-    ensures next { draws.new ≡ (switched draws.old).1 }
+    ensures switch { event.Activate 0 result ≡ (activate_item draws.old).0 }
+    ensures wait { event.WaitActive 0 result ≡ (wait_item draws.old).0 }
+    ensures next { draws.new ≡ (activate_item draws.old).1 }
 {
     1 + draws.below(CONSOLES) as u16
 }
 
 // A write of 1 to 32 printed bytes.
-fn printed(alloc: Global, draws: &mut Draws) -> Result<Event, NoMemory>
-    ensures value { IfOk result (λ e. e ≡ (printed draws.old).0) }
-    ensures next { OnOk result (draws.new ≡ (printed draws.old).1) }
+fn print_item(alloc: Global, draws: &mut Draws) -> Result<Event, NoMemory>
+    ensures value { IfOk result (λ e. e ≡ (print_item draws.old).0) }
+    ensures next { OnOk result (draws.new ≡ (print_item draws.old).1) }
     ensures fit { IfOk result (λ e. is_item e ≡ true) }
 {
     let n = 1 + draws.below(32);
@@ -76,9 +76,9 @@ fn letters(alloc: Global, draws: &mut Draws, n: usize) -> Result<Bytes, NoMemory
 }
 
 // The cursor to a row and a column.
-fn placed(alloc: Global, draws: &mut Draws) -> Result<Event, NoMemory>
-    ensures value { IfOk result (λ e. e ≡ (placed draws.old).0) }
-    ensures next { OnOk result (draws.new ≡ (placed draws.old).1) }
+fn cursor_item(alloc: Global, draws: &mut Draws) -> Result<Event, NoMemory>
+    ensures value { IfOk result (λ e. e ≡ (cursor_item draws.old).0) }
+    ensures next { OnOk result (draws.new ≡ (cursor_item draws.old).1) }
     ensures fit { IfOk result (λ e. is_item e ≡ true) }
 {
     let row = 1 + draws.below(25);
@@ -92,9 +92,9 @@ fn placed(alloc: Global, draws: &mut Draws) -> Result<Event, NoMemory>
 }
 
 // A colour of text.
-fn coloured(alloc: Global, draws: &mut Draws) -> Result<Event, NoMemory>
-    ensures value { IfOk result (λ e. e ≡ (coloured draws.old).0) }
-    ensures next { OnOk result (draws.new ≡ (coloured draws.old).1) }
+fn colour_item(alloc: Global, draws: &mut Draws) -> Result<Event, NoMemory>
+    ensures value { IfOk result (λ e. e ≡ (colour_item draws.old).0) }
+    ensures next { OnOk result (draws.new ≡ (colour_item draws.old).1) }
     ensures fit { IfOk result (λ e. is_item e ≡ true) }
 {
     let colour = 30 + draws.below(8);

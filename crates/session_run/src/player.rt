@@ -7,7 +7,7 @@ ghost use Rattle.session_text.specs.Programs.{program_of};
 ghost use Rattle.vt_events.specs.Charge.{charge_of};
 ghost use Rattle.vt_journal.specs.Log.{HasRoom};
 
-use session_order::{Standing, meant_laws};
+use session_order::{SessionProgress, meant_laws};
 use session_text::{Program, Session};
 use std::alloc::Global;
 use std::marker::Model;
@@ -22,7 +22,7 @@ use vt_world::{World, legal_grows};
 pub(crate) struct Player {
     pub(crate) world: World,
     pub(crate) log: Log,
-    pub(crate) standing: Standing,
+    pub(crate) standing: SessionProgress,
     pub(crate) stop: Option<Full>,
 }
 
@@ -47,7 +47,7 @@ impl Player {
         let limits = s.limits();
         let world = World::start(alloc, s.config(), s.key_tables())?;
         let log = Log::with_room(alloc, limits.events, limits.bytes)?;
-        let standing = Standing::start(alloc)?;
+        let standing = SessionProgress::start(alloc)?;
         Ok(Player {
             world,
             log,

@@ -4,7 +4,7 @@ ghost use Rattle.vt_journal.specs.Room.{tail_at};
 ghost use Rattle.session_order.specs.Follows.{Follows};
 ghost use Rattle.session_order.specs.Serial.{IsSerial};
 ghost use Rattle.session_run.specs.Callers.{callers_in};
-ghost use Rattle.session_run.specs.Runs.{HasHooks, played};
+ghost use Rattle.session_run.specs.Runs.{HasHooks, run_result};
 ghost use Rattle.session_order.specs.Sessions.{ShowsTapes, setup_of, start_of};
 ghost use Rattle.vt_switch.specs.Law.{IsExplained, IsLawful};
 ghost use Rattle.vt_world.specs.History.{IsLegal, replay};
@@ -25,7 +25,7 @@ use vt_world::{displays_are_lawful, screens_are_tapes};
 /// Plays the session on one thread: the turns that it gives, and then rounds of rising callers, until
 /// every program is over or a call finds no room.
 pub fn play(alloc: Global, s: &Session) -> Result<Run, NoMemory>
-    ensures serial { IfOk result (λ run. IsSerial (setup_of s.now) s.now.turns (played run)) }
+    ensures serial { IfOk result (λ run. IsSerial (setup_of s.now) s.now.turns (run_result run)) }
     ensures world { IfOk result (λ run. run.world ≡ replay (start_of s.now) run.log.entries) }
     ensures legal { IfOk result (λ run. IsLegal (start_of s.now) run.log.entries) }
     ensures follows { IfOk result (λ run.
@@ -50,7 +50,7 @@ pub fn play(alloc: Global, s: &Session) -> Result<Run, NoMemory>
 // Plays it with hooks that read these tables.
 fn play_with(alloc: Global, s: &Session, acts: &[HookTable]) -> Result<Run, NoMemory>
     requires { HasHooks s.now.programs acts.now }
-    ensures serial { IfOk result (λ run. IsSerial (setup_of s.now) s.now.turns (played run)) }
+    ensures serial { IfOk result (λ run. IsSerial (setup_of s.now) s.now.turns (run_result run)) }
     ensures world { IfOk result (λ run. run.world ≡ replay (start_of s.now) run.log.entries) }
 {
     let mut handlers = Vec::new(alloc);
@@ -72,7 +72,7 @@ fn play_by<H: Handler>(
     requires len { vec_len handlers ≡ length acts.now }
     requires each { (i : ℕ) (h : H) → i < vec_len handlers → h ≡ slice_index_or handlers.items i h
         → H.answers h (slice_index_or acts.now i []) }
-    ensures serial { IfOk result (λ run. IsSerial (setup_of s.now) s.now.turns (played run)) }
+    ensures serial { IfOk result (λ run. IsSerial (setup_of s.now) s.now.turns (run_result run)) }
     ensures world { IfOk result (λ run. run.world ≡ replay (start_of s.now) run.log.entries) }
 {
     let hooks = hooks_of(alloc, handlers, acts)?;
@@ -89,7 +89,7 @@ fn play_on<H: Handler>(
 ) -> Result<Run, NoMemory>
     requires hooks { HasHooks s.now.programs hooks.now }
     requires callers { callers.now ≡ callers_in s.now.programs }
-    ensures serial { IfOk result (λ run. IsSerial (setup_of s.now) s.now.turns (played run)) }
+    ensures serial { IfOk result (λ run. IsSerial (setup_of s.now) s.now.turns (run_result run)) }
     ensures world { IfOk result (λ run. run.world ≡ replay (start_of s.now) run.log.entries) }
 {
     meant_laws();

@@ -8,32 +8,32 @@ use Rattle.vt_base.specs.ConsoleSet.{is_among}
 use Rattle.session_text.specs.Openings.{lowest_from}
 
 -- another console is no console 0
-pub with_console-zero : (set n : ℕ) → 1 ≤ n → is_among (bit_or set (2 ^ n)) 0 ≡ is_among set 0
-with_console-zero set n some =
+pub with_console_zero : (set n : ℕ) → 1 ≤ n → is_among (bit_or set (2 ^ n)) 0 ≡ is_among set 0
+with_console_zero set n some =
     let apart : 0 ≢ n = λ same. absurd (omega (arith, same, some)) in
     let same : max (bit_at set 0) 0 ≡ bit_at set 0 = omega arith in
     ap (λ b. b == 1)
     (bit_at_or set (2 ^ n) 0 ∙ ap (max (bit_at set 0)) (bit_at-pow_other n 0 apart) ∙ same)
 
 -- the lowest console from n on is n, or the lowest from the next one on
-pub lowest_from-next : (set n : ℕ) → n ≤ 63
+pub lowest_from_next : (set n : ℕ) → n ≤ 63
     → lowest_from set n ≡ cond (is_among set n) (Some n) (lowest_from set (n + 1))
 unfolding lowest_from
-lowest_from-next set n low =
+lowest_from_next set n low =
     let more : 64 - n ≡ suc (64 - (n + 1)) = omega arith in
     ap (λ k. find (is_among set) (range_with_len n k)) more
 
-pub lowest_from-end : (set n : ℕ) → 64 ≤ n → lowest_from set n ≡ None
+pub lowest_from_end : (set n : ℕ) → 64 ≤ n → lowest_from set n ≡ None
 unfolding lowest_from
-lowest_from-end set n high =
+lowest_from_end set n high =
     let none : 64 - n ≡ 0 = omega arith in
     ap (λ k. find (is_among set) (range_with_len n k)) none
 
-pub lowest_from-here : (set n : ℕ) → n ≤ 63 → is_among set n ≡ true → lowest_from set n ≡ Some n
-lowest_from-here set n low is =
-    lowest_from-next set n low ∙ ap (λ (b : Bool). cond b (Some n) (lowest_from set (n + 1))) is
+pub lowest_from_here : (set n : ℕ) → n ≤ 63 → is_among set n ≡ true → lowest_from set n ≡ Some n
+lowest_from_here set n low is =
+    lowest_from_next set n low ∙ ap (λ (b : Bool). cond b (Some n) (lowest_from set (n + 1))) is
 
-pub lowest_from-there : (set n : ℕ) → n ≤ 63 → is_among set n ≡ false
+pub lowest_from_there : (set n : ℕ) → n ≤ 63 → is_among set n ≡ false
     → lowest_from set (n + 1) ≡ lowest_from set n
-lowest_from-there set n low is =
-    sym (lowest_from-next set n low ∙ ap (λ (b : Bool). cond b (Some n) (lowest_from set (n + 1))) is)
+lowest_from_there set n low is =
+    sym (lowest_from_next set n low ∙ ap (λ (b : Bool). cond b (Some n) (lowest_from set (n + 1))) is)

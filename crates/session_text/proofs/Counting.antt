@@ -27,10 +27,10 @@ length-collect f n (x ∷ xs) ys is =
     one_more (f n x) (collect f (n + 1) xs) (length xs) ys (length-collect f (n + 1) xs) is
 
 -- an array that was read has as many values as there are
-pub array-count : {A : Type 0} (as_kind : Data → Option A) (part key : ℕ) (d : Option Data) (xs : List A)
+pub array_count : {A : Type 0} (as_kind : Data → Option A) (part key : ℕ) (d : Option Data) (xs : List A)
     → array_of as_kind part key d ≡ Ok xs → length xs ≡ count_of d
-array-count as_kind part key None xs is = let same : xs ≡ [] = cc in ap length same
-array-count as_kind part key (Some d) xs is = in_array (as_array d) is
+array_count as_kind part key None xs is = let same : xs ≡ [] = cc in ap length same
+array_count as_kind part key (Some d) xs is = in_array (as_array d) is
   where
     in_array : (items : Option Items) → array_in as_kind (fault WRONG_KIND part key) items ≡ Ok xs
         → length xs ≡ count_in items
@@ -53,7 +53,7 @@ items_count : (d : Option Data) (texts : Result (List (List ℕ)) TableFault) (i
     → (length items ≡ count_of d) × (count_of d ≤ 3)
 items_count d (Ok ts) items read is =
     let checked = checked_items ts (nat_le (length ts) 3) items refl is in
-    let many = array-count as_str 0 12 d ts read in
+    let many = array_count as_str 0 12 d ts read in
     (checked.0 ∙ many, omega (arith, checked.1, many))
 items_count d (Err e) items read is = cc
 
@@ -66,9 +66,9 @@ further_items d (Ok items) further read is =
 further_items d (Err e) further read is = cc
 
 -- there are as many keyboards as the first and the further ones that were read
-pub further-count : (d : Option Data) (further : List (List ℕ)) (read : List Text) → further_of d ≡ Ok further
+pub further_count : (d : Option Data) (further : List (List ℕ)) (read : List Text) → further_of d ≡ Ok further
     → read ≡ map text further → keyboards_of d ≡ length read + 1
-further-count d further read is are =
+further_count d further read is are =
     let counted = further_items d (further_items_of d) further refl is in
     let long : length read ≡ length further = ap length are ∙ length-map further text in
     omega (arith, long, counted.0, counted.1)

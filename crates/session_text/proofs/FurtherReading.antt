@@ -29,18 +29,18 @@ further_is d texts items read few items_are =
     let within : nat_le (length texts) 3 ≡ true = grind (arith, nat_tests) in
     rw (read, within, items_are) refl
 
-pub further-read : {X : Type 0} (list_of : X → List Text) (d : Option Data) (texts : List (List ℕ))
+pub further_read : {X : Type 0} (list_of : X → List Text) (d : Option Data) (texts : List (List ℕ))
     (items : List (List (List ℕ))) (r : Result X TableError)
     → array_of as_str 0 12 d ≡ Ok texts → length texts ≤ 3
     → collect (λ k text. few_items_of 0 12 text) 1 texts ≡ Ok items
     → Gives (λ x. map (λ (keys : Text). keys.bytes) (list_of x)) r (collect (bytes_of 30) 1 items)
     → IfOk r (λ x. All (λ (keys : Text). keys.room ≡ 0) (list_of x))
     → GivesBy (λ x texts. list_of x ≡ map text texts) r (further_of d)
-further-read list_of d texts items (Ok x) read few items_are gives none = (
+further_read list_of d texts items (Ok x) read few items_are gives none = (
   map (λ (keys : Text). keys.bytes) (list_of x),
   further_is d texts items read few items_are ∙ gives,
   texts_are (list_of x) none,
 )
-further-read list_of d texts items (Err (errors.Fault f)) read few items_are gives none =
+further_read list_of d texts items (Err (errors.Fault f)) read few items_are gives none =
     further_is d texts items read few items_are ∙ gives
-further-read list_of d texts items (Err errors.NoMemory) read few items_are gives none = tt
+further_read list_of d texts items (Err errors.NoMemory) read few items_are gives none = tt

@@ -5,7 +5,7 @@ use Rattle.std.proofs.lemmas.List.{append_assoc, length-append}
 use Rattle.std.proofs.lemmas.List.Splits.{join_with_byte-slice_split}
 use Rattle.vt_base.specs.declared.no_memory.NoMemory.{NoMemory}
 use Rattle.vt_events.specs.declared.event.Event.{Event}
-use Rattle.vt_journal.specs.Words.{Spells, spelled}
+use Rattle.vt_journal.specs.Words.{Spells, joined_by_blanks}
 use Rattle.session_text.specs.HookTexts.{words_of}
 use Rattle.session_text.specs.ItemTexts.{AreSay, IsItem, IsSaid, IsSay, is_item}
 use Rattle.session_text.specs.declared.item_texts.Said.{Said}
@@ -30,20 +30,20 @@ say_words (a ∷ b ∷ x ∷ more) d fd many name number fits = record {
 }
 
 -- a text is its words with the blanks between them
-pub text_of_words : (text : List ℕ) → spelled (words_of text) ≡ text
+pub text_of_words : (text : List ℕ) → joined_by_blanks (words_of text) ≡ text
 text_of_words text = join_with_byte-slice_split 0x20 text
 
 -- the words of a say begin its text
 pub say_text : (text : List ℕ) (fd : ℕ) (say : AreSay (words_of text) fd)
-    → text ≡ 115 ∷ 97 ∷ 121 ∷ 32 ∷ (decimal fd ++ 32 ∷ spelled (say.first ∷ say.more))
-say_text text fd say = sym (text_of_words text) ∙ ap spelled say.are
+    → text ≡ 115 ∷ 97 ∷ 121 ∷ 32 ∷ (decimal fd ++ 32 ∷ joined_by_blanks (say.first ∷ say.more))
+say_text text fd say = sym (text_of_words text) ∙ ap joined_by_blanks say.are
 
 -- where the text of a say starts
 pub say_start : (text : List ℕ) (said : Said) (s : IsSaid (words_of text) said)
-    → (said.start ≤ length text) × (drop said.start text ≡ spelled (s.say.first ∷ s.say.more))
+    → (said.start ≤ length text) × (drop said.start text ≡ joined_by_blanks (s.say.first ∷ s.say.more))
 say_start text said s =
     let front : List ℕ = 115 ∷ 97 ∷ 121 ∷ 32 ∷ (decimal said.fd ++ 32 ∷ []) in
-    let tail : List ℕ = spelled (s.say.first ∷ s.say.more) in
+    let tail : List ℕ = joined_by_blanks (s.say.first ∷ s.say.more) in
     let is : text ≡ front ++ tail =
     say_text text said.fd s.say
     ∙ ap (λ (end : List ℕ). 115 ∷ 97 ∷ 121 ∷ 32 ∷ end) (sym (append_assoc (decimal said.fd) (32 ∷ []) tail)) in

@@ -6,8 +6,8 @@ use Rattle.vt_base.specs.Bytes.{Text}
 use Rattle.vt_events.specs.Plain.{text}
 use Rattle.session_text.specs.Parts.{AreOf, IsMadeOf}
 use Rattle.session_text.specs.Sessions.{IsSessionOf, SessionValue, SessionView, keys_of, script_of}
-use Rattle.session_text.specs.declared.opening.Opening.{Opening}
-use Rattle.session_text.specs.declared.parts.Parts.{Parts}
+use Rattle.session_text.specs.declared.opening.SessionHeader.{SessionHeader}
+use Rattle.session_text.specs.declared.parts.SessionParts.{SessionParts}
 use Rattle.session_text.specs.declared.process.Process.{Process}
 use Rattle.session_text.specs.declared.program.Program.{Program}
 use Rattle.session_text.specs.declared.program.Program.TheVariants as programs
@@ -17,19 +17,19 @@ keys_programs : (further : List (List ℕ)) → map (λ keys. programs.Keys keys
 keys_programs [] = refl
 keys_programs (keys ∷ further) = ap (λ ps. keys_of keys ∷ ps) (keys_programs further)
 
-pub made-session : (parts : Parts) (value : SessionValue) (s : SessionView) → AreOf parts value → IsMadeOf parts s
+pub made_session : (parts : SessionParts) (value : SessionValue) (s : SessionView) → AreOf parts value → IsMadeOf parts s
     → IsSessionOf s value
-made-session parts value s are made =
+made_session parts value s are made =
     let keys : List Text → List Program = map (λ keys. programs.Keys keys) in
     let further : keys parts.further.items ≡ map keys_of value.further =
     ap keys are.further ∙ keys_programs value.further in
     record {
-      rows = made.rows ∙ ap (λ (o : Opening). o.rows) are.opening;
-      cols = made.cols ∙ ap (λ (o : Opening). o.cols) are.opening;
-      consoles = made.consoles ∙ ap (λ (o : Opening). o.consoles) are.opening;
-      front = made.front ∙ ap (λ (o : Opening). o.front) are.opening;
-      events = made.events ∙ ap (λ (o : Opening). o.events) are.opening;
-      bytes = made.bytes ∙ ap (λ (o : Opening). o.bytes) are.opening;
+      rows = made.rows ∙ ap (λ (o : SessionHeader). o.rows) are.opening;
+      cols = made.cols ∙ ap (λ (o : SessionHeader). o.cols) are.opening;
+      consoles = made.consoles ∙ ap (λ (o : SessionHeader). o.consoles) are.opening;
+      front = made.front ∙ ap (λ (o : SessionHeader). o.front) are.opening;
+      events = made.events ∙ ap (λ (o : SessionHeader). o.events) are.opening;
+      bytes = made.bytes ∙ ap (λ (o : SessionHeader). o.bytes) are.opening;
       tables = subst (AreTablesOf value.typed.lines) (sym made.tables) are.keyboard.0;
       turns = made.turns ∙ are.turns;
       starts = made.starts ∙ ap (map (λ (process : Process). process.start)) are.processes;

@@ -6,7 +6,7 @@ use Rattle.sig_hooks.specs.declared.act.Act.TheVariants as acts
 use Rattle.session_text.specs.HookTexts.{IsAct, IsHook, hook_says, hooks_say, lower_byte_of, place, with_hook, words_of}
 use Rattle.session_text.specs.declared.hooked.Hooked.{Hooked}
 use Rattle.session_text.proofs.HookWords.{one_signal}
-use Rattle.session_text.proofs.OneResult.{IsOne, bind-one}
+use Rattle.session_text.proofs.OneResult.{IsOne, bind_one}
 
 same_number : (n m : ℕ) → n < 2 ^ 16 → m < 2 ^ 16 → decimal n ≡ decimal m → n ≡ m
 same_number n m low lower same = decimal_injective n m (omega arith) (omega arith) same
@@ -51,22 +51,22 @@ same_act : (words : List (List ℕ)) (s t : ℕ) (a b : Act) → IsHook words s 
 same_act [] s t a b this other = absurd this
 same_act (word ∷ words) s t a b this other = one_act words a b this.1 other.1
 
-hook-one : (p item : ℕ) (hooked : Hooked) (text : List ℕ) → IsOne (hook_says p item hooked text)
-hook-one p item hooked text (Ok after) (Ok after') this other =
+hook_one : (p item : ℕ) (hooked : Hooked) (text : List ℕ) → IsOne (hook_says p item hooked text)
+hook_one p item hooked text (Ok after) (Ok after') this other =
     let signals = one_signal (words_of text) this.0 other.0 this.1 other.1 this.2 other.2 in
     let are = same_act (words_of text) this.0 other.0 this.1 other.1 this.2 other.2 in
     ap Ok
     (this.4
     ∙ (λ i. with_hook (signals i) (are i) hooked)
     ∙ sym other.4)
-hook-one p item hooked text (Ok after) (Err e) this other =
+hook_one p item hooked text (Ok after) (Err e) this other =
     absurd (true≢false (sym (other.0 this.0 this.1 this.2) ∙ this.3))
-hook-one p item hooked text (Err e) (Ok after) this other =
+hook_one p item hooked text (Err e) (Ok after) this other =
     absurd (true≢false (sym (this.0 other.0 other.1 other.2) ∙ other.3))
-hook-one p item hooked text (Err e) (Err f) this other = ap Err (this.1 ∙ sym other.1)
+hook_one p item hooked text (Err e) (Err f) this other = ap Err (this.1 ∙ sym other.1)
 
-pub hooks-one : (p n : ℕ) (hooked : Hooked) (texts : List (List ℕ)) → IsOne (hooks_say p n hooked texts)
-hooks-one p n hooked [] a b this other = this ∙ sym other
-hooks-one p n hooked (text ∷ texts) a b this other =
-    bind-one (hook_says p (place n) hooked text) (λ after. hooks_say p (n + 1) after texts)
-    (hook-one p (place n) hooked text) (λ after. hooks-one p (n + 1) after texts) a b this other
+pub hooks_one : (p n : ℕ) (hooked : Hooked) (texts : List (List ℕ)) → IsOne (hooks_say p n hooked texts)
+hooks_one p n hooked [] a b this other = this ∙ sym other
+hooks_one p n hooked (text ∷ texts) a b this other =
+    bind_one (hook_says p (place n) hooked text) (λ after. hooks_say p (n + 1) after texts)
+    (hook_one p (place n) hooked text) (λ after. hooks_one p (n + 1) after texts) a b this other

@@ -6,7 +6,7 @@ use Rattle.vt_events.specs.Plain.{text as bytes_of}
 use Rattle.vt_events.specs.declared.event.Event.{Event}
 use Rattle.vt_events.specs.declared.event.Event.TheVariants as event
 use Rattle.vt_journal.specs.Calls.{name_of}
-use Rattle.vt_journal.specs.Words.{CallsAreCut, OneCall, Spells, spelled}
+use Rattle.vt_journal.specs.Words.{CallsAreCut, OneCall, Spells, joined_by_blanks}
 use Rattle.session_text.specs.ItemTexts.{IsItem, IsSay, item_says}
 use Rattle.session_text.proofs.OneResult.{IsOne}
 
@@ -36,7 +36,7 @@ one_say text d e this other =
     let number : decimal this.fd ≡ decimal other.fd = cc in
     let fds = decimal_injective this.fd other.fd (omega arith) (omega arith) number in
     let words : this.say.first ∷ this.say.more ≡ other.say.first ∷ other.say.more = cc in
-    this.write ∙ (λ i. event.Write (fds i) (bytes_of (spelled (words i)))) ∙ sym other.write
+    this.write ∙ (λ i. event.Write (fds i) (bytes_of (joined_by_blanks (words i)))) ∙ sym other.write
 
 one_item : OneCall → CallsAreCut → (text : List ℕ) (d e : Event) → IsItem text d → IsItem text e → d ≡ e
 one_item one cut text d e this other =
@@ -51,8 +51,8 @@ one_item one cut text d e this other =
       ]
     ]
 
-pub item-one : OneCall → CallsAreCut → (p n : ℕ) (text : List ℕ) → IsOne (item_says p n text)
-item-one one cut p n text (Ok d) (Ok e) this other = ap Ok (one_item one cut text d e this other)
-item-one one cut p n text (Ok d) (Err f) this other = absurd (other.0 d this)
-item-one one cut p n text (Err f) (Ok e) this other = absurd (this.0 e other)
-item-one one cut p n text (Err e) (Err f) this other = ap Err (this.1 ∙ sym other.1)
+pub item_one : OneCall → CallsAreCut → (p n : ℕ) (text : List ℕ) → IsOne (item_says p n text)
+item_one one cut p n text (Ok d) (Ok e) this other = ap Ok (one_item one cut text d e this other)
+item_one one cut p n text (Ok d) (Err f) this other = absurd (other.0 d this)
+item_one one cut p n text (Err f) (Ok e) this other = absurd (this.0 e other)
+item_one one cut p n text (Err e) (Err f) this other = ap Err (this.1 ∙ sym other.1)

@@ -11,27 +11,27 @@ use Rattle.session_text.specs.Scripts.{process_says}
 use Rattle.session_text.specs.Sessions.{OneSession, session_at}
 use Rattle.session_text.specs.Tops.{top_of}
 use Rattle.vt_journal.specs.Words.{CallsAreCut, OneCall}
-use Rattle.session_text.proofs.OneHook.{hooks-one}
-use Rattle.session_text.proofs.OneItem.{item-one}
-use Rattle.session_text.proofs.OneResult.{IsOne, bind-one, each-one, is-one}
+use Rattle.session_text.proofs.OneHook.{hooks_one}
+use Rattle.session_text.proofs.OneItem.{item_one}
+use Rattle.session_text.proofs.OneResult.{IsOne, bind_one, each_one, is_one}
 
-process-one : OneCall → CallsAreCut → (p : ℕ) (members : Members) → IsOne (process_says p members)
-process-one one cut p members =
-    bind-one (is (head_of p members)) _ (is-one (head_of p members))
+process_one : OneCall → CallsAreCut → (p : ℕ) (members : Members) → IsOne (process_says p members)
+process_one one cut p members =
+    bind_one (is (head_of p members)) _ (is_one (head_of p members))
     (λ head.
-    bind-one (each_says (item_says p) 1 head.script) _ (each-one (item_says p) (item-one one cut p) 1 head.script)
+    bind_one (each_says (item_says p) 1 head.script) _ (each_one (item_says p) (item_one one cut p) 1 head.script)
     (λ items.
-    bind-one (is (array_of as_str p 4 (get_member (codes "hooks") members))) _ (is-one _)
+    bind_one (is (array_of as_str p 4 (get_member (codes "hooks") members))) _ (is_one _)
     (λ texts.
-    bind-one (hooks_say p 1 no_hooks texts) _ (hooks-one p 1 no_hooks texts) (λ hooked. is-one _))))
+    bind_one (hooks_say p 1 no_hooks texts) _ (hooks_one p 1 no_hooks texts) (λ hooked. is_one _))))
 
-at-one : OneCall → CallsAreCut → (members : Members) → IsOne (session_at members)
-at-one one cut members =
-    bind-one (is (top_of members)) _ (is-one (top_of members))
+at_one : OneCall → CallsAreCut → (members : Members) → IsOne (session_at members)
+at_one one cut members =
+    bind_one (is (top_of members)) _ (is_one (top_of members))
     (λ top.
-    bind-one (each_says process_says 1 top.tables) _ (each-one process_says (process-one one cut) 1 top.tables)
-    (λ processes. is-one _))
+    bind_one (each_says process_says 1 top.tables) _ (each_one process_says (process_one one cut) 1 top.tables)
+    (λ processes. is_one _))
 
 pub one_session : OneCall → CallsAreCut → OneSession
 one_session one cut text =
-    bind-one (is (document_of text)) session_at (is-one (document_of text)) (at-one one cut)
+    bind_one (is (document_of text)) session_at (is_one (document_of text)) (at_one one cut)

@@ -1,7 +1,7 @@
 -- What a list says, one after another.
 use Rattle.std.proofs.Common.{◌≡◌, ℕ, ◌+◌, ◌<◌, ◌≤◌, length, get_or, map, drop, subst, List, [], ◌∷◌, ◌++◌, Result, Ok, Err, inl, inr, refl, sym, ap}
 use Rattle.std.proofs.lemmas.List.{append_assoc, append-nil, at_drop_more, drop_all}
-use Rattle.table_fields.specs.Collecting.{behind}
+use Rattle.table_fields.specs.Collecting.{found_before}
 use Rattle.table_fields.specs.declared.fault.TableFault.{TableFault}
 use Rattle.table_fields.specs.declared.fault.TableError.{TableError}
 use Rattle.table_fields.specs.declared.fault.TableError.TheVariants as errors
@@ -9,7 +9,7 @@ use Rattle.session_text.specs.Says.{Reads, each_says}
 
 pub each_more : {A B : Type 0} (says : ℕ → A → Result B TableFault → Type 0) (n : ℕ) (x : A) (xs : List A)
     (y : B) (said : Result (List B) TableFault) → says n x (Ok y) → each_says says (n + 1) xs said
-    → each_says says n (x ∷ xs) (behind (y ∷ []) said)
+    → each_says says n (x ∷ xs) (found_before (y ∷ []) said)
 each_more says n x xs y (Ok ys) first others = (first, others)
 each_more says n x xs y (Err e) first others = inr (y, first, others)
 
@@ -18,7 +18,7 @@ pub each_fault : {A B : Type 0} (says : ℕ → A → Result B TableFault → Ty
 each_fault says n x xs e first = inl first
 
 pub behind_more : {B : Type 0} (found : List B) (y : B) (said : Result (List B) TableFault)
-    → behind found (behind (y ∷ []) said) ≡ behind (found ++ y ∷ []) said
+    → found_before found (found_before (y ∷ []) said) ≡ found_before (found ++ y ∷ []) said
 behind_more found y (Ok ys) = ap Ok (sym (append_assoc found (y ∷ []) ys))
 behind_more found y (Err e) = refl
 
@@ -34,7 +34,7 @@ reads_err errors.NoMemory part whole step says = tt
 abbrev pub SoFar : {X A B : Type 0} → (ℕ → A → Result B TableFault → Type 0) → (X → A) → List X → ℕ → List B → Type 0
 SoFar {B = B} says g xs i found =
     (said : Result (List B) TableFault) → each_says says (i + 1) (map g (drop i xs)) said
-    → each_says says 1 (map g xs) (behind found said)
+    → each_says says 1 (map g xs) (found_before found said)
 
 pub so_far_more : {X A B : Type 0} (says : ℕ → A → Result B TableFault → Type 0) (g : X → A) (xs : List X)
     (d : X) (i : ℕ) (found : List B) (y : B) → i < length xs
@@ -42,8 +42,8 @@ pub so_far_more : {X A B : Type 0} (says : ℕ → A → Result B TableFault →
     → SoFar says g xs (i + 1) (found ++ y ∷ [])
 so_far_more says g xs d i found y within first so_far said rest =
     subst (each_says says 1 (map g xs)) (behind_more found y said)
-    (so_far (behind (y ∷ []) said)
-    (subst (λ ys. each_says says (i + 1) ys (behind (y ∷ []) said))
+    (so_far (found_before (y ∷ []) said)
+    (subst (λ ys. each_says says (i + 1) ys (found_before (y ∷ []) said))
     (sym (at_drop_more (map g) xs i d within))
     (each_more says (i + 1) (g (get_or xs i d)) (map g (drop (i + 1) xs)) y said first rest)))
 

@@ -8,9 +8,9 @@ use Rattle.session_text.specs.Keyboards.{Typed, further_of, keyboards_of, typed_
 use Rattle.session_text.specs.Openings.{opening_of}
 use Rattle.session_text.specs.Tops.{is_top_key, top_of}
 use Rattle.session_text.specs.Turns.{turns_of}
-use Rattle.session_text.specs.declared.opening.Opening.{Opening}
+use Rattle.session_text.specs.declared.opening.SessionHeader.{SessionHeader}
 
-pub top-read : (table : Members) (p m t : Option Data) (opening : Opening) (typed : Typed) (n k : ℕ)
+pub top_read : (table : Members) (p m t : Option Data) (opening : SessionHeader) (typed : Typed) (n k : ℕ)
     (turns : List ℕ) (tables : List Members) (further : List (List ℕ))
     → keys_pass is_top_key table ≡ true → opening_of table ≡ Ok opening → typed_of table ≡ Ok typed
     → p ≡ get_member (codes "process") table → n ≡ count_of p
@@ -26,7 +26,7 @@ pub top-read : (table : Members) (p m t : Option Data) (opening : Opening) (type
       tables = tables;
       further = further;
     })
-top-read table p m t opening typed n k turns tables further known opening_is typed_is p_is n_is m_is k_is t_is turns_are tables_are few further_is =
+top_read table p m t opening typed n k turns tables further known opening_is typed_is p_is n_is m_is k_is t_is turns_are tables_are few further_is =
     let turns' =
     (λ i. turns_of ((sym (ap count_of p_is) ∙ sym n_is) i) ((sym (ap keyboards_of m_is) ∙ sym k_is) i) (sym t_is i))
     ∙ turns_are in

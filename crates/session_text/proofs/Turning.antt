@@ -3,23 +3,23 @@ use Rattle.std.proofs.Common.{◌≡◌, ℕ, ℤ, ◌+◌, ◌≤◌, ◌<◌, 
 use Rattle.std.proofs.lemmas.Bool.{and_parts, cases_lt, le-leb, leb-true, ltb-true, or_cases, or_left}
 use Rattle.std.proofs.lemmas.List.{append_assoc, append-nil, at_drop_more, drop_all}
 use Rattle.table_fields.specs.Checked.{collect, ◌>>=◌}
-use Rattle.table_fields.specs.Collecting.{behind}
+use Rattle.table_fields.specs.Collecting.{found_before}
 use Rattle.table_fields.specs.declared.fault.TableFault.{TableFault}
 use Rattle.session_text.specs.Collected.{TurnsSoFar}
 use Rattle.session_text.specs.Turns.{is_there}
 
 -- of few processes, and four keyboards at most, no turn is past 67
-pub turn-low : (processes keyboards n : ℕ) → keyboards ≤ 4 → is_there processes keyboards n ≡ true
+pub turn_low : (processes keyboards n : ℕ) → keyboards ≤ 4 → is_there processes keyboards n ≡ true
     → processes ≤ 64 → n ≤ 67
-turn-low processes keyboards n some there few = ⊎_elim
+turn_low processes keyboards n some there few = ⊎_elim
     (λ low. omega (arith, leb-true n processes low, few))
     (λ both. omega (arith, ltb-true n (64 + keyboards) (and_parts (nat_lt 64 n) (nat_lt n (64 + keyboards)) both).1, some))
     (or_cases (nat_le n processes) (nat_lt 64 n && nat_lt n (64 + keyboards)) there)
 
 -- a turn that is kept is one of somebody who is there
-pub turn-there : (processes keyboards n : ℕ) → keyboards ≤ 4 → is_there processes keyboards n ≡ true
+pub turn_there : (processes keyboards n : ℕ) → keyboards ≤ 4 → is_there processes keyboards n ≡ true
     → is_there processes keyboards (min n 67) ≡ true
-turn-there processes keyboards n some there = ⊎_elim
+turn_there processes keyboards n some there = ⊎_elim
     (λ high.
     let last : min n 67 ≡ 67 = omega (arith, high) in
     let within : 67 ≤ processes = ⊎_elim
@@ -36,7 +36,7 @@ turn-there processes keyboards n some there = ⊎_elim
 
 -- behind those that were found and one more
 behind_one : (found : List ℕ) (n : ℕ) (more : Result (List ℕ) TableFault)
-    → behind (found ++ n ∷ []) more ≡ behind found (more >>= (λ ns. Ok (n ∷ ns)))
+    → found_before (found ++ n ∷ []) more ≡ found_before found (more >>= (λ ns. Ok (n ∷ ns)))
 behind_one found n (Ok ns) = ap Ok (append_assoc found (n ∷ []) ns)
 behind_one found n (Err e) = refl
 
@@ -56,7 +56,7 @@ turns_more processes i bytes f xs whole d n within so_far is low = record {
       (λ j. so_far.bytes_are few j ++ same j ∷ []);
   whole_is =
       behind_one so_far.found n (collect f (i + 1 + 1) (drop (i + 1) xs))
-      ∙ ap (behind so_far.found)
+      ∙ ap (found_before so_far.found)
       (sym
       (at_drop_more (collect f (i + 1)) xs i d within
       ∙ collect_one f (i + 1) n (get_or xs i d) (drop (i + 1) xs) is))
@@ -70,7 +70,7 @@ pub turns_end : (processes i : ℕ) (bytes : List ℕ) (f : ℕ → ℤ → Resu
 turns_end processes i bytes f xs whole end so_far = (
   so_far.found,
   sym so_far.whole_is
-      ∙ ap (λ ys. behind so_far.found (collect f (i + 1) ys)) (drop_all i xs end)
+      ∙ ap (λ ys. found_before so_far.found (collect f (i + 1) ys)) (drop_all i xs end)
       ∙ ap Ok (append-nil so_far.found),
   so_far.bytes_are,
 )

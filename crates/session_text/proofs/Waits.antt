@@ -21,8 +21,8 @@ abbrev following : Bool → Bool → (List Call → Option Event) → List Call 
 following over waits behind more =
     if over then None else (if waits then calls event.WaitEnd behind more else behind more)
 
-calls-ended : (e : Event) (behind : List Call → Option Event) → Ended behind → Ended (calls e behind)
-calls-ended e behind ended [] c next =
+calls_ended : (e : Event) (behind : List Call → Option Event) → Ended behind → Ended (calls e behind)
+calls_ended e behind ended [] c next =
     elim (ends c.event c.reply) as (λ b. is_wait c.reply ≡ true → following b (is_wait c.reply) behind [] ≡ Some next → next ≡ event.WaitEnd) [
       | true ↦ λ wait is. absurd (none-some next is)
       | false ↦ elim (is_wait c.reply) as (λ b. b ≡ true → following false b behind [] ≡ Some next → next ≡ event.WaitEnd) [
@@ -30,46 +30,46 @@ calls-ended e behind ended [] c next =
         | false ↦ λ wait is. cc
       ]
     ]
-calls-ended e behind ended (d ∷ made) c next =
+calls_ended e behind ended (d ∷ made) c next =
     elim (ends d.event d.reply) as (λ b. is_wait c.reply ≡ true → following b (is_wait d.reply) behind (made ++ c ∷ []) ≡ Some next → next ≡ event.WaitEnd) [
       | true ↦ λ wait is. absurd (none-some next is)
       | false ↦ elim (is_wait d.reply) as (λ b. is_wait c.reply ≡ true → following false b behind (made ++ c ∷ []) ≡ Some next → next ≡ event.WaitEnd) [
-        | true ↦ calls-ended event.WaitEnd behind ended made c next
+        | true ↦ calls_ended event.WaitEnd behind ended made c next
         | false ↦ ended made c next
       ]
     ]
 
-nothing-ended : Ended nothing
-nothing-ended made c e wait is = absurd (none-some e is)
+nothing_ended : Ended nothing
+nothing_ended made c e wait is = absurd (none-some e is)
 
-all-ended : (events : List Event) (behind : List Call → Option Event) → Ended behind
+all_ended : (events : List Event) (behind : List Call → Option Event) → Ended behind
     → Ended (all_calls events behind)
-all-ended [] behind ended = ended
-all-ended (e ∷ events) behind ended =
-    calls-ended e (all_calls events behind) (all-ended events behind ended)
+all_ended [] behind ended = ended
+all_ended (e ∷ events) behind ended =
+    calls_ended e (all_calls events behind) (all_ended events behind ended)
 
-takes-ended : (table : List Act) (behind : List Call → Option Event) → Ended behind
+takes_ended : (table : List Act) (behind : List Call → Option Event) → Ended behind
     → Ended (takes table behind)
-takes-ended table behind ended [] c =
-    calls-ended event.TakeSignals (all_calls (calls_from table (signals_in c.reply) 1) behind)
-    (all-ended (calls_from table (signals_in c.reply) 1) behind ended) [] c
-takes-ended table behind ended (d ∷ made) c =
-    calls-ended event.TakeSignals (all_calls (calls_from table (signals_in d.reply) 1) behind)
-    (all-ended (calls_from table (signals_in d.reply) 1) behind ended) (d ∷ made) c
+takes_ended table behind ended [] c =
+    calls_ended event.TakeSignals (all_calls (calls_from table (signals_in c.reply) 1) behind)
+    (all_ended (calls_from table (signals_in c.reply) 1) behind ended) [] c
+takes_ended table behind ended (d ∷ made) c =
+    calls_ended event.TakeSignals (all_calls (calls_from table (signals_in d.reply) 1) behind)
+    (all_ended (calls_from table (signals_in d.reply) 1) behind ended) (d ∷ made) c
 
-exits-ended : Ended exits
-exits-ended = calls-ended event.Exit nothing nothing-ended
+exits_ended : Ended exits
+exits_ended = calls_ended event.Exit nothing nothing_ended
 
-script-ended : (table : List Act) (items : List Event) → Ended (script table items)
-script-ended table [] = exits-ended
-script-ended table (item ∷ items) =
-    calls-ended (plain_event item) (takes table (script table items))
-    (takes-ended table (script table items) (script-ended table items))
+script_ended : (table : List Act) (items : List Event) → Ended (script table items)
+script_ended table [] = exits_ended
+script_ended table (item ∷ items) =
+    calls_ended (plain_event item) (takes table (script table items))
+    (takes_ended table (script table items) (script_ended table items))
 
-scans-ended : (bytes : List ℕ) → Ended (scans bytes)
-scans-ended [] = exits-ended
-scans-ended (b ∷ bytes) = calls-ended (event.Scan b) (scans bytes) (scans-ended bytes)
+scans_ended : (bytes : List ℕ) → Ended (scans bytes)
+scans_ended [] = exits_ended
+scans_ended (b ∷ bytes) = calls_ended (event.Scan b) (scans bytes) (scans_ended bytes)
 
-pub waits-are-ended : WaitsAreEnded
-waits-are-ended (program.Keys bytes) = scans-ended bytes.bytes
-waits-are-ended (program.Script items table) = script-ended table items.events
+pub waits_are_ended : WaitsAreEnded
+waits_are_ended (program.Keys bytes) = scans_ended bytes.bytes
+waits_are_ended (program.Script items table) = script_ended table items.events

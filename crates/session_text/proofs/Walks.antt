@@ -11,13 +11,13 @@ use Rattle.vt_events.specs.Plain.{plain_event}
 use Rattle.session_text.specs.Items.{Listed}
 use Rattle.session_text.specs.Programs.{Call, all_calls, call, calls, calls_from, ends, is_gone, next, nothing, scans, script, takes}
 use Rattle.vt_events.specs.Waits.{is_wait}
-use Rattle.session_text.specs.Walks.{Moves, Place, Stands, ahead, left}
-use Rattle.session_text.proofs.Acts.{calls_from-end}
+use Rattle.session_text.specs.Walks.{Moves, Place, Stands, ahead, rest_of_calls}
+use Rattle.session_text.proofs.Acts.{calls_from_end}
 use Rattle.session_text.specs.declared.program.Program.{Program}
 use Rattle.session_text.specs.declared.program.Program.TheVariants as program
 
 pub stands_next : (p : Program) (w : Place) (made : List Call) → Stands p w made
-    → next p made ≡ left p w []
+    → next p made ≡ rest_of_calls p w []
 stands_next p w made s = ap (next p) (sym (append-nil made)) ∙ s.same []
 
 pub stands_over : (p : Program) (w : Place) (made : List Call) → Stands p w made
@@ -77,8 +77,8 @@ turn e r more behind after false false over_is waiting_is same =
 
 -- a walk moves where a call is left first, and it moves to what is behind that
 pub moves_by : (p : Program) (w moved : Place) (r : Reply) (e : Event) (behind : List Call → Option Event)
-    → left p w [] ≡ Some e
-    → ((f : Event) (more : List Call) → left p w (call f r ∷ more) ≡ calls e behind (call f r ∷ more))
+    → rest_of_calls p w [] ≡ Some e
+    → ((f : Event) (more : List Call) → rest_of_calls p w (call f r ∷ more) ≡ calls e behind (call f r ∷ more))
     → moved.over ≡ ends e r → moved.waiting ≡ is_wait r → (moved.over ≡ false → behind ≡ ahead p moved)
     → Moves p w r moved
 moves_by p w moved r e behind first then over waiting same = record {
@@ -90,7 +90,7 @@ moves_by p w moved r e behind first then over waiting same = record {
 }
 
 -- what is left where neither the program is over nor its wait is to end
-pub left_ahead : (p : Program) (w : Place) → w.over ≡ false → w.waiting ≡ false → left p w ≡ ahead p w
+pub left_ahead : (p : Program) (w : Place) → w.over ≡ false → w.waiting ≡ false → rest_of_calls p w ≡ ahead p w
 left_ahead p w over waiting =
     (λ i. cond (over i) nothing (cond (waiting i) (calls event.WaitEnd (ahead p w)) (ahead p w)))
 
@@ -100,7 +100,7 @@ pub moves_along : (p : Program) (w moved : Place) (r : Reply) (e : Event) (behin
     → moved.over ≡ ends e r → moved.waiting ≡ is_wait r → (moved.over ≡ false → behind ≡ ahead p moved)
     → Moves p w r moved
 moves_along p w moved r e behind over waiting is =
-    let left_is : left p w ≡ calls e behind = left_ahead p w over waiting ∙ is in
+    let left_is : rest_of_calls p w ≡ calls e behind = left_ahead p w over waiting ∙ is in
     moves_by p w moved r e behind (ap (λ f. f []) left_is)
     (λ g more. ap (λ f. f (call g r ∷ more)) left_is)
 
@@ -113,7 +113,7 @@ ahead_same (program.Script items table) w waiting over = refl
 pub wait_moves : (p : Program) (w moved : Place) (r : Reply) → w.over ≡ false → w.waiting ≡ true
     → moved ≡ record w { waiting = is_wait r; over = is_gone r } → Moves p w r moved
 wait_moves p w moved r over waiting is =
-    let left_is : left p w ≡ calls event.WaitEnd (ahead p w) =
+    let left_is : rest_of_calls p w ≡ calls event.WaitEnd (ahead p w) =
     (λ i. cond (over i) nothing (cond (waiting i) (calls event.WaitEnd (ahead p w)) (ahead p w))) in
     subst (Moves p w r) (sym is)
     (moves_by p w _ r event.WaitEnd (ahead p w) (ap (λ f. f []) left_is)
@@ -140,11 +140,11 @@ scan_exit_moves bytes w moved r over waiting next_is is =
     over waiting (ap scans next_is) refl refl (λ t. absurd (true≢false t)))
 
 -- what is left of a script whose acts are to be made
-script_acting : (table : List Act) (items : Listed) (w : Place) (left : List Event) → w.taking ≡ false
-    → calls_from table w.given w.signal ≡ left
+script_acting : (table : List Act) (items : Listed) (w : Place) (rest_of_calls : List Event) → w.taking ≡ false
+    → calls_from table w.given w.signal ≡ rest_of_calls
     → ahead (program.Script items table) w
-    ≡ all_calls left (script table (drop w.item items.events))
-script_acting table items w left taking is =
+    ≡ all_calls rest_of_calls (script table (drop w.item items.events))
+script_acting table items w rest_of_calls taking is =
     (λ i. cond (taking i) (takes table) (all_calls (is i)) (script table (drop w.item items.events)))
 
 -- an item was called
@@ -179,7 +179,7 @@ starts (program.Keys bytes) given none = record { same = λ more. refl }
 starts (program.Script items table) given none = record {
   same = λ more.
       ap (λ events. all_calls events (script table items.events) more)
-      (sym (calls_from-end table given 65 (lit≤ tt)));
+      (sym (calls_from_end table given 65 (lit≤ tt)));
 }
 
 -- what is ahead is the next call

@@ -54,9 +54,9 @@ keys_stay (p ∷ keys) are =
     ∙ ap (λ ps. p ∷ ps) (keys_stay keys (All-tail IsKeysProgram p keys are))
 
 -- the programs of scan bytes in order
-pub keys-in : (processes keyboards : ℕ) (list : List Program) (a : ArePrograms processes keyboards list)
+pub keys_in : (processes keyboards : ℕ) (list : List Program) (a : ArePrograms processes keyboards list)
     → filter is_keys list ≡ a.first ∷ a.further
-keys-in processes keyboards list a =
+keys_in processes keyboards list a =
     let further : All IsKeysProgram a.further = All-tail IsKeysProgram a.first a.further a.each_keys in
     ap (filter is_keys) a.are
     ∙ ap (λ b. cond b (a.first ∷ filter is_keys (a.scripts ++ a.further)) (filter is_keys (a.scripts ++ a.further)))
@@ -66,10 +66,10 @@ keys-in processes keyboards list a =
     ∙ (λ i. scripts_left a.scripts a.each_script i ++ keys_stay a.further further i))
 
 -- the script of a process
-pub script-at : (processes keyboards : ℕ) (list : List Program) (a : ArePrograms processes keyboards list) (p : ℕ)
+pub script_at : (processes keyboards : ℕ) (list : List Program) (a : ArePrograms processes keyboards list) (p : ℕ)
     → (p ≡ 0 → ⊥) → script_in (slice_get list p) ≡ slice_get a.scripts (p - 1)
-script-at processes keyboards list a zero apart = absurd (apart refl)
-script-at processes keyboards list a (suc k) apart =
+script_at processes keyboards list a zero apart = absurd (apart refl)
+script_at processes keyboards list a (suc k) apart =
     let same : k ≡ suc k - 1 = omega arith in
     ap (λ ps. script_in (slice_get ps (suc k))) a.are
     ∙ scripts_at a.scripts a.further k a.each_script (All-tail IsKeysProgram a.first a.further a.each_keys)
@@ -130,44 +130,44 @@ program_past list p apart =
     ap (λ b. program_by list p (cond b (Some 0) (cond (nat_lt 64 p) (Some (p - 64)) None))) (ne_eqb p 0 apart)
 
 -- the first keyboard has a program
-pub some-first : (processes keyboards : ℕ) (list : List Program) → ArePrograms processes keyboards list
+pub some_first : (processes keyboards : ℕ) (list : List Program) → ArePrograms processes keyboards list
     → is_some (program_of list 0) ≡ true
-some-first processes keyboards list a =
-    ap (λ ps. is_some (slice_get ps 0)) (keys-in processes keyboards list a)
+some_first processes keyboards list a =
+    ap (λ ps. is_some (slice_get ps 0)) (keys_in processes keyboards list a)
 
 -- a further keyboard has one where it is there
-pub some-keyboard : (processes keyboards : ℕ) (list : List Program) → ArePrograms processes keyboards list
+pub some_keyboard : (processes keyboards : ℕ) (list : List Program) → ArePrograms processes keyboards list
     → (p : ℕ) → nat_lt 64 p ≡ true → is_some (program_of list p) ≡ nat_lt (p - 64) keyboards
-some-keyboard processes keyboards list a p high =
+some_keyboard processes keyboards list a p high =
     let many : length (a.first ∷ a.further) ≡ keyboards = omega (arith, a.many_keys) in
     let apart : p ≡ 0 → ⊥ = λ same. omega (arith, ltb-true 64 p high, same) in
     ap is_some (program_past list p apart)
     ∙ ap (λ b. is_some (program_by list p (cond b (Some (p - 64)) None))) high
-    ∙ ap (λ ps. is_some (slice_get ps (p - 64))) (keys-in processes keyboards list a)
+    ∙ ap (λ ps. is_some (slice_get ps (p - 64))) (keys_in processes keyboards list a)
     ∙ some_within (a.first ∷ a.further) (p - 64)
     ∙ ap (nat_lt (p - 64)) many
 
 -- so does a process
-pub some-process : (processes keyboards : ℕ) (list : List Program) → ArePrograms processes keyboards list
+pub some_process : (processes keyboards : ℕ) (list : List Program) → ArePrograms processes keyboards list
     → (p : ℕ) → (p ≡ 0 → ⊥) → nat_lt 64 p ≡ false
     → is_some (program_of list p) ≡ nat_lt (p - 1) processes
-some-process processes keyboards list a p apart low =
+some_process processes keyboards list a p apart low =
     ap is_some (program_past list p apart)
     ∙ ap (λ b. is_some (program_by list p (cond b (Some (p - 64)) None))) low
-    ∙ ap is_some (script-at processes keyboards list a p apart)
+    ∙ ap is_some (script_at processes keyboards list a p apart)
     ∙ some_within a.scripts (p - 1)
     ∙ ap (nat_lt (p - 1)) a.many_scripts
 
-pub callers-have-programs : CallersHavePrograms
-callers-have-programs processes keyboards list few a p = ⊎_elim
+pub callers_have_programs : CallersHavePrograms
+callers_have_programs processes keyboards list few a p = ⊎_elim
     (λ first.
     ap (λ q. is_some (program_of list q)) first
-    ∙ some-first processes keyboards list a
+    ∙ some_first processes keyboards list a
     ∙ sym (or_left (nat_le 0 processes) (nat_lt 64 0 && nat_lt 0 (64 + keyboards)) (le-leb 0 processes (omega arith)))
     ∙ ap (is_there processes keyboards) (sym first))
     (λ apart. ⊎_elim
-    (λ high. some-keyboard processes keyboards list a p high
+    (λ high. some_keyboard processes keyboards list a p high
     ∙ there_above processes keyboards p few (ltb-true 64 p high))
-    (λ low. some-process processes keyboards list a p apart low ∙ there_below processes keyboards p apart low)
+    (λ low. some_process processes keyboards list a p apart low ∙ there_below processes keyboards p apart low)
     (cases_Bool (nat_lt 64 p)))
     (cases_eq p 0)

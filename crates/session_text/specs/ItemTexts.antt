@@ -6,7 +6,7 @@ use Rattle.table_fields.specs.declared.fault.TableFault.{TableFault}
 use Rattle.vt_events.specs.Plain.{text as bytes_of}
 use Rattle.vt_events.specs.declared.event.Event.{Event}
 use Rattle.vt_events.specs.declared.event.Event.TheVariants as event
-use Rattle.vt_journal.specs.Words.{Spells, spelled}
+use Rattle.vt_journal.specs.Words.{Spells, joined_by_blanks}
 use Rattle.session_text.specs.HookTexts.{words_of}
 use Rattle.session_text.specs.declared.item_texts.Said.{Said}
 
@@ -29,7 +29,7 @@ pub record AreSay (words : List (List ℕ)) (fd : ℕ) : Type 0 where
 pub record IsSay (text : List ℕ) (e : Event) : Type 0 where
   pub fd : ℕ
   pub say : AreSay (words_of text) fd
-  pub write : e ≡ event.Write fd (bytes_of (spelled (say.first ∷ say.more)))
+  pub write : e ≡ event.Write fd (bytes_of (joined_by_blanks (say.first ∷ say.more)))
 
 -- a text is the words of a call that a script may have, or a say
 abbrev pub IsItem : List ℕ → Event → Type 0

@@ -9,7 +9,7 @@ use Rattle.table_fields.specs.Fields.{bytes_of, few_items_of, keymap_of, scan_by
 use Rattle.table_fields.specs.declared.fault.TableFault.{TableFault}
 use Rattle.toml.specs.Data.{Data, Members, as_str, get_member}
 use Rattle.vt_events.specs.Plain.{text}
-use Rattle.session_text.specs.declared.keyboard.Keyboard.{Keyboard}
+use Rattle.session_text.specs.declared.keyboard.SessionKeyboard.{SessionKeyboard}
 
 -- the lines of the keymap, and the scan bytes of the first keyboard
 pub record Typed : Type 0 where
@@ -27,7 +27,7 @@ typed_of members = do
   Ok (record { lines = lines; keys = keys })
 
 -- a keyboard that was read is this one
-abbrev pub IsKeyboardOf : Keyboard → Typed → Type 0
+abbrev pub IsKeyboardOf : SessionKeyboard → Typed → Type 0
 IsKeyboardOf keyboard typed =
     AreTablesOf typed.lines keyboard.tables × (keyboard.keys ≡ text typed.keys)
 

@@ -9,7 +9,7 @@ use Rattle.table_fields.specs.Fields.{number_in, number_of, number_within}
 use Rattle.table_fields.specs.declared.fault.TableFault.{TableFault}
 use Rattle.toml.specs.Data.{Data, Members, as_integer, get_member}
 use Rattle.vt_base.specs.ConsoleSet.{IsFitSet, is_among}
-use Rattle.session_text.specs.declared.opening.Opening.{Opening}
+use Rattle.session_text.specs.declared.opening.SessionHeader.{SessionHeader}
 
 -- the consoles of a list beside those of a set: each from 1 to 63, and none twice
 abbrev pub consoles_in : ℕ → List ℤ → Result ℕ TableFault
@@ -42,7 +42,7 @@ front_of set (Some d) = do
   Ok n
 
 -- the first six keys, in the order of the checks
-abbrev pub opening_of : Members → Result Opening TableFault
+abbrev pub opening_of : Members → Result SessionHeader TableFault
 opening_of members = do
   rows ← number_of 0 1 25 1 255 (get_member (codes "rows") members)
   cols ← number_of 0 2 80 1 255 (get_member (codes "cols") members)
@@ -60,7 +60,7 @@ opening_of members = do
   })
 
 -- what an opening keeps to
-pub record IsOpening (o : Opening) : Type 0 where
+pub record IsOpening (o : SessionHeader) : Type 0 where
   pub rows : (1 ≤ o.rows) × (o.rows ≤ 255)
   pub cols : (1 ≤ o.cols) × (o.cols ≤ 255)
   pub fit : IsFitSet o.consoles o.front

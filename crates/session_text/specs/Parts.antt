@@ -15,9 +15,9 @@ use Rattle.session_text.specs.Scripts.{IsScript}
 use Rattle.session_text.specs.Sessions.{SessionValue, SessionView, script_of}
 use Rattle.session_text.specs.Turns.{is_there, most_turns}
 use Rattle.session_text.specs.Tops.{Top}
-use Rattle.session_text.specs.declared.parts.Parts.{Parts}
+use Rattle.session_text.specs.declared.parts.SessionParts.{SessionParts}
 use Rattle.session_text.specs.declared.process.Process.{Process}
-use Rattle.session_text.specs.declared.tops.Top.{Top as CodeTop}
+use Rattle.session_text.specs.declared.tops.SessionTable.{SessionTable as CodeTop}
 use Rattle.session_text.specs.declared.program.Program.TheVariants as programs
 
 -- the scan bytes of further keyboards
@@ -26,7 +26,7 @@ pub record IsFitFurther (further : List Text) : Type 0 where
   pub keys : All (λ (keys : Text). length keys.bytes ≤ most_scan_bytes) further
 
 -- a session can be made of these parts
-pub record AreFit (parts : Parts) : Type 0 where
+pub record AreFit (parts : SessionParts) : Type 0 where
   pub opening : IsOpening parts.opening
   pub keys : length parts.keyboard.keys.bytes ≤ most_scan_bytes
   pub turns :
@@ -55,7 +55,7 @@ pub record IsFitTop (code : CodeTop) : Type 0 where
   pub further : IsFitFurther code.further.items
 
 -- the parts are those of a value
-pub record AreOf (parts : Parts) (value : SessionValue) : Type 0 where
+pub record AreOf (parts : SessionParts) (value : SessionValue) : Type 0 where
   pub opening : parts.opening ≡ value.opening
   pub keyboard : IsKeyboardOf parts.keyboard value.typed
   pub turns : parts.turns.bytes ≡ value.turns
@@ -63,7 +63,7 @@ pub record AreOf (parts : Parts) (value : SessionValue) : Type 0 where
   pub further : parts.further.items ≡ map text value.further
 
 -- the session has these parts
-pub record IsMadeOf (parts : Parts) (s : SessionView) : Type 0 where
+pub record IsMadeOf (parts : SessionParts) (s : SessionView) : Type 0 where
   pub rows : s.config.size.rows ≡ parts.opening.rows
   pub cols : s.config.size.cols ≡ parts.opening.cols
   pub consoles : s.config.consoles ≡ parts.opening.consoles

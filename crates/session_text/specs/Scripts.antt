@@ -13,8 +13,8 @@ use Rattle.session_text.specs.Says.{each_says, is, ◌>>=◌}
 use Rattle.session_text.specs.declared.process.Process.{Process}
 
 -- these calls, with no room for more
-abbrev pub listed : List Event → Listed
-listed events = record { events = events; room = 0 }
+abbrev pub make_listed : List Event → Listed
+make_listed events = record { events = events; room = 0 }
 
 -- the keys of process p, in the order of the checks
 abbrev pub process_says : ℕ → Members → Result Process TableFault → Type 0
@@ -23,7 +23,7 @@ process_says p members = do
   items ← each_says (item_says p) 1 head.script
   texts ← is (array_of as_str p 4 (get_member (codes "hooks") members))
   hooked ← hooks_say p 1 no_hooks texts
-  is (Ok (record { start = head.start; items = listed items; hooks = hooked.acts }))
+  is (Ok (record { start = head.start; items = make_listed items; hooks = hooked.acts }))
 
 -- a script has at most so many items, all of which it may have
 pub record IsScript (items : Listed) : Type 0 where

@@ -18,7 +18,7 @@ use Rattle.session_text.specs.Says.{each_says, is, ◌>>=◌}
 use Rattle.session_text.specs.Scripts.{IsScript, process_says}
 use Rattle.session_text.specs.Tops.{top_of}
 use Rattle.session_text.specs.Turns.{is_there, most_turns}
-use Rattle.session_text.specs.declared.opening.Opening.{Opening}
+use Rattle.session_text.specs.declared.opening.SessionHeader.{SessionHeader}
 use Rattle.session_text.specs.declared.process.Process.{Process}
 use Rattle.session_text.specs.declared.program.Program.{Program}
 use Rattle.session_text.specs.declared.program.Program.TheVariants as programs
@@ -78,7 +78,7 @@ acts_of s p = acts_in (slice_get s.programs p)
 
 -- what a session's table says
 pub record SessionValue : Type 0 where
-  pub opening : Opening
+  pub opening : SessionHeader
   pub typed : Typed
   pub turns : List ℕ
   pub processes : List Process

@@ -11,7 +11,7 @@ use Rattle.toml.specs.Data.{Members, as_table, get_member}
 use Rattle.session_text.specs.Keyboards.{Typed, further_of, keyboards_of, typed_of}
 use Rattle.session_text.specs.Openings.{opening_of}
 use Rattle.session_text.specs.Turns.{turns_of}
-use Rattle.session_text.specs.declared.opening.Opening.{Opening}
+use Rattle.session_text.specs.declared.opening.SessionHeader.{SessionHeader}
 
 -- the keys of a session, counted from 1 in faults
 abbrev pub is_screen_key : List ℕ → Bool
@@ -29,7 +29,7 @@ is_top_key key =
 
 -- what a session's table says, with the tables of its processes as they stand
 pub record Top : Type 0 where
-  pub opening : Opening
+  pub opening : SessionHeader
   pub typed : Typed
   pub turns : List ℕ
   pub tables : List Members

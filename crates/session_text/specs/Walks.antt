@@ -30,21 +30,21 @@ ahead (program.Script items table) w =
     (script table (drop w.item items.events))
 
 -- what is called from there on
-abbrev pub left : Program → Place → List Call → Option Event
-left p w =
+abbrev pub rest_of_calls : Program → Place → List Call → Option Event
+rest_of_calls p w =
     if w.over then nothing
     else (if w.waiting then calls event.WaitEnd (ahead p w) else ahead p w)
 
 -- the walk stands where these calls of the program were made: whatever follows them, what is left is
 -- called
 pub record Stands (p : Program) (w : Place) (made : List Call) : Type 0 where
-  pub same : (more : List Call) → next p (made ++ more) ≡ left p w more
+  pub same : (more : List Call) → next p (made ++ more) ≡ rest_of_calls p w more
 
 -- the call that is left first is made, and the walk moves behind it
 pub record Moves (p : Program) (w : Place) (r : Reply) (moved : Place) : Type 0 where
   pub same :
-      (e : Event) (more : List Call) → left p w [] ≡ Some e
-      → left p w (call e r ∷ more) ≡ left p moved more
+      (e : Event) (more : List Call) → rest_of_calls p w [] ≡ Some e
+      → rest_of_calls p w (call e r ∷ more) ≡ rest_of_calls p moved more
 
 -- a script whose acts are those of the table
 abbrev pub HasActs : Program → List Act → Type 0

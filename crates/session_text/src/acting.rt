@@ -10,13 +10,13 @@ use vt_events::Event;
 
 /// An act, and the signal at which it is made.
 #[derive(Clone, Copy)]
-pub struct Found {
+pub(crate) struct Found {
     pub signal: u16,
     pub act: Act,
 }
 
 /// The call that the act is, where it isn't nothing.
-pub fn act_call(alloc: Global, act: Act) -> Result<Option<Event>, NoMemory>
+pub(crate) fn act_call(alloc: Global, act: Act) -> Result<Option<Event>, NoMemory>
     ensures { IfOk result (λ e. e ≡ act_call act) }
 {
     Ok(match act {
@@ -28,7 +28,7 @@ pub fn act_call(alloc: Global, act: Act) -> Result<Option<Event>, NoMemory>
 }
 
 /// The first act that isn't nothing, of the signals of the set from one on.
-pub fn first_act<H: Asks>(hooks: &H, given: SigSet, from: u16) -> Option<Found>
+pub(crate) fn first_act<H: Asks>(hooks: &H, given: SigSet, from: u16) -> Option<Found>
     requires { 1 ≤ from }
     ensures found { IfSome result (λ found. calls_from (H.acts hooks.now) given from
         ≡ option_to_list (act_call found.act)

@@ -6,7 +6,7 @@ use vt_base::{Errno, SigSet};
 use vt_events::{Event, Reply};
 
 /// Whether the call with this answer ends its program.
-pub fn ends(e: &Event, r: &Reply) -> bool
+pub(crate) fn ends(e: &Event, r: &Reply) -> bool
     ensures { result ≡ ends e.now r.now }
 {
     match e {
@@ -17,14 +17,14 @@ pub fn ends(e: &Event, r: &Reply) -> bool
 }
 
 /// Whether the caller wasn't alive.
-pub fn is_gone(r: &Reply) -> bool
+pub(crate) fn is_gone(r: &Reply) -> bool
     ensures { result ≡ is_gone r.now }
 {
     matches!(r, Reply::Err(Errno::Srch))
 }
 
 /// The signals that the answer gives.
-pub fn signals_in(r: &Reply) -> SigSet
+pub(crate) fn signals_in(r: &Reply) -> SigSet
     ensures { result ≡ signals_in r.now }
 {
     match r {

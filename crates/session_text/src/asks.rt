@@ -5,7 +5,7 @@ use sig_hooks::{Act, Handler, Hook, HookTable};
 use vt_base::Signal;
 
 /// What can be asked for the act of a signal: a table, and a hook that answers by one.
-pub trait Asks {
+pub(crate) trait Asks {
     ghost use Rattle.std.specs.Prelude.{List};
     ghost use Rattle.sig_hooks.specs.declared.act.Act.{Act};
 

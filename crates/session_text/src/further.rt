@@ -15,23 +15,23 @@ use toml::Value;
 use vt_base::Bytes;
 
 /// The most keyboards beside the first.
-const MOST: usize = 3;
+const MOST_FURTHER: usize = 3;
 
 /// How many keyboards there are, with the first one.
-pub fn keyboard_count(value: Option<&Value>) -> u8
+pub(crate) fn keyboard_count(value: Option<&Value>) -> u8
     ensures { result ≡ keyboards_of (option_map (λ v. view v.now) value.entry) }
 {
-    count(value).min(MOST) as u8 + 1
+    count(value).min(MOST_FURTHER) as u8 + 1
 }
 
 /// The scan bytes of each further keyboard.
-pub fn further(alloc: Global, value: Option<&Value>) -> Result<Vec<Bytes>, TableError>
+pub(crate) fn further(alloc: Global, value: Option<&Value>) -> Result<Vec<Bytes>, TableError>
     ensures further { GivesBy (λ found texts. found.items ≡ map text texts) result
         (further_of (option_map (λ v. view v.now) value.entry)) }
     ensures fit { IfOk result (λ found. IsFitFurther found.items) }
 {
     let texts = strings(alloc, value, 0, 12)?;
-    if texts.len() > MOST {
+    if texts.len() > MOST_FURTHER {
         return Err(refused(OUT_OF_RANGE, 0, 12));
     }
     let items = all_items(alloc, texts.as_slice())?;

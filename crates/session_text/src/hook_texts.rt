@@ -8,7 +8,7 @@ use sig_hooks::Act;
 use vt_base::{lower_hex_value, parse_decimal};
 
 /// The hook that the words spell.
-pub fn hook_of(words: &[&str]) -> Option<Found>
+pub(crate) fn hook_of(words: &[&str]) -> Option<Found>
     ensures found { IfSome result
         (λ found. IsHook (map (λ word. word.now) words.now) found.signal found.act) }
     ensures none { IfNone result ((signal : ℕ) (act : Act)
@@ -90,7 +90,7 @@ fn put(fd: &str, digits: &str) -> Option<Act>
 }
 
 /// The number of 16 bits that the word spells.
-pub fn number(word: &str) -> Option<u16>
+pub(crate) fn number(word: &str) -> Option<u16>
     ensures found { IfSome result (λ n. decimal n ≡ word.now) }
     ensures none { IfNone result ((n : ℕ) → n < 2 ^ 16 → decimal n ≢ word.now) }
 {

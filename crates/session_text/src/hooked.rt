@@ -3,7 +3,7 @@ use vt_base::SigSet;
 
 /// The acts of hooks, and the signals that have one.
 #[derive(Drop)]
-pub struct Hooked {
+pub(crate) struct Hooked {
     pub acts: HookTable,
     pub signals: SigSet,
 }

@@ -14,7 +14,7 @@ use vt_base::{SigSet, Signal};
 const HOOK: u16 = 26;
 
 /// The hooks of process `part`: 26 at the first text that is none, or whose signal has one already.
-pub fn hooks(alloc: Global, part: u32, texts: &[&str]) -> Result<Hooked, TableError>
+pub(crate) fn hooks(alloc: Global, part: u32, texts: &[&str]) -> Result<Hooked, TableError>
     ensures { Reads (λ hooked. hooked) result
         (hooks_say part 1 no_hooks (map (λ text. text.now) texts.now)) }
 {
@@ -71,7 +71,7 @@ fn with_hook(
 }
 
 /// The words of a text, with one blank between each and the next.
-pub fn words(alloc: Global, text: &str) -> Result<Vec<&str>, AllocError>
+pub(crate) fn words(alloc: Global, text: &str) -> Result<Vec<&str>, AllocError>
     ensures { IfOk result (λ words. map (λ word. word.now) words.items ≡ words_of text.now) }
 {
     Ok(text.split(' ').collect(alloc)?)

@@ -19,7 +19,7 @@ struct Said {
 }
 
 /// The item that the text is.
-pub fn item(alloc: Global, text: &str) -> Result<Option<Event>, NoMemory>
+pub(crate) fn item(alloc: Global, text: &str) -> Result<Option<Event>, NoMemory>
     ensures found { IfOk result (λ found. IfSome found (IsItem text.now)) }
     ensures none { IfOk result (λ found. IfNone found ((e : Event) → ¬ IsItem text.now e)) }
 {

@@ -5,13 +5,13 @@ ghost use Rattle.table_fields.specs.Fields.{most_scan_bytes};
 ghost use Rattle.toml.specs.View.{table_view};
 ghost use Rattle.session_text.specs.Keyboards.{IsKeyboardOf, typed_of};
 
-use crate::keyboard::Keyboard;
+use crate::keyboard::SessionKeyboard;
 use std::alloc::Global;
 use table_fields::{TableError, at, keymap, scan_bytes, text, texts};
 use toml::Table;
 
 /// The keymap and the scan bytes of a session's table.
-pub fn keyboard(alloc: Global, table: &Table) -> Result<Keyboard, TableError>
+pub(crate) fn keyboard(alloc: Global, table: &Table) -> Result<SessionKeyboard, TableError>
     ensures keyboard { GivesBy IsKeyboardOf result (typed_of (table_view table.now)) }
     ensures few { IfOk result (λ k. length k.keys.bytes ≤ most_scan_bytes) }
 {
@@ -20,5 +20,5 @@ pub fn keyboard(alloc: Global, table: &Table) -> Result<Keyboard, TableError>
     let tables = keymap(alloc, &included, keymap_text)?;
     let items = text(at(table, "keys"), 0, 9)?;
     let keys = scan_bytes(alloc, items, 0, 9)?;
-    Ok(Keyboard { tables, keys })
+    Ok(SessionKeyboard { tables, keys })
 }

@@ -3,7 +3,7 @@ ghost use Rattle.std.specs.Prelude.{IfOk};
 ghost use Rattle.session_text.specs.Parts.{AreFit, IsMadeOf};
 
 use crate::Session;
-use crate::parts::Parts;
+use crate::parts::SessionParts;
 use crate::starts::{programs, starts};
 use std::alloc::Global;
 use vt_base::{NoMemory, Size};
@@ -11,11 +11,11 @@ use vt_journal::Limits;
 use vt_procs::Config;
 
 /// The session of the parts.
-pub fn session(alloc: Global, parts: Parts) -> Result<Session, NoMemory>
+pub(crate) fn session(alloc: Global, parts: SessionParts) -> Result<Session, NoMemory>
     requires { AreFit parts }
     ensures { IfOk result (IsMadeOf parts) }
 {
-    let Parts {
+    let SessionParts {
         opening,
         keyboard,
         turns,

@@ -2,7 +2,7 @@ use vt_base::ConsoleNo;
 
 /// The numbers that a session begins with.
 #[derive(Drop)]
-pub struct Opening {
+pub(crate) struct SessionHeader {
     pub rows: u8,
     pub cols: u8,
     /// Bit n is console n.

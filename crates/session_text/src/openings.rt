@@ -6,7 +6,7 @@ ghost use Rattle.toml.specs.View.{table_view, view};
 ghost use Rattle.vt_base.specs.ConsoleSet.{is_among};
 ghost use Rattle.session_text.specs.Openings.{IsOpening, consoles_in, consoles_of, front_of, lowest_from, opening_of, some_consoles};
 
-use crate::opening::Opening;
+use crate::opening::SessionHeader;
 use std::alloc::Global;
 use table_fields::{Numbers, TableError, at, integers, number, refused, within};
 use toml::{Table, Value};
@@ -47,7 +47,7 @@ const BYTES: Numbers = Numbers {
 };
 
 /// The first six keys of a session's table.
-pub fn opening(alloc: Global, table: &Table) -> Result<Opening, TableError>
+pub(crate) fn opening(alloc: Global, table: &Table) -> Result<SessionHeader, TableError>
     ensures opening { Gives (λ o. o) result (opening_of (table_view table.now)) }
     ensures fit { IfOk result IsOpening }
 {
@@ -57,7 +57,7 @@ pub fn opening(alloc: Global, table: &Table) -> Result<Opening, TableError>
     let front = front(consoles, at(table, "front"))?;
     let events = number(at(table, "events"), 0, 5, EVENTS)?;
     let bytes = number(at(table, "bytes"), 0, 6, BYTES)?;
-    Ok(Opening {
+    Ok(SessionHeader {
         rows: rows as u8,
         cols: cols as u8,
         consoles,

@@ -1,13 +1,13 @@
-use crate::keyboard::Keyboard;
-use crate::opening::Opening;
+use crate::keyboard::SessionKeyboard;
+use crate::opening::SessionHeader;
 use crate::process::Process;
 use vt_base::Bytes;
 
 /// The parts of a session.
 #[derive(Drop)]
-pub struct Parts {
-    pub opening: Opening,
-    pub keyboard: Keyboard,
+pub(crate) struct SessionParts {
+    pub opening: SessionHeader,
+    pub keyboard: SessionKeyboard,
     pub turns: Bytes,
     pub processes: Vec<Process>,
     /// The scan bytes of the further keyboards.

@@ -4,7 +4,7 @@ use vt_procs::ProcStart;
 
 /// A process of a session: what it has at the start, and its program.
 #[derive(Drop)]
-pub struct Process {
+pub(crate) struct Process {
     pub start: ProcStart,
     pub items: Items,
     pub hooks: HookTable,

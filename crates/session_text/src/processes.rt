@@ -35,13 +35,13 @@ const HOMES: Numbers = Numbers {
 
 // What a process has at the start, and the texts of its script.
 #[derive(Drop)]
-struct Head<'a> {
+struct ProcessTable<'a> {
     start: ProcStart,
     script: Vec<&'a str>,
 }
 
 /// Process `part` of a session, from its table.
-pub fn process(alloc: Global, part: u32, table: &Table) -> Result<Process, TableError>
+pub(crate) fn process(alloc: Global, part: u32, table: &Table) -> Result<Process, TableError>
     ensures says { Reads (λ process. process) result (process_says part (table_view table.now)) }
     ensures script { IfOk result (λ process. IsScript process.items) }
 {
@@ -59,7 +59,7 @@ pub fn process(alloc: Global, part: u32, table: &Table) -> Result<Process, Table
 }
 
 /// The processes of a session, each from its table.
-pub fn processes(alloc: Global, tables: &[&Table]) -> Result<Vec<Process>, TableError>
+pub(crate) fn processes(alloc: Global, tables: &[&Table]) -> Result<Vec<Process>, TableError>
     requires { length tables.now ≤ 64 }
     ensures says { Reads (λ found. found.items) result
         (each_says process_says 1 (map (λ table. table_view table.now) tables.now)) }
@@ -77,7 +77,7 @@ pub fn processes(alloc: Global, tables: &[&Table]) -> Result<Vec<Process>, Table
 }
 
 // The first three keys.
-fn read_head<'a>(alloc: Global, part: u32, table: &'a Table) -> Result<Head<'a>, TableError>
+fn read_head<'a>(alloc: Global, part: u32, table: &'a Table) -> Result<ProcessTable<'a>, TableError>
     ensures head { Gives
         (λ head. record { start = head.start; script = map (λ text. text.now) head.script.items }) result
         (head_of part (table_view table.entry.now)) }
@@ -96,7 +96,7 @@ fn read_head<'a>(alloc: Global, part: u32, table: &'a Table) -> Result<Head<'a>,
         home: home as u8,
         privileged,
     };
-    Ok(Head { start, script })
+    Ok(ProcessTable { start, script })
 }
 
 #[tactic(auto, using(table_fields::proofs::Keys::keys_view))]

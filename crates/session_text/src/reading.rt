@@ -7,7 +7,7 @@ ghost use Rattle.session_text.specs.Sessions.{IsSessionOf, session_at, session_s
 
 use crate::Session;
 use crate::making::session;
-use crate::parts::Parts;
+use crate::parts::SessionParts;
 use crate::processes::processes;
 use crate::tops::read_top;
 use std::alloc::Global;
@@ -29,13 +29,13 @@ fn read_table(alloc: Global, table: &Table) -> Result<Session, TableError>
     Ok(session(alloc, parts)?)
 }
 
-fn read_parts(alloc: Global, table: &Table) -> Result<Parts, TableError>
+fn read_parts(alloc: Global, table: &Table) -> Result<SessionParts, TableError>
     ensures parts { ReadsBy AreOf result (session_at (table_view table.now)) }
     ensures fit { IfOk result AreFit }
 {
     let top = read_top(alloc, table)?;
     match processes(alloc, top.tables.as_slice()) {
-        Ok(processes) => Ok(Parts {
+        Ok(processes) => Ok(SessionParts {
             opening: top.opening,
             keyboard: top.keyboard,
             turns: top.turns,

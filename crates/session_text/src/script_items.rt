@@ -15,7 +15,7 @@ use vt_events::Event;
 const ITEM: u16 = 25;
 
 /// The items of process `part`: 25 at the first text that is none.
-pub fn items(alloc: Global, part: u32, texts: &[&str]) -> Result<Items, TableError>
+pub(crate) fn items(alloc: Global, part: u32, texts: &[&str]) -> Result<Items, TableError>
     requires { length texts.now ≤ most_items }
     ensures says { Reads (λ items. items.events) result
         (each_says (item_says part) 1 (map (λ text. text.now) texts.now)) }

@@ -10,7 +10,7 @@ use vt_base::{Bytes, NoMemory};
 use vt_procs::ProcList;
 
 /// What the processes have at the start.
-pub fn starts(processes: &[Process]) -> ProcList
+pub(crate) fn starts(processes: &[Process]) -> ProcList
     requires { length processes.now ≤ 64 }
     ensures { result ≡ map (λ process. process.start) processes.now }
 {
@@ -23,7 +23,7 @@ pub fn starts(processes: &[Process]) -> ProcList
 
 /// The programs of the callers: the first keyboard's, then one for each process, and then those of the
 /// further keyboards.
-pub fn programs(
+pub(crate) fn programs(
     alloc: Global,
     keys: Bytes,
     processes: Vec<Process>,

@@ -9,9 +9,9 @@ ghost use Rattle.session_text.specs.Parts.{IsFitTop, IsTop};
 ghost use Rattle.session_text.specs.Tops.{is_screen_key, is_top_key, top_of};
 
 use crate::further::{further, keyboard_count};
-use crate::keyboard::Keyboard;
+use crate::keyboard::SessionKeyboard;
 use crate::keyboards::keyboard;
-use crate::opening::Opening;
+use crate::opening::SessionHeader;
 use crate::openings::opening;
 use crate::turns::turns;
 use std::alloc::Global;
@@ -30,9 +30,9 @@ const PROCESSES: usize = 64;
 
 /// What a session's table says, with the tables of its processes.
 #[derive(Drop)]
-pub struct Top<'a> {
-    pub opening: Opening,
-    pub keyboard: Keyboard,
+pub(crate) struct SessionTable<'a> {
+    pub opening: SessionHeader,
+    pub keyboard: SessionKeyboard,
     pub turns: Bytes,
     pub tables: Vec<&'a Table>,
     /// The scan bytes of the further keyboards.
@@ -40,7 +40,7 @@ pub struct Top<'a> {
 }
 
 /// The keys in the order of the checks.
-pub fn read_top<'a>(alloc: Global, table: &'a Table) -> Result<Top<'a>, TableError>
+pub(crate) fn read_top<'a>(alloc: Global, table: &'a Table) -> Result<SessionTable<'a>, TableError>
     ensures top { GivesBy IsTop result (top_of (table_view table.entry.now)) }
     ensures fit { IfOk result IsFitTop }
 {
@@ -58,7 +58,7 @@ pub fn read_top<'a>(alloc: Global, table: &'a Table) -> Result<Top<'a>, TableErr
         return Err(refused(RANGE, 0, 11));
     }
     let further = further(alloc, more)?;
-    Ok(Top {
+    Ok(SessionTable {
         opening,
         keyboard,
         turns,

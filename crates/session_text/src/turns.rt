@@ -11,7 +11,7 @@ use toml::Value;
 use vt_base::Bytes;
 
 /// The most turns. This project's own.
-const MOST: usize = 1_000_000;
+const MOST_TURNS: usize = 1_000_000;
 
 /// A turn of nobody who is there.
 const TURN: u16 = 28;
@@ -20,7 +20,7 @@ const TURN: u16 = 28;
 const TOO_MANY: u16 = 29;
 
 /// The turns, each the number of one of so many processes or keyboards.
-pub fn turns(
+pub(crate) fn turns(
     alloc: Global,
     processes: usize,
     keyboards: u8,
@@ -32,7 +32,7 @@ pub fn turns(
     ensures each { IfOk result (λ b. All (λ t. is_there processes keyboards t ≡ true) b.bytes) }
 {
     let numbers = integers(alloc, value, 0, 10)?;
-    if numbers.len() > MOST {
+    if numbers.len() > MOST_TURNS {
         return Err(refused(TOO_MANY, 0, 10));
     }
     turn_bytes(alloc, processes as u64, keyboards, numbers.as_slice())

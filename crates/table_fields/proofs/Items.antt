@@ -5,7 +5,7 @@ use Rattle.std.specs.List.{slice_split}
 use Rattle.table_fields.specs.Fields.{items_of}
 
 -- a text that isn't empty has the parts between its blanks
-pub items-some : (text : List ℕ) → (length text == 0) ≡ false
+pub items_some : (text : List ℕ) → (length text == 0) ≡ false
     → items_of text ≡ slice_split (λ b. b == 0x20) text
-items-some [] none = absurd (true≢false none)
-items-some (c ∷ text) some = refl
+items_some [] none = absurd (true≢false none)
+items_some (c ∷ text) some = refl

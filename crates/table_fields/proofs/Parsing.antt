@@ -8,16 +8,16 @@ use Rattle.table_fields.specs.FaultCodes.{NO_DOCUMENT}
 use Rattle.table_fields.specs.Checked.{fault}
 use Rattle.table_fields.specs.Fields.{document_in, document_of}
 
-pub document-some : (text : List ℕ) (table : Members) → IsUtf8 text
+pub document_some : (text : List ℕ) (table : Members) → IsUtf8 text
     → parse_document text ≡ Some table → document_of text ≡ Ok table
-document-some text table utf8 parsed =
+document_some text table utf8 parsed =
     ap (λ (b : Bool). cond b (document_in (parse_document text)) (Err (fault NO_DOCUMENT 0 0)))
     (is_utf8-from_IsUtf8 text utf8)
     ∙ ap document_in parsed
 
-pub document-none : (text : List ℕ) → (IsUtf8 text → parse_document text ≡ None)
+pub document_none : (text : List ℕ) → (IsUtf8 text → parse_document text ≡ None)
     → document_of text ≡ Err (fault NO_DOCUMENT 0 0)
-document-none text none = by_test (is_utf8 text) refl
+document_none text none = by_test (is_utf8 text) refl
   where
     by_test : (b : Bool) → is_utf8 text ≡ b
         → cond b (document_in (parse_document text)) (Err (fault NO_DOCUMENT 0 0)) ≡ Err (fault NO_DOCUMENT 0 0)

@@ -53,14 +53,14 @@ text_of part key None = Ok []
 text_of part key (Some d) = text_in (fault WRONG_KIND part key) (as_str d)
 
 -- the texts of a table, by their names, behind those before them
-abbrev pub texts_behind : TableFault → List Named → Members → Result (List Named) TableFault
-texts_behind not_one before no_members = Ok before
-texts_behind not_one before (member name d more) =
-    text_in not_one (as_str d) >>= λ text. texts_behind not_one (with_text name text before) more
+abbrev pub texts_after : TableFault → List Named → Members → Result (List Named) TableFault
+texts_after not_one before no_members = Ok before
+texts_after not_one before (member name d more) =
+    text_in not_one (as_str d) >>= λ text. texts_after not_one (with_text name text before) more
 
 abbrev pub texts_in : TableFault → Option Members → Result (List Named) TableFault
 texts_in not_one None = Err not_one
-texts_in not_one (Some members) = texts_behind not_one [] members
+texts_in not_one (Some members) = texts_after not_one [] members
 
 -- the table of texts at a key, without one no texts: 22 where it is none
 abbrev pub texts_of : ℕ → ℕ → Option Data → Result (List Named) TableFault

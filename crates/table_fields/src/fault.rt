@@ -21,7 +21,7 @@ pub enum TableError {
 }
 
 /// The fault of this kind at a place.
-pub fn fault(kind: u16, part: u32, item: u32) -> TableFault
+pub(crate) fn fault(kind: u16, part: u32, item: u32) -> TableFault
     ensures { result ≡ fault kind part item }
 {
     TableFault { kind, part, item }

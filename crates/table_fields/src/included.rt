@@ -1,7 +1,7 @@
 ghost use Rattle.std.specs.Prelude.{[], option_map};
 ghost use Rattle.toml.specs.View.{table_view, view};
 ghost use Rattle.table_fields.specs.Checked.{Gives, fault};
-ghost use Rattle.table_fields.specs.Fields.{texts_behind, texts_of};
+ghost use Rattle.table_fields.specs.Fields.{texts_after, texts_of};
 
 use crate::fault::{TableError, refused};
 use crate::fault_code::WRONG_KIND;
@@ -31,7 +31,7 @@ pub fn texts(
 // The texts of a table.
 fn table_texts(alloc: Global, table: &Table, part: u32, key: u32) -> Result<Includes, TableError>
     ensures { Gives (λ texts. texts) result
-        (texts_behind (fault 22 part key) [] (table_view table.now)) }
+        (texts_after (fault 22 part key) [] (table_view table.now)) }
 {
     let mut texts = Includes::none(alloc);
     for (name, value) in table.iter() {

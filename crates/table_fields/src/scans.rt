@@ -8,7 +8,7 @@ use std::alloc::{AllocError, Global};
 use vt_base::{Bytes, hex_value};
 
 // The most scan bytes of a table. This project's own.
-const MOST: usize = 100_000;
+const MOST_SCAN_BYTES: usize = 100_000;
 
 /// The scan bytes of a text, each two hexadecimal digits, with one blank between: 29 where there are
 /// more than 100,000, 27 at the first item that is none.
@@ -29,7 +29,7 @@ pub fn scan_items(alloc: Global, text: &str, part: u32, key: u32) -> Result<Vec<
     ensures few { IfOk result (λ items. length items.items ≤ most_scan_bytes) }
 {
     let items = cut_items(alloc, text)?;
-    if items.len() > MOST {
+    if items.len() > MOST_SCAN_BYTES {
         return Err(refused(TOO_MANY, part, key));
     }
     Ok(items)

@@ -10,8 +10,8 @@ use Rattle.turn_lock.specs.declared.view.Joined.{Joined}
 use Rattle.turn_lock.specs.declared.view.Role.{Role}
 use Rattle.turn_lock.specs.declared.view.Role.TheVariants.{First, Caller, Spent}
 use Rattle.turn_lock.specs.History.{IsDisplay, IsWordIn, StartsWith, word_of}
-use Rattle.turn_lock.specs.Views.{IsLive, IsFirst, HasNumber, newcomer, spent, with_number}
-use Rattle.turn_lock.specs.Views.{numbered, joining, both}
+use Rattle.turn_lock.specs.Views.{IsLive, IsFirst, HasNumber, newcomer, joined_away, with_number}
+use Rattle.turn_lock.specs.Views.{as_caller, joined_view, both}
 use Rattle.turn_lock.specs.Rule.{PartB, PartD}
 use Rattle.turn_lock.specs.Told.{Reads}
 use Rattle.turn_lock.proofs.Lists.{at_end, each_set, each_front, each_split, each_join, each_one}
@@ -81,15 +81,15 @@ module _ {K W Z : Type 0} (before : ℕ) (Right : List (Entry W) → Type 0)
   pub splits_D : PartD before Right joined log (state words homes views) → get_elem? views id ≡ some v
       → IsFirst v.role → (n : ℕ)
       → PartD before Right joined log (state words homes
-      (set views id (with_number n v) ++ numbered n v ∷ []))
+      (set views id (with_number n v) ++ as_caller n v ∷ []))
   splits_D d at first n = let own = d.known id v at (first_live v.role first) in
       let read = d.read id v at in record {
         right = d.right;
         shown = d.shown;
         known = each_split (λ (j : ℕ) (u : View W Z). IsLive u.role → IsWordIn before log u.known) views
-            id (with_number n v) (numbered n v) (λ l. own) (λ l. own) (λ j u ne q. d.known j u q);
+            id (with_number n v) (as_caller n v) (λ l. own) (λ l. own) (λ j u ne q. d.known j u q);
         read = each_split (λ (j : ℕ) (u : View W Z). StartsWith log u.read) views id (with_number n v)
-            (numbered n v) read read (λ j u ne q. d.read j u q);
+            (as_caller n v) read read (λ j u ne q. d.read j u q);
         joined_known = d.joined_known;
         joined_read = d.joined_read;
       }
@@ -97,25 +97,25 @@ module _ {K W Z : Type 0} (before : ℕ) (Right : List (Entry W) → Type 0)
   pub joins_D : PartD before Right joined log (state words homes views) → get_elem? views id ≡ some v
       → IsFirst v.role → (other : ℕ) (w : View W Z) → get_elem? views other ≡ some w
       → HasNumber w.role
-      → PartD before Right (joining v w ∷ joined) log
-      (state words homes (set (set views id (both v w)) other spent))
-  joins_D d at first other w at_w numbered =
+      → PartD before Right (joined_view v w ∷ joined) log
+      (state words homes (set (set views id (both v w)) other joined_away))
+  joins_D d at first other w at_w as_caller =
       let own = d.known id v at (first_live v.role first) in
-      let theirs = d.known other w at_w (number_live w.role numbered) in record {
+      let theirs = d.known other w at_w (number_live w.role as_caller) in record {
         right = d.right;
         shown = d.shown;
         known = each_join (λ (j : ℕ) (u : View W Z). IsLive u.role → IsWordIn before log u.known)
-            views id other (both v w) spent
+            views id other (both v w) joined_away
             (λ l. word_either before log v.known w.known own theirs) (λ l. absurd l)
             (λ j u ne nor q. d.known j u q);
         read = each_join (λ (j : ℕ) (u : View W Z). StartsWith log u.read) views id other (both v w)
-            spent (longer_starts log v.read w.read (d.read id v at) (d.read other w at_w))
+            joined_away (longer_starts log v.read w.read (d.read id v at) (d.read other w at_w))
             (starts_empty log) (λ j u ne nor q. d.read j u q);
         joined_known = each_front (λ (i : ℕ) (y : Joined W Z). IsWordIn before log y.known) joined
-            (joining v w) theirs d.joined_known;
+            (joined_view v w) theirs d.joined_known;
         joined_read = each_front
             (λ (i : ℕ) (y : Joined W Z). StartsWith log y.read × StartsWith log y.beside_read) joined
-            (joining v w) (d.read other w at_w, d.read id v at) d.joined_read;
+            (joined_view v w) (d.read other w at_w, d.read id v at) d.joined_read;
       }
 
   -- what the word says to the pass that reads it

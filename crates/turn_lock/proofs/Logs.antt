@@ -16,7 +16,7 @@ use Rattle.turn_lock.specs.declared.view.Stage.{Stage}
 use Rattle.turn_lock.specs.declared.view.Stage.TheVariants.{Idle, Waits, Has}
 use Rattle.turn_lock.specs.History.{StartsWith, entries_by, word_of}
 use Rattle.turn_lock.specs.Views.{among, IsFirst, HasNumber, made_of, joined_of, number_of}
-use Rattle.turn_lock.specs.Views.{newcomer, spent, with_number, numbered, joining, both, published}
+use Rattle.turn_lock.specs.Views.{newcomer, joined_away, with_number, as_caller, joined_view, both, with_published}
 use Rattle.turn_lock.specs.Rule.{Holds, HasTurn, Named, OwnsJoined, Owns, PartA, PartB}
 use Rattle.turn_lock.proofs.Lists.{at_end, each_set, each_front, each_split, each_join, each_one}
 use Rattle.turn_lock.proofs.Lists.{each_none}
@@ -116,12 +116,12 @@ module _ {K W Z : Type 0} (before : ℕ) (entries : K → List (Entry W)) (joine
         → e.seq ≡ length v.mine
         → (words' : List ℕ) → get_or words' 2 0 ≡ word_of before (v.seen ++ e ∷ [])
         → PartB before entries (log ++ e ∷ [])
-        (state words' homes (set views id (published (v.seen ++ e ∷ []) v)))
+        (state words' homes (set views id (with_published (v.seen ++ e ∷ []) v)))
     adds a b at t has e role next words' front =
         let whole : v.seen ≡ log = sees_all b at t v.seen has in
         let grown : v.seen ++ e ∷ [] ≡ log ++ e ∷ [] = ap (λ (l : List (Entry W)). l ++ e ∷ [])
         whole in
-        let w = published (v.seen ++ e ∷ []) v in
+        let w = with_published (v.seen ++ e ∷ []) v in
         let turn : HasTurn v.stage = subst HasTurn (sym has) tt in
         let mine : v.mine ≡ entries_by e.by log = subst (λ (r : Role W Z). Owns log r v.mine) role
         (b.owned id v at) in
@@ -163,18 +163,18 @@ module _ {K W Z : Type 0} (before : ℕ) (entries : K → List (Entry W)) (joine
     pub splits_B : PartB before entries log (state words homes views) → get_elem? views id ≡ some v
         → IsFirst v.role → (n : ℕ) → among n (made_of v.role) ≡ false
         → PartB before entries log
-        (state words homes (set views id (with_number n v) ++ numbered n v ∷ []))
+        (state words homes (set views id (with_number n v) ++ as_caller n v ∷ []))
     splits_B b at first n fresh =
         let owns = owns_first log v.mine v.role first (b.owned id v at) in record {
           front_is = b.front_is;
           told = b.told;
           held = each_split (λ (j : ℕ) (u : View W Z). Holds log u.stage) views id (with_number n v)
-              (numbered n v) (b.held id v at) (b.held id v at) (λ j u ne q. b.held j u q);
+              (as_caller n v) (b.held id v at) (b.held id v at) (λ j u ne q. b.held j u q);
           seen = each_split (λ (j : ℕ) (u : View W Z). StartsWith log u.seen) views id
-              (with_number n v) (numbered n v) (b.seen id v at) (b.seen id v at)
+              (with_number n v) (as_caller n v) (b.seen id v at) (b.seen id v at)
               (λ j u ne q. b.seen j u q);
           owned = each_split (λ (j : ℕ) (u : View W Z). Owns log u.role u.mine) views id
-              (with_number n v) (numbered n v)
+              (with_number n v) (as_caller n v)
               (record {
                 unmade = λ k q. owns.unmade k (among_less k n (made_of v.role) q);
                 mine = owns.mine;
@@ -188,24 +188,24 @@ module _ {K W Z : Type 0} (before : ℕ) (entries : K → List (Entry W)) (joine
     pub joins_B : PartB before entries log (state words homes views) → get_elem? views id ≡ some v
         → IsFirst v.role
         → (other : ℕ) (w : View W Z) → get_elem? views other ≡ some w → HasNumber w.role
-        → PartB before entries log (state words homes (set (set views id (both v w)) other spent))
-    joins_B b at first other w at_w numbered =
+        → PartB before entries log (state words homes (set (set views id (both v w)) other joined_away))
+    joins_B b at first other w at_w as_caller =
         let owns = owns_first log v.mine v.role first (b.owned id v at) in
-        let x = joining v w in let js = joined_of v.role in record {
+        let x = joined_view v w in let js = joined_of v.role in record {
           front_is = b.front_is;
           told = b.told;
           held = each_join (λ (j : ℕ) (u : View W Z). Holds log u.stage) views id other (both v w)
-              spent (b.held id v at) tt (λ j u ne nor q. b.held j u q);
+              joined_away (b.held id v at) tt (λ j u ne nor q. b.held j u q);
           seen = each_join (λ (j : ℕ) (u : View W Z). StartsWith log u.seen) views id other
-              (both v w) spent
+              (both v w) joined_away
               (longer_starts log v.seen w.seen (b.seen id v at) (b.seen other w at_w))
               (starts_empty log) (λ j u ne nor q. b.seen j u q);
           owned = each_join (λ (j : ℕ) (u : View W Z). Owns log u.role u.mine) views id other
-              (both v w) spent
+              (both v w) joined_away
               (record {
                 unmade = owns.unmade;
                 mine = each_front (λ (i : ℕ) (y : Joined W Z). y.mine ≡ entries_by y.number log) js
-                    x (owns_number log w.mine w.role numbered (b.owned other w at_w)) owns.mine;
+                    x (owns_number log w.mine w.role as_caller (b.owned other w at_w)) owns.mine;
                 seen = each_front (λ (i : ℕ) (y : Joined W Z). StartsWith log y.seen) js x
                     (b.seen other w at_w) owns.seen;
                 beside = each_front (λ (i : ℕ) (y : Joined W Z). StartsWith log y.beside) js x

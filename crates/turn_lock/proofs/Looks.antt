@@ -17,11 +17,11 @@ use Rattle.turn_lock.specs.declared.view.Role.{Role}
 use Rattle.turn_lock.specs.declared.view.Role.TheVariants.{First, Caller, Spent}
 use Rattle.turn_lock.specs.declared.view.Stage.TheVariants.{Waits}
 use Rattle.turn_lock.specs.History.{IsCounted, IsShown, StartsWith, IsWordIn}
-use Rattle.turn_lock.specs.Views.{IsLive, ticket_of, having}
+use Rattle.turn_lock.specs.Views.{IsLive, ticket_of, with_turn}
 use Rattle.turn_lock.specs.Words.{HasMine}
 use Rattle.turn_lock.specs.Rule.{Queued, HasTurn, Named, IsCaller, Owns, PartA, PartB, PartC, PartD}
 use Rattle.turn_lock.specs.Rule.{Rule}
-use Rattle.turn_lock.specs.Told.{Finds, looked}
+use Rattle.turn_lock.specs.Told.{Finds, LoadsServing}
 use Rattle.turn_lock.proofs.Lists.{same_at}
 use Rattle.turn_lock.proofs.Seats.{state, some_step}
 use Rattle.turn_lock.proofs.Holders.{served}
@@ -52,7 +52,7 @@ module _ {K W Z : Type 0} (before : ℕ) (entries : K → List (Entry W)) (seal 
       → get_or s.words 1 0 ≢ ticket_of me.0.stage % 2 ^ 64
       → Rule before entries seal Right
       (state (set s.words 1 (get_or s.words 1 0)) s.homes (set s.views id me.0))
-      × looked before entries seal some_step me (get_or s.words 1 0) me
+      × LoadsServing before entries seal some_step me (get_or s.words 1 0) me
   looks_past slots id me s rule at other = (
     subst (Rule before entries seal Right) (unmoved rule.0 s.words s.homes s.views id me.0 1 at) rule,
     ((λ e. absurd (other e)), (λ ne. refl)),
@@ -123,9 +123,9 @@ module _ {K W Z : Type 0} (before : ℕ) (entries : K → List (Entry W)) (seal 
       → (k : K) × (get_elem? s.homes 0 ≡ some (some (Some k)))
       × Rule before entries seal Right
       (state (set s.words 1 (get_or s.words 1 0)) (set s.homes 0 none)
-      (set s.views id (having (ticket_of me.0.stage) (entries k) (seal k) me.0)))
-      × looked before entries seal some_step me (get_or s.words 1 0)
-      (having (ticket_of me.0.stage) (entries k) (seal k) me.0, (0, Some k) ∷ me.1)
+      (set s.views id (with_turn (ticket_of me.0.stage) (entries k) (seal k) me.0)))
+      × LoadsServing before entries seal some_step me (get_or s.words 1 0)
+      (with_turn (ticket_of me.0.stage) (entries k) (seal k) me.0, (0, Some k) ∷ me.1)
   looks_on id me s rule at waits live found =
       let v = me.0 in let joined = rule.0 in let log = rule.1 in let a = rule.2 in let b = rule.3 in
       let c = rule.4 in let d = rule.5 in
@@ -134,7 +134,7 @@ module _ {K W Z : Type 0} (before : ℕ) (entries : K → List (Entry W)) (seal 
       let waits' : v.stage ≡ Waits a.serving = waits ∙ ap (λ (u : ℕ). Waits u) (sym same) in
       let home = not_out joined s id v a at waits' in
       let h = a.home home in let k = h.0 in
-      let w = having t (entries k) (seal k) v in
+      let w = with_turn t (entries k) (seal k) v in
       let deep : length s.homes ≡ 1 = a.deep in
       let gone : (k' : K) → get_elem? (set s.homes 0 none) 0 ≡ some (some (Some k')) → ⊥ = λ k' q.
       let x = set_here s.homes 0 none (omega arith) in
@@ -145,7 +145,7 @@ module _ {K W Z : Type 0} (before : ℕ) (entries : K → List (Entry W)) (seal 
         joined,
         log,
         subst (λ (u : ℕ). PartA joined
-            (state s.words (set s.homes 0 none) (set s.views id (having u (entries k) (seal k) v))))
+            (state s.words (set s.homes 0 none) (set s.views id (with_turn u (entries k) (seal k) v))))
             same
             (takes_A joined s.words s.homes s.views id v a at live waits' home (entries k)
             (seal k)),
@@ -172,11 +172,11 @@ module _ {K W Z : Type 0} (before : ℕ) (entries : K → List (Entry W)) (seal 
   pub looks_ok : (slots id : ℕ) (me : Me (Option K) (View W Z))
       → me.0.stage ≡ Waits (ticket_of me.0.stage) → IsLive me.0.role
       → Allows (Rule before entries seal Right) slots id me 1 (λ n. n)
-      (looked before entries seal some_step me)
+      (LoadsServing before entries seal some_step me)
   looks_ok slots id me waits live s rule deep at small = dite
       (ℕ_discrete (get_or s.words 1 0) (ticket_of me.0.stage % 2 ^ 64))
       (λ e. let r = looks_on id me s rule at waits live e in (
-        having (ticket_of me.0.stage) (entries r.0) (seal r.0) me.0,
+        with_turn (ticket_of me.0.stage) (entries r.0) (seal r.0) me.0,
         takes 0 (Some r.0),
         r.1,
         r.2,

@@ -17,7 +17,7 @@ use Rattle.turn_lock.specs.declared.view.Role.TheVariants.{First, Caller, Spent}
 use Rattle.turn_lock.specs.declared.view.Stage.{Stage}
 use Rattle.turn_lock.specs.declared.view.Stage.TheVariants.{Idle}
 use Rattle.turn_lock.specs.Views.{among, IsFirst, HasNumber, made_of, joined_of, number_of}
-use Rattle.turn_lock.specs.Views.{newcomer, spent, with_number, numbered, joining, both}
+use Rattle.turn_lock.specs.Views.{newcomer, joined_away, with_number, as_caller, joined_view, both}
 use Rattle.turn_lock.specs.Words.{has_joined}
 use Rattle.turn_lock.specs.Rule.{Queued, HasTicket, HasTurn, Named, IsCaller, Placed, PartA}
 use Rattle.turn_lock.proofs.Lists.{put, put_here, put_else, in_range, same_at, each_front}
@@ -129,20 +129,20 @@ module _ {W Z : Type 0} where
       (id other : ℕ) (v w left : View W Z) → get_elem? views id ≡ some v → IsFirst v.role
       → get_elem? views other ≡ some w → HasNumber w.role → (k : ℕ) → k ≢ number_of w.role
       → (seat : Option ℕ) → Placed views joined k seat
-      → Placed (set (set views id left) other spent) (x ∷ joined) k seat
-  join_placed views joined x id other v w left at first at_w numbered k ne None
+      → Placed (set (set views id left) other joined_away) (x ∷ joined) k seat
+  join_placed views joined x id other v w left at first at_w as_caller k ne None
       p = (suc p.0, p.1, p.2, p.3)
-  join_placed views joined x id other v w left at first at_w numbered k ne (Some j) p =
+  join_placed views joined x id other v w left at first at_w as_caller k ne (Some j) p =
       let not_id : j ≢ id = λ e. first_calls_none k v.role first
       (subst (λ (u : View W Z). IsCaller k u.role)
       (same_at views id p.0 v (subst (λ (i : ℕ). get_elem? views i ≡ some p.0) e p.1) at) p.2)
       in
-      let not_other : j ≢ other = λ e. ne (sym (number_is k w.role numbered
+      let not_other : j ≢ other = λ e. ne (sym (number_is k w.role as_caller
       (subst (λ (u : View W Z). IsCaller k u.role)
       (same_at views other p.0 w (subst (λ (i : ℕ). get_elem? views i ≡ some p.0) e p.1) at_w)
       p.2))) in (
         p.0,
-        set_else (set views id left) other j spent not_other
+        set_else (set views id left) other j joined_away not_other
             ∙ (set_else views id j left not_id ∙ p.1),
         p.2,
       )
@@ -164,9 +164,9 @@ module _ {K W Z : Type 0} (joined : List (Joined W Z)) (words : List ℕ)
     (homes : List (maybe.Option (Option K))) (views : List (View W Z)) (id : ℕ) (v : View W Z) where
   pub splits_A : (a : PartA joined (state words homes views)) → get_elem? views id ≡ some v
       → IsFirst v.role → v.stage ≡ Idle → (n : ℕ) → n < 2 ^ 32 → among n (made_of v.role) ≡ false
-      → PartA joined (state words homes (set views id (with_number n v) ++ numbered n v ∷ []))
+      → PartA joined (state words homes (set views id (with_number n v) ++ as_caller n v ∷ []))
   splits_A a at first idle n small fresh =
-      let left = with_number n v in let right = numbered n v in let last = length views in
+      let left = with_number n v in let right = as_caller n v in let last = length views in
       let views' = set views id left ++ right ∷ [] in
       let seat_of : ℕ → Option ℕ = put a.seat_of n (Some last) in
       let is = first_named a.seat_of a.made joined id v.role first (a.named id v at) in
@@ -200,7 +200,7 @@ module _ {K W Z : Type 0} (joined : List (Joined W Z)) (words : List ℕ)
             (omega arith, small, among_here n a.made, put_here a.seat_of n (Some last))
             (λ j u ne q. split_named a.seat_of a.made joined n last j u.role (apart j ne) new
             (a.named j u q));
-        gone = each_split (λ (j : ℕ) (u : View W Z). u.role ≡ Spent → u ≡ spent) views id left right
+        gone = each_split (λ (j : ℕ) (u : View W Z). u.role ≡ Spent → u ≡ joined_away) views id left right
             (λ e. cc) (λ e. cc) (λ j u ne q. a.gone j u q);
         each_ticket = λ t low high. keeps (HasTicket t) (a.holder t) (a.each_ticket t low high);
         each_made = λ k m. dite (ℕ_discrete k n)
@@ -224,18 +224,18 @@ module _ {K W Z : Type 0} (joined : List (Joined W Z)) (words : List ℕ)
       → IsFirst v.role
       → (other : ℕ) (w : View W Z) → ¬ (other ≡ id) → get_elem? views other ≡ some w
       → HasNumber w.role → w.stage ≡ Idle
-      → PartA (joining v w ∷ joined) (state words homes (set (set views id (both v w)) other spent))
-  joins_A a at first other w apart at_w numbered idle =
-      let n = number_of w.role in let x = joining v w in let left = both v w in
-      let views' = set (set views id left) other spent in
+      → PartA (joined_view v w ∷ joined) (state words homes (set (set views id (both v w)) other joined_away))
+  joins_A a at first other w apart at_w as_caller idle =
+      let n = number_of w.role in let x = joined_view v w in let left = both v w in
+      let views' = set (set views id left) other joined_away in
       let seat_of : ℕ → Option ℕ = put a.seat_of n None in
       let is = first_named a.seat_of a.made joined id v.role first (a.named id v at) in
-      let has = number_named a.seat_of a.made joined other w.role numbered (a.named other w at_w) in
+      let has = number_named a.seat_of a.made joined other w.role as_caller (a.named other w at_w) in
       let at_w' : get_elem? (set views id left) other ≡ some w = set_else views id other left apart
       ∙ at_w in
       let keeps : (P : Stage W → Type 0) → (j : ℕ) → (u : View W Z) × (get_elem? views j ≡ some u)
       × P u.stage → (u : View W Z) × (get_elem? views' j ≡ some u) × P u.stage = λ P j h.
-      found (set views id left) other w spent at_w' P (λ y. subst P idle y) j
+      found (set views id left) other w joined_away at_w' P (λ y. subst P idle y) j
       (found views id v left at P (λ y. y) j h) in
       let elsewhere : (i : ℕ) (y : Joined W Z) → get_elem? joined i ≡ some y
       → y.number ≢ n = λ i y q e.
@@ -253,21 +253,21 @@ module _ {K W Z : Type 0} (joined : List (Joined W Z)) (words : List ℕ)
         serving_is = a.serving_is;
         order = a.order;
         queued = each_join (λ (j : ℕ) (u : View W Z). Queued a.next a.serving a.holder a.out j
-            u.stage) views id other left spent
+            u.stage) views id other left joined_away
             (a.queued id v at) tt (λ j u ne nor q. a.queued j u q);
         named = each_join (λ (j : ℕ) (u : View W Z). Named seat_of a.made (x ∷ joined) j u.role)
-            views id other left spent
+            views id other left joined_away
             (is.0, is.1, ap (λ (js : List (Joined W Z)). x ∷ js) is.2) has.0
             (λ j u ne nor q. join_named a.seat_of a.made joined (x ∷ joined) n other j u.role
             (λ e. ne (e ∙ sym is.0)) nor has.3 (a.named j u q));
-        gone = each_join (λ (j : ℕ) (u : View W Z). u.role ≡ Spent → u ≡ spent) views id other left
-            spent (λ e. cc) (λ e. refl) (λ j u ne nor q. a.gone j u q);
+        gone = each_join (λ (j : ℕ) (u : View W Z). u.role ≡ Spent → u ≡ joined_away) views id other left
+            joined_away (λ e. cc) (λ e. refl) (λ j u ne nor q. a.gone j u q);
         each_ticket = λ t low high. keeps (HasTicket t) (a.holder t) (a.each_ticket t low high);
         each_made = λ k m. dite (ℕ_discrete k n)
             (λ e. subst (Placed views' (x ∷ joined) k)
             (sym (ap seat_of e ∙ put_here a.seat_of n None)) (0, x, refl, sym e))
             (λ ne. subst (Placed views' (x ∷ joined) k) (sym (put_else a.seat_of n None k ne))
-            (join_placed views joined x id other v w left at first at_w numbered k ne (a.seat_of k)
+            (join_placed views joined x id other v w left at first at_w as_caller k ne (a.seat_of k)
             (a.each_made k m)));
         each_joined = each_front (λ (i : ℕ) (y : Joined W Z). (among y.number a.made ≡ true)
             × (seat_of y.number ≡ None)) joined x
@@ -306,7 +306,7 @@ opens_A {K} {W} {Z} before word k = record {
       (newcomer before) tt;
   named = each_one (λ (j : ℕ) (u : View W Z). Named (λ n. None) [] [] j u.role) (newcomer before)
       (refl, refl, refl);
-  gone = each_one (λ (j : ℕ) (u : View W Z). u.role ≡ Spent → u ≡ spent) (newcomer before)
+  gone = each_one (λ (j : ℕ) (u : View W Z). u.role ≡ Spent → u ≡ joined_away) (newcomer before)
       (λ e. cc);
   each_ticket = λ t low high. absurd (omega arith);
   each_made = λ n m. absurd cc;

@@ -14,8 +14,8 @@ use Rattle.turn_lock.specs.declared.view.Joined.{Joined}
 use Rattle.turn_lock.specs.declared.view.Role.TheVariants.{Caller}
 use Rattle.turn_lock.specs.declared.view.Stage.TheVariants.{Idle, Has}
 use Rattle.turn_lock.specs.History.{StartsWith}
-use Rattle.turn_lock.specs.Views.{IsFirst, HasNumber, longer, either_seal, newcomer, spent}
-use Rattle.turn_lock.specs.Views.{with_number, numbered, joining, both, published, resting}
+use Rattle.turn_lock.specs.Views.{IsFirst, HasNumber, longer, either_seal, newcomer, joined_away}
+use Rattle.turn_lock.specs.Views.{with_number, as_caller, joined_view, both, with_published, without_turn}
 use Rattle.turn_lock.specs.Words.{MaySeal}
 use Rattle.turn_lock.specs.Rule.{HasTurn, IsCaller, Met, PartA, PartB, PartC}
 use Rattle.turn_lock.proofs.Lists.{in_range, same_at, each_set, each_front, each_split, each_join}
@@ -98,10 +98,10 @@ module _ {W Z : Type 0} where
   named_join : (views : List (View W Z)) (joined : List (Joined W Z)) (id other : ℕ)
       (v w left : View W Z) (z : Seal Z) → get_elem? views id ≡ some v → IsFirst v.role
       → get_elem? views other ≡ some w → HasNumber w.role → Named_by views joined z
-      → Named_by (set (set views id left) other spent) (joining v w ∷ joined) z
-  named_join views joined id other v w left z at first at_w numbered (inr n) = inr
+      → Named_by (set (set views id left) other joined_away) (joined_view v w ∷ joined) z
+  named_join views joined id other v w left z at first at_w as_caller (inr n) = inr
       (suc n.0, n.1, n.2, n.3, n.4)
-  named_join views joined id other v w left z at first at_w numbered (inl n) =
+  named_join views joined id other v w left z at first at_w as_caller (inl n) =
       let ne : n.0 ≢ id = λ e. first_calls_none z.by v.role first
       (subst (λ (u : View W Z). IsCaller z.by u.role)
       (same_at views id n.1 v (subst (λ (k : ℕ). get_elem? views k ≡ some n.1) e n.2) at) n.3)
@@ -111,9 +111,9 @@ module _ {W Z : Type 0} where
       (subst (λ (k : ℕ). get_elem? views k ≡ some n.1) e n.2) at_w in
       inr (
         0,
-        joining v w,
+        joined_view v w,
         refl,
-        number_is z.by w.role numbered
+        number_is z.by w.role as_caller
             (subst (λ (u : View W Z). IsCaller z.by u.role) same n.3),
         ap (λ (u : View W Z). u.seal)
             (sym same) ∙ n.4,
@@ -121,7 +121,7 @@ module _ {W Z : Type 0} where
       (λ apart. inl (
         n.0,
         n.1,
-        set_else (set views id left) other n.0 spent apart
+        set_else (set views id left) other n.0 joined_away apart
             ∙ (set_else views id n.0 left ne ∙ n.2),
         n.3,
         n.4,
@@ -155,15 +155,15 @@ module _ {K W Z : Type 0} (entries : K → List (Entry W)) (before : ℕ) (seal 
   -- the pass publishes, where it has met no seal
   pub goes_on : (c : PartC seal joined log (state words homes views)) → get_elem? views id ≡ some v
       → HasTurn v.stage → v.seal ≡ None → (more seen : List (Entry W)) (words' : List ℕ)
-      → PartC seal joined (log ++ more) (state words' homes (set views id (published seen v)))
+      → PartC seal joined (log ++ more) (state words' homes (set views id (with_published seen v)))
   goes_on c at turn unsealed more seen words' =
       let none_stands : c.stop ≡ None = sym (c.in_turn id v at turn) ∙ unsealed in record {
         stop = c.stop;
         at_home = c.at_home;
         in_turn = each_set (λ (j : ℕ) (u : View W Z). HasTurn u.stage → u.seal ≡ c.stop) views id
-            (published seen v) (λ h. c.in_turn id v at turn) (λ j u ne q. c.in_turn j u q);
+            (with_published seen v) (λ h. c.in_turn id v at turn) (λ j u ne q. c.in_turn j u q);
         met = each_set (λ (j : ℕ) (u : View W Z). Met c.stop (log ++ more) u.seal u.seen) views id
-            (published seen v) (inl unsealed)
+            (with_published seen v) (inl unsealed)
             (λ j u ne q. inl (met_none c.stop log u.seal u.seen none_stands (c.met j u q)));
         joined_met = λ i x q. inl (met_none c.stop log x.seal x.seen none_stands
             (c.joined_met i x q));
@@ -181,12 +181,12 @@ module _ {K W Z : Type 0} (entries : K → List (Entry W)) (before : ℕ) (seal 
       → (c : PartC seal joined log (state words homes views)) → get_elem? views id ≡ some v
       → (t : ℕ) → v.stage ≡ Has t v.seen → (k : K) → MaySeal (seal k) v → (words' : List ℕ)
       → PartC seal joined log (state words' (set homes 0 (some (Some k)))
-      (set views id (resting (seal k) v)))
+      (set views id (without_turn (seal k) v)))
   seals_C a b c at t has k (inl same) words' =
       let turn : HasTurn v.stage = subst HasTurn (sym has) tt in
       let stands : seal k ≡ c.stop = same ∙ c.in_turn id v at turn in
       calm seal joined log words words' homes (set homes 0 (some (Some k))) views id v
-      (resting (seal k) v) c at refl
+      (without_turn (seal k) v) c at refl
       (λ k' q. ap seal (sym (home_is a.deep k k' q)) ∙ stands) (λ h. absurd h)
       (subst (λ (z : Option (Seal Z)). Met c.stop log z v.seen) (sym same) (c.met id v at))
       (λ z e. same ∙ e)
@@ -195,7 +195,7 @@ module _ {K W Z : Type 0} (entries : K → List (Entry W)) (before : ℕ) (seal 
       let none_stands : c.stop ≡ None = sym (c.in_turn id v at turn) ∙ new.0 in
       let z = new.1.0 in let is : seal k ≡ Some z = new.1.1 in
       let role : v.role ≡ Caller z.by = new.1.2 in
-      let w = resting (seal k) v in record {
+      let w = without_turn (seal k) v in record {
         stop = Some z;
         at_home = λ k' q. ap seal (sym (home_is a.deep k k' q)) ∙ is;
         in_turn = each_set (λ (j : ℕ) (u : View W Z). HasTurn u.stage → u.seal ≡ Some z) views id w
@@ -221,17 +221,17 @@ module _ {K W Z : Type 0} (entries : K → List (Entry W)) (before : ℕ) (seal 
   pub splits_C : (c : PartC seal joined log (state words homes views)) → get_elem? views id ≡ some v
       → IsFirst v.role → v.stage ≡ Idle → (n : ℕ)
       → PartC seal joined log (state words homes
-      (set views id (with_number n v) ++ numbered n v ∷ []))
+      (set views id (with_number n v) ++ as_caller n v ∷ []))
   splits_C c at first idle n = record {
     stop = c.stop;
     at_home = c.at_home;
     in_turn = each_split (λ (j : ℕ) (u : View W Z). HasTurn u.stage → u.seal ≡ c.stop) views id
-        (with_number n v) (numbered n v) (c.in_turn id v at) (λ h. absurd (subst HasTurn idle h))
+        (with_number n v) (as_caller n v) (c.in_turn id v at) (λ h. absurd (subst HasTurn idle h))
         (λ j u ne q. c.in_turn j u q);
     met = each_split (λ (j : ℕ) (u : View W Z). Met c.stop log u.seal u.seen) views id
-        (with_number n v) (numbered n v) (c.met id v at) (inl refl) (λ j u ne q. c.met j u q);
+        (with_number n v) (as_caller n v) (c.met id v at) (inl refl) (λ j u ne q. c.met j u q);
     joined_met = c.joined_met;
-    namer = λ z e. named_split views joined id v (with_number n v) (numbered n v) z at first
+    namer = λ z e. named_split views joined id v (with_number n v) (as_caller n v) z at first
         (c.namer z e);
   }
 
@@ -239,21 +239,21 @@ module _ {K W Z : Type 0} (entries : K → List (Entry W)) (before : ℕ) (seal 
       → (c : PartC seal joined log (state words homes views)) → get_elem? views id ≡ some v
       → IsFirst v.role → v.stage ≡ Idle
       → (other : ℕ) (w : View W Z) → get_elem? views other ≡ some w → HasNumber w.role
-      → PartC seal (joining v w ∷ joined) log
-      (state words homes (set (set views id (both v w)) other spent))
-  joins_C b c at first idle other w at_w numbered = record {
+      → PartC seal (joined_view v w ∷ joined) log
+      (state words homes (set (set views id (both v w)) other joined_away))
+  joins_C b c at first idle other w at_w as_caller = record {
     stop = c.stop;
     at_home = c.at_home;
     in_turn = each_join (λ (j : ℕ) (u : View W Z). HasTurn u.stage → u.seal ≡ c.stop) views id other
-        (both v w) spent (λ h. absurd (subst HasTurn idle h)) (λ h. absurd h)
+        (both v w) joined_away (λ h. absurd (subst HasTurn idle h)) (λ h. absurd h)
         (λ j u ne nor q. c.in_turn j u q);
     met = each_join (λ (j : ℕ) (u : View W Z). Met c.stop log u.seal u.seen) views id other
-        (both v w) spent
+        (both v w) joined_away
         (join_met c.stop log v.seal w.seal v.seen w.seen (b.seen id v at) (b.seen other w at_w)
         (c.met id v at) (c.met other w at_w)) (inl refl) (λ j u ne nor q. c.met j u q);
     joined_met = each_front (λ (i : ℕ) (y : Joined W Z). Met c.stop log y.seal y.seen) joined
-        (joining v w) (c.met other w at_w) c.joined_met;
-    namer = λ z e. named_join views joined id other v w (both v w) z at first at_w numbered
+        (joined_view v w) (c.met other w at_w) c.joined_met;
+    namer = λ z e. named_join views joined id other v w (both v w) z at first at_w as_caller
         (c.namer z e);
   }
 

@@ -13,7 +13,7 @@ use Rattle.turn_lock.specs.declared.view.Joined.{Joined}
 use Rattle.turn_lock.specs.declared.view.Role.{Role}
 use Rattle.turn_lock.specs.declared.view.Role.TheVariants.{Spent}
 use Rattle.turn_lock.specs.declared.view.Stage.{Stage}
-use Rattle.turn_lock.specs.Views.{IsLive, spent}
+use Rattle.turn_lock.specs.Views.{IsLive, joined_away}
 use Rattle.turn_lock.specs.Rule.{Queued, HasTicket, HasTurn, Named, IsCaller, Placed, PartA}
 use Rattle.turn_lock.proofs.Lists.{in_range, same_at, each_set}
 
@@ -101,7 +101,7 @@ module _ {K W Z : Type 0} (joined : List (Joined W Z)) (words words' : List ℕ)
         named = each_set (λ (j : ℕ) (u : View W Z). Named a.seat_of a.made joined j u.role) views id w
             (subst (Named a.seat_of a.made joined id) (sym role) (a.named id v at))
             (λ j u ne q. a.named j u q);
-        gone = each_set (λ (j : ℕ) (u : View W Z). u.role ≡ Spent → u ≡ spent) views id w
+        gone = each_set (λ (j : ℕ) (u : View W Z). u.role ≡ Spent → u ≡ joined_away) views id w
             (λ e. absurd (not_spent v.role live (sym role ∙ e))) (λ j u ne q. a.gone j u q);
         each_ticket = tickets;
         each_made = λ n m. replaced views joined id v w at role n (a.seat_of n) (a.each_made n m);

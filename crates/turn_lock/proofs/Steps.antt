@@ -16,11 +16,11 @@ use Rattle.turn_lock.specs.declared.view.Stage.{Stage}
 use Rattle.turn_lock.specs.declared.view.Stage.TheVariants.{Idle, Waits, Has}
 use Rattle.turn_lock.specs.History.{IsDisplay, word_of}
 use Rattle.turn_lock.specs.Views.{among, IsLive, IsFirst, HasNumber, made_of, joined_of, ticket_of}
-use Rattle.turn_lock.specs.Views.{newcomer, spent, with_number, numbered, joining, both, waiting}
-use Rattle.turn_lock.specs.Views.{published, resting, reading}
+use Rattle.turn_lock.specs.Views.{newcomer, joined_away, with_number, as_caller, joined_view, both, with_ticket}
+use Rattle.turn_lock.specs.Views.{with_published, without_turn, with_known_word}
 use Rattle.turn_lock.specs.Words.{AddsNext, MaySeal, has_joined}
 use Rattle.turn_lock.specs.Rule.{Queued, HasTicket, HasTurn, PartB, Rule}
-use Rattle.turn_lock.specs.Told.{drew, showed, left, compared, read}
+use Rattle.turn_lock.specs.Told.{DrawsTicket, StoresFront, EndsTurn, ComparesJoined, LoadsFront}
 use Rattle.turn_lock.proofs.Seats.{state, some_step, stays}
 use Rattle.turn_lock.proofs.Tickets.{draws_A, leaves_A}
 use Rattle.turn_lock.proofs.Passes.{splits_A, joins_A, unmoved, opens_A, first_named, joined_at}
@@ -71,12 +71,12 @@ module _ {K W Z : Type 0} (before : ℕ) (entries : K → List (Entry W)) (seal 
   -- a fetch_add of `next`
   pub draws_ok : (slots id : ℕ) (me : Me (Option K) (View W Z)) → me.0.stage ≡ Idle
       → IsLive me.0.role
-      → Allows (Rule before entries seal Right) slots id me 0 (λ n. (n + 1) % 2 ^ 64) (drew some_step me)
+      → Allows (Rule before entries seal Right) slots id me 0 (λ n. (n + 1) % 2 ^ 64) (DrawsTicket some_step me)
   draws_ok slots id me idle live s rule deep at small =
       let v = me.0 in let joined = rule.0 in let log = rule.1 in let a = rule.2 in let b = rule.3 in
       let c = rule.4 in let d = rule.5 in
       let words' = set s.words 0 ((get_or s.words 0 0 + 1) % 2 ^ 64) in
-      let w = waiting a.next v in (
+      let w = with_ticket a.next v in (
         w,
         keeps,
         tt,
@@ -101,7 +101,7 @@ module _ {K W Z : Type 0} (before : ℕ) (entries : K → List (Entry W)) (seal 
       → (word : ℕ)
       → word ≡ word_of before (me.0.seen ++ more)
       → Allows (Rule before entries seal Right) slots id me 2 (λ _. word)
-      (λ _. showed more some_step me word)
+      (λ _. StoresFront more some_step me word)
   shows_ok slots id me t has live unsealed more adds_next right word is s rule deep at small =
       let v = me.0 in let joined = rule.0 in let log = rule.1 in let a = rule.2 in let b = rule.3 in
       let c = rule.4 in let d = rule.5 in
@@ -109,7 +109,7 @@ module _ {K W Z : Type 0} (before : ℕ) (entries : K → List (Entry W)) (seal 
       let some_words : 2 < length s.words = omega arith in
       let words' = set s.words 2 word in let e = adds_next.0 in let grown = v.seen ++ more in
       let same : grown ≡ v.seen ++ e ∷ [] = adds_next.1 in
-      let w = published grown v in
+      let w = with_published grown v in
       let turn : HasTurn v.stage = subst HasTurn (sym has) tt in
       let whole : v.seen ≡ log = sees_all before entries joined log s.words s.homes s.views id v b
       at t v.seen has in
@@ -130,7 +130,7 @@ module _ {K W Z : Type 0} (before : ℕ) (entries : K → List (Entry W)) (seal 
               (get_or-set_other s.words 2 0 word 0 (λ z. omega arith))
               (get_or-set_other s.words 2 1 word 0 (λ z. omega arith)),
           subst (λ (l : List (Entry W)). PartB before entries (log ++ e ∷ [])
-              (state words' s.homes (set s.views id (published l v)))) (sym same)
+              (state words' s.homes (set s.views id (with_published l v)))) (sym same)
               (adds before entries joined log s.words s.homes s.views id v a b at t has e
               adds_next.2 adds_next.3 words' front),
           goes_on entries before seal joined log s.words s.homes s.views id v c at turn unsealed
@@ -144,14 +144,14 @@ module _ {K W Z : Type 0} (before : ℕ) (entries : K → List (Entry W)) (seal 
   leaves_at : (slots id : ℕ) (v : View W Z) (t : ℕ) → v.stage ≡ Has t v.seen → IsLive v.role
       → (k : K) → entries k ≡ v.seen → MaySeal (seal k) v
       → Allows (Rule before entries seal Right) slots id (v, (0, Some k) ∷ []) 1 (λ n. (n + 1) % 2 ^ 64)
-      (left seal some_step (v, (0, Some k) ∷ []))
+      (EndsTurn seal some_step (v, (0, Some k) ∷ []))
   leaves_at slots id v t has live k tells may s rule deep at small =
       let joined = rule.0 in let log = rule.1 in let a = rule.2 in let b = rule.3 in
       let c = rule.4 in let d = rule.5 in
       let words' = set s.words 1 ((get_or s.words 1 0 + 1) % 2 ^ 64) in
       let homes' = set s.homes 0 (some (Some k)) in
       let one : length s.homes ≡ 1 = a.deep in
-      let w = resting (seal k) v in
+      let w = without_turn (seal k) v in
       let whole : v.seen ≡ log = sees_all before entries joined log s.words s.homes s.views id v b
       at t v.seen has in
       let told : (k' : K) → get_elem? homes' 0 ≡ some (some (Some k')) → entries k' ≡ log = λ k' q.
@@ -173,7 +173,7 @@ module _ {K W Z : Type 0} (before : ℕ) (entries : K → List (Entry W)) (seal 
           still before Right joined log s.words words' s.homes homes' s.views id v w d (d.known id v at) (d.read id v at),
         ),
         (λ k' e. let taken : Some k ≡ Some k' = ap (first_value (Some k)) e in
-            let same : k ≡ k' = cc in ap (λ (y : K). (resting (seal y) v, [])) same),
+            let same : k ≡ k' = cc in ap (λ (y : K). (without_turn (seal y) v, [])) same),
       )
 
   -- a fetch_add of `serving`: the value goes home
@@ -181,15 +181,15 @@ module _ {K W Z : Type 0} (before : ℕ) (entries : K → List (Entry W)) (seal 
       → me ≡ (v, (0, Some k) ∷ []) → (t : ℕ) → v.stage ≡ Has t v.seen → IsLive v.role
       → entries k ≡ v.seen → MaySeal (seal k) v
       → Allows (Rule before entries seal Right) slots id me 1 (λ n. (n + 1) % 2 ^ 64)
-      (left seal some_step me)
+      (EndsTurn seal some_step me)
   leaves_ok slots id me v k is t has live tells may =
       subst (λ (m : Me (Option K) (View W Z)). Allows (Rule before entries seal Right) slots id m 1
-      (λ n. (n + 1) % 2 ^ 64) (left seal some_step m)) (sym is)
+      (λ n. (n + 1) % 2 ^ 64) (EndsTurn seal some_step m)) (sym is)
       (leaves_at slots id v t has live k tells may)
 
   -- a load of word 0 after a join: no view changes
   pub compares_ok : (slots id : ℕ) (me : Me (Option K) (View W Z)) → IsFirst me.0.role
-      → Allows (Rule before entries seal Right) slots id me 0 (λ n. n) (compared some_step me)
+      → Allows (Rule before entries seal Right) slots id me 0 (λ n. n) (ComparesJoined some_step me)
   compares_ok slots id me first s rule deep at small =
       let v = me.0 in let joined = rule.0 in let log = rule.1 in let a = rule.2 in let b = rule.3 in
       let names = first_named a.seat_of a.made joined id v.role first (a.named id v at) in
@@ -221,11 +221,11 @@ module _ {K W Z : Type 0} (before : ℕ) (entries : K → List (Entry W)) (seal 
   -- a load of `front`
   pub reads_ok : (slots id : ℕ) (me : Me (Option K) (View W Z)) → IsDisplay before
       → IsLive me.0.role
-      → Allows (Rule before entries seal Right) slots id me 2 (λ n. n) (read before Right some_step me)
+      → Allows (Rule before entries seal Right) slots id me 2 (λ n. n) (LoadsFront before Right some_step me)
   reads_ok slots id me first live s rule deep at small =
       let v = me.0 in let joined = rule.0 in let log = rule.1 in let a = rule.2 in let b = rule.3 in
       let c = rule.4 in let d = rule.5 in
-      let word = get_or s.words 2 0 in let w = reading log word v in
+      let word = get_or s.words 2 0 in let w = with_known_word log word v in
       let now : Rule before entries seal Right (state s.words s.homes (set s.views id w)) = (
         joined,
         log,
@@ -254,7 +254,7 @@ module _ {K W Z : Type 0} (before : ℕ) (entries : K → List (Entry W)) (seal 
 
   pub splits_ok : (id : ℕ) (v : View W Z) (n : ℕ) → IsFirst v.role → v.stage ≡ Idle → n < 2 ^ 32
       → among n (made_of v.role) ≡ false
-      → Splits (Rule before entries seal Right) id v (with_number n v) (numbered n v)
+      → Splits (Rule before entries seal Right) id v (with_number n v) (as_caller n v)
   splits_ok id v n first idle small fresh s rule at =
       let joined = rule.0 in let log = rule.1 in (
         joined,
@@ -267,21 +267,21 @@ module _ {K W Z : Type 0} (before : ℕ) (entries : K → List (Entry W)) (seal 
 
   pub joins_ok : (id : ℕ) (v : View W Z) (other : ℕ) (w : View W Z) → IsFirst v.role
       → v.stage ≡ Idle → HasNumber w.role → w.stage ≡ Idle
-      → Joins (Rule before entries seal Right) id v other w (both v w) spent
-  joins_ok id v other w first idle numbered idle_w s rule at apart at_w =
+      → Joins (Rule before entries seal Right) id v other w (both v w) joined_away
+  joins_ok id v other w first idle as_caller idle_w s rule at apart at_w =
       let joined = rule.0 in let log = rule.1 in
       let there : get_elem? s.views other ≡ some w = sym
       (set_else s.views id other (both v w) apart) ∙ at_w in (
-        joining v w ∷ joined,
+        joined_view v w ∷ joined,
         log,
-        joins_A joined s.words s.homes s.views id v rule.2 at first other w apart there numbered
+        joins_A joined s.words s.homes s.views id v rule.2 at first other w apart there as_caller
             idle_w,
         joins_B before entries joined log s.words s.homes s.views id v rule.3 at first other w there
-            numbered,
+            as_caller,
         joins_C entries before seal joined log s.words s.homes s.views id v rule.3 rule.4 at first
-            idle other w there numbered,
+            idle other w there as_caller,
         joins_D before Right joined log s.words s.homes s.views id v rule.5 at first other w there
-            numbered,
+            as_caller,
       )
 
   pub opens_ok : Right [] → IsDisplay before → (k : K) (word : ℕ) (slots : List (Option K))

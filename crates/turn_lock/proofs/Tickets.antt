@@ -14,7 +14,7 @@ use Rattle.turn_lock.specs.declared.view.View.{View}
 use Rattle.turn_lock.specs.declared.view.Joined.{Joined}
 use Rattle.turn_lock.specs.declared.view.Stage.{Stage}
 use Rattle.turn_lock.specs.declared.view.Stage.TheVariants.{Idle, Waits, Has}
-use Rattle.turn_lock.specs.Views.{IsLive, waiting, having, resting}
+use Rattle.turn_lock.specs.Views.{IsLive, with_ticket, with_turn, without_turn}
 use Rattle.turn_lock.specs.Rule.{Queued, HasTicket, HasTurn, PartA}
 use Rattle.turn_lock.proofs.Lists.{put, put_here, put_else, in_range}
 use Rattle.turn_lock.proofs.Seats.{state, found, moves}
@@ -54,13 +54,13 @@ module _ {K W Z : Type 0} (joined : List (Joined W Z)) (words : List ℕ)
   pub draws_A : (a : PartA joined (state words homes views)) → get_elem? views id ≡ some v
       → v.stage ≡ Idle → IsLive v.role
       → PartA joined (state (set words 0 ((get_or words 0 0 + 1) % 2 ^ 64)) homes
-      (set views id (waiting a.next v)))
+      (set views id (with_ticket a.next v)))
   draws_A a at idle live =
       let wide : length words ≡ 3 = a.wide in
       let is : get_or words 0 0 ≡ a.next % 2 ^ 64 = a.next_is in
       let order = a.order in
       let some_words : 0 < length words = omega arith in
-      let w = waiting a.next v in
+      let w = with_ticket a.next v in
       let holder : ℕ → ℕ = put a.holder a.next id in
       let words' = set words 0 ((get_or words 0 0 + 1) % 2 ^ 64) in
       let no_turn : HasTurn v.stage → HasTurn w.stage = λ h. absurd (subst HasTurn idle h) in
@@ -111,10 +111,10 @@ module _ {K W Z : Type 0} (joined : List (Joined W Z)) (words : List ℕ)
       → IsLive v.role → v.stage ≡ Waits a.serving → a.out ≡ false
       → (log : List (Entry W)) (seal : Option (Seal Z))
       → PartA joined (state words (set homes 0 none)
-      (set views id (having a.serving log seal v)))
+      (set views id (with_turn a.serving log seal v)))
   takes_A a at live waits home log seal =
       let deep : length homes ≡ 1 = a.deep in
-      let w = having a.serving log seal v in
+      let w = with_turn a.serving log seal v in
       let q : (a.serving ≤ a.serving) × (a.serving < a.next)
       × (a.holder a.serving ≡ id) = subst (Queued a.next a.serving a.holder a.out id) waits
       (a.queued id v at) in
@@ -142,12 +142,12 @@ module _ {K W Z : Type 0} (joined : List (Joined W Z)) (words : List ℕ)
       → IsLive v.role → (t : ℕ) (held : List (Entry W)) → v.stage ≡ Has t held
       → (k : K) (seal : Option (Seal Z))
       → PartA joined (state (set words 1 ((get_or words 1 0 + 1) % 2 ^ 64))
-      (set homes 0 (some (Some k))) (set views id (resting seal v)))
+      (set homes 0 (some (Some k))) (set views id (without_turn seal v)))
   leaves_A a at live t held has k seal =
       let wide : length words ≡ 3 = a.wide in
       let deep : length homes ≡ 1 = a.deep in
       let is : get_or words 1 0 ≡ a.serving % 2 ^ 64 = a.serving_is in
-      let w = resting seal v in
+      let w = without_turn seal v in
       let words' = set words 1 ((get_or words 1 0 + 1) % 2 ^ 64) in
       let q : (t ≡ a.serving) × (t < a.next) × (a.holder t ≡ id)
       × (a.out ≡ true) = subst (Queued a.next a.serving a.holder a.out id) has

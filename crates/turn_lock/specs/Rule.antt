@@ -15,7 +15,7 @@ use Rattle.turn_lock.specs.declared.view.Role.TheVariants.{First, Caller, Spent}
 use Rattle.turn_lock.specs.declared.view.Stage.{Stage}
 use Rattle.turn_lock.specs.declared.view.Stage.TheVariants.{Idle, Waits, Has}
 use Rattle.turn_lock.specs.History.{StartsWith, IsWordIn, IsCounted, IsShown, entries_by, word_of}
-use Rattle.turn_lock.specs.Views.{among, IsLive, spent}
+use Rattle.turn_lock.specs.Views.{among, IsLive, joined_away}
 
 module _ {W : Type 0} where
   -- a pass's ticket is one that was drawn and is not yet served, and its own; the pass whose turn
@@ -91,7 +91,7 @@ pub record PartA {K W Z : Type 0} (joined : List (Joined W Z)) (s : State (Optio
   pub queued : EachView s.views (λ j v. Queued next serving holder out j v.stage)
   pub named : EachView s.views (λ j v. Named seat_of made joined j v.role)
   -- a pass that was taken in knows nothing
-  pub gone : EachView s.views (λ j v. v.role ≡ Spent → v ≡ spent)
+  pub gone : EachView s.views (λ j v. v.role ≡ Spent → v ≡ joined_away)
   pub each_ticket : (t : ℕ) → serving ≤ t → t < next
       → (v : View W Z) × (get_elem? s.views (holder t) ≡ some v) × HasTicket t v.stage
   pub each_made : (n : ℕ) → among n made ≡ true → Placed s.views joined n (seat_of n)

@@ -10,7 +10,7 @@ use Rattle.turn_lock.specs.declared.view.Joined.{Joined}
 use Rattle.turn_lock.specs.History.{StartsWith, IsWordIn, IsDisplay, word_of}
 use Rattle.turn_lock.specs.History.{IsCounted, IsShown}
 use Rattle.turn_lock.specs.Views.{among, joined_of, longer, made_of, ticket_of}
-use Rattle.turn_lock.specs.Views.{waiting, having, published, resting, reading}
+use Rattle.turn_lock.specs.Views.{with_ticket, with_turn, with_published, without_turn, with_known_word}
 use Rattle.turn_lock.specs.Words.{HasMine, Stands, KnowsOwn, has_joined}
 
 -- what a pass finds as its turn comes: a history with this seal
@@ -47,35 +47,35 @@ Sat K W Z = Me (Option K) (View W Z)
 
 module _ {K W Z : Type 0} where
   -- the pass drew a ticket, and the word has its last 64 bits
-  abbrev pub drew : At K → Sat K W Z → ℕ → Sat K W Z → Type 0
-  drew st m n m' = (m'.1 ≡ m.1) × ((t : ℕ) × (n ≡ t % 2 ^ 64) × (m'.0 ≡ waiting t m.0))
+  abbrev pub DrawsTicket : At K → Sat K W Z → ℕ → Sat K W Z → Type 0
+  DrawsTicket st m n m' = (m'.1 ≡ m.1) × ((t : ℕ) × (n ≡ t % 2 ^ 64) × (m'.0 ≡ with_ticket t m.0))
 
   -- the pass took the value k
-  abbrev pub took : (K → List (Entry W)) → (K → Option (Seal Z)) → K → Sat K W Z → Sat K W Z
-  took entries seal k m =
-      (having (ticket_of m.0.stage) (entries k) (seal k) m.0, (0, Some k) ∷ m.1)
+  abbrev pub with_value : (K → List (Entry W)) → (K → Option (Seal Z)) → K → Sat K W Z → Sat K W Z
+  with_value entries seal k m =
+      (with_turn (ticket_of m.0.stage) (entries k) (seal k) m.0, (0, Some k) ∷ m.1)
 
   -- where the number is that of the pass's ticket, it has the value; else nothing changed
-  abbrev pub looked : ℕ → (K → List (Entry W)) → (K → Option (Seal Z))
+  abbrev pub LoadsServing : ℕ → (K → List (Entry W)) → (K → Option (Seal Z))
       → At K → Sat K W Z → ℕ → Sat K W Z → Type 0
-  looked before entries seal st m n m' =
+  LoadsServing before entries seal st m n m' =
       (n ≡ ticket_of m.0.stage % 2 ^ 64
-      → (k : K) × (m' ≡ took entries seal k m) × Finds before (entries k) (seal k) m.0)
+      → (k : K) × (m' ≡ with_value entries seal k m) × Finds before (entries k) (seal k) m.0)
       × (n ≢ ticket_of m.0.stage % 2 ^ 64 → m' ≡ m)
 
   -- the pass published these entries
-  abbrev pub showed : List (Entry W) → At K → Sat K W Z → ℕ → Sat K W Z → Type 0
-  showed more st m n m' = m' ≡ (published (m.0.seen ++ more) m.0, m.1)
+  abbrev pub StoresFront : List (Entry W) → At K → Sat K W Z → ℕ → Sat K W Z → Type 0
+  StoresFront more st m n m' = m' ≡ (with_published (m.0.seen ++ more) m.0, m.1)
 
   -- the pass gave the value back
-  abbrev pub left : (K → Option (Seal Z)) → At K → Sat K W Z → ℕ → Sat K W Z → Type 0
-  left seal st m n m' = (k : K) → m.1 ≡ (0, Some k) ∷ [] → m' ≡ (resting (seal k) m.0, [])
+  abbrev pub EndsTurn : (K → Option (Seal Z)) → At K → Sat K W Z → ℕ → Sat K W Z → Type 0
+  EndsTurn seal st m n m' = (k : K) → m.1 ≡ (0, Some k) ∷ [] → m' ≡ (without_turn (seal k) m.0, [])
 
   -- the longer of what the first pass and the one that it took in last had seen begins with both, and
   -- so does the longer of the histories that they had read; that one's number was made, and no other
   -- that was taken in has it
-  abbrev pub compared : At K → Sat K W Z → ℕ → Sat K W Z → Type 0
-  compared st m n m' =
+  abbrev pub ComparesJoined : At K → Sat K W Z → ℕ → Sat K W Z → Type 0
+  ComparesJoined st m n m' =
       (m' ≡ m)
       × ((x : Joined W Z) (xs : List (Joined W Z)) → joined_of m.0.role ≡ x ∷ xs
       → StartsWith (longer x.beside x.seen) x.beside
@@ -89,4 +89,4 @@ module _ {K W Z : Type 0} where
   -- the pass read the word
   abbrev pub read : ℕ → (List (Entry W) → Type 0) → At K → Sat K W Z → ℕ → Sat K W Z → Type 0
   read before Right st m n m' =
-      (log : List (Entry W)) × (m' ≡ (reading log n m.0, m.1)) × Reads before Right log n m.0
+      (log : List (Entry W)) × (m' ≡ (with_known_word log n m.0, m.1)) × Reads before Right log n m.0

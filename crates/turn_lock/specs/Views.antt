@@ -79,8 +79,8 @@ module _ {W Z : Type 0} where
   }
 
   -- a pass that was taken in
-  abbrev pub spent : View W Z
-  spent = record {
+  abbrev pub joined_away : View W Z
+  joined_away = record {
     role = Spent;
     stage = Idle;
     seen = [];
@@ -96,12 +96,12 @@ module _ {W Z : Type 0} where
 
   -- the pass with the number n that it made: it has seen as much and knows the same word, published
   -- nothing and met no seal
-  abbrev pub numbered : ℕ → View W Z → View W Z
-  numbered n v = record v { role = Caller n; mine = []; seal = None }
+  abbrev pub as_caller : ℕ → View W Z → View W Z
+  as_caller n v = record v { role = Caller n; mine = []; seal = None }
 
   -- what is kept of a pass w that the first pass v takes in
-  abbrev pub joining : View W Z → View W Z → Joined W Z
-  joining v w = record {
+  abbrev pub joined_view : View W Z → View W Z → Joined W Z
+  joined_view v w = record {
     number = number_of w.role;
     seen = w.seen;
     mine = w.mine;
@@ -115,7 +115,7 @@ module _ {W Z : Type 0} where
   -- the first pass v, once it took in w
   abbrev pub both : View W Z → View W Z → View W Z
   both v w = record v {
-    role = First (made_of v.role) (joining v w ∷ joined_of v.role);
+    role = First (made_of v.role) (joined_view v w ∷ joined_of v.role);
     seen = longer v.seen w.seen;
     known = max v.known w.known;
     read = longer v.read w.read;
@@ -123,25 +123,25 @@ module _ {W Z : Type 0} where
   }
 
   -- the pass with the ticket t
-  abbrev pub waiting : ℕ → View W Z → View W Z
-  waiting t v = record v { stage = Waits t }
+  abbrev pub with_ticket : ℕ → View W Z → View W Z
+  with_ticket t v = record v { stage = Waits t }
 
   -- the pass as its turn has come: the value tells this history and this seal
-  abbrev pub having : ℕ → List (Entry W) → Option (Seal Z) → View W Z → View W Z
-  having t log seal v = record v { stage = Has t log; seen = log; seal = seal }
+  abbrev pub with_turn : ℕ → List (Entry W) → Option (Seal Z) → View W Z → View W Z
+  with_turn t log seal v = record v { stage = Has t log; seen = log; seal = seal }
 
   -- the pass once it published what this history adds to what it had seen
-  abbrev pub published : List (Entry W) → View W Z → View W Z
-  published log v = record v {
+  abbrev pub with_published : List (Entry W) → View W Z → View W Z
+  with_published log v = record v {
     stage = Has (ticket_of v.stage) log;
     seen = log;
     mine = v.mine ++ drop (length v.seen) log;
   }
 
   -- the pass once it gave the value back, which tells this seal
-  abbrev pub resting : Option (Seal Z) → View W Z → View W Z
-  resting seal v = record v { stage = Idle; seal = seal }
+  abbrev pub without_turn : Option (Seal Z) → View W Z → View W Z
+  without_turn seal v = record v { stage = Idle; seal = seal }
 
   -- the pass once it read this word, which is that of this history
-  abbrev pub reading : List (Entry W) → ℕ → View W Z → View W Z
-  reading log word v = record v { known = word; read = log }
+  abbrev pub with_known_word : List (Entry W) → ℕ → View W Z → View W Z
+  with_known_word log word v = record v { known = word; read = log }

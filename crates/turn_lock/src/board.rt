@@ -18,7 +18,7 @@ pub(crate) const FRONT: usize = 2;
 pub(crate) const SLOT: usize = 0;
 
 /// The rule of the lock, which holds between any two atomic steps.
-pub struct Turns<K> {
+pub(crate) struct Turns<K> {
     of: PhantomData<K>,
 }
 
@@ -31,7 +31,7 @@ impl<K: Kept> TableRule<Option<K>, View<K::What, K::Stop>, ()> for Turns<K> {
     ghost first = { λ _. newcomer K.before };
 }
 
-pub type Board<K: Kept> = Table<
+pub(crate) type LockWords<K: Kept> = Table<
     Option<K>,
     View<<K as Kept>::What, <K as Kept>::Stop>,
     (),
@@ -39,4 +39,4 @@ pub type Board<K: Kept> = Table<
     Global,
 >;
 
-pub type Place<K: Kept> = Seat<Option<K>, View<<K as Kept>::What, <K as Kept>::Stop>>;
+pub(crate) type Place<K: Kept> = Seat<Option<K>, View<<K as Kept>::What, <K as Kept>::Stop>>;

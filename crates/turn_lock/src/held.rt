@@ -1,15 +1,15 @@
 ghost use Rattle.std.specs.Prelude.{◌≡◌, ◌<◌, ◌^◌, ◌++◌, ◌∷◌, [], length, None};
 ghost use Rattle.turn_lock.specs.History.{word_of};
 ghost use Rattle.turn_lock.specs.declared.entry.Entry.{Entry};
-ghost use Rattle.turn_lock.specs.Views.{published, resting};
+ghost use Rattle.turn_lock.specs.Views.{with_published, without_turn};
 ghost use Rattle.turn_lock.specs.Words.{AddsNext, HasTurnIn, MaySeal, RestsIn};
 ghost use Rattle.turn_lock.specs.Words.{lock_of, pass_of, value_of, view};
 
+use crate::atomic_steps::{Adding, EndTurn, StoreFront};
 use crate::board::{FRONT, SERVING, SLOT};
 use crate::kept::Kept;
 use crate::lock::TurnLock;
 use crate::pass::Pass;
-use crate::plays::{Adding, Leave, Show};
 use std::marker::Brand;
 
 /// The value, while a pass has its turn. It has to be spent by `leave`.
@@ -32,7 +32,7 @@ impl<'a, K: Kept> Held<'a, K> {
         ensures value { value_of self.new ≡ value_of self.old }
         ensures own { HasTurnIn (lock_of self.new) (pass_of self.new) }
         ensures view { view (pass_of self.new)
-            ≡ published (K.entries (value_of self.old)) (view (pass_of self.old)) }
+            ≡ with_published (K.entries (value_of self.old)) (view (pass_of self.old)) }
         ensures mine { (e : Entry K.What)
             → K.entries (value_of self.old) ≡ (view (pass_of self.old)).seen ++ e ∷ []
             → (view (pass_of self.new)).mine ≡ (view (pass_of self.old)).mine ++ e ∷ [] }
@@ -48,13 +48,13 @@ impl<'a, K: Kept> Held<'a, K> {
         requires seal { MaySeal (K.seal (value_of self)) (view (pass_of self)) }
         ensures own { RestsIn (lock_of self.entry) self.exit.1.0.now }
         ensures view { view self.exit.1.0.now
-            ≡ resting (K.seal (value_of self.entry)) (view (pass_of self.entry)) }
+            ≡ without_turn (K.seal (value_of self.entry)) (view (pass_of self.entry)) }
     {
         let Held { lock, pass, value } = self;
         let shared = &lock.board.shared;
         let before = shared.exchange(&mut pass.place, SLOT, Some(value));
         let None = before else { unreachable!() };
-        let served = shared.fetch_add::<Leave>(&mut pass.place, SERVING, 1);
+        let served = shared.fetch_add::<EndTurn>(&mut pass.place, SERVING, 1);
         lock.bells.ring(served.wrapping_add(1));
         lock.door.call(served);
     }
@@ -69,10 +69,10 @@ fn show<K: Kept, J: Adding<K::What>>(lock: &TurnLock<K>, pass: &mut Pass<K>, val
     requires front { front ≡ word_of K.before (K.entries value.now) }
     requires right { K.right (K.entries value.now) }
     ensures own { HasTurnIn lock.now pass.new }
-    ensures view { view pass.new ≡ published (K.entries value.now) (view pass.old) }
+    ensures view { view pass.new ≡ with_published (K.entries value.now) (view pass.old) }
 {
     let _ = value;
     lock.board
         .shared
-        .store::<Show<J>>(&mut pass.place, FRONT, front);
+        .store::<StoreFront<J>>(&mut pass.place, FRONT, front);
 }

@@ -1,6 +1,7 @@
 //! A ticket lock that carries one history: who enters finds all that was published, and adds to it.
 #![tactic(auto)]
 
+mod atomic_steps;
 mod bells;
 mod board;
 mod door;
@@ -10,7 +11,6 @@ mod kept;
 mod lends;
 mod lock;
 mod pass;
-mod plays;
 mod seal;
 #[cfg(test)]
 mod tests;

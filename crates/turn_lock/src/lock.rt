@@ -3,13 +3,15 @@ ghost use Rattle.std.specs.Mem.Slots.{slots_items, slots_len, IsFull};
 ghost use Rattle.atomic_table.specs.Table.{Final, Seen};
 ghost use Rattle.turn_lock.specs.Rule.{Rule};
 
+use crate::atomic_steps::{
+    CompareJoined, JoinStep, LoadFront, LoadServing, Picked, SplitStep, TakeTicket,
+};
 use crate::bells::Bells;
-use crate::board::{Board, FRONT, NEXT, Place, SERVING, SLOT};
+use crate::board::{FRONT, LockWords, NEXT, Place, SERVING, SLOT};
 use crate::door::Door;
 use crate::held::Held;
 use crate::kept::Kept;
 use crate::pass::Pass;
-use crate::plays::{Compare, Cut, Draw, Glue, Look, Picked, Read};
 use atomic_table::{Closed, Table};
 use crossbeam_utils::sync::Key;
 use std::alloc::Global;
@@ -24,7 +26,7 @@ const LOOKS: u32 = 20;
 /// The lock, with the value under it.
 #[derive(Drop)]
 pub struct TurnLock<K: Kept> {
-    pub(crate) board: Board<K>,
+    pub(crate) board: LockWords<K>,
     pub(crate) bells: Bells,
     pub(crate) door: Door,
     ghost sized: { (board.shared.table_id.words ≡ 3) × (board.shared.table_id.slots ≡ 1) },
@@ -37,7 +39,7 @@ impl<K: Kept> TurnLock<K> {
     ghost use Rattle.turn_lock.specs.History.{IsCounted, IsDisplay, IsShown};
     ghost use Rattle.turn_lock.specs.Rule.{Met};
     ghost use Rattle.turn_lock.specs.Views.{HasNumber, IsFirst, IsLive, among, joined_of, longer};
-    ghost use Rattle.turn_lock.specs.Views.{both, having, newcomer, number_of, numbered, reading};
+    ghost use Rattle.turn_lock.specs.Views.{both, with_turn, newcomer, number_of, as_caller, with_known_word};
     ghost use Rattle.turn_lock.specs.Views.{made_of, with_number};
     ghost use Rattle.turn_lock.specs.Words.{has_joined};
     ghost use Rattle.turn_lock.specs.Words.{HasTurnIn, RestsIn, lock_of, name, pass_of, value_of, view};
@@ -74,7 +76,7 @@ impl<K: Kept> TurnLock<K> {
         ensures own { RestsIn self.now p.new }
         ensures view { view p.new ≡ with_number number (view p.old) }
         ensures made { RestsIn self.now result }
-        ensures made_view { view result ≡ numbered number (view p.old) }
+        ensures made_view { view result ≡ as_caller number (view p.old) }
     {
         self.split_as::<Brand>(p, number)
     }
@@ -87,9 +89,9 @@ impl<K: Kept> TurnLock<K> {
         ensures own { RestsIn self.now p.new }
         ensures view { view p.new ≡ with_number number (view p.old) }
         ensures made { RestsIn self.now result }
-        ensures made_view { view result ≡ numbered number (view p.old) }
+        ensures made_view { view result ≡ as_caller number (view p.old) }
     {
-        let place = self.board.shared.split_seat::<Cut<J>>(&mut p.place);
+        let place = self.board.shared.split_seat::<SplitStep<J>>(&mut p.place);
         Pass { place }
     }
 
@@ -122,7 +124,7 @@ impl<K: Kept> TurnLock<K> {
         ensures view { view p.new ≡ both (view p.old) (view q) }
     {
         let Pass { place } = q;
-        self.board.shared.join_seat::<Glue>(&mut p.place, place);
+        self.board.shared.join_seat::<JoinStep>(&mut p.place, place);
     }
 
     // Compares what the first pass and the one that it took in last had seen, and the histories that
@@ -146,7 +148,7 @@ impl<K: Kept> TurnLock<K> {
             → (among x.number (made_of (view p.old).role) ≡ true)
             × (has_joined x.number xs ≡ false) }
     {
-        self.board.shared.load::<Compare>(&mut p.place, NEXT);
+        self.board.shared.load::<CompareJoined>(&mut p.place, NEXT);
     }
 
     /// Waits for this pass's turn, and gives it the value.
@@ -157,7 +159,7 @@ impl<K: Kept> TurnLock<K> {
         ensures turn { HasTurnIn self.now (pass_of result) }
         ensures view { (ticket : ℕ)
             × (view (pass_of result)
-            ≡ having ticket (K.entries (value_of result)) (K.seal (value_of result)) (view p.old)) }
+            ≡ with_turn ticket (K.entries (value_of result)) (K.seal (value_of result)) (view p.old)) }
         ensures seen { StartsWith (K.entries (value_of result)) (view p.old).seen }
         ensures mine { HasMine (K.entries (value_of result)) (view p.old).role (view p.old).mine }
         ensures known { IsWordIn K.before (K.entries (value_of result)) (view p.old).known }
@@ -168,7 +170,10 @@ impl<K: Kept> TurnLock<K> {
         ensures shown { IsShown (K.entries (value_of result)) }
     {
         self.stand_aside(rt);
-        let ticket = self.board.shared.fetch_add::<Draw>(&mut p.place, NEXT, 1);
+        let ticket = self
+            .board
+            .shared
+            .fetch_add::<TakeTicket>(&mut p.place, NEXT, 1);
         let value = self.take(rt, &mut p.place, ticket);
         Held {
             lock: self,
@@ -222,14 +227,14 @@ impl<K: Kept> TurnLock<K> {
         requires live { IsLive place.old.me.0.role }
         ensures own { (place.new.table_id ≡ name self.now) × (place.new.me.1 ≡ (0, None) ∷ []) }
         ensures view { (ticket : ℕ)
-            × (place.new.me.0 ≡ having ticket (K.entries result) (K.seal result) place.old.me.0) }
+            × (place.new.me.0 ≡ with_turn ticket (K.entries result) (K.seal result) place.old.me.0) }
         ensures finds { Finds K.before (K.entries result) (K.seal result) place.old.me.0 }
     {
         let mut looks = 0;
         for _ in rt.forever() {
             // A wait is announced before the look, so the bell can't ring between the two unheard.
             let key = self.announced(ticket, looks);
-            if self.board.shared.load::<Look>(place, SERVING) == ticket {
+            if self.board.shared.load::<LoadServing>(place, SERVING) == ticket {
                 return self.board.shared.exchange(place, SLOT, None).unwrap();
             }
             match key {
@@ -255,7 +260,7 @@ impl<K: Kept> TurnLock<K> {
     pub fn front(&self, p: &mut Pass<K>) -> u64
         requires { RestsIn self.now p.old }
         ensures own { RestsIn self.now p.new }
-        ensures view { view p.new ≡ reading (view p.new).read result (view p.old) }
+        ensures view { view p.new ≡ with_known_word (view p.new).read result (view p.old) }
         ensures word { result ≡ word_of K.before (view p.new).read }
         ensures count { result / 64 ≡ length (view p.new).read }
         ensures right { K.right (view p.new).read }
@@ -266,7 +271,7 @@ impl<K: Kept> TurnLock<K> {
         ensures greatest { (view p.old).known ≤ result }
         ensures display { IsDisplay (result % 64) }
     {
-        self.board.shared.load::<Read>(&mut p.place, FRONT)
+        self.board.shared.load::<LoadFront>(&mut p.place, FRONT)
     }
 
     /// The value, once all other passes were taken in.
@@ -295,7 +300,7 @@ impl<K: Kept> TurnLock<K> {
 }
 
 // Ends the sharing of the table: what the pass knows stands in its last state.
-fn shut<K: Kept>(board: Board<K>, place: Place<K>) -> Closed<Option<K>, Global>
+fn shut<K: Kept>(board: LockWords<K>, place: Place<K>) -> Closed<Option<K>, Global>
     requires { place.table_id ≡ board.shared.table_id }
     ensures words { slots_len result.words ≡ board.shared.table_id.words }
     ensures slots { slots_len result.slots ≡ board.shared.table_id.slots }

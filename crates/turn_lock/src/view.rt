@@ -28,7 +28,7 @@ pub enum Role<W, Z> {
 }
 
 /// How far a pass is on its way through the lock. Tickets are counted without end.
-pub enum Stage<W> {
+pub(crate) enum Stage<W> {
     Idle,
     /// It has this ticket.
     Waits(u64),

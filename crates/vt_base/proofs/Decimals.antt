@@ -24,13 +24,13 @@ pub none_without_digits : (word : List ℕ) → length word ≡ 0 → IsNoNumber
 none_without_digits word empty n fits is = omega (arith, decimal_nonempty n fits, ap length is)
 
 -- the first digit of a number
-first-digit : (n : ℕ) → n < 2 ^ 64 → 48 ≤ get_or (decimal n) 0 0
-first-digit zero fits = omega (arith, ap (λ ds. get_or ds 0 0) (decimal_digit 0 (lit< tt)))
-first-digit (suc n) fits = omega (arith, first_decimal (suc n) (omega arith) fits)
+first_digit : (n : ℕ) → n < 2 ^ 64 → 48 ≤ get_or (decimal n) 0 0
+first_digit zero fits = omega (arith, ap (λ ds. get_or ds 0 0) (decimal_digit 0 (lit< tt)))
+first_digit (suc n) fits = omega (arith, first_decimal (suc n) (omega arith) fits)
 
 -- no number is spelled with a plus
 pub none_with_plus : (word : List ℕ) → get_or word 0 0 ≡ 43 → IsNoNumber word
-none_with_plus word plus n fits is = omega (arith, first-digit n fits, ap (λ ds. get_or ds 0 0) is)
+none_with_plus word plus n fits is = omega (arith, first_digit n fits, ap (λ ds. get_or ds 0 0) is)
 
 -- no number but 0 is spelled with a leading zero
 pub none_with_zero : (word : List ℕ) → get_or word 0 0 ≡ 48 → length word ≢ 1 → IsNoNumber word

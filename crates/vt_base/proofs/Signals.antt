@@ -48,8 +48,8 @@ bit_there set k i apart =
     ap (λ n. n == 1)
     (bit_at_or set (2 ^ k) i ∙ ap (max (bit_at set i)) (bit_at-pow_other k i apart) ∙ same)
 
-pub with-adds-one : WithAddsOne
-with-adds-one set s some =
+pub with_adds_one : WithAddsOne
+with_adds_one set s some =
     let k : ℕ = s - 1 in
     let made = with_by_mask set k in
     record {

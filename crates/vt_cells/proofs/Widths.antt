@@ -44,16 +44,16 @@ passes_to p n [] = false
 passes_to p n (s ∷ ss) = p s.1 && (nat_le n s.0 || passes_to p n ss)
 
 -- the value of a code below n passes, where the steps up to n pass
-value-passes : {V : Type 0} (p : V → Bool) (d : V) (n c : ℕ) → c < n → (ss : List (Step V))
+value_passes : {V : Type 0} (p : V → Bool) (d : V) (n c : ℕ) → c < n → (ss : List (Step V))
     → passes_to p n ss ≡ true → p (step_value d ss c) ≡ true
-value-passes p d n c below [] h = cc
-value-passes p d n c below (s ∷ ss) h =
+value_passes p d n c below [] h = cc
+value_passes p d n c below (s ∷ ss) h =
     let parts = and_parts (p s.1) (nat_le n s.0 || passes_to p n ss) h in
     elim (cases_lt c s.0) [
       | inl here ↦ ap p (step_value-here d s ss c here) ∙ parts.0
       | inr later ↦
           ap p (step_value-later d s ss c later)
-          ∙ value-passes p d n c below ss (on (nat_le n s.0) refl later parts.1)
+          ∙ value_passes p d n c below ss (on (nat_le n s.0) refl later parts.1)
     ]
   where
     on : (test : Bool) → nat_le n s.0 ≡ test → s.0 ≤ c → (test || passes_to p n ss) ≡ true
@@ -62,16 +62,16 @@ value-passes p d n c below (s ∷ ss) h =
     on false is later either = either
 
 -- each kind from a code on up to another passes
-passes-between : (p : Kind → Bool) (low high c : ℕ) → low ≤ c → c < high
+passes_between : (p : Kind → Bool) (low high c : ℕ) → low ≤ c → c < high
     → passes_to p high (skip kind_stepped.steps low) ≡ true → p (kind c) ≡ true
-passes-between p low high c from below h =
+passes_between p low high c from below h =
     ap p (kind_stepped.gives c)
     ∙ sym (ap p (step_value-skip kind_stepped.default kind_stepped.steps low c from))
-    ∙ value-passes p kind_stepped.default high c below (skip kind_stepped.steps low) h
+    ∙ value_passes p kind_stepped.default high c below (skip kind_stepped.steps low) h
 
-pub kinds-between : (low high c : ℕ) → low ≤ c → c < high
+pub kinds_between : (low high c : ℕ) → low ≤ c → c < high
     → passes_to is_one high (skip kind_stepped.steps low) ≡ true → is_one (kind c) ≡ true
-kinds-between = passes-between is_one
+kinds_between = passes_between is_one
 
 -- such a kind takes one column
 of_one : (k : Kind) (c : ℕ) → is_one k ≡ true → (of_kind false c k).0 ≡ 1
@@ -89,9 +89,9 @@ of_one kinds.Emoji c h = cc
 of_one kinds.Single c h = cc
 
 -- a character beyond the controls is as wide as its kind, cut to 2
-kind-gives : (c width : ℕ) → 0xA0 ≤ c → c < 0xD800 → (of_kind false c (kind c)).0 ≡ width → columns c ≡ min 2 width
+kind_gives : (c width : ℕ) → 0xA0 ≤ c → c < 0xD800 → (of_kind false c (kind c)).0 ≡ width → columns c ≡ min 2 width
 unfolding columns char_width alone
-kind-gives c width from below h =
+kind_gives c width from below h =
     let known : is_character c ≡ true = grind (arith, nat_tests) in
     let past : nat_lt c 0x7F ≡ false = grind (arith, nat_tests) in
     let shown : nat_le 0xA0 c ≡ true = grind (arith, nat_tests) in
@@ -103,8 +103,8 @@ kind-gives c width from below h =
     ∙ ap (λ w. min 2 (unwrap_or w 1)) wide
     ∙ ap (min 2) h
 
-pub kind-takes : (c : ℕ) → 0xA0 ≤ c → c < 0xD800 → is_one (kind c) ≡ true → columns c ≡ 1
-kind-takes c from below h = kind-gives c 1 from below (of_one (kind c) c h)
+pub kind_takes : (c : ℕ) → 0xA0 ≤ c → c < 0xD800 → is_one (kind c) ≡ true → columns c ≡ 1
+kind_takes c from below h = kind_gives c 1 from below (of_one (kind c) c h)
 
 -- a wide kind takes two columns
 abbrev is_two : Kind → Bool
@@ -136,12 +136,12 @@ hangul_passes = refl
 pub han : (c : ℕ) → 0x3400 ≤ c → c ≤ 0x9FFF → columns c ≡ 2
 han c from to =
     let below : c < 0xA000 = omega (arith, to) in
-    kind-gives c 2 (omega (arith, from)) (omega (arith, to)) (of_two (kind c) c (passes-between is_two 0x3400 0xA000 c from below han_passes))
+    kind_gives c 2 (omega (arith, from)) (omega (arith, to)) (of_two (kind c) c (passes_between is_two 0x3400 0xA000 c from below han_passes))
 
 pub hangul : (c : ℕ) → 0xAC00 ≤ c → c ≤ 0xD7A3 → columns c ≡ 2
 hangul c from to =
     let below : c < 0xD7A4 = omega (arith, to) in
-    kind-gives c 2 (omega (arith, from)) (omega (arith, to)) (of_two (kind c) c (passes-between is_two 0xAC00 0xD7A4 c from below hangul_passes))
+    kind_gives c 2 (omega (arith, from)) (omega (arith, to)) (of_two (kind c) c (passes_between is_two 0xAC00 0xD7A4 c from below hangul_passes))
 
 -- from these steps of the table on, up to the first that doesn't end below a code
 latin_passes : passes_to is_one 0xAD (skip kind_stepped.steps 0xA0) ≡ true
@@ -153,21 +153,21 @@ unfolding unicode_width
 letters_pass = refl
 
 -- the codes below A0 that the table isn't asked for
-pub control-takes : (c : ℕ) → c < 0xA0 → columns c ≡ 1
+pub control_takes : (c : ℕ) → c < 0xA0 → columns c ≡ 1
 unfolding columns char_width
-control-takes c below =
+control_takes c below =
     grind (arith, nat_tests)
 
 pub low : LowTakeOne
 low c below other =
     elim (cases_lt c 0xA0) [
-      | inl first ↦ control-takes c first
+      | inl first ↦ control_takes c first
       | inr from ↦
           elim (cases_lt c 0xAD) [
-            | inl second ↦ kind-takes c from (omega (arith, second)) (kinds-between 0xA0 0xAD c from second latin_passes)
+            | inl second ↦ kind_takes c from (omega (arith, second)) (kinds_between 0xA0 0xAD c from second latin_passes)
             | inr third ↦
-                kind-takes c from (omega (arith, below))
-                (kinds-between 0xAE 0x300 c (omega (arith, third, other)) below letters_pass)
+                kind_takes c from (omega (arith, below))
+                (kinds_between 0xAE 0x300 c (omega (arith, third, other)) below letters_pass)
           ]
     ]
 

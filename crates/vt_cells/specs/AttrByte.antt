@@ -17,17 +17,17 @@ abbrev pub byte_of : ℕ → ℕ → ℕ
 byte_of bg fg = 16 * bg + fg
 
 -- the ground and the character's colour are exchanged; blink and bright stay
-abbrev pub swapped : ℕ → ℕ
-swapped b = 128 * (b / 128) + 16 * (b % 8) + 8 * (b / 8 % 2) + b / 16 % 8
+abbrev pub with_colours_swapped : ℕ → ℕ
+with_colours_swapped b = 128 * (b / 128) + 16 * (b % 8) + 8 * (b / 8 % 2) + b / 16 % 8
 
 -- the bit of this weight is set where it wasn't, and else cleared
-abbrev pub flipped : ℕ → ℕ → ℕ
-flipped weight b = if b / weight % 2 == 0 then b + weight else b - weight
+abbrev pub with_bit_flipped : ℕ → ℕ → ℕ
+with_bit_flipped weight b = if b / weight % 2 == 0 then b + weight else b - weight
 
 -- the character's colour: green where italic is on, else that for underline, else that for
 -- half-bright, else its own
-abbrev pub ink : Rendition → Tints → ℕ
-ink a l =
+abbrev pub foreground : Rendition → Tints → ℕ
+foreground a l =
     if a.italic then 2
     else if a.underline then vga l.ul
     else if is_dim a.intensity then vga l.dim
@@ -36,10 +36,10 @@ ink a l =
 -- the byte with reverse applied, then blink, then bold
 abbrev pub attr_byte : Rendition → Tints → ℕ
 attr_byte a l =
-    let plain = byte_of (vga a.bg) (ink a l) in
-    let turned = if a.reverse then swapped plain else plain in
-    let blinking = if a.blink then flipped 128 turned else turned in
-    if is_bold a.intensity then flipped 8 blinking else blinking
+    let plain = byte_of (vga a.bg) (foreground a l) in
+    let turned = if a.reverse then with_colours_swapped plain else plain in
+    let blinking = if a.blink then with_bit_flipped 128 turned else turned in
+    if is_bold a.intensity then with_bit_flipped 8 blinking else blinking
 
 -- the byte of erased cells: the two colours alone
 abbrev pub erase_byte : Rendition → ℕ

@@ -1,5 +1,5 @@
 ghost use Rattle.std.specs.Prelude.{◌≡◌, ◌<◌, if◌then◌else◌};
-ghost use Rattle.vt_cells.specs.AttrByte.{attr_byte, byte_of, erase_byte, flipped, ink, swapped, vga};
+ghost use Rattle.vt_cells.specs.AttrByte.{attr_byte, byte_of, erase_byte, with_bit_flipped, foreground, with_colours_swapped, vga};
 
 use crate::{Attr, Intensity, Look};
 
@@ -19,7 +19,7 @@ static VGA: [u8; 16] = [0, 4, 2, 6, 1, 5, 3, 7, 8, 12, 10, 14, 9, 13, 11, 15];
 pub fn attr_byte(a: &Attr, l: &Look) -> u8
     ensures { result ≡ attr_byte a.now l.now }
 {
-    let turned = turned(byte_of(vga(a.bg), ink(a, l)), a.reverse);
+    let turned = turned(byte_of(vga(a.bg), foreground(a, l)), a.reverse);
     brightened(blinking(turned, a.blink), a.intensity == Intensity::Bold)
 }
 
@@ -33,14 +33,14 @@ pub fn erase_byte(a: &Attr) -> u8
 /// The attribute byte with the colours of character and ground exchanged.
 #[tactic(auto, using(crate::proofs::Bits::bits))]
 pub fn swapped(b: u8) -> u8
-    ensures { result ≡ swapped b }
+    ensures { result ≡ with_colours_swapped b }
 {
     b & 0x88 | (b >> 4 | b << 4) & 0x77
 }
 
 // The colour that stands for italic, underline or half-bright, or the character's own.
-fn ink(a: &Attr, l: &Look) -> u8
-    ensures colour { result ≡ ink a.now l.now }
+fn foreground(a: &Attr, l: &Look) -> u8
+    ensures colour { result ≡ foreground a.now l.now }
     ensures nibble { result < 16 }
 {
     if a.italic {
@@ -66,21 +66,21 @@ fn byte_of(bg: u8, fg: u8) -> u8
 
 // The byte with reverse applied.
 fn turned(b: u8, reverse: bool) -> u8
-    ensures { result ≡ (if reverse then swapped b else b) }
+    ensures { result ≡ (if reverse then with_colours_swapped b else b) }
 {
     if reverse { swapped(b) } else { b }
 }
 
 #[tactic(auto, using(crate::proofs::Bits::bits))]
 fn blinking(b: u8, blink: bool) -> u8
-    ensures { result ≡ (if blink then flipped 128 b else b) }
+    ensures { result ≡ (if blink then with_bit_flipped 128 b else b) }
 {
     if blink { b ^ BLINK } else { b }
 }
 
 #[tactic(auto, using(crate::proofs::Bits::bits))]
 fn brightened(b: u8, bold: bool) -> u8
-    ensures { result ≡ (if bold then flipped 8 b else b) }
+    ensures { result ≡ (if bold then with_bit_flipped 8 b else b) }
 {
     if bold { b ^ BRIGHT } else { b }
 }

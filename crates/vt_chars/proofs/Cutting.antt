@@ -5,7 +5,7 @@ use Rattle.std.proofs.lemmas.Bool.{and_left, and_parts, and_right, and_from, cas
 use Rattle.std.proofs.lemmas.Bool.Decides.{nat_tests}
 use Rattle.std.proofs.lemmas.List.{append-nil, drop-append-le, length-drop, length-take}
 use Rattle.std.specs.List.{concat}
-use Rattle.vt_chars.proofs.Prefixes.{of-two, of-three, of-four, wider}
+use Rattle.vt_chars.proofs.Prefixes.{of_two, of_three, of_four, wider}
 use Rattle.vt_chars.specs.Characters.{AsciiCuts, ByteMore, CharactersAreAll, characters, characters_past, first_of, is_part, with_byte}
 use Rattle.vt_chars.specs.Utf8.{is_begun, is_second, is_tail, is_well_formed, within}
 
@@ -14,36 +14,36 @@ or_right true b is = refl
 or_right false b is = is
 
 -- what is before the last byte of a part begins one
-before-last : (a : ℕ) (text : List ℕ) (b : ℕ) → is_part ((a ∷ text) ++ b ∷ []) ≡ true
+before_last : (a : ℕ) (text : List ℕ) (b : ℕ) → is_part ((a ∷ text) ++ b ∷ []) ≡ true
     → is_begun (a ∷ text) ≡ true
-before-last a [] b is = ⊎_elim
-    (λ (whole : is_well_formed (a ∷ b ∷ []) ≡ true). of-two a b whole)
+before_last a [] b is = ⊎_elim
+    (λ (whole : is_well_formed (a ∷ b ∷ []) ≡ true). of_two a b whole)
     (λ (begun : is_begun (a ∷ b ∷ []) ≡ true).
     wider 0xE0 0xF4 0xC2 0xF4 a (omega arith) (omega arith) (and_parts _ _ begun).0)
     (or_cases _ _ is)
-before-last a (c ∷ []) b is = ⊎_elim
-    (λ (whole : is_well_formed (a ∷ c ∷ b ∷ []) ≡ true). (of-three a c b whole).1)
+before_last a (c ∷ []) b is = ⊎_elim
+    (λ (whole : is_well_formed (a ∷ c ∷ b ∷ []) ≡ true). (of_three a c b whole).1)
     (λ (begun : is_begun (a ∷ c ∷ b ∷ []) ≡ true).
     let q : ((within 0xF0 0xF4 a && is_second a c) ≡ true) × (is_tail b ≡ true) = and_parts _ _ begun in
     let p : (within 0xF0 0xF4 a ≡ true) × (is_second a c ≡ true) = and_parts _ _ q.0 in
     and_from _ _ (wider 0xF0 0xF4 0xE0 0xF4 a (omega arith) (omega arith) p.0) p.1)
     (or_cases _ _ is)
-before-last a (c ∷ d ∷ []) b is = ⊎_elim
-    (λ (whole : is_well_formed (a ∷ c ∷ d ∷ b ∷ []) ≡ true). (of-four a c d b whole).2)
+before_last a (c ∷ d ∷ []) b is = ⊎_elim
+    (λ (whole : is_well_formed (a ∷ c ∷ d ∷ b ∷ []) ≡ true). (of_four a c d b whole).2)
     (λ (begun : is_begun (a ∷ c ∷ d ∷ b ∷ []) ≡ true). absurd (false≢true begun))
     (or_cases _ _ is)
-before-last a (c ∷ d ∷ e ∷ []) b is = absurd (false≢true is)
-before-last a (c ∷ d ∷ e ∷ f ∷ text) b is = absurd (false≢true is)
+before_last a (c ∷ d ∷ e ∷ []) b is = absurd (false≢true is)
+before_last a (c ∷ d ∷ e ∷ f ∷ text) b is = absurd (false≢true is)
 
 -- a text with a byte more that is a part is its own first character, and so was the text
 joined : (a : ℕ) (text : List ℕ) (b : ℕ) → is_part ((a ∷ text) ++ b ∷ []) ≡ true
     → (first_of ((a ∷ text) ++ b ∷ []) ≡ (a ∷ text) ++ b ∷ []) × (first_of (a ∷ text) ≡ a ∷ text)
 joined a [] b is =
-    (cond-true _ _ _ is, cond-true _ _ _ (or_right _ _ (before-last a [] b is)))
+    (cond-true _ _ _ is, cond-true _ _ _ (or_right _ _ (before_last a [] b is)))
 joined a (c ∷ []) b is =
-    (cond-true _ _ _ is, cond-true _ _ _ (or_right _ _ (before-last a (c ∷ []) b is)))
+    (cond-true _ _ _ is, cond-true _ _ _ (or_right _ _ (before_last a (c ∷ []) b is)))
 joined a (c ∷ d ∷ []) b is =
-    (cond-true _ _ _ is, cond-true _ _ _ (or_right _ _ (before-last a (c ∷ d ∷ []) b is)))
+    (cond-true _ _ _ is, cond-true _ _ _ (or_right _ _ (before_last a (c ∷ d ∷ []) b is)))
 joined a (c ∷ d ∷ e ∷ []) b is = absurd (false≢true is)
 joined a (c ∷ d ∷ e ∷ f ∷ text) b is = absurd (false≢true is)
 
@@ -87,71 +87,71 @@ pick false false false text = (1, omega arith, refl)
 front : (text : List ℕ) → (n : ℕ) × (1 ≤ n) × (first_of text ≡ take n text)
 front text = pick (is_part (take 4 text)) (is_part (take 3 text)) (is_part (take 2 text)) text
 
-taken-and-left : (n : ℕ) (text : List ℕ) → take n text ++ drop (length (take n text)) text ≡ text
-taken-and-left zero text = refl
-taken-and-left (suc n) [] = refl
-taken-and-left (suc n) (a ∷ text) = ap (λ xs. a ∷ xs) (taken-and-left n text)
+taken_and_left : (n : ℕ) (text : List ℕ) → take n text ++ drop (length (take n text)) text ≡ text
+taken_and_left zero text = refl
+taken_and_left (suc n) [] = refl
+taken_and_left (suc n) (a ∷ text) = ap (λ xs. a ∷ xs) (taken_and_left n text)
 
-first-and-left : (text : List ℕ) → first_of text ++ drop (length (first_of text)) text ≡ text
-first-and-left text =
+first_and_left : (text : List ℕ) → first_of text ++ drop (length (first_of text)) text ≡ text
+first_and_left text =
     let f = front text in
-    ap (λ c. c ++ drop (length c) text) f.2 ∙ taken-and-left f.0 text
+    ap (λ c. c ++ drop (length c) text) f.2 ∙ taken_and_left f.0 text
 
-first-some : (a : ℕ) (text : List ℕ) → 1 ≤ length (first_of (a ∷ text))
-first-some a text =
+first_some : (a : ℕ) (text : List ℕ) → 1 ≤ length (first_of (a ∷ text))
+first_some a text =
     let f = front (a ∷ text) in
     omega (arith, f.1, ap length f.2, length-take f.0 (a ∷ text))
 
-first-within : (text : List ℕ) → length (first_of text) ≤ length text
-first-within text =
+first_within : (text : List ℕ) → length (first_of text) ≤ length text
+first_within text =
     let f = front text in
     omega (arith, ap length f.2, length-take f.0 text)
 
 -- a text that a character of before goes into has the characters of what is left
-past-is-drop : (n : ℕ) (text : List ℕ) → characters_past n text ≡ characters (drop n text)
-past-is-drop zero text = refl
-past-is-drop (suc n) [] = refl
-past-is-drop (suc n) (a ∷ text) = past-is-drop n text
+past_is_drop : (n : ℕ) (text : List ℕ) → characters_past n text ≡ characters (drop n text)
+past_is_drop zero text = refl
+past_is_drop (suc n) [] = refl
+past_is_drop (suc n) (a ∷ text) = past_is_drop n text
 
-pub first-then-left : (a : ℕ) (text : List ℕ)
+pub first_then_left : (a : ℕ) (text : List ℕ)
     → characters (a ∷ text)
     ≡ first_of (a ∷ text) ∷ characters (drop (length (first_of (a ∷ text))) (a ∷ text))
-first-then-left a text =
+first_then_left a text =
     let c : List ℕ = first_of (a ∷ text) in
-    let long : length c ≡ suc (length c - 1) = omega (arith, first-some a text) in
+    let long : length c ≡ suc (length c - 1) = omega (arith, first_some a text) in
     ap (λ cs. c ∷ cs)
-    (past-is-drop (length c - 1) text ∙ ap (λ n. characters (drop n (a ∷ text))) (sym long))
+    (past_is_drop (length c - 1) text ∙ ap (λ n. characters (drop n (a ∷ text))) (sym long))
 
 -- a text that is its own first character
 alone : (a : ℕ) (text : List ℕ) → first_of (a ∷ text) ≡ a ∷ text → characters (a ∷ text) ≡ (a ∷ text) ∷ []
 alone a text is =
-    first-then-left a text
+    first_then_left a text
     ∙ ap (λ c. c ∷ characters (drop (length c) (a ∷ text))) is
     ∙ ap (λ left. (a ∷ text) ∷ characters left) (drop-length (a ∷ text))
 
-one-byte : (b : ℕ) → first_of (b ∷ []) ≡ b ∷ []
-one-byte b = same (is_part (b ∷ []))
+one_byte : (b : ℕ) → first_of (b ∷ []) ≡ b ∷ []
+one_byte b = same (is_part (b ∷ []))
   where
     same : (p : Bool) → cond p (b ∷ []) (cond p (b ∷ []) (cond p (b ∷ []) (b ∷ []))) ≡ b ∷ []
     same true = refl
     same false = refl
 
-none-of-none : (text : List ℕ) → characters text ≡ [] → text ≡ []
-none-of-none [] is = refl
-none-of-none (a ∷ text) is = absurd (let wrong : ⊥ = cc (first-then-left a text) in wrong)
+none_of_none : (text : List ℕ) → characters text ≡ [] → text ≡ []
+none_of_none [] is = refl
+none_of_none (a ∷ text) is = absurd (let wrong : ⊥ = cc (first_then_left a text) in wrong)
 
 -- where the first character stays as it is with the byte more, the others take the byte
-goes-past : (c : List ℕ) (others : List (List ℕ)) (b : ℕ)
+goes_past : (c : List ℕ) (others : List (List ℕ)) (b : ℕ)
     → (others ≡ [] → is_part (c ++ b ∷ []) ≡ false)
     → c ∷ with_byte others b ≡ with_byte (c ∷ others) b
-goes-past c [] b stays = sym (cond-false _ _ _ (stays refl))
-goes-past c (d ∷ others) b stays = refl
+goes_past c [] b stays = sym (cond-false _ _ _ (stays refl))
+goes_past c (d ∷ others) b stays = refl
 
-more-by : (n : ℕ) (text : List ℕ) (b : ℕ) → length text ≤ n
+more_by : (n : ℕ) (text : List ℕ) (b : ℕ) → length text ≤ n
     → characters (text ++ b ∷ []) ≡ with_byte (characters text) b
-more-by n [] b few = alone b [] (one-byte b)
-more-by zero (a ∷ text) b few = absurd (omega (arith, few))
-more-by (suc n) (a ∷ text) b few =
+more_by n [] b few = alone b [] (one_byte b)
+more_by zero (a ∷ text) b few = absurd (omega (arith, few))
+more_by (suc n) (a ∷ text) b few =
     let c : List ℕ = first_of (a ∷ text) in
     let left : List ℕ = drop (length c) (a ∷ text) in
     let whole : List ℕ = (a ∷ text) ++ b ∷ [] in
@@ -163,94 +163,94 @@ more-by (suc n) (a ∷ text) b few =
     ∙ ap (λ cs. with_byte cs b) (sym (alone a text both.1)))
     (λ (other : is_part whole ≡ false).
     let shorter : length left ≤ n =
-    omega (arith, length-drop (length c) (a ∷ text), first-some a text, few) in
+    omega (arith, length-drop (length c) (a ∷ text), first_some a text, few) in
     let stays : characters left ≡ [] → is_part (c ++ b ∷ []) ≡ false =
     λ none.
     ap (λ t. is_part (t ++ b ∷ []))
-    (sym (append-nil c) ∙ ap (λ t. c ++ t) (sym (none-of-none left none)) ∙ first-and-left (a ∷ text))
+    (sym (append-nil c) ∙ ap (λ t. c ++ t) (sym (none_of_none left none)) ∙ first_and_left (a ∷ text))
     ∙ other in
-    first-then-left a (text ++ b ∷ [])
+    first_then_left a (text ++ b ∷ [])
     ∙ ap (λ d. d ∷ characters (drop (length d) whole)) (apart a text b other)
-    ∙ ap (λ t. c ∷ characters t) (drop-append-le (length c) (a ∷ text) (b ∷ []) (first-within (a ∷ text)))
-    ∙ ap (λ cs. c ∷ cs) (more-by n left b shorter)
-    ∙ goes-past c (characters left) b stays
-    ∙ ap (λ cs. with_byte cs b) (sym (first-then-left a text)))
+    ∙ ap (λ t. c ∷ characters t) (drop-append-le (length c) (a ∷ text) (b ∷ []) (first_within (a ∷ text)))
+    ∙ ap (λ cs. c ∷ cs) (more_by n left b shorter)
+    ∙ goes_past c (characters left) b stays
+    ∙ ap (λ cs. with_byte cs b) (sym (first_then_left a text)))
     (cases_Bool (is_part whole))
 
-pub byte-more : ByteMore
-byte-more text b = more-by (length text) text b (omega arith)
+pub byte_more : ByteMore
+byte_more text b = more_by (length text) text b (omega arith)
 
-all-by : (n : ℕ) (text : List ℕ) → length text ≤ n → concat (characters text) ≡ text
-all-by n [] few = refl
-all-by zero (a ∷ text) few = absurd (omega (arith, few))
-all-by (suc n) (a ∷ text) few =
+all_by : (n : ℕ) (text : List ℕ) → length text ≤ n → concat (characters text) ≡ text
+all_by n [] few = refl
+all_by zero (a ∷ text) few = absurd (omega (arith, few))
+all_by (suc n) (a ∷ text) few =
     let c : List ℕ = first_of (a ∷ text) in
     let left : List ℕ = drop (length c) (a ∷ text) in
     let shorter : length left ≤ n =
-    omega (arith, length-drop (length c) (a ∷ text), first-some a text, few) in
-    ap concat (first-then-left a text)
-    ∙ ap (λ t. c ++ t) (all-by n left shorter)
-    ∙ first-and-left (a ∷ text)
+    omega (arith, length-drop (length c) (a ∷ text), first_some a text, few) in
+    ap concat (first_then_left a text)
+    ∙ ap (λ t. c ++ t) (all_by n left shorter)
+    ∙ first_and_left (a ∷ text)
 
-pub characters-are-all : CharactersAreAll
-characters-are-all text = all-by (length text) text (omega arith)
+pub characters_are_all : CharactersAreAll
+characters_are_all text = all_by (length text) text (omega arith)
 
 -- characters of at least one byte each
 abbrev Filled : List (List ℕ) → Type 0
 Filled [] = Unit
 Filled (c ∷ more) = (1 ≤ length c) × Filled more
 
-filled-by : (n : ℕ) (text : List ℕ) → length text ≤ n → Filled (characters text)
-filled-by n [] few = tt
-filled-by zero (a ∷ text) few = absurd (omega (arith, few))
-filled-by (suc n) (a ∷ text) few =
+filled_by : (n : ℕ) (text : List ℕ) → length text ≤ n → Filled (characters text)
+filled_by n [] few = tt
+filled_by zero (a ∷ text) few = absurd (omega (arith, few))
+filled_by (suc n) (a ∷ text) few =
     let c : List ℕ = first_of (a ∷ text) in
     let left : List ℕ = drop (length c) (a ∷ text) in
     let shorter : length left ≤ n =
-    omega (arith, length-drop (length c) (a ∷ text), first-some a text, few) in
-    subst Filled (sym (first-then-left a text)) (first-some a text, filled-by n left shorter)
+    omega (arith, length-drop (length c) (a ∷ text), first_some a text, few) in
+    subst Filled (sym (first_then_left a text)) (first_some a text, filled_by n left shorter)
 
-no-tail : (b : ℕ) → b < 0x80 → is_tail b ≡ false
-no-tail b low = grind (arith, nat_tests)
+no_tail : (b : ℕ) → b < 0x80 → is_tail b ≡ false
+no_tail b low = grind (arith, nat_tests)
 
-no-second : (a b : ℕ) → b < 0x80 → is_second a b ≡ false
-no-second a b low = grind (arith, nat_tests)
+no_second : (a b : ℕ) → b < 0x80 → is_second a b ≡ false
+no_second a b low = grind (arith, nat_tests)
 
-no-lead : (low high b : ℕ) → b < 0x80 → 0x80 ≤ low → within low high b ≡ false
-no-lead low high b is above = grind (arith, nat_tests)
+no_lead : (low high b : ℕ) → b < 0x80 → 0x80 ≤ low → within low high b ≡ false
+no_lead low high b is above = grind (arith, nat_tests)
 
 -- a byte below 80 goes on no character, and none goes on it
-ends-apart : (a : ℕ) (text : List ℕ) (b : ℕ) → b < 0x80 → is_part ((a ∷ text) ++ b ∷ []) ≡ false
-ends-apart a [] b low =
-    or_from _ _ (and_right _ _ (no-tail b low)) (and_right _ _ (no-second a b low))
-ends-apart a (c ∷ []) b low =
-    or_from _ _ (and_right _ _ (no-tail b low)) (and_right _ _ (no-tail b low))
-ends-apart a (c ∷ d ∷ []) b low = or_from _ _ (and_right _ _ (no-tail b low)) refl
-ends-apart a (c ∷ d ∷ e ∷ []) b low = refl
-ends-apart a (c ∷ d ∷ e ∷ f ∷ text) b low = refl
+ends_apart : (a : ℕ) (text : List ℕ) (b : ℕ) → b < 0x80 → is_part ((a ∷ text) ++ b ∷ []) ≡ false
+ends_apart a [] b low =
+    or_from _ _ (and_right _ _ (no_tail b low)) (and_right _ _ (no_second a b low))
+ends_apart a (c ∷ []) b low =
+    or_from _ _ (and_right _ _ (no_tail b low)) (and_right _ _ (no_tail b low))
+ends_apart a (c ∷ d ∷ []) b low = or_from _ _ (and_right _ _ (no_tail b low)) refl
+ends_apart a (c ∷ d ∷ e ∷ []) b low = refl
+ends_apart a (c ∷ d ∷ e ∷ f ∷ text) b low = refl
 
-starts-apart : (b x : ℕ) → b < 0x80 → is_part (b ∷ x ∷ []) ≡ false
-starts-apart b x low =
+starts_apart : (b x : ℕ) → b < 0x80 → is_part (b ∷ x ∷ []) ≡ false
+starts_apart b x low =
     or_from _ _
-    (and_left _ _ (no-lead 0xC2 0xDF b low (omega arith)))
-    (and_left _ _ (no-lead 0xE0 0xF4 b low (omega arith)))
+    (and_left _ _ (no_lead 0xC2 0xDF b low (omega arith)))
+    (and_left _ _ (no_lead 0xE0 0xF4 b low (omega arith)))
 
-at-end : (cs : List (List ℕ)) (b : ℕ) → b < 0x80 → Filled cs → with_byte cs b ≡ cs ++ (b ∷ []) ∷ []
-at-end [] b low filled = refl
-at-end ([] ∷ []) b low filled = absurd (omega (arith, filled.0))
-at-end ((a ∷ c) ∷ []) b low filled = cond-false _ _ _ (ends-apart a c b low)
-at-end (c ∷ d ∷ more) b low filled = ap (λ cs. c ∷ cs) (at-end (d ∷ more) b low filled.1)
+at_end : (cs : List (List ℕ)) (b : ℕ) → b < 0x80 → Filled cs → with_byte cs b ≡ cs ++ (b ∷ []) ∷ []
+at_end [] b low filled = refl
+at_end ([] ∷ []) b low filled = absurd (omega (arith, filled.0))
+at_end ((a ∷ c) ∷ []) b low filled = cond-false _ _ _ (ends_apart a c b low)
+at_end (c ∷ d ∷ more) b low filled = ap (λ cs. c ∷ cs) (at_end (d ∷ more) b low filled.1)
 
-after-some : (xs : List (List ℕ)) (y : List ℕ) (ys : List (List ℕ)) (b : ℕ)
+after_some : (xs : List (List ℕ)) (y : List ℕ) (ys : List (List ℕ)) (b : ℕ)
     → with_byte (xs ++ y ∷ ys) b ≡ xs ++ with_byte (y ∷ ys) b
-after-some [] y ys b = refl
-after-some (x ∷ []) y ys b = refl
-after-some (x ∷ z ∷ xs) y ys b = ap (λ cs. x ∷ cs) (after-some (z ∷ xs) y ys b)
+after_some [] y ys b = refl
+after_some (x ∷ []) y ys b = refl
+after_some (x ∷ z ∷ xs) y ys b = ap (λ cs. x ∷ cs) (after_some (z ∷ xs) y ys b)
 
-after-ascii : (b : ℕ) (ys : List (List ℕ)) (x : ℕ) → b < 0x80
+after_ascii : (b : ℕ) (ys : List (List ℕ)) (x : ℕ) → b < 0x80
     → with_byte ((b ∷ []) ∷ ys) x ≡ (b ∷ []) ∷ with_byte ys x
-after-ascii b [] x low = cond-false _ _ _ (starts-apart b x low)
-after-ascii b (y ∷ ys) x low = refl
+after_ascii b [] x low = cond-false _ _ _ (starts_apart b x low)
+after_ascii b (y ∷ ys) x low = refl
 
 module _ (before : List ℕ) (b : ℕ) (low : b < 0x80) where
   abbrev Cuts : List ℕ → Type 0
@@ -258,17 +258,17 @@ module _ (before : List ℕ) (b : ℕ) (low : b < 0x80) where
 
   nothing-after : Cuts []
   nothing-after =
-      byte-more before b ∙ at-end (characters before) b low (filled-by (length before) before (omega arith))
+      byte_more before b ∙ at_end (characters before) b low (filled_by (length before) before (omega arith))
 
   byte-after : (after : List ℕ) (x : ℕ) → Cuts after → Cuts (after ++ x ∷ [])
   byte-after after x cuts =
       ap characters (sym (append_assoc before (b ∷ after) (x ∷ [])))
-      ∙ byte-more (before ++ b ∷ after) x
+      ∙ byte_more (before ++ b ∷ after) x
       ∙ ap (λ cs. with_byte cs x) cuts
-      ∙ after-some (characters before) (b ∷ []) (characters after) x
+      ∙ after_some (characters before) (b ∷ []) (characters after) x
       ∙ ap (λ cs. characters before ++ cs)
-      (after-ascii b (characters after) x low
-      ∙ ap (λ cs. (b ∷ []) ∷ cs) (sym (byte-more after x)))
+      (after_ascii b (characters after) x low
+      ∙ ap (λ cs. (b ∷ []) ∷ cs) (sym (byte_more after x)))
 
   cuts-on : (done more : List ℕ) → Cuts done → Cuts (done ++ more)
   cuts-on done [] cuts = subst Cuts (sym (append-nil done)) cuts
@@ -276,5 +276,5 @@ module _ (before : List ℕ) (b : ℕ) (low : b < 0x80) where
       subst Cuts (append_assoc done (x ∷ []) more)
       (cuts-on (done ++ x ∷ []) more (byte-after done x cuts))
 
-pub ascii-cuts : AsciiCuts
-ascii-cuts before b after low = cuts-on before b low [] after (nothing-after before b low)
+pub ascii_cuts : AsciiCuts
+ascii_cuts before b after low = cuts-on before b low [] after (nothing-after before b low)

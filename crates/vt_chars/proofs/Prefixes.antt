@@ -3,7 +3,7 @@ use Rattle.std.proofs.Common.{◌≡◌, ◌≢◌, ℕ, ◌==◌, ◌≤◌, �
 use Rattle.std.proofs.lemmas.Bool.{and_parts, and_from, cases_Bool, cases_lt, cond-true, cond-false, false_from_ne_true, false≢true}
 use Rattle.std.proofs.lemmas.Bool.Decides.{nat_tests}
 use Rattle.vt_chars.specs.Push.{got_by, got_of, malformed_by}
-use Rattle.vt_chars.specs.Utf8.{Begins, UnfinishedBegins, code_of, decoded, is_begun, is_second, is_tail, is_well_formed, within}
+use Rattle.vt_chars.specs.Utf8.{Begins, UnfinishedBegins, code_of, decoding_of, is_begun, is_second, is_tail, is_well_formed, within}
 use Rattle.vt_chars.specs.declared.decoded.Decoded.TheVariants.{Character, Unfinished, Malformed}
 use Rattle.vt_chars.specs.declared.got.Got.TheVariants.{More}
 
@@ -14,8 +14,8 @@ some x xs e = cc
 abbrev second_for : ℕ → ℕ
 second_for a = cond (a == 0xE0) 0xA0 (cond (a == 0xF0) 0x90 0x80)
 
-second-allowed : (a : ℕ) → is_second a (second_for a) ≡ true
-second-allowed a = grind (arith, nat_tests)
+second_allowed : (a : ℕ) → is_second a (second_for a) ≡ true
+second_allowed a = grind (arith, nat_tests)
 
 below : (low high top a : ℕ) → within low top a ≡ true → a ≤ high → within low high a ≡ true
 below low high top a inside small = grind (arith, nat_tests)
@@ -32,25 +32,25 @@ four : (a b c d : ℕ) → within 0xF0 0xF4 a ≡ true → is_second a b ≡ tru
 four a b c d first second third fourth =
     and_from _ _ (and_from _ _ (and_from _ _ first second) third) fourth
 
-begun-one : (a : ℕ) → within 0xC2 0xF4 a ≡ true → Begins (a ∷ [])
-begun-one a is = ⊎_elim
+begun_one : (a : ℕ) → within 0xC2 0xF4 a ≡ true → Begins (a ∷ [])
+begun_one a is = ⊎_elim
     (λ (short : a < 0xE0). (0x80 ∷ [], some 0x80 [], and_from _ _ (below 0xC2 0xDF 0xF4 a is (omega arith)) refl))
     (λ (long : 0xE0 ≤ a). ⊎_elim
     (λ (middle : a < 0xF0). (
       second_for a ∷ 0x80 ∷ [],
       some _ _,
-      three a (second_for a) 0x80 (above 0xC2 0xE0 0xEF a (below 0xC2 0xEF 0xF4 a is (omega arith)) long) (second-allowed a) refl,
+      three a (second_for a) 0x80 (above 0xC2 0xE0 0xEF a (below 0xC2 0xEF 0xF4 a is (omega arith)) long) (second_allowed a) refl,
     ))
     (λ (longest : 0xF0 ≤ a). (
       second_for a ∷ 0x80 ∷ 0x80 ∷ [],
       some _ _,
-      four a (second_for a) 0x80 0x80 (above 0xC2 0xF0 0xF4 a is longest) (second-allowed a) refl refl,
+      four a (second_for a) 0x80 0x80 (above 0xC2 0xF0 0xF4 a is longest) (second_allowed a) refl refl,
     ))
     (cases_lt a 0xF0))
     (cases_lt a 0xE0)
 
-begun-two : (a b : ℕ) → within 0xE0 0xF4 a ≡ true → is_second a b ≡ true → Begins (a ∷ b ∷ [])
-begun-two a b first second = ⊎_elim
+begun_two : (a b : ℕ) → within 0xE0 0xF4 a ≡ true → is_second a b ≡ true → Begins (a ∷ b ∷ [])
+begun_two a b first second = ⊎_elim
     (λ (short : a < 0xF0). (
       0x80 ∷ [],
       some 0x80 [],
@@ -63,42 +63,42 @@ begun-two a b first second = ⊎_elim
     ))
     (cases_lt a 0xF0)
 
-begun-three : (a b c : ℕ) → within 0xF0 0xF4 a ≡ true → is_second a b ≡ true → is_tail c ≡ true
+begun_three : (a b c : ℕ) → within 0xF0 0xF4 a ≡ true → is_second a b ≡ true → is_tail c ≡ true
     → Begins (a ∷ b ∷ c ∷ [])
-begun-three a b c first second third = (0x80 ∷ [], some 0x80 [], four a b c 0x80 first second third refl)
+begun_three a b c first second third = (0x80 ∷ [], some 0x80 [], four a b c 0x80 first second third refl)
 
-pub begun-begins : (text : List ℕ) → is_begun text ≡ true → Begins text
-begun-begins [] is = absurd (false≢true is)
-begun-begins (a ∷ []) is = begun-one a is
-begun-begins (a ∷ b ∷ []) is =
+pub begun_begins : (text : List ℕ) → is_begun text ≡ true → Begins text
+begun_begins [] is = absurd (false≢true is)
+begun_begins (a ∷ []) is = begun_one a is
+begun_begins (a ∷ b ∷ []) is =
     let p : (within 0xE0 0xF4 a ≡ true) × (is_second a b ≡ true) = and_parts _ _ is in
-    begun-two a b p.0 p.1
-begun-begins (a ∷ b ∷ c ∷ []) is =
+    begun_two a b p.0 p.1
+begun_begins (a ∷ b ∷ c ∷ []) is =
     let q : ((within 0xF0 0xF4 a && is_second a b) ≡ true) × (is_tail c ≡ true) = and_parts _ _ is in
     let p : (within 0xF0 0xF4 a ≡ true) × (is_second a b ≡ true) = and_parts _ _ q.0 in
-    begun-three a b c p.0 p.1 q.1
-begun-begins (a ∷ b ∷ c ∷ d ∷ rest) is = absurd (false≢true is)
+    begun_three a b c p.0 p.1 q.1
+begun_begins (a ∷ b ∷ c ∷ d ∷ rest) is = absurd (false≢true is)
 
 pub wider : (low high bottom top a : ℕ) → bottom ≤ low → high ≤ top → within low high a ≡ true
     → within bottom top a ≡ true
 wider low high bottom top a under over inside = grind (arith, nat_tests)
 
 -- the beginnings of well-formed sequences of two, three and four bytes
-pub of-two : (a b : ℕ) → is_well_formed (a ∷ b ∷ []) ≡ true → is_begun (a ∷ []) ≡ true
-of-two a b is = wider 0xC2 0xDF 0xC2 0xF4 a (omega arith) (omega arith) (and_parts _ _ is).0
+pub of_two : (a b : ℕ) → is_well_formed (a ∷ b ∷ []) ≡ true → is_begun (a ∷ []) ≡ true
+of_two a b is = wider 0xC2 0xDF 0xC2 0xF4 a (omega arith) (omega arith) (and_parts _ _ is).0
 
-pub of-three : (a b c : ℕ) → is_well_formed (a ∷ b ∷ c ∷ []) ≡ true
+pub of_three : (a b c : ℕ) → is_well_formed (a ∷ b ∷ c ∷ []) ≡ true
     → (is_begun (a ∷ []) ≡ true) × (is_begun (a ∷ b ∷ []) ≡ true)
-of-three a b c is =
+of_three a b c is =
     let q : ((within 0xE0 0xEF a && is_second a b) ≡ true) × (is_tail c ≡ true) = and_parts _ _ is in
     let p : (within 0xE0 0xEF a ≡ true) × (is_second a b ≡ true) = and_parts _ _ q.0 in (
       wider 0xE0 0xEF 0xC2 0xF4 a (omega arith) (omega arith) p.0,
       and_from _ _ (wider 0xE0 0xEF 0xE0 0xF4 a (omega arith) (omega arith) p.0) p.1,
     )
 
-pub of-four : (a b c d : ℕ) → is_well_formed (a ∷ b ∷ c ∷ d ∷ []) ≡ true
+pub of_four : (a b c d : ℕ) → is_well_formed (a ∷ b ∷ c ∷ d ∷ []) ≡ true
     → (is_begun (a ∷ []) ≡ true) × (is_begun (a ∷ b ∷ []) ≡ true) × (is_begun (a ∷ b ∷ c ∷ []) ≡ true)
-of-four a b c d is =
+of_four a b c d is =
     let r : ((within 0xF0 0xF4 a && is_second a b && is_tail c) ≡ true) × (is_tail d ≡ true) = and_parts _ _ is in
     let q : ((within 0xF0 0xF4 a && is_second a b) ≡ true) × (is_tail c ≡ true) = and_parts _ _ r.0 in
     let p : (within 0xF0 0xF4 a ≡ true) × (is_second a b ≡ true) = and_parts _ _ q.0 in (
@@ -111,20 +111,20 @@ prefix : (text more : List ℕ) → text ≢ [] → more ≢ [] → is_well_form
     → is_begun text ≡ true
 prefix [] more some rest is = absurd (some refl)
 prefix text [] some rest is = absurd (rest refl)
-prefix (a ∷ []) (b ∷ []) some rest is = of-two a b is
-prefix (a ∷ []) (b ∷ c ∷ []) some rest is = (of-three a b c is).0
-prefix (a ∷ []) (b ∷ c ∷ d ∷ []) some rest is = (of-four a b c d is).0
+prefix (a ∷ []) (b ∷ []) some rest is = of_two a b is
+prefix (a ∷ []) (b ∷ c ∷ []) some rest is = (of_three a b c is).0
+prefix (a ∷ []) (b ∷ c ∷ d ∷ []) some rest is = (of_four a b c d is).0
 prefix (a ∷ []) (b ∷ c ∷ d ∷ e ∷ more) some rest is = absurd (false≢true is)
-prefix (a ∷ b ∷ []) (c ∷ []) some rest is = (of-three a b c is).1
-prefix (a ∷ b ∷ []) (c ∷ d ∷ []) some rest is = (of-four a b c d is).1
+prefix (a ∷ b ∷ []) (c ∷ []) some rest is = (of_three a b c is).1
+prefix (a ∷ b ∷ []) (c ∷ d ∷ []) some rest is = (of_four a b c d is).1
 prefix (a ∷ b ∷ []) (c ∷ d ∷ e ∷ more) some rest is = absurd (false≢true is)
-prefix (a ∷ b ∷ c ∷ []) (d ∷ []) some rest is = (of-four a b c d is).2
+prefix (a ∷ b ∷ c ∷ []) (d ∷ []) some rest is = (of_four a b c d is).2
 prefix (a ∷ b ∷ c ∷ []) (d ∷ e ∷ more) some rest is = absurd (false≢true is)
 prefix (a ∷ b ∷ c ∷ d ∷ []) (e ∷ more) some rest is = absurd (false≢true is)
 prefix (a ∷ b ∷ c ∷ d ∷ e ∷ text) more some rest is = absurd (false≢true is)
 
-pub begins-begun : (text : List ℕ) → text ≢ [] → Begins text → is_begun text ≡ true
-begins-begun text some (more, rest, is) = prefix text more some rest is
+pub begins_begun : (text : List ℕ) → text ≢ [] → Begins text → is_begun text ≡ true
+begins_begun text some (more, rest, is) = prefix text more some rest is
 
 below-above : (high low a bottom top : ℕ) → high < low → within bottom high a ≡ true
     → within low top a ≡ true → ⊥
@@ -142,45 +142,45 @@ apart (a ∷ b ∷ c ∷ []) whole begun =
     (and_parts _ _ (and_parts _ _ begun).0).0
 apart (a ∷ b ∷ c ∷ d ∷ rest) whole begun = false≢true begun
 
-some-bytes : (before : List ℕ) (b : ℕ) → before ++ b ∷ [] ≢ []
-some-bytes [] b e = cc
-some-bytes (a ∷ before) b e = cc
+some_bytes : (before : List ℕ) (b : ℕ) → before ++ b ∷ [] ≢ []
+some_bytes [] b e = cc
+some_bytes (a ∷ before) b e = cc
 
-malformed-not_more : (before : List ℕ) → malformed_by before ≢ More
-malformed-not_more [] e = cc
-malformed-not_more (a ∷ before) e = cc
+malformed_not_more : (before : List ℕ) → malformed_by before ≢ More
+malformed_not_more [] e = cc
+malformed_not_more (a ∷ before) e = cc
 
-more-exactly-of : (before text : List ℕ) → text ≢ [] → (got_by before (decoded text) ≡ More) ↔ Begins text
-more-exactly-of before text some = ⊎_elim
+more_exactly_of : (before text : List ℕ) → text ≢ [] → (got_by before (decoding_of text) ≡ More) ↔ Begins text
+more_exactly_of before text some = ⊎_elim
     (λ (whole : is_well_formed text ≡ true).
-    let is : decoded text ≡ Character _ = cond-true _ _ _ whole in (
+    let is : decoding_of text ≡ Character _ = cond-true _ _ _ whole in (
       (λ more. absurd (let e : ⊥ = cc (ap (got_by before) is) in e)),
-      (λ begins. absurd (apart text whole (begins-begun text some begins))),
+      (λ begins. absurd (apart text whole (begins_begun text some begins))),
     ))
     (λ (not_whole : is_well_formed text ≡ false). ⊎_elim
     (λ (begun : is_begun text ≡ true).
-    let is : decoded text ≡ Unfinished = cond-false _ _ _ not_whole ∙ cond-true _ _ _ begun in
-    ((λ more. begun-begins text begun), (λ begins. ap (got_by before) is)))
+    let is : decoding_of text ≡ Unfinished = cond-false _ _ _ not_whole ∙ cond-true _ _ _ begun in
+    ((λ more. begun_begins text begun), (λ begins. ap (got_by before) is)))
     (λ (not_begun : is_begun text ≡ false).
-    let is : decoded text ≡ Malformed = cond-false _ _ _ not_whole ∙ cond-false _ _ _ not_begun in (
-      (λ more. absurd (malformed-not_more before (sym (ap (got_by before) is) ∙ more))),
-      (λ begins. absurd (false≢true (sym not_begun ∙ begins-begun text some begins))),
+    let is : decoding_of text ≡ Malformed = cond-false _ _ _ not_whole ∙ cond-false _ _ _ not_begun in (
+      (λ more. absurd (malformed_not_more before (sym (ap (got_by before) is) ∙ more))),
+      (λ begins. absurd (false≢true (sym not_begun ∙ begins_begun text some begins))),
     ))
     (cases_Bool (is_begun text)))
     (cases_Bool (is_well_formed text))
 
-pub more-exactly : (before : List ℕ) (b : ℕ) → (got_of before b ≡ More) ↔ Begins (before ++ b ∷ [])
-more-exactly before b = more-exactly-of before (before ++ b ∷ []) (some-bytes before b)
+pub more_exactly : (before : List ℕ) (b : ℕ) → (got_of before b ≡ More) ↔ Begins (before ++ b ∷ [])
+more_exactly before b = more_exactly_of before (before ++ b ∷ []) (some_bytes before b)
 
-unfinished-one-way : (text : List ℕ) → decoded text ≡ Unfinished → (text ≢ []) × Begins text
-unfinished-one-way text is = ⊎_elim
+unfinished_one_way : (text : List ℕ) → decoding_of text ≡ Unfinished → (text ≢ []) × Begins text
+unfinished_one_way text is = ⊎_elim
     (λ (whole : is_well_formed text ≡ true).
-    let e : decoded text ≡ Character (code_of text) = cond-true _ _ _ whole in
+    let e : decoding_of text ≡ Character (code_of text) = cond-true _ _ _ whole in
     absurd (let wrong : ⊥ = cc in wrong))
     (λ (not_whole : is_well_formed text ≡ false). ⊎_elim
-    (λ (begun : is_begun text ≡ true). (not-empty text begun, begun-begins text begun))
+    (λ (begun : is_begun text ≡ true). (not-empty text begun, begun_begins text begun))
     (λ (not_begun : is_begun text ≡ false).
-    let e : decoded text ≡ Malformed = cond-false _ _ _ not_whole ∙ cond-false _ _ _ not_begun in
+    let e : decoding_of text ≡ Malformed = cond-false _ _ _ not_whole ∙ cond-false _ _ _ not_begun in
     absurd (let wrong : ⊥ = cc in wrong))
     (cases_Bool (is_begun text)))
     (cases_Bool (is_well_formed text))
@@ -189,10 +189,10 @@ unfinished-one-way text is = ⊎_elim
     not-empty [] begun e = false≢true begun
     not-empty (a ∷ t) begun e = cc
 
-unfinished-other-way : (text : List ℕ) → (text ≢ []) × Begins text → decoded text ≡ Unfinished
-unfinished-other-way text (some, begins) =
-    let begun : is_begun text ≡ true = begins-begun text some begins in
+unfinished_other_way : (text : List ℕ) → (text ≢ []) × Begins text → decoding_of text ≡ Unfinished
+unfinished_other_way text (some, begins) =
+    let begun : is_begun text ≡ true = begins_begun text some begins in
     cond-false _ _ _ (false_from_ne_true _ (λ whole. apart text whole begun)) ∙ cond-true _ _ _ begun
 
-pub unfinished-begins : UnfinishedBegins
-unfinished-begins text = (unfinished-one-way text, unfinished-other-way text)
+pub unfinished_begins : UnfinishedBegins
+unfinished_begins text = (unfinished_one_way text, unfinished_other_way text)

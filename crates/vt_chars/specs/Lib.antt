@@ -1,5 +1,5 @@
 pub mod CharMap
 pub mod Characters
-pub mod Kept
+pub mod Prefix
 pub mod Push
 pub mod Utf8

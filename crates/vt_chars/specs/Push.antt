@@ -1,6 +1,6 @@
 -- What a byte makes of the bytes since the last result.
 use Rattle.std.specs.Prelude.{ℕ, List, [], ◌∷◌, ◌++◌}
-use Rattle.vt_chars.specs.Utf8.{decoded}
+use Rattle.vt_chars.specs.Utf8.{decoding_of}
 use Rattle.vt_chars.specs.declared.decoded.Decoded.{Decoded}
 use Rattle.vt_chars.specs.declared.decoded.Decoded.TheVariants.{Character, Unfinished, Malformed}
 use Rattle.vt_chars.specs.declared.got.Got.{Got}
@@ -19,7 +19,7 @@ got_by before Malformed = malformed_by before
 
 -- the answer to b after these bytes: what all of them together are
 abbrev pub got_of : List ℕ → ℕ → Got
-got_of before b = got_by before (decoded (before ++ b ∷ []))
+got_of before b = got_by before (decoding_of (before ++ b ∷ []))
 
 -- the bytes since the last result, after that answer
 abbrev pub left_by : List ℕ → Got → List ℕ

@@ -44,8 +44,8 @@ code_of (a ∷ b ∷ c ∷ d ∷ []) = (((a - 0xF0) * 0x40 + (b - 0x80)) * 0x40 
 code_of _ = 0
 
 -- what a text is
-abbrev pub decoded : List ℕ → Decoded
-decoded text =
+abbrev pub decoding_of : List ℕ → Decoded
+decoding_of text =
     if is_well_formed text then Character (code_of text)
     else if is_begun text then Unfinished
     else Malformed
@@ -57,4 +57,4 @@ Begins text = (more : List ℕ) × (more ≢ []) × IsTrue (is_well_formed (text
 -- the unfinished texts are the proper prefixes, the empty text aside
 abbrev pub UnfinishedBegins : Type 0
 UnfinishedBegins =
-    (text : List ℕ) → (decoded text ≡ Unfinished) ↔ ((text ≢ []) × Begins text)
+    (text : List ℕ) → (decoding_of text ≡ Unfinished) ↔ ((text ≢ []) × Begins text)

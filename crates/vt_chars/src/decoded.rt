@@ -1,5 +1,5 @@
 ghost use Rattle.std.specs.Prelude.{◌≡◌, ◌≤◌, [], ◌∷◌, ◌++◌, length, ◌&&◌};
-ghost use Rattle.vt_chars.specs.Utf8.{decoded, is_second, is_tail, within};
+ghost use Rattle.vt_chars.specs.Utf8.{decoding_of, is_second, is_tail, within};
 
 /// What bytes are in UTF-8.
 #[derive(Debug, Clone, Copy, PartialEq, Eq)]
@@ -14,7 +14,7 @@ pub enum Decoded {
 
 /// What `text` with one byte more is. The answer takes the same time for each text.
 pub fn decode(text: &[u8], b: u8) -> Decoded
-    ensures { result ≡ decoded (text.now ++ b ∷ []) }
+    ensures { result ≡ decoding_of (text.now ++ b ∷ []) }
 {
     match text.len() {
         0 => decode_one(b),
@@ -27,7 +27,7 @@ pub fn decode(text: &[u8], b: u8) -> Decoded
 
 /// What `text` is. The answer takes the same time for each text.
 pub fn decode_all(text: &[u8]) -> Decoded
-    ensures { result ≡ decoded text.now }
+    ensures { result ≡ decoding_of text.now }
 {
     match text.len() {
         1 => decode_one(text[0]),
@@ -40,7 +40,7 @@ pub fn decode_all(text: &[u8]) -> Decoded
 
 /// What a byte is.
 pub fn decode_one(a: u8) -> Decoded
-    ensures { result ≡ decoded (a ∷ []) }
+    ensures { result ≡ decoding_of (a ∷ []) }
 {
     if a <= 0x7F {
         Decoded::Character(u32::from(a))
@@ -53,7 +53,7 @@ pub fn decode_one(a: u8) -> Decoded
 
 /// What two bytes are.
 pub fn decode_two(a: u8, b: u8) -> Decoded
-    ensures { result ≡ decoded (a ∷ b ∷ []) }
+    ensures { result ≡ decoding_of (a ∷ b ∷ []) }
 {
     if is_within(0xC2, 0xDF, a) && is_tail(b) {
         Decoded::Character(u32::from(a - 0xC0) * 0x40 + u32::from(b - 0x80))
@@ -66,7 +66,7 @@ pub fn decode_two(a: u8, b: u8) -> Decoded
 
 /// What three bytes are.
 pub fn decode_three(a: u8, b: u8, c: u8) -> Decoded
-    ensures { result ≡ decoded (a ∷ b ∷ c ∷ []) }
+    ensures { result ≡ decoding_of (a ∷ b ∷ c ∷ []) }
 {
     if is_within(0xE0, 0xEF, a) && is_second(a, b) && is_tail(c) {
         let front = u32::from(a - 0xE0) * 0x40 + u32::from(b - 0x80);
@@ -80,7 +80,7 @@ pub fn decode_three(a: u8, b: u8, c: u8) -> Decoded
 
 /// What four bytes are.
 pub fn decode_four(a: u8, b: u8, c: u8, d: u8) -> Decoded
-    ensures { result ≡ decoded (a ∷ b ∷ c ∷ d ∷ []) }
+    ensures { result ≡ decoding_of (a ∷ b ∷ c ∷ d ∷ []) }
 {
     if is_within(0xF0, 0xF4, a) && is_second(a, b) && is_tail(c) && is_tail(d) {
         let front = u32::from(a - 0xF0) * 0x40 + u32::from(b - 0x80);

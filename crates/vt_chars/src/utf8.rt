@@ -1,5 +1,5 @@
 ghost use Rattle.std.specs.Prelude.{◌≡◌, ◌↔◌, [], ◌∷◌, ◌++◌};
-ghost use Rattle.vt_chars.specs.Kept.{Answers, bytes_of};
+ghost use Rattle.vt_chars.specs.Prefix.{Answers, bytes_of};
 ghost use Rattle.vt_chars.specs.Push.{got_of, left_of};
 ghost use Rattle.vt_chars.specs.Utf8.{Begins};
 
@@ -9,7 +9,7 @@ use std::marker::Model;
 
 // The bytes since the last result: they begin a character, so there are at most three.
 #[derive(Debug, Clone, Copy, PartialEq, Eq)]
-enum Kept {
+enum Prefix {
     Nothing,
     One(u8),
     Two(u8, u8),
@@ -19,12 +19,12 @@ enum Kept {
 /// Text in UTF-8, read byte by byte.
 #[derive(Debug, Drop)]
 pub struct Utf8 {
-    kept: Kept,
+    kept: Prefix,
 }
 
 impl Model for Utf8 {
     ghost use Rattle.std.specs.Prelude.{ℕ, List};
-    ghost use Rattle.vt_chars.specs.Kept.{bytes_of};
+    ghost use Rattle.vt_chars.specs.Prefix.{bytes_of};
 
     ghost Value = { List ℕ };
 
@@ -37,7 +37,7 @@ impl Utf8 {
         ensures { result ≡ [] }
     {
         Utf8 {
-            kept: Kept::Nothing,
+            kept: Prefix::Nothing,
         }
     }
 
@@ -54,37 +54,37 @@ impl Utf8 {
 }
 
 // What b makes of the bytes before it, and what is then kept.
-fn step(kept: Kept, b: u8) -> (Got, Kept)
+fn step(kept: Prefix, b: u8) -> (Got, Prefix)
     ensures answer { result.0 ≡ got_of (bytes_of kept) b }
     ensures rest { bytes_of result.1 ≡ left_of (bytes_of kept) b }
 {
     match kept {
-        Kept::Nothing => answer(decode_one(b), Got::Bad, Kept::One(b)),
-        Kept::One(first) => answer(decode_two(first, b), Got::BadThen, Kept::Two(first, b)),
-        Kept::Two(first, second) => {
+        Prefix::Nothing => answer(decode_one(b), Got::Bad, Prefix::One(b)),
+        Prefix::One(first) => answer(decode_two(first, b), Got::BadThen, Prefix::Two(first, b)),
+        Prefix::Two(first, second) => {
             answer(
                 decode_three(first, second, b),
                 Got::BadThen,
-                Kept::Three(first, second, b),
+                Prefix::Three(first, second, b),
             )
         }
-        Kept::Three(first, second, third) => {
+        Prefix::Three(first, second, third) => {
             answer(
                 decode_four(first, second, third, b),
                 Got::BadThen,
-                Kept::Nothing,
+                Prefix::Nothing,
             )
         }
     }
 }
 
 // The answer where the bytes are malformed is `bad`; unfinished ones are kept as `all`.
-fn answer(decoded: Decoded, bad: Got, all: Kept) -> (Got, Kept)
+fn answer(decoded: Decoded, bad: Got, all: Prefix) -> (Got, Prefix)
     ensures { Answers decoded bad all result.0 result.1 }
 {
     match decoded {
-        Decoded::Character(code) => (Got::Char(code), Kept::Nothing),
+        Decoded::Character(code) => (Got::Char(code), Prefix::Nothing),
         Decoded::Unfinished => (Got::More, all),
-        Decoded::Malformed => (bad, Kept::Nothing),
+        Decoded::Malformed => (bad, Prefix::Nothing),
     }
 }

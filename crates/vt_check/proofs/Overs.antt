@@ -76,14 +76,6 @@ stops_here o h view full caller at events bytes none has =
       numbers = λ j. record { events = entries j; bytes = sum j; charge = charge j };
     }
 
--- a history that stops has these numbers, no room, and such a call
-pub numbers_of_stop : (o : Setup) (h : List Entry) (view : Judge) (full : Full) → IsAfter o h view
-    → Stops o h full → (full.events ≡ view.events) × (full.bytes ≡ view.bytes)
-numbers_of_stop o h view full at is = (
-  ap (λ (f : Full). f.events) is.numbers ∙ sym at.events,
-  ap (λ (f : Full). f.bytes) is.numbers ∙ sym at.bytes,
-)
-
 pub call_of_stop : (o : Setup) (h : List Entry) (full : Full) → (is : Stops o h full)
     → HasCall o h is.caller full.charge
 call_of_stop o h full is = record {
@@ -92,11 +84,6 @@ call_of_stop o h full is = record {
   goes = is.goes;
   charge_is = sym (ap (λ (f : Full). f.charge) is.numbers);
 }
-
-pub no_room_at_stop : (o : Setup) (h : List Entry) (full : Full) → Stops o h full
-    → has_room o.limits h full.charge ≡ false
-no_room_at_stop o h full is =
-    ap (λ (f : Full). has_room o.limits h f.charge) is.numbers ∙ is.no_room
 
 -- a call that was tested
 pub call_tested : (o : Setup) (h : List Entry) (p wanted : ℕ) (call : Event) (same : Bool)

@@ -9,7 +9,7 @@ ghost use Rattle.vt_events.specs.declared.entry.Entry.{Entry};
 ghost use Rattle.vt_journal.specs.Room.{IsWithin};
 ghost use Rattle.vt_world.specs.Refusals.{ends_wait};
 
-use session_order::{Standing, meant_laws, start_of};
+use session_order::{SessionProgress, meant_laws, start_of};
 use session_text::{Program, Session, program_of};
 use std::alloc::Global;
 use vt_base::NoMemory;
@@ -33,7 +33,7 @@ const PAST_LIMITS: u8 = 5;
 #[derive(Drop)]
 pub(crate) struct Judge {
     pub(crate) world: World,
-    pub(crate) standing: Standing,
+    pub(crate) standing: SessionProgress,
     pub(crate) events: u32,
     pub(crate) bytes: u64,
 }
@@ -46,7 +46,7 @@ impl Judge {
         ensures bytes { IfOk result (λ judge. judge.bytes ≡ 0) }
     {
         let world = start_of(alloc, s)?;
-        let standing = Standing::start(alloc)?;
+        let standing = SessionProgress::start(alloc)?;
         Ok(Judge {
             world,
             standing,

@@ -5,7 +5,7 @@ use Rattle.std.specs.List.{flat_map}
 use Rattle.std.specs.Int.{to_le_bytes, w32}
 use Rattle.std.proofs.lemmas.List.Elements.{All-head, All-tail}
 use Rattle.vt_dump.specs.Dumps.{attribute, cell_count, character, codes_bytes, of_cells, vcs_bytes}
-use Rattle.vt_grid.specs.Grid.{IsFull, Sheet}
+use Rattle.vt_grid.specs.Grid.{IsFull, GridView}
 use Rattle.vt_cells.specs.declared.cell.Cell.{Cell}
 
 -- one row's bytes and those of the others
@@ -35,20 +35,20 @@ length_rows bytes each cols same (row ∷ rows) wide =
     ∙ added (length (flat_map bytes row)) (length (flat_map (flat_map bytes) rows)) (length rows) (cols * each) first others
 
 length_cells : (bytes : Cell → List ℕ) (each : ℕ) → ((cell : Cell) → length (bytes cell) ≡ each)
-    → (s : Sheet) → IsFull s → length (of_cells bytes s) ≡ each * cell_count s
+    → (s : GridView) → IsFull s → length (of_cells bytes s) ≡ each * cell_count s
 length_cells bytes each same s full =
     length_rows bytes each s.cols same s.cells full.wide
     ∙ ap (λ n. n * (s.cols * each)) full.tall
     ∙ turned s.rows s.cols each
 
-pub length_of_characters : (s : Sheet) → IsFull s → length (vcs_bytes s) ≡ cell_count s
+pub length_of_characters : (s : GridView) → IsFull s → length (vcs_bytes s) ≡ cell_count s
 length_of_characters s full =
     length_cells (λ cell. character cell ∷ []) 1 (λ cell. refl) s full ∙ omega arith
 
-pub length_of_pairs : (s : Sheet) (reversed : Bool) → IsFull s
+pub length_of_pairs : (s : GridView) (reversed : Bool) → IsFull s
     → length (of_cells (λ cell. character cell ∷ attribute reversed cell ∷ []) s) ≡ 2 * cell_count s
 length_of_pairs s reversed full =
     length_cells (λ cell. character cell ∷ attribute reversed cell ∷ []) 2 (λ cell. refl) s full
 
-pub length_of_codes : (s : Sheet) → IsFull s → length (codes_bytes s) ≡ 4 * cell_count s
+pub length_of_codes : (s : GridView) → IsFull s → length (codes_bytes s) ≡ 4 * cell_count s
 length_of_codes s full = length_cells (λ cell. to_le_bytes w32 cell.code) 4 (λ cell. refl) s full

@@ -9,7 +9,7 @@ use vt_base::Bytes;
 use vt_grid::Grid;
 
 /// Appends all cells in reading order.
-pub fn add_cells(form: Form, g: &Grid, out: &mut Bytes)
+pub(crate) fn add_cells(form: Form, g: &Grid, out: &mut Bytes)
     requires { g.now.rows * (g.now.cols * most_bytes form) ≤ out.old.room }
     ensures bytes { out.new.bytes ≡ out.old.bytes ++ of_cells (cell_bytes form) g.now }
     ensures room { out.new.room + length out.new.bytes ≡ out.old.room + length out.old.bytes }
@@ -21,7 +21,7 @@ pub fn add_cells(form: Form, g: &Grid, out: &mut Bytes)
 }
 
 /// Appends the cells of a row, from left to right.
-pub fn add_row(form: Form, g: &Grid, y: u8, out: &mut Bytes)
+pub(crate) fn add_row(form: Form, g: &Grid, y: u8, out: &mut Bytes)
     requires row { y < g.now.rows }
     requires room { g.now.cols * most_bytes form ≤ out.old.room }
     ensures bytes { out.new.bytes

@@ -8,7 +8,7 @@ use vt_cells::{Cell, HALF, swapped};
 
 /// What a dump says of a cell.
 #[derive(Clone, Copy)]
-pub enum Form {
+pub(crate) enum Form {
     /// Its character in one byte.
     Character,
     /// Its character and its attribute, with the colours exchanged on a reversed screen.
@@ -20,7 +20,7 @@ pub enum Form {
 }
 
 /// Appends a cell's bytes, in the room that is there.
-pub fn add_cell(form: Form, cell: Cell, out: &mut Bytes)
+pub(crate) fn add_cell(form: Form, cell: Cell, out: &mut Bytes)
     requires { most_bytes form ≤ out.old.room }
     ensures bytes { out.new.bytes ≡ out.old.bytes ++ cell_bytes form cell }
     ensures room { out.new.room + length out.new.bytes ≡ out.old.room + length out.old.bytes }

@@ -31,23 +31,23 @@ as_judged (verdict.Illegal index why) = judged.Illegal index why
 apart : {X : Type 0} (index why : ℕ) → verdict.Legal ≡ verdict.Illegal index why → X
 apart index why same = absurd (true≢false (ap is_legal same))
 
-pub one-acceptance : OneVerdict → OneAcceptance
-one-acceptance law o entries end c judged.Yes judged.Yes is also = refl
-one-acceptance law o entries end c judged.Yes (judged.No index) is also =
+pub one_acceptance : OneVerdict → OneAcceptance
+one_acceptance law o entries end c judged.Yes judged.Yes is also = refl
+one_acceptance law o entries end c judged.Yes (judged.No index) is also =
     absurd (certificates_are_good (moments o.start entries) c index is.1 also.1)
-one-acceptance law o entries end c judged.Yes (judged.Illegal index why) is also =
+one_acceptance law o entries end c judged.Yes (judged.Illegal index why) is also =
     apart index why (law o entries end verdict.Legal (verdict.Illegal index why) is.0 also)
-one-acceptance law o entries end c (judged.No index) judged.Yes is also =
+one_acceptance law o entries end c (judged.No index) judged.Yes is also =
     absurd (certificates_are_good (moments o.start entries) c index also.1 is.1)
-one-acceptance law o entries end c (judged.No i) (judged.No j) is also =
+one_acceptance law o entries end c (judged.No i) (judged.No j) is also =
     ap judged.No (one_first_bad (moments o.start entries) c i j is.1 also.1)
-one-acceptance law o entries end c (judged.No i) (judged.Illegal index why) is also =
+one_acceptance law o entries end c (judged.No i) (judged.Illegal index why) is also =
     apart index why (law o entries end verdict.Legal (verdict.Illegal index why) is.0 also)
-one-acceptance law o entries end c (judged.Illegal index why) judged.Yes is also =
+one_acceptance law o entries end c (judged.Illegal index why) judged.Yes is also =
     apart index why (law o entries end verdict.Legal (verdict.Illegal index why) also.0 is)
-one-acceptance law o entries end c (judged.Illegal index why) (judged.No j) is also =
+one_acceptance law o entries end c (judged.Illegal index why) (judged.No j) is also =
     apart index why (law o entries end verdict.Legal (verdict.Illegal index why) also.0 is)
-one-acceptance law o entries end c (judged.Illegal i why) (judged.Illegal j other) is also =
+one_acceptance law o entries end c (judged.Illegal i why) (judged.Illegal j other) is also =
     ap as_judged (law o entries end (verdict.Illegal i why) (verdict.Illegal j other) is also)
 
 -- each good item stands in the certificate

@@ -4,7 +4,7 @@ use Rattle.std.specs.Prelude.{IfSome, option_to_list, slice_get}
 use Rattle.std.proofs.lemmas.Option.{none-some}
 use Rattle.vt_explain.proofs.Places.{at_either, get_last, get_left}
 use Rattle.vt_explain.specs.Certificates.{AsksAt, IsCause, WasAsked}
-use Rattle.vt_explain.specs.Finding.{cause_of, hear_all, known}
+use Rattle.vt_explain.specs.Finding.{cause_of, hear_all, known_after}
 use Rattle.vt_explain.specs.Hops.{TimedHop, at_time, timed_hops}
 use Rattle.vt_explain.specs.declared.hop_cause.HopCause.{HopCause}
 use Rattle.vt_explain.specs.declared.hop_cause.HopCause.TheVariants as why
@@ -23,18 +23,18 @@ ask_in entry signal = Some (record { entry = entry; signal = signal })
 
 -- who was asked, with all quiet since, was asked last
 last_is : (i a p n asked signal : ℕ) (h : List Moment)
-    → Since (Quiet a n) (AsksAt i a p n asked signal) h → (known h).last ≡ ask_in asked signal
+    → Since (Quiet a n) (AsksAt i a p n asked signal) h → (known_after h).last ≡ ask_in asked signal
 last_is i a p n asked signal [] since = elim since [ ]
 last_is i a p n asked signal (m ∷ h) (inl asks) =
-    ap (λ (marked : List Mark). (hear_all m.entry (news marked) (known h)).last) asks.raises.raised
+    ap (λ (marked : List Mark). (hear_all m.entry (news marked) (known_after h)).last) asks.raises.raised
     ∙ (λ j. ask_in (asks.entry j) (asks.by j))
 last_is i a p n asked signal (m ∷ h) (inr (quiet, since)) =
-    ap (λ (told : List News). (hear_all m.entry told (known h)).last) quiet.no_news
+    ap (λ (told : List News). (hear_all m.entry told (known_after h)).last) quiet.no_news
     ∙ last_is i a p n asked signal h since
 
 -- the cause that an item names is the one that is found
 pub cause_is : (h : TimedHop) (c : Cause) (w : HopCause) → IsCause h c w
-    → w ≡ cause_of c (known h.earlier).last
+    → w ≡ cause_of c (known_after h.earlier).last
 cause_is h cause.Free why.Free is = refl
 cause_is h (cause.Released p) (why.Released owner asked signal) is =
     (λ j. why.Released (is.0 j) asked signal)
@@ -53,7 +53,7 @@ cause_is h (cause.Died p) (why.Released owner asked signal) is = absurd is
 
 -- the cause that is found is that of the hop
 abbrev pub HasCause : TimedHop → Type 0
-HasCause h = IsCause h h.hop.cause (cause_of h.hop.cause (known h.earlier).last)
+HasCause h = IsCause h h.hop.cause (cause_of h.hop.cause (known_after h.earlier).last)
 
 record FoundAsk (i a p n : ℕ) (h : List Moment) : Type 0 where
   asked : ℕ
@@ -81,7 +81,7 @@ lose_ask i a p n asked signal (m ∷ h) (inr (quiet, since)) =
 
 allowed_cause : (earlier : List Moment) (m : Moment) (hop : Hop) (c : Cause)
     → AllowedBy earlier m hop.from hop.to c
-    → IsCause (at_time earlier m hop) c (cause_of c (known earlier).last)
+    → IsCause (at_time earlier m hop) c (cause_of c (known_after earlier).last)
 allowed_cause earlier m hop cause.Free because = tt
 allowed_cause earlier m hop (cause.Released p) because =
     let found : FoundAsk m.entry hop.from p hop.to earlier =
@@ -113,7 +113,7 @@ allowed_hop m earlier None allowed before k h is =
 allowed_hop m earlier (Some hop) allowed before k h is = ⊎_elim
     (λ old. before k h old)
     (λ new.
-    subst (λ (g : TimedHop). IsCause g g.hop.cause (cause_of g.hop.cause (known g.earlier).last)) new.1
+    subst (λ (g : TimedHop). IsCause g g.hop.cause (cause_of g.hop.cause (known_after g.earlier).last)) new.1
     (allowed_cause earlier m hop hop.cause allowed.0.because))
     (at_either (timed_hops earlier) (at_time earlier m hop) k h is)
 

@@ -7,7 +7,7 @@ use Rattle.vt_explain.proofs.Causes.{SomeCause, cause_is, causes, lawful}
 use Rattle.vt_explain.proofs.Knowing.{Finds, finds_all, item}
 use Rattle.vt_explain.proofs.Places.{HasAt, get_some, same_lists}
 use Rattle.vt_explain.specs.Certificates.{CertificatesAreGood, CertificatesExplain, Good, IsCertificate, IsFirstBad, OneCertificate, OneFirstBad}
-use Rattle.vt_explain.specs.Finding.{known}
+use Rattle.vt_explain.specs.Finding.{known_after}
 use Rattle.vt_explain.specs.Hops.{timed_hops}
 use Rattle.vt_explain.specs.declared.hop_why.HopWhy.{HopWhy}
 use Rattle.vt_switch.specs.Law.{HopsAreDue, IsLawful}
@@ -26,14 +26,14 @@ good_is h k w good = λ j. record {
 }
 
 pub good_is_found : OneNewsIsTold → (h : List Moment) (k : ℕ) (w : HopWhy) → Good h k w
-    → slice_get (known h).items k ≡ Some w
+    → slice_get (known_after h).items k ≡ Some w
 good_is_found law h k w good =
     (finds_all law h).each k good.hop good.kth ∙ ap Some (sym (good_is h k w good))
 
 pub certificate_is : OneNewsIsTold → (h : List Moment) (c : List HopWhy) → IsCertificate h c
-    → c ≡ (known h).items
+    → c ≡ (known_after h).items
 certificate_is law h c is =
-    same_lists c (known h).items (is.count ∙ sym (finds_all law h).many)
+    same_lists c (known_after h).items (is.count ∙ sym (finds_all law h).many)
     (λ k w at. good_is_found law h k w (is.items k w at))
 
 pub one_certificate : OneNewsIsTold → OneCertificate
@@ -42,12 +42,12 @@ one_certificate law h c d is_c is_d =
 
 -- of a lawful history the items that are found are a certificate
 found_good : OneNewsIsTold → OneHopIsTold → (h : List Moment) → IsLawful h → (k : ℕ) (w : HopWhy)
-    → slice_get (known h).items k ≡ Some w → Good h k w
+    → slice_get (known_after h).items k ≡ Some w → Good h k w
 found_good law one h is_lawful k w is =
-    let finds : Finds (timed_hops h) (known h).items = finds_all law h in
+    let finds : Finds (timed_hops h) (known_after h).items = finds_all law h in
     let has : HasAt (timed_hops h) k =
     get_some (timed_hops h) k
-    (omega (arith, finds.many, slice_get_within (known h).items k w is)) in
+    (omega (arith, finds.many, slice_get_within (known_after h).items k w is)) in
     let same : item (take k (timed_hops h)) has.element ≡ w =
     same_Some (item (take k (timed_hops h)) has.element) w
     (sym (finds.each k has.element has.is) ∙ is) in
@@ -63,7 +63,7 @@ found_good law one h is_lawful k w is =
     })
 
 pub found_is : OneNewsIsTold → OneHopIsTold → (h : List Moment) → IsLawful h
-    → IsCertificate h (known h).items
+    → IsCertificate h (known_after h).items
 found_is law one h is_lawful = record {
   count = (finds_all law h).many;
   items = found_good law one h is_lawful;

@@ -86,11 +86,11 @@ said_once text a b (Has m c u says begins no_item follows) (Has n d v also begin
     (subst (λ list. Follows n list u b) (sym same.0)
     (subst (λ rest. Follows n d rest b) (sym same.1) follows_d)))
 
-pub one-cert : OneCert
-one-cert text a b says_a says_b = said_once text a b (said text a says_a) (said text b says_b)
+pub one_cert : OneCert
+one_cert text a b says_a says_b = said_once text a b (said text a says_a) (said text b says_b)
 
-pub printed-is-read : PrintedIsRead
-printed-is-read c fit few =
+pub printed_is_read : PrintedIsRead
+printed_is_read c fit few =
     Whole c
     (record {
       head = few;
@@ -109,8 +109,8 @@ read_by text a c (BadHead none) same = cc
 read_by text a c (BadLine count d rest begins some none) same = cc
 read_by text a c (OtherCount count d begins isnt) same = cc
 
-pub read-is-printed : ReadIsPrinted
-read-is-printed text c says = read_by text (Ok c) c says refl
+pub read_is_printed : ReadIsPrinted
+read_is_printed text c says = read_by text (Ok c) c says refl
 
 -- so far these items were read, and the rest is left
 pub record IsSoFar (text : List ℕ) (c : List HopWhy) (rest : List ℕ) : Type 0 where

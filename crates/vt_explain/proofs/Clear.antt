@@ -11,18 +11,18 @@ use Rattle.std.proofs.lemmas.List.Elements.{All-append, All-cons, All-nil, All-w
 use Rattle.std.proofs.lemmas.List.Folds.{list_all-append}
 use Rattle.std.proofs.lemmas.List.Splits.{join_with_byte-slice_split, slice_split_at, slice_split_none}
 use Rattle.std.proofs.lemmas.List.Sums.{AllPass-from_list_all}
-use Rattle.vt_journal.specs.Cut.{cut}
+use Rattle.vt_journal.specs.Cut.{words_of_text}
 use Rattle.vt_journal.specs.Journal.{line_text}
 use Rattle.vt_journal.specs.Lines.{IsCutAt, IsLine}
-use Rattle.vt_journal.specs.Text.{spaced}
-use Rattle.vt_journal.specs.Words.{spelled}
+use Rattle.vt_journal.specs.Text.{blank_before_each}
+use Rattle.vt_journal.specs.Words.{joined_by_blanks}
 
 -- words with blanks between are the first word, and the others each after a blank
-pub spelled-cons : (word : List ℕ) (words : List (List ℕ))
-    → spelled (word ∷ words) ≡ word ++ spaced words
-spelled-cons word [] = sym (append-nil word)
-spelled-cons word (next ∷ words) =
-    ap (λ text. word ++ (0x20 ∷ text)) (spelled-cons next words)
+pub joined_by_blanks-cons : (word : List ℕ) (words : List (List ℕ))
+    → joined_by_blanks (word ∷ words) ≡ word ++ blank_before_each words
+joined_by_blanks-cons word [] = sym (append-nil word)
+joined_by_blanks-cons word (next ∷ words) =
+    ap (λ text. word ++ (0x20 ∷ text)) (joined_by_blanks-cons next words)
 
 -- each byte is above that of a blank
 abbrev pub is_clear : List ℕ → Bool
@@ -52,32 +52,32 @@ line_of_word word is =
     All-weaker (λ b. 0x20 < b) (λ b. b ≢ 0x0A)
     (λ b above. other b 0x0A (omega (arith, above))) word (all_above word is)
 
-line_of_words : (words : List (List ℕ)) → are_clear words ≡ true → IsLine (spaced words)
+line_of_words : (words : List (List ℕ)) → are_clear words ≡ true → IsLine (blank_before_each words)
 line_of_words [] is = All-nil (λ b. b ≢ 0x0A)
 line_of_words (word ∷ words) is =
     let both = and_parts (is_clear word) (are_clear words) is in
-    All-cons (λ b. b ≢ 0x0A) 0x20 (word ++ spaced words) (λ same. omega (arith, same))
-    (All-append (λ b. b ≢ 0x0A) word (spaced words) (line_of_word word both.0)
+    All-cons (λ b. b ≢ 0x0A) 0x20 (word ++ blank_before_each words) (λ same. omega (arith, same))
+    (All-append (λ b. b ≢ 0x0A) word (blank_before_each words) (line_of_word word both.0)
     (line_of_words words both.1))
 
 -- spelled words are a line
-pub line-spelled : (word : List ℕ) (words : List (List ℕ)) → are_clear (word ∷ words) ≡ true
-    → IsLine (spelled (word ∷ words))
-line-spelled word words clear =
+pub line_joined_by_blanks : (word : List ℕ) (words : List (List ℕ)) → are_clear (word ∷ words) ≡ true
+    → IsLine (joined_by_blanks (word ∷ words))
+line_joined_by_blanks word words clear =
     let both = and_parts (is_clear word) (are_clear words) clear in
-    rw (spelled-cons word words)
-    (All-append (λ b. b ≢ 0x0A) word (spaced words) (line_of_word word both.0)
+    rw (joined_by_blanks-cons word words)
+    (All-append (λ b. b ≢ 0x0A) word (blank_before_each words) (line_of_word word both.0)
     (line_of_words words both.1))
 
 -- words are found again in their line
-pub cut-spelled : (word : List ℕ) (words : List (List ℕ)) → are_clear (word ∷ words) ≡ true
-    → cut (spelled (word ∷ words)) ≡ word ∷ words
-cut-spelled word [] clear =
+pub words_of_text-joined_by_blanks : (word : List ℕ) (words : List (List ℕ)) → are_clear (word ∷ words) ≡ true
+    → words_of_text (joined_by_blanks (word ∷ words)) ≡ word ∷ words
+words_of_text-joined_by_blanks word [] clear =
     slice_split_none (λ b. eqb b 0x20) word (no_blank word (and_parts (is_clear word) true clear).0)
-cut-spelled word (next ∷ words) clear =
+words_of_text-joined_by_blanks word (next ∷ words) clear =
     let both = and_parts (is_clear word) (are_clear (next ∷ words)) clear in
-    slice_split_at (λ b. eqb b 0x20) word 0x20 (spelled (next ∷ words)) (no_blank word both.0) refl
-    ∙ ap (λ rest. word ∷ rest) (cut-spelled next words both.1)
+    slice_split_at (λ b. eqb b 0x20) word 0x20 (joined_by_blanks (next ∷ words)) (no_blank word both.0) refl
+    ∙ ap (λ rest. word ∷ rest) (words_of_text-joined_by_blanks next words both.1)
 
 -- numbers are clear
 pub is_clear-decimal : (n : ℕ) → n < 2 ^ 64 → is_clear (decimal n) ≡ true
@@ -122,18 +122,18 @@ line_once (x ∷ a) (y ∷ b) u v line_a line_b same =
 
 -- a line of words and what follows it
 pub line_parts : (words : List (List ℕ)) (u : List ℕ)
-    → line_text words ++ u ≡ spelled words ++ 0x0A ∷ u
-line_parts words u = append_assoc (spelled words) (0x0A ∷ []) u
+    → line_text words ++ u ≡ joined_by_blanks words ++ 0x0A ∷ u
+line_parts words u = append_assoc (joined_by_blanks words) (0x0A ∷ []) u
 
-pub lines_once : (p q : List (List ℕ)) (u v : List ℕ) → IsLine (spelled p) → IsLine (spelled q)
-    → line_text p ++ u ≡ line_text q ++ v → (spelled p ≡ spelled q) × (u ≡ v)
+pub lines_once : (p q : List (List ℕ)) (u v : List ℕ) → IsLine (joined_by_blanks p) → IsLine (joined_by_blanks q)
+    → line_text p ++ u ≡ line_text q ++ v → (joined_by_blanks p ≡ joined_by_blanks q) × (u ≡ v)
 lines_once p q u v line_p line_q same =
-    line_once (spelled p) (spelled q) u v line_p line_q
+    line_once (joined_by_blanks p) (joined_by_blanks q) u v line_p line_q
     (sym (line_parts p u) ∙ same ∙ line_parts q v)
 
 -- a line isn't nothing
 pub some_line : (words : List (List ℕ)) (u : List ℕ) → line_text words ++ u ≢ []
-some_line words u same = some (spelled words) (sym (line_parts words u) ∙ same)
+some_line words u same = some (joined_by_blanks words) (sym (line_parts words u) ∙ same)
   where
     some : (text : List ℕ) → text ++ 0x0A ∷ u ≢ []
     some [] same = cc
@@ -141,25 +141,17 @@ some_line words u same = some (spelled words) (sym (line_parts words u) ∙ same
 
 -- the first line of a text that is cut
 pub cut_is : (text line behind : List ℕ) (words : List (List ℕ)) (rest : List ℕ)
-    → IsCutAt text line behind → IsLine (spelled words) → text ≡ line_text words ++ rest
-    → spelled words ≡ line
-cut_is text line behind words rest cut is same =
-    (line_once (spelled words) line rest behind is cut.no_end
-    (sym (line_parts words rest) ∙ sym same ∙ cut.parts)).0
-
--- a text that is cut is its line and the rest
-pub found_line : (text line behind : List ℕ) (words : List (List ℕ)) → IsCutAt text line behind
-    → spelled words ≡ line → text ≡ line_text words ++ behind
-found_line text line behind words cut is =
-    cut.parts
-    ∙ ap (λ (l : List ℕ). l ++ 0x0A ∷ behind) (sym is)
-    ∙ sym (line_parts words behind)
+    → IsCutAt text line behind → IsLine (joined_by_blanks words) → text ≡ line_text words ++ rest
+    → joined_by_blanks words ≡ line
+cut_is text line behind words rest words_of_text is same =
+    (line_once (joined_by_blanks words) line rest behind is words_of_text.no_end
+    (sym (line_parts words rest) ∙ sym same ∙ words_of_text.parts)).0
 
 -- a text without line ends has no line
 pub no_line : (text : List ℕ) (words : List (List ℕ)) (rest : List ℕ) → IsLine text
     → text ≢ line_text words ++ rest
 no_line text words rest is same =
-    ends text (spelled words) is (same ∙ line_parts words rest)
+    ends text (joined_by_blanks words) is (same ∙ line_parts words rest)
   where
     ends : (text before : List ℕ) → IsLine text → text ≢ before ++ 0x0A ∷ rest
     ends [] [] is same = cc
@@ -172,10 +164,10 @@ no_line text words rest is same =
         ends text before (λ k d within. is (suc k) d (omega arith)) others
 
 -- all words of a line
-pub whole_words : (line : List ℕ) (words new : List (List ℕ)) → cut line ≡ words ++ new → new ≡ []
-    → spelled words ≡ line
+pub whole_words : (line : List ℕ) (words new : List (List ℕ)) → words_of_text line ≡ words ++ new → new ≡ []
+    → joined_by_blanks words ≡ line
 whole_words line words new is none =
-    ap spelled (sym (append-nil words) ∙ ap (λ rest. words ++ rest) (sym none) ∙ sym is)
+    ap joined_by_blanks (sym (append-nil words) ∙ ap (λ rest. words ++ rest) (sym none) ∙ sym is)
     ∙ join_with_byte-slice_split 0x20 line
 
 -- whether there is a next word

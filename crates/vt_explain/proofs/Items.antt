@@ -2,15 +2,15 @@
 use Rattle.std.proofs.Common.{◌≡◌, ℕ, ◌<◌, ◌≤◌, ◌^◌, Bool, true, false, true≢false, ◌&&◌, append-nil, List, [], ◌∷◌, ◌++◌, codes, decimal, refl, sym, ap, ◌∙◌, arith}
 use Rattle.std.specs.Prelude.{◌==◌}
 use Rattle.std.proofs.lemmas.Fmt.{decimal_injective}
-use Rattle.vt_explain.proofs.Clear.{are_clear, clear_number, cut-spelled, line-spelled, lines_once, same_number}
+use Rattle.vt_explain.proofs.Clear.{are_clear, clear_number, words_of_text-joined_by_blanks, line_joined_by_blanks, lines_once, same_number}
 use Rattle.vt_explain.specs.CertText.{IsFit, IsFitAsk, IsFitCause, asked_words, cause_words, head_words, item_words}
 use Rattle.vt_explain.specs.declared.hop_cause.HopCause.{HopCause}
 use Rattle.vt_explain.specs.declared.hop_cause.HopCause.TheVariants as why
 use Rattle.vt_explain.specs.declared.hop_why.HopWhy.{HopWhy}
-use Rattle.vt_journal.specs.Cut.{cut}
+use Rattle.vt_journal.specs.Cut.{words_of_text}
 use Rattle.vt_journal.specs.Journal.{line_text}
 use Rattle.vt_journal.specs.Lines.{IsLine}
-use Rattle.vt_journal.specs.Words.{spelled}
+use Rattle.vt_journal.specs.Words.{joined_by_blanks}
 
 clear_ask : (owner asked signal : ℕ) → IsFitAsk owner asked signal
     → are_clear (asked_words owner asked signal) ≡ true
@@ -36,14 +36,14 @@ clear_item w fit =
     let cause = clear_cause w.cause fit.cause in
     λ j. at j && (nth j && (from j && (to j && cause j)))
 
-pub cut_item : (w : HopWhy) → IsFit w → cut (spelled (item_words w)) ≡ item_words w
+pub cut_item : (w : HopWhy) → IsFit w → words_of_text (joined_by_blanks (item_words w)) ≡ item_words w
 cut_item w fit =
-    cut-spelled (decimal w.at)
+    words_of_text-joined_by_blanks (decimal w.at)
     (decimal w.nth ∷ decimal w.from ∷ decimal w.to ∷ cause_words w.cause) (clear_item w fit)
 
-pub line_item : (w : HopWhy) → IsFit w → IsLine (spelled (item_words w))
+pub line_item : (w : HopWhy) → IsFit w → IsLine (joined_by_blanks (item_words w))
 line_item w fit =
-    line-spelled (decimal w.at)
+    line_joined_by_blanks (decimal w.at)
     (decimal w.nth ∷ decimal w.from ∷ decimal w.to ∷ cause_words w.cause) (clear_item w fit)
 
 clear_head : (n : ℕ) → n ≤ 4294967295 → are_clear (head_words n) ≡ true
@@ -51,11 +51,11 @@ clear_head n fit =
     let number = clear_number n fit in
     λ j. true && (number j && true)
 
-pub cut_head : (n : ℕ) → n ≤ 4294967295 → cut (spelled (head_words n)) ≡ head_words n
-cut_head n fit = cut-spelled (codes "%explain") (decimal n ∷ []) (clear_head n fit)
+pub cut_head : (n : ℕ) → n ≤ 4294967295 → words_of_text (joined_by_blanks (head_words n)) ≡ head_words n
+cut_head n fit = words_of_text-joined_by_blanks (codes "%explain") (decimal n ∷ []) (clear_head n fit)
 
-pub line_head : (n : ℕ) → n ≤ 4294967295 → IsLine (spelled (head_words n))
-line_head n fit = line-spelled (codes "%explain") (decimal n ∷ []) (clear_head n fit)
+pub line_head : (n : ℕ) → n ≤ 4294967295 → IsLine (joined_by_blanks (head_words n))
+line_head n fit = line_joined_by_blanks (codes "%explain") (decimal n ∷ []) (clear_head n fit)
 
 -- words are one ask and what follows it
 record SameAsk (p a s q b t : ℕ) (u v : List (List ℕ)) : Type 0 where
@@ -141,7 +141,7 @@ pub item_line_once : (w x : HopWhy) (u v : List ℕ) → IsFit w → IsFit x
 item_line_once w x u v fit_w fit_x same =
     let both = lines_once (item_words w) (item_words x) u v (line_item w fit_w) (line_item x fit_x) same in
     let words : item_words w ≡ item_words x =
-    sym (cut_item w fit_w) ∙ ap cut both.0 ∙ cut_item x fit_x in
+    sym (cut_item w fit_w) ∙ ap words_of_text both.0 ∙ cut_item x fit_x in
     ((item_once w x [] [] fit_w fit_x (ap (λ list. list ++ []) words)).0, both.1)
 
 pub head_line_once : (m n : ℕ) (u v : List ℕ) → m ≤ 4294967295 → n ≤ 4294967295
@@ -149,19 +149,19 @@ pub head_line_once : (m n : ℕ) (u v : List ℕ) → m ≤ 4294967295 → n ≤
 head_line_once m n u v fit_m fit_n same =
     let both = lines_once (head_words m) (head_words n) u v (line_head m fit_m) (line_head n fit_n) same in
     let words : head_words m ≡ head_words n =
-    sym (cut_head m fit_m) ∙ ap cut both.0 ∙ cut_head n fit_n in
+    sym (cut_head m fit_m) ∙ ap words_of_text both.0 ∙ cut_head n fit_n in
     let numbers : decimal m ≡ decimal n = cc in
     (same_number m n fit_m fit_n numbers, both.1)
 
 -- the words of a line that spells an item, or the first line
-pub item_cut : (line : List ℕ) (w : HopWhy) → IsFit w → spelled (item_words w) ≡ line
-    → cut line ≡ item_words w ++ []
+pub item_cut : (line : List ℕ) (w : HopWhy) → IsFit w → joined_by_blanks (item_words w) ≡ line
+    → words_of_text line ≡ item_words w ++ []
 item_cut line w fit is =
-    ap cut (sym is) ∙ cut_item w fit ∙ sym (append-nil (item_words w))
+    ap words_of_text (sym is) ∙ cut_item w fit ∙ sym (append-nil (item_words w))
 
-pub head_cut : (line : List ℕ) (n : ℕ) → n ≤ 4294967295 → spelled (head_words n) ≡ line
-    → cut line ≡ head_words n ++ []
-head_cut line n fit is = ap cut (sym is) ∙ cut_head n fit ∙ sym (append-nil (head_words n))
+pub head_cut : (line : List ℕ) (n : ℕ) → n ≤ 4294967295 → joined_by_blanks (head_words n) ≡ line
+    → words_of_text line ≡ head_words n ++ []
+head_cut line n fit is = ap words_of_text (sym is) ∙ cut_head n fit ∙ sym (append-nil (head_words n))
 
 pub head_rest : (m n : ℕ) (u v : List (List ℕ)) → head_words m ++ u ≡ head_words n ++ v → u ≡ v
 head_rest m n u v same = cc
@@ -170,11 +170,6 @@ head_rest m n u v same = cc
 pub after_three : (w0 w1 w2 w3 : List (List ℕ)) (a b c d e f : List ℕ) (u : List (List ℕ))
     → w0 ≡ a ∷ w1 → w1 ≡ b ∷ w2 → w2 ≡ c ∷ w3 → w0 ≡ d ∷ e ∷ f ∷ u → w3 ≡ u
 after_three w0 w1 w2 w3 a b c d e f u first second third same = cc
-
-pub after_four : (w0 w1 w2 w3 w4 : List (List ℕ)) (a b c d e f g h : List ℕ)
-    (u : List (List ℕ))
-    → w0 ≡ a ∷ w1 → w1 ≡ b ∷ w2 → w2 ≡ c ∷ w3 → w3 ≡ d ∷ w4 → w0 ≡ e ∷ f ∷ g ∷ h ∷ u → w4 ≡ u
-after_four w0 w1 w2 w3 w4 a b c d e f g h u first second third fourth same = cc
 
 -- no number from 1 on is spelled as 0 is
 pub not_zero : (m n : ℕ) (u v w : List (List ℕ)) → m ≡ 0 → 1 ≤ n → n < 2 ^ 64

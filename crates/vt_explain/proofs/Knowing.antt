@@ -2,7 +2,7 @@
 use Rattle.std.proofs.Common.{◌≡◌, ◌≤◌, ⊎_elim, ℕ, ◌+◌, cond, List, [], ◌∷◌, ◌++◌, length, take, map, flat_map, Some, refl, sym, ap, subst, ◌∙◌, arith, append-nil, length-append}
 use Rattle.std.specs.Prelude.{◌==◌, count_by, slice_get}
 use Rattle.vt_explain.proofs.Places.{at_either, count_more, get_last, get_left, take_left, take_seam}
-use Rattle.vt_explain.specs.Finding.{hear_all, is_at, item_of, known}
+use Rattle.vt_explain.specs.Finding.{hear_all, is_at, item_of, known_after}
 use Rattle.vt_explain.specs.Hops.{TimedHop, at_time, is_in, timed_hops}
 use Rattle.vt_explain.specs.declared.hop_why.HopWhy.{HopWhy}
 use Rattle.vt_switch.specs.Moments.{Moment, hops, trace}
@@ -35,7 +35,7 @@ hops_of_news (mark.Ended p ∷ told) = hops_of_news told
 -- the item of a hop after these
 abbrev pub item : List TimedHop → TimedHop → HopWhy
 item before h =
-    item_of h.moment.entry (count_by (is_in h.moment.entry) before) h.hop (known h.earlier).last
+    item_of h.moment.entry (count_by (is_in h.moment.entry) before) h.hop (known_after h.earlier).last
 
 -- these are the items of these hops
 pub record Finds (timed : List TimedHop) (items : List HopWhy) : Type 0 where
@@ -67,14 +67,14 @@ finds_one timed items h finds = record {
 }
 
 finds_told : (m : Moment) (earlier : List Moment) (told : List News) → length told ≤ 1
-    → Finds (timed_hops earlier) (known earlier).items
+    → Finds (timed_hops earlier) (known_after earlier).items
     → Finds (timed_hops earlier ++ map (at_time earlier m) (flat_map going told))
-    (hear_all m.entry told (known earlier)).items
+    (hear_all m.entry told (known_after earlier)).items
 finds_told m earlier [] few finds =
-    subst (λ (timed : List TimedHop). Finds timed (known earlier).items)
+    subst (λ (timed : List TimedHop). Finds timed (known_after earlier).items)
     (sym (append-nil (timed_hops earlier))) finds
 finds_told m earlier (Asking ask ∷ []) few finds =
-    subst (λ (timed : List TimedHop). Finds timed (known earlier).items)
+    subst (λ (timed : List TimedHop). Finds timed (known_after earlier).items)
     (sym (append-nil (timed_hops earlier))) finds
 finds_told m earlier (Going hop ∷ []) few finds =
     let timed : List TimedHop = timed_hops earlier in
@@ -82,13 +82,13 @@ finds_told m earlier (Going hop ∷ []) few finds =
     subst
     (λ n.
     Finds (timed ++ h ∷ [])
-    ((known earlier).items ++ item_of m.entry n hop (known earlier).last ∷ []))
-    (sym (finds.counted m.entry)) (finds_one timed (known earlier).items h finds)
+    ((known_after earlier).items ++ item_of m.entry n hop (known_after earlier).last ∷ []))
+    (sym (finds.counted m.entry)) (finds_one timed (known_after earlier).items h finds)
 finds_told m earlier (one ∷ (other ∷ told)) few finds =
     absurd (let no : ⊥ = omega (arith, few) in no)
 
 -- of every history the items of its hops are known
-pub finds_all : OneNewsIsTold → (h : List Moment) → Finds (timed_hops h) (known h).items
+pub finds_all : OneNewsIsTold → (h : List Moment) → Finds (timed_hops h) (known_after h).items
 finds_all law [] = record {
   many = refl;
   counted = λ n. refl;
@@ -100,6 +100,6 @@ finds_all law [] = record {
 finds_all law (m ∷ earlier) =
     subst
     (λ (list : List Hop).
-    Finds (timed_hops earlier ++ map (at_time earlier m) list) (known (m ∷ earlier)).items)
+    Finds (timed_hops earlier ++ map (at_time earlier m) list) (known_after (m ∷ earlier)).items)
     (sym (hops_of_news (trace m)))
     (finds_told m earlier (news (trace m)) (law m.before m.act) (finds_all law earlier))

@@ -5,7 +5,7 @@ use Rattle.std.proofs.lemmas.Bool.{ne_eqb}
 use Rattle.std.proofs.lemmas.List.{length_push}
 use Rattle.vt_check.specs.Watching.{IsNextEntry}
 use Rattle.vt_explain.proofs.Places.{count_more}
-use Rattle.vt_explain.specs.Finding.{HasRead, Known, asked_by, hear, hear_all, is_at, item_of, known, news_after, raised}
+use Rattle.vt_explain.specs.Finding.{HasRead, Known, asked_by, hear, hear_all, is_at, item_of, known_after, news_after, with_last_signal}
 use Rattle.vt_events.specs.declared.entry.Entry.{Entry}
 use Rattle.vt_switch.specs.Acts.{SwitchAct}
 use Rattle.vt_switch.specs.Moments.{Core, Moment, core_after, marks, with_acts}
@@ -26,24 +26,24 @@ hear_append at (one ∷ a) b k = hear_append at a b (hear at one k)
 
 -- the acts of an entry are heard one after another
 acts_heard : (i : ℕ) (k : Core) (acts : List SwitchAct) (h : List Moment)
-    → known (with_acts i k acts h) ≡ hear_all i (news_of k acts) (known h)
+    → known_after (with_acts i k acts h) ≡ hear_all i (news_of k acts) (known_after h)
 acts_heard i k [] h = refl
 acts_heard i k (act ∷ acts) h =
     acts_heard i (core_after k act) acts (record { entry = i; before = k; act = act } ∷ h)
-    ∙ sym (hear_append i (news (marks k act)) (news_of (core_after k act) acts) (known h))
+    ∙ sym (hear_append i (news (marks k act)) (news_of (core_after k act) acts) (known_after h))
 
 -- one entry more
 next_known : TracesTellNews → MomentsGrow → (start : WorldState) (before : List Entry) (entry : Entry) (k : Known)
-    → k ≡ known (moments start before)
+    → k ≡ known_after (moments start before)
     → hear_all (length before) (news (step (replay start before) entry.caller entry.event).world.trace.marks) k
-    ≡ known (moments start (before ++ entry ∷ []))
+    ≡ known_after (moments start (before ++ entry ∷ []))
 next_known tells grow start before entry k is =
     let w : WorldState = replay start before in
     let acts : List SwitchAct = event_acts w entry.caller entry.event in
     ap (λ told. hear_all (length before) told k) (tells w entry.caller entry.event)
     ∙ ap (hear_all (length before) (news_of (core w) acts)) is
     ∙ sym (acts_heard (length before) (core w) acts (moments start before))
-    ∙ ap known (sym (grow start before entry))
+    ∙ ap known_after (sym (grow start before entry))
 
 -- what is told in an entry has no items of another
 none_else : (at j : ℕ) → at ≢ j → (told : List News) (k : Known)
@@ -80,30 +80,3 @@ next_read tells grow start before place entry after told old new was next trace 
           (still_none place j (news told) old (omega (arith, above, length_push before entry, next.place_is))
           (was.fresh j (omega (arith, above, length_push before entry))));
     }
-
--- a mark more
-raised_next : (at p signal : ℕ) (asked : Option ℕ) (rest : List Mark) (k : Known)
-    → hear_all at (news rest) (raised at asked signal k)
-    ≡ hear_all at (news_after asked (mark.Raised p signal ∷ rest)) k
-raised_next at p signal None rest k = refl
-raised_next at p signal (Some n) rest k = refl
-
-pub hears_raised : (at p signal : ℕ) (asked : Option ℕ) (rest : List Mark) (old new : Known)
-    → new ≡ raised at asked signal old
-    → hear_all at (news_after (asked_by (mark.Raised p signal)) rest) new
-    ≡ hear_all at (news_after asked (mark.Raised p signal ∷ rest)) old
-hears_raised at p signal asked rest old new is =
-    ap (hear_all at (news rest)) is ∙ raised_next at p signal asked rest old
-
-hopped_next : (at : ℕ) (hop : Hop) (asked : Option ℕ) (rest : List Mark) (k : Known)
-    → hear_all at (news rest) (hear at (Going hop) k)
-    ≡ hear_all at (news_after asked (mark.Hopped hop ∷ rest)) k
-hopped_next at hop None rest k = refl
-hopped_next at hop (Some n) rest k = refl
-
-pub hears_hopped : (at : ℕ) (hop : Hop) (asked : Option ℕ) (rest : List Mark) (old new : Known)
-    → new ≡ hear at (Going hop) old
-    → hear_all at (news_after (asked_by (mark.Hopped hop)) rest) new
-    ≡ hear_all at (news_after asked (mark.Hopped hop ∷ rest)) old
-hears_hopped at hop asked rest old new is =
-    ap (hear_all at (news rest)) is ∙ hopped_next at hop asked rest old

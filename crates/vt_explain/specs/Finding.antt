@@ -56,20 +56,20 @@ abbrev pub asked_by : Mark → Option ℕ
 asked_by (mark.Asked n) = Some n
 asked_by m = None
 
-abbrev pub raised : ℕ → Option ℕ → ℕ → Known → Known
-raised at None signal k = k
-raised at (Some n) signal k = record k { last = Some (record { entry = at; signal = signal }) }
+abbrev pub with_last_signal : ℕ → Option ℕ → ℕ → Known → Known
+with_last_signal at None signal k = k
+with_last_signal at (Some n) signal k = record k { last = Some (record { entry = at; signal = signal }) }
 
 abbrev pub news_after : Option ℕ → List Mark → List News
 news_after None told = news told
 news_after (Some n) told = news (mark.Asked n ∷ told)
 
 -- what is known after a history
-abbrev pub known : List Moment → Known
-known [] = record { items = []; last = None }
-known (m ∷ earlier) = hear_all m.entry (news (trace m)) (known earlier)
+abbrev pub known_after : List Moment → Known
+known_after [] = record { items = []; last = None }
+known_after (m ∷ earlier) = hear_all m.entry (news (trace m)) (known_after earlier)
 
 -- what is known is what these entries tell, from this console on; no item is of a later entry
 pub record HasRead (start : WorldState) (entries : List Entry) (k : Known) : Type 0 where
-  pub known_is : k ≡ known (moments start entries)
+  pub known_is : k ≡ known_after (moments start entries)
   pub fresh : (j : ℕ) → length entries ≤ j → count_by (is_at j) k.items ≡ 0

@@ -8,7 +8,7 @@ use crate::{HopWhy, Judged};
 use vt_base::NoMemory;
 
 /// The greatest place that an answer can name.
-const MOST: usize = 4_294_967_295;
+const GREATEST_PLACE: usize = 4_294_967_295;
 
 /// Whether the items are those that were made, and else where they differ first.
 pub(crate) fn compare(made: &[HopWhy], c: &[HopWhy]) -> Result<Judged, NoMemory>
@@ -41,7 +41,7 @@ fn is_same(made: &[HopWhy], c: &[HopWhy], k: usize) -> bool
 fn no(k: usize) -> Result<Judged, NoMemory>
     ensures { IfOk result (λ r. r ≡ judged.No k) }
 {
-    if MOST < k {
+    if GREATEST_PLACE < k {
         return Err(NoMemory);
     }
     Ok(Judged::No { index: k as u32 })

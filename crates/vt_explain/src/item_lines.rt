@@ -3,7 +3,7 @@ ghost use Rattle.std.specs.Prelude.{◌≡◌, ◌≢◌, ◌≤◌, ℕ, List, 
 ghost use Rattle.vt_explain.specs.CertText.{IsFit, IsFitAsk, IsFitCause, asked_words, cause_words, head_words, item_words};
 ghost use Rattle.vt_explain.specs.declared.hop_cause.HopCause.{HopCause};
 ghost use Rattle.vt_explain.specs.declared.hop_why.HopWhy.{HopWhy};
-ghost use Rattle.vt_journal.specs.Words.{spelled};
+ghost use Rattle.vt_journal.specs.Words.{joined_by_blanks};
 
 use crate::numbers::{take_caller, take_console, take_number, take_signal};
 use crate::{HopCause, HopWhy};
@@ -12,9 +12,9 @@ use vt_journal::{Words, take_word};
 
 /// The number of items that the first line of a certificate tells.
 pub(crate) fn read_count(line: &[u8]) -> Option<u32>
-    ensures found { IfSome result (λ n. spelled (head_words n) ≡ line.now) }
+    ensures found { IfSome result (λ n. joined_by_blanks (head_words n) ≡ line.now) }
     ensures none { IfNone result
-        ((n : ℕ) → n ≤ 4_294_967_295 → spelled (head_words n) ≢ line.now) }
+        ((n : ℕ) → n ≤ 4_294_967_295 → joined_by_blanks (head_words n) ≢ line.now) }
 {
     let mut words = Words::of(line);
     let count = take_head(&mut words)?;
@@ -38,9 +38,9 @@ fn take_head(words: &mut Words) -> Option<u32>
 
 /// The item that the line spells.
 pub(crate) fn read_item(line: &[u8]) -> Option<HopWhy>
-    ensures found { IfSome result (λ w. spelled (item_words w) ≡ line.now) }
+    ensures found { IfSome result (λ w. joined_by_blanks (item_words w) ≡ line.now) }
     ensures fit { IfSome result IsFit }
-    ensures none { IfNone result ((w : HopWhy) → IsFit w → spelled (item_words w) ≢ line.now) }
+    ensures none { IfNone result ((w : HopWhy) → IsFit w → joined_by_blanks (item_words w) ≢ line.now) }
 {
     let mut words = Words::of(line);
     let item = take_item(&mut words)?;

@@ -13,7 +13,7 @@ use vt_base::NoMemory;
 use vt_journal::cut_line;
 
 /// The greatest number of a line that a fault can name.
-const MOST: usize = 4_294_967_295;
+const GREATEST_LINE: usize = 4_294_967_295;
 
 /// What the text says as a certificate, which is the one spelling of its items; or the number of its
 /// first line that isn't of the form, which is 4,294,967,295 for each line past that one.
@@ -37,19 +37,19 @@ fn read_text(alloc: Global, text: &[u8]) -> Result<Vec<HopWhy>, CertError>
 
 // The number that the first line tells, and what is after the line.
 #[derive(Clone, Copy)]
-struct Head<'a> {
+struct CertHeader<'a> {
     count: u32,
     behind: &'a [u8],
 }
 
-fn read_head(text: &[u8]) -> Option<Head<'_>>
+fn read_head(text: &[u8]) -> Option<CertHeader<'_>>
     ensures found { IfSome result
         (λ h. text.now ≡ line_text (head_words h.count) ++ h.behind.now) }
     ensures none { IfNone result (IsNoHead text.now) }
 {
     let cut = cut_line(text)?;
     let count = read_count(cut.line)?;
-    Some(Head {
+    Some(CertHeader {
         count,
         behind: cut.behind,
     })
@@ -57,12 +57,12 @@ fn read_head(text: &[u8]) -> Option<Head<'_>>
 
 // The item of the first line, and what is after the line.
 #[derive(Clone, Copy)]
-struct Next<'a> {
+struct ParsedItem<'a> {
     item: HopWhy,
     behind: &'a [u8],
 }
 
-fn read_line(text: &[u8]) -> Option<Next<'_>>
+fn read_line(text: &[u8]) -> Option<ParsedItem<'_>>
     ensures found { IfSome result
         (λ n. text.now ≡ line_text (item_words n.item) ++ n.behind.now) }
     ensures fit { IfSome result (λ n. IsFit n.item) }
@@ -70,7 +70,7 @@ fn read_line(text: &[u8]) -> Option<Next<'_>>
 {
     let cut = cut_line(text)?;
     let item = read_item(cut.line)?;
-    Some(Next {
+    Some(ParsedItem {
         item,
         behind: cut.behind,
     })
@@ -107,6 +107,6 @@ fn push(items: &mut Vec<HopWhy>, item: HopWhy) -> Result<(), NoMemory>
 fn fault_at(line: usize) -> CertError
     ensures { IsFaultAt line result }
 {
-    let line = line.min(MOST) as u32;
+    let line = line.min(GREATEST_LINE) as u32;
     CertError::Fault { line }
 }

@@ -3,7 +3,7 @@ ghost use Rattle.std.specs.Prelude.{◌≡◌, ◌++◌, decimal, IfOk, OnErr, O
 ghost use Rattle.std.specs.List.{All};
 ghost use Rattle.vt_explain.specs.CertText.{IsFit, IsFitAsk, IsFitCause, asked_words, cause_words, cert_text, item_words};
 ghost use Rattle.vt_journal.specs.Journal.{line_text};
-ghost use Rattle.vt_journal.specs.Text.{spaced};
+ghost use Rattle.vt_journal.specs.Text.{blank_before_each};
 
 use crate::{HopCause, HopWhy};
 use itoa::Buffer;
@@ -51,7 +51,7 @@ fn add_number(alloc: Global, text: &mut Bytes, n: u32) -> Result<(), NoMemory>
 
 // Adds the words of a cause, each after a blank.
 fn add_cause(alloc: Global, text: &mut Bytes, cause: &HopCause) -> Result<(), NoMemory>
-    ensures ok { OnOk result (text.new.bytes ≡ text.old.bytes ++ spaced (cause_words cause.now)) }
+    ensures ok { OnOk result (text.new.bytes ≡ text.old.bytes ++ blank_before_each (cause_words cause.now)) }
     ensures fit { OnOk result (IsFitCause cause.now) }
 {
     match cause {
@@ -79,7 +79,7 @@ fn add_ask(
     signal: Signal,
 ) -> Result<(), NoMemory>
     ensures ok { OnOk result
-        (text.new.bytes ≡ text.old.bytes ++ how.now ++ spaced (asked_words owner asked signal)) }
+        (text.new.bytes ≡ text.old.bytes ++ how.now ++ blank_before_each (asked_words owner asked signal)) }
     ensures fit { IsFitAsk owner asked signal }
 {
     add(alloc, text, how)?;

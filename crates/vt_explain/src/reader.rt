@@ -1,6 +1,6 @@
 //! What one trace after another tells of the hops.
 ghost use Rattle.std.specs.Prelude.{◌≡◌, ◌≤◌, [], Some, None, count_by, length, OnOk};
-ghost use Rattle.vt_explain.specs.Finding.{asked_by, cause_of, hear, hear_all, is_at, item_of, raised};
+ghost use Rattle.vt_explain.specs.Finding.{asked_by, cause_of, hear, hear_all, is_at, item_of, with_last_signal};
 ghost use Rattle.vt_switch.specs.News.{news};
 ghost use Rattle.vt_switch.specs.News.News.{Going};
 
@@ -71,7 +71,7 @@ impl Reader {
 
     // A signal is raised: where a request stands right before it, its owner is asked by it.
     fn raised(&mut self, at: u32, asked: &Option<ConsoleNo>, signal: Signal)
-        ensures { self.new ≡ raised at asked.now signal self.old }
+        ensures { self.new ≡ with_last_signal at asked.now signal self.old }
     {
         if asked.is_some() {
             self.last = Some(LastAsk { entry: at, signal });

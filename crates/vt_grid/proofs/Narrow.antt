@@ -9,80 +9,80 @@ use Rattle.std.proofs.lemmas.List.{get_or_default, get_or_past, set_past, take-a
 use Rattle.std.proofs.lemmas.List.Elements.{All-append, All-drop, All-head, All-map, All-nil, All-cons, All-replicate, All-set, All-tail, All-take, All-weaker}
 use Rattle.vt_cells.specs.Width.{half, is_half, is_plain}
 use Rattle.vt_cells.specs.declared.cell.Cell.{Cell}
-use Rattle.vt_grid.specs.Grid.{Sheet, cells_of_codes, filled, overlaid, row_at, scrolled_up, with_row, with_run}
-use Rattle.vt_grid.specs.Halves.{IsNarrow, IsNarrowRow, pair_parted, parted, parted_at, parted_between, spaced}
-use Rattle.vt_grid.specs.Line.{IsNarrowLine, Line, cells_of, covered, cut_at, inserted_at, reached, removed_at, written}
-use Rattle.vt_grid.specs.Ring.{AreNarrow, Shelf, blank_slot, cut_all, named, no_shelf, shelf_at}
-use Rattle.vt_grid.specs.Store.{Store, sheet_shown}
+use Rattle.vt_grid.specs.Grid.{GridView, cells_of_codes, filled_grid, overlaid, row_at, scrolled_up, with_row, with_run}
+use Rattle.vt_grid.specs.Halves.{IsNarrow, IsNarrowRow, split_pair, split_wide, split_wide_at, split_wide_between, space_in_colours}
+use Rattle.vt_grid.specs.StoredRow.{IsNarrowLine, StoredRow, cells_of, with_prefix_of, cut_at, with_stored_inserted, stored_up_to, with_stored_deleted, with_stored_cells}
+use Rattle.vt_grid.specs.Ring.{AreNarrow, RowSlot, blank_slot, cut_all, rows_by_number, no_slot, slot_at}
+use Rattle.vt_grid.specs.Store.{Store, grid_view}
 
 abbrev One : Cell → Type 0
 One c = is_half c ≡ false
 
 -- no pair is parted
-pair-same : (cells : List Cell) → IsNarrowRow cells → pair_parted cells ≡ cells
-pair-same [] h = refl
-pair-same (a ∷ []) h = refl
-pair-same (a ∷ b ∷ cells) h =
-    cond-false (is_half b) (spaced a ∷ spaced b ∷ cells) (a ∷ b ∷ cells)
+pair_same : (cells : List Cell) → IsNarrowRow cells → split_pair cells ≡ cells
+pair_same [] h = refl
+pair_same (a ∷ []) h = refl
+pair_same (a ∷ b ∷ cells) h =
+    cond-false (is_half b) (space_in_colours a ∷ space_in_colours b ∷ cells) (a ∷ b ∷ cells)
     (All-head One b cells (All-tail One a (b ∷ cells) h))
 
-row-same : (x : ℕ) (row : List Cell) → IsNarrowRow row → parted x row ≡ row
-row-same zero row h = refl
-row-same (suc x) row h =
-    ap (λ (cells : List Cell). take x row ++ cells) (pair-same (drop x row) (All-drop One x row h))
+row_same : (x : ℕ) (row : List Cell) → IsNarrowRow row → split_wide x row ≡ row
+row_same zero row h = refl
+row_same (suc x) row h =
+    ap (λ (cells : List Cell). take x row ++ cells) (pair_same (drop x row) (All-drop One x row h))
     ∙ take-append-drop x row
 
-row-narrow : (s : Sheet) (y : ℕ) → IsNarrow s → IsNarrowRow (row_at s y)
-row-narrow s y h =
+row_narrow : (s : GridView) (y : ℕ) → IsNarrow s → IsNarrowRow (row_at s y)
+row_narrow s y h =
     elim (cases_lt y (length s.cells)) [
       | inl within ↦ h y [] within
       | inr past ↦ subst IsNarrowRow (sym (get_or_past s.cells y [] past)) (All-nil One)
     ]
 
 -- a list whose element is set to what it is
-set-same : {A : Type 0} (xs : List A) (y : ℕ) (none : A) → set xs y (get_or xs y none) ≡ xs
-set-same [] y none = refl
-set-same (x ∷ xs) zero none = refl
-set-same (x ∷ xs) (suc y) none = ap (λ ys. x ∷ ys) (set-same xs y none)
+set_same : {A : Type 0} (xs : List A) (y : ℕ) (none : A) → set xs y (get_or xs y none) ≡ xs
+set_same [] y none = refl
+set_same (x ∷ xs) zero none = refl
+set_same (x ∷ xs) (suc y) none = ap (λ ys. x ∷ ys) (set_same xs y none)
 
 -- a border changes nothing
-pub parted_same : (s : Sheet) (y x : ℕ) → IsNarrow s → s ≡ parted_at s y x
+pub parted_same : (s : GridView) (y x : ℕ) → IsNarrow s → s ≡ split_wide_at s y x
 parted_same s y x h =
-    sym (ap (λ (row : List Cell). with_row s y row) (row-same x (row_at s y) (row-narrow s y h))
-    ∙ ap (λ (rows : List (List Cell)). record s { cells = rows }) (set-same s.cells y []))
+    sym (ap (λ (row : List Cell). with_row s y row) (row_same x (row_at s y) (row_narrow s y h))
+    ∙ ap (λ (rows : List (List Cell)). record s { cells = rows }) (set_same s.cells y []))
 
 -- two borders neither
-pub parted_between_same : (s : Sheet) (y x end : ℕ) → IsNarrow s → s ≡ parted_between s y x end
+pub parted_between_same : (s : GridView) (y x end : ℕ) → IsNarrow s → s ≡ split_wide_between s y x end
 parted_between_same s y x end h =
-    let first : s ≡ parted_at s y x = parted_same s y x h in
-    let second : parted_at s y x ≡ parted_at (parted_at s y x) y end =
-    subst (λ (t : Sheet). t ≡ parted_at t y end) first (parted_same s y end h) in
+    let first : s ≡ split_wide_at s y x = parted_same s y x h in
+    let second : split_wide_at s y x ≡ split_wide_at (split_wide_at s y x) y end =
+    subst (λ (t : GridView). t ≡ split_wide_at t y end) first (parted_same s y end h) in
     first ∙ second
 
-row-kept : (s : Sheet) (y : ℕ) (row : List Cell) → IsNarrow s → IsNarrowRow row → IsNarrow (with_row s y row)
-row-kept s y row h row_is = All-set IsNarrowRow s.cells y row row_is h
+row_kept : (s : GridView) (y : ℕ) (row : List Cell) → IsNarrow s → IsNarrowRow row → IsNarrow (with_row s y row)
+row_kept s y row h row_is = All-set IsNarrowRow s.cells y row row_is h
 
-overlaid-narrow : (x : ℕ) (cells row : List Cell) → IsNarrowRow row → IsNarrowRow cells
+overlaid_narrow : (x : ℕ) (cells row : List Cell) → IsNarrowRow row → IsNarrowRow cells
     → IsNarrowRow (overlaid x cells row)
-overlaid-narrow x cells row h cells_are =
+overlaid_narrow x cells row h cells_are =
     All-append One (take x row) (cells ++ drop (x + length cells) row) (All-take One x row h)
     (All-append One cells (drop (x + length cells) row) cells_are (All-drop One (x + length cells) row h))
 
-pub run_narrow : (s : Sheet) (y x : ℕ) (cells : List Cell) → IsNarrow s → IsNarrowRow cells
+pub run_narrow : (s : GridView) (y x : ℕ) (cells : List Cell) → IsNarrow s → IsNarrowRow cells
     → IsNarrow (with_run s y x cells)
 run_narrow s y x cells h cells_are =
-    row-kept s y (overlaid x cells (row_at s y)) h (overlaid-narrow x cells (row_at s y) (row-narrow s y h) cells_are)
+    row_kept s y (overlaid x cells (row_at s y)) h (overlaid_narrow x cells (row_at s y) (row_narrow s y h) cells_are)
 
 pub repeated : (n : ℕ) (c : Cell) → is_half c ≡ false → IsNarrowRow (replicate n c)
 repeated n c one = All-replicate One n c one
 
-fresh-rows : (n cols : ℕ) (c : Cell) → is_half c ≡ false → All IsNarrowRow (replicate n (replicate cols c))
-fresh-rows n cols c one = All-replicate IsNarrowRow n (replicate cols c) (repeated cols c one)
+fresh_rows : (n cols : ℕ) (c : Cell) → is_half c ≡ false → All IsNarrowRow (replicate n (replicate cols c))
+fresh_rows n cols c one = All-replicate IsNarrowRow n (replicate cols c) (repeated cols c one)
 
-pub filled_narrow : (rows cols : ℕ) (c : Cell) → is_half c ≡ false → IsNarrow (filled rows cols c)
-filled_narrow rows cols c one = fresh-rows rows cols c one
+pub filled_narrow : (rows cols : ℕ) (c : Cell) → is_half c ≡ false → IsNarrow (filled_grid rows cols c)
+filled_narrow rows cols c one = fresh_rows rows cols c one
 
-pub scrolled_up_narrow : (s : Sheet) (top bottom n : ℕ) (c : Cell) → IsNarrow s → is_half c ≡ false
+pub scrolled_up_narrow : (s : GridView) (top bottom n : ℕ) (c : Cell) → IsNarrow s → is_half c ≡ false
     → IsNarrow (scrolled_up s top bottom n c)
 scrolled_up_narrow s top bottom n c h one =
     let height : ℕ = bottom + 1 - top in
@@ -95,28 +95,28 @@ scrolled_up_narrow s top bottom n c h one =
     (All-take IsNarrowRow top s.cells h)
     (All-append IsNarrowRow (drop count region ++ replicate count (replicate s.cols c)) (drop (bottom + 1) s.cells)
     (All-append IsNarrowRow (drop count region) (replicate count (replicate s.cols c))
-    (All-drop IsNarrowRow count region region_is) (fresh-rows count s.cols c one))
+    (All-drop IsNarrowRow count region region_is) (fresh_rows count s.cols c one))
     (All-drop IsNarrowRow (bottom + 1) s.cells h))
 
 -- stored rows: each edit of one, where what comes in is no half
-pub written-narrow : (x : ℕ) (cells : List Cell) (line : Line) → IsNarrowRow cells → IsNarrowLine line
-    → IsNarrowLine (written x cells line)
-written-narrow x cells line cells_are h = (overlaid-narrow x cells line.stored h.0 cells_are, h.1)
+pub with_stored_cells_narrow : (x : ℕ) (cells : List Cell) (line : StoredRow) → IsNarrowRow cells → IsNarrowLine line
+    → IsNarrowLine (with_stored_cells x cells line)
+with_stored_cells_narrow x cells line cells_are h = (overlaid_narrow x cells line.stored h.0 cells_are, h.1)
 
-pub reached-narrow : (x : ℕ) (line : Line) → IsNarrowLine line → IsNarrowLine (reached x line)
-reached-narrow x line h =
+pub stored_up_to_narrow : (x : ℕ) (line : StoredRow) → IsNarrowLine line → IsNarrowLine (stored_up_to x line)
+stored_up_to_narrow x line h =
     let more : ℕ = x - length line.stored in (
       All-append One line.stored (replicate more line.rest) h.0 (repeated more line.rest h.1),
       h.1,
     )
 
-pub cut-narrow : (len : ℕ) (c : Cell) (line : Line) → is_half c ≡ false → IsNarrowLine line
+pub cut_narrow : (len : ℕ) (c : Cell) (line : StoredRow) → is_half c ≡ false → IsNarrowLine line
     → IsNarrowLine (cut_at len c line)
-cut-narrow len c line one h = (All-take One len line.stored h.0, one)
+cut_narrow len c line one h = (All-take One len line.stored h.0, one)
 
-pub inserted-narrow : (cols x count : ℕ) (c : Cell) (line : Line) → is_half c ≡ false → IsNarrowLine line
-    → IsNarrowLine (inserted_at cols x count c line)
-inserted-narrow cols x count c line one h =
+pub inserted_narrow : (cols x count : ℕ) (c : Cell) (line : StoredRow) → is_half c ≡ false → IsNarrowLine line
+    → IsNarrowLine (with_stored_inserted cols x count c line)
+inserted_narrow cols x count c line one h =
     let row : List Cell = line.stored in (
       All-take One cols (take x row ++ (replicate count c ++ drop x row))
           (All-append One (take x row) (replicate count c ++ drop x row) (All-take One x row h.0)
@@ -124,78 +124,78 @@ inserted-narrow cols x count c line one h =
       h.1,
     )
 
-pub removed-narrow : (x count : ℕ) (c : Cell) (line : Line) → is_half c ≡ false → IsNarrowLine line
-    → IsNarrowLine (removed_at x count c line)
-removed-narrow x count c line one h =
+pub removed_narrow : (x count : ℕ) (c : Cell) (line : StoredRow) → is_half c ≡ false → IsNarrowLine line
+    → IsNarrowLine (with_stored_deleted x count c line)
+removed_narrow x count c line one h =
     let row : List Cell = line.stored in (
       All-append One (take x row) (drop (x + count) row) (All-take One x row h.0)
           (All-drop One (x + count) row h.0),
       one,
     )
 
-pub covered-narrow : (count : ℕ) (over line : Line) → IsNarrowLine over → IsNarrowLine line
-    → IsNarrowLine (covered count over line)
-covered-narrow count over line over_is h =
-    written-narrow 0 (take count (cells_of count over)) line
-    (All-take One count (cells_of count over) (reached-narrow count over over_is).0) h
+pub with_prefix_of_narrow : (count : ℕ) (over line : StoredRow) → IsNarrowLine over → IsNarrowLine line
+    → IsNarrowLine (with_prefix_of count over line)
+with_prefix_of_narrow count over line over_is h =
+    with_stored_cells_narrow 0 (take count (cells_of count over)) line
+    (All-take One count (cells_of count over) (stored_up_to_narrow count over over_is).0) h
 
 -- a row that is changed in its place
-pub changed-narrow : (shelves : List Shelf) (p : ℕ) (old new : Shelf) (change : Line → Line)
+pub changed_narrow : (shelves : List RowSlot) (p : ℕ) (old new : RowSlot) (change : StoredRow → StoredRow)
     → old ≡ get_or shelves p old → new.line ≡ change old.line
-    → ((line : Line) → IsNarrowLine line → IsNarrowLine (change line)) → AreNarrow shelves
+    → ((line : StoredRow) → IsNarrowLine line → IsNarrowLine (change line)) → AreNarrow shelves
     → AreNarrow (set shelves p new)
-changed-narrow shelves p old new change old_is new_is kept h =
+changed_narrow shelves p old new change old_is new_is kept h =
     elim (cases_lt p (length shelves)) [
       | inl within ↦
           All-set (λ shelf. IsNarrowLine shelf.line) shelves p new
           (subst IsNarrowLine (sym new_is)
-          (kept old.line (subst (λ (s : Shelf). IsNarrowLine s.line) (sym old_is) (h p old within))))
+          (kept old.line (subst (λ (s : RowSlot). IsNarrowLine s.line) (sym old_is) (h p old within))))
           h
       | inr past ↦ subst AreNarrow (sym (set_past shelves p new past)) h
     ]
 
 -- the row that a number names, or the blank one
-slot-narrow : (shelves : List Shelf) → AreNarrow shelves → (p : ℕ) → IsNarrowLine (shelf_at shelves p).line
-slot-narrow shelves h p =
+slot_narrow : (shelves : List RowSlot) → AreNarrow shelves → (p : ℕ) → IsNarrowLine (slot_at shelves p).line
+slot_narrow shelves h p =
     elim (cases_lt p (length shelves)) [
-      | inl within ↦ h p no_shelf within
+      | inl within ↦ h p no_slot within
       | inr past ↦
-          subst (λ (s : Shelf). IsNarrowLine s.line) (sym (get_or_past shelves p no_shelf past))
+          subst (λ (s : RowSlot). IsNarrowLine s.line) (sym (get_or_past shelves p no_slot past))
           (All-nil One, refl)
     ]
 
-pub named-narrow : (order : List ℕ) (shelves : List Shelf) → AreNarrow shelves
-    → All IsNarrowLine (named shelves order)
-named-narrow order shelves h =
-    All-map IsNarrowLine (λ p. (shelf_at shelves p).line) order
-    (λ y d within. slot-narrow shelves h (get_or order y d))
+pub rows_by_number_narrow : (order : List ℕ) (shelves : List RowSlot) → AreNarrow shelves
+    → All IsNarrowLine (rows_by_number shelves order)
+rows_by_number_narrow order shelves h =
+    All-map IsNarrowLine (λ p. (slot_at shelves p).line) order
+    (λ y d within. slot_narrow shelves h (get_or order y d))
 
 -- rows that are made blank, by their numbers or all
-pub cut_all-narrow : (order : List ℕ) (c : Cell) (shelves : List Shelf) → is_half c ≡ false
+pub cut_all_narrow : (order : List ℕ) (c : Cell) (shelves : List RowSlot) → is_half c ≡ false
     → AreNarrow shelves → AreNarrow (cut_all order c shelves)
-cut_all-narrow [] c shelves one h = h
-cut_all-narrow (p ∷ order) c shelves one h =
-    let slot : Shelf = blank_slot c (shelf_at shelves p) in
-    cut_all-narrow order c (set shelves p slot) one
+cut_all_narrow [] c shelves one h = h
+cut_all_narrow (p ∷ order) c shelves one h =
+    let slot : RowSlot = blank_slot c (slot_at shelves p) in
+    cut_all_narrow order c (set shelves p slot) one
     (All-set (λ shelf. IsNarrowLine shelf.line) shelves p slot (All-nil One, one) h)
 
-pub blank-narrow : (c : Cell) (shelves : List Shelf) → is_half c ≡ false
+pub blank_narrow : (c : Cell) (shelves : List RowSlot) → is_half c ≡ false
     → AreNarrow (map (blank_slot c) shelves)
-blank-narrow c shelves one =
+blank_narrow c shelves one =
     All-map (λ shelf. IsNarrowLine shelf.line) (blank_slot c) shelves (λ p d within. (All-nil One, one))
 
 -- the grid that rows show
-pub shown-narrow : (s : Store) → All IsNarrowLine s.lines → IsNarrow (sheet_shown s)
-shown-narrow s h =
+pub shown_narrow : (s : Store) → All IsNarrowLine s.lines → IsNarrow (grid_view s)
+shown_narrow s h =
     All-map IsNarrowRow (cells_of s.cols) s.lines
     (All-weaker IsNarrowLine (λ line. IsNarrowRow (cells_of s.cols line))
-    (λ line line_is. (reached-narrow s.cols line line_is).0) s.lines h)
+    (λ line line_is. (stored_up_to_narrow s.cols line line_is).0) s.lines h)
 
 -- the cells of codes of which none is that of a half
-pub cells-narrow : {A : Type 0} (code_of : A → ℕ) (codes : List A) (attr : ℕ)
+pub cells_narrow : {A : Type 0} (code_of : A → ℕ) (codes : List A) (attr : ℕ)
     → list_all (λ c. not (code_of c == half)) codes ≡ true
     → IsNarrowRow (map (λ c. record { code = code_of c; attr = attr }) codes)
-cells-narrow {A = A} code_of codes attr h =
+cells_narrow {A = A} code_of codes attr h =
     All-map One (λ c. record { code = code_of c; attr = attr }) codes (each codes h)
   where
     not_true : (test : Bool) → not test ≡ true → test ≡ false

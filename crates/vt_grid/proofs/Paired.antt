@@ -5,19 +5,19 @@ use Rattle.std.proofs.lemmas.Bool.{cases_lt}
 use Rattle.std.proofs.lemmas.List.{drop-replicate, get_or-set_same, get_or_past, length-replicate, length-set}
 use Rattle.std.proofs.lemmas.List.Elements.{All-append, All-cons, All-drop, All-head, All-map, All-nil, All-replicate, All-set, All-tail, All-take, All-weaker}
 use Rattle.vt_cells.specs.Width.{is_half}
-use Rattle.vt_grid.proofs.Border.{half_at, parted-clear, parted-fewer}
-use Rattle.vt_grid.specs.Grid.{Sheet, deleted, erased, filled, inserted, laid_over, overlaid, resized, row_at, rows_laid_over, scrolled_down, scrolled_up, with_row}
-use Rattle.vt_grid.specs.Halves.{ArePaired, IsPaired, IsPairedRow, drawn, pair_parted, parted, parted_at, parted_between, parted_rows, spaced}
+use Rattle.vt_grid.proofs.Border.{half_at, split_wide_clear, split_wide_fewer}
+use Rattle.vt_grid.specs.Grid.{GridView, with_deleted, with_erased, filled_grid, with_inserted, laid_over, overlaid, resized_grid, row_at, rows_laid_over, scrolled_down, scrolled_up, with_row}
+use Rattle.vt_grid.specs.Halves.{ArePaired, IsPaired, IsPairedRow, with_cells_at, split_pair, split_wide, split_wide_at, split_wide_between, split_wide_rows, space_in_colours}
 use Rattle.vt_grid.specs.Laws.{EditsKeepHalves}
 use Rattle.vt_cells.specs.declared.cell.Cell.{Cell}
 
-none-after : (after : Bool) (c : Cell) → is_half c ≡ false → (after && is_half c) ≡ false
-none-after true c is = is
-none-after false c is = refl
+none_after : (after : Bool) (c : Cell) → is_half c ≡ false → (after && is_half c) ≡ false
+none_after true c is = is
+none_after false c is = refl
 
 weaker : (after : Bool) (cells : List Cell) → ArePaired true cells → ArePaired after cells
 weaker after [] h = tt
-weaker after (c ∷ cells) h = (none-after after c h.0, h.1)
+weaker after (c ∷ cells) h = (none_after after c h.0, h.1)
 
 joined : (after : Bool) (a b : List Cell) → ArePaired after a → ArePaired true b → ArePaired after (a ++ b)
 joined after [] b first second = weaker after b second
@@ -37,142 +37,142 @@ dropped after (suc n) (c ∷ cells) h clear = dropped (is_half c) n cells h.1 cl
 
 repeated : (after : Bool) (n : ℕ) (c : Cell) → is_half c ≡ false → ArePaired after (replicate n c)
 repeated after zero c is = tt
-repeated after (suc n) c is = (none-after after c is, repeated (is_half c) n c is)
+repeated after (suc n) c is = (none_after after c is, repeated (is_half c) n c is)
 
-pair-keeps : (after : Bool) (cells : List Cell) → ArePaired after cells → ArePaired after (pair_parted cells)
-pair-keeps after [] h = tt
-pair-keeps after (a ∷ []) h = h
-pair-keeps after (a ∷ b ∷ cells) h = by (is_half b) refl
+pair_keeps : (after : Bool) (cells : List Cell) → ArePaired after cells → ArePaired after (split_pair cells)
+pair_keeps after [] h = tt
+pair_keeps after (a ∷ []) h = h
+pair_keeps after (a ∷ b ∷ cells) h = by (is_half b) refl
   where
     by : (test : Bool) → is_half b ≡ test
-        → ArePaired after (cond test (spaced a ∷ spaced b ∷ cells) (a ∷ b ∷ cells))
+        → ArePaired after (cond test (space_in_colours a ∷ space_in_colours b ∷ cells) (a ∷ b ∷ cells))
     by true is =
-        (none-after after (spaced a) refl, (refl, weaker false cells (subst (λ t. ArePaired t cells) is h.1.1)))
+        (none_after after (space_in_colours a) refl, (refl, weaker false cells (subst (λ t. ArePaired t cells) is h.1.1)))
     by false is = h
 
-parted-keeps : (x : ℕ) (after : Bool) (row : List Cell) → ArePaired after row
-    → ArePaired after (take x row ++ pair_parted (drop x row))
-parted-keeps zero after row h = pair-keeps after row h
-parted-keeps (suc x) after [] h = tt
-parted-keeps (suc x) after (c ∷ row) h = (h.0, parted-keeps x (is_half c) row h.1)
+split_wide_keeps : (x : ℕ) (after : Bool) (row : List Cell) → ArePaired after row
+    → ArePaired after (take x row ++ split_pair (drop x row))
+split_wide_keeps zero after row h = pair_keeps after row h
+split_wide_keeps (suc x) after [] h = tt
+split_wide_keeps (suc x) after (c ∷ row) h = (h.0, split_wide_keeps x (is_half c) row h.1)
 
-parted-paired : (x : ℕ) (row : List Cell) → IsPairedRow row → IsPairedRow (parted x row)
-parted-paired zero row h = h
-parted-paired (suc x) row h = parted-keeps x true row h
+split_wide_paired : (x : ℕ) (row : List Cell) → IsPairedRow row → IsPairedRow (split_wide x row)
+split_wide_paired zero row h = h
+split_wide_paired (suc x) row h = split_wide_keeps x true row h
 
 -- the row at a place
-row-paired : (s : Sheet) (y : ℕ) → IsPaired s → IsPairedRow (row_at s y)
-row-paired s y h =
+row_paired : (s : GridView) (y : ℕ) → IsPaired s → IsPairedRow (row_at s y)
+row_paired s y h =
     elim (cases_lt y (length s.cells)) [
       | inl within ↦ h y [] within
       | inr past ↦ subst IsPairedRow (sym (get_or_past s.cells y [] past)) tt
     ]
 
-pub with-row-paired : (s : Sheet) (y : ℕ) (row : List Cell) → IsPaired s → IsPairedRow row
+pub with_row_paired : (s : GridView) (y : ℕ) (row : List Cell) → IsPaired s → IsPairedRow row
     → IsPaired (with_row s y row)
-with-row-paired s y row h row_is = All-set IsPairedRow s.cells y row row_is h
+with_row_paired s y row h row_is = All-set IsPairedRow s.cells y row row_is h
 
 -- a sheet whose row at y is paired, and has no half at these columns
-record IsCut (s : Sheet) (y x end : ℕ) : Type 0 where
+record IsCut (s : GridView) (y x end : ℕ) : Type 0 where
   pub paired : IsPaired s
   pub first : 0 < x → half_at x (row_at s y) ≡ false
   pub last : 0 < end → half_at end (row_at s y) ≡ false
 
 -- a border makes the column clear, and leaves clear ones so
-row-now : (s : Sheet) (y : ℕ) (row : List Cell) (P : List Cell → Type 0) → P row → P [] → P (row_at (with_row s y row) y)
-row-now s y row P is none =
+row_now : (s : GridView) (y : ℕ) (row : List Cell) (P : List Cell → Type 0) → P row → P [] → P (row_at (with_row s y row) y)
+row_now s y row P is none =
     elim (cases_lt y (length s.cells)) [
       | inl within ↦ subst P (sym (get_or-set_same s.cells y row [] within)) is
       | inr past ↦ subst P (sym (get_or_past (set s.cells y row) y [] (omega (arith, past, length-set s.cells y row)))) none
     ]
 
-cut : (s : Sheet) (y x end : ℕ) → IsPaired s → IsCut (parted_between s y x end) y x end
+cut : (s : GridView) (y x end : ℕ) → IsPaired s → IsCut (split_wide_between s y x end) y x end
 cut s y x end h =
-    let one = parted_at s y x in
+    let one = split_wide_at s y x in
     let row = row_at one y in
-    let one_paired : IsPaired one = with-row-paired s y (parted x (row_at s y)) h (parted-paired x (row_at s y) (row-paired s y h)) in
-    let two_paired : IsPaired (parted_between s y x end) =
-    with-row-paired one y (parted end row) one_paired (parted-paired end row (row-paired one y one_paired)) in
+    let one_paired : IsPaired one = with_row_paired s y (split_wide x (row_at s y)) h (split_wide_paired x (row_at s y) (row_paired s y h)) in
+    let two_paired : IsPaired (split_wide_between s y x end) =
+    with_row_paired one y (split_wide end row) one_paired (split_wide_paired end row (row_paired one y one_paired)) in
     record {
       paired = two_paired;
       first =
           λ some.
-          row-now one y (parted end row) (λ cells. half_at x cells ≡ false)
-          (parted-fewer end x row
-          (row-now s y (parted x (row_at s y)) (λ cells. half_at x cells ≡ false) (parted-clear x (row_at s y) some) refl)) refl;
+          row_now one y (split_wide end row) (λ cells. half_at x cells ≡ false)
+          (split_wide_fewer end x row
+          (row_now s y (split_wide x (row_at s y)) (λ cells. half_at x cells ≡ false) (split_wide_clear x (row_at s y) some) refl)) refl;
       last =
-          λ some. row-now one y (parted end row) (λ cells. half_at end cells ≡ false) (parted-clear end row some) refl;
+          λ some. row_now one y (split_wide end row) (λ cells. half_at end cells ≡ false) (split_wide_clear end row some) refl;
     }
 
 -- what stands behind a clear column
-dropped-clear : (n : ℕ) (row : List Cell) → IsPairedRow row → (0 < n → half_at n row ≡ false)
+dropped_clear : (n : ℕ) (row : List Cell) → IsPairedRow row → (0 < n → half_at n row ≡ false)
     → ArePaired true (drop n row)
-dropped-clear zero row h clear = h
-dropped-clear (suc n) row h clear = dropped true (suc n) row h (clear (let some : 0 < suc n = omega arith in some))
+dropped_clear zero row h clear = h
+dropped_clear (suc n) row h clear = dropped true (suc n) row h (clear (let some : 0 < suc n = omega arith in some))
 
-overlaid-paired : (x end : ℕ) (cells row : List Cell) → IsPairedRow row → ArePaired true cells
+overlaid_paired : (x end : ℕ) (cells row : List Cell) → IsPairedRow row → ArePaired true cells
     → (0 < end → half_at end row ≡ false) → x + length cells ≡ end
     → IsPairedRow (overlaid x cells row)
-overlaid-paired x end cells row h cells_are clear end_is =
+overlaid_paired x end cells row h cells_are clear end_is =
     joined true (take x row) (cells ++ drop (x + length cells) row) (taken true x row h)
     (joined true cells (drop (x + length cells) row) cells_are
-    (subst (λ n. ArePaired true (drop n row)) (sym end_is) (dropped-clear end row h clear)))
+    (subst (λ n. ArePaired true (drop n row)) (sym end_is) (dropped_clear end row h clear)))
 
-drawing : (s : Sheet) (y x : ℕ) (cells : List Cell) → IsPaired s → ArePaired true cells
-    → IsPaired (drawn s y x cells)
+drawing : (s : GridView) (y x : ℕ) (cells : List Cell) → IsPaired s → ArePaired true cells
+    → IsPaired (with_cells_at s y x cells)
 drawing s y x cells h cells_are =
     let end = x + length cells in
-    let t = parted_between s y x end in
+    let t = split_wide_between s y x end in
     let is : IsCut t y x end = cut s y x end h in
-    with-row-paired t y (overlaid x cells (row_at t y)) is.paired
-    (overlaid-paired x end cells (row_at t y) (row-paired t y is.paired) cells_are is.last refl)
+    with_row_paired t y (overlaid x cells (row_at t y)) is.paired
+    (overlaid_paired x end cells (row_at t y) (row_paired t y is.paired) cells_are is.last refl)
 
-inserting : (s : Sheet) (y x end n : ℕ) (c : Cell) → IsPaired s → is_half c ≡ false
-    → IsPaired (inserted (parted_between s y x end) y x n c)
+inserting : (s : GridView) (y x end n : ℕ) (c : Cell) → IsPaired s → is_half c ≡ false
+    → IsPaired (with_inserted (split_wide_between s y x end) y x n c)
 inserting s y x end n c h none =
-    let t = parted_between s y x end in
+    let t = split_wide_between s y x end in
     let is : IsCut t y x end = cut s y x end h in
     let row = row_at t y in
-    let row_is : IsPairedRow row = row-paired t y is.paired in
-    with-row-paired t y (take t.cols (take x row ++ (replicate n c ++ drop x row))) is.paired
+    let row_is : IsPairedRow row = row_paired t y is.paired in
+    with_row_paired t y (take t.cols (take x row ++ (replicate n c ++ drop x row))) is.paired
     (taken true t.cols (take x row ++ (replicate n c ++ drop x row))
     (joined true (take x row) (replicate n c ++ drop x row) (taken true x row row_is)
-    (joined true (replicate n c) (drop x row) (repeated true n c none) (dropped-clear x row row_is is.first))))
+    (joined true (replicate n c) (drop x row) (repeated true n c none) (dropped_clear x row row_is is.first))))
 
-deleting : (s : Sheet) (y x n : ℕ) (c : Cell) → IsPaired s → is_half c ≡ false
-    → IsPaired (deleted (parted_between s y x (x + n)) y x n c)
+deleting : (s : GridView) (y x n : ℕ) (c : Cell) → IsPaired s → is_half c ≡ false
+    → IsPaired (with_deleted (split_wide_between s y x (x + n)) y x n c)
 deleting s y x n c h none =
-    let t = parted_between s y x (x + n) in
+    let t = split_wide_between s y x (x + n) in
     let is : IsCut t y x (x + n) = cut s y x (x + n) h in
     let row = row_at t y in
-    let row_is : IsPairedRow row = row-paired t y is.paired in
+    let row_is : IsPairedRow row = row_paired t y is.paired in
     let left = take x row ++ drop (x + n) row in
-    with-row-paired t y (left ++ replicate (t.cols - length left) c) is.paired
+    with_row_paired t y (left ++ replicate (t.cols - length left) c) is.paired
     (joined true left (replicate (t.cols - length left) c)
-    (joined true (take x row) (drop (x + n) row) (taken true x row row_is) (dropped-clear (x + n) row row_is is.last))
+    (joined true (take x row) (drop (x + n) row) (taken true x row row_is) (dropped_clear (x + n) row row_is is.last))
     (repeated true (t.cols - length left) c none))
 
-erasing : (s : Sheet) (y x0 x1 : ℕ) (c : Cell) → IsPaired s → is_half c ≡ false
-    → IsPaired (erased (parted_between s y x0 (x1 + 1)) y x0 x1 c)
+erasing : (s : GridView) (y x0 x1 : ℕ) (c : Cell) → IsPaired s → is_half c ≡ false
+    → IsPaired (with_erased (split_wide_between s y x0 (x1 + 1)) y x0 x1 c)
 erasing s y x0 x1 c h none =
-    let t = parted_between s y x0 (x1 + 1) in
+    let t = split_wide_between s y x0 (x1 + 1) in
     let is : IsCut t y x0 (x1 + 1) = cut s y x0 (x1 + 1) h in
     let row = row_at t y in
-    let row_is : IsPairedRow row = row-paired t y is.paired in
+    let row_is : IsPairedRow row = row_paired t y is.paired in
     let count = x1 + 1 - x0 in
     let len : length (replicate count c) ≡ count = length-replicate count c in
-    with-row-paired t y (overlaid x0 (replicate count c) row) is.paired
+    with_row_paired t y (overlaid x0 (replicate count c) row) is.paired
     (elim (cases_lt x1 x0) [
       | inl none_there ↦
-          overlaid-paired x0 x0 (replicate count c) row row_is (repeated true count c none) is.first (omega (arith, len, none_there))
+          overlaid_paired x0 x0 (replicate count c) row row_is (repeated true count c none) is.first (omega (arith, len, none_there))
       | inr order ↦
-          overlaid-paired x0 (x1 + 1) (replicate count c) row row_is (repeated true count c none) is.last (omega (arith, len, order))
+          overlaid_paired x0 (x1 + 1) (replicate count c) row row_is (repeated true count c none) is.last (omega (arith, len, order))
     ])
 
 fresh_rows : (n cols : ℕ) (c : Cell) → is_half c ≡ false → All IsPairedRow (replicate n (replicate cols c))
 fresh_rows n cols c none = All-replicate IsPairedRow n (replicate cols c) (repeated true cols c none)
 
-scrolling_up : (s : Sheet) (top bottom n : ℕ) (c : Cell) → IsPaired s → is_half c ≡ false
+scrolling_up : (s : GridView) (top bottom n : ℕ) (c : Cell) → IsPaired s → is_half c ≡ false
     → IsPaired (scrolled_up s top bottom n c)
 scrolling_up s top bottom n c h none =
     let height = bottom + 1 - top in
@@ -188,7 +188,7 @@ scrolling_up s top bottom n c h none =
     (All-drop IsPairedRow count region region_is) (fresh_rows count s.cols c none))
     (All-drop IsPairedRow (bottom + 1) s.cells h))
 
-scrolling_down : (s : Sheet) (top bottom n : ℕ) (c : Cell) → IsPaired s → is_half c ≡ false
+scrolling_down : (s : GridView) (top bottom n : ℕ) (c : Cell) → IsPaired s → is_half c ≡ false
     → IsPaired (scrolled_down s top bottom n c)
 scrolling_down s top bottom n c h none =
     let height = bottom + 1 - top in
@@ -206,30 +206,30 @@ scrolling_down s top bottom n c h none =
     (All-drop IsPairedRow (bottom + 1) s.cells h))
 
 -- rows laid over blank ones
-laid-paired : (rows : List (List Cell)) (n cols : ℕ) (c : Cell) → All IsPairedRow rows → is_half c ≡ false
+laid_paired : (rows : List (List Cell)) (n cols : ℕ) (c : Cell) → All IsPairedRow rows → is_half c ≡ false
     → All IsPairedRow (rows_laid_over rows (replicate n (replicate cols c)))
-laid-paired [] n cols c h none = fresh_rows n cols c none
-laid-paired (row ∷ rows) zero cols c h none = All-nil IsPairedRow
-laid-paired (row ∷ rows) (suc n) cols c h none =
+laid_paired [] n cols c h none = fresh_rows n cols c none
+laid_paired (row ∷ rows) zero cols c h none = All-nil IsPairedRow
+laid_paired (row ∷ rows) (suc n) cols c h none =
     let under = replicate cols c in
     All-cons IsPairedRow (laid_over row under) (rows_laid_over rows (replicate n under))
     (joined true (take (length under) row) (drop (length row) under)
     (taken true (length under) row (All-head IsPairedRow row rows h))
     (subst (λ (cells : List Cell). ArePaired true cells) (sym (drop-replicate (length row) cols c))
     (repeated true (cols - length row) c none)))
-    (laid-paired rows n cols c (All-tail IsPairedRow row rows h) none)
+    (laid_paired rows n cols c (All-tail IsPairedRow row rows h) none)
 
-resizing : (s : Sheet) (rows cols skip : ℕ) (c : Cell) → IsPaired s → is_half c ≡ false
-    → IsPaired (resized (parted_rows cols s) (filled rows cols c) skip)
+resizing : (s : GridView) (rows cols skip : ℕ) (c : Cell) → IsPaired s → is_half c ≡ false
+    → IsPaired (resized_grid (split_wide_rows cols s) (filled_grid rows cols c) skip)
 resizing s rows cols skip c h none =
-    laid-paired (drop skip (map (parted cols) s.cells)) rows cols c
-    (All-drop IsPairedRow skip (map (parted cols) s.cells)
-    (All-map IsPairedRow (parted cols) s.cells
-    (All-weaker IsPairedRow (λ row. IsPairedRow (parted cols row)) (λ row. parted-paired cols row) s.cells h)))
+    laid_paired (drop skip (map (split_wide cols) s.cells)) rows cols c
+    (All-drop IsPairedRow skip (map (split_wide cols) s.cells)
+    (All-map IsPairedRow (split_wide cols) s.cells
+    (All-weaker IsPairedRow (λ row. IsPairedRow (split_wide cols row)) (λ row. split_wide_paired cols row) s.cells h)))
     none
 
-pub edits-keep-halves : EditsKeepHalves
-edits-keep-halves = record {
+pub edits_keep_halves : EditsKeepHalves
+edits_keep_halves = record {
   drawing = drawing;
   inserting = inserting;
   deleting = deleting;

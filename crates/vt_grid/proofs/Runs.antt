@@ -6,16 +6,16 @@ use Rattle.vt_grid.specs.Grid.{row_at, overlaid, with_cell}
 use Rattle.vt_grid.specs.Laws.{CellKeepsWidth, RunOfMore, RunOfNone}
 use Rattle.vt_cells.specs.declared.cell.Cell.{Cell}
 
-pub run-of-none : RunOfNone
-run-of-none s y x =
+pub run_of_none : RunOfNone
+run_of_none s y x =
     ap (λ (cells : List (List Cell)). record s { cells = cells })
     (ap (set s.cells y)
     (ap (λ k. take x (row_at s y) ++ drop k (row_at s y)) (add-zero x)
     ∙ take-append-drop x (row_at s y))
     ∙ set-get_or s.cells y [])
 
-pub cell-keeps-width : CellKeepsWidth
-cell-keeps-width s y x c =
+pub cell_keeps_width : CellKeepsWidth
+cell_keeps_width s y x c =
     let now = set (row_at s y) x c in
     elim (cases_lt y (length s.cells)) [
       | inl within ↦
@@ -25,9 +25,9 @@ cell-keeps-width s y x c =
     ]
 
 -- the run of the others goes on from the first cell
-overlaid-more : (x : ℕ) (c : Cell) (cells row : List Cell) → x < length row
+overlaid_more : (x : ℕ) (c : Cell) (cells row : List Cell) → x < length row
     → overlaid x (c ∷ cells) row ≡ overlaid (x + 1) cells (set row x c)
-overlaid-more x c cells row within =
+overlaid_more x c cells row within =
     let rest = drop (x + 1 + length cells) row in
     sym
     ((λ i. take_more_set row x c within i
@@ -35,14 +35,14 @@ overlaid-more x c cells row within =
     ∙ append_assoc (take x row) (c ∷ []) (cells ++ rest)
     ∙ ap (λ k. take x row ++ c ∷ (cells ++ drop k row)) (omega arith))
 
-pub run-of-more : RunOfMore
-run-of-more s y x c cells within =
+pub run_of_more : RunOfMore
+run_of_more s y x c cells within =
     let row = row_at s y in
     let first = set row x c in
     elim (cases_lt y (length s.cells)) [
       | inl in_rows ↦
           ap (λ (now : List Cell). record s { cells = set s.cells y now })
-          (overlaid-more x c cells row within
+          (overlaid_more x c cells row within
           ∙ ap (overlaid (x + 1) cells) (sym (get_or-set_same s.cells y first [] in_rows)))
           ∙ ap (λ (rows : List (List Cell)). record s { cells = rows })
           (sym (set-set s.cells y first (overlaid (x + 1) cells (row_at (with_cell s y x c) y))))

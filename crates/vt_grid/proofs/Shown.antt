@@ -3,12 +3,12 @@ use Rattle.std.proofs.Common.{◌≡◌, ℕ, ◌+◌, ◌-◌, ◌<◌, ◌≤�
 use Rattle.std.proofs.lemmas.List.{places, same_lists, length-map, get_or-map, map-set, length-append, length-replicate, get_or-replicate, set_split}
 use Rattle.std.proofs.lemmas.List.Elements.{All-map, All-weaker}
 use Rattle.std.proofs.lemmas.Option.{slice_get-get_or}
-use Rattle.vt_grid.specs.Grid.{Sheet, sheet_of, row_at, IsFull, HasCellAt, filled, overlaid, with_cell, with_row, with_run}
-use Rattle.vt_grid.specs.Line.{Line, blank_line, cell_at, cells_of, written, reached, cut_at}
-use Rattle.vt_grid.specs.Store.{Store, no_line, line_at, with_line, IsFit, blank_store, sheet_shown}
+use Rattle.vt_grid.specs.Grid.{GridView, grid_view_of, row_at, IsFull, HasCellAt, filled_grid, overlaid, with_cell, with_row, with_run}
+use Rattle.vt_grid.specs.StoredRow.{StoredRow, blank_row, cell_at, cells_of, with_stored_cells, stored_up_to, cut_at}
+use Rattle.vt_grid.specs.Store.{Store, no_row, stored_row, with_stored_row, IsFit, blank_store, grid_view}
 use Rattle.vt_cells.specs.declared.cell.Cell.{Cell}
 
-pub length-cells_of : (cols : ℕ) (line : Line) → length line.stored ≤ cols
+pub length-cells_of : (cols : ℕ) (line : StoredRow) → length line.stored ≤ cols
     → length (cells_of cols line) ≡ cols
 length-cells_of cols line short =
     omega (
@@ -17,29 +17,29 @@ length-cells_of cols line short =
       length-replicate (cols - length line.stored) line.rest,
     )
 
-pub get_or-cells_of : (cols : ℕ) (line : Line) (x : ℕ) (d : Cell) → x < cols
+pub get_or-cells_of : (cols : ℕ) (line : StoredRow) (x : ℕ) (d : Cell) → x < cols
     → get_or (cells_of cols line) x d ≡ cell_at line x
 get_or-cells_of cols line x d x_in = grind (arith, places)
 
-pub cells_of-written : (cols x : ℕ) (cells : List Cell) (line : Line) → x ≤ length line.stored
+pub cells_of-with_stored_cells : (cols x : ℕ) (cells : List Cell) (line : StoredRow) → x ≤ length line.stored
     → length line.stored ≤ cols → x + length cells ≤ cols
-    → cells_of cols (written x cells line) ≡ overlaid x cells (cells_of cols line)
-cells_of-written cols x cells line place short in_cols =
+    → cells_of cols (with_stored_cells x cells line) ≡ overlaid x cells (cells_of cols line)
+cells_of-with_stored_cells cols x cells line place short in_cols =
     same_lists _ _ (search (rules, places)) (λ k d k_in. grind (arith, places))
 
-pub cells_of-reached : (cols x : ℕ) (line : Line) → length line.stored ≤ cols → x ≤ cols
-    → cells_of cols (reached x line) ≡ cells_of cols line
-cells_of-reached cols x line short in_cols =
+pub cells_of-stored_up_to : (cols x : ℕ) (line : StoredRow) → length line.stored ≤ cols → x ≤ cols
+    → cells_of cols (stored_up_to x line) ≡ cells_of cols line
+cells_of-stored_up_to cols x line short in_cols =
     same_lists _ _ (search (rules, places)) (λ k d k_in. grind (arith, places))
 
-pub cells_of-cut_at : (cols len : ℕ) (c : Cell) (line : Line) → len ≤ length line.stored
+pub cells_of-cut_at : (cols len : ℕ) (c : Cell) (line : StoredRow) → len ≤ length line.stored
     → length line.stored ≤ cols
     → cells_of cols (cut_at len c line) ≡ take len (cells_of cols line) ++ replicate (cols - len) c
 cells_of-cut_at cols len c line in_stored short =
     same_lists _ _ (search (rules, places)) (λ k d k_in. grind (arith, places))
 
-pub cells_of-blank_line : (cols : ℕ) (c : Cell) → cells_of cols (blank_line c) ≡ replicate cols c
-cells_of-blank_line cols c =
+pub cells_of-blank_row : (cols : ℕ) (c : Cell) → cells_of cols (blank_row c) ≡ replicate cols c
+cells_of-blank_row cols c =
     same_lists _ _ (search (rules, places)) (λ k d k_in. grind (arith, places))
 
 pub map-replicate : {X Y : Type 0} (f : X → Y) (n : ℕ) (x : X)
@@ -56,14 +56,14 @@ map-replicate {Y = Y} f n x =
     ∙ sym (get_or-replicate n k (f x) d within))
 
 -- the row of a grid shows the stored row
-pub row_at-shown : (s : Store) (y : ℕ) → y < s.rows → IsFit s
-    → row_at (sheet_shown s) y ≡ cells_of s.cols (line_at s y)
-row_at-shown s y y_in fit =
-    get_or-map (cells_of s.cols) s.lines y no_line [] (omega (arith, fit.tall))
+pub row_at_shown : (s : Store) (y : ℕ) → y < s.rows → IsFit s
+    → row_at (grid_view s) y ≡ cells_of s.cols (stored_row s y)
+row_at_shown s y y_in fit =
+    get_or-map (cells_of s.cols) s.lines y no_row [] (omega (arith, fit.tall))
 
 -- the grid that stored rows show is full
-pub IsFull-shown : (s : Store) → IsFit s → IsFull (sheet_shown s)
-IsFull-shown s fit =
+pub IsFull_shown : (s : Store) → IsFit s → IsFull (grid_view s)
+IsFull_shown s fit =
     record {
       tall = length-map s.lines (cells_of s.cols) ∙ fit.tall;
       wide =
@@ -73,50 +73,50 @@ IsFull-shown s fit =
           (λ line short. length-cells_of s.cols line short) s.lines fit.short);
     }
 
-pub HasCellAt-shown : (s : Store) (y x : ℕ) → y < s.rows → x < s.cols → IsFit s
-    → HasCellAt (sheet_shown s) y x (cell_at (line_at s y) x)
-HasCellAt-shown s y x y_in x_in fit =
-    let line = line_at s y in
-    let short : length line.stored ≤ s.cols = fit.short y no_line (omega (arith, fit.tall)) in
-    rw (row_at-shown s y y_in fit)
+pub HasCellAt_shown : (s : Store) (y x : ℕ) → y < s.rows → x < s.cols → IsFit s
+    → HasCellAt (grid_view s) y x (cell_at (stored_row s y) x)
+HasCellAt_shown s y x y_in x_in fit =
+    let line = stored_row s y in
+    let short : length line.stored ≤ s.cols = fit.short y no_row (omega (arith, fit.tall)) in
+    rw (row_at_shown s y y_in fit)
     (slice_get-get_or (cells_of s.cols line) x line.rest
     (omega (arith, length-cells_of s.cols line short))
     ∙ ap Some (get_or-cells_of s.cols line x line.rest x_in))
 
 -- a new row, in the grid
-pub shown-with_line : (s : Store) (y : ℕ) (line : Line)
-    → sheet_shown (with_line s y line)
-    ≡ record (sheet_shown s) {
-      cells = set (sheet_shown s).cells y (cells_of s.cols line);
+pub shown_with_stored_row : (s : Store) (y : ℕ) (line : StoredRow)
+    → grid_view (with_stored_row s y line)
+    ≡ record (grid_view s) {
+      cells = set (grid_view s).cells y (cells_of s.cols line);
     }
-shown-with_line s y line =
-    ap (sheet_of s.rows s.cols) (map-set (cells_of s.cols) s.lines y line)
+shown_with_stored_row s y line =
+    ap (grid_view_of s.rows s.cols) (map-set (cells_of s.cols) s.lines y line)
 
-pub shown-blank_store : (rows cols : ℕ) (c : Cell)
-    → sheet_shown (blank_store rows cols c) ≡ filled rows cols c
-shown-blank_store rows cols c =
-    ap (sheet_of rows cols)
-    (map-replicate (cells_of cols) rows (blank_line c)
-    ∙ ap (replicate rows) (cells_of-blank_line cols c))
+pub shown_blank_store : (rows cols : ℕ) (c : Cell)
+    → grid_view (blank_store rows cols c) ≡ filled_grid rows cols c
+shown_blank_store rows cols c =
+    ap (grid_view_of rows cols)
+    (map-replicate (cells_of cols) rows (blank_row c)
+    ∙ ap (replicate rows) (cells_of-blank_row cols c))
 
 -- a row that is changed in the store is changed in the grid
-pub shown-changed : (s : Store) (y : ℕ) (line : Line → Line) (row : List Cell → List Cell)
+pub shown_changed : (s : Store) (y : ℕ) (line : StoredRow → StoredRow) (row : List Cell → List Cell)
     → y < s.rows → IsFit s
-    → ((l : Line) → length l.stored ≤ s.cols
+    → ((l : StoredRow) → length l.stored ≤ s.cols
     → cells_of s.cols (line l) ≡ row (cells_of s.cols l))
-    → sheet_shown (with_line s y (line (line_at s y)))
-    ≡ with_row (sheet_shown s) y (row (row_at (sheet_shown s) y))
-shown-changed s y line row y_in fit same =
-    let old = line_at s y in
-    let short : length old.stored ≤ s.cols = fit.short y no_line (omega (arith, fit.tall)) in
-    shown-with_line s y (line old)
-    ∙ ap (with_row (sheet_shown s) y)
-    (same old short ∙ ap row (sym (row_at-shown s y y_in fit)))
+    → grid_view (with_stored_row s y (line (stored_row s y)))
+    ≡ with_row (grid_view s) y (row (row_at (grid_view s) y))
+shown_changed s y line row y_in fit same =
+    let old = stored_row s y in
+    let short : length old.stored ≤ s.cols = fit.short y no_row (omega (arith, fit.tall)) in
+    shown_with_stored_row s y (line old)
+    ∙ ap (with_row (grid_view s) y)
+    (same old short ∙ ap row (sym (row_at_shown s y y_in fit)))
 
 -- a run of one cell
-pub with_run-one : (s : Sheet) (y x : ℕ) (c : Cell) → y < s.rows → x < s.cols → IsFull s
+pub with_run_one : (s : GridView) (y x : ℕ) (c : Cell) → y < s.rows → x < s.cols → IsFull s
     → with_run s y x (c ∷ []) ≡ with_cell s y x c
-with_run-one s y x c y_in x_in full =
+with_run_one s y x c y_in x_in full =
     let row = row_at s y in
     let wide : length row ≡ s.cols = full.wide y [] (omega (arith, full.tall)) in
     let row_is : set row x c ≡ overlaid x (c ∷ []) row =

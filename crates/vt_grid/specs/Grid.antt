@@ -4,34 +4,34 @@ use Rattle.vt_cells.specs.declared.cell.Cell.{Cell}
 
 -- how many rows and columns there are, and the rows from top to bottom, each its cells from left
 -- to right
-pub record Sheet : Type 0 where
+pub record GridView : Type 0 where
   pub rows : ℕ
   pub cols : ℕ
   pub cells : List (List Cell)
 
 -- the sheet of these rows
-abbrev pub sheet_of : ℕ → ℕ → List (List Cell) → Sheet
-sheet_of rows cols cells = record { rows = rows; cols = cols; cells = cells }
+abbrev pub grid_view_of : ℕ → ℕ → List (List Cell) → GridView
+grid_view_of rows cols cells = record { rows = rows; cols = cols; cells = cells }
 
 -- the row at y, counted from 0
-abbrev pub row_at : Sheet → ℕ → List Cell
+abbrev pub row_at : GridView → ℕ → List Cell
 row_at s y = slice_index_or s.cells y []
 
 -- the rows are as many, and each as long, as the numbers say
-pub record IsFull (s : Sheet) : Type 0 where
+pub record IsFull (s : GridView) : Type 0 where
   pub tall : length s.cells ≡ s.rows
   pub wide : All (λ row. length row ≡ s.cols) s.cells
 
 -- the cell in row y and column x is c
-abbrev pub HasCellAt : Sheet → ℕ → ℕ → Cell → Type 0
+abbrev pub HasCellAt : GridView → ℕ → ℕ → Cell → Type 0
 HasCellAt s y x c = slice_get (row_at s y) x ≡ Some c
 
 -- every cell is c
-abbrev pub filled : ℕ → ℕ → Cell → Sheet
-filled rows cols c = sheet_of rows cols (replicate rows (replicate cols c))
+abbrev pub filled_grid : ℕ → ℕ → Cell → GridView
+filled_grid rows cols c = grid_view_of rows cols (replicate rows (replicate cols c))
 
 -- one cell is c, and all others are as they were
-abbrev pub with_cell : Sheet → ℕ → ℕ → Cell → Sheet
+abbrev pub with_cell : GridView → ℕ → ℕ → Cell → GridView
 with_cell s y x c = record s { cells = slice_set s.cells y (slice_set (row_at s y) x c) }
 
 -- rows that move up by n: the first n are lost, and n fresh ones come in below
@@ -40,7 +40,7 @@ moved_up n fresh rows = drop n rows ++ replicate n fresh
 
 -- the rows top to bottom, both included, move up by n, or by their number where n is more; all
 -- other rows stay
-abbrev pub scrolled_up : Sheet → ℕ → ℕ → ℕ → Cell → Sheet
+abbrev pub scrolled_up : GridView → ℕ → ℕ → ℕ → Cell → GridView
 scrolled_up s top bottom n c =
     let height = bottom + 1 - top in
     record s {
@@ -59,28 +59,28 @@ abbrev pub overlaid : ℕ → List Cell → List Cell → List Cell
 overlaid x cells row = take x row ++ (cells ++ drop (x + length cells) row)
 
 -- the cells of row y from column x on are these, and all others are as they were
-abbrev pub with_run : Sheet → ℕ → ℕ → List Cell → Sheet
+abbrev pub with_run : GridView → ℕ → ℕ → List Cell → GridView
 with_run s y x cells =
     record s { cells = slice_set s.cells y (overlaid x cells (row_at s y)) }
 
 -- row y is this one, and all others are as they were
-abbrev pub with_row : Sheet → ℕ → List Cell → Sheet
+abbrev pub with_row : GridView → ℕ → List Cell → GridView
 with_row s y row = record s { cells = slice_set s.cells y row }
 
 -- the cells of row y from column x0 to x1, both included, are c, and all others are as they were
-abbrev pub erased : Sheet → ℕ → ℕ → ℕ → Cell → Sheet
-erased s y x0 x1 c = with_run s y x0 (replicate (x1 + 1 - x0) c)
+abbrev pub with_erased : GridView → ℕ → ℕ → ℕ → Cell → GridView
+with_erased s y x0 x1 c = with_run s y x0 (replicate (x1 + 1 - x0) c)
 
 -- n cells c come in at column x of row y: the row's rest moves right, and what passes its end is
 -- lost
-abbrev pub inserted : Sheet → ℕ → ℕ → ℕ → Cell → Sheet
-inserted s y x n c =
+abbrev pub with_inserted : GridView → ℕ → ℕ → ℕ → Cell → GridView
+with_inserted s y x n c =
     let row = row_at s y in
     with_row s y (take s.cols (take x row ++ (replicate n c ++ drop x row)))
 
 -- n cells go out at column x of row y: the row's rest moves left, and its end is filled with c
-abbrev pub deleted : Sheet → ℕ → ℕ → ℕ → Cell → Sheet
-deleted s y x n c =
+abbrev pub with_deleted : GridView → ℕ → ℕ → ℕ → Cell → GridView
+with_deleted s y x n c =
     let left = take x (row_at s y) ++ drop (x + n) (row_at s y) in
     with_row s y (left ++ replicate (s.cols - length left) c)
 
@@ -90,7 +90,7 @@ moved_down n fresh rows = replicate n fresh ++ take (length rows - n) rows
 
 -- the rows top to bottom, both included, move down by n, or by their number where n is more; all
 -- other rows stay
-abbrev pub scrolled_down : Sheet → ℕ → ℕ → ℕ → Cell → Sheet
+abbrev pub scrolled_down : GridView → ℕ → ℕ → ℕ → Cell → GridView
 scrolled_down s top bottom n c =
     let height = bottom + 1 - top in
     record s {
@@ -112,6 +112,6 @@ rows_laid_over (row ∷ rows) (under ∷ unders) = laid_over row under ∷ rows_
 
 -- the fresh grid, with the old cell of row y + skip and column x in row y and column x, where both
 -- are
-abbrev pub resized : Sheet → Sheet → ℕ → Sheet
-resized old fresh skip =
+abbrev pub resized_grid : GridView → GridView → ℕ → GridView
+resized_grid old fresh skip =
     record fresh { cells = rows_laid_over (drop skip old.cells) fresh.cells }

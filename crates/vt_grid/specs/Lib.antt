@@ -1,6 +1,6 @@
 pub mod Grid
 pub mod Halves
 pub mod Laws
-pub mod Line
+pub mod StoredRow
 pub mod Ring
 pub mod Store

@@ -1,22 +1,22 @@
 -- The rows of a grid as they are stored, and what each call makes of their list.
 use Rattle.std.specs.Prelude.{◌≡◌, ℕ, ◌+◌, ◌-◌, ◌≤◌, ◌==◌, if◌then◌else◌, min, List, ◌++◌, length, map, take, drop, replicate, slice_set, slice_index_or, All}
-use Rattle.vt_grid.specs.Grid.{Sheet, sheet_of}
-use Rattle.vt_grid.specs.Line.{Line, blank_line, cells_of}
+use Rattle.vt_grid.specs.Grid.{GridView, grid_view_of}
+use Rattle.vt_grid.specs.StoredRow.{StoredRow, blank_row, cells_of}
 use Rattle.vt_cells.specs.declared.cell.Cell.{Cell}
 
 -- how many rows and columns there are, and the rows from top to bottom
 pub record Store : Type 0 where
   pub rows : ℕ
   pub cols : ℕ
-  pub lines : List Line
+  pub lines : List StoredRow
 
 -- what a row outside the store is read as; no clause speaks of one
-abbrev pub no_line : Line
-no_line = blank_line (record { code = 0; attr = 0 })
+abbrev pub no_row : StoredRow
+no_row = blank_row (record { code = 0; attr = 0 })
 
 -- the row at y, counted from 0
-abbrev pub line_at : Store → ℕ → Line
-line_at s y = slice_index_or s.lines y no_line
+abbrev pub stored_row : Store → ℕ → StoredRow
+stored_row s y = slice_index_or s.lines y no_row
 
 -- the rows are as many as the number says, and none stores more cells than there are columns
 pub record IsFit (s : Store) : Type 0 where
@@ -26,30 +26,30 @@ pub record IsFit (s : Store) : Type 0 where
 -- every row stores no cell, and each cell is c
 abbrev pub blank_store : ℕ → ℕ → Cell → Store
 blank_store rows cols c =
-    record { rows = rows; cols = cols; lines = replicate rows (blank_line c) }
+    record { rows = rows; cols = cols; lines = replicate rows (blank_row c) }
 
 -- one row is this one, and all others are as they were
-abbrev pub with_line : Store → ℕ → Line → Store
-with_line s y line = record s { lines = slice_set s.lines y line }
+abbrev pub with_stored_row : Store → ℕ → StoredRow → Store
+with_stored_row s y line = record s { lines = slice_set s.lines y line }
 
 -- the elements move up by n round the end
-abbrev pub turned : {A : Type 0} → ℕ → List A → List A
-turned n xs = drop n xs ++ take n xs
+abbrev pub rotation_by : {A : Type 0} → ℕ → List A → List A
+rotation_by n xs = drop n xs ++ take n xs
 
 -- the elements top to bottom, both included, move up by n round their end; all others stay
 abbrev pub part_turned : {A : Type 0} → ℕ → ℕ → ℕ → List A → List A
 part_turned top bottom n xs =
     take top xs
-    ++ (turned n (take (bottom + 1 - top) (drop top xs))
+    ++ (rotation_by n (take (bottom + 1 - top) (drop top xs))
     ++ drop (bottom + 1) xs)
 
 -- so many elements from this place on are all x. No public clause names this
-abbrev pub cleared : {A : Type 0} → ℕ → ℕ → A → List A → List A
-cleared from count x xs = take from xs ++ (replicate count x ++ drop (from + count) xs)
+abbrev pub with_run_of : {A : Type 0} → ℕ → ℕ → A → List A → List A
+with_run_of from count x xs = take from xs ++ (replicate count x ++ drop (from + count) xs)
 
 -- the grid that the rows show
-abbrev pub sheet_shown : Store → Sheet
-sheet_shown s = sheet_of s.rows s.cols (map (cells_of s.cols) s.lines)
+abbrev pub grid_view : Store → GridView
+grid_view s = grid_view_of s.rows s.cols (map (cells_of s.cols) s.lines)
 
 -- the most steps of a scroll by n: one for each row that comes in, and with them one where the
 -- region is the whole grid, else one for each row of the region

@@ -1,7 +1,7 @@
 ghost use Rattle.std.specs.Prelude.{◌≡◌, ℕ};
 
 /// A number that is the code of a character: a byte, or a code point.
-pub trait Code: Copy {
+pub(crate) trait Code: Copy {
     ghost code_of: { Self → ℕ };
 
     fn code(self) -> u32

@@ -1,6 +1,6 @@
 ghost use Rattle.std.specs.Prelude.{◌≡◌, ◌<◌, ◌≤◌, ◌+◌, take, IfOk};
-ghost use Rattle.vt_grid.specs.Grid.{HasCellAt, IsFull, deleted, erased, filled, inserted, resized, row_at, scrolled_down, scrolled_up, with_cell, with_run};
-ghost use Rattle.vt_grid.specs.Halves.{parted_rows};
+ghost use Rattle.vt_grid.specs.Grid.{HasCellAt, IsFull, with_deleted, with_erased, filled_grid, with_inserted, resized_grid, row_at, scrolled_down, scrolled_up, with_cell, with_run};
+ghost use Rattle.vt_grid.specs.Halves.{split_wide_rows};
 ghost use Rattle.vt_grid.specs.Store.{scroll_steps};
 
 use crate::resize::copy_cells;
@@ -21,18 +21,18 @@ pub struct Grid {
 }
 
 impl Model for Grid {
-    ghost use Rattle.vt_grid.specs.Grid.{Sheet};
-    ghost use Rattle.vt_grid.specs.Store.{sheet_shown};
+    ghost use Rattle.vt_grid.specs.Grid.{GridView};
+    ghost use Rattle.vt_grid.specs.Store.{grid_view};
 
-    ghost Value = { Sheet };
+    ghost Value = { GridView };
 
-    ghost view = { λ g. sheet_shown g.store };
+    ghost view = { λ g. grid_view g.store };
 }
 
 impl Grid {
     /// A grid whose cells are all `c`.
     pub fn blank(alloc: Global, size: Size, c: Cell) -> Result<Grid, NoMemory>
-        ensures { IfOk result (λ grid. grid ≡ filled size.rows size.cols c) }
+        ensures { IfOk result (λ grid. grid ≡ filled_grid size.rows size.cols c) }
     {
         let store = RowStore::blank(alloc, size, c)?;
         Ok(Grid { store })
@@ -88,7 +88,7 @@ impl Grid {
 
     /// Makes every cell `c`.
     pub fn fill(&mut self, c: Cell)
-        ensures { self.new ≡ filled self.old.rows self.old.cols c }
+        ensures { self.new ≡ filled_grid self.old.rows self.old.cols c }
     {
         self.store.fill_all(c);
     }
@@ -135,7 +135,7 @@ impl Grid {
         requires row { y < self.old.rows }
         requires order { x0 ≤ x1 }
         requires column { x1 < self.old.cols }
-        ensures { self.new ≡ erased self.old y x0 x1 c }
+        ensures { self.new ≡ with_erased self.old y x0 x1 c }
     {
         self.store.erase(y, x0, x1, c);
     }
@@ -145,7 +145,7 @@ impl Grid {
     pub fn insert(&mut self, y: u8, x: u8, n: u16, c: Cell)
         requires row { y < self.old.rows }
         requires column { x < self.old.cols }
-        ensures { self.new ≡ inserted self.old y x n c }
+        ensures { self.new ≡ with_inserted self.old y x n c }
     {
         self.store.insert(y, x, n, c);
     }
@@ -155,7 +155,7 @@ impl Grid {
     pub fn delete(&mut self, y: u8, x: u8, n: u16, c: Cell)
         requires row { y < self.old.rows }
         requires column { x < self.old.cols }
-        ensures { self.new ≡ deleted self.old y x n c }
+        ensures { self.new ≡ with_deleted self.old y x n c }
     {
         self.store.delete(y, x, n, c);
     }
@@ -163,7 +163,7 @@ impl Grid {
     /// Becomes `fresh`, with the old cell of row `y + skip` copied to row `y` where both are, and
     /// gives the old grid.
     pub fn resized_into(&mut self, fresh: Grid, skip: u8) -> Grid
-        ensures grid { self.new ≡ resized self.old fresh skip }
+        ensures grid { self.new ≡ resized_grid self.old fresh skip }
         ensures old { result ≡ self.old }
     {
         let mut fresh = fresh;
@@ -175,7 +175,7 @@ impl Grid {
     /// Does what [`Grid::resized_into`] does, but a character that the last column of `fresh` cuts
     /// becomes a space.
     pub fn resized_parted_into(&mut self, fresh: Grid, skip: u8) -> Grid
-        ensures grid { self.new ≡ resized (parted_rows fresh.cols self.old) fresh skip }
+        ensures grid { self.new ≡ resized_grid (split_wide_rows fresh.cols self.old) fresh skip }
         ensures old { result ≡ self.old }
     {
         let mut fresh = fresh;

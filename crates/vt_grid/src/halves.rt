@@ -3,7 +3,7 @@ ghost use Rattle.std.specs.List.{list_all};
 ghost use Rattle.std.specs.Prelude.{◌≡◌, ◌<◌, ◌≤◌, ◌+◌, ◌==◌, Some, false, not, true, length, slice_get};
 ghost use Rattle.vt_cells.specs.Width.{half, is_plain};
 ghost use Rattle.vt_grid.specs.Grid.{cells_of_codes, row_at};
-ghost use Rattle.vt_grid.specs.Halves.{drawn, parted, parted_at, parted_between, spaced};
+ghost use Rattle.vt_grid.specs.Halves.{with_cells_at, split_wide, split_wide_at, split_wide_between, space_in_colours};
 
 use crate::Grid;
 use vt_cells::{Cell, HALF};
@@ -15,7 +15,7 @@ impl Grid {
     pub fn part(&mut self, y: u8, x: u8)
         requires row { y < self.old.rows }
         requires column { x ≤ self.old.cols }
-        ensures { self.new ≡ parted_at self.old y x }
+        ensures { self.new ≡ split_wide_at self.old y x }
     {
         if self.store.is_narrow() {
             return;
@@ -30,7 +30,7 @@ impl Grid {
     pub fn draw_bytes(&mut self, y: u8, x: u8, bytes: &[u8], attr: u8)
         requires row { y < self.old.rows }
         requires columns { x + length bytes.now ≤ self.old.cols }
-        ensures { self.new ≡ drawn self.old y x (cells_of_codes bytes.now attr) }
+        ensures { self.new ≡ with_cells_at self.old y x (cells_of_codes bytes.now attr) }
     {
         self.stays_full();
         self.part_ends(y, x, x + bytes.len() as u8);
@@ -43,7 +43,7 @@ impl Grid {
         requires plain { list_all is_plain codes.now ≡ true }
         requires row { y < self.old.rows }
         requires columns { x + length codes.now ≤ self.old.cols }
-        ensures { self.new ≡ drawn self.old y x (cells_of_codes codes.now attr) }
+        ensures { self.new ≡ with_cells_at self.old y x (cells_of_codes codes.now attr) }
     {
         self.stays_full();
         self.part_ends(y, x, x + codes.len() as u8);
@@ -55,7 +55,7 @@ impl Grid {
     pub fn draw_codes(&mut self, y: u8, x: u8, codes: &[u32], attr: u8)
         requires row { y < self.old.rows }
         requires columns { x + length codes.now ≤ self.old.cols }
-        ensures { self.new ≡ drawn self.old y x (cells_of_codes codes.now attr) }
+        ensures { self.new ≡ with_cells_at self.old y x (cells_of_codes codes.now attr) }
     {
         self.stays_full();
         self.part_ends(y, x, x + codes.len() as u8);
@@ -70,7 +70,7 @@ impl Grid {
         requires row { y < self.old.rows }
         requires column { x ≤ self.old.cols }
         requires end { end ≤ self.old.cols }
-        ensures { self.new ≡ parted_between self.old y x end }
+        ensures { self.new ≡ split_wide_between self.old y x end }
     {
         if self.store.is_narrow() {
             return;
@@ -83,7 +83,7 @@ impl Grid {
         requires row { y < self.old.rows }
         requires column { x ≤ self.old.cols }
         requires end { end ≤ self.old.cols }
-        ensures { self.new ≡ parted_between self.old y x end }
+        ensures { self.new ≡ split_wide_between self.old y x end }
     {
         self.part(y, x);
         self.part(y, end);
@@ -94,7 +94,7 @@ impl Grid {
     fn splits(&self, y: u8, x: u8) -> bool
         requires { y < self.now.rows }
         ensures half { result ≡ true → (0 < x) × (x < self.now.cols) }
-        ensures none { result ≡ false → self.now ≡ parted_at self.now y x }
+        ensures none { result ≡ false → self.now ≡ split_wide_at self.now y x }
     {
         if x == 0 {
             return false;
@@ -110,7 +110,7 @@ impl Grid {
         requires row { y < self.now.rows }
         requires column { x < self.now.cols }
         requires before { x < border }
-        ensures { slice_get (parted border (row_at self.now y)) x ≡ Some result }
+        ensures { slice_get (split_wide border (row_at self.now y)) x ≡ Some result }
     {
         let cols = self.size().cols;
         let cell = self.at(y, x);
@@ -121,7 +121,7 @@ impl Grid {
             return cell;
         }
         if self.at(y, border).code == HALF {
-            spaced(cell)
+            space_in_colours(cell)
         } else {
             cell
         }
@@ -133,21 +133,21 @@ impl Grid {
         requires row { y < self.old.rows }
         requires some { 0 < x }
         requires column { x < self.old.cols }
-        ensures { self.new ≡ parted_at self.old y x }
+        ensures { self.new ≡ split_wide_at self.old y x }
     {
         self.stays_full();
         let right = self.at(y, x);
         if right.code == HALF {
             let left = self.at(y, x - 1);
-            self.put(y, x - 1, spaced(left));
-            self.put(y, x, spaced(right));
+            self.put(y, x - 1, space_in_colours(left));
+            self.put(y, x, space_in_colours(right));
         }
     }
 }
 
 // A space in the cell's colours.
-fn spaced(c: Cell) -> Cell
-    ensures { result ≡ spaced c }
+fn space_in_colours(c: Cell) -> Cell
+    ensures { result ≡ space_in_colours c }
 {
     Cell {
         code: u32::from(b' '),

@@ -1,15 +1,15 @@
 ghost use Rattle.std.specs.Prelude.{◌≡◌, ◌<◌, ◌≤◌, min, take};
-ghost use Rattle.vt_grid.specs.Grid.{resized, row_at, with_run};
-ghost use Rattle.vt_grid.specs.Halves.{parted, parted_rows};
+ghost use Rattle.vt_grid.specs.Grid.{resized_grid, row_at, with_run};
+ghost use Rattle.vt_grid.specs.Halves.{split_wide, split_wide_rows};
 
 use crate::Grid;
 
 /// Copies the old cell of row `y + skip` and column `x` to row `y` and column `x`, where both are. The
 /// old rows are read as if they were parted at `border`, which isn't before the last column that both
 /// have.
-pub fn copy_cells(fresh: &mut Grid, old: &Grid, skip: u8, border: u8)
+pub(crate) fn copy_cells(fresh: &mut Grid, old: &Grid, skip: u8, border: u8)
     requires { min fresh.old.cols old.now.cols ≤ border }
-    ensures { fresh.new ≡ resized (parted_rows border old.now) fresh.old skip }
+    ensures { fresh.new ≡ resized_grid (split_wide_rows border old.now) fresh.old skip }
 {
     let new = fresh.size();
     let was = old.size();
@@ -27,7 +27,7 @@ fn copy_row(fresh: &mut Grid, old: &Grid, y: u8, from: u8, cols: u8, border: u8)
     requires columns { cols ≤ fresh.old.cols }
     requires old_columns { cols ≤ old.now.cols }
     requires border { cols ≤ border }
-    ensures { fresh.new ≡ with_run fresh.old y 0 (take cols (parted border (row_at old.now from))) }
+    ensures { fresh.new ≡ with_run fresh.old y 0 (take cols (split_wide border (row_at old.now from))) }
 {
     fresh.stays_full();
     let was = old.size();

@@ -1,7 +1,7 @@
 ghost use Rattle.std.specs.Prelude.{◌≡◌, ◌++◌, replicate};
 ghost use Rattle.std.specs.Iterator.{YieldsFirst, item_count};
 
-use crate::kept::Kept;
+use crate::packed_cell::PackedCell;
 use std::iter::FusedIterator;
 use std::marker::Model;
 use vt_cells::Cell;
@@ -10,8 +10,8 @@ use vt_cells::Cell;
 /// [`Grid::row`](crate::Grid::row). A blank end of a row is stored nowhere, so there is no slice.
 #[derive(Drop)]
 pub struct RowCells<'a> {
-    stored: &'a [Kept],
-    rest: Kept,
+    stored: &'a [PackedCell],
+    rest: PackedCell,
     past: u8,
 }
 
@@ -26,7 +26,7 @@ impl<'a> Model for RowCells<'a> {
 
 impl<'a> RowCells<'a> {
     // The stored cells, and then `rest`, `past` times.
-    pub(crate) fn new(stored: &'a [Kept], rest: Kept, past: u8) -> RowCells<'a>
+    pub(crate) fn new(stored: &'a [PackedCell], rest: PackedCell, past: u8) -> RowCells<'a>
         ensures { result ≡ stored.now ++ replicate past rest }
     {
         RowCells { stored, rest, past }

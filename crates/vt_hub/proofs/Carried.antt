@@ -5,53 +5,53 @@ use Rattle.std.proofs.Math.Seq.{take-append_seam}
 use Rattle.turn_lock.specs.History.{IsWordIn, StartsWith, display_after, entries_by, word_of}
 use Rattle.vt_events.specs.declared.entry.Entry.{Entry}
 use Rattle.vt_hub.specs.Histories.{BeginsWith, IsRead, made_by}
-use Rattle.vt_hub.specs.Carrying.{Carried, IsCarried, display_of, plain, carried, carried_entry}
+use Rattle.vt_hub.specs.Carrying.{Carried, IsCarried, display_of, plain, carried_entries, carried_entry}
 use Rattle.vt_world.specs.History.{IsLegal, replay}
 use Rattle.vt_world.specs.State.{WorldState}
 use Rattle.vt_world.specs.Step.{step}
 
-pub plain-carried : (w : WorldState) (es : List Entry) → plain (carried w es) ≡ es
-plain-carried w [] = refl
-plain-carried w (e ∷ es) =
-    ap (λ (xs : List Entry). e ∷ xs) (plain-carried (step w e.caller e.event).world es)
+pub plain-carried_entries : (w : WorldState) (es : List Entry) → plain (carried_entries w es) ≡ es
+plain-carried_entries w [] = refl
+plain-carried_entries w (e ∷ es) =
+    ap (λ (xs : List Entry). e ∷ xs) (plain-carried_entries (step w e.caller e.event).world es)
 
-pub length-carried : (w : WorldState) (es : List Entry) → length (carried w es) ≡ length es
-length-carried w [] = refl
-length-carried w (e ∷ es) = ap suc (length-carried (step w e.caller e.event).world es)
+pub length-carried_entries : (w : WorldState) (es : List Entry) → length (carried_entries w es) ≡ length es
+length-carried_entries w [] = refl
+length-carried_entries w (e ∷ es) = ap suc (length-carried_entries (step w e.caller e.event).world es)
 
 -- the display after the last entry
 abbrev pub front_after : WorldState → List Entry → Entry → ℕ
 front_after w es e = (step (replay w es) e.caller e.event).world.display.front
 
-pub carried-more : (w : WorldState) (es : List Entry) (e : Entry)
-    → carried w (es ++ e ∷ []) ≡ carried w es ++ carried_entry (front_after w es e) e ∷ []
-carried-more w [] e = refl
-carried-more w (x ∷ es) e =
+pub carried_entries_more : (w : WorldState) (es : List Entry) (e : Entry)
+    → carried_entries w (es ++ e ∷ []) ≡ carried_entries w es ++ carried_entry (front_after w es e) e ∷ []
+carried_entries_more w [] e = refl
+carried_entries_more w (x ∷ es) e =
     ap (λ (xs : List Carried).
     carried_entry (step w x.caller x.event).world.display.front x ∷ xs)
-    (carried-more (step w x.caller x.event).world es e)
+    (carried_entries_more (step w x.caller x.event).world es e)
 
-pub display-carried : (w : WorldState) (es : List Entry)
-    → display_after w.display.front (carried w es) ≡ (replay w es).display.front
-display-carried w [] = refl
-display-carried w (e ∷ es) = display-carried (step w e.caller e.event).world es
+pub display_carried_entries : (w : WorldState) (es : List Entry)
+    → display_after w.display.front (carried_entries w es) ≡ (replay w es).display.front
+display_carried_entries w [] = refl
+display_carried_entries w (e ∷ es) = display_carried_entries (step w e.caller e.event).world es
 
-pub take-carried : (n : ℕ) (w : WorldState) (es : List Entry)
-    → take n (carried w es) ≡ carried w (take n es)
-take-carried zero w es = refl
-take-carried (suc n) w [] = refl
-take-carried (suc n) w (e ∷ es) =
+pub take-carried_entries : (n : ℕ) (w : WorldState) (es : List Entry)
+    → take n (carried_entries w es) ≡ carried_entries w (take n es)
+take-carried_entries zero w es = refl
+take-carried_entries (suc n) w [] = refl
+take-carried_entries (suc n) w (e ∷ es) =
     ap (λ (xs : List Carried).
     carried_entry (step w e.caller e.event).world.display.front e ∷ xs)
-    (take-carried n (step w e.caller e.event).world es)
+    (take-carried_entries n (step w e.caller e.event).world es)
 
 -- the entries of a number
-pub made-carried : (n : ℕ) (w : WorldState) (es : List Entry)
-    → plain (entries_by n (carried w es)) ≡ made_by n es
-made-carried n w [] = refl
-made-carried n w (e ∷ es) =
+pub made_carried_entries : (n : ℕ) (w : WorldState) (es : List Entry)
+    → plain (entries_by n (carried_entries w es)) ≡ made_by n es
+made_carried_entries n w [] = refl
+made_carried_entries n w (e ∷ es) =
     let after : WorldState = (step w e.caller e.event).world in
-    go (e.caller == n) (entries_by n (carried after es)) (made_by n es) (made-carried n after es)
+    go (e.caller == n) (entries_by n (carried_entries after es)) (made_by n es) (made_carried_entries n after es)
   where
     go : (b : Bool) (xs : List Carried) (ys : List Entry) → plain xs ≡ ys
         → plain (cond b
@@ -60,53 +60,53 @@ made-carried n w (e ∷ es) =
     go true xs ys same = ap (λ (zs : List Entry). e ∷ zs) same
     go false xs ys same = same
 
-pub plain-more : (xs ys : List Carried) → plain (xs ++ ys) ≡ plain xs ++ plain ys
-plain-more xs ys = map-append (λ (e : Carried). e.what) xs ys
+pub plain_more : (xs ys : List Carried) → plain (xs ++ ys) ≡ plain xs ++ plain ys
+plain_more xs ys = map-append (λ (e : Carried). e.what) xs ys
 
 -- a beginning of what the lock carries begins the journal
-pub plain-begins : (log xs : List Carried) → StartsWith log xs → BeginsWith (plain log) (plain xs)
-plain-begins log xs is = (plain is.0, ap plain is.1 ∙ plain-more xs is.0)
+pub plain_begins : (log xs : List Carried) → StartsWith log xs → BeginsWith (plain log) (plain xs)
+plain_begins log xs is = (plain is.0, ap plain is.1 ∙ plain_more xs is.0)
 
-pub begins-plain : (w : WorldState) (es : List Entry) (xs : List Carried)
-    → StartsWith (carried w es) xs → BeginsWith es (plain xs)
-begins-plain w es xs is =
-    subst (λ (l : List Entry). BeginsWith l (plain xs)) (plain-carried w es)
-    (plain-begins (carried w es) xs is)
+pub begins_plain : (w : WorldState) (es : List Entry) (xs : List Carried)
+    → StartsWith (carried_entries w es) xs → BeginsWith es (plain xs)
+begins_plain w es xs is =
+    subst (λ (l : List Entry). BeginsWith l (plain xs)) (plain-carried_entries w es)
+    (plain_begins (carried_entries w es) xs is)
 
 -- and one that is longer
-pub begins-more : (longer es xs more : List Entry) → longer ≡ es ++ more → BeginsWith es xs
+pub begins_more : (longer es xs more : List Entry) → longer ≡ es ++ more → BeginsWith es xs
     → BeginsWith longer xs
-begins-more longer es xs more is begins = (
+begins_more longer es xs more is begins = (
   begins.0 ++ more,
   is ∙ (ap (λ (l : List Entry). l ++ more) begins.1 ∙ append_assoc xs begins.0 more),
 )
 
 -- the journal of a shared value is carried
-pub is-carried : (w : WorldState) (es : List Entry) → IsLegal w es → display_of w ≡ w.display.front
-    → IsCarried w (carried w es)
-is-carried w es legal first = record {
-  is = ap (carried w) (sym (plain-carried w es));
-  legal = subst (IsLegal w) (sym (plain-carried w es)) legal;
+pub is_carried_entries : (w : WorldState) (es : List Entry) → IsLegal w es → display_of w ≡ w.display.front
+    → IsCarried w (carried_entries w es)
+is_carried_entries w es legal first = record {
+  is = ap (carried_entries w) (sym (plain-carried_entries w es));
+  legal = subst (IsLegal w) (sym (plain-carried_entries w es)) legal;
   first = first;
 }
 
 -- the word of what is carried
-pub word-shown : (w : WorldState) (log : List Carried) (word : ℕ) → IsCarried w log
+pub word_shown : (w : WorldState) (log : List Carried) (word : ℕ) → IsCarried w log
     → word ≡ word_of (display_of w) log → word / 64 ≡ length log
     → (word ≡ 64 * length (plain log) + (replay w (plain log)).display.front)
     × (word % 64 ≡ (replay w (plain log)).display.front)
-word-shown w log word right is count =
+word_shown w log word right is count =
     let shown : display_after (display_of w) log ≡ (replay w (plain log)).display.front =
     ap (λ n. display_after n log) right.first
-    ∙ (ap (display_after w.display.front) right.is ∙ display-carried w (plain log)) in
+    ∙ (ap (display_after w.display.front) right.is ∙ display_carried_entries w (plain log)) in
     let long : length (plain log) ≡ length log = length-map log (λ (e : Carried). e.what) in
     (omega (arith, is, shown, long), omega (arith, is, shown, count))
 
 -- it is a word of every history that begins so
-pub word-stands : (w : WorldState) (read history : List Entry) (word : ℕ)
+pub word_stands : (w : WorldState) (read history : List Entry) (word : ℕ)
     → word / 64 ≡ length read → word % 64 ≡ (replay w read).display.front
     → BeginsWith history read → IsRead w history word
-word-stands w read history word count shown begins =
+word_stands w read history word count shown begins =
     let taken : take (word / 64) history ≡ read =
     ap (λ n. take n history) count
     ∙ (ap (take (length read)) begins.1 ∙ take-append_seam read begins.0) in
@@ -116,38 +116,38 @@ word-stands w read history word count shown begins =
     }
 
 -- a display from 1 to 63 is the one that the lock begins with
-pub first-display : (w : WorldState) → 0 < w.display.front → w.display.front < 64
+pub first_display : (w : WorldState) → 0 < w.display.front → w.display.front < 64
     → display_of w ≡ w.display.front
-first-display w low high = omega (arith, low, high)
+first_display w low high = omega (arith, low, high)
 
-pub word-carried : (w : WorldState) (es : List Entry) → display_of w ≡ w.display.front
-    → 64 * length es + (replay w es).display.front ≡ word_of (display_of w) (carried w es)
-word-carried w es first =
-    let shown : display_after (display_of w) (carried w es) ≡ (replay w es).display.front =
-    ap (λ n. display_after n (carried w es)) first ∙ display-carried w es in
-    let long = length-carried w es in omega (arith, shown, long)
+pub word_carried_entries : (w : WorldState) (es : List Entry) → display_of w ≡ w.display.front
+    → 64 * length es + (replay w es).display.front ≡ word_of (display_of w) (carried_entries w es)
+word_carried_entries w es first =
+    let shown : display_after (display_of w) (carried_entries w es) ≡ (replay w es).display.front =
+    ap (λ n. display_after n (carried_entries w es)) first ∙ display_carried_entries w es in
+    let long = length-carried_entries w es in omega (arith, shown, long)
 
 -- a word of the beginning of a history is one of a longer history
-pub word-grown : (before : ℕ) (log more : List Carried) (word : ℕ) → IsWordIn before log word
+pub word_grown : (before : ℕ) (log more : List Carried) (word : ℕ) → IsWordIn before log word
     → IsWordIn before (log ++ more) word
-word-grown before log more word is = record {
+word_grown before log more word is = record {
   within = omega (arith, is.within, length-append log more);
   is = ap (word_of before) (take-append-le (word / 64) log more is.within) ∙ is.is;
 }
 
 -- a word that the lock knows
-pub read-carried : (w : WorldState) (es : List Entry) (word : ℕ) → display_of w ≡ w.display.front
-    → IsWordIn (display_of w) (carried w es) word → IsRead w es word
-read-carried w es word first is =
+pub read_carried_entries : (w : WorldState) (es : List Entry) (word : ℕ) → display_of w ≡ w.display.front
+    → IsWordIn (display_of w) (carried_entries w es) word → IsRead w es word
+read_carried_entries w es word first is =
     let n : ℕ = word / 64 in
-    let long = length-carried w es in
-    let taken : length (take n (carried w es)) ≡ n = length-take-le n (carried w es) is.within in
-    let shown : display_after (display_of w) (take n (carried w es))
+    let long = length-carried_entries w es in
+    let taken : length (take n (carried_entries w es)) ≡ n = length-take-le n (carried_entries w es) is.within in
+    let shown : display_after (display_of w) (take n (carried_entries w es))
     ≡ (replay w (take n es)).display.front =
-    ap (λ d. display_after d (take n (carried w es))) first
-    ∙ (ap (display_after w.display.front) (take-carried n w es) ∙ display-carried w (take n es)) in
-    let whole : 64 * length (take n (carried w es))
-    + display_after (display_of w) (take n (carried w es)) ≡ word = is.is in record {
+    ap (λ d. display_after d (take n (carried_entries w es))) first
+    ∙ (ap (display_after w.display.front) (take-carried_entries n w es) ∙ display_carried_entries w (take n es)) in
+    let whole : 64 * length (take n (carried_entries w es))
+    + display_after (display_of w) (take n (carried_entries w es)) ≡ word = is.is in record {
       within = omega (arith, is.within, long);
       shown = omega (arith, taken, shown, whole);
     }

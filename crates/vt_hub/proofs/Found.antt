@@ -4,7 +4,7 @@ use Rattle.std.proofs.lemmas.List.{length-map}
 use Rattle.std.proofs.lemmas.List.Sums.{count_by-le-length, length-filter}
 use Rattle.turn_lock.specs.History.{IsWordIn, StartsWith, word_of}
 use Rattle.turn_lock.specs.Rule.{IsCaller}
-use Rattle.turn_lock.specs.Views.{having, published, resting}
+use Rattle.turn_lock.specs.Views.{with_turn, with_published, without_turn}
 use Rattle.turn_lock.specs.Words.{AddsNext, HasMine, KnowsOwn, Stands}
 use Rattle.turn_lock.specs.declared.seal.Seal.{Seal}
 use Rattle.turn_lock.specs.declared.view.Role.{Role}
@@ -19,10 +19,10 @@ use Rattle.vt_hub.specs.Answers.{Called, Stopped, Waited}
 use Rattle.vt_hub.specs.Histories.{BeginsWith, IsRead, awaits, made_by}
 use Rattle.vt_hub.specs.Places.{known_by}
 use Rattle.vt_hub.specs.Shared.{Enters, IsSound, SharedView, Stops, Waits}
-use Rattle.vt_hub.specs.Carrying.{Carried, display_of, plain, carried, carried_entry}
+use Rattle.vt_hub.specs.Carrying.{Carried, display_of, plain, carried_entries, carried_entry}
 use Rattle.vt_hub.specs.Views.{PassView}
-use Rattle.vt_hub.proofs.Carried.{begins-more, begins-plain, first-display, front_after, made-carried, plain-more, plain-carried, read-carried, carried-more, word-grown, word-carried}
-use Rattle.vt_hub.proofs.Lists.{made-own}
+use Rattle.vt_hub.proofs.Carried.{begins_more, begins_plain, first_display, front_after, made_carried_entries, plain_more, plain-carried_entries, read_carried_entries, carried_entries_more, word_grown, word_carried_entries}
+use Rattle.vt_hub.proofs.Lists.{made_own}
 use Rattle.vt_journal.specs.Room.{full_at, has_room}
 use Rattle.vt_journal.specs.declared.full.Full.{Full}
 use Rattle.vt_journal.specs.declared.limits.Limits.{Limits}
@@ -36,36 +36,36 @@ pub record Found (start : WorldState) (most : Limits) (number seq : ℕ) (v : Vi
   pub sound : IsSound start most s
   pub named : v.role ≡ Caller number
   pub counted : seq ≡ length v.mine
-  pub begins : StartsWith (carried start s.log.entries) v.seen
-  pub owns : HasMine (carried start s.log.entries) v.role v.mine
-  pub reads : IsWordIn (display_of start) (carried start s.log.entries) v.known
-  pub looked : StartsWith (carried start s.log.entries) v.read
-  pub stands : Stands s.stop (carried start s.log.entries) v
+  pub begins : StartsWith (carried_entries start s.log.entries) v.seen
+  pub owns : HasMine (carried_entries start s.log.entries) v.role v.mine
+  pub reads : IsWordIn (display_of start) (carried_entries start s.log.entries) v.known
+  pub looked : StartsWith (carried_entries start s.log.entries) v.read
+  pub stands : Stands s.stop (carried_entries start s.log.entries) v
   pub knows : KnowsOwn s.stop v
 
 -- from what the lock tells of the value that it gives, which s is
-pub found-from : (start : WorldState) (most : Limits) (number seq : ℕ) (v : View Entry Full)
+pub found_from : (start : WorldState) (most : Limits) (number seq : ℕ) (v : View Entry Full)
     (old s : SharedView) → s ≡ old → IsSound start most s → v.role ≡ Caller number
-    → seq ≡ length v.mine → StartsWith (carried start old.log.entries) v.seen
-    → HasMine (carried start old.log.entries) v.role v.mine
-    → IsWordIn (display_of start) (carried start old.log.entries) v.known
-    → StartsWith (carried start old.log.entries) v.read
-    → Stands old.stop (carried start old.log.entries) v → KnowsOwn old.stop v
+    → seq ≡ length v.mine → StartsWith (carried_entries start old.log.entries) v.seen
+    → HasMine (carried_entries start old.log.entries) v.role v.mine
+    → IsWordIn (display_of start) (carried_entries start old.log.entries) v.known
+    → StartsWith (carried_entries start old.log.entries) v.read
+    → Stands old.stop (carried_entries start old.log.entries) v → KnowsOwn old.stop v
     → Found start most number seq v s
-found-from start most number seq v old s same sound named counted begins owns reads looked
+found_from start most number seq v old s same sound named counted begins owns reads looked
     stands knows = record {
       sound = sound;
       named = named;
       counted = counted;
-      begins = subst (λ (o : SharedView). StartsWith (carried start o.log.entries) v.seen) (sym same)
+      begins = subst (λ (o : SharedView). StartsWith (carried_entries start o.log.entries) v.seen) (sym same)
           begins;
-      owns = subst (λ (o : SharedView). HasMine (carried start o.log.entries) v.role v.mine) (sym same)
+      owns = subst (λ (o : SharedView). HasMine (carried_entries start o.log.entries) v.role v.mine) (sym same)
           owns;
       reads = subst (λ (o : SharedView).
-          IsWordIn (display_of start) (carried start o.log.entries) v.known) (sym same) reads;
-      looked = subst (λ (o : SharedView). StartsWith (carried start o.log.entries) v.read) (sym same)
+          IsWordIn (display_of start) (carried_entries start o.log.entries) v.known) (sym same) reads;
+      looked = subst (λ (o : SharedView). StartsWith (carried_entries start o.log.entries) v.read) (sym same)
           looked;
-      stands = subst (λ (o : SharedView). Stands o.stop (carried start o.log.entries) v) (sym same)
+      stands = subst (λ (o : SharedView). Stands o.stop (carried_entries start o.log.entries) v) (sym same)
           stands;
       knows = subst (λ (o : SharedView). KnowsOwn o.stop v) (sym same) knows;
     }
@@ -82,18 +82,18 @@ pub record Left (hub : TableId) (number : ℕ) (v : View Entry Full) (seen mine 
   pub stop_is : w.stop ≡ stop
 
 -- a caller made no more calls than there are
-pub few-made : (n : ℕ) (es : List Entry) → length (made_by n es) ≤ length es
-few-made n es =
+pub few_made : (n : ℕ) (es : List Entry) → length (made_by n es) ≤ length es
+few_made n es =
     let calls = length-filter (λ (x : Entry). x.caller == n) es in
     let few = count_by-le-length (λ (x : Entry). x.caller == n) es in omega (arith, calls, few)
 
 -- the word that is computed is that of the history
-pub front-is : (start : WorldState) (most : Limits) (s : SharedView) → IsSound start most s
+pub front_is : (start : WorldState) (most : Limits) (s : SharedView) → IsSound start most s
     → 64 * length s.log.entries + s.world.display.front
-    ≡ word_of (display_of start) (carried start s.log.entries)
-front-is start most s sound =
+    ≡ word_of (display_of start) (carried_entries start s.log.entries)
+front_is start most s sound =
     ap (λ (w : WorldState). 64 * length s.log.entries + w.display.front) sound.replayed
-    ∙ word-carried start s.log.entries (first-display start sound.display_low sound.display_high)
+    ∙ word_carried_entries start s.log.entries (first_display start sound.display_low sound.display_high)
 
 no_seal : (a b : Option (Seal Full)) → ((z : Seal Full) → a ≡ Some z → b ≡ Some z) → b ≡ None
     → a ≡ None
@@ -101,9 +101,9 @@ no_seal None b sure none = refl
 no_seal (Some z) b sure none = let bad : Some z ≡ None = sym (sure z refl) ∙ none in absurd cc
 
 -- the stop that stands is answered
-pub met-before : (p : ℕ) (e : Event) (v : SharedView) (z : Seal Full) → v.stop ≡ Some z
+pub met_before : (p : ℕ) (e : Event) (v : SharedView) (z : Seal Full) → v.stop ≡ Some z
     → Stops p e v v z.what
-met-before p e v z is = record {
+met_before p e v z is = record {
   log = refl;
   world = refl;
   by = z.by;
@@ -118,13 +118,13 @@ met-before p e v z is = record {
 module _ (start : WorldState) (most : Limits) (number seq : ℕ) (v : View Entry Full)
     (s : SharedView) (found : Found start most number seq v s) where
   pub first : display_of start ≡ start.display.front
-  first = first-display start found.sound.display_low found.sound.display_high
+  first = first_display start found.sound.display_low found.sound.display_high
 
   pub made : plain v.mine ≡ made_by number s.log.entries
   made =
-      ap plain (subst (λ (r : Role Entry Full). HasMine (carried start s.log.entries) r v.mine)
+      ap plain (subst (λ (r : Role Entry Full). HasMine (carried_entries start s.log.entries) r v.mine)
       found.named found.owns)
-      ∙ made-carried number start s.log.entries
+      ∙ made_carried_entries number start s.log.entries
 
   -- its number of calls is that of its entries
   pub count : seq ≡ length (made_by number s.log.entries)
@@ -138,15 +138,15 @@ module _ (start : WorldState) (most : Limits) (number seq : ℕ) (v : View Entry
   pub seen : s.log.entries ≡ plain v.seen ++ later
   unfolding later
   seen =
-      sym (plain-carried start s.log.entries)
-      ∙ (ap plain found.begins.1 ∙ plain-more v.seen found.begins.0)
+      sym (plain-carried_entries start s.log.entries)
+      ∙ (ap plain found.begins.1 ∙ plain_more v.seen found.begins.0)
 
   -- what it had read of the history stands
   pub kept : BeginsWith s.log.entries (plain v.read)
-  kept = begins-plain start s.log.entries v.read found.looked
+  kept = begins_plain start s.log.entries v.read found.looked
 
   pub read : IsRead start s.log.entries v.known
-  read = read-carried start s.log.entries v.known first found.reads
+  read = read_carried_entries start s.log.entries v.known first found.reads
 
   pub unmet : s.stop ≡ None → v.seal ≡ None
   unmet none = no_seal v.seal s.stop (λ z is. (found.stands z is).0) none
@@ -154,13 +154,13 @@ module _ (start : WorldState) (most : Limits) (number seq : ℕ) (v : View Entry
   -- the entry that a call adds is the next one of the pass
   pub adds : (ticket : ℕ) (s' : SharedView) (e : Event) (place : ℕ) (r : Reply)
       → Enters number seq e s s' place r → IsSound start most s'
-      → AddsNext (carried start s'.log.entries)
-      (having ticket (carried start s.log.entries) s.stop v)
+      → AddsNext (carried_entries start s'.log.entries)
+      (with_turn ticket (carried_entries start s.log.entries) s.stop v)
   adds ticket s' e place r enters sound =
       let entry : Entry = enters.entry in
-      let grown : carried start s'.log.entries ≡ carried start s.log.entries
+      let grown : carried_entries start s'.log.entries ≡ carried_entries start s.log.entries
       ++ carried_entry (front_after start s.log.entries entry) entry ∷ [] =
-      ap (carried start) enters.entries ∙ carried-more start s.log.entries entry in
+      ap (carried_entries start) enters.entries ∙ carried_entries_more start s.log.entries entry in
       let after : s'.world.display.front ≡ front_after start s.log.entries entry =
       ap (λ (w : WorldState). w.display.front)
       (sound.replayed ∙ (ap (replay start) enters.entries ∙ replay-one start s.log.entries entry))
@@ -190,7 +190,7 @@ module _ (start : WorldState) (most : Limits) (number seq : ℕ) (v : View Entry
       let es : List Entry = s.log.entries in
       let whole : w.seen ≡ es ++ entry ∷ [] = left.seen_is ∙ enters.entries in
       let own : made_by number (es ++ entry ∷ []) ≡ made_by number es ++ entry ∷ [] =
-      made-own number es entry enters.caller in record {
+      made_own number es entry enters.caller in record {
         hub = left.hub_is;
         number = left.number_is;
         known = left.known_is;
@@ -217,12 +217,12 @@ module _ (start : WorldState) (most : Limits) (number seq : ℕ) (v : View Entry
         met = unmet enters.met;
         goes_on = left.stop_is;
         word = subst (λ (l : List Entry). IsRead start l v.known) (sym left.seen_is)
-            (read-carried start s'.log.entries v.known first
+            (read_carried_entries start s'.log.entries v.known first
             (subst (λ (l : List Carried). IsWordIn (display_of start) l v.known)
-            (sym (ap (carried start) enters.entries ∙ carried-more start es entry))
-            (word-grown (display_of start) (carried start es)
+            (sym (ap (carried_entries start) enters.entries ∙ carried_entries_more start es entry))
+            (word_grown (display_of start) (carried_entries start es)
             (carried_entry (front_after start es entry) entry ∷ []) v.known found.reads)));
-        kept = begins-more w.seen es (plain v.read) (entry ∷ []) whole kept;
+        kept = begins_more w.seen es (plain v.read) (entry ∷ []) whole kept;
       }
 
   own_charge : (s' : SharedView) (e : Event) (full : Full) (stops : Stops number e s s' full)
@@ -264,7 +264,7 @@ module _ (start : WorldState) (most : Limits) (number seq : ℕ) (v : View Entry
             let stands = found.stands z is in (
               stops.again z stands.0,
               left.seen_is
-                  ∙ (sym (plain-carried start s.log.entries) ∙ ap plain stands.1),
+                  ∙ (sym (plain-carried_entries start s.log.entries) ∙ ap plain stands.1),
             );
         numbers = right.numbers ∙ ap (λ (l : List Entry). full_at l full.charge) same;
         no_room = ap (λ (l : List Entry). has_room most l full.charge) (sym same)
@@ -297,37 +297,37 @@ module _ (start : WorldState) (most : Limits) (number seq : ℕ) (v : View Entry
   -- the entry, and as it left
   module _ (hub : TableId) (old : PassView) (is : known_by hub number v ≡ old) (here : TableId)
       (home : here ≡ hub) (ticket : ℕ) (s' : SharedView) (held after : View Entry Full)
-      (has : held ≡ having ticket (carried start s.log.entries) s.stop v) where
+      (has : held ≡ with_turn ticket (carried_entries start s.log.entries) s.stop v) where
     module _ (e : Event) (place : ℕ) (r : Reply) (enters : Enters number seq e s s' place r)
-        (shown : View Entry Full) (shows : shown ≡ published (carried start s'.log.entries) held)
-        (adds_one : (x : Carried) → carried start s'.log.entries ≡ held.seen ++ x ∷ []
+        (shown : View Entry Full) (shows : shown ≡ with_published (carried_entries start s'.log.entries) held)
+        (adds_one : (x : Carried) → carried_entries start s'.log.entries ≡ held.seen ++ x ∷ []
         → shown.mine ≡ held.mine ++ x ∷ [])
-        (left : after ≡ resting s'.stop shown) where
+        (left : after ≡ without_turn s'.stop shown) where
       entry_carried : Carried
       entry_carried = carried_entry (front_after start s.log.entries enters.entry) enters.entry
 
       after-mine : after.mine ≡ v.mine ++ entry_carried ∷ []
       unfolding entry_carried
       after-mine =
-          let grown : carried start s'.log.entries ≡ held.seen ++ entry_carried ∷ [] =
-          ap (carried start) enters.entries
-          ∙ (carried-more start s.log.entries enters.entry
+          let grown : carried_entries start s'.log.entries ≡ held.seen ++ entry_carried ∷ [] =
+          ap (carried_entries start) enters.entries
+          ∙ (carried_entries_more start s.log.entries enters.entry
           ∙ ap (λ (x : View Entry Full). x.seen ++ entry_carried ∷ []) (sym has)) in
           ap (λ (x : View Entry Full). x.mine) left
           ∙ (adds_one entry_carried grown
           ∙ ap (λ (x : View Entry Full). x.mine ++ entry_carried ∷ []) has)
 
-      after-whole : after ≡ resting s'.stop (published (carried start s'.log.entries) held)
-      after-whole = left ∙ ap (resting s'.stop) shows
+      after-whole : after ≡ without_turn s'.stop (with_published (carried_entries start s'.log.entries) held)
+      after-whole = left ∙ ap (without_turn s'.stop) shows
 
-      pub role-after : after.role ≡ Caller number
-      role-after =
+      pub role_after : after.role ≡ Caller number
+      role_after =
           ap (λ (x : View Entry Full). x.role) after-whole
           ∙ (ap (λ (x : View Entry Full). x.role) has ∙ found.named)
 
-      pub counted-after : seq + 1 ≡ length after.mine
+      pub counted_after : seq + 1 ≡ length after.mine
       unfolding entry_carried
-      counted-after =
+      counted_after =
           let long = ap length after-mine in
           let one = length-append v.mine (entry_carried ∷ []) in
           let counted = found.counted in omega (arith, long, one, counted)
@@ -344,18 +344,18 @@ module _ (start : WorldState) (most : Limits) (number seq : ℕ) (v : View Entry
             read_is = ap (λ (x : View Entry Full). plain x.read) after-whole
                 ∙ ap (λ (x : View Entry Full). plain x.read) has;
             seen_is = ap (λ (x : View Entry Full). plain x.seen) after-whole
-                ∙ plain-carried start s'.log.entries;
-            mine_is = ap plain after-mine ∙ plain-more v.mine (entry_carried ∷ []);
+                ∙ plain-carried_entries start s'.log.entries;
+            mine_is = ap plain after-mine ∙ plain_more v.mine (entry_carried ∷ []);
             stop_is = ap (λ (x : View Entry Full). x.seal) after-whole ∙ enters.goes_on;
           }))
 
-    module _ (left : after ≡ resting s'.stop held) where
-      left-whole : after ≡ resting s'.stop (having ticket (carried start s.log.entries) s.stop v)
-      left-whole = left ∙ ap (resting s'.stop) has
+    module _ (left : after ≡ without_turn s'.stop held) where
+      left-whole : after ≡ without_turn s'.stop (with_turn ticket (carried_entries start s.log.entries) s.stop v)
+      left-whole = left ∙ ap (without_turn s'.stop) has
 
       same-seen : plain after.seen ≡ s.log.entries
       same-seen = ap (λ (x : View Entry Full). plain x.seen) left-whole
-          ∙ plain-carried start s.log.entries
+          ∙ plain-carried_entries start s.log.entries
 
       pub full : (e : Event) (full : Full) → Stops number e s s' full → IsSound start most s'
           → Stopped start most e old (known_by here number after) full

@@ -33,9 +33,9 @@ module _ {A : Type 0} where
   abbrev pub EachAfter : (List A → A → Type 0) → List A → Type 0
   EachAfter P xs = (k : ℕ) (x : A) → slice_get xs k ≡ Some x → P (take k xs) x
 
-  pub each-more : (P : List A → A → Type 0) (xs : List A) (x : A) → EachAfter P xs → P xs x
+  pub each_more : (P : List A → A → Type 0) (xs : List A) (x : A) → EachAfter P xs → P xs x
       → EachAfter P (xs ++ x ∷ [])
-  each-more P xs x each next k found is = ⊎_elim
+  each_more P xs x each next k found is = ⊎_elim
       (λ old.
       let within : k < length xs = slice_get_within xs k found old in
       subst (λ before. P before found)
@@ -47,22 +47,22 @@ module _ {A : Type 0} where
       (at_either xs x k found is)
 
 -- the entries of a caller, with one entry more
-pub made-own : (p : ℕ) (es : List Entry) (e : Entry) → e.caller ≡ p
+pub made_own : (p : ℕ) (es : List Entry) (e : Entry) → e.caller ≡ p
     → made_by p (es ++ e ∷ []) ≡ made_by p es ++ e ∷ []
-made-own p es e own =
+made_own p es e own =
     let test : (e.caller == p) ≡ true = eq-eqb e.caller p own in
     filter-append (λ (x : Entry). x.caller == p) es (e ∷ [])
     ∙ ap (λ b. made_by p es ++ cond b (e ∷ []) []) test
 
-pub made-other : (p : ℕ) (es : List Entry) (e : Entry) → e.caller ≢ p
+pub made_other : (p : ℕ) (es : List Entry) (e : Entry) → e.caller ≢ p
     → made_by p (es ++ e ∷ []) ≡ made_by p es ++ []
-made-other p es e other =
+made_other p es e other =
     let test : (e.caller == p) ≡ false = ne_eqb e.caller p other in
     filter-append (λ (x : Entry). x.caller == p) es (e ∷ [])
     ∙ ap (λ b. made_by p es ++ cond b (e ∷ []) []) test
 
 -- the last of the entries is the one that was added
-pub waits-more : (known : Bool) (es : List Entry) (e : Entry)
+pub waits_more : (known : Bool) (es : List Entry) (e : Entry)
     → waits_by known (es ++ e ∷ []) ≡ is_wait e.reply
-waits-more known [] e = refl
-waits-more known (x ∷ es) e = waits-more (is_wait x.reply) es e
+waits_more known [] e = refl
+waits_more known (x ∷ es) e = waits_more (is_wait x.reply) es e

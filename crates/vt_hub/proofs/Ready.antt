@@ -21,12 +21,12 @@ use Rattle.vt_hub.specs.declared.answer.Answer.TheVariants as answer
 use Rattle.vt_journal.specs.declared.limits.Limits.{Limits}
 use Rattle.vt_procs.specs.declared.waiting.Waiting.{Waiting}
 use Rattle.vt_procs.specs.declared.waiting.Waiting.TheVariants as waiting
-use Rattle.vt_world.specs.Heard.{cleared}
+use Rattle.vt_world.specs.Heard.{without_marks}
 use Rattle.vt_world.specs.History.{IsLegal, IsNext, replay}
 use Rattle.vt_world.specs.Refusals.{caller, common_refusals, first_refusal, own_refusals}
 use Rattle.vt_world.specs.Rows.{ended_reply, row}
 use Rattle.vt_world.specs.State.{WorldState}
-use Rattle.vt_world.specs.Step.{answered, effect_after, effect_of, step}
+use Rattle.vt_world.specs.Step.{outcome_of_row, row_result_after, row_result, step}
 
 plain_waits : (r : Reply) → is_wait (plain_reply r) ≡ is_wait r
 plain_waits (reply.Text b) = refl
@@ -44,17 +44,17 @@ ended_waits waiting.Done = refl
 ended_waits waiting.Broken = refl
 
 own_waits : (w : WorldState) (p : ℕ) (refused : Option Errno)
-    → is_wait (answered (effect_of w refused (row w p WaitEnd))).reply ≡ false
+    → is_wait (outcome_of_row (row_result w refused (row w p WaitEnd))).reply ≡ false
 own_waits w p (Some errno) = refl
 own_waits w p None = ended_waits (caller w p).waiting
 
 after_waits : (w : WorldState) (p : ℕ) (refused : Option Errno)
-    → is_wait (answered (effect_after w p WaitEnd refused)).reply ≡ false
+    → is_wait (outcome_of_row (row_result_after w p WaitEnd refused)).reply ≡ false
 after_waits w p (Some errno) = refl
 after_waits w p None = own_waits w p (first_refusal (own_refusals w p WaitEnd))
 
 step_waits : (w : WorldState) (p : ℕ) → is_wait (step w p WaitEnd).reply ≡ false
-step_waits w p = after_waits (cleared w) p (first_refusal (common_refusals (cleared w) p WaitEnd))
+step_waits w p = after_waits (without_marks w) p (first_refusal (common_refusals (without_marks w) p WaitEnd))
 
 at_end : (before : List Entry) (entry : Entry) → slice_get (before ++ entry ∷ []) (length before) ≡ Some entry
 at_end before entry =

@@ -11,23 +11,23 @@ use Rattle.vt_events.specs.declared.reply.Reply.{Reply}
 use Rattle.vt_events.specs.declared.reply.Reply.TheVariants as reply
 use Rattle.vt_hub.specs.Histories.{IsFree, awaits, made_by}
 use Rattle.vt_hub.specs.Shared.{IsSound, SharedView}
-use Rattle.vt_hub.proofs.Lists.{each-more, made-other, made-own, waits-more}
+use Rattle.vt_hub.proofs.Lists.{each_more, made_other, made_own, waits_more}
 use Rattle.vt_journal.specs.declared.limits.Limits.{Limits}
 use Rattle.vt_world.specs.History.{IsLegal, IsNext, LegalGrows, ReplayGrows, replay}
 use Rattle.vt_world.specs.State.{WorldState, is_waiting}
-use Rattle.vt_world.specs.Step.{Gives, Outcome, step}
+use Rattle.vt_world.specs.Step.{HasOutcome, Outcome, step}
 use Rattle.vt_world.specs.StepLaws.{SizesStay, TicketsAreCalled}
 
-wait-plain : (r : Reply) → is_wait (plain_reply r) ≡ is_wait r
-wait-plain reply.Done = refl
-wait-plain (reply.Num n) = refl
-wait-plain (reply.State front mask) = refl
-wait-plain (reply.Text b) = refl
-wait-plain (reply.Mode m) = refl
-wait-plain (reply.Act kind value) = refl
-wait-plain reply.Wait = refl
-wait-plain (reply.Sigs signals) = refl
-wait-plain (reply.Err errno) = refl
+wait_plain : (r : Reply) → is_wait (plain_reply r) ≡ is_wait r
+wait_plain reply.Done = refl
+wait_plain (reply.Num n) = refl
+wait_plain (reply.State front mask) = refl
+wait_plain (reply.Text b) = refl
+wait_plain (reply.Mode m) = refl
+wait_plain (reply.Act kind value) = refl
+wait_plain reply.Wait = refl
+wait_plain (reply.Sigs signals) = refl
+wait_plain (reply.Err errno) = refl
 
 -- the entry is that of the call e of caller p, and so are its answer and its number
 pub record IsEntryOf (p seq : ℕ) (e : Event) (r : Reply) (entry : Entry) : Type 0 where
@@ -37,7 +37,7 @@ pub record IsEntryOf (p seq : ℕ) (e : Event) (r : Reply) (entry : Entry) : Typ
   pub reply : plain_reply entry.reply ≡ plain_reply r
 
 module _ (start : WorldState) (most : Limits) (v w : SharedView) (p seq : ℕ) (e : Event) (r : Reply)
-    (entry : Entry) (of : IsEntryOf p seq e r entry) (gives : Gives (step v.world p e) w.world r)
+    (entry : Entry) (of : IsEntryOf p seq e r entry) (gives : HasOutcome (step v.world p e) w.world r)
     (sound : IsSound start most v) where
   stepped : step (replay start v.log.entries) entry.caller entry.event
       ≡ record { world = w.world; reply = plain_reply r }
@@ -67,15 +67,15 @@ module _ (start : WorldState) (most : Limits) (v w : SharedView) (p seq : ℕ) (
       let also : is_waiting v.world p ≡ true =
       ap (λ (c : ℕ). is_waiting v.world c) (sym of.caller ∙ same) ∙ before in
       absurd (let bad : false ≡ true = sym free ∙ also in cc) in
-      ap awaits (made-other q v.log.entries entry other ∙ append-nil (made_by q v.log.entries))
+      ap awaits (made_other q v.log.entries entry other ∙ append-nil (made_by q v.log.entries))
       ∙ sound.tickets q before)
       (λ now.
       let own : entry.caller ≡ q = of.caller ∙ now.0 in
       let answer : plain_reply entry.reply ≡ reply.Wait =
       of.reply ∙ (sym (ap (λ (o : Outcome). o.reply) gives) ∙ now.1) in
-      ap awaits (made-own q v.log.entries entry own)
-      ∙ (waits-more false (made_by q v.log.entries) entry
-      ∙ (sym (wait-plain entry.reply) ∙ ap is_wait answer)))
+      ap awaits (made_own q v.log.entries entry own)
+      ∙ (waits_more false (made_by q v.log.entries) entry
+      ∙ (sym (wait_plain entry.reply) ∙ ap is_wait answer)))
       (called v.world p e q (ap (λ (x : WorldState). is_waiting x q) world ∙ opened))
 
   pub enters : LegalGrows → ReplayGrows → SizesStay → TicketsAreCalled
@@ -90,7 +90,7 @@ module _ (start : WorldState) (most : Limits) (v w : SharedView) (p seq : ℕ) (
         replayed = sym (ap (replay start) more
             ∙ (grown start es entry ∙ ap (λ (o : Outcome). o.world) stepped));
         free = subst (λ (l : List Entry). IsFree start l) (sym more)
-            (each-more (λ before x. is_waiting (replay start before) x.caller ≡ false) es entry
+            (each_more (λ before x. is_waiting (replay start before) x.caller ≡ false) es entry
             sound.free (ap (λ (x : WorldState). is_waiting x entry.caller) (sym sound.replayed)
             ∙ (ap (λ (c : ℕ). is_waiting v.world c) of.caller ∙ free)));
         limits = limits ∙ sound.limits;

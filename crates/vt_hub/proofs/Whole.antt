@@ -16,10 +16,10 @@ use Rattle.vt_hub.specs.Closed.{IsPart, IsStopped, IsWhole}
 use Rattle.vt_hub.specs.Histories.{BeginsWith}
 use Rattle.vt_hub.specs.Places.{joined_by, kept_by}
 use Rattle.vt_hub.specs.Shared.{IsSound, IsStop, SharedView}
-use Rattle.vt_hub.specs.Carrying.{Carried, display_of, plain, carried}
+use Rattle.vt_hub.specs.Carrying.{Carried, display_of, plain, carried_entries}
 use Rattle.vt_hub.specs.Views.{PassView, is_made, stand_at}
-use Rattle.vt_hub.specs.declared.stand.Stand.{Stand}
-use Rattle.vt_hub.proofs.Carried.{first-display, made-carried, plain-more, plain-carried, read-carried}
+use Rattle.vt_hub.specs.declared.pass_place.PassPlace.{PassPlace}
+use Rattle.vt_hub.proofs.Carried.{first_display, made_carried_entries, plain_more, plain-carried_entries, read_carried_entries}
 use Rattle.vt_journal.specs.Log.{Logged}
 use Rattle.vt_journal.specs.Room.{IsWithin, full_at, has_room}
 use Rattle.vt_journal.specs.declared.full.Full.{Full}
@@ -73,20 +73,20 @@ seal_is z n f p q k = record { by = p k; what = q k }
 abbrev pub stop_of : Option (Seal Full) → Option Full
 stop_of seal = option_map (λ (z : Seal Full). z.what) seal
 
-module _ (start : WorldState) (most : Limits) (hub : TableId) (stands : List Stand)
+module _ (start : WorldState) (most : Limits) (hub : TableId) (stands : List PassPlace)
     (v : View Entry Full) (s : SharedView) (sound : IsSound start most s)
-    (known_at : KnownAt (display_of start) (carried start s.log.entries) s.stop v) where
+    (known_at : KnownAt (display_of start) (carried_entries start s.log.entries) s.stop v) where
   log : List Carried
-  log = carried start s.log.entries
+  log = carried_entries start s.log.entries
 
   first : display_of start ≡ start.display.front
-  first = first-display start sound.display_low sound.display_high
+  first = first_display start sound.display_low sound.display_high
 
   begins : (seen : List Carried) → StartsWith log seen → BeginsWith s.log.entries (plain seen)
   unfolding log
   begins seen is = (
     plain is.0,
-    sym (plain-carried start s.log.entries) ∙ (ap plain is.1 ∙ plain-more seen is.0),
+    sym (plain-carried_entries start s.log.entries) ∙ (ap plain is.1 ∙ plain_more seen is.0),
   )
 
   part : (x : Joined Entry Full) → IsPartOf (display_of start) log s.stop x
@@ -94,14 +94,14 @@ module _ (start : WorldState) (most : Limits) (hub : TableId) (stands : List Sta
   unfolding log
   part x is = record {
     seen = begins x.seen is.seen;
-    mine = ap plain is.mine ∙ made-carried x.number start s.log.entries;
-    word = read-carried start s.log.entries x.known first is.known;
+    mine = ap plain is.mine ∙ made_carried_entries x.number start s.log.entries;
+    word = read_carried_entries start s.log.entries x.known first is.known;
     read = begins x.read is.read;
     met = λ z has. ⊎_elim
         (λ unmet. let bad : None ≡ Some z = sym unmet ∙ has in absurd cc)
         (λ m. (
           ap stop_of (sym m.0 ∙ has),
-          ap plain m.1 ∙ plain-carried start s.log.entries,
+          ap plain m.1 ∙ plain-carried_entries start s.log.entries,
         ))
         is.met;
   }
@@ -184,10 +184,10 @@ module _ (start : WorldState) (most : Limits) (hub : TableId) (stands : List Sta
         limits = sound.limits;
         within = within;
         seen = begins v.seen known_at.seen;
-        word = read-carried start s.log.entries v.known first known_at.known;
+        word = read_carried_entries start s.log.entries v.known first known_at.known;
         read = begins v.read known_at.read;
         parts = parts;
-        unmade = λ n at. sym (made-carried n start s.log.entries)
+        unmade = λ n at. sym (made_carried_entries n start s.log.entries)
             ∙ ap plain (known_at.unmade n (made n ∙ ap is_made at));
         stops = stops;
         unstopped = (unstopped-all, all-unstopped);

@@ -18,11 +18,11 @@ abbrev pub carried_entry : ℕ → Entry → Carried
 carried_entry display e = record { by = e.caller; seq = e.seq; display = display; what = e }
 
 -- the entries, from this world on, each with the display after it
-abbrev pub carried : WorldState → List Entry → List Carried
-carried w [] = []
-carried w (e ∷ es) =
+abbrev pub carried_entries : WorldState → List Entry → List Carried
+carried_entries w [] = []
+carried_entries w (e ∷ es) =
     let after : WorldState = (step w e.caller e.event).world in
-    carried_entry after.display.front e ∷ carried after es
+    carried_entry after.display.front e ∷ carried_entries after es
 
 -- the entries without their displays
 abbrev pub plain : List Carried → List Entry
@@ -30,6 +30,6 @@ plain es = map (λ (e : Carried). e.what) es
 
 -- these are the entries of a legal history from this world, each with the display after it
 pub record IsCarried (start : WorldState) (log : List Carried) : Type 0 where
-  pub is : log ≡ carried start (plain log)
+  pub is : log ≡ carried_entries start (plain log)
   pub legal : IsLegal start (plain log)
   pub first : display_of start ≡ start.display.front

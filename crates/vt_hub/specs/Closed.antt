@@ -5,7 +5,7 @@ use Rattle.turn_lock.specs.declared.seal.Seal.{Seal}
 use Rattle.vt_events.specs.declared.entry.Entry.{Entry}
 use Rattle.vt_hub.specs.Histories.{BeginsWith, IsFree, IsRead, made_by}
 use Rattle.vt_hub.specs.Views.{PassView, StewardView, stand_at}
-use Rattle.vt_hub.specs.declared.stand.Stand.TheVariants.{Unmade}
+use Rattle.vt_hub.specs.declared.pass_place.PassPlace.TheVariants.{Unmade}
 use Rattle.vt_journal.specs.Log.{Logged}
 use Rattle.vt_journal.specs.Room.{IsWithin, full_at, has_room}
 use Rattle.vt_journal.specs.declared.full.Full.{Full}

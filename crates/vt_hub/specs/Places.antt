@@ -11,7 +11,7 @@ use Rattle.atomic_table.specs.Seated.{TableId}
 use Rattle.vt_events.specs.declared.entry.Entry.{Entry}
 use Rattle.vt_hub.specs.Carrying.{plain}
 use Rattle.vt_hub.specs.Views.{PassView, StewardView, is_home, is_made, is_out, stand_at}
-use Rattle.vt_hub.specs.declared.stand.Stand.{Stand}
+use Rattle.vt_hub.specs.declared.pass_place.PassPlace.{PassPlace}
 use Rattle.vt_journal.specs.declared.full.Full.{Full}
 
 -- what a pass of the lock knows, as that of the hub with this number
@@ -39,7 +39,7 @@ joined_by hub x = record {
 }
 
 -- what the first pass of the lock knows, as the steward of the hub
-abbrev pub kept_by : TableId → List Stand → View Entry Full → StewardView
+abbrev pub kept_by : TableId → List PassPlace → View Entry Full → StewardView
 kept_by hub stands v = record {
   hub = hub;
   stands = stands;
@@ -50,11 +50,11 @@ kept_by hub stands v = record {
 }
 
 module _ {K : Type 0} where
-  abbrev pub knowing : ℕ → Pass K Entry Full → PassView
-  knowing number p = known_by (lock_named p) number (lock.view p)
+  abbrev pub pass_view : ℕ → Pass K Entry Full → PassView
+  pass_view number p = known_by (lock_named p) number (lock.view p)
 
-  abbrev pub keeping : List Stand → Pass K Entry Full → StewardView
-  keeping stands p = kept_by (lock_named p) stands (lock.view p)
+  abbrev pub steward_view : List PassPlace → Pass K Entry Full → StewardView
+  steward_view stands p = kept_by (lock_named p) stands (lock.view p)
 
   -- the pass rests, has this number, and made so many entries
   pub record Sits (number seq : ℕ) (p : Pass K Entry Full) : Type 0 where
@@ -63,7 +63,7 @@ module _ {K : Type 0} where
     pub counted : seq ≡ length (lock.view p).mine
 
   -- the first pass rests; what it made and took in is as the stands say, and so many are out
-  pub record Keeps (stands : List Stand) (out : ℕ) (p : Pass K Entry Full) : Type 0 where
+  pub record Keeps (stands : List PassPlace) (out : ℕ) (p : Pass K Entry Full) : Type 0 where
     pub rests : lock.Rests p
     pub first : IsFirst (lock.view p).role
     pub size : length stands ≡ 68

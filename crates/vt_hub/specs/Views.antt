@@ -3,8 +3,8 @@ use Rattle.std.specs.Prelude.{ℕ, Bool, true, false, List, [], Option, None, re
 use Rattle.atomic_table.specs.Seated.{TableId}
 use Rattle.turn_lock.specs.declared.seal.Seal.{Seal}
 use Rattle.vt_events.specs.declared.entry.Entry.{Entry}
-use Rattle.vt_hub.specs.declared.stand.Stand.{Stand}
-use Rattle.vt_hub.specs.declared.stand.Stand.TheVariants.{Unmade, Out, Home}
+use Rattle.vt_hub.specs.declared.pass_place.PassPlace.{PassPlace}
+use Rattle.vt_hub.specs.declared.pass_place.PassPlace.TheVariants.{Unmade, Out, Home}
 use Rattle.vt_journal.specs.declared.full.Full.{Full}
 use Rattle.vt_world.specs.State.{WorldState}
 
@@ -25,34 +25,34 @@ pub record PassView : Type 0 where
 -- taken in, the newest first, as they were then
 pub record StewardView : Type 0 where
   pub hub : TableId
-  pub stands : List Stand
+  pub stands : List PassPlace
   pub seen : List Entry
   pub known : ℕ
   pub read : List Entry
   pub joined : List PassView
 
 -- where the pass of number n is
-abbrev pub stand_at : List Stand → ℕ → Stand
+abbrev pub stand_at : List PassPlace → ℕ → PassPlace
 stand_at stands n = slice_index_or stands n Unmade
 
 -- a pass of this number was made
-abbrev pub is_made : Stand → Bool
+abbrev pub is_made : PassPlace → Bool
 is_made Unmade = false
 is_made s = true
 
 -- it was made, and wasn't taken in
-abbrev pub is_out : Stand → Bool
+abbrev pub is_out : PassPlace → Bool
 is_out Out = true
 is_out s = false
 
 -- it was taken in
-abbrev pub is_home : Stand → Bool
+abbrev pub is_home : PassPlace → Bool
 is_home Home = true
 is_home s = false
 
 -- the steward of a hub that was just opened on this world: it has read the display
-abbrev pub opened : WorldState → TableId → StewardView
-opened start hub = record {
+abbrev pub view_at_open : WorldState → TableId → StewardView
+view_at_open start hub = record {
   hub = hub;
   stands = replicate 68 Unmade;
   seen = [];

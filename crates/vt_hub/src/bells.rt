@@ -5,12 +5,12 @@ use vt_base::{CALLERS, CallerNo, NoMemory};
 
 /// A bell for each caller: who waits for its ticket's end sleeps at its own.
 #[derive(Drop)]
-pub struct Bells {
+pub(crate) struct Bells {
     each: Vec<EventCount>,
 }
 
 impl Bells {
-    pub fn new(alloc: Global) -> Result<Bells, NoMemory> {
+    pub(crate) fn new(alloc: Global) -> Result<Bells, NoMemory> {
         let mut each = Vec::with_capacity(alloc, CALLERS)?;
         for _ in 0..CALLERS {
             each.push(EventCount::new())?;
@@ -19,12 +19,12 @@ impl Bells {
     }
 
     /// A wait of this caller, which ends when its bell is rung from now on.
-    pub fn announced(&self, caller: CallerNo) -> Option<Key<'_>> {
+    pub(crate) fn announced(&self, caller: CallerNo) -> Option<Key<'_>> {
         Some(self.each.get(usize::from(caller.get()))?.prepare_wait())
     }
 
     /// Rings the bells of these callers.
-    pub fn ring(&self, callers: Waiters) {
+    pub(crate) fn ring(&self, callers: Waiters) {
         if callers.is_empty() {
             return;
         }
@@ -38,7 +38,7 @@ impl Bells {
     }
 
     /// Rings every bell.
-    pub fn ring_all(&self) {
+    pub(crate) fn ring_all(&self) {
         for bell in &self.each {
             bell.notify_all();
         }

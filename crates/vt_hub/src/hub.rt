@@ -4,8 +4,8 @@ ghost use Rattle.vt_events.specs.declared.event.Event.TheVariants as event;
 ghost use Rattle.vt_hub.specs.Answers.{Answers, Turns};
 ghost use Rattle.vt_hub.specs.Closed.{IsWhole};
 ghost use Rattle.vt_hub.specs.Histories.{BeginsWith, IsRead, awaits};
-ghost use Rattle.vt_hub.specs.Views.{is_made, is_out, new_pass, opened, stand_at, with_pass};
-ghost use Rattle.vt_hub.specs.declared.stand.Stand.TheVariants.{Home};
+ghost use Rattle.vt_hub.specs.Views.{is_made, is_out, new_pass, view_at_open, stand_at, with_pass};
+ghost use Rattle.vt_hub.specs.declared.pass_place.PassPlace.TheVariants.{Home};
 ghost use Rattle.vt_world.specs.History.{IsLegal, replay};
 ghost use Rattle.vt_world.specs.Spare.{Fits};
 ghost use Rattle.vt_world.specs.State.{is_waiting};
@@ -15,9 +15,9 @@ use crate::answer::Answer;
 use crate::bells::Bells;
 use crate::opening::Opening;
 use crate::pass::Pass;
+use crate::pass_place::PassPlace;
 use crate::run::Run;
 use crate::shared::Shared;
-use crate::stand::Stand;
 use crate::steward::Steward;
 use crate::turn::Turn;
 use std::alloc::Global;
@@ -59,7 +59,7 @@ impl<J: Opening> Hub<J> {
         requires events { limits.events ≤ 1_000_000 }
         requires bytes { limits.bytes ≤ 1_073_741_824 }
         requires free { (p : ℕ) → is_waiting w p ≡ false }
-        ensures { IfOk result (λ made. made.1 ≡ opened J.start made.0) }
+        ensures { IfOk result (λ made. made.1 ≡ view_at_open J.start made.0) }
     {
         let size = w.size();
         let log = Log::with_room(alloc, limits.events, limits.bytes)?;
@@ -67,7 +67,7 @@ impl<J: Opening> Hub<J> {
         shared.sound();
         let bells = Bells::new(alloc)?;
         let (lock, place) = TurnLock::open(alloc, shared)?;
-        let stands = [Stand::Unmade; 68];
+        let stands = [PassPlace::Unmade; 68];
         Ok((
             Hub {
                 lock,
@@ -99,7 +99,7 @@ impl<J: Opening> Hub<J> {
         ensures pass { result ≡ new_pass c s.old }
     {
         let place = self.lock.split(&mut s.place, u32::from(c.get()));
-        s.stands[usize::from(c.get())] = Stand::Out;
+        s.stands[usize::from(c.get())] = PassPlace::Out;
         s.out += 1;
         Pass {
             place,
@@ -128,7 +128,7 @@ impl<J: Opening> Hub<J> {
             seq: _,
         } = p;
         self.lock.join(&mut s.place, place);
-        s.stands[usize::from(number.get())] = Stand::Home;
+        s.stands[usize::from(number.get())] = PassPlace::Home;
         s.out -= 1;
     }
 

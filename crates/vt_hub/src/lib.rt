@@ -3,14 +3,14 @@
 
 mod answer;
 mod bells;
-mod fronts;
 mod hub;
+mod kept_impl;
 mod opening;
 mod pass;
+mod pass_place;
 mod run;
 mod seat;
 mod shared;
-mod stand;
 mod steward;
 mod turn;
 mod waiters;
@@ -19,7 +19,7 @@ pub use answer::Answer;
 pub use hub::Hub;
 pub use opening::Opening;
 pub use pass::Pass;
+pub use pass_place::PassPlace;
 pub use run::Run;
 pub use seat::Seat;
-pub use stand::Stand;
 pub use steward::Steward;

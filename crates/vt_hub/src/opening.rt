@@ -14,9 +14,9 @@ pub trait Opening {
 impl Opening for Brand {
     ghost use Rattle.std.specs.Prelude.{[]};
     ghost use Rattle.key_tables.specs.Tables.{tables_of};
-    ghost use Rattle.vt_world.specs.Start.{opening};
+    ghost use Rattle.vt_world.specs.Start.{start_world};
 
-    ghost start = { opening 1 1 2 1 1 [] (tables_of [] [] []) };
+    ghost start = { start_world 1 1 2 1 1 [] (tables_of [] [] []) };
 
     ghost limits = { record { events = 0; bytes = 0 } };
 }

@@ -15,12 +15,12 @@ pub struct Pass<J: Opening> {
 }
 
 impl<J: Opening> Model for Pass<J> {
-    ghost use Rattle.vt_hub.specs.Places.{Sits, knowing};
+    ghost use Rattle.vt_hub.specs.Places.{Sits, pass_view};
     ghost use Rattle.vt_hub.specs.Views.{PassView};
 
     ghost Value = { PassView };
 
-    ghost view = { λ p. knowing p.number p.place };
+    ghost view = { λ p. pass_view p.number p.place };
 
     ghost invariant = { λ p. Sits p.number p.seq p.place };
 }

@@ -20,7 +20,7 @@ use vt_world::{
 
 /// What lies under the lock: the world after the entries of the log, and where the hub stopped.
 #[derive(Drop)]
-pub struct Shared<J: Opening> {
+pub(crate) struct Shared<J: Opening> {
     // In a box, so that a turn moves one word of it.
     world: Box<World>,
     log: Log,
@@ -44,7 +44,7 @@ impl<J: Opening> Model for Shared<J> {
 
 impl<J: Opening> Shared<J> {
     /// The world that is opened, with no entries.
-    pub fn new(world: Box<World>, log: Log) -> Shared<J>
+    pub(crate) fn new(world: Box<World>, log: Log) -> Shared<J>
         requires start { world.value ≡ J.start }
         requires limits { log.limits ≡ J.limits }
         requires empty { log.entries ≡ [] }
@@ -66,14 +66,14 @@ impl<J: Opening> Shared<J> {
     }
 
     /// What it always keeps.
-    pub fn sound(&self)
+    pub(crate) fn sound(&self)
         ensures { IsSound J.start J.limits self.now }
     {
         let _ = &self.stop;
     }
 
     /// 64 times the number of entries, plus the display.
-    pub fn word(&self) -> u64
+    pub(crate) fn word(&self) -> u64
         ensures { result ≡ 64 * length self.now.log.entries + self.now.world.display.front }
     {
         64 * self.log.entries().len() as u64 + u64::from(self.world.display().get())
@@ -81,7 +81,7 @@ impl<J: Opening> Shared<J> {
 
     /// One look of a caller that has made `seq` calls: it enters its next call, unless the hub has
     /// stopped, its ticket is open, or there is no room. Where there is none, the hub stops.
-    pub fn call(&mut self, caller: CallerNo, seq: u32, event: Event, spare: Spare) -> Turn
+    pub(crate) fn call(&mut self, caller: CallerNo, seq: u32, event: Event, spare: Spare) -> Turn
         requires fits { Fits J.start.rows J.start.cols event spare }
         requires number { seq ≡ length (made_by caller self.old.log.entries) }
         ensures { ComesTo caller seq event self.old self.new result }
@@ -139,12 +139,12 @@ impl<J: Opening> Shared<J> {
     }
 
     /// Those whose tickets the last call ended.
-    pub fn ended(&self) -> Waiters {
+    pub(crate) fn ended(&self) -> Waiters {
         self.ended
     }
 
     /// The world, the log, and where the hub stopped.
-    pub fn parts(self) -> (World, Log, Option<Full>)
+    pub(crate) fn parts(self) -> (World, Log, Option<Full>)
         ensures world { result.0 ≡ self.world }
         ensures log { result.1 ≡ self.log }
         ensures stop { result.2 ≡ option_map (λ z. z.what) self.stop }

@@ -2,8 +2,8 @@ ghost use Rattle.std.specs.Prelude.{◌≡◌, count_by};
 ghost use Rattle.vt_hub.specs.Views.{is_made, is_out, stand_at};
 
 use crate::opening::Opening;
+use crate::pass_place::PassPlace;
 use crate::shared::Shared;
-use crate::stand::Stand;
 use std::marker::Model;
 use turn_lock::Pass as Place;
 use vt_base::CallerNo;
@@ -12,17 +12,17 @@ use vt_base::CallerNo;
 #[derive(Drop)]
 pub struct Steward<J: Opening> {
     pub(crate) place: Place<Shared<J>>,
-    pub(crate) stands: [Stand; 68],
+    pub(crate) stands: [PassPlace; 68],
     pub(crate) out: u32,
 }
 
 impl<J: Opening> Model for Steward<J> {
-    ghost use Rattle.vt_hub.specs.Places.{Keeps, keeping};
+    ghost use Rattle.vt_hub.specs.Places.{Keeps, steward_view};
     ghost use Rattle.vt_hub.specs.Views.{StewardView};
 
     ghost Value = { StewardView };
 
-    ghost view = { λ s. keeping s.stands s.place };
+    ghost view = { λ s. steward_view s.stands s.place };
 
     ghost invariant = { λ s. Keeps s.stands s.out s.place };
 }
@@ -32,7 +32,7 @@ impl<J: Opening> Steward<J> {
     pub fn made(&self, c: CallerNo) -> bool
         ensures { result ≡ is_made (stand_at self.now.stands c) }
     {
-        !matches!(self.stands[usize::from(c.get())], Stand::Unmade)
+        !matches!(self.stands[usize::from(c.get())], PassPlace::Unmade)
     }
 
     /// How many passes are out.

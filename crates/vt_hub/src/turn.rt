@@ -3,7 +3,7 @@ use vt_journal::Full;
 
 /// What one look of a caller comes to.
 #[derive(Drop)]
-pub enum Turn {
+pub(crate) enum Turn {
     /// Its call was entered at this place.
     Done { at: u32, reply: Reply },
     /// The hub has stopped.

@@ -3,25 +3,25 @@ use vt_world::World;
 
 /// Processes whose tickets are open, or were: a bit for each number.
 #[derive(Clone, Copy)]
-pub struct Waiters {
+pub(crate) struct Waiters {
     bits: u128,
 }
 
 impl Waiters {
-    pub fn none() -> Waiters {
+    pub(crate) fn none() -> Waiters {
         Waiters { bits: 0 }
     }
 
-    pub fn is_empty(self) -> bool {
+    pub(crate) fn is_empty(self) -> bool {
         self.bits == 0
     }
 
-    pub fn has(self, caller: CallerNo) -> bool {
+    pub(crate) fn has(self, caller: CallerNo) -> bool {
         self.bits & bit(caller) != 0
     }
 
     /// Those that wait after a call of this caller, where these waited before it.
-    pub fn after(self, world: &World, caller: CallerNo) -> Waiters {
+    pub(crate) fn after(self, world: &World, caller: CallerNo) -> Waiters {
         let mut waits = Waiters::none();
         if world.waiting(caller) {
             waits.bits |= bit(caller);
@@ -38,7 +38,7 @@ impl Waiters {
     }
 
     /// These without those.
-    pub fn without(self, those: Waiters) -> Waiters {
+    pub(crate) fn without(self, those: Waiters) -> Waiters {
         Waiters {
             bits: self.bits & !those.bits,
         }

@@ -5,7 +5,7 @@ use vt_base::Bytes;
 
 /// Bytes that are taken from the front.
 #[derive(Drop)]
-pub struct Cursor {
+pub(crate) struct Cursor {
     bytes: Bytes,
     at: usize,
 }
@@ -21,7 +21,7 @@ impl Model for Cursor {
 }
 
 impl Cursor {
-    pub fn new(bytes: Bytes) -> Cursor
+    pub(crate) fn new(bytes: Bytes) -> Cursor
         ensures { result ≡ bytes.bytes }
     {
         Cursor { bytes, at: 0 }
@@ -29,18 +29,18 @@ impl Cursor {
 
     /// Moves the next bytes into the front of `buf`, as many as it takes and are left, and gives
     /// their number.
-    pub fn read(&mut self, buf: &mut [u8]) -> usize
+    pub(crate) fn read(&mut self, buf: &mut [u8]) -> usize
         ensures count { result ≡ min (length buf.old) (length self.old) }
         ensures moved { buf.new ≡ take result self.old ++ drop result buf.old }
         ensures rest { self.new ≡ drop result self.old }
     {
-        let count = move_front(&self.bytes.as_slice()[self.at..], buf);
+        let count = copy_bytes(&self.bytes.as_slice()[self.at..], buf);
         self.at += count;
         count
     }
 
     /// Takes the next byte, and says whether it is there and isn't 0.
-    pub fn take_flag(&mut self) -> bool
+    pub(crate) fn take_flag(&mut self) -> bool
         ensures flag { IsTrue result ↔ (slice_index self.old 0 ≢ 0) }
         ensures rest { self.new ≡ drop 1 self.old }
     {
@@ -51,7 +51,7 @@ impl Cursor {
 }
 
 // Copies as many bytes as both have from the front of `from` to the front of `to`.
-pub fn move_front(from: &[u8], to: &mut [u8]) -> usize
+pub(crate) fn copy_bytes(from: &[u8], to: &mut [u8]) -> usize
     ensures count { result ≡ min (length to.old) (length from.now) }
     ensures moved { to.new ≡ take result from.now ++ drop result to.old }
 {

@@ -1,2 +1,2 @@
 /// How often a call over a real stream tries again after an interruption. This project's own.
-pub const RETRIES: u16 = 1_000;
+pub(crate) const RETRIES: u16 = 1_000;

@@ -4,7 +4,7 @@ ghost use Rattle.std.specs.Io.KnownBytes.{ReadConsumes};
 ghost use Rattle.vt_io.specs.Faults.{HasCause, one_more};
 ghost use Rattle.vt_io.specs.Stream.{FillsFront};
 
-use crate::cursor::move_front;
+use crate::cursor::copy_bytes;
 use crate::retries::RETRIES;
 use crate::{Failed, Source};
 use std::io::{ErrorKind, Read};
@@ -64,7 +64,7 @@ impl<R: Read> Source for StdSource<R> {
         let most = buf.len().min(PIECE_BYTES);
         let piece = &mut self.piece[..];
         match read_again(&mut self.reader, &mut piece[..most]) {
-            Some(count) => Ok(move_front(&piece[..count], buf)),
+            Some(count) => Ok(copy_bytes(&piece[..count], buf)),
             None => {
                 self.faults = self.faults.saturating_add(1);
                 Err(Failed)

@@ -48,17 +48,3 @@ none_within most found words rest ns i count short within same none =
     let here = number_within (map decimal found) words rest ns (omega (arith, inside, len)) same in
     none (get_or ns i 0) here.0 (within.each i inside)
     (here.1 ∙ ap (λ k. decimal (get_or ns k 0) ∷ here.0) len)
-
--- one number more is within its most
-pub within_more : (most ns : List ℕ) (i n : ℕ) → length ns ≡ i
-    → ((k : ℕ) → k < i → get_or ns k 0 ≤ get_or most k 0) → n ≤ get_or most i 0
-    → (k : ℕ) → k < i + 1 → get_or (ns ++ n ∷ []) k 0 ≤ get_or most k 0
-within_more most ns i n count before fits k below =
-    ⊎_elim
-    (λ earlier.
-    rw (get_or_append_left ns (n ∷ []) 0 k (omega (arith, earlier, count))) (before k earlier))
-    (λ past.
-    let here : k ≡ i = omega (arith, past, below) in
-    subst (λ j. get_or (ns ++ n ∷ []) j 0 ≤ get_or most j 0) (sym here)
-    (rw (get_or_push ns n 0 i count) fits))
-    (cases_lt k i)

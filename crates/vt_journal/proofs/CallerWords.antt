@@ -106,8 +106,8 @@ is_high-decimal =
     digit : (n : ℕ) → is_high ((48 + n) ∷ []) ≡ true
     digit n = ap (λ b. b && true) (lt-ltb 0x2F (48 + n) (omega arith))
 
-pub is_high-caller : (version n : ℕ) → HasWord version n → is_high (caller_word version n) ≡ true
-is_high-caller version n fit = by_test (eqb version 1) (is_process n)
+pub is_high_caller : (version n : ℕ) → HasWord version n → is_high (caller_word version n) ≡ true
+is_high_caller version n fit = by_test (eqb version 1) (is_process n)
   where
     by_test : (old p : Bool)
         → is_high
@@ -118,8 +118,8 @@ is_high-caller version n fit = by_test (eqb version 1) (is_process n)
     by_test false false = is_high-decimal (keyboard_number n) (keyboard_small version n fit)
 
 -- it is clear of blanks
-pub is_clear-caller : (version n : ℕ) → HasWord version n → is_clear (caller_word version n) ≡ true
-is_clear-caller version n fit = by_test (eqb version 1) (is_process n)
+pub is_clear_caller : (version n : ℕ) → HasWord version n → is_clear (caller_word version n) ≡ true
+is_clear_caller version n fit = by_test (eqb version 1) (is_process n)
   where
     by_test : (old p : Bool)
         → is_clear

@@ -64,21 +64,21 @@ pub kind_once : (j k : Kind) → name_of (blank j) ≡ name_of (blank k) → j �
 kind_once j k same = same_Some j k (sym (named-blank j) ∙ ap named same ∙ named-blank k)
 
 -- a call is that of its name, its numbers and its bytes
-pub call_of-parts : (e : Event)
+pub call_of_parts : (e : Event)
     → option_map (λ k. call_of k (numbers_of e) (bytes_of e)) (named (name_of e))
     ≡ Some (plain_event e)
-call_of-parts (event.Scan b) = refl
-call_of-parts e = refl
+call_of_parts (event.Scan b) = refl
+call_of_parts e = refl
 
 -- so two calls with the same ones are the same
 pub same_call : (d e : Event) → plain_event d ≡ d → plain_event e ≡ e → name_of d ≡ name_of e
     → numbers_of d ≡ numbers_of e → held_of d ≡ held_of e → d ≡ e
 same_call d e plain_d plain_e names numbers held =
     let same : Some (plain_event d) ≡ Some (plain_event e) =
-    sym (call_of-parts d)
+    sym (call_of_parts d)
     ∙ (λ j.
     option_map (λ k. call_of k (numbers j) (unwrap_or (held j) [])) (named (names j)))
-    ∙ call_of-parts e in
+    ∙ call_of_parts e in
     let plain : plain_event d ≡ plain_event e = cc in
     sym plain_d ∙ plain ∙ plain_e
 
@@ -115,10 +115,10 @@ same_name d e names =
     (one.many ∙ sym other.many, one.holds ∙ sym other.holds)
 
 -- a kind without bytes takes any number
-pub takes-held : (k : Kind) (b : List ℕ)
+pub takes_held : (k : Kind) (b : List ℕ)
     → takes k (length (unwrap_or (held_if (holds (blank k)) b) [])) ≡ takes k (length b)
-takes-held kind.Scan b = refl
-takes-held k b = refl
+takes_held kind.Scan b = refl
+takes_held k b = refl
 
 -- the call that is made of as many numbers, and of as many bytes as its kind takes
 pub record IsMade (k : Kind) (n b : List ℕ) (e : Event) : Type 0 where
@@ -138,20 +138,20 @@ one_by_one n =
     (omega (arith, within, length-map-range_with_len each 0 (length n))) (omega arith))
 
 -- its numbers, one by one
-numbers-call : (k : Kind) (n b : List ℕ)
+numbers_call : (k : Kind) (n b : List ℕ)
     → numbers_of (call_of k n b)
     ≡ map (λ i. get_or n i 0) (range_with_len 0 (length (numbers_of (blank k))))
-numbers-call kind.Scan n b = refl
-numbers-call k n b = refl
+numbers_call kind.Scan n b = refl
+numbers_call k n b = refl
 
 -- its bytes
-held-call : (k : Kind) (n b : List ℕ) → takes k (length b) ≡ true
+held_call : (k : Kind) (n b : List ℕ) → takes k (length b) ≡ true
     → held_of (call_of k n b) ≡ held_if (holds (blank k)) b
-held-call kind.Scan n [] few = cc
-held-call kind.Scan n (x ∷ []) few = refl
-held-call kind.Scan n (x ∷ y ∷ b) few =
+held_call kind.Scan n [] few = cc
+held_call kind.Scan n (x ∷ []) few = refl
+held_call kind.Scan n (x ∷ y ∷ b) few =
     absurd (omega (arith, eqb-true (length (x ∷ y ∷ b)) 1 few))
-held-call k n b few = refl
+held_call k n b few = refl
 
 same-call : (k : Kind) (n b : List ℕ)
     → (name_of (call_of k n b) ≡ name_of (blank k))
@@ -164,9 +164,9 @@ pub made : (k : Kind) (n b : List ℕ) → length n ≡ length (numbers_of (blan
 made k n b many few = record {
   name = (same-call k n b).0;
   numbers =
-      numbers-call k n b
+      numbers_call k n b
       ∙ ap (λ len. map (λ i. get_or n i 0) (range_with_len 0 len)) (sym many)
       ∙ one_by_one n;
-  held = held-call k n b few;
+  held = held_call k n b few;
   plain = (same-call k n b).1;
 }

@@ -10,15 +10,15 @@ use Rattle.std.proofs.lemmas.List.Sums.{AllPass-from_list_all}
 use Rattle.vt_events.specs.declared.event.Event.{Event}
 use Rattle.vt_events.specs.declared.event.Event.TheVariants as event
 use Rattle.vt_journal.specs.Calls.{held_of, name_of, numbers_of}
-use Rattle.vt_journal.specs.Cut.{cut}
+use Rattle.vt_journal.specs.Cut.{words_of_text}
 use Rattle.vt_journal.specs.Hex.{hex_byte, hex_digit}
 use Rattle.vt_journal.specs.Lines.{IsLine}
 use Rattle.vt_journal.specs.Replies.{reply_name}
-use Rattle.vt_journal.specs.Text.{spaced}
-use Rattle.vt_journal.specs.Words.{IsFit, event_words, held_words, spelled}
+use Rattle.vt_journal.specs.Text.{blank_before_each}
+use Rattle.vt_journal.specs.Words.{IsFit, event_words, held_words, joined_by_blanks}
 use Rattle.vt_journal.specs.declared.reply_kind.ReplyKind.{ReplyKind}
 use Rattle.vt_journal.specs.declared.reply_kind.ReplyKind.TheVariants as kind
-use Rattle.vt_journal.proofs.Lines.{spelled-cons}
+use Rattle.vt_journal.proofs.Lines.{joined_by_blanks-cons}
 
 -- each byte is above that of a blank
 abbrev pub is_clear : List ℕ → Bool
@@ -48,31 +48,31 @@ line_of_word word is =
     All-weaker (λ b. 0x20 < b) (λ b. b ≢ 0x0A)
     (λ b above. other b 0x0A (omega (arith, above))) word (all_above word is)
 
-line_of_words : (words : List (List ℕ)) → are_clear words ≡ true → IsLine (spaced words)
+line_of_words : (words : List (List ℕ)) → are_clear words ≡ true → IsLine (blank_before_each words)
 line_of_words [] is = All-nil (λ b. b ≢ 0x0A)
 line_of_words (word ∷ words) is =
     let both = and_parts (is_clear word) (are_clear words) is in
-    All-cons (λ b. b ≢ 0x0A) 0x20 (word ++ spaced words) (λ same. omega (arith, same))
-    (All-append (λ b. b ≢ 0x0A) word (spaced words) (line_of_word word both.0)
+    All-cons (λ b. b ≢ 0x0A) 0x20 (word ++ blank_before_each words) (λ same. omega (arith, same))
+    (All-append (λ b. b ≢ 0x0A) word (blank_before_each words) (line_of_word word both.0)
     (line_of_words words both.1))
 
 -- spelled words are a line
-pub line-spelled : (word : List ℕ) (words : List (List ℕ)) → is_clear word ≡ true
-    → are_clear words ≡ true → IsLine (spelled (word ∷ words))
-line-spelled word words first others =
-    rw (spelled-cons word words)
-    (All-append (λ b. b ≢ 0x0A) word (spaced words) (line_of_word word first)
+pub line_joined_by_blanks : (word : List ℕ) (words : List (List ℕ)) → is_clear word ≡ true
+    → are_clear words ≡ true → IsLine (joined_by_blanks (word ∷ words))
+line_joined_by_blanks word words first others =
+    rw (joined_by_blanks-cons word words)
+    (All-append (λ b. b ≢ 0x0A) word (blank_before_each words) (line_of_word word first)
     (line_of_words words others))
 
 -- words are found again in their text
-pub cut-spelled : (word : List ℕ) (words : List (List ℕ)) → is_clear word ≡ true
-    → are_clear words ≡ true → cut (spelled (word ∷ words)) ≡ word ∷ words
-cut-spelled word [] first others =
+pub words_of_text-joined_by_blanks : (word : List ℕ) (words : List (List ℕ)) → is_clear word ≡ true
+    → are_clear words ≡ true → words_of_text (joined_by_blanks (word ∷ words)) ≡ word ∷ words
+words_of_text-joined_by_blanks word [] first others =
     slice_split_none (λ b. eqb b 0x20) word (no_blank word first)
-cut-spelled word (next ∷ words) first others =
+words_of_text-joined_by_blanks word (next ∷ words) first others =
     let both = and_parts (is_clear next) (are_clear words) others in
-    slice_split_at (λ b. eqb b 0x20) word 0x20 (spelled (next ∷ words)) (no_blank word first) refl
-    ∙ ap (λ rest. word ∷ rest) (cut-spelled next words both.0 both.1)
+    slice_split_at (λ b. eqb b 0x20) word 0x20 (joined_by_blanks (next ∷ words)) (no_blank word first) refl
+    ∙ ap (λ rest. word ∷ rest) (words_of_text-joined_by_blanks next words both.0 both.1)
 
 -- words one behind the other
 pub are_clear-append : (u v : List (List ℕ)) → are_clear u ≡ true → are_clear v ≡ true
@@ -80,13 +80,9 @@ pub are_clear-append : (u v : List (List ℕ)) → are_clear u ≡ true → are_
 are_clear-append u v first others = list_all-append is_clear u v ∙ (λ j. first j && others j)
 
 -- names are clear
-pub is_clear-name : (e : Event) → is_clear (name_of e) ≡ true
-is_clear-name (event.Scan b) = refl
-is_clear-name e = refl
-
-is_clear-reply_name : (k : ReplyKind) → is_clear (reply_name k) ≡ true
-is_clear-reply_name kind.Done = refl
-is_clear-reply_name k = refl
+pub is_clear_name : (e : Event) → is_clear (name_of e) ≡ true
+is_clear_name (event.Scan b) = refl
+is_clear_name e = refl
 
 -- numbers are clear
 pub is_clear-decimal : (n : ℕ) → n < 2 ^ 64 → is_clear (decimal n) ≡ true
@@ -100,32 +96,32 @@ is_clear-decimal =
     digit_word n = ap (λ b. b && true) (lt-ltb 0x20 (48 + n) (omega arith))
 
 -- so are lists of numbers
-pub are_clear-decimals : (ns : List ℕ) → All (λ n. n < 2 ^ 64) ns
+pub are_clear_decimals : (ns : List ℕ) → All (λ n. n < 2 ^ 64) ns
     → are_clear (map decimal ns) ≡ true
-are_clear-decimals [] fit = refl
-are_clear-decimals (n ∷ ns) fit =
+are_clear_decimals [] fit = refl
+are_clear_decimals (n ∷ ns) fit =
     λ j.
     is_clear-decimal n (fit 0 0 (omega arith)) j
-    && are_clear-decimals ns (λ k d within. fit (suc k) d (omega arith)) j
+    && are_clear_decimals ns (λ k d within. fit (suc k) d (omega arith)) j
 
 -- a hexadecimal digit is no blank
-hex_digit-clear : (n : ℕ) → ltb 0x20 (hex_digit n) ≡ true
-hex_digit-clear n = by_test (ltb n 10)
+hex_digit_clear : (n : ℕ) → ltb 0x20 (hex_digit n) ≡ true
+hex_digit_clear n = by_test (ltb n 10)
   where
     by_test : (r : Bool) → ltb 0x20 (cond r (0x30 + n) (0x57 + n)) ≡ true
     by_test true = lt-ltb 0x20 (0x30 + n) (omega arith)
     by_test false = lt-ltb 0x20 (0x57 + n) (omega arith)
 
-is_clear-pairs : (bytes : List ℕ) → is_clear (flat_map hex_byte bytes) ≡ true
-is_clear-pairs [] = refl
-is_clear-pairs (b ∷ bytes) =
-    λ j. hex_digit-clear (b / 16) j && (hex_digit-clear (b % 16) j && is_clear-pairs bytes j)
+is_clear_pairs : (bytes : List ℕ) → is_clear (flat_map hex_byte bytes) ≡ true
+is_clear_pairs [] = refl
+is_clear_pairs (b ∷ bytes) =
+    λ j. hex_digit_clear (b / 16) j && (hex_digit_clear (b % 16) j && is_clear_pairs bytes j)
 
 -- bytes are clear
-pub are_clear-held : (held : Option (List ℕ)) → are_clear (held_words held) ≡ true
-are_clear-held None = refl
-are_clear-held (Some []) = refl
-are_clear-held (Some (b ∷ bytes)) = ap (λ r. r && true) (is_clear-pairs (b ∷ bytes))
+pub are_clear_held : (held : Option (List ℕ)) → are_clear (held_words held) ≡ true
+are_clear_held None = refl
+are_clear_held (Some []) = refl
+are_clear_held (Some (b ∷ bytes)) = ap (λ r. r && true) (is_clear_pairs (b ∷ bytes))
 
 -- so are all words of a call
 below_wide : (n : ℕ) → n < 2 ^ 16 → n < 2 ^ 64
@@ -136,5 +132,5 @@ are_clear-event e fit =
     let numbers = All-weaker (λ n. n < 2 ^ 16) (λ n. n < 2 ^ 64) below_wide (numbers_of e) fit.numbers in
     let others =
     are_clear-append (map decimal (numbers_of e)) (held_words (held_of e))
-    (are_clear-decimals (numbers_of e) numbers) (are_clear-held (held_of e)) in
-    λ j. is_clear-name e j && others j
+    (are_clear_decimals (numbers_of e) numbers) (are_clear_held (held_of e)) in
+    λ j. is_clear_name e j && others j

@@ -3,12 +3,12 @@ use Rattle.std.proofs.Common.{◌≡◌, ◌≢◌, ℕ, ◌+◌, ◌<◌, ◌^�
 use Rattle.std.proofs.lemmas.Bool.{cases_lt}
 use Rattle.std.proofs.lemmas.Fmt.{decimal_digit, decimal_injective}
 use Rattle.vt_journal.specs.Callers.{IsVersion}
-use Rattle.vt_journal.specs.Cut.{cut}
+use Rattle.vt_journal.specs.Cut.{words_of_text}
 use Rattle.vt_journal.specs.Journal.{first_words, line_text}
 use Rattle.vt_journal.specs.Lines.{IsLine}
 use Rattle.vt_journal.specs.Says.{HasFirst, IsNoFirst}
-use Rattle.vt_journal.specs.Words.{spelled}
-use Rattle.vt_journal.proofs.Clear.{are_clear, cut-spelled, is_clear-decimal, line-spelled}
+use Rattle.vt_journal.specs.Words.{joined_by_blanks}
+use Rattle.vt_journal.proofs.Clear.{are_clear, words_of_text-joined_by_blanks, is_clear-decimal, line_joined_by_blanks}
 use Rattle.vt_journal.proofs.Once.{lines_once}
 
 small : (version : ℕ) → IsVersion version → version < 2 ^ 64
@@ -17,13 +17,13 @@ small version known = omega (arith, known.1)
 clear : (version : ℕ) → IsVersion version → are_clear (decimal version ∷ []) ≡ true
 clear version known = ap (λ b. b && true) (is_clear-decimal version (small version known))
 
-line_first : (version : ℕ) → IsVersion version → IsLine (spelled (first_words version))
+line_first : (version : ℕ) → IsVersion version → IsLine (joined_by_blanks (first_words version))
 line_first version known =
-    line-spelled (codes "%journal") (decimal version ∷ []) refl (clear version known)
+    line_joined_by_blanks (codes "%journal") (decimal version ∷ []) refl (clear version known)
 
-cut_first : (version : ℕ) → IsVersion version → cut (spelled (first_words version)) ≡ first_words version
+cut_first : (version : ℕ) → IsVersion version → words_of_text (joined_by_blanks (first_words version)) ≡ first_words version
 cut_first version known =
-    cut-spelled (codes "%journal") (decimal version ∷ []) refl (clear version known)
+    words_of_text-joined_by_blanks (codes "%journal") (decimal version ∷ []) refl (clear version known)
 
 pub first_once : (v w : ℕ) (rest more : List ℕ) → IsVersion v → IsVersion w
     → line_text (first_words v) ++ rest ≡ line_text (first_words w) ++ more → v ≡ w
@@ -32,7 +32,7 @@ first_once v w rest more known_v known_w same =
     lines_once (first_words v) (first_words w) rest more (line_first v known_v) (line_first w known_w)
     same in
     let words : first_words v ≡ first_words w =
-    sym (cut_first v known_v) ∙ ap cut both.0 ∙ cut_first w known_w in
+    sym (cut_first v known_v) ∙ ap words_of_text both.0 ∙ cut_first w known_w in
     let digits : decimal v ≡ decimal w = cc in
     decimal_injective v w (small v known_v) (small w known_w) digits
 

@@ -11,15 +11,15 @@ use Rattle.vt_events.specs.Plain.{plain_entry}
 use Rattle.vt_events.specs.declared.entry.Entry.{Entry}
 use Rattle.vt_journal.specs.Journal.{entry_words, line_text}
 use Rattle.vt_journal.specs.Says.{IsFitEntry}
-use Rattle.vt_journal.specs.Text.{spaced}
-use Rattle.vt_journal.specs.Words.{spelled}
+use Rattle.vt_journal.specs.Text.{blank_before_each}
+use Rattle.vt_journal.specs.Words.{joined_by_blanks}
 
 -- words with blanks between are the first word, and the others each behind a blank
-pub spelled-cons : (word : List ℕ) (words : List (List ℕ))
-    → spelled (word ∷ words) ≡ word ++ spaced words
-spelled-cons word [] = sym (append-nil word)
-spelled-cons word (next ∷ words) =
-    ap (λ text. word ++ (0x20 ∷ text)) (spelled-cons next words)
+pub joined_by_blanks-cons : (word : List ℕ) (words : List (List ℕ))
+    → joined_by_blanks (word ∷ words) ≡ word ++ blank_before_each words
+joined_by_blanks-cons word [] = sym (append-nil word)
+joined_by_blanks-cons word (next ∷ words) =
+    ap (λ text. word ++ (0x20 ∷ text)) (joined_by_blanks-cons next words)
 
 -- the digits of a number of three
 pub decimal_three : (n : ℕ) → 100 ≤ n → n < 1000
@@ -31,36 +31,36 @@ decimal_three n least most =
 -- the line of an entry, from its pieces
 pub entry_line : (caller seq sign : List ℕ) (call answer : List (List ℕ))
     (t0 t1 t2 t3 t4 t5 t6 : List ℕ)
-    → t1 ≡ t0 ++ caller → t2 ≡ t1 ++ 0x20 ∷ seq → t3 ≡ t2 ++ spaced call → t4 ≡ t3 ++ 0x20 ∷ sign
-    → t5 ≡ t4 ++ spaced answer → t6 ≡ t5 ++ 0x0A ∷ []
+    → t1 ≡ t0 ++ caller → t2 ≡ t1 ++ 0x20 ∷ seq → t3 ≡ t2 ++ blank_before_each call → t4 ≡ t3 ++ 0x20 ∷ sign
+    → t5 ≡ t4 ++ blank_before_each answer → t6 ≡ t5 ++ 0x0A ∷ []
     → t6 ≡ t0 ++ line_text (caller ∷ seq ∷ call ++ sign ∷ answer)
 entry_line caller seq sign call answer t0 t1 t2 t3 t4 t5 t6 is1 is2 is3 is4 is5 is6 =
     let others = flat_map-append (λ (word : List ℕ). 0x20 ∷ word) call (sign ∷ answer) in
-    let whole = spelled-cons caller (seq ∷ call ++ sign ∷ answer) in
+    let whole = joined_by_blanks-cons caller (seq ∷ call ++ sign ∷ answer) in
     rw whole (rw others (simp (is6, is5, is4, is3, is2, is1, append_assoc)))
 
 -- a line of a name and of numbers, from its pieces
 pub numbered_line : (name ns : List ℕ) (i : ℕ) (t0 t1 : List ℕ) → take i ns ≡ ns
-    → t1 ≡ (t0 ++ name) ++ spaced (map decimal (take i ns))
+    → t1 ≡ (t0 ++ name) ++ blank_before_each (map decimal (take i ns))
     → t1 ++ 0x0A ∷ [] ≡ t0 ++ line_text (name ∷ map decimal ns)
 numbered_line name ns i t0 t1 all is =
-    let whole : t1 ≡ (t0 ++ name) ++ spaced (map decimal ns) =
-    is ∙ ap (λ ms. (t0 ++ name) ++ spaced (map decimal ms)) all in
-    rw (spelled-cons name (map decimal ns)) (simp (whole, append_assoc))
+    let whole : t1 ≡ (t0 ++ name) ++ blank_before_each (map decimal ns) =
+    is ∙ ap (λ ms. (t0 ++ name) ++ blank_before_each (map decimal ms)) all in
+    rw (joined_by_blanks-cons name (map decimal ns)) (simp (whole, append_assoc))
 
 -- a name and numbers, each behind a blank, from their pieces
 pub named_numbers : (name ns : List ℕ) (i : ℕ) (t0 t1 : List ℕ) → take i ns ≡ ns
-    → t1 ≡ (t0 ++ 0x20 ∷ name) ++ spaced (map decimal (take i ns))
-    → t1 ≡ t0 ++ spaced (name ∷ map decimal ns)
+    → t1 ≡ (t0 ++ 0x20 ∷ name) ++ blank_before_each (map decimal (take i ns))
+    → t1 ≡ t0 ++ blank_before_each (name ∷ map decimal ns)
 named_numbers name ns i t0 t1 all is =
     is
-    ∙ ap (λ ms. (t0 ++ 0x20 ∷ name) ++ spaced (map decimal ms)) all
-    ∙ append_assoc t0 (0x20 ∷ name) (spaced (map decimal ns))
+    ∙ ap (λ ms. (t0 ++ 0x20 ∷ name) ++ blank_before_each (map decimal ms)) all
+    ∙ append_assoc t0 (0x20 ∷ name) (blank_before_each (map decimal ns))
 
 -- one more number behind a blank, after the first ones
 pub numbers_more : (ns : List ℕ) (i : ℕ) (front text more : List ℕ) → i < length ns
-    → text ≡ front ++ spaced (map decimal (take i ns)) → more ≡ text ++ 0x20 ∷ decimal (get_or ns i 0)
-    → more ≡ front ++ spaced (map decimal (take (i + 1) ns))
+    → text ≡ front ++ blank_before_each (map decimal (take i ns)) → more ≡ text ++ 0x20 ∷ decimal (get_or ns i 0)
+    → more ≡ front ++ blank_before_each (map decimal (take (i + 1) ns))
 numbers_more ns i front text more within so_far added =
     let n = get_or ns i 0 in
     let next : take (i + 1) ns ≡ take i ns ++ n ∷ [] =

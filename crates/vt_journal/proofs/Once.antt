@@ -8,15 +8,15 @@ use Rattle.vt_events.specs.declared.entry.Entry.{Entry}
 use Rattle.vt_events.specs.declared.event.Event.{Event}
 use Rattle.vt_events.specs.Plain.{plain_event}
 use Rattle.vt_journal.specs.Callers.{caller_word}
-use Rattle.vt_journal.specs.Cut.{cut}
+use Rattle.vt_journal.specs.Cut.{words_of_text}
 use Rattle.vt_journal.specs.Journal.{entry_words, line_text, tail_words}
 use Rattle.vt_journal.specs.Lines.{IsCutAt, IsLine}
 use Rattle.vt_journal.specs.Says.{IsFitEntry, IsFitTail}
-use Rattle.vt_journal.specs.Words.{IsFit, event_words, reply_words, spelled}
+use Rattle.vt_journal.specs.Words.{IsFit, event_words, reply_words, joined_by_blanks}
 use Rattle.vt_journal.specs.declared.tail.Tail.{Tail}
 use Rattle.vt_journal.specs.declared.tail.Tail.TheVariants as tail
-use Rattle.vt_journal.proofs.CallerWords.{is_clear-caller, is_high, is_high-caller, same_caller}
-use Rattle.vt_journal.proofs.Clear.{are_clear, are_clear-append, are_clear-event, cut-spelled, is_clear-decimal, line-spelled}
+use Rattle.vt_journal.proofs.CallerWords.{is_clear_caller, is_high, is_high_caller, same_caller}
+use Rattle.vt_journal.proofs.Clear.{are_clear, are_clear-append, are_clear-event, words_of_text-joined_by_blanks, is_clear-decimal, line_joined_by_blanks}
 use Rattle.vt_journal.proofs.ReplyWords.{are_clear-reply, reply_once}
 use Rattle.vt_journal.proofs.Spellings.{event_once}
 
@@ -98,10 +98,10 @@ pub apart : (version : ℕ) (e : Entry) (d : Tail) (u v : List (List ℕ)) → I
     → entry_words version e ++ u ≢ tail_words d ++ v
 apart version e (tail.End events bytes) u v fit same =
     let first : caller_word version e.caller ≡ codes "%end" = cc in
-    false≢true (sym (ap is_high first) ∙ is_high-caller version e.caller fit.caller)
+    false≢true (sym (ap is_high first) ∙ is_high_caller version e.caller fit.caller)
 apart version e (tail.Full full) u v fit same =
     let first : caller_word version e.caller ≡ codes "%full" = cc in
-    false≢true (sym (ap is_high first) ∙ is_high-caller version e.caller fit.caller)
+    false≢true (sym (ap is_high first) ∙ is_high_caller version e.caller fit.caller)
 
 -- the words of entries and of ends are clear
 clear_entry : (version : ℕ) (e : Entry) → IsFitEntry version e
@@ -113,17 +113,17 @@ clear_entry version e fit =
     (are_clear-event e.event fit.call) (are_clear-reply e.reply fit.answer) in
     λ j. seq j && others j
 
-pub cut_entry : (version : ℕ) (e : Entry) → IsFitEntry version e → cut (spelled (entry_words version e)) ≡ entry_words version e
+pub cut_entry : (version : ℕ) (e : Entry) → IsFitEntry version e → words_of_text (joined_by_blanks (entry_words version e)) ≡ entry_words version e
 cut_entry version e fit =
-    cut-spelled (caller_word version e.caller)
+    words_of_text-joined_by_blanks (caller_word version e.caller)
     (decimal e.seq ∷ event_words e.event ++ codes "=" ∷ reply_words e.reply)
-    (is_clear-caller version e.caller fit.caller) (clear_entry version e fit)
+    (is_clear_caller version e.caller fit.caller) (clear_entry version e fit)
 
-pub line_entry : (version : ℕ) (e : Entry) → IsFitEntry version e → IsLine (spelled (entry_words version e))
+pub line_entry : (version : ℕ) (e : Entry) → IsFitEntry version e → IsLine (joined_by_blanks (entry_words version e))
 line_entry version e fit =
-    line-spelled (caller_word version e.caller)
+    line_joined_by_blanks (caller_word version e.caller)
     (decimal e.seq ∷ event_words e.event ++ codes "=" ∷ reply_words e.reply)
-    (is_clear-caller version e.caller fit.caller) (clear_entry version e fit)
+    (is_clear_caller version e.caller fit.caller) (clear_entry version e fit)
 
 -- the numbers of an end
 abbrev numbers_in : Tail → List (List ℕ)
@@ -141,20 +141,20 @@ clear_tail (tail.Full full) fit =
     let third = is_clear-decimal full.charge (small full.charge fit.2) in
     λ j. first j && (second j && (third j && true))
 
-pub cut_tail : (d : Tail) → IsFitTail d → cut (spelled (tail_words d)) ≡ tail_words d
+pub cut_tail : (d : Tail) → IsFitTail d → words_of_text (joined_by_blanks (tail_words d)) ≡ tail_words d
 cut_tail (tail.End events bytes) fit =
-    cut-spelled (codes "%end") (decimal events ∷ decimal bytes ∷ []) refl
+    words_of_text-joined_by_blanks (codes "%end") (decimal events ∷ decimal bytes ∷ []) refl
     (clear_tail (tail.End events bytes) fit)
 cut_tail (tail.Full full) fit =
-    cut-spelled (codes "%full") (decimal full.events ∷ decimal full.bytes ∷ decimal full.charge ∷ [])
+    words_of_text-joined_by_blanks (codes "%full") (decimal full.events ∷ decimal full.bytes ∷ decimal full.charge ∷ [])
     refl (clear_tail (tail.Full full) fit)
 
-pub line_tail : (d : Tail) → IsFitTail d → IsLine (spelled (tail_words d))
+pub line_tail : (d : Tail) → IsFitTail d → IsLine (joined_by_blanks (tail_words d))
 line_tail (tail.End events bytes) fit =
-    line-spelled (codes "%end") (decimal events ∷ decimal bytes ∷ []) refl
+    line_joined_by_blanks (codes "%end") (decimal events ∷ decimal bytes ∷ []) refl
     (clear_tail (tail.End events bytes) fit)
 line_tail (tail.Full full) fit =
-    line-spelled (codes "%full") (decimal full.events ∷ decimal full.bytes ∷ decimal full.charge ∷ [])
+    line_joined_by_blanks (codes "%full") (decimal full.events ∷ decimal full.bytes ∷ decimal full.charge ∷ [])
     refl (clear_tail (tail.Full full) fit)
 
 -- a text has one first line
@@ -179,13 +179,13 @@ line_once (x ∷ a) (y ∷ b) u v line_a line_b same =
 
 -- a line of words and what follows it
 pub line_parts : (words : List (List ℕ)) (u : List ℕ)
-    → line_text words ++ u ≡ spelled words ++ 0x0A ∷ u
-line_parts words u = append_assoc (spelled words) (0x0A ∷ []) u
+    → line_text words ++ u ≡ joined_by_blanks words ++ 0x0A ∷ u
+line_parts words u = append_assoc (joined_by_blanks words) (0x0A ∷ []) u
 
-pub lines_once : (p q : List (List ℕ)) (u v : List ℕ) → IsLine (spelled p) → IsLine (spelled q)
-    → line_text p ++ u ≡ line_text q ++ v → (spelled p ≡ spelled q) × (u ≡ v)
+pub lines_once : (p q : List (List ℕ)) (u v : List ℕ) → IsLine (joined_by_blanks p) → IsLine (joined_by_blanks q)
+    → line_text p ++ u ≡ line_text q ++ v → (joined_by_blanks p ≡ joined_by_blanks q) × (u ≡ v)
 lines_once p q u v line_p line_q same =
-    line_once (spelled p) (spelled q) u v line_p line_q
+    line_once (joined_by_blanks p) (joined_by_blanks q) u v line_p line_q
     (sym (line_parts p u) ∙ same ∙ line_parts q v)
 
 pub entry_line_once : (version : ℕ) (d e : Entry) (u v : List ℕ) → IsFitEntry version d → IsFitEntry version e
@@ -193,7 +193,7 @@ pub entry_line_once : (version : ℕ) (d e : Entry) (u v : List ℕ) → IsFitEn
 entry_line_once version d e u v fit_d fit_e same =
     let both = lines_once (entry_words version d) (entry_words version e) u v (line_entry version d fit_d) (line_entry version e fit_e) same in
     let words : entry_words version d ≡ entry_words version e =
-    sym (cut_entry version d fit_d) ∙ ap cut both.0 ∙ cut_entry version e fit_e in
+    sym (cut_entry version d fit_d) ∙ ap words_of_text both.0 ∙ cut_entry version e fit_e in
     ((entry_once version d e [] [] fit_d fit_e (ap (λ words. words ++ []) words)).0, both.1)
 
 pub tail_line_once : (d e : Tail) (u v : List ℕ) → IsFitTail d → IsFitTail e
@@ -201,7 +201,7 @@ pub tail_line_once : (d e : Tail) (u v : List ℕ) → IsFitTail d → IsFitTail
 tail_line_once d e u v fit_d fit_e same =
     let both = lines_once (tail_words d) (tail_words e) u v (line_tail d fit_d) (line_tail e fit_e) same in
     let words : tail_words d ≡ tail_words e =
-    sym (cut_tail d fit_d) ∙ ap cut both.0 ∙ cut_tail e fit_e in
+    sym (cut_tail d fit_d) ∙ ap words_of_text both.0 ∙ cut_tail e fit_e in
     ((tail_once d e [] [] fit_d fit_e (ap (λ words. words ++ []) words)).0, both.1)
 
 pub lines_apart : (version : ℕ) (e : Entry) (d : Tail) (u v : List ℕ) → IsFitEntry version e → IsFitTail d
@@ -209,12 +209,12 @@ pub lines_apart : (version : ℕ) (e : Entry) (d : Tail) (u v : List ℕ) → Is
 lines_apart version e d u v fit_e fit_d same =
     let both = lines_once (entry_words version e) (tail_words d) u v (line_entry version e fit_e) (line_tail d fit_d) same in
     let words : entry_words version e ≡ tail_words d =
-    sym (cut_entry version e fit_e) ∙ ap cut both.0 ∙ cut_tail d fit_d in
+    sym (cut_entry version e fit_e) ∙ ap words_of_text both.0 ∙ cut_tail d fit_d in
     apart version e d [] [] fit_e (ap (λ words. words ++ []) words)
 
 -- a line is not nothing
 pub some_line : (words : List (List ℕ)) (u : List ℕ) → line_text words ++ u ≢ []
-some_line words u same = some (spelled words) (sym (line_parts words u) ∙ same)
+some_line words u same = some (joined_by_blanks words) (sym (line_parts words u) ∙ same)
   where
     some : (text : List ℕ) → text ++ 0x0A ∷ u ≢ []
     some [] same = cc
@@ -252,43 +252,27 @@ behind_bytes w0 w1 w2 m b (tail.End events bytes) rest fit is0 is1 is =
     cc
 
 -- words that are a whole text spell it
-pub whole_words : (text : List ℕ) (words new : List (List ℕ)) → cut text ≡ words ++ new → new ≡ []
-    → spelled words ≡ text
+pub whole_words : (text : List ℕ) (words new : List (List ℕ)) → words_of_text text ≡ words ++ new → new ≡ []
+    → joined_by_blanks words ≡ text
 whole_words text words new is none =
-    ap spelled (sym (append-nil words) ∙ ap (λ rest. words ++ rest) (sym none) ∙ sym is)
+    ap joined_by_blanks (sym (append-nil words) ∙ ap (λ rest. words ++ rest) (sym none) ∙ sym is)
     ∙ join_with_byte-slice_split 0x20 text
 
 -- the words of a line that spells an entry, or an end
-pub entry_cut : (version : ℕ) (line : List ℕ) (e : Entry) → IsFitEntry version e → spelled (entry_words version e) ≡ line
-    → cut line ≡ entry_words version e ++ []
+pub entry_cut : (version : ℕ) (line : List ℕ) (e : Entry) → IsFitEntry version e → joined_by_blanks (entry_words version e) ≡ line
+    → words_of_text line ≡ entry_words version e ++ []
 entry_cut version line e fit is =
-    ap cut (sym is) ∙ cut_entry version e fit ∙ sym (append-nil (entry_words version e))
+    ap words_of_text (sym is) ∙ cut_entry version e fit ∙ sym (append-nil (entry_words version e))
 
-pub tail_cut : (line : List ℕ) (d : Tail) → IsFitTail d → spelled (tail_words d) ≡ line
-    → cut line ≡ tail_words d ++ []
+pub tail_cut : (line : List ℕ) (d : Tail) → IsFitTail d → joined_by_blanks (tail_words d) ≡ line
+    → words_of_text line ≡ tail_words d ++ []
 tail_cut line d fit is =
-    ap cut (sym is) ∙ cut_tail d fit ∙ sym (append-nil (tail_words d))
+    ap words_of_text (sym is) ∙ cut_tail d fit ∙ sym (append-nil (tail_words d))
 
 -- a text that begins with a line of these words is cut behind them
 pub cut_is : (text line behind : List ℕ) (words : List (List ℕ)) (rest : List ℕ)
-    → IsCutAt text line behind → IsLine (spelled words) → text ≡ line_text words ++ rest
-    → spelled words ≡ line
-cut_is text line behind words rest cut is same =
-    (line_once (spelled words) line rest behind is cut.no_end
-    (sym (line_parts words rest) ∙ sym same ∙ cut.parts)).0
-
--- and one without a line end begins with no line
-pub no_line : (text : List ℕ) (words : List (List ℕ)) (rest : List ℕ) → IsLine text
-    → text ≢ line_text words ++ rest
-no_line text words rest line same =
-    has_end (spelled words) rest text line (same ∙ line_parts words rest)
-  where
-    has_end : (a u text : List ℕ) → IsLine text → text ≢ a ++ 0x0A ∷ u
-    has_end [] u [] line same = cc
-    has_end [] u (b ∷ text) line same =
-        let first : b ≡ 0x0A = cc in
-        line 0 0 (omega arith) first
-    has_end (x ∷ a) u [] line same = cc
-    has_end (x ∷ a) u (b ∷ text) line same =
-        let others : text ≡ a ++ 0x0A ∷ u = cc in
-        has_end a u text (λ k d within. line (suc k) d (omega arith)) others
+    → IsCutAt text line behind → IsLine (joined_by_blanks words) → text ≡ line_text words ++ rest
+    → joined_by_blanks words ≡ line
+cut_is text line behind words rest words_of_text is same =
+    (line_once (joined_by_blanks words) line rest behind is words_of_text.no_end
+    (sym (line_parts words rest) ∙ sym same ∙ words_of_text.parts)).0

@@ -10,9 +10,9 @@ use Rattle.std.proofs.lemmas.List.Elements.{All-cons}
 use Rattle.vt_journal.specs.Hex.{hex_byte, hex_digit, hex_text}
 
 -- each byte has two digits
-pub length-hex : (bytes : List ℕ) → length (flat_map hex_byte bytes) ≡ 2 * length bytes
-length-hex [] = refl
-length-hex (b ∷ bytes) = omega (arith, length-hex bytes)
+pub length_hex : (bytes : List ℕ) → length (flat_map hex_byte bytes) ≡ 2 * length bytes
+length_hex [] = refl
+length_hex (b ∷ bytes) = omega (arith, length_hex bytes)
 
 -- bytes that are not none are spelled by their digits alone
 pub hex_some : (word bytes : List ℕ) → word ≢ codes "-" → hex_text bytes ≡ word
@@ -41,7 +41,7 @@ pub no_hex : (word bytes : List ℕ) (i : ℕ) → i < length word / 2 → All (
     → hex_byte b ≢ get_or word (2 * i) 0 ∷ get_or word (2 * i + 1) 0 ∷ [])
     → ⊥
 no_hex word bytes i within fit is none =
-    let inside : i < length bytes = omega (arith, length-hex bytes, ap length is) in
+    let inside : i < length bytes = omega (arith, length_hex bytes, ap length is) in
     let here = hex_at bytes i inside in
     none (get_or bytes i 0) (fit i 0 inside)
     (sym
@@ -69,12 +69,12 @@ hex_more word bytes i b within so_far is =
     ∙ sym longer
 
 -- all bytes so far are bytes
-pub All-more : (bytes : List ℕ) (b : ℕ) → b < 2 ^ 8 → All (λ x. x < 2 ^ 8) bytes
+pub All_more : (bytes : List ℕ) (b : ℕ) → b < 2 ^ 8 → All (λ x. x < 2 ^ 8) bytes
     → All (λ x. x < 2 ^ 8) (bytes ++ b ∷ [])
-All-more [] b fit all = All-cons (λ x. x < 2 ^ 8) b [] fit all
-All-more (x ∷ bytes) b fit all =
+All_more [] b fit all = All-cons (λ x. x < 2 ^ 8) b [] fit all
+All_more (x ∷ bytes) b fit all =
     All-cons (λ x. x < 2 ^ 8) x (bytes ++ b ∷ []) (all 0 0 (omega arith))
-    (All-more bytes b fit (λ k d inside. all (suc k) d (omega arith)))
+    (All_more bytes b fit (λ k d inside. all (suc k) d (omega arith)))
 
 -- where nothing was found, what follows from there being none
 pub none_then : {X E P Q : Type 0} (r : Result (Option X) E) → (P → Q)

@@ -21,15 +21,15 @@ use Rattle.vt_journal.specs.Words.{held_words, reply_words}
 use Rattle.vt_journal.specs.declared.reply_kind.ReplyKind.{ReplyKind}
 use Rattle.vt_journal.specs.declared.reply_kind.ReplyKind.TheVariants as kind
 use Rattle.vt_journal.proofs.Calls.{held_if}
-use Rattle.vt_journal.proofs.Clear.{are_clear, are_clear-append, are_clear-decimals, are_clear-held, is_clear}
+use Rattle.vt_journal.proofs.Clear.{are_clear, are_clear-append, are_clear_decimals, are_clear_held, is_clear}
 use Rattle.vt_journal.proofs.Spellings.{decimals_injective, fit_bytes, held_injective, split_numbers}
 
 -- an answer is its name, its numbers and its bytes
-pub reply-parts : (r : Reply)
+pub reply_parts : (r : Reply)
     → reply_words r
     ≡ reply_name (kind_of r) ∷ (map decimal (reply_numbers r) ++ held_words (reply_held r))
-reply-parts (reply.Text b) = refl
-reply-parts r = refl
+reply_parts (reply.Text b) = refl
+reply_parts r = refl
 
 -- the bytes that an answer holds, where it holds any
 abbrev pub reply_bytes : Reply → List ℕ
@@ -49,13 +49,13 @@ kinds =
 abbrev named : List ℕ → Option ReplyKind
 named name = find (λ k. bytes_eq (reply_name k) name) kinds
 
-named-name : (k : ReplyKind) → named (reply_name k) ≡ Some k
-named-name kind.Done = refl
-named-name k = refl
+named_name : (k : ReplyKind) → named (reply_name k) ≡ Some k
+named_name kind.Done = refl
+named_name k = refl
 
 pub same_kind : (j k : ReplyKind) → reply_name j ≡ reply_name k → j ≡ k
 same_kind j k same =
-    same_Some j k (sym (named-name j) ∙ ap named same ∙ named-name k)
+    same_Some j k (sym (named_name j) ∙ ap named same ∙ named_name k)
 
 -- the error of a number
 abbrev error_of : ℕ → Errno
@@ -64,9 +64,9 @@ error_of n =
     (cond (eqb n 6) errno.Nxio (cond (eqb n 9) errno.Badf (cond (eqb n 11) errno.Again
     (cond (eqb n 16) errno.Busy (cond (eqb n 22) errno.Inval errno.Notty)))))))
 
-error_of-number : (e : Errno) → error_of (number_of e) ≡ e
-error_of-number errno.Perm = refl
-error_of-number e = refl
+error_of_number : (e : Errno) → error_of (number_of e) ≡ e
+error_of_number errno.Perm = refl
+error_of_number e = refl
 
 -- an answer is made of its kind, its numbers and its bytes again
 abbrev remade : ReplyKind → List ℕ → Option (List ℕ) → Reply
@@ -86,20 +86,20 @@ remade kind.Wait n held = reply.Wait
 remade kind.Sigs n held = reply.Sigs (get_or n 0 0)
 remade kind.Err n held = reply.Err (error_of (get_or n 0 0))
 
-remade-parts : (r : Reply)
+remade_parts : (r : Reply)
     → remade (kind_of r) (reply_numbers r) (reply_held r) ≡ plain_reply r
-remade-parts (reply.Text b) = refl
-remade-parts (reply.Err e) = ap reply.Err (error_of-number e)
-remade-parts r = refl
+remade_parts (reply.Text b) = refl
+remade_parts (reply.Err e) = ap reply.Err (error_of_number e)
+remade_parts r = refl
 
 -- so answers with the same ones are the same
 pub same_reply_of : (r s : Reply) → plain_reply r ≡ r → plain_reply s ≡ s → kind_of r ≡ kind_of s
     → reply_numbers r ≡ reply_numbers s → reply_held r ≡ reply_held s → r ≡ s
 same_reply_of r s plain_r plain_s kinds numbers held =
     sym plain_r
-    ∙ sym (remade-parts r)
+    ∙ sym (remade_parts r)
     ∙ (λ j. remade (kinds j) (numbers j) (held j))
-    ∙ remade-parts s
+    ∙ remade_parts s
     ∙ plain_s
 
 -- their numbers have 64 bits
@@ -132,9 +132,9 @@ pub are_clear-reply : (r : Reply) → IsFitReply r → are_clear (reply_words r)
 are_clear-reply r fit =
     let others =
     are_clear-append (map decimal (reply_numbers r)) (held_words (reply_held r))
-    (are_clear-decimals (reply_numbers r) (wide_within (kind_of r) (reply_numbers r) fit.numbers))
-    (are_clear-held (reply_held r)) in
-    ap are_clear (reply-parts r) ∙ (λ j. is_clear-reply_name (kind_of r) j && others j)
+    (are_clear_decimals (reply_numbers r) (wide_within (kind_of r) (reply_numbers r) fit.numbers))
+    (are_clear_held (reply_held r)) in
+    ap are_clear (reply_parts r) ∙ (λ j. is_clear-reply_name (kind_of r) j && others j)
 
 -- what stands behind the name of a kind
 pub record ReplyIs (k : ReplyKind) (u : List (List ℕ)) (r : Reply) (rest : List (List ℕ)) : Type 0 where
@@ -147,7 +147,7 @@ reply_is words u k r rest is named =
     let both : reply_name k ∷ u
     ≡ reply_name (kind_of r)
     ∷ ((map decimal (reply_numbers r) ++ held_words (reply_held r)) ++ rest) =
-    sym named ∙ is ∙ ap (λ words. words ++ rest) (reply-parts r) in
+    sym named ∙ is ∙ ap (λ words. words ++ rest) (reply_parts r) in
     let name : reply_name (kind_of r) ≡ reply_name k = cc in
     let others : u ≡ (map decimal (reply_numbers r) ++ held_words (reply_held r)) ++ rest = cc in
     record {
@@ -191,7 +191,7 @@ pub reply_once : (r s : Reply) (u v : List (List ℕ)) → IsFitReply r → IsFi
 reply_once r s u v fit_r fit_s same =
     let parts : reply_words r ++ u
     ≡ reply_name (kind_of r) ∷ ((map decimal (reply_numbers r) ++ held_words (reply_held r)) ++ u) =
-    ap (λ words. words ++ u) (reply-parts r) in
+    ap (λ words. words ++ u) (reply_parts r) in
     let is = reply_is (reply_words r ++ u) _ (kind_of r) s v same parts in
     let are =
     numbers_are (kind_of r) (reply_numbers r) _ (held_words (reply_held r) ++ u) s v is fit_s
@@ -214,41 +214,12 @@ pub record IsReplyRead (words : List (List ℕ)) (r : Reply) (rest : List (List 
   pub parts : words ≡ reply_words r ++ rest
   pub fit : IsFitReply r
 
-pub answer_is : (words u v w : List (List ℕ)) (k : ReplyKind) (ns b : List ℕ) (held : Bool) (r : Reply)
-    → words ≡ reply_name k ∷ u → u ≡ map decimal ns ++ v → v ≡ held_words (held_if held b) ++ w
-    → held ≡ reply_holds k → Within (mosts k) ns → All (λ x. x < 2 ^ 8) b → IsAnswer k ns b r
-    → IsReplyRead words r w
-answer_is words u v w k ns b held r name numbers bytes same within fit_b is =
-    let here : reply_held r ≡ held_if held b = is.held ∙ ap (λ h. held_if h b) (sym same) in
-    record {
-      parts =
-          name
-          ∙ ap (λ rest. reply_name k ∷ rest) (numbers ∙ ap (λ rest. map decimal ns ++ rest) bytes)
-          ∙ sym (ap (λ rest. reply_name k ∷ rest) (append_assoc (map decimal ns) (held_words (held_if held b)) w))
-          ∙ sym (λ j. reply_name (is.kind j) ∷ ((map decimal (is.numbers j) ++ held_words (here j)) ++ w))
-          ∙ ap (λ words. words ++ w) (sym (reply-parts r));
-      fit = record {
-        numbers =
-            subst (λ k. Within (mosts k) (reply_numbers r)) (sym is.kind)
-            (subst (Within (mosts k)) (sym is.numbers) within);
-        bytes =
-            subst (λ held. IfSome held (λ bytes. All (λ x. x < 2 ^ 8) bytes)) (sym here)
-            (fit_if held b fit_b);
-        plain = is.plain;
-      };
-    }
-  where
-    fit_if : (held : Bool) (b : List ℕ) → All (λ x. x < 2 ^ 8) b
-        → IfSome (held_if held b) (λ bytes. All (λ x. x < 2 ^ 8) bytes)
-    fit_if true b fit = fit
-    fit_if false b fit = tt
-
 -- words of an answer begin with the name of its kind
 pub named_reply : (r : Reply) (rest : List (List ℕ))
     → (more : List (List ℕ)) × (reply_words r ++ rest ≡ reply_name (kind_of r) ∷ more)
 named_reply r rest = (
   (map decimal (reply_numbers r) ++ held_words (reply_held r)) ++ rest,
-  ap (λ words. words ++ rest) (reply-parts r),
+  ap (λ words. words ++ rest) (reply_parts r),
 )
 
 -- where there is none, what follows from that

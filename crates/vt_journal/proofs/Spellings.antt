@@ -9,13 +9,13 @@ use Rattle.std.proofs.lemmas.List.Elements.{All-weaker}
 use Rattle.vt_events.specs.Plain.{plain_event}
 use Rattle.vt_events.specs.declared.event.Event.{Event}
 use Rattle.vt_journal.specs.Calls.{held_of, name_of, numbers_of}
-use Rattle.vt_journal.specs.Cut.{cut}
+use Rattle.vt_journal.specs.Cut.{words_of_text}
 use Rattle.vt_journal.specs.Hex.{hex_text}
 use Rattle.vt_journal.specs.Kinds.{blank, call_of, takes}
 use Rattle.vt_journal.specs.Words.{IsFit, Spells, event_words, held_words}
 use Rattle.vt_journal.specs.declared.kind.Kind.{Kind}
-use Rattle.vt_journal.proofs.Calls.{IsOfKind, bytes_of, held-if, held_if, holds, kind_named, made, of_kind, same_call, same_name, takes-held}
-use Rattle.vt_journal.proofs.Clear.{are_clear, are_clear-append, are_clear-decimals, are_clear-held, is_clear-name, cut-spelled}
+use Rattle.vt_journal.proofs.Calls.{IsOfKind, bytes_of, held-if, held_if, holds, kind_named, made, of_kind, same_call, same_name, takes_held}
+use Rattle.vt_journal.proofs.Clear.{are_clear, are_clear-append, are_clear_decimals, are_clear_held, is_clear_name, words_of_text-joined_by_blanks}
 use Rattle.vt_journal.proofs.Pairs.{hex_injective}
 
 below_wide : (n : ℕ) → n < 2 ^ 16 → n < 2 ^ 64
@@ -26,14 +26,14 @@ pub wide : (ns : List ℕ) → All (λ n. n < 2 ^ 16) ns → All (λ n. n < 2 ^ 
 wide ns fit = All-weaker (λ n. n < 2 ^ 16) (λ n. n < 2 ^ 64) below_wide ns fit
 
 -- the words of the text that spells a call
-pub cut_parts : (text : List ℕ) (e : Event) → Spells text e → cut text ≡ event_words e
+pub cut_parts : (text : List ℕ) (e : Event) → Spells text e → words_of_text text ≡ event_words e
 cut_parts text e s =
     let others : List (List ℕ) = map decimal (numbers_of e) ++ held_words (held_of e) in
     let are : are_clear others ≡ true =
     are_clear-append (map decimal (numbers_of e)) (held_words (held_of e))
-    (are_clear-decimals (numbers_of e) (wide (numbers_of e) s.fit.numbers))
-    (are_clear-held (held_of e)) in
-    ap cut (sym s.spelled) ∙ cut-spelled (name_of e) others (is_clear-name e) are
+    (are_clear_decimals (numbers_of e) (wide (numbers_of e) s.fit.numbers))
+    (are_clear_held (held_of e)) in
+    ap words_of_text (sym s.spelled) ∙ words_of_text-joined_by_blanks (name_of e) others (is_clear_name e) are
 
 -- the first of them is the name of a kind
 pub named_kind : (e : Event) (rest : List (List ℕ))
@@ -127,11 +127,11 @@ takes_all words u v w k ns b held e rest is named numbers bytes many same fit_b 
     (sym bytes ∙ bytes_are words u v k ns held e rest is named numbers many same)).0 in
     let counted : Bool → List ℕ → Bool =
     λ h bs. takes k (length (unwrap_or (held_if h bs) [])) in
-    sym (takes-held k b)
+    sym (takes_held k b)
     ∙ ap (λ h. counted h b) (sym same)
     ∙ ap (λ h. takes k (length (unwrap_or h []))) all
     ∙ ap (λ h. counted h (bytes_of e)) same
-    ∙ takes-held k (bytes_of e)
+    ∙ takes_held k (bytes_of e)
     ∙ (kind_is words u k e rest is named).kind.takes
 
 -- words are one call and what follows it

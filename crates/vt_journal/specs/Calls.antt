@@ -4,23 +4,23 @@ use Rattle.vt_events.specs.declared.event.Event.{Event}
 use Rattle.vt_events.specs.declared.event.Event.TheVariants as event
 
 -- what a call's words say: its name, its numbers, and the bytes that it holds, where it holds any
-pub record Parts : Type 0 where
+pub record CallWordsView : Type 0 where
   pub name : List ℕ
   pub numbers : List ℕ
   pub held : Option (List ℕ)
 
-abbrev plain : List ℕ → List ℕ → Parts
+abbrev plain : List ℕ → List ℕ → CallWordsView
 plain name numbers = record { name = name; numbers = numbers; held = None }
 
-abbrev holding : List ℕ → List ℕ → List ℕ → Parts
-holding name numbers bytes = record { name = name; numbers = numbers; held = Some bytes }
+abbrev with_bytes : List ℕ → List ℕ → List ℕ → CallWordsView
+with_bytes name numbers bytes = record { name = name; numbers = numbers; held = Some bytes }
 
-abbrev pub parts_of : Event → Parts
-parts_of (event.Scan b) = holding (codes "scan") [] (b ∷ [])
+abbrev pub parts_of : Event → CallWordsView
+parts_of (event.Scan b) = with_bytes (codes "scan") [] (b ∷ [])
 parts_of event.Exit = plain (codes "exit") []
 parts_of (event.OpenCon n) = plain (codes "open") (n ∷ [])
 parts_of (event.CloseFd fd) = plain (codes "close") (fd ∷ [])
-parts_of (event.Write fd b) = holding (codes "write") (fd ∷ []) b.bytes
+parts_of (event.Write fd b) = with_bytes (codes "write") (fd ∷ []) b.bytes
 parts_of (event.ReadIn fd most) = plain (codes "read") (fd ∷ most ∷ [])
 parts_of (event.WaitInput fd) = plain (codes "waitinput") (fd ∷ [])
 parts_of (event.WaitActive fd n) = plain (codes "waitactive") (fd ∷ n ∷ [])
@@ -50,16 +50,16 @@ parts_of (event.GetFlags fd) = plain (codes "getflags") (fd ∷ [])
 parts_of (event.SetEntry fd table code kind value) =
     plain (codes "setent") (fd ∷ table ∷ code ∷ kind ∷ value ∷ [])
 parts_of (event.GetEntry fd table code) = plain (codes "getent") (fd ∷ table ∷ code ∷ [])
-parts_of (event.SetFunc fd i b) = holding (codes "setfunc") (fd ∷ i ∷ []) b.bytes
+parts_of (event.SetFunc fd i b) = with_bytes (codes "setfunc") (fd ∷ i ∷ []) b.bytes
 parts_of (event.GetFunc fd i) = plain (codes "getfunc") (fd ∷ i ∷ [])
-parts_of (event.SetDia fd b) = holding (codes "setdia") (fd ∷ []) b.bytes
+parts_of (event.SetDia fd b) = with_bytes (codes "setdia") (fd ∷ []) b.bytes
 parts_of (event.GetDia fd) = plain (codes "getdia") (fd ∷ [])
 parts_of (event.SetCode fd scan code) = plain (codes "setcode") (fd ∷ scan ∷ code ∷ [])
 parts_of (event.GetCode fd scan) = plain (codes "getcode") (fd ∷ scan ∷ [])
 parts_of (event.Accept fd signal) = plain (codes "accept") (fd ∷ signal ∷ [])
-parts_of (event.SetMap fd b) = holding (codes "setmap") (fd ∷ []) b.bytes
+parts_of (event.SetMap fd b) = with_bytes (codes "setmap") (fd ∷ []) b.bytes
 parts_of (event.GetMap fd) = plain (codes "getmap") (fd ∷ [])
-parts_of (event.SetPal fd b) = holding (codes "setpal") (fd ∷ []) b.bytes
+parts_of (event.SetPal fd b) = with_bytes (codes "setpal") (fd ∷ []) b.bytes
 parts_of (event.GetPal fd) = plain (codes "getpal") (fd ∷ [])
 parts_of (event.Dump kind n) = plain (codes "dump") (kind ∷ n ∷ [])
 parts_of event.TakeSignals = plain (codes "signals") []

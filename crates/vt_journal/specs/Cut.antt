@@ -4,10 +4,10 @@ use Rattle.std.specs.Borrow.{Bor}
 use Rattle.std.specs.List.{slice_split}
 
 -- the words of a text, each as long as there is no blank
-abbrev pub cut : List ℕ → List (List ℕ)
-cut text = slice_split (λ b. b == 0x20) text
+abbrev pub words_of_text : List ℕ → List (List ℕ)
+words_of_text text = slice_split (λ b. b == 0x20) text
 
 -- the words of a text where there is one
 abbrev pub cut_of : Option (Bor (List ℕ)) → List (List ℕ)
 cut_of None = []
-cut_of (Some text) = cut text.now
+cut_of (Some text) = words_of_text text.now

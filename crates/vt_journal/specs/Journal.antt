@@ -5,7 +5,7 @@ use Rattle.vt_events.specs.declared.entry.Entry.{Entry}
 use Rattle.vt_journal.specs.Callers.{caller_word}
 use Rattle.vt_journal.specs.declared.tail.Tail.{Tail}
 use Rattle.vt_journal.specs.declared.tail.Tail.TheVariants as tail
-use Rattle.vt_journal.specs.Words.{event_words, reply_words, spelled}
+use Rattle.vt_journal.specs.Words.{event_words, reply_words, joined_by_blanks}
 
 -- the caller, its count of earlier calls, the call, and the answer behind an equals sign
 abbrev pub entry_words : ℕ → Entry → List (List ℕ)
@@ -30,7 +30,7 @@ journal_lines version entries end =
 
 -- words as a line of text
 abbrev pub line_text : List (List ℕ) → List ℕ
-line_text words = spelled words ++ 0x0A ∷ []
+line_text words = joined_by_blanks words ++ 0x0A ∷ []
 
 -- the text of a journal
 abbrev pub journal_text : ℕ → List Entry → Tail → List ℕ

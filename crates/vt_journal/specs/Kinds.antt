@@ -4,7 +4,7 @@ use Rattle.std.specs.List.{slice_index}
 use Rattle.vt_events.specs.Plain.{text}
 use Rattle.vt_events.specs.declared.event.Event.{Event}
 use Rattle.vt_events.specs.declared.event.Event.TheVariants as event
-use Rattle.vt_journal.specs.Calls.{Parts, name_of}
+use Rattle.vt_journal.specs.Calls.{CallWordsView, name_of}
 use Rattle.vt_journal.specs.declared.kind.Kind.{Kind}
 use Rattle.vt_journal.specs.declared.kind.Kind.TheVariants as kind
 
@@ -71,5 +71,5 @@ takes kind.Scan n = n == 1
 takes k n = true
 
 -- what the words of a call of this kind say
-abbrev pub told : Kind → List ℕ → Option (List ℕ) → Parts
-told kind numbers held = record { name = name_of (blank kind); numbers = numbers; held = held }
+abbrev pub call_words : Kind → List ℕ → Option (List ℕ) → CallWordsView
+call_words kind numbers held = record { name = name_of (blank kind); numbers = numbers; held = held }

@@ -3,8 +3,8 @@ use Rattle.std.specs.Prelude.{◌≡◌, ◌≢◌, ℕ, List, ◌∷◌, ◌++�
 use Rattle.std.specs.List.{All}
 use Rattle.vt_journal.specs.Journal.{entry_words, line_text, tail_words}
 use Rattle.vt_journal.specs.Says.{IsFitEntry, IsFitTail, IsNoEntry, IsNoTail}
-use Rattle.vt_journal.specs.declared.next.Next.{Next}
-use Rattle.vt_journal.specs.declared.next.Next.TheVariants as next
+use Rattle.vt_journal.specs.declared.first_line.FirstLine.{FirstLine}
+use Rattle.vt_journal.specs.declared.first_line.FirstLine.TheVariants as next
 
 -- none of them is LF
 abbrev pub IsLine : List ℕ → Type 0
@@ -16,7 +16,7 @@ pub record IsCutAt (text line behind : List ℕ) : Type 0 where
   pub parts : text ≡ line ++ 0x0A ∷ behind
 
 -- what the first line of a text is, in that version
-abbrev pub NextIs : ℕ → List ℕ → Next → Type 0
+abbrev pub NextIs : ℕ → List ℕ → FirstLine → Type 0
 NextIs version text (next.Entry entry behind) =
     IsFitEntry version entry × (text ≡ line_text (entry_words version entry) ++ behind.now)
 NextIs version text (next.Tail end behind) =

@@ -7,5 +7,5 @@ pub record Begins (before text : List ℕ) : Type 0 where
   pub front : take (length before) text ≡ before
 
 -- words, each behind a blank
-abbrev pub spaced : List (List ℕ) → List ℕ
-spaced words = flat_map (λ word. 0x20 ∷ word) words
+abbrev pub blank_before_each : List (List ℕ) → List ℕ
+blank_before_each words = flat_map (λ word. 0x20 ∷ word) words

@@ -8,7 +8,7 @@ use Rattle.vt_events.specs.declared.event.Event.{Event}
 use Rattle.vt_events.specs.declared.reply.Reply.{Reply}
 use Rattle.vt_events.specs.declared.reply.Reply.TheVariants as reply
 use Rattle.vt_journal.specs.Calls.{held_of, name_of, numbers_of}
-use Rattle.vt_journal.specs.Cut.{cut}
+use Rattle.vt_journal.specs.Cut.{words_of_text}
 use Rattle.vt_journal.specs.Hex.{hex_text}
 
 -- the word of the bytes that a call holds, where it holds any
@@ -21,25 +21,25 @@ abbrev pub event_words : Event → List (List ℕ)
 event_words e = name_of e ∷ (map decimal (numbers_of e) ++ held_words (held_of e))
 
 -- an answer's name and its numbers
-abbrev numbered : List ℕ → List ℕ → List (List ℕ)
-numbered name numbers = name ∷ map decimal numbers
+abbrev name_and_numbers : List ℕ → List ℕ → List (List ℕ)
+name_and_numbers name numbers = name ∷ map decimal numbers
 
 -- the words of an answer
 abbrev pub reply_words : Reply → List (List ℕ)
-reply_words reply.Done = numbered (codes "ok") []
-reply_words (reply.Num n) = numbered (codes "num") (n ∷ [])
-reply_words (reply.State front mask) = numbered (codes "state") (front ∷ mask ∷ [])
+reply_words reply.Done = name_and_numbers (codes "ok") []
+reply_words (reply.Num n) = name_and_numbers (codes "num") (n ∷ [])
+reply_words (reply.State front mask) = name_and_numbers (codes "state") (front ∷ mask ∷ [])
 reply_words (reply.Text b) = codes "bytes" ∷ hex_text b.bytes ∷ []
 reply_words (reply.Mode m) =
-    numbered (codes "mode") (m.mode ∷ m.waitv ∷ m.relsig ∷ m.acqsig ∷ m.frsig ∷ [])
-reply_words (reply.Act kind value) = numbered (codes "act") (kind ∷ value ∷ [])
-reply_words reply.Wait = numbered (codes "wait") []
-reply_words (reply.Sigs signals) = numbered (codes "sigs") (signals ∷ [])
-reply_words (reply.Err errno) = numbered (codes "err") (number_of errno ∷ [])
+    name_and_numbers (codes "mode") (m.mode ∷ m.waitv ∷ m.relsig ∷ m.acqsig ∷ m.frsig ∷ [])
+reply_words (reply.Act kind value) = name_and_numbers (codes "act") (kind ∷ value ∷ [])
+reply_words reply.Wait = name_and_numbers (codes "wait") []
+reply_words (reply.Sigs signals) = name_and_numbers (codes "sigs") (signals ∷ [])
+reply_words (reply.Err errno) = name_and_numbers (codes "err") (number_of errno ∷ [])
 
 -- words with one blank between each and the next
-abbrev pub spelled : List (List ℕ) → List ℕ
-spelled words = join_with_byte 0x20 words
+abbrev pub joined_by_blanks : List (List ℕ) → List ℕ
+joined_by_blanks words = join_with_byte 0x20 words
 
 -- the numbers of a call have 16 bits, and the bytes that it holds have 8
 pub record IsFit (e : Event) : Type 0 where
@@ -50,7 +50,7 @@ pub record IsFit (e : Event) : Type 0 where
 pub record Spells (text : List ℕ) (e : Event) : Type 0 where
   pub fit : IsFit e
   pub plain : plain_event e ≡ e
-  pub spelled : spelled (event_words e) ≡ text
+  pub spelled : joined_by_blanks (event_words e) ≡ text
 
 -- a text spells one call at most
 abbrev pub OneCall : Type 0
@@ -58,4 +58,4 @@ OneCall = (text : List ℕ) (d e : Event) → Spells text d → Spells text e �
 
 -- cut at its blanks, a text is the words of the call that it spells
 abbrev pub CallsAreCut : Type 0
-CallsAreCut = (text : List ℕ) (e : Event) → Spells text e → cut text ≡ event_words e
+CallsAreCut = (text : List ℕ) (e : Event) → Spells text e → words_of_text text ≡ event_words e

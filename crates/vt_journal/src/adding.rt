@@ -2,7 +2,7 @@
 ghost use Rattle.std.specs.Prelude.{◌≡◌, ◌<◌, ◌≤◌, ◌^◌, [], ◌∷◌, ◌++◌, decimal, map, OnOk, OnErr};
 ghost use Rattle.std.specs.List.{All};
 ghost use Rattle.vt_journal.specs.Hex.{hex_text};
-ghost use Rattle.vt_journal.specs.Text.{Begins, spaced};
+ghost use Rattle.vt_journal.specs.Text.{Begins, blank_before_each};
 
 use crate::add_hex;
 use itoa::Buffer;
@@ -10,11 +10,11 @@ use std::alloc::Global;
 use vt_base::{Bytes, NoMemory};
 
 /// How many bytes there is room for at least, once room is made.
-const STEP: usize = 4_096;
+const ROOM_BYTES: usize = 4_096;
 
 /// Makes room for so many more bytes, and where it takes memory also for some of those after them.
 #[inline(always)]
-pub fn make_room(alloc: Global, text: &mut Bytes, n: usize) -> Result<(), NoMemory>
+pub(crate) fn make_room(alloc: Global, text: &mut Bytes, n: usize) -> Result<(), NoMemory>
     ensures bytes { text.new.bytes ≡ text.old.bytes }
     ensures ok { OnOk result (n ≤ text.new.room) }
     ensures err { OnErr result (text.new ≡ text.old) }
@@ -32,7 +32,7 @@ fn take_room(alloc: Global, text: &mut Bytes, n: usize) -> Result<(), NoMemory>
     ensures ok { OnOk result (n ≤ text.new.room) }
     ensures err { OnErr result (text.new ≡ text.old) }
 {
-    text.grow(alloc, n.max(STEP))
+    text.grow(alloc, n.max(ROOM_BYTES))
 }
 
 /// Adds the bytes.
@@ -48,7 +48,7 @@ pub fn add(alloc: Global, text: &mut Bytes, b: &[u8]) -> Result<(), NoMemory>
 }
 
 /// Adds the number.
-pub fn add_number(alloc: Global, text: &mut Bytes, n: u64) -> Result<(), NoMemory>
+pub(crate) fn add_number(alloc: Global, text: &mut Bytes, n: u64) -> Result<(), NoMemory>
     ensures ok { OnOk result (text.new.bytes ≡ text.old.bytes ++ decimal n) }
     ensures err { OnErr result (text.new.bytes ≡ text.old.bytes) }
     ensures room { OnErr result (text.new.room ≡ text.old.room) }
@@ -58,7 +58,7 @@ pub fn add_number(alloc: Global, text: &mut Bytes, n: u64) -> Result<(), NoMemor
 }
 
 /// Adds a blank and the word.
-pub fn add_word(alloc: Global, text: &mut Bytes, word: &[u8]) -> Result<(), NoMemory>
+pub(crate) fn add_word(alloc: Global, text: &mut Bytes, word: &[u8]) -> Result<(), NoMemory>
     ensures ok { OnOk result (text.new.bytes ≡ text.old.bytes ++ 0x20 ∷ word.now) }
     ensures err { OnErr result (text.new.bytes ≡ text.old.bytes) }
     ensures room { OnErr result (text.new.room ≡ text.old.room) }
@@ -70,7 +70,7 @@ pub fn add_word(alloc: Global, text: &mut Bytes, word: &[u8]) -> Result<(), NoMe
 }
 
 /// Adds the end of a line.
-pub fn add_end(alloc: Global, text: &mut Bytes) -> Result<(), NoMemory>
+pub(crate) fn add_end(alloc: Global, text: &mut Bytes) -> Result<(), NoMemory>
     ensures ok { OnOk result (text.new.bytes ≡ text.old.bytes ++ 0x0A ∷ []) }
     ensures err { OnErr result (text.new.bytes ≡ text.old.bytes) }
 {
@@ -118,14 +118,14 @@ fn add_long(alloc: Global, text: &mut Bytes, n: u64) -> Result<(), NoMemory>
 }
 
 /// Adds the name and the numbers, each behind a blank.
-pub fn add_named(
+pub(crate) fn add_named(
     alloc: Global,
     text: &mut Bytes,
     name: &[u8],
     numbers: &[u16],
 ) -> Result<(), NoMemory>
     ensures ok { OnOk result
-        (text.new.bytes ≡ text.old.bytes ++ spaced (name.now ∷ map decimal numbers.now)) }
+        (text.new.bytes ≡ text.old.bytes ++ blank_before_each (name.now ∷ map decimal numbers.now)) }
     ensures kept { Begins text.old.bytes text.new.bytes }
     ensures fit { All (λ n. n < 2 ^ 16) numbers.now }
 {
@@ -137,7 +137,7 @@ pub fn add_named(
 }
 
 /// Adds the bytes in hexadecimal behind a blank.
-pub fn add_bytes(alloc: Global, text: &mut Bytes, b: &[u8]) -> Result<(), NoMemory>
+pub(crate) fn add_bytes(alloc: Global, text: &mut Bytes, b: &[u8]) -> Result<(), NoMemory>
     ensures ok { OnOk result (text.new.bytes ≡ text.old.bytes ++ 0x20 ∷ hex_text b.now) }
     ensures kept { Begins text.old.bytes text.new.bytes }
     ensures fit { All (λ x. x < 2 ^ 8) b.now }

@@ -88,7 +88,7 @@ fn add_lettered_long(alloc: Global, text: &mut Bytes, letter: u8, n: u16) -> Res
 }
 
 /// The next word as that of a caller.
-pub fn take_caller(words: &mut Words, version: u8) -> Option<CallerNo>
+pub(crate) fn take_caller(words: &mut Words, version: u8) -> Option<CallerNo>
     ensures found { IfSome result (λ p. words.old ≡ caller_word version p ∷ words.new) }
     ensures fit { IfSome result (λ p. HasWord version p) }
     ensures none { IfNone result

@@ -3,7 +3,7 @@ ghost use Rattle.vt_journal.specs.Lines.{IsCutAt, IsLine};
 
 /// A text cut at its first LF.
 #[derive(Clone, Copy)]
-pub struct Cut<'a> {
+pub struct CutLine<'a> {
     /// What is before the LF.
     pub line: &'a [u8],
     /// What is behind it.
@@ -11,12 +11,12 @@ pub struct Cut<'a> {
 }
 
 /// The text cut at its first LF, where it has one.
-pub fn cut_line(text: &[u8]) -> Option<Cut<'_>>
+pub fn cut_line(text: &[u8]) -> Option<CutLine<'_>>
     ensures found { IfSome result (λ cut. IsCutAt text.now cut.line.now cut.behind.now) }
     ensures none { IfNone result (IsLine text.now) }
 {
     let i = first_end(text)?;
-    Some(Cut {
+    Some(CutLine {
         line: &text[..i],
         behind: &text[i + 1..],
     })

@@ -3,7 +3,7 @@ ghost use Rattle.std.specs.Prelude.{◌≡◌, ◌≢◌, ℕ, List, ◌∷◌, 
 ghost use Rattle.vt_events.specs.declared.entry.Entry.{Entry};
 ghost use Rattle.vt_journal.specs.Journal.{entry_words};
 ghost use Rattle.vt_journal.specs.Says.{IsFitEntry};
-ghost use Rattle.vt_journal.specs.Words.{spelled};
+ghost use Rattle.vt_journal.specs.Words.{joined_by_blanks};
 
 use crate::callers::take_caller;
 use crate::numbers::take_number;
@@ -15,12 +15,12 @@ use vt_base::NoMemory;
 use vt_events::Entry;
 
 /// The entry that the line of this version spells.
-pub fn read_entry(alloc: Global, line: &[u8], version: u8) -> Result<Option<Entry>, NoMemory>
+pub(crate) fn read_entry(alloc: Global, line: &[u8], version: u8) -> Result<Option<Entry>, NoMemory>
     ensures found { IfOk result
-        (λ found. IfSome found (λ e. spelled (entry_words version e) ≡ line.now)) }
+        (λ found. IfSome found (λ e. joined_by_blanks (entry_words version e) ≡ line.now)) }
     ensures fit { IfOk result (λ found. IfSome found (IsFitEntry version)) }
     ensures none { IfOk result (λ found. IfNone found
-        ((e : Entry) → IsFitEntry version e → spelled (entry_words version e) ≢ line.now)) }
+        ((e : Entry) → IsFitEntry version e → joined_by_blanks (entry_words version e) ≢ line.now)) }
 {
     let mut words = Words::of(line);
     let Some(entry) = take_entry(alloc, &mut words, version)? else {

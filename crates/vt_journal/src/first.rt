@@ -5,7 +5,7 @@ ghost use Rattle.vt_journal.specs.Says.{HasFirst, IsNoFirst};
 
 /// The first line of a journal.
 #[derive(Clone, Copy)]
-pub struct First<'a> {
+pub(crate) struct First<'a> {
     /// The version that it names, 1 or 2.
     pub version: u8,
     /// What is behind it.
@@ -25,7 +25,7 @@ pub fn version_of(text: &[u8]) -> Option<u8>
 }
 
 /// The first line of the text, where it is one of a journal.
-pub fn read_first(text: &[u8]) -> Option<First<'_>>
+pub(crate) fn read_first(text: &[u8]) -> Option<First<'_>>
     ensures version { IfSome result (λ first. IsVersion first.version) }
     ensures found { IfSome result
         (λ first. text.now ≡ line_text (first_words first.version) ++ first.behind.now) }

@@ -25,7 +25,7 @@ pub fn add_hex(alloc: Global, text: &mut Bytes, b: &[u8]) -> Result<(), NoMemory
 }
 
 /// The bytes that the word spells in hexadecimal.
-pub fn parse_hex(alloc: Global, word: &[u8]) -> Result<Option<Bytes>, NoMemory>
+pub(crate) fn parse_hex(alloc: Global, word: &[u8]) -> Result<Option<Bytes>, NoMemory>
     ensures found { IfOk result (λ found. IfSome found (λ b. hex_text b.bytes ≡ word.now)) }
     ensures fit { IfOk result (λ found. IfSome found (λ b. All (λ x. x < 2 ^ 8) b.bytes)) }
     ensures room { IfOk result (λ found. IfSome found (λ b. b.room ≡ 0)) }

@@ -15,7 +15,7 @@ pub enum JError {
 }
 
 /// The error of a fault of this kind in this line.
-pub fn refused(kind: u16, line: u32) -> JError
+pub(crate) fn refused(kind: u16, line: u32) -> JError
     ensures { result ≡ errors.Fault (record { kind = kind; line = line }) }
 {
     JError::Fault(JFault { kind, line })

@@ -4,17 +4,17 @@ ghost use Rattle.vt_journal.specs.Calls.{held_of, name_of, numbers_of};
 ghost use Rattle.vt_journal.specs.Kinds.{blank, call_of, takes};
 ghost use Rattle.vt_journal.specs.declared.kind.Kind.{Kind};
 
-use crate::likely::likely;
+use crate::kind_guess::guess_kind;
 use crate::rows::{row_of, rows};
 use vt_base::Bytes;
 use vt_events::Event;
 
 /// The most numbers of a call.
-pub const NUMBERS: usize = 6;
+pub(crate) const NUMBERS: usize = 6;
 
 /// Which call it is, as its [`Event`] is named.
 #[derive(Clone, Copy, PartialEq, Eq)]
-pub enum Kind {
+pub(crate) enum Kind {
     Scan,
     Exit,
     OpenCon,
@@ -65,11 +65,11 @@ pub enum Kind {
 
 impl Kind {
     /// The kind of the calls of this name.
-    pub fn named(name: &[u8]) -> Option<Kind>
+    pub(crate) fn named(name: &[u8]) -> Option<Kind>
         ensures found { IfSome result (λ kind. name_of (blank kind) ≡ name.now) }
         ensures none { IfNone result ((kind : Kind) → name_of (blank kind) ≢ name.now) }
     {
-        let kind = likely(name);
+        let kind = guess_kind(name);
         if kind.name().len() == name.len() && kind.name() == name {
             return Some(kind);
         }
@@ -90,14 +90,14 @@ impl Kind {
     }
 
     /// The name of its calls.
-    pub fn name(self) -> &'static [u8]
+    pub(crate) fn name(self) -> &'static [u8]
         ensures { result.now ≡ name_of (blank self) }
     {
         row_of(self).name
     }
 
     /// How many numbers follow the name.
-    pub fn count(self) -> usize
+    pub(crate) fn count(self) -> usize
         ensures same { result ≡ length (numbers_of (blank self)) }
         ensures most { result ≤ NUMBERS }
     {
@@ -105,14 +105,14 @@ impl Kind {
     }
 
     /// Whether bytes follow them.
-    pub fn holds_bytes(self) -> bool
+    pub(crate) fn holds_bytes(self) -> bool
         ensures { result ≡ is_some (held_of (blank self)) }
     {
         row_of(self).bytes
     }
 
     /// Whether there may be so many bytes.
-    pub fn takes(self, bytes: usize) -> bool
+    pub(crate) fn takes(self, bytes: usize) -> bool
         ensures { result ≡ takes self bytes }
     {
         match self {
@@ -122,7 +122,7 @@ impl Kind {
     }
 
     /// The call of these numbers, which holds these bytes where it holds any.
-    pub fn call(self, n: &[u16], b: Bytes) -> Event
+    pub(crate) fn call(self, n: &[u16], b: Bytes) -> Event
         requires many { length n.now ≡ length (numbers_of (blank self)) }
         requires few { takes self (length b.bytes) ≡ true }
         requires room { b.room ≡ 0 }

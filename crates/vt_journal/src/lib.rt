@@ -3,6 +3,7 @@
 #![tactic(auto)]
 
 mod adding;
+mod call_words;
 mod callers;
 mod cut;
 mod entries;
@@ -10,20 +11,19 @@ mod entry_lines;
 mod error_text;
 mod fault_code;
 mod first;
+mod first_line;
 mod full;
 mod hex;
 mod j_error;
 mod j_fault;
 mod journal;
 mod kind;
+mod kind_guess;
 mod laws;
-mod likely;
 mod limits;
 mod log;
-mod next;
 mod numbers;
 mod parsing;
-mod parts;
 mod printing;
 mod reading;
 mod replies;
@@ -36,7 +36,7 @@ mod words;
 
 pub use adding::{add, add_next};
 pub use callers::{add_caller, are_numbered};
-pub use cut::{Cut, cut_line};
+pub use cut::{CutLine, cut_line};
 pub use entries::Entries;
 pub use first::version_of;
 pub use full::Full;

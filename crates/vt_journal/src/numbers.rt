@@ -9,10 +9,10 @@ use arrayvec::ArrayVec;
 use vt_base::parse_decimal;
 
 /// The most numbers of an answer.
-pub const ANSWER_NUMBERS: usize = 5;
+pub(crate) const ANSWER_NUMBERS: usize = 5;
 
 /// The next words as so many numbers of 16 bits.
-pub fn read_numbers(words: &mut Words, count: usize) -> Option<ArrayVec<u16, NUMBERS>>
+pub(crate) fn read_numbers(words: &mut Words, count: usize) -> Option<ArrayVec<u16, NUMBERS>>
     requires { count ≤ NUMBERS }
     ensures found { IfSome result (λ ns. words.old ≡ map decimal ns.items ++ words.new) }
     ensures many { IfSome result (λ ns. length ns.items ≡ count) }
@@ -38,7 +38,10 @@ fn read_number(words: &mut Words) -> Option<u16>
 }
 
 /// The next words as numbers, as many as these and none above the one in its place.
-pub fn take_numbers(words: &mut Words, mosts: &[u64]) -> Option<ArrayVec<u64, ANSWER_NUMBERS>>
+pub(crate) fn take_numbers(
+    words: &mut Words,
+    mosts: &[u64],
+) -> Option<ArrayVec<u64, ANSWER_NUMBERS>>
     requires { length mosts.now ≤ ANSWER_NUMBERS }
     ensures found { IfSome result (λ ns. words.old ≡ map decimal ns.items ++ words.new) }
     ensures fit { IfSome result (λ ns. Within mosts.now ns.items) }

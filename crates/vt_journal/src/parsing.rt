@@ -12,9 +12,9 @@ use crate::cut::cut_line;
 use crate::entry_lines::read_entry;
 use crate::fault_code::{BAD_LINE, MORE, NO_FIRST, NO_LAST, TOO_MANY};
 use crate::first::read_first;
+use crate::first_line::FirstLine;
 use crate::j_error::refused;
 use crate::laws::one_journal;
-use crate::next::Next;
 use crate::tail_lines::read_tail;
 use crate::{Entries, JError, Journal, Tail};
 use std::alloc::Global;
@@ -22,7 +22,7 @@ use vt_base::NoMemory;
 use vt_events::Entry;
 
 /// The most entries of a journal.
-const MOST: u32 = 1_000_000;
+const MOST_ENTRIES: u32 = 1_000_000;
 
 /// What the text says as a journal of either version, which is the one spelling in it of the entries
 /// and of how they end; or its first fault.
@@ -52,25 +52,25 @@ fn read_lines(alloc: Global, version: u8, text: &[u8]) -> Result<Journal, JError
 {
     let mut entries = Vec::new(alloc);
     let mut rest = text;
-    for read in 0..MOST + 1 {
+    for read in 0..MOST_ENTRIES + 1 {
         if rest.is_empty() {
             return Err(refused(NO_LAST, read + 1));
         }
         match read_line(alloc, version, rest)? {
-            Next::Entry(entry, behind) => {
+            FirstLine::Entry(entry, behind) => {
                 entries.push(entry)?;
                 rest = behind;
             }
-            Next::Tail(end, behind) => return journal(version, entries, end, behind),
-            Next::Other => return Err(refused(BAD_LINE, read + 2)),
+            FirstLine::Tail(end, behind) => return journal(version, entries, end, behind),
+            FirstLine::Other => return Err(refused(BAD_LINE, read + 2)),
         }
     }
-    Err(refused(TOO_MANY, MOST + 2))
+    Err(refused(TOO_MANY, MOST_ENTRIES + 2))
 }
 
 // The journal of these, where nothing is behind its last line.
 fn journal(version: u8, entries: Vec<Entry>, end: Tail, behind: &[u8]) -> Result<Journal, JError>
-    requires { vec_len entries ≤ MOST }
+    requires { vec_len entries ≤ MOST_ENTRIES }
     ensures whole { behind.now ≡ []
         → result ≡ Ok (record { version = version; entries = entries.items; tail = end }) }
     ensures more { behind.now ≢ []
@@ -87,17 +87,17 @@ fn journal(version: u8, entries: Vec<Entry>, end: Tail, behind: &[u8]) -> Result
 }
 
 // What the first line is.
-fn read_line(alloc: Global, version: u8, text: &[u8]) -> Result<Next<'_>, NoMemory>
+fn read_line(alloc: Global, version: u8, text: &[u8]) -> Result<FirstLine<'_>, NoMemory>
     ensures { IfOk result (NextIs version text.now) }
 {
     let Some(cut) = cut_line(text) else {
-        return Ok(Next::Other);
+        return Ok(FirstLine::Other);
     };
     if let Some(entry) = read_entry(alloc, cut.line, version)? {
-        return Ok(Next::Entry(entry, cut.behind));
+        return Ok(FirstLine::Entry(entry, cut.behind));
     }
     match read_tail(cut.line) {
-        Some(end) => Ok(Next::Tail(end, cut.behind)),
-        None => Ok(Next::Other),
+        Some(end) => Ok(FirstLine::Tail(end, cut.behind)),
+        None => Ok(FirstLine::Other),
     }
 }

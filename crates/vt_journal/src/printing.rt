@@ -7,12 +7,12 @@ ghost use Rattle.vt_journal.specs.Callers.{IsVersion};
 ghost use Rattle.vt_journal.specs.Journal.{entry_words, first_words, journal_text, line_text, tail_words};
 ghost use Rattle.vt_journal.specs.Replies.{IsFitReply};
 ghost use Rattle.vt_journal.specs.Says.{IsFitEntry, IsFitTail};
-ghost use Rattle.vt_journal.specs.Text.{Begins, spaced};
+ghost use Rattle.vt_journal.specs.Text.{Begins, blank_before_each};
 ghost use Rattle.vt_journal.specs.Words.{IsFit, event_words, held_words, reply_words};
 
 use crate::adding::{add, add_bytes, add_end, add_named, add_next, make_room};
+use crate::call_words::CallWords;
 use crate::callers::add_caller;
-use crate::parts::Parts;
 use crate::{Full, Tail};
 use std::alloc::Global;
 use vt_base::{Bytes, NoMemory};
@@ -135,11 +135,11 @@ fn add_tail(alloc: Global, text: &mut Bytes, end: &Tail) -> Result<(), NoMemory>
 
 /// Adds the words of a call, each behind a blank. What is added is fit to be read again.
 pub fn add_event(alloc: Global, text: &mut Bytes, e: &Event) -> Result<(), NoMemory>
-    ensures ok { OnOk result (text.new.bytes ≡ text.old.bytes ++ spaced (event_words e.now)) }
+    ensures ok { OnOk result (text.new.bytes ≡ text.old.bytes ++ blank_before_each (event_words e.now)) }
     ensures kept { Begins text.old.bytes text.new.bytes }
     ensures fit { OnOk result (IsFit (plain_event e.now)) }
 {
-    let parts = Parts::of(e);
+    let parts = CallWords::of(e);
     add_named(alloc, text, parts.kind.name(), parts.numbers.as_slice())?;
     add_held(alloc, text, parts.held)?;
     Ok(())
@@ -148,7 +148,7 @@ pub fn add_event(alloc: Global, text: &mut Bytes, e: &Event) -> Result<(), NoMem
 // The bytes that a call holds behind a blank, where it holds any.
 fn add_held(alloc: Global, text: &mut Bytes, held: Option<&[u8]>) -> Result<(), NoMemory>
     ensures ok { OnOk result
-        (text.new.bytes ≡ text.old.bytes ++ spaced (held_words (option_copied held.entry))) }
+        (text.new.bytes ≡ text.old.bytes ++ blank_before_each (held_words (option_copied held.entry))) }
     ensures kept { Begins text.old.bytes text.new.bytes }
     ensures fit { IfSome (option_copied held.entry) (λ bytes. All (λ b. b < 2 ^ 8) bytes) }
 {
@@ -160,7 +160,7 @@ fn add_held(alloc: Global, text: &mut Bytes, held: Option<&[u8]>) -> Result<(), 
 
 /// Adds the words of an answer, each behind a blank. What is added is fit to be read again.
 pub fn add_reply(alloc: Global, text: &mut Bytes, r: &Reply) -> Result<(), NoMemory>
-    ensures ok { OnOk result (text.new.bytes ≡ text.old.bytes ++ spaced (reply_words r.now)) }
+    ensures ok { OnOk result (text.new.bytes ≡ text.old.bytes ++ blank_before_each (reply_words r.now)) }
     ensures kept { Begins text.old.bytes text.new.bytes }
     ensures fit { OnOk result (IsFitReply (plain_reply r.now)) }
 {

@@ -34,7 +34,7 @@ pub fn read_event(alloc: Global, words: &[u8]) -> Result<Option<Event>, NoMemory
 }
 
 /// The call that the next words are.
-pub fn take_event(alloc: Global, words: &mut Words) -> Result<Option<Event>, NoMemory>
+pub(crate) fn take_event(alloc: Global, words: &mut Words) -> Result<Option<Event>, NoMemory>
     ensures found { IfOk result
         (λ found. IfSome found (λ e. words.old ≡ event_words e ++ words.new)) }
     ensures fit { IfOk result (λ found. IfSome found IsFit) }
@@ -69,7 +69,11 @@ fn read_kind(words: &mut Words) -> Option<Kind>
 
 /// The next word as bytes in hexadecimal, where the call or the answer holds any; else none, and no
 /// word.
-pub fn read_bytes(alloc: Global, words: &mut Words, holds: bool) -> Result<Option<Bytes>, NoMemory>
+pub(crate) fn read_bytes(
+    alloc: Global,
+    words: &mut Words,
+    holds: bool,
+) -> Result<Option<Bytes>, NoMemory>
     ensures found { IfOk result
         (λ found. IfSome found (λ b. words.old ≡ held_words (if holds then Some b.bytes else None) ++ words.new)) }
     ensures fit { IfOk result (λ found. IfSome found (λ b. All (λ x. x < 2 ^ 8) b.bytes)) }

@@ -14,7 +14,7 @@ use vt_base::NoMemory;
 use vt_events::Reply;
 
 /// The answer that the next words are.
-pub fn take_reply(alloc: Global, words: &mut Words) -> Result<Option<Reply>, NoMemory>
+pub(crate) fn take_reply(alloc: Global, words: &mut Words) -> Result<Option<Reply>, NoMemory>
     ensures found { IfOk result
         (λ found. IfSome found (λ r. words.old ≡ reply_words r ++ words.new)) }
     ensures fit { IfOk result (λ found. IfSome found IsFitReply) }

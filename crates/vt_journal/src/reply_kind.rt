@@ -14,7 +14,7 @@ const MOST_LONG: u64 = 4_294_967_295;
 
 /// Which answer it is, as its [`Reply`] is named.
 #[derive(Clone, Copy, PartialEq, Eq)]
-pub enum ReplyKind {
+pub(crate) enum ReplyKind {
     Done,
     Num,
     State,
@@ -28,7 +28,7 @@ pub enum ReplyKind {
 
 impl ReplyKind {
     /// The kind of the answers of this name.
-    pub fn named(name: &[u8]) -> Option<ReplyKind>
+    pub(crate) fn named(name: &[u8]) -> Option<ReplyKind>
         ensures found { IfSome result (λ kind. reply_name kind ≡ name.now) }
         ensures none { IfNone result ((kind : ReplyKind) → reply_name kind ≢ name.now) }
     {
@@ -63,7 +63,7 @@ impl ReplyKind {
     }
 
     /// The most that each of its numbers can be.
-    pub fn mosts(self) -> &'static [u64]
+    pub(crate) fn mosts(self) -> &'static [u64]
         ensures { result.now ≡ mosts self }
     {
         match self {
@@ -78,7 +78,7 @@ impl ReplyKind {
     }
 
     /// Whether bytes follow them.
-    pub fn holds_bytes(self) -> bool
+    pub(crate) fn holds_bytes(self) -> bool
         ensures { result ≡ reply_holds self }
     {
         match self {
@@ -89,7 +89,7 @@ impl ReplyKind {
 
     /// The answer of these numbers, which holds these bytes where it holds any; none where the number
     /// is that of no error.
-    pub fn answer(self, n: &[u64], b: Bytes) -> Option<Reply>
+    pub(crate) fn answer(self, n: &[u64], b: Bytes) -> Option<Reply>
         requires numbers { Within (mosts self) n.now }
         requires room { b.room ≡ 0 }
         ensures found { IfSome result (IsAnswer self n.now b.bytes) }

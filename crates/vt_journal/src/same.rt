@@ -3,16 +3,16 @@ ghost use Rattle.std.specs.Prelude.{◌≡◌, ◌↔◌, IsTrue, option_copied}
 ghost use Rattle.vt_events.specs.Plain.{plain_event, plain_reply};
 ghost use Rattle.vt_journal.specs.declared.kind.Kind.{Kind};
 
+use crate::call_words::CallWords;
 use crate::kind::Kind;
-use crate::parts::Parts;
 use vt_events::{Event, Reply};
 
 /// Whether the calls are the same as they are meant: the room of their bytes is nothing of theirs.
 pub fn same_event(d: &Event, e: &Event) -> bool
     ensures { IsTrue result ↔ (plain_event d.now ≡ plain_event e.now) }
 {
-    let one = Parts::of(d);
-    let other = Parts::of(e);
+    let one = CallWords::of(d);
+    let other = CallWords::of(e);
     if !same_kind(one.kind, other.kind) {
         return false;
     }

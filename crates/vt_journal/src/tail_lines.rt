@@ -2,7 +2,7 @@
 ghost use Rattle.std.specs.Prelude.{◌≡◌, ◌≢◌, ℕ, List, ◌∷◌, ◌++◌, codes, IfSome, IfNone};
 ghost use Rattle.vt_journal.specs.Journal.{tail_words};
 ghost use Rattle.vt_journal.specs.Says.{IsFitTail};
-ghost use Rattle.vt_journal.specs.Words.{spelled};
+ghost use Rattle.vt_journal.specs.Words.{joined_by_blanks};
 ghost use Rattle.vt_journal.specs.declared.tail.Tail.{Tail};
 
 use crate::numbers::take_number;
@@ -12,11 +12,11 @@ use crate::{Full, Tail};
 const LONG: u64 = 4_294_967_295;
 
 /// How a journal ends whose last line this is.
-pub fn read_tail(line: &[u8]) -> Option<Tail>
-    ensures found { IfSome result (λ end. spelled (tail_words end) ≡ line.now) }
+pub(crate) fn read_tail(line: &[u8]) -> Option<Tail>
+    ensures found { IfSome result (λ end. joined_by_blanks (tail_words end) ≡ line.now) }
     ensures fit { IfSome result IsFitTail }
     ensures none { IfNone result
-        ((end : Tail) → IsFitTail end → spelled (tail_words end) ≢ line.now) }
+        ((end : Tail) → IsFitTail end → joined_by_blanks (tail_words end) ≢ line.now) }
 {
     let mut words = Words::of(line);
     let end = take_tail(&mut words)?;

@@ -1,6 +1,6 @@
 ghost use Rattle.std.specs.Bool.{OnFalse, OnTrue};
 ghost use Rattle.std.specs.Prelude.{◌≡◌, ◌≢◌, ◌==◌, ℕ, List, [], ◌∷◌, MatchOption, position};
-ghost use Rattle.vt_journal.specs.Cut.{cut};
+ghost use Rattle.vt_journal.specs.Cut.{words_of_text};
 
 use std::marker::Model;
 
@@ -22,7 +22,7 @@ impl<'a> Model for Words<'a> {
 impl<'a> Words<'a> {
     /// All words of the text.
     pub fn of(text: &'a [u8]) -> Words<'a>
-        ensures { result ≡ cut text.now }
+        ensures { result ≡ words_of_text text.now }
     {
         Words { rest: Some(text) }
     }

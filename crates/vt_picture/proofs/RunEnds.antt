@@ -12,10 +12,10 @@ record BeginsWith (cell : Cell) (all : List (List Cell)) : Type 0 where
   pub more : List (List Cell)
   pub is : all ≡ (cell ∷ run) ∷ more
 
-with_left-begins : (cell : Cell) (others : List (List Cell)) → BeginsWith cell (with_left cell others)
-with_left-begins cell [] = record { run = []; more = []; is = refl }
-with_left-begins cell ([] ∷ more) = record { run = []; more = more; is = refl }
-with_left-begins cell ((d ∷ run) ∷ more) = by (are_joined cell d)
+with_left_begins : (cell : Cell) (others : List (List Cell)) → BeginsWith cell (with_left cell others)
+with_left_begins cell [] = record { run = []; more = []; is = refl }
+with_left_begins cell ([] ∷ more) = record { run = []; more = more; is = refl }
+with_left_begins cell ((d ∷ run) ∷ more) = by (are_joined cell d)
   where
     by : (test : Bool)
         → BeginsWith cell (cond test ((cell ∷ d ∷ run) ∷ more) ((cell ∷ []) ∷ (d ∷ run) ∷ more))
@@ -26,7 +26,7 @@ with_left-begins cell ((d ∷ run) ∷ more) = by (are_joined cell d)
 alone : (c d : Cell) (rest : List Cell) → are_joined c d ≡ false
     → runs (c ∷ d ∷ rest) ≡ (c ∷ []) ∷ runs (d ∷ rest)
 alone c d rest apart =
-    let first = with_left-begins d (runs rest) in
+    let first = with_left_begins d (runs rest) in
     ap (with_left c) first.is
     ∙ cond-false (are_joined c d) ((c ∷ d ∷ first.run) ∷ first.more) ((c ∷ []) ∷ (d ∷ first.run) ∷ first.more) apart
     ∙ ap (λ all. (c ∷ []) ∷ all) (sym first.is)

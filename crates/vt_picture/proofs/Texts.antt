@@ -5,7 +5,7 @@ use Rattle.std.proofs.lemmas.Option.{slice_get_within, get_or_from_slice_get}
 use Rattle.std.specs.List.{flat_map, slice_get}
 use Rattle.std.specs.Prelude.{slice_index_or}
 use Rattle.vt_cells.specs.declared.cell.Cell.{Cell}
-use Rattle.vt_grid.specs.Grid.{IsFull, Sheet, row_at}
+use Rattle.vt_grid.specs.Grid.{IsFull, GridView, row_at}
 use Rattle.vt_picture.specs.Picture.{first_cell, rows_text, run_text, runs_text}
 use Rattle.vt_picture.specs.Runs.{runs}
 use Rattle.vt_screen.specs.declared.screen_state.ScreenState.{ScreenState}
@@ -34,7 +34,7 @@ in_five old a b c d e t1 t2 t3 t4 t5 e1 e2 e3 e4 e5 =
     e5 ∙ ap (λ (t : List ℕ). t ++ e) (e4 ∙ ap (λ (t : List ℕ). t ++ d) (in_three old a b c t1 t2 t3 e1 e2 e3)) ∙ regroup
 
 -- a row is as long as the grid is wide
-pub row_long : (g : Sheet) (y : ℕ) → IsFull g → y < g.rows → length (row_at g y) ≡ g.cols
+pub row_long : (g : GridView) (y : ℕ) → IsFull g → y < g.rows → length (row_at g y) ≡ g.cols
 row_long g y full in_rows = full.wide y [] (omega (arith, in_rows, full.tall))
 
 -- a run within a row has all its cells

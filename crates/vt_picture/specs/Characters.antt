@@ -13,8 +13,8 @@ is_text code =
 
 -- a character in UTF-8: the three signs of markup are written by their names, and a code that isn't text
 -- as U+FFFD
-unfoldable pub escaped : ℕ → List ℕ
-escaped code =
+unfoldable pub markup_of : ℕ → List ℕ
+markup_of code =
     if code == 0x26 then codes "&amp;"
     else if code == 0x3C then codes "&lt;"
     else if code == 0x3E then codes "&gt;"
@@ -23,4 +23,4 @@ escaped code =
 
 -- a cell's character. A right half is empty: its character is in the cell to its left
 unfoldable pub cell_text : Cell → List ℕ
-cell_text cell = if is_half cell then [] else escaped cell.code
+cell_text cell = if is_half cell then [] else markup_of cell.code

@@ -1,13 +1,13 @@
 -- The colours of a cell, and the classes of its text.
 use Rattle.std.specs.Prelude.{ℕ, Bool, ◌/◌, ◌%◌, ◌==◌, ◌&&◌, nat_lt, List, [], codes, slice_index_or, if◌then◌else◌}
-use Rattle.vt_cells.specs.AttrByte.{swapped, vga}
+use Rattle.vt_cells.specs.AttrByte.{with_colours_swapped, vga}
 use Rattle.vt_cells.specs.Colours.{Rgb}
 use Rattle.vt_cells.specs.declared.cell.Cell.{Cell}
 use Rattle.vt_screen.specs.declared.screen_state.ScreenState.{ScreenState}
 
 -- a cell's attribute byte; on a reversed screen its two colours are exchanged
 unfoldable pub attribute : ScreenState → Cell → ℕ
-attribute state cell = if state.reverse then swapped cell.attr else cell.attr
+attribute state cell = if state.reverse then with_colours_swapped cell.attr else cell.attr
 
 -- the palette's colour of a number of VGA. `vga` exchanges blue and red, and so it is its own inverse
 unfoldable pub colour : ScreenState → ℕ → Rgb

@@ -6,8 +6,8 @@ use Rattle.vt_cells.specs.declared.cell.Cell.{Cell}
 use Rattle.vt_picture.specs.Characters.{cell_text}
 use Rattle.vt_picture.specs.Colours.{attribute, background, classes, foreground}
 use Rattle.vt_picture.specs.Runs.{runs}
-use Rattle.vt_picture.specs.Svg.{filled_with, numbered, rectangle}
-use Rattle.vt_grid.specs.Grid.{Sheet, row_at}
+use Rattle.vt_picture.specs.Svg.{fill_attribute, number_attribute, rectangle}
+use Rattle.vt_grid.specs.Grid.{GridView, row_at}
 use Rattle.vt_screen.specs.Screen.{Screen, start_blank}
 use Rattle.vt_screen.specs.declared.screen_state.ScreenState.{ScreenState}
 
@@ -33,10 +33,10 @@ cursor_height = 2
 unfoldable pub letters_tag : ScreenState → ℕ → ℕ → ℕ → ℕ → List ℕ
 letters_tag state y x count attr =
     codes "<text"
-    ++ (numbered (codes "x") (cell_width * x)
-    ++ (numbered (codes "y") (cell_height * y + base_line)
-    ++ (numbered (codes "textLength") (cell_width * count)
-    ++ (filled_with (foreground state attr)
+    ++ (number_attribute (codes "x") (cell_width * x)
+    ++ (number_attribute (codes "y") (cell_height * y + base_line)
+    ++ (number_attribute (codes "textLength") (cell_width * count)
+    ++ (fill_attribute (foreground state attr)
     ++ (classes attr ++ codes ">")))))
 
 -- the text of a run in row y from column x on
@@ -78,7 +78,7 @@ cursor_text s =
     else []
 
 -- the size in words
-unfoldable pub size_words : Sheet → List ℕ
+unfoldable pub size_words : GridView → List ℕ
 size_words g = decimal g.rows ++ (codes " rows and " ++ (decimal g.cols ++ codes " columns"))
 
 -- the cursor's place in words, counted from 1
@@ -100,16 +100,16 @@ style =
     ++ codes "@media(prefers-reduced-motion:reduce){.blink{animation:none}}</style>\n")
 
 -- the tag of the picture, with its size
-unfoldable pub opening_tag : Sheet → List ℕ
+unfoldable pub opening_tag : GridView → List ℕ
 opening_tag g =
     codes "<svg xmlns='http://www.w3.org/2000/svg' xml:space='preserve'"
     ++ (codes " font-family='monospace' font-size='13' shape-rendering='crispEdges'"
-    ++ (numbered (codes "width") (cell_width * g.cols)
-    ++ (numbered (codes "height") (cell_height * g.rows)
+    ++ (number_attribute (codes "width") (cell_width * g.cols)
+    ++ (number_attribute (codes "height") (cell_height * g.rows)
     ++ codes ">\n")))
 
 -- the title
-unfoldable pub title_text : Sheet → List ℕ
+unfoldable pub title_text : GridView → List ℕ
 title_text g = codes "<title>A screen of " ++ (size_words g ++ codes "</title>\n")
 
 -- the description: the size again, and where the cursor is

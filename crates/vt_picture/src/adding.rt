@@ -1,13 +1,13 @@
 //! Parts of the picture's text, each added at its end.
 ghost use Rattle.std.specs.Prelude.{◌≡◌, ◌<◌, ◌++◌, decimal, OnOk};
-ghost use Rattle.vt_picture.specs.Svg.{filled_with, hex_digit, hex_pair, numbered, rectangle};
+ghost use Rattle.vt_picture.specs.Svg.{fill_attribute, hex_digit, hex_pair, number_attribute, rectangle};
 
 use itoa::Buffer;
 use std::alloc::Global;
 use vt_base::{Bytes, NoMemory};
 
 /// Adds the bytes.
-pub fn add(alloc: Global, text: &mut Bytes, bytes: &[u8]) -> Result<(), NoMemory>
+pub(crate) fn add(alloc: Global, text: &mut Bytes, bytes: &[u8]) -> Result<(), NoMemory>
     ensures { OnOk result (text.new.bytes ≡ text.old.bytes ++ bytes.now) }
 {
     text.grow(alloc, bytes.len())?;
@@ -16,7 +16,7 @@ pub fn add(alloc: Global, text: &mut Bytes, bytes: &[u8]) -> Result<(), NoMemory
 }
 
 /// Adds the number.
-pub fn add_number(alloc: Global, text: &mut Bytes, n: u16) -> Result<(), NoMemory>
+pub(crate) fn add_number(alloc: Global, text: &mut Bytes, n: u16) -> Result<(), NoMemory>
     ensures { OnOk result (text.new.bytes ≡ text.old.bytes ++ decimal n) }
 {
     let mut buffer = Buffer::new();
@@ -24,9 +24,14 @@ pub fn add_number(alloc: Global, text: &mut Bytes, n: u16) -> Result<(), NoMemor
 }
 
 /// Adds the attribute of this name, whose value is the number.
-#[tactic(auto, unfolding(crate::specs::Svg::numbered))]
-pub fn add_numbered(alloc: Global, text: &mut Bytes, name: &[u8], n: u16) -> Result<(), NoMemory>
-    ensures { OnOk result (text.new.bytes ≡ text.old.bytes ++ numbered name.now n) }
+#[tactic(auto, unfolding(crate::specs::Svg::number_attribute))]
+pub(crate) fn add_numbered(
+    alloc: Global,
+    text: &mut Bytes,
+    name: &[u8],
+    n: u16,
+) -> Result<(), NoMemory>
+    ensures { OnOk result (text.new.bytes ≡ text.old.bytes ++ number_attribute name.now n) }
 {
     add(alloc, text, b" ")?;
     add(alloc, text, name)?;
@@ -36,13 +41,13 @@ pub fn add_numbered(alloc: Global, text: &mut Bytes, name: &[u8], n: u16) -> Res
 }
 
 /// Adds the attribute that fills with the colour.
-#[tactic(auto, unfolding(crate::specs::Svg::filled_with))]
-pub fn add_filled_with(
+#[tactic(auto, unfolding(crate::specs::Svg::fill_attribute))]
+pub(crate) fn add_filled_with(
     alloc: Global,
     text: &mut Bytes,
     colour: (u8, u8, u8),
 ) -> Result<(), NoMemory>
-    ensures { OnOk result (text.new.bytes ≡ text.old.bytes ++ filled_with colour) }
+    ensures { OnOk result (text.new.bytes ≡ text.old.bytes ++ fill_attribute colour) }
 {
     add(alloc, text, b" fill='#")?;
     add_hex_pair(alloc, text, colour.0)?;
@@ -53,7 +58,7 @@ pub fn add_filled_with(
 
 /// Adds a rectangle.
 #[tactic(auto, unfolding(crate::specs::Svg::rectangle))]
-pub fn add_rectangle(
+pub(crate) fn add_rectangle(
     alloc: Global,
     text: &mut Bytes,
     x: u16,

@@ -1,6 +1,6 @@
 //! The characters of cells as XML has them.
 ghost use Rattle.std.specs.Prelude.{◌≡◌, ◌++◌, encode_utf8, OnOk};
-ghost use Rattle.vt_picture.specs.Characters.{cell_text, escaped, is_text};
+ghost use Rattle.vt_picture.specs.Characters.{cell_text, markup_of, is_text};
 
 use crate::adding::add;
 use std::alloc::Global;
@@ -9,7 +9,7 @@ use vt_cells::{Cell, HALF};
 
 /// Adds the cell's character, or nothing of a right half.
 #[tactic(auto, unfolding(crate::specs::Characters::cell_text))]
-pub fn add_cell(alloc: Global, text: &mut Bytes, cell: Cell) -> Result<(), NoMemory>
+pub(crate) fn add_cell(alloc: Global, text: &mut Bytes, cell: Cell) -> Result<(), NoMemory>
     ensures { OnOk result (text.new.bytes ≡ text.old.bytes ++ cell_text cell) }
 {
     if cell.code == HALF {
@@ -18,9 +18,9 @@ pub fn add_cell(alloc: Global, text: &mut Bytes, cell: Cell) -> Result<(), NoMem
     add_escaped(alloc, text, cell.code)
 }
 
-#[tactic(auto, unfolding(crate::specs::Characters::escaped))]
+#[tactic(auto, unfolding(crate::specs::Characters::markup_of))]
 fn add_escaped(alloc: Global, text: &mut Bytes, code: u32) -> Result<(), NoMemory>
-    ensures { OnOk result (text.new.bytes ≡ text.old.bytes ++ escaped code) }
+    ensures { OnOk result (text.new.bytes ≡ text.old.bytes ++ markup_of code) }
 {
     match char::from_u32(code) {
         Some('&') => add(alloc, text, b"&amp;"),

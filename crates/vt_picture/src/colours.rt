@@ -10,7 +10,7 @@ const PALETTE_NUMBERS: [u8; 16] = [0, 4, 2, 6, 1, 5, 3, 7, 8, 12, 10, 14, 9, 13,
 
 /// The cell's attribute byte. On a reversed screen its two colours are exchanged.
 #[tactic(auto, unfolding(crate::specs::Colours::attribute))]
-pub fn attribute(state: &ScreenState, cell: Cell) -> u8
+pub(crate) fn attribute(state: &ScreenState, cell: Cell) -> u8
     ensures { result ≡ attribute state.now cell }
 {
     if state.reverse {
@@ -22,7 +22,7 @@ pub fn attribute(state: &ScreenState, cell: Cell) -> u8
 
 /// The colour of the characters.
 #[tactic(auto, unfolding(crate::specs::Colours::foreground))]
-pub fn foreground(state: &ScreenState, attr: u8) -> (u8, u8, u8)
+pub(crate) fn foreground(state: &ScreenState, attr: u8) -> (u8, u8, u8)
     ensures { result ≡ foreground state.now attr }
 {
     colour(state, attr % 16)
@@ -30,7 +30,7 @@ pub fn foreground(state: &ScreenState, attr: u8) -> (u8, u8, u8)
 
 /// The colour behind the characters.
 #[tactic(auto, unfolding(crate::specs::Colours::background))]
-pub fn background(state: &ScreenState, attr: u8) -> (u8, u8, u8)
+pub(crate) fn background(state: &ScreenState, attr: u8) -> (u8, u8, u8)
     ensures { result ≡ background state.now attr }
 {
     colour(state, attr / 16 % 8)
@@ -46,7 +46,7 @@ fn colour(state: &ScreenState, n: u8) -> (u8, u8, u8)
 
 /// The attribute that names the classes of a text, or nothing.
 #[tactic(auto, unfolding(crate::specs::Colours::classes))]
-pub fn classes(attr: u8) -> &'static [u8]
+pub(crate) fn classes(attr: u8) -> &'static [u8]
     ensures { result.now ≡ classes attr }
 {
     match (attr % 16 > 8, attr / 128 == 1) {

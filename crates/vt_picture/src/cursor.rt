@@ -17,7 +17,7 @@ const CURSOR_HEIGHT: u16 = 2;
 
 /// Adds the cursor if it is visible: a line at the foot of its cell.
 #[tactic(auto, using(std::proofs::lemmas::Option::get_or_from_slice_get), unfolding(crate::specs::Picture::cursor_text))]
-pub fn add_cursor(alloc: Global, text: &mut Bytes, emu: &Emu) -> Result<(), NoMemory>
+pub(crate) fn add_cursor(alloc: Global, text: &mut Bytes, emu: &Emu) -> Result<(), NoMemory>
     ensures { OnOk result (text.new.bytes ≡ text.old.bytes ++ cursor_text emu.now.state) }
 {
     let state = emu.state();

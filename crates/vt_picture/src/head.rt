@@ -11,7 +11,7 @@ use vt_screen::{Emu, ScreenState};
 
 /// Adds the tag of the picture, the title, the description and the style.
 #[tactic(auto, unfolding(crate::specs::Picture::head_text))]
-pub fn add_head(alloc: Global, text: &mut Bytes, emu: &Emu) -> Result<(), NoMemory>
+pub(crate) fn add_head(alloc: Global, text: &mut Bytes, emu: &Emu) -> Result<(), NoMemory>
     ensures { OnOk result (text.new.bytes ≡ text.old.bytes ++ head_text emu.now.state) }
 {
     add_opening_tag(alloc, text, emu.grid())?;

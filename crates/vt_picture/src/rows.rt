@@ -16,17 +16,17 @@ use vt_grid::Grid;
 use vt_screen::ScreenState;
 
 /// The width of a cell.
-pub const CELL_WIDTH: u16 = 8;
+pub(crate) const CELL_WIDTH: u16 = 8;
 
 /// The height of a cell.
-pub const CELL_HEIGHT: u16 = 16;
+pub(crate) const CELL_HEIGHT: u16 = 16;
 
 /// How far below the top of a cell its character stands.
 const BASE_LINE: u16 = 12;
 
 /// Adds the rows from top to bottom.
 #[tactic(auto, using(crate::proofs::Texts::rows_more))]
-pub fn add_rows(
+pub(crate) fn add_rows(
     alloc: Global,
     text: &mut Bytes,
     state: &ScreenState,

@@ -8,7 +8,7 @@ use vt_grid::Grid;
 
 /// How many cells the run has that begins in row `y` and column `x`.
 #[tactic(auto, using(crate::proofs::RunEnds::joined_more))]
-pub fn run_length(g: &Grid, y: u8, x: u8) -> u8
+pub(crate) fn run_length(g: &Grid, y: u8, x: u8) -> u8
     requires row { y < g.now.rows }
     requires column { x < g.now.cols }
     ensures some { 0 < result }

@@ -41,8 +41,8 @@ caller_of (Some start) = plain_caller true start.home start.privileged
 
 -- the caller of number p at the start: a keyboard, or the process at that place of the list, counted
 -- from 1
-abbrev pub starting : ℕ → List ProcStart → ℕ → Process
-starting keyboards starts p =
+abbrev pub caller_at_start : ℕ → List ProcStart → ℕ → Process
+caller_at_start keyboards starts p =
     if p == 0 then keyboard keyboards 0
     else if nat_lt processes p then keyboard keyboards (p - processes)
     else caller_of (slice_get starts (p - 1))
@@ -55,7 +55,7 @@ pub record IsFitCount (keyboards : ℕ) : Type 0 where
 -- the callers at the start; nobody accepts the key signal
 abbrev pub callers_of : ℕ → List ProcStart → Callers
 callers_of keyboards starts = record {
-  list = map (starting keyboards starts) (range_with_len 0 every_caller);
+  list = map (caller_at_start keyboards starts) (range_with_len 0 every_caller);
   accepter = None;
 }
 
@@ -93,15 +93,15 @@ adds_open process c =
     record process { opens = with_open process.opens c (lowest_free process.opens) }
 
 -- p has opened c at its lowest descriptor that wasn't open, if there was one
-abbrev pub opened : ℕ → ℕ → Callers → Callers
-opened p c callers = with_caller callers p (adds_open (caller_at callers p) c)
+abbrev pub after_open : ℕ → ℕ → Callers → Callers
+after_open p c callers = with_caller callers p (adds_open (caller_at callers p) c)
 
 abbrev pub loses_open : Process → ℕ → Process
 loses_open process fd = record process { opens = slice_set process.opens fd None }
 
 -- p has shut its descriptor fd
-abbrev pub shut : ℕ → ℕ → Callers → Callers
-shut p fd callers = with_caller callers p (loses_open (caller_at callers p) fd)
+abbrev pub after_close : ℕ → ℕ → Callers → Callers
+after_close p fd callers = with_caller callers p (loses_open (caller_at callers p) fd)
 
 abbrev pub is_console : ℕ → Option ℕ → Bool
 is_console c None = false
@@ -116,8 +116,8 @@ abbrev pub is_opened : Callers → ℕ → Bool
 is_opened callers c = list_any (λ caller. has_open caller.opens c) callers.list
 
 -- who is dead has no descriptor, no ticket and no pending signal
-abbrev pub gone : Process → Process
-gone process = plain_caller false process.home process.privileged
+abbrev pub dead_process : Process → Process
+dead_process process = plain_caller false process.home process.privileged
 
 -- p accepts the key signal
 abbrev pub accepts : ℕ → Option (ℕ × ℕ) → Bool
@@ -125,8 +125,8 @@ accepts p None = false
 accepts p (Some accepter) = accepter.0 == p
 
 -- the end of p, which accepts no key signal from then on
-abbrev pub ended : ℕ → Callers → Callers
-ended p callers = record {
-  list = slice_set callers.list p (gone (caller_at callers p));
+abbrev pub after_exit : ℕ → Callers → Callers
+after_exit p callers = record {
+  list = slice_set callers.list p (dead_process (caller_at callers p));
   accepter = if accepts p callers.accepter then None else callers.accepter;
 }

@@ -28,18 +28,18 @@ waited_of Done = waited.Done
 waited_of Broken = waited.Broken
 
 -- what is left when it has been told: an open ticket stays
-abbrev pub left : Waiting → Waiting
-left Nothing = Nothing
-left (Open ticket) = Open ticket
-left Done = Nothing
-left Broken = Nothing
+abbrev pub waiting_after_report : Waiting → Waiting
+waiting_after_report Nothing = Nothing
+waiting_after_report (Open ticket) = Open ticket
+waiting_after_report Done = Nothing
+waiting_after_report Broken = Nothing
 
 -- an open ticket ends by a signal
-abbrev pub broken : Waiting → Waiting
-broken Nothing = Nothing
-broken (Open ticket) = Broken
-broken Done = Done
-broken Broken = Broken
+abbrev pub after_signal : Waiting → Waiting
+after_signal Nothing = Nothing
+after_signal (Open ticket) = Broken
+after_signal Done = Done
+after_signal Broken = Broken
 
 -- the ticket waits until console c has the display, or until bytes come to it
 abbrev pub is_for_display : ℕ → Ticket → Bool
@@ -60,14 +60,14 @@ waits_for ends Done = false
 waits_for ends Broken = false
 
 -- an open ticket that passes the test ends with success
-abbrev pub succeeded : (Ticket → Bool) → Waiting → Waiting
-succeeded ends waiting = if waits_for ends waiting then Done else waiting
+abbrev pub after_success : (Ticket → Bool) → Waiting → Waiting
+after_success ends waiting = if waits_for ends waiting then Done else waiting
 
 -- an open ticket ends for this reason
 abbrev pub ended_by : Ending → Waiting → Waiting
-ended_by (Shown c) waiting = succeeded (is_for_display c) waiting
-ended_by (Filled c) waiting = succeeded (is_for_input c) waiting
-ended_by Idle waiting = broken waiting
+ended_by (Shown c) waiting = after_success (is_for_display c) waiting
+ended_by (Filled c) waiting = after_success (is_for_input c) waiting
+ended_by Idle waiting = after_signal waiting
 
 abbrev pub with_waiting : Process → Waiting → Process
 with_waiting process waiting = record process { waiting = waiting }
@@ -81,44 +81,44 @@ abbrev pub with_ended : Ending → Callers → Callers
 with_ended ending callers = record callers { list = all_ended_by ending callers.list }
 
 -- console c has the display
-abbrev pub shown : ℕ → Callers → Callers
-shown c callers = with_ended (Shown c) callers
+abbrev pub after_display_of : ℕ → Callers → Callers
+after_display_of c callers = with_ended (Shown c) callers
 
 -- bytes came to console c
-abbrev pub filled : ℕ → Callers → Callers
-filled c callers = with_ended (Filled c) callers
+abbrev pub after_input_on : ℕ → Callers → Callers
+after_input_on c callers = with_ended (Filled c) callers
 
 -- p begins a wait
 abbrev pub waits : ℕ → Ticket → Callers → Callers
 waits p ticket callers = with_caller callers p (with_waiting (caller_at callers p) (Open ticket))
 
 -- p has been told of its ticket
-abbrev pub collected : ℕ → Callers → Callers
-collected p callers =
-    with_caller callers p (with_waiting (caller_at callers p) (left (caller_at callers p).waiting))
+abbrev pub after_wait_report : ℕ → Callers → Callers
+after_wait_report p callers =
+    with_caller callers p (with_waiting (caller_at callers p) (waiting_after_report (caller_at callers p).waiting))
 
 -- a signal is pending for a process, and its open ticket ends
-abbrev pub signalled : Process → ℕ → Process
-signalled process s =
+abbrev pub with_signal_pending : Process → ℕ → Process
+with_signal_pending process s =
     record process {
       pending = with_signal process.pending s;
-      waiting = broken process.waiting;
+      waiting = after_signal process.waiting;
     }
 
 -- raise
-abbrev pub raised : ℕ → ℕ → Callers → Callers
-raised p s callers = with_caller callers p (signalled (caller_at callers p) s)
+abbrev pub after_raise : ℕ → ℕ → Callers → Callers
+after_raise p s callers = with_caller callers p (with_signal_pending (caller_at callers p) s)
 
 abbrev pub without_pending : Process → Process
 without_pending process = record process { pending = 0 }
 
 -- p has taken its pending signals
-abbrev pub taken : ℕ → Callers → Callers
-taken p callers = with_caller callers p (without_pending (caller_at callers p))
+abbrev pub after_taking_signals : ℕ → Callers → Callers
+after_taking_signals p callers = with_caller callers p (without_pending (caller_at callers p))
 
 -- p accepts the key signal from here on, in place of an earlier one
-abbrev pub accepting : ℕ → ℕ → Callers → Callers
-accepting p s callers = record callers { accepter = Some (p, s) }
+abbrev pub with_accepter : ℕ → ℕ → Callers → Callers
+with_accepter p s callers = record callers { accepter = Some (p, s) }
 
 -- a live caller without an open ticket
 abbrev pub can_go : Process → Bool
@@ -126,5 +126,5 @@ can_go process = process.live && not (is_open process.waiting)
 
 -- the idle rule: where no live caller is without an open ticket, every open ticket ends as by a
 -- signal
-abbrev pub settled : Callers → Callers
-settled callers = if list_any can_go callers.list then callers else with_ended Idle callers
+abbrev pub after_idle_rule : Callers → Callers
+after_idle_rule callers = if list_any can_go callers.list then callers else with_ended Idle callers

@@ -21,7 +21,7 @@ impl Model for Opens {
 }
 
 /// No descriptor is open.
-pub const NO_OPENS: Opens = Opens {
+pub(crate) const NO_OPENS: Opens = Opens {
     places: [None; DESCRIPTORS],
 };
 

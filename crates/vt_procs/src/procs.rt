@@ -1,6 +1,6 @@
 ghost use Rattle.std.specs.Prelude.{◌≡◌, ◌≤◌, true, Some, None, is_some, length, if◌then◌else◌};
-ghost use Rattle.vt_procs.specs.Callers.{IsFit, IsFitCount, accepts, caller_at, callers_of, console_of, ended, free_fd, has_open, is_live, is_opened, opened, plain_caller, shut, starting};
-ghost use Rattle.vt_procs.specs.Tickets.{accepting};
+ghost use Rattle.vt_procs.specs.Callers.{IsFit, IsFitCount, accepts, caller_at, callers_of, console_of, after_exit, free_fd, has_open, is_live, is_opened, after_open, plain_caller, after_close, caller_at_start};
+ghost use Rattle.vt_procs.specs.Tickets.{with_accepter};
 
 use crate::opens::NO_OPENS;
 use crate::{ProcStart, Process, Waiting};
@@ -35,7 +35,7 @@ impl Procs {
     {
         let mut callers = [plain_caller(false, 0, false); CALLERS];
         for p in 0..CALLERS {
-            callers[p] = starting(list, keyboards, p);
+            callers[p] = caller_at_start(list, keyboards, p);
         }
         Procs {
             callers,
@@ -83,7 +83,7 @@ impl Procs {
     /// Opens the console at the lowest free descriptor, where there is one.
     pub fn add_open(&mut self, p: CallerNo, c: ConsoleNo) -> Option<Fd>
         ensures answer { result ≡ free_fd self.old p }
-        ensures state { self.new ≡ opened p c self.old }
+        ensures state { self.new ≡ after_open p c self.old }
     {
         let process = &mut self.callers[usize::from(p.get())];
         process.opens.add(c)
@@ -92,7 +92,7 @@ impl Procs {
     /// Shuts the descriptor.
     pub fn shut(&mut self, p: CallerNo, fd: Fd)
         requires { is_some (console_of self.old p fd) ≡ true }
-        ensures { self.new ≡ shut p fd self.old }
+        ensures { self.new ≡ after_close p fd self.old }
     {
         let process = &mut self.callers[usize::from(p.get())];
         process.opens.shut(fd);
@@ -116,7 +116,7 @@ impl Procs {
     /// `p` is the accepter of the key signal from here on, and gets this signal.
     pub fn accept(&mut self, p: CallerNo, s: Signal)
         requires { is_live self.old p ≡ true }
-        ensures { self.new ≡ accepting p s self.old }
+        ensures { self.new ≡ with_accepter p s self.old }
     {
         self.accepter = Some((p, s));
     }
@@ -132,7 +132,7 @@ impl Procs {
     /// The end of a caller: its descriptors, its ticket and its pending signals are gone, and it
     /// accepts no key signal.
     pub fn end(&mut self, p: CallerNo)
-        ensures { self.new ≡ ended p self.old }
+        ensures { self.new ≡ after_exit p self.old }
     {
         if self.accepts(p) {
             self.accepter = None;
@@ -167,8 +167,8 @@ fn plain_caller(live: bool, home: u8, privileged: bool) -> Process
 }
 
 // The caller of number `p` at the start.
-fn starting(list: &[ProcStart], keyboards: u8, p: usize) -> Process
-    ensures { result ≡ starting keyboards list.now p }
+fn caller_at_start(list: &[ProcStart], keyboards: u8, p: usize) -> Process
+    ensures { result ≡ caller_at_start keyboards list.now p }
 {
     if p == 0 {
         return plain_caller(0 < keyboards, 0, false);

@@ -2,7 +2,7 @@
 ghost use Rattle.std.specs.List.{list_any};
 ghost use Rattle.std.specs.Prelude.{◌≡◌, ◌==◌, true, not, if◌then◌else◌};
 ghost use Rattle.vt_procs.specs.Callers.{caller_at, is_live};
-ghost use Rattle.vt_procs.specs.Tickets.{all_ended_by, broken, can_go, collected, ended_by, filled, is_for_display, is_for_input, is_open, left, raised, settled, shown, taken, waited_of, waits, waits_for};
+ghost use Rattle.vt_procs.specs.Tickets.{all_ended_by, after_signal, can_go, after_wait_report, ended_by, after_input_on, is_for_display, is_for_input, is_open, waiting_after_report, after_raise, after_idle_rule, after_display_of, after_taking_signals, waited_of, waits, waits_for};
 ghost use Rattle.vt_procs.specs.declared.waited.Waited.{Waited};
 ghost use Rattle.vt_procs.specs.declared.waiting.Waiting.{Waiting};
 
@@ -15,11 +15,11 @@ impl Procs {
     /// process (signal(7)), by [`Procs::end`].
     pub fn raise(&mut self, p: CallerNo, s: Signal)
         requires { is_live self.old p ≡ true }
-        ensures { self.new ≡ raised p s self.old }
+        ensures { self.new ≡ after_raise p s self.old }
     {
         let process = &mut self.callers[usize::from(p.get())];
         process.pending = process.pending.with(s);
-        process.waiting = broken(&process.waiting);
+        process.waiting = after_signal(&process.waiting);
     }
 
     /// Whether a signal is pending for `p`.
@@ -33,7 +33,7 @@ impl Procs {
     pub fn take_signals(&mut self, p: CallerNo) -> SigSet
         requires { is_live self.old p ≡ true }
         ensures answer { result ≡ (caller_at self.old p).pending }
-        ensures state { self.new ≡ taken p self.old }
+        ensures state { self.new ≡ after_taking_signals p self.old }
     {
         let process = &mut self.callers[usize::from(p.get())];
         let pending = process.pending;
@@ -69,25 +69,25 @@ impl Procs {
     pub fn collect(&mut self, p: CallerNo) -> Waited
         requires { is_live self.old p ≡ true }
         ensures answer { result ≡ waited_of (caller_at self.old p).waiting }
-        ensures state { self.new ≡ collected p self.old }
+        ensures state { self.new ≡ after_wait_report p self.old }
     {
         let process = &mut self.callers[usize::from(p.get())];
         let waited = waited_of(&process.waiting);
-        process.waiting = left(&process.waiting);
+        process.waiting = waiting_after_report(&process.waiting);
         waited
     }
 
     /// The console has the display: each open ticket that waits for that ends with success. It goes
     /// once over the callers, as the next two do.
     pub fn shown(&mut self, c: ConsoleNo)
-        ensures { self.new ≡ shown c self.old }
+        ensures { self.new ≡ after_display_of c self.old }
     {
         end_tickets(&mut self.callers, &Ending::Shown(c));
     }
 
     /// Bytes came to the console: each open ticket that waits for them ends with success.
     pub fn filled(&mut self, c: ConsoleNo)
-        ensures { self.new ≡ filled c self.old }
+        ensures { self.new ≡ after_input_on c self.old }
     {
         end_tickets(&mut self.callers, &Ending::Filled(c));
     }
@@ -95,7 +95,7 @@ impl Procs {
     /// The idle rule: where no live caller is without an open ticket, every open ticket ends as by a
     /// signal.
     pub fn settle(&mut self)
-        ensures { self.new ≡ settled self.old }
+        ensures { self.new ≡ after_idle_rule self.old }
     {
         if !self.goes_on() {
             end_tickets(&mut self.callers, &Ending::Idle);
@@ -123,13 +123,13 @@ fn ended_by(ending: &Ending, waiting: &Waiting) -> Waiting
     ensures { result ≡ ended_by ending.now waiting.now }
 {
     match ending {
-        Ending::Shown(c) => succeeded(waits_for_display(*c, waiting), waiting),
-        Ending::Filled(c) => succeeded(waits_for_input(*c, waiting), waiting),
-        Ending::Idle => broken(waiting),
+        Ending::Shown(c) => after_success(waits_for_display(*c, waiting), waiting),
+        Ending::Filled(c) => after_success(waits_for_input(*c, waiting), waiting),
+        Ending::Idle => after_signal(waiting),
     }
 }
 
-fn succeeded(ends: bool, waiting: &Waiting) -> Waiting
+fn after_success(ends: bool, waiting: &Waiting) -> Waiting
     ensures { result ≡ (if ends then Waiting.Done else waiting.now) }
 {
     if ends { Waiting::Done } else { *waiting }
@@ -199,8 +199,8 @@ fn waited_of(waiting: &Waiting) -> Waited
     }
 }
 
-fn left(waiting: &Waiting) -> Waiting
-    ensures { result ≡ left waiting.now }
+fn waiting_after_report(waiting: &Waiting) -> Waiting
+    ensures { result ≡ waiting_after_report waiting.now }
 {
     if is_open(waiting) {
         *waiting
@@ -209,8 +209,8 @@ fn left(waiting: &Waiting) -> Waiting
     }
 }
 
-fn broken(waiting: &Waiting) -> Waiting
-    ensures { result ≡ broken waiting.now }
+fn after_signal(waiting: &Waiting) -> Waiting
+    ensures { result ≡ after_signal waiting.now }
 {
     if is_open(waiting) {
         Waiting::Broken

@@ -7,34 +7,34 @@ use Rattle.std.proofs.lemmas.List.{drop-take, length-append, length-drop, length
 use Rattle.std.proofs.lemmas.List.FromFn.{length-range_with_len}
 use Rattle.vt_cells.specs.Width.{columns}
 use Rattle.vt_chars.specs.Utf8.{within}
-use Rattle.vt_redraw.proofs.Keeps.{Keeps, aligned-keeps, back-keeps, byte-keeps, cha-keeps, cnl-keeps, coding-keeps, colour-keeps, column-keeps, cpl-keeps, cub-keeps, cud-keeps, cuf-keeps, cuu-keeps, dch-keeps, dim-keeps, dl-keeps, each-keeps, ech-keeps, ed-keeps, el-keeps, g0-keeps, g1-keeps, ich-keeps, il-keeps, invoking-keeps, keeps-if, keeps-nothing, keypad-keeps, linefeed-keeps, mode-keeps, newline-keeps, next-keeps, pair-keeps, place-keeps, print-keeps, private-keeps, region-keeps, restore-keeps, reverse-keeps, save-keeps, sgr-keeps, start-palette-keeps, underline-keeps, vpa-keeps}
+use Rattle.vt_redraw.proofs.Keeps.{Keeps, alignment_pattern_keeps, back_keeps, byte_keeps, cha_keeps, cnl_keeps, coding_keeps, colour_keeps, column_keeps, cpl_keeps, cub_keeps, cud_keeps, cuf_keeps, cuu_keeps, dch_keeps, dim_keeps, dl_keeps, each_keeps, ech_keeps, ed_keeps, el_keeps, g0_keeps, g1_keeps, ich_keeps, il_keeps, after_shift_keeps, keeps_if, keeps_nothing, keypad_keeps, linefeed_keeps, mode_keeps, newline_keeps, next_keeps, pair_keeps, place_keeps, print_keeps, private_keeps, region_keeps, restore_keeps, reverse_keeps, save_keeps, sgr_keeps, start_palette_keeps, underline_keeps, vpa_keeps}
 use Rattle.vt_redraw.specs.Behind.{IsAlike, TextsFollow, with_stops}
 use Rattle.vt_redraw.specs.Redraw.{IsStored, redrawn_on}
 use Rattle.vt_screen.specs.Cursor.{tab}
 use Rattle.vt_screen.specs.Effect.{control, control_sequence, count_of, effect, escape, number_at, plain_escape, private_sequence}
-use Rattle.vt_screen.specs.Run.{Drawn, drawing, having_said, listed, then_done}
-use Rattle.vt_screen.specs.Saying.{Done, console_setting, cursor_text, device_report, device_text, lights, quiet, saying, status_report}
+use Rattle.vt_screen.specs.Run.{ScreenAndOuts, screen_effects, with_outs, outs_of_option, then_done}
+use Rattle.vt_screen.specs.Saying.{Effect, console_setting, cursor_text, device_report, device_text, lights, without_out, with_out, status_report}
 use Rattle.vt_screen.specs.Screen.{Screen, is_start_stop, mode_of, with_state}
-use Rattle.vt_screen.specs.Settings.{aligned, clear_stops, reset, set_stop, with_mode, with_private_mode}
+use Rattle.vt_screen.specs.Settings.{alignment_pattern, clear_stops, reset, set_stop, with_mode, with_private_mode}
 use Rattle.vt_screen.specs.declared.out.Out.{Out}
 use Rattle.vt_screen.specs.declared.out.Out.TheVariants.{Bell, Lights, Report, SwitchLast, SwitchTo}
 use Rattle.vt_units.specs.Answer.{answer, rest_after}
 use Rattle.vt_units.specs.Rest.{fresh}
-use Rattle.vt_units.specs.Run.{Reached, effect_of, effects_of, reached, run, step}
+use Rattle.vt_units.specs.Run.{Reached, effect_of, effects_of, make_reached, run, step}
 use Rattle.vt_units.specs.declared.read.Read.{Read}
 use Rattle.vt_units.specs.declared.then.Then as then
 use Rattle.vt_units.specs.declared.unit.Unit as units
 
 -- the screens after, and what is said
-pub record AreAlike (d e : Done) : Type 0 where
+pub record AreAlike (d e : Effect) : Type 0 where
   pub screens : IsAlike d.screen e.screen
   pub said : d.said ≡ e.said
 
-pub record Row (f : Screen → Done) : Type 0 where
+pub record Row (f : Screen → Effect) : Type 0 where
   pub row : (s t : Screen) → IsAlike s t → AreAlike (f s) (f t)
 
-keeps-alike : (f : Screen → Screen) → Keeps f → (s t : Screen) → IsAlike s t → IsAlike (f s) (f t)
-keeps-alike f k s t a = record {
+keeps_alike : (f : Screen → Screen) → Keeps f → (s t : Screen) → IsAlike s t → IsAlike (f s) (f t)
+keeps_alike f k s t a = record {
   stops = a.stops;
   is = ap f a.is ∙ k.commutes a.stops s;
   same =
@@ -44,32 +44,32 @@ keeps-alike f k s t a = record {
   few = omega (arith, k.cols s, a.few);
 }
 
-quiet-row : (f : Screen → Screen) → Keeps f → Row (λ s. quiet (f s))
-quiet-row f k = record { row = λ s t a. record { screens = keeps-alike f k s t a; said = refl } }
+without_out_row : (f : Screen → Screen) → Keeps f → Row (λ s. without_out (f s))
+without_out_row f k = record { row = λ s t a. record { screens = keeps_alike f k s t a; said = refl } }
 
-saying-row : (out : Screen → Out) → ((st : List Bool) (s : Screen) → out (with_stops st s) ≡ out s) → Row (λ s. saying (out s) s)
-saying-row out same = record {
+with_out_row : (out : Screen → Out) → ((st : List Bool) (s : Screen) → out (with_stops st s) ≡ out s) → Row (λ s. with_out (out s) s)
+with_out_row out same = record {
   row =
       λ s t a.
       record { screens = a; said = ap Some (sym (ap out a.is ∙ same a.stops s)) };
 }
 
-if-row : (b : Bool) (f g : Screen → Done) → Row f → Row g → Row (λ s. if b then f s else g s)
-if-row true f g x y = record { row = λ s t a. x.row s t a }
-if-row false f g x y = record { row = λ s t a. y.row s t a }
+if_row : (b : Bool) (f g : Screen → Effect) → Row f → Row g → Row (λ s. if b then f s else g s)
+if_row true f g x y = record { row = λ s t a. x.row s t a }
+if_row false f g x y = record { row = λ s t a. y.row s t a }
 
-nothing-row : Row quiet
-nothing-row = quiet-row (λ s. s) keeps-nothing
+nothing_row : Row without_out
+nothing_row = without_out_row (λ s. s) keeps_nothing
 
 -- the tab stops of the columns decide where a tab goes
-prefix-take : (n : ℕ) (a b : List Bool) → take n a ≡ take n b → n ≤ length a → n ≤ length b
+prefix_take : (n : ℕ) (a b : List Bool) → take n a ≡ take n b → n ≤ length a → n ≤ length b
     → min (prefix_len not a) n ≡ min (prefix_len not b) n
-prefix-take zero a b same many all = omega arith
-prefix-take (suc n) [] b same many all = absurd (omega (arith, many))
-prefix-take (suc n) (x ∷ a) [] same many all = absurd (omega (arith, all))
-prefix-take (suc n) (x ∷ a) (y ∷ b) same many all =
+prefix_take zero a b same many all = omega arith
+prefix_take (suc n) [] b same many all = absurd (omega (arith, many))
+prefix_take (suc n) (x ∷ a) [] same many all = absurd (omega (arith, all))
+prefix_take (suc n) (x ∷ a) (y ∷ b) same many all =
     let others : take n a ≡ take n b = cc in
-    by x y (let e : x ≡ y = cc in e) (prefix-take n a b others (omega (arith, many)) (omega (arith, all)))
+    by x y (let e : x ≡ y = cc in e) (prefix_take n a b others (omega (arith, many)) (omega (arith, all)))
   where
     by : (x y : Bool) → x ≡ y → min (prefix_len not a) n ≡ min (prefix_len not b) n
         → min (prefix_len not (x ∷ a)) (suc n) ≡ min (prefix_len not (y ∷ b)) (suc n)
@@ -81,25 +81,25 @@ prefix-take (suc n) (x ∷ a) (y ∷ b) same many all =
 take-drop : (m n : ℕ) (a b : List Bool) → take (m + n) a ≡ take (m + n) b → take n (drop m a) ≡ take n (drop m b)
 take-drop m n a b same = sym (drop-take m n a) ∙ ap (drop m) same ∙ drop-take m n b
 
-tab-column : (x cols : ℕ) (a b : List Bool) → take cols a ≡ take cols b → cols ≤ length a → cols ≤ length b
+tab_column : (x cols : ℕ) (a b : List Bool) → take cols a ≡ take cols b → cols ≤ length a → cols ≤ length b
     → min (x + 1 + prefix_len not (drop (x + 1) a)) (cols - 1) ≡ min (x + 1 + prefix_len not (drop (x + 1) b)) (cols - 1)
-tab-column x cols a b same many all = elim (cases_lt (x + 1) cols) [
+tab_column x cols a b same many all = elim (cases_lt (x + 1) cols) [
   | inl low ↦
       let n : ℕ = cols - (x + 1) in
       let whole : cols ≡ x + 1 + n = omega (arith, low) in
       let parts : take n (drop (x + 1) a) ≡ take n (drop (x + 1) b) =
       take-drop (x + 1) n a b (ap (λ (k : ℕ). take k a) (sym whole) ∙ same ∙ ap (λ (k : ℕ). take k b) whole) in
-      let stops = prefix-take n (drop (x + 1) a) (drop (x + 1) b) parts (omega (arith, length-drop (x + 1) a, many, whole)) (omega (arith, length-drop (x + 1) b, all, whole)) in
+      let stops = prefix_take n (drop (x + 1) a) (drop (x + 1) b) parts (omega (arith, length-drop (x + 1) a, many, whole)) (omega (arith, length-drop (x + 1) b, all, whole)) in
       omega (arith, stops, whole)
   | inr high ↦ omega (arith, high)
 ]
 
-tab-row : Row (λ s. quiet (tab s))
+tab_row : Row (λ s. without_out (tab s))
 unfolding tab
-tab-row = record {
+tab_row = record {
   row =
       λ s t a.
-      let column = tab-column s.state.x s.grid.cols a.stops s.state.stops a.same a.many a.all in
+      let column = tab_column s.state.x s.grid.cols a.stops s.state.stops a.same a.many a.all in
       record {
         screens =
             record {
@@ -127,9 +127,9 @@ take-set (suc n) (suc x) v (z ∷ a) (y ∷ b) same =
     λ i. first i ∷ take-set n x v a b others i
 
 -- a stop in the cursor's column is set or cleared
-stop-alike : (v : Bool) (s t : Screen) → IsAlike s t
+stop_alike : (v : Bool) (s t : Screen) → IsAlike s t
     → IsAlike (with_state s (record s.state { stops = slice_set s.state.stops s.state.x v })) (with_state t (record t.state { stops = slice_set t.state.stops t.state.x v }))
-stop-alike v s t a = record {
+stop_alike v s t a = record {
   stops = set a.stops s.state.x v;
   is = ap (λ (u : Screen). with_state u (record u.state { stops = slice_set u.state.stops u.state.x v })) a.is;
   same = take-set s.grid.cols s.state.x v a.stops s.state.stops a.same;
@@ -139,218 +139,218 @@ stop-alike v s t a = record {
 }
 
 -- both have the same tab stops
-one-alike : (s : Screen) → s.grid.cols ≤ length s.state.stops → s.grid.cols ≤ 255 → IsAlike s s
-one-alike s all few = record { stops = s.state.stops; is = refl; same = refl; many = all; all = all; few = few }
+one_alike : (s : Screen) → s.grid.cols ≤ length s.state.stops → s.grid.cols ≤ 255 → IsAlike s s
+one_alike s all few = record { stops = s.state.stops; is = refl; same = refl; many = all; all = all; few = few }
 
-stop-row : Row (λ s. quiet (set_stop s))
+stop_row : Row (λ s. without_out (set_stop s))
 unfolding set_stop
-stop-row = record { row = λ s t a. record { screens = stop-alike true s t a; said = refl } }
+stop_row = record { row = λ s t a. record { screens = stop_alike true s t a; said = refl } }
 
-no-stops-alike : (s t : Screen) → IsAlike s t
+no_stops_alike : (s t : Screen) → IsAlike s t
     → IsAlike (with_state s (record s.state { stops = replicate 255 false })) (with_state t (record t.state { stops = replicate 255 false }))
-no-stops-alike s t a =
+no_stops_alike s t a =
     let u : Screen = with_state s (record s.state { stops = replicate 255 false }) in
     subst (λ (w : Screen). IsAlike u w) (ap (λ (w : Screen). with_state w (record w.state { stops = replicate 255 false })) (sym a.is))
-    (one-alike u (omega (arith, length-replicate 255 false, a.few)) a.few)
+    (one_alike u (omega (arith, length-replicate 255 false, a.few)) a.few)
 
-clear-row : (n : ℕ) → Row (λ s. quiet (clear_stops n s))
+clear_row : (n : ℕ) → Row (λ s. without_out (clear_stops n s))
 unfolding clear_stops
-clear-row n = by (n == 0) (n == 3)
+clear_row n = by (n == 0) (n == 3)
   where
-    by : (b c : Bool) → Row (λ s. quiet (cond b (with_state s (record s.state { stops = slice_set s.state.stops s.state.x false })) (cond c (with_state s (record s.state { stops = replicate 255 false })) s)))
-    by true c = record { row = λ s t a. record { screens = stop-alike false s t a; said = refl } }
-    by false true = record { row = λ s t a. record { screens = no-stops-alike s t a; said = refl } }
-    by false false = nothing-row
+    by : (b c : Bool) → Row (λ s. without_out (cond b (with_state s (record s.state { stops = slice_set s.state.stops s.state.x false })) (cond c (with_state s (record s.state { stops = replicate 255 false })) s)))
+    by true c = record { row = λ s t a. record { screens = stop_alike false s t a; said = refl } }
+    by false true = record { row = λ s t a. record { screens = no_stops_alike s t a; said = refl } }
+    by false false = nothing_row
 
-reset-row : Row (λ s. quiet (reset s))
+reset_row : Row (λ s. without_out (reset s))
 unfolding reset
-reset-row = record {
+reset_row = record {
   row =
       λ s t a.
       record {
         screens =
             subst (λ (w : Screen). IsAlike (reset s) w) (ap reset (sym a.is))
-            (one-alike (reset s) (omega (arith, length-map (range_with_len 0 255) is_start_stop, length-range_with_len 0 255, a.few)) a.few);
+            (one_alike (reset s) (omega (arith, length-map (range_with_len 0 255) is_start_stop, length-range_with_len 0 255, a.few)) a.few);
         said = refl;
       };
 }
 
-control-row : (code : ℕ) → Row (control code)
+control_row : (code : ℕ) → Row (control code)
 unfolding control
-control-row code =
-    if-row (code == 0x07) _ _ (saying-row (λ s. Bell) (λ st s. refl))
-    (if-row (code == 0x08) _ _ (quiet-row _ back-keeps)
-    (if-row (code == 0x09) _ _ (tab-row)
-    (if-row (within 0x0A 0x0C code) _ _ (quiet-row _ newline-keeps)
-    (if-row (code == 0x0D) _ _ (quiet-row _ (column-keeps 0))
-    (if-row (code == 0x0E) _ _ (quiet-row _ (invoking-keeps 1 true))
-    (if-row (code == 0x0F) _ _ (quiet-row _ (invoking-keeps 0 false))
-    (nothing-row)))))))
+control_row code =
+    if_row (code == 0x07) _ _ (with_out_row (λ s. Bell) (λ st s. refl))
+    (if_row (code == 0x08) _ _ (without_out_row _ back_keeps)
+    (if_row (code == 0x09) _ _ (tab_row)
+    (if_row (within 0x0A 0x0C code) _ _ (without_out_row _ newline_keeps)
+    (if_row (code == 0x0D) _ _ (without_out_row _ (column_keeps 0))
+    (if_row (code == 0x0E) _ _ (without_out_row _ (after_shift_keeps 1 true))
+    (if_row (code == 0x0F) _ _ (without_out_row _ (after_shift_keeps 0 false))
+    (nothing_row)))))))
 
-device-row : (which : ℕ) → Row (device_report which)
+device_row : (which : ℕ) → Row (device_report which)
 unfolding device_report
-device-row which = if-row (which == 0) _ _ (saying-row (λ s. Report (0x1B ∷ device_text)) (λ st s. refl)) nothing-row
+device_row which = if_row (which == 0) _ _ (with_out_row (λ s. Report (0x1B ∷ device_text)) (λ st s. refl)) nothing_row
 
-plain-row : (last : ℕ) → Row (plain_escape last)
+plain_row : (last : ℕ) → Row (plain_escape last)
 unfolding plain_escape
-plain-row last =
-    if-row (last == 0x63) _ _ (reset-row)
-    (if-row (last == 0x44) _ _ (quiet-row _ linefeed-keeps)
-    (if-row (last == 0x45) _ _ (quiet-row _ next-keeps)
-    (if-row (last == 0x48) _ _ (stop-row)
-    (if-row (last == 0x4D) _ _ (quiet-row _ reverse-keeps)
-    (if-row (last == 0x5A) _ _ (device-row 0)
-    (if-row (last == 0x37) _ _ (quiet-row _ save-keeps)
-    (if-row (last == 0x38) _ _ (quiet-row _ restore-keeps)
-    (if-row (last == 0x3E) _ _ (quiet-row _ (keypad-keeps false))
-    (if-row (last == 0x3D) _ _ (quiet-row _ (keypad-keeps true))
-    (nothing-row))))))))))
+plain_row last =
+    if_row (last == 0x63) _ _ (reset_row)
+    (if_row (last == 0x44) _ _ (without_out_row _ linefeed_keeps)
+    (if_row (last == 0x45) _ _ (without_out_row _ next_keeps)
+    (if_row (last == 0x48) _ _ (stop_row)
+    (if_row (last == 0x4D) _ _ (without_out_row _ reverse_keeps)
+    (if_row (last == 0x5A) _ _ (device_row 0)
+    (if_row (last == 0x37) _ _ (without_out_row _ save_keeps)
+    (if_row (last == 0x38) _ _ (without_out_row _ restore_keeps)
+    (if_row (last == 0x3E) _ _ (without_out_row _ (keypad_keeps false))
+    (if_row (last == 0x3D) _ _ (without_out_row _ (keypad_keeps true))
+    (nothing_row))))))))))
 
-escape-row : (mid last : ℕ) → Row (escape mid last)
+escape_row : (mid last : ℕ) → Row (escape mid last)
 unfolding escape
-escape-row mid last =
-    if-row (mid == 0) _ _ (plain-row last)
-    (if-row (mid == 0x25) _ _ (quiet-row _ (coding-keeps last))
-    (if-row (mid == 0x23) _ _ (quiet-row _ (keeps-if (λ s. last == 0x38) aligned (λ s. s) (λ st s. refl) aligned-keeps keeps-nothing))
-    (if-row (mid == 0x28) _ _ (quiet-row _ (g0-keeps last))
-    (if-row (mid == 0x29) _ _ (quiet-row _ (g1-keeps last))
-    (nothing-row)))))
+escape_row mid last =
+    if_row (mid == 0) _ _ (plain_row last)
+    (if_row (mid == 0x25) _ _ (without_out_row _ (coding_keeps last))
+    (if_row (mid == 0x23) _ _ (without_out_row _ (keeps_if (λ s. last == 0x38) alignment_pattern (λ s. s) (λ st s. refl) alignment_pattern_keeps keeps_nothing))
+    (if_row (mid == 0x28) _ _ (without_out_row _ (g0_keeps last))
+    (if_row (mid == 0x29) _ _ (without_out_row _ (g1_keeps last))
+    (nothing_row)))))
 
-status-row : (which : ℕ) → Row (status_report which)
+status_row : (which : ℕ) → Row (status_report which)
 unfolding status_report
-status-row which =
-    if-row (which == 5) _ _ (saying-row (λ s. Report (0x1B ∷ codes "[0n")) (λ st s. refl))
-    (if-row (which == 6) _ _ (saying-row (λ s. Report (0x1B ∷ cursor_text s)) (λ st s. refl))
-    (nothing-row))
+status_row which =
+    if_row (which == 5) _ _ (with_out_row (λ s. Report (0x1B ∷ codes "[0n")) (λ st s. refl))
+    (if_row (which == 6) _ _ (with_out_row (λ s. Report (0x1B ∷ cursor_text s)) (λ st s. refl))
+    (nothing_row))
 
-lights-row : (which : ℕ) → Row (lights which)
+lights_row : (which : ℕ) → Row (lights which)
 unfolding lights
-lights-row which =
-    if-row (which == 0) _ _ (saying-row (λ s. Lights 0) (λ st s. refl))
-    (if-row (which == 1) _ _ (saying-row (λ s. Lights 1) (λ st s. refl))
-    (if-row (which == 2) _ _ (saying-row (λ s. Lights 2) (λ st s. refl))
-    (if-row (which == 3) _ _ (saying-row (λ s. Lights 4) (λ st s. refl))
-    (nothing-row))))
+lights_row which =
+    if_row (which == 0) _ _ (with_out_row (λ s. Lights 0) (λ st s. refl))
+    (if_row (which == 1) _ _ (with_out_row (λ s. Lights 1) (λ st s. refl))
+    (if_row (which == 2) _ _ (with_out_row (λ s. Lights 2) (λ st s. refl))
+    (if_row (which == 3) _ _ (with_out_row (λ s. Lights 4) (λ st s. refl))
+    (nothing_row))))
 
-setting-row : (which value : ℕ) → Row (console_setting which value)
+setting_row : (which value : ℕ) → Row (console_setting which value)
 unfolding console_setting
-setting-row which value =
-    if-row (which == 1) _ _ (quiet-row _ (keeps-if (λ s. nat_lt value 16) _ (λ s. s) (λ st s. refl) (underline-keeps value) keeps-nothing))
-    (if-row (which == 2) _ _ (quiet-row _ (keeps-if (λ s. nat_lt value 16) _ (λ s. s) (λ st s. refl) (dim-keeps value) keeps-nothing))
-    (if-row (which == 8) _ _ (quiet-row _ pair-keeps)
-    (if-row (which == 12) _ _ (if-row (nat_le 1 value && nat_le value 63) _ _ (saying-row (λ s. SwitchTo value) (λ st s. refl)) nothing-row)
-    (if-row (which == 15) _ _ (saying-row (λ s. SwitchLast) (λ st s. refl))
-    (nothing-row)))))
+setting_row which value =
+    if_row (which == 1) _ _ (without_out_row _ (keeps_if (λ s. nat_lt value 16) _ (λ s. s) (λ st s. refl) (underline_keeps value) keeps_nothing))
+    (if_row (which == 2) _ _ (without_out_row _ (keeps_if (λ s. nat_lt value 16) _ (λ s. s) (λ st s. refl) (dim_keeps value) keeps_nothing))
+    (if_row (which == 8) _ _ (without_out_row _ pair_keeps)
+    (if_row (which == 12) _ _ (if_row (nat_le 1 value && nat_le value 63) _ _ (with_out_row (λ s. SwitchTo value) (λ st s. refl)) nothing_row)
+    (if_row (which == 15) _ _ (with_out_row (λ s. SwitchLast) (λ st s. refl))
+    (nothing_row)))))
 
-sequence-row : (params : List ℕ) (last : ℕ) → Row (control_sequence params last)
+sequence_row : (params : List ℕ) (last : ℕ) → Row (control_sequence params last)
 unfolding control_sequence
-sequence-row params last =
+sequence_row params last =
     let n : ℕ = count_of params in
     let first : ℕ = number_at params 0 in
     let second : ℕ = number_at params 1 in
-    if-row (last == 0x40) _ _ (quiet-row _ (ich-keeps n))
-    (if-row (last == 0x41) _ _ (quiet-row _ (cuu-keeps n))
-    (if-row (last == 0x42) _ _ (quiet-row _ (cud-keeps n))
-    (if-row (last == 0x43) _ _ (quiet-row _ (cuf-keeps n))
-    (if-row (last == 0x44) _ _ (quiet-row _ (cub-keeps n))
-    (if-row (last == 0x45) _ _ (quiet-row _ (cnl-keeps n))
-    (if-row (last == 0x46) _ _ (quiet-row _ (cpl-keeps n))
-    (if-row (last == 0x47) _ _ (quiet-row _ (cha-keeps n))
-    (if-row (last == 0x48) _ _ (quiet-row _ (place-keeps (n - 1) (second - 1)))
-    (if-row (last == 0x4A) _ _ (quiet-row _ (ed-keeps first))
-    (if-row (last == 0x4B) _ _ (quiet-row _ (el-keeps first))
-    (if-row (last == 0x4C) _ _ (quiet-row _ (il-keeps n))
-    (if-row (last == 0x4D) _ _ (quiet-row _ (dl-keeps n))
-    (if-row (last == 0x50) _ _ (quiet-row _ (dch-keeps n))
-    (if-row (last == 0x58) _ _ (quiet-row _ (ech-keeps n))
-    (if-row (last == 0x61) _ _ (quiet-row _ (cuf-keeps n))
-    (if-row (last == 0x63) _ _ (device-row first)
-    (if-row (last == 0x64) _ _ (quiet-row _ (vpa-keeps n))
-    (if-row (last == 0x65) _ _ (quiet-row _ (cud-keeps n))
-    (if-row (last == 0x66) _ _ (quiet-row _ (place-keeps (n - 1) (second - 1)))
-    (if-row (last == 0x67) _ _ (clear-row first)
-    (if-row (last == 0x68) _ _ (quiet-row _ (each-keeps (with_mode true) (mode-keeps true) params))
-    (if-row (last == 0x6C) _ _ (quiet-row _ (each-keeps (with_mode false) (mode-keeps false) params))
-    (if-row (last == 0x6D) _ _ (quiet-row _ (sgr-keeps params))
-    (if-row (last == 0x6E) _ _ (status-row first)
-    (if-row (last == 0x71) _ _ (lights-row first)
-    (if-row (last == 0x72) _ _ (quiet-row _ (region-keeps n second))
-    (if-row (last == 0x73) _ _ (quiet-row _ (save-keeps))
-    (if-row (last == 0x75) _ _ (quiet-row _ (restore-keeps))
-    (if-row (last == 0x60) _ _ (quiet-row _ (cha-keeps n))
-    (if-row (last == 0x5D) _ _ (setting-row first second)
-    (nothing-row)))))))))))))))))))))))))))))))
+    if_row (last == 0x40) _ _ (without_out_row _ (ich_keeps n))
+    (if_row (last == 0x41) _ _ (without_out_row _ (cuu_keeps n))
+    (if_row (last == 0x42) _ _ (without_out_row _ (cud_keeps n))
+    (if_row (last == 0x43) _ _ (without_out_row _ (cuf_keeps n))
+    (if_row (last == 0x44) _ _ (without_out_row _ (cub_keeps n))
+    (if_row (last == 0x45) _ _ (without_out_row _ (cnl_keeps n))
+    (if_row (last == 0x46) _ _ (without_out_row _ (cpl_keeps n))
+    (if_row (last == 0x47) _ _ (without_out_row _ (cha_keeps n))
+    (if_row (last == 0x48) _ _ (without_out_row _ (place_keeps (n - 1) (second - 1)))
+    (if_row (last == 0x4A) _ _ (without_out_row _ (ed_keeps first))
+    (if_row (last == 0x4B) _ _ (without_out_row _ (el_keeps first))
+    (if_row (last == 0x4C) _ _ (without_out_row _ (il_keeps n))
+    (if_row (last == 0x4D) _ _ (without_out_row _ (dl_keeps n))
+    (if_row (last == 0x50) _ _ (without_out_row _ (dch_keeps n))
+    (if_row (last == 0x58) _ _ (without_out_row _ (ech_keeps n))
+    (if_row (last == 0x61) _ _ (without_out_row _ (cuf_keeps n))
+    (if_row (last == 0x63) _ _ (device_row first)
+    (if_row (last == 0x64) _ _ (without_out_row _ (vpa_keeps n))
+    (if_row (last == 0x65) _ _ (without_out_row _ (cud_keeps n))
+    (if_row (last == 0x66) _ _ (without_out_row _ (place_keeps (n - 1) (second - 1)))
+    (if_row (last == 0x67) _ _ (clear_row first)
+    (if_row (last == 0x68) _ _ (without_out_row _ (each_keeps (with_mode true) (mode_keeps true) params))
+    (if_row (last == 0x6C) _ _ (without_out_row _ (each_keeps (with_mode false) (mode_keeps false) params))
+    (if_row (last == 0x6D) _ _ (without_out_row _ (sgr_keeps params))
+    (if_row (last == 0x6E) _ _ (status_row first)
+    (if_row (last == 0x71) _ _ (lights_row first)
+    (if_row (last == 0x72) _ _ (without_out_row _ (region_keeps n second))
+    (if_row (last == 0x73) _ _ (without_out_row _ (save_keeps))
+    (if_row (last == 0x75) _ _ (without_out_row _ (restore_keeps))
+    (if_row (last == 0x60) _ _ (without_out_row _ (cha_keeps n))
+    (if_row (last == 0x5D) _ _ (setting_row first second)
+    (nothing_row)))))))))))))))))))))))))))))))
 
-private-row : (params : List ℕ) (last : ℕ) → Row (private_sequence params last)
+private_row : (params : List ℕ) (last : ℕ) → Row (private_sequence params last)
 unfolding private_sequence
-private-row params last =
-    if-row (last == 0x68) _ _ (quiet-row _ (each-keeps (with_private_mode true) (private-keeps true) params))
-    (if-row (last == 0x6C) _ _ (quiet-row _ (each-keeps (with_private_mode false) (private-keeps false) params))
-    (nothing-row))
+private_row params last =
+    if_row (last == 0x68) _ _ (without_out_row _ (each_keeps (with_private_mode true) (private_keeps true) params))
+    (if_row (last == 0x6C) _ _ (without_out_row _ (each_keeps (with_private_mode false) (private_keeps false) params))
+    (nothing_row))
 
-unit-row : (u : units.Unit) → Row (effect u)
-unit-row (units.Unit.Char code) = quiet-row _ (print-keeps (columns code) code)
-unit-row (units.Unit.Byte b) = quiet-row _ (byte-keeps b)
-unit-row (units.Unit.Control code) = control-row code
-unit-row (units.Unit.Esc mid last) = escape-row mid last
-unit-row (units.Unit.Csi private params last) =
-    if-row private (private_sequence params last) (control_sequence params last) (private-row params last) (sequence-row params last)
-unit-row (units.Unit.Colour n rgb) = quiet-row _ (colour-keeps n rgb)
-unit-row units.Unit.ColourReset = quiet-row _ start-palette-keeps
-unit-row units.Unit.Ignored = nothing-row
+unit_row : (u : units.Unit) → Row (effect u)
+unit_row (units.Unit.Char code) = without_out_row _ (print_keeps (columns code) code)
+unit_row (units.Unit.Byte b) = without_out_row _ (byte_keeps b)
+unit_row (units.Unit.Control code) = control_row code
+unit_row (units.Unit.Esc mid last) = escape_row mid last
+unit_row (units.Unit.Csi private params last) =
+    if_row private (private_sequence params last) (control_sequence params last) (private_row params last) (sequence_row params last)
+unit_row (units.Unit.Colour n rgb) = without_out_row _ (colour_keeps n rgb)
+unit_row units.Unit.ColourReset = without_out_row _ start_palette_keeps
+unit_row units.Unit.Ignored = nothing_row
 
 -- screens, what was said, and the rest
-pub record RunAlike (a b : Reached Drawn) : Type 0 where
+pub record RunAlike (a b : Reached ScreenAndOuts) : Type 0 where
   pub screens : IsAlike a.state.screen b.state.screen
   pub outs : b.state.outs ≡ a.state.outs
   pub rest : b.rest ≡ a.rest
 
-done-alike : (f : Screen → Done) → Row f → (a b : Drawn) → IsAlike a.screen b.screen → b.outs ≡ a.outs
+done_alike : (f : Screen → Effect) → Row f → (a b : ScreenAndOuts) → IsAlike a.screen b.screen → b.outs ≡ a.outs
     → IsAlike (then_done f a).screen (then_done f b).screen × ((then_done f b).outs ≡ (then_done f a).outs)
-done-alike f row a b screens outs =
+done_alike f row a b screens outs =
     let done = row.row a.screen b.screen screens in (
       done.screens,
-      λ i. outs i ++ listed (sym done.said i),
+      λ i. outs i ++ outs_of_option (sym done.said i),
     )
 
-effect-alike : (got : then.Then) (a b : Drawn) → IsAlike a.screen b.screen → b.outs ≡ a.outs
-    → IsAlike (effect_of drawing got a).screen (effect_of drawing got b).screen × ((effect_of drawing got b).outs ≡ (effect_of drawing got a).outs)
-effect-alike (then.Then.Unit u) a b screens outs = done-alike (effect u) (unit-row u) a b screens outs
-effect-alike (then.Then.Act c) a b screens outs = done-alike (control c) (control-row c) a b screens outs
-effect-alike then.Then.More a b screens outs = (screens, outs)
-effect-alike then.Then.Dropped a b screens outs = (screens, outs)
+effect_alike : (got : then.Then) (a b : ScreenAndOuts) → IsAlike a.screen b.screen → b.outs ≡ a.outs
+    → IsAlike (effect_of screen_effects got a).screen (effect_of screen_effects got b).screen × ((effect_of screen_effects got b).outs ≡ (effect_of screen_effects got a).outs)
+effect_alike (then.Then.Unit u) a b screens outs = done_alike (effect u) (unit_row u) a b screens outs
+effect_alike (then.Then.Act c) a b screens outs = done_alike (control c) (control_row c) a b screens outs
+effect_alike then.Then.More a b screens outs = (screens, outs)
+effect_alike then.Then.Dropped a b screens outs = (screens, outs)
 
-effects-alike : (read : Read) (a b : Drawn) → IsAlike a.screen b.screen → b.outs ≡ a.outs
-    → IsAlike (effects_of drawing read a).screen (effects_of drawing read b).screen × ((effects_of drawing read b).outs ≡ (effects_of drawing read a).outs)
-effects-alike read a b screens outs = by read.bad
+effects_alike : (read : Read) (a b : ScreenAndOuts) → IsAlike a.screen b.screen → b.outs ≡ a.outs
+    → IsAlike (effects_of screen_effects read a).screen (effects_of screen_effects read b).screen × ((effects_of screen_effects read b).outs ≡ (effects_of screen_effects read a).outs)
+effects_alike read a b screens outs = by read.bad
   where
     by : (bad : Bool)
         → let c = cond bad (then_done (effect (units.Unit.Char 0xFFFD)) a) a in
         let d = cond bad (then_done (effect (units.Unit.Char 0xFFFD)) b) b in
-        IsAlike (effect_of drawing read.got c).screen (effect_of drawing read.got d).screen
-        × ((effect_of drawing read.got d).outs ≡ (effect_of drawing read.got c).outs)
+        IsAlike (effect_of screen_effects read.got c).screen (effect_of screen_effects read.got d).screen
+        × ((effect_of screen_effects read.got d).outs ≡ (effect_of screen_effects read.got c).outs)
     by true =
-        let first = done-alike (effect (units.Unit.Char 0xFFFD)) (unit-row (units.Unit.Char 0xFFFD)) a b screens outs in
-        effect-alike read.got _ _ first.0 first.1
-    by false = effect-alike read.got a b screens outs
+        let first = done_alike (effect (units.Unit.Char 0xFFFD)) (unit_row (units.Unit.Char 0xFFFD)) a b screens outs in
+        effect_alike read.got _ _ first.0 first.1
+    by false = effect_alike read.got a b screens outs
 
-pub run-alike : (bytes : List ℕ) (a b : Reached Drawn) → RunAlike a b → RunAlike (run drawing bytes a) (run drawing bytes b)
-run-alike [] a b alike = alike
-run-alike (x ∷ bytes) a b alike =
+pub run_alike : (bytes : List ℕ) (a b : Reached ScreenAndOuts) → RunAlike a b → RunAlike (run screen_effects bytes a) (run screen_effects bytes b)
+run_alike [] a b alike = alike
+run_alike (x ∷ bytes) a b alike =
     let mode : mode_of b.state.screen ≡ mode_of a.state.screen = ap mode_of alike.screens.is in
     let answers : answer b.rest (mode_of b.state.screen) x ≡ answer a.rest (mode_of a.state.screen) x = λ i. answer (alike.rest i) (mode i) x in
     let read : Read = answer a.rest (mode_of a.state.screen) x in
-    let done = effects-alike read a.state b.state alike.screens alike.outs in
-    run-alike bytes (step drawing x a) (step drawing x b)
+    let done = effects_alike read a.state b.state alike.screens alike.outs in
+    run_alike bytes (step screen_effects x a) (step screen_effects x b)
     (record {
       screens =
-          subst (λ (r : Read). IsAlike (effects_of drawing read a.state).screen (effects_of drawing r b.state).screen) (sym answers) done.0;
-      outs = ap (λ (r : Read). (effects_of drawing r b.state).outs) answers ∙ done.1;
+          subst (λ (r : Read). IsAlike (effects_of screen_effects read a.state).screen (effects_of screen_effects r b.state).screen) (sym answers) done.0;
+      outs = ap (λ (r : Read). (effects_of screen_effects r b.state).outs) answers ∙ done.1;
       rest = λ i. rest_after (alike.rest i) (mode i) x;
     })
 
-start-alike : (s other : Screen) → IsStored s → s.state.map ≡ other.state.map → IsAlike s (redrawn_on other s)
-start-alike s other stored map =
+start_alike : (s other : Screen) → IsStored s → s.state.map ≡ other.state.map → IsAlike s (redrawn_on other s)
+start_alike s other stored map =
     let stops : List Bool = take s.grid.cols s.state.stops ++ replicate (255 - s.grid.cols) false in
     let many : length (take s.grid.cols s.state.stops) ≡ s.grid.cols =
     length-take-le s.grid.cols s.state.stops (omega (arith, stored.stops, stored.cols)) in
@@ -363,8 +363,8 @@ start-alike s other stored map =
       few = stored.cols;
     }
 
-pub texts-follow : TextsFollow
-texts-follow s other m bytes stored map =
-    let all = run-alike bytes (having_said [] (reached s (fresh m))) (having_said [] (reached (redrawn_on other s) (fresh m)))
-    (record { screens = start-alike s other stored map; outs = refl; rest = refl }) in
+pub texts_follow : TextsFollow
+texts_follow s other m bytes stored map =
+    let all = run_alike bytes (with_outs [] (make_reached s (fresh m))) (with_outs [] (make_reached (redrawn_on other s) (fresh m)))
+    (record { screens = start_alike s other stored map; outs = refl; rest = refl }) in
     (all.screens, all.outs, all.rest)

@@ -8,113 +8,113 @@ use Rattle.std.proofs.lemmas.List.{length-append, set_at}
 use Rattle.std.proofs.lemmas.List.Elements.{All-head, All-tail}
 use Rattle.std.proofs.lemmas.List.Folds.{list_all-append}
 use Rattle.vt_cells.specs.Colours.{Rgb, start_palette}
-use Rattle.vt_redraw.proofs.Does.{Does, does-nothing, does-then, does-to}
-use Rattle.vt_redraw.proofs.Numbers.{below-holds}
+use Rattle.vt_redraw.proofs.Does.{Does, does_nothing, does_then, does_to}
+use Rattle.vt_redraw.proofs.Numbers.{below_holds}
 use Rattle.vt_redraw.specs.Sequences.{colour_text, hex_digit, hex_digits, start_palette_text}
 use Rattle.vt_redraw.specs.State.{colours_from, is_same_colour, palette_text}
 use Rattle.vt_screen.specs.Effect.{effect}
-use Rattle.vt_screen.specs.Run.{Drawn, PiecesAct, drawing, listed, ran}
-use Rattle.vt_screen.specs.Saying.{Done, quiet}
+use Rattle.vt_screen.specs.Run.{ScreenAndOuts, PiecesAct, screen_effects, outs_of_option, run_from}
+use Rattle.vt_screen.specs.Saying.{Effect, without_out}
 use Rattle.vt_screen.specs.Screen.{Screen, mode_of, with_state}
 use Rattle.vt_screen.specs.Settings.{with_colour, with_start_palette}
 use Rattle.vt_units.specs.Answer.{acts_in}
 use Rattle.vt_units.specs.Bytes.{acts, is_hex}
 use Rattle.vt_units.specs.Pieces.{HasEffect, controls_of, is_left_out, rest_with, text_of}
-use Rattle.vt_units.specs.Reading.{Reading, behind, command, front, palette_ends, reading, unfinished, whole}
+use Rattle.vt_units.specs.Reading.{Reading, after_prefix, command, longest_prefix, palette_ends, reading, unfinished, whole}
 use Rattle.vt_units.specs.Rest.{Rest, fresh}
-use Rattle.vt_units.specs.Run.{Reached, reached}
+use Rattle.vt_units.specs.Run.{Reached, make_reached}
 use Rattle.vt_units.specs.Sequences.{hex_pair, hex_value}
 use Rattle.vt_units.specs.declared.mode.Mode.{Mode}
 use Rattle.vt_units.specs.declared.unit.Unit as units
 use Rattle.vt_units.specs.declared.unit.Unit.TheVariants.{Colour, ColourReset}
 
 -- a text of a unit without a control character in it
-piece-does : PiecesAct → (text : List ℕ) (u : units.Unit) → ((m : Mode) → reading m (text_of m [] text) ≡ whole u)
-    → ((m : Mode) → controls_of m [] text ≡ []) → (s t : Screen) → effect u s ≡ quiet t → Does text s t
-piece-does law text u reads acts_none s t is = record {
+piece_does : PiecesAct → (text : List ℕ) (u : units.Unit) → ((m : Mode) → reading m (text_of m [] text) ≡ whole u)
+    → ((m : Mode) → controls_of m [] text ≡ []) → (s t : Screen) → effect u s ≡ without_out t → Does text s t
+piece_does law text u reads acts_none s t is = record {
   does =
       λ m.
       let now : Mode = mode_of s in
-      let at : Reached Screen = reached s (fresh m) in
-      let first : Drawn = record { screen = s; outs = [] } in
-      let left : Rest = rest_with drawing first (fresh now) text in
-      let effect_is : HasEffect drawing (reading now (text_of now [] text)) (controls_of now [] text) left (ran at text) first = law at text refl in
-      let all : HasEffect drawing (whole u) [] left (ran at text) first =
-      subst (λ (controls : List ℕ). HasEffect drawing (whole u) controls left (ran at text) first) (acts_none now)
-      (subst (λ (r : Reading). HasEffect drawing r (controls_of now [] text) left (ran at text) first) (reads now) effect_is) in (
+      let at : Reached Screen = make_reached s (fresh m) in
+      let first : ScreenAndOuts = record { screen = s; outs = [] } in
+      let left : Rest = rest_with screen_effects first (fresh now) text in
+      let effect_is : HasEffect screen_effects (reading now (text_of now [] text)) (controls_of now [] text) left (run_from at text) first = law at text refl in
+      let all : HasEffect screen_effects (whole u) [] left (run_from at text) first =
+      subst (λ (controls : List ℕ). HasEffect screen_effects (whole u) controls left (run_from at text) first) (acts_none now)
+      (subst (λ (r : Reading). HasEffect screen_effects r (controls_of now [] text) left (run_from at text) first) (reads now) effect_is) in (
         left.mode,
-        all ∙ ap (λ (d : Done). reached (record { screen = d.screen; outs = [] ++ listed d.said }) (fresh left.mode)) is,
+        all ∙ ap (λ (d : Effect). make_reached (record { screen = d.screen; outs = [] ++ outs_of_option d.said }) (fresh left.mode)) is,
       );
 }
 
-front-hex : (p : ℕ → Bool) (xs : List ℕ) → list_all p xs ≡ true → front p xs ≡ xs
-front-hex p [] all = refl
-front-hex p (x ∷ xs) all =
+longest_prefix_hex : (p : ℕ → Bool) (xs : List ℕ) → list_all p xs ≡ true → longest_prefix p xs ≡ xs
+longest_prefix_hex p [] all = refl
+longest_prefix_hex p (x ∷ xs) all =
     let parts = and_parts (p x) (list_all p xs) all in
-    cond-true (p x) _ _ parts.0 ∙ ap (λ (ys : List ℕ). x ∷ ys) (front-hex p xs parts.1)
+    cond-true (p x) _ _ parts.0 ∙ ap (λ (ys : List ℕ). x ∷ ys) (longest_prefix_hex p xs parts.1)
 
-behind-hex : (p : ℕ → Bool) (xs : List ℕ) → list_all p xs ≡ true → behind p xs ≡ []
-behind-hex p [] all = refl
-behind-hex p (x ∷ xs) all =
+after_prefix_hex : (p : ℕ → Bool) (xs : List ℕ) → list_all p xs ≡ true → after_prefix p xs ≡ []
+after_prefix_hex p [] all = refl
+after_prefix_hex p (x ∷ xs) all =
     let parts = and_parts (p x) (list_all p xs) all in
-    cond-true (p x) _ _ parts.0 ∙ behind-hex p xs parts.1
+    cond-true (p x) _ _ parts.0 ∙ after_prefix_hex p xs parts.1
 
 -- ESC ] P and digits
 abbrev opened : List ℕ → List ℕ
 opened ds = 0x1B ∷ 0x5D ∷ 0x50 ∷ ds
 
-opened-reads : (m : Mode) (ds : List ℕ) → list_all is_hex ds ≡ true → length ds ≤ 7
+opened_reads : (m : Mode) (ds : List ℕ) → list_all is_hex ds ≡ true → length ds ≤ 7
     → reading m (opened ds) ≡ palette_ends m ds []
-opened-reads m ds all few =
+opened_reads m ds all few =
     cond-false _ _ _ (and_left _ _ (le-ltb 256 (length (opened ds)) (omega (arith, few))))
-    ∙ (λ i. palette_ends m (front-hex is_hex ds all i) (behind-hex is_hex ds all i))
+    ∙ (λ i. palette_ends m (longest_prefix_hex is_hex ds all i) (after_prefix_hex is_hex ds all i))
 
 -- fewer than seven are no unit yet
-goes-on : (m : Mode) (ds : List ℕ) → list_all is_hex ds ≡ true → length ds < 7 → reading m (opened ds) ≡ unfinished command
-goes-on m ds all few =
-    opened-reads m ds all (omega (arith, few)) ∙ cond-true _ _ _ (lt-ltb (length ds) 7 few)
+goes_on : (m : Mode) (ds : List ℕ) → list_all is_hex ds ≡ true → length ds < 7 → reading m (opened ds) ≡ unfinished command
+goes_on m ds all few =
+    opened_reads m ds all (omega (arith, few)) ∙ cond-true _ _ _ (lt-ltb (length ds) 7 few)
 
-no-control : (d : ℕ) → is_hex d ≡ true → acts d ≡ false
-no-control d is = and_left _ _ (le-ltb d 0x20 (let low : 0x20 ≤ d = grind (arith, nat_tests, is) in low))
+no_control : (d : ℕ) → is_hex d ≡ true → acts d ≡ false
+no_control d is = and_left _ _ (le-ltb d 0x20 (let low : 0x20 ≤ d = grind (arith, nat_tests, is) in low))
 
 stays : (m : Mode) (ds : List ℕ) (d : ℕ) → list_all is_hex ds ≡ true → is_hex d ≡ true → length ds < 7
     → is_left_out (reading m (opened ds)) d ≡ false
 stays m ds d all is few =
-    ap (λ (r : Reading). is_left_out r d) (goes-on m ds all few) ∙ ap (λ (t : Bool). t || false) (no-control d is)
+    ap (λ (r : Reading). is_left_out r d) (goes_on m ds all few) ∙ ap (λ (t : Bool). t || false) (no_control d is)
 
-one-more : (ds : List ℕ) (d : ℕ) → list_all is_hex ds ≡ true → is_hex d ≡ true → list_all is_hex (ds ++ d ∷ []) ≡ true
-one-more ds d all is =
+one_more : (ds : List ℕ) (d : ℕ) → list_all is_hex ds ≡ true → is_hex d ≡ true → list_all is_hex (ds ++ d ∷ []) ≡ true
+one_more ds d all is =
     list_all-append is_hex ds (d ∷ []) ∙ (λ i. all i && (is i && true))
 
-text-goes : (m : Mode) (todo ds : List ℕ) → list_all is_hex ds ≡ true → list_all is_hex todo ≡ true
+text_goes : (m : Mode) (todo ds : List ℕ) → list_all is_hex ds ≡ true → list_all is_hex todo ≡ true
     → length ds + length todo ≤ 7 → text_of m (opened ds) todo ≡ opened (ds ++ todo)
-text-goes m [] ds all others few = ap opened (sym (append-nil ds))
-text-goes m (d ∷ todo) ds all others few =
+text_goes m [] ds all others few = ap opened (sym (append-nil ds))
+text_goes m (d ∷ todo) ds all others few =
     let parts = and_parts (is_hex d) (list_all is_hex todo) others in
     cond-false _ _ _ (stays m ds d all parts.0 (omega (arith, few)))
-    ∙ text-goes m todo (ds ++ d ∷ []) (one-more ds d all parts.0) parts.1 (omega (arith, few, length-append ds (d ∷ [])))
+    ∙ text_goes m todo (ds ++ d ∷ []) (one_more ds d all parts.0) parts.1 (omega (arith, few, length-append ds (d ∷ [])))
     ∙ ap opened (append_assoc ds (d ∷ []) todo)
 
-no-controls : (m : Mode) (todo ds : List ℕ) → list_all is_hex ds ≡ true → list_all is_hex todo ≡ true
+no_controls : (m : Mode) (todo ds : List ℕ) → list_all is_hex ds ≡ true → list_all is_hex todo ≡ true
     → length ds + length todo ≤ 7 → controls_of m (opened ds) todo ≡ []
-no-controls m [] ds all others few = refl
-no-controls m (d ∷ todo) ds all others few =
+no_controls m [] ds all others few = refl
+no_controls m (d ∷ todo) ds all others few =
     let parts = and_parts (is_hex d) (list_all is_hex todo) others in
-    cond-false _ _ _ (ap (λ (r : Reading). acts_in r d) (goes-on m ds all (omega (arith, few))) ∙ no-control d parts.0)
+    cond-false _ _ _ (ap (λ (r : Reading). acts_in r d) (goes_on m ds all (omega (arith, few))) ∙ no_control d parts.0)
     ∙ cond-false _ _ _ (stays m ds d all parts.0 (omega (arith, few)))
-    ∙ no-controls m todo (ds ++ d ∷ []) (one-more ds d all parts.0) parts.1 (omega (arith, few, length-append ds (d ∷ [])))
+    ∙ no_controls m todo (ds ++ d ∷ []) (one_more ds d all parts.0) parts.1 (omega (arith, few, length-append ds (d ∷ [])))
 
-reads-back : ℕ → Bool
-reads-back n = is_hex (hex_digit n) && hex_value (hex_digit n) == n
+reads_back : ℕ → Bool
+reads_back n = is_hex (hex_digit n) && hex_value (hex_digit n) == n
 
-all-read : list_all reads-back (range_with_len 0 16) ≡ true
-unfolding reads-back
-all-read = refl
+all_read : list_all reads_back (range_with_len 0 16) ≡ true
+unfolding reads_back
+all_read = refl
 
 digit : (n : ℕ) → n < 16 → (is_hex (hex_digit n) ≡ true) × (hex_value (hex_digit n) ≡ n)
-unfolding reads-back
+unfolding reads_back
 digit n h =
-    let parts = and_parts (is_hex (hex_digit n)) (hex_value (hex_digit n) == n) (below-holds reads-back 16 all-read n h) in (
+    let parts = and_parts (is_hex (hex_digit n)) (hex_value (hex_digit n) == n) (below_holds reads_back 16 all_read n h) in (
       parts.0,
       eqb-true (hex_value (hex_digit n)) n parts.1,
     )
@@ -131,7 +131,7 @@ IsColour rgb = (rgb.0 < 256) × (rgb.1 < 256) × (rgb.2 < 256)
 module _ (law : PiecesAct) where
   start-does : (s : Screen) → Does start_palette_text s (with_start_palette s)
   unfolding start_palette_text
-  start-does s = piece-does law _ ColourReset (λ m. refl) (λ m. refl) s _ refl
+  start-does s = piece_does law _ ColourReset (λ m. refl) (λ m. refl) s _ refl
 
   colour-does : (n : ℕ) (rgb : Rgb) → n < 16 → IsColour rgb → (s : Screen) → Does (colour_text n rgb) s (with_colour n rgb s)
   unfolding colour_text
@@ -141,21 +141,21 @@ module _ (law : PiecesAct) where
       λ i. (digit n h).0 i && ((digit (r / 16) (omega (arith, is.0))).0 i && ((digit (r % 16) (omega arith)).0 i
       && ((digit (g / 16) (omega (arith, is.1))).0 i && ((digit (g % 16) (omega arith)).0 i
       && ((digit (b / 16) (omega (arith, is.2))).0 i && ((digit (b % 16) (omega arith)).0 i && true)))))) in
-      piece-does law (opened ds) (Colour n (r, g, b))
+      piece_does law (opened ds) (Colour n (r, g, b))
       (λ m.
-      ap (reading m) (text-goes m ds [] refl hex (omega arith))
-      ∙ opened-reads m ds hex (omega arith)
+      ap (reading m) (text_goes m ds [] refl hex (omega arith))
+      ∙ opened_reads m ds hex (omega arith)
       ∙ (λ i. whole (Colour ((digit n h).1 i) (pair r is.0 i, pair g is.1 i, pair b is.2 i))))
-      (λ m. no-controls m ds [] refl hex (omega arith)) s _ refl
+      (λ m. no_controls m ds [] refl hex (omega arith)) s _ refl
 
-  colour-set : (front starts : List Rgb) (start rgb : Rgb) (s : Screen) → s.state.palette ≡ front ++ start ∷ starts
-      → length front < 16
-      → with_colour (length front) rgb s ≡ with_state s (record s.state { palette = front ++ rgb ∷ starts })
+  colour-set : (longest_prefix starts : List Rgb) (start rgb : Rgb) (s : Screen) → s.state.palette ≡ longest_prefix ++ start ∷ starts
+      → length longest_prefix < 16
+      → with_colour (length longest_prefix) rgb s ≡ with_state s (record s.state { palette = longest_prefix ++ rgb ∷ starts })
   unfolding with_colour
-  colour-set front starts start rgb s now few =
-      cond-true _ _ _ (lt-ltb (length front) 16 few)
-      ∙ (λ i. with_state s (record s.state { palette = slice_set (now i) (length front) rgb }))
-      ∙ ap (λ (p : List Rgb). with_state s (record s.state { palette = p })) (set_at front start starts rgb (length front) refl)
+  colour-set longest_prefix starts start rgb s now few =
+      cond-true _ _ _ (lt-ltb (length longest_prefix) 16 few)
+      ∙ (λ i. with_state s (record s.state { palette = slice_set (now i) (length longest_prefix) rgb }))
+      ∙ ap (λ (p : List Rgb). with_state s (record s.state { palette = p })) (set_at longest_prefix start starts rgb (length longest_prefix) refl)
 
   -- colours from a number on
   Coloured : List Rgb → List Rgb → Type 0
@@ -191,22 +191,22 @@ module _ (law : PiecesAct) where
           (with_state s (record s.state { palette = before ++ rgb ∷ colours }))
       by true test = next s (now ∙ ap (λ (c : Rgb). before ++ c ∷ starts) (same-colour start rgb test))
       by false test =
-          does-then
-          (does-to (colour-does (length before) rgb (omega (arith, few)) (All-head IsColour rgb colours all) s) (colour-set before starts start rgb s now (omega (arith, few))))
+          does_then
+          (does_to (colour-does (length before) rgb (omega (arith, few)) (All-head IsColour rgb colours all) s) (colour-set before starts start rgb s now (omega (arith, few))))
           (next (with_state s (record s.state { palette = before ++ rgb ∷ starts })) refl)
 
   colours-do : (starts colours : List Rgb) → Coloured starts colours
   unfolding Coloured
   colours-do [] [] before s now few count all =
-      does-to (does-nothing s) (ap (λ (p : List Rgb). with_state s (record s.state { palette = p })) now)
+      does_to (does_nothing s) (ap (λ (p : List Rgb). with_state s (record s.state { palette = p })) now)
   colours-do [] (rgb ∷ colours) before s now few count all = absurd (omega (arith, count))
   colours-do (start ∷ starts) [] before s now few count all = absurd (omega (arith, count))
   colours-do (start ∷ starts) (rgb ∷ colours) before s now few count all =
       colour-first start rgb starts colours (colours-do starts colours) before s now few count all
 
-  pub palette-does : (colours : List Rgb) → length colours ≡ 16 → All IsColour colours → (s : Screen)
+  pub palette_does : (colours : List Rgb) → length colours ≡ 16 → All IsColour colours → (s : Screen)
       → Does (palette_text colours) s (with_state s (record s.state { palette = colours }))
   unfolding with_start_palette Coloured
-  palette-does colours count all s =
-      does-then (start-does s)
+  palette_does colours count all s =
+      does_then (start-does s)
       (colours-do start_palette colours [] (with_state s (record s.state { palette = start_palette })) refl (omega (arith, count)) (omega (arith, count)) all)

@@ -8,28 +8,28 @@ use Rattle.vt_cells.specs.Rendition.{Rendition}
 use Rattle.vt_cells.specs.Width.{AtMostTwo}
 use Rattle.vt_cells.specs.declared.cell.Cell.{Cell}
 use Rattle.vt_chars.specs.Utf8.{within}
-use Rattle.vt_grid.specs.Grid.{IsFull, Sheet, filled, row_at, sheet_of}
-use Rattle.vt_redraw.proofs.Does.{Does, does-from, does-nothing, does-text, does-then, does-to}
-use Rattle.vt_redraw.proofs.Moves.{at, autowrap-does, coding-does, insert-does, origin-does, place-does, region-does, save-does, shift-does, tables-does}
-use Rattle.vt_redraw.proofs.Numbers.{sequence-does}
+use Rattle.vt_grid.specs.Grid.{IsFull, GridView, filled_grid, row_at, grid_view_of}
+use Rattle.vt_redraw.proofs.Does.{Does, does_from, does_nothing, does_text, does_then, does_to}
+use Rattle.vt_redraw.proofs.Moves.{at, autowrap_does, coding_does, insert_does, origin_does, place_does, region_does, save_does, shift_does, tables_does}
+use Rattle.vt_redraw.proofs.Numbers.{sequence_does}
 use Rattle.vt_redraw.proofs.Overlays.{sheet_with}
-use Rattle.vt_redraw.proofs.Paints.{attributes-does}
-use Rattle.vt_redraw.proofs.Pens.{pair-does}
-use Rattle.vt_redraw.proofs.Prints.{Brush, IsReady, after_columns, brushed, column-is}
-use Rattle.vt_redraw.proofs.Rows.{RowDone, cells-do}
+use Rattle.vt_redraw.proofs.Paints.{attributes_does}
+use Rattle.vt_redraw.proofs.Pens.{pair_does}
+use Rattle.vt_redraw.proofs.Prints.{Brush, IsReady, after_columns, brushed, column_is}
+use Rattle.vt_redraw.proofs.Rows.{RowDone, cells_do}
 use Rattle.vt_redraw.specs.Cells.{cells_text}
 use Rattle.vt_redraw.specs.Drawable.{is_row_drawable}
 use Rattle.vt_redraw.specs.Sequences.{place_text}
 use Rattle.vt_redraw.specs.State.{clearing_text, cursor_text, region_text, row_number, saved_text, setting_text}
-use Rattle.vt_screen.specs.Cursor.{first_row, homed, last_row, moved, placed}
+use Rattle.vt_screen.specs.Cursor.{first_row, cursor_home, last_row, cursor_to, cursor_to_in_region}
 use Rattle.vt_screen.specs.Effect.{control_sequence}
 use Rattle.vt_screen.specs.Erasing.{erase_display, rows_erased, with_grid}
-use Rattle.vt_screen.specs.Saying.{quiet}
+use Rattle.vt_screen.specs.Saying.{without_out}
 use Rattle.vt_screen.specs.Screen.{Screen, erased_byte, start_blank, with_state}
-use Rattle.vt_screen.specs.Settings.{invoking, save}
+use Rattle.vt_screen.specs.Settings.{after_shift, save}
 use Rattle.vt_screen.specs.declared.saved.Saved.{Saved}
 use Rattle.vt_screen.specs.declared.screen_state.ScreenState.{ScreenState}
-use Rattle.vt_sgr.specs.PenState.{drawn as with_attr, mapped}
+use Rattle.vt_sgr.specs.PenState.{with_attributes as with_attr, with_mapping}
 use Rattle.vt_units.specs.Laws.{ControlsAreUnits, PrintablesAreCharacters, SequencesAreUnits}
 
 -- the modes that rows are drawn in
@@ -39,7 +39,7 @@ settled t =
     (record t.state {
       utf8 = true;
       shift = 0;
-      pen = mapped t.state.pen false false false;
+      pen = with_mapping t.state.pen false false false;
       insert = false;
       origin = false;
       autowrap = true;
@@ -56,45 +56,45 @@ saved_as v t =
       g0 = v.g0;
       g1 = v.g1;
       shift = v.shift;
-      pen = mapped (with_attr t.state.pen v.attr) false false false;
+      pen = with_mapping (with_attr t.state.pen v.attr) false false false;
       saved = v;
     })
 
 module _ (sequences : SequencesAreUnits) (controls : ControlsAreUnits) where
-  pub setting-does : (t : Screen) → Does setting_text t
-      (brushed (settled t) (record { y = (homed (settled t)).state.y; x = (homed (settled t)).state.x; wrap = false; attr = t.state.pen.attr }))
-  unfolding invoking placed moved
-  setting-does t =
-      does-then (coding-does sequences true t)
-      (does-then (shift-does controls 0 (omega arith) _)
-      (does-then (insert-does sequences false _)
-      (does-then (origin-does sequences false _)
-      (autowrap-does sequences true _))))
+  pub setting_does : (t : Screen) → Does setting_text t
+      (brushed (settled t) (record { y = (cursor_home (settled t)).state.y; x = (cursor_home (settled t)).state.x; wrap = false; attr = t.state.pen.attr }))
+  unfolding after_shift cursor_to_in_region cursor_to
+  setting_does t =
+      does_then (coding_does sequences true t)
+      (does_then (shift_does controls 0 (omega arith) _)
+      (does_then (insert_does sequences false _)
+      (does_then (origin_does sequences false _)
+      (autowrap_does sequences true _))))
 
-  pub settled-row : (t : Screen) → 0 < t.grid.rows → (homed (settled t)).state.y < t.grid.rows
-  unfolding placed moved
-  settled-row t some = omega (arith, some)
+  pub settled_row : (t : Screen) → 0 < t.grid.rows → (cursor_home (settled t)).state.y < t.grid.rows
+  unfolding cursor_to_in_region cursor_to
+  settled_row t some = omega (arith, some)
 
   -- every cell is blank
-  pub clearing-does : (t : Screen) (b : Brush) → IsFull t.grid
+  pub clearing_does : (t : Screen) (b : Brush) → IsFull t.grid
       → Does clearing_text (brushed t b)
-      (brushed (with_grid t (filled t.grid.rows t.grid.cols start_blank)) (record { y = b.y; x = b.x; wrap = false; attr = record b.attr { fg = 7; bg = 0 } }))
+      (brushed (with_grid t (filled_grid t.grid.rows t.grid.cols start_blank)) (record { y = b.y; x = b.x; wrap = false; attr = record b.attr { fg = 7; bg = 0 } }))
   unfolding control_sequence erase_display rows_erased erased_byte
-  clearing-does t b full =
+  clearing_does t b full =
       let left : drop (0 + t.grid.rows) t.grid.cells ≡ [] = drop_all (0 + t.grid.rows) t.grid.cells (omega (arith, full.tall)) in
       let cells : replicate t.grid.rows (replicate t.grid.cols start_blank) ++ drop (0 + t.grid.rows) t.grid.cells
       ≡ replicate t.grid.rows (replicate t.grid.cols start_blank) =
       ap (λ (rest : List (List Cell)). replicate t.grid.rows (replicate t.grid.cols start_blank) ++ rest) left
       ∙ append-nil (replicate t.grid.rows (replicate t.grid.cols start_blank)) in
-      does-then (pair-does sequences 7 0 (omega arith) (omega arith) (brushed t b))
-      (sequence-does sequences 2 [] 0x4A (omega arith) tt (omega arith) refl refl _ _
-      (ap (λ (rows : List (List Cell)). quiet (brushed (with_grid t (sheet_of t.grid.rows t.grid.cols rows)) (record { y = b.y; x = b.x; wrap = false; attr = record b.attr { fg = 7; bg = 0 } }))) cells))
+      does_then (pair_does sequences 7 0 (omega arith) (omega arith) (brushed t b))
+      (sequence_does sequences 2 [] 0x4A (omega arith) tt (omega arith) refl refl _ _
+      (ap (λ (rows : List (List Cell)). without_out (brushed (with_grid t (grid_view_of t.grid.rows t.grid.cols rows)) (record { y = b.y; x = b.x; wrap = false; attr = record b.attr { fg = 7; bg = 0 } }))) cells))
 
-  pub saved-does : (v : Saved) (t : Screen) → t.state.origin ≡ false → v.attr.fg < 8 → v.attr.bg < 8 → v.g0 < 4 → v.g1 < 4
+  pub saved_does : (v : Saved) (t : Screen) → t.state.origin ≡ false → v.attr.fg < 8 → v.attr.bg < 8 → v.g0 < 4 → v.g1 < 4
       → v.shift ≤ 1 → v.y < t.grid.rows → v.x < t.grid.cols → t.grid.rows ≤ 255 → t.grid.cols ≤ 255
       → Does (saved_text v) t (saved_as v t)
   unfolding save
-  saved-does v t origin fg bg g0 g1 shift row column rows cols =
+  saved_does v t origin fg bg g0 g1 shift row column rows cols =
       let first : first_row t ≡ 0 = cond-false t.state.origin t.state.top 0 origin in
       let last : last_row t ≡ t.grid.rows - 1 = cond-false t.state.origin t.state.bottom (t.grid.rows - 1) origin in
       let u : Screen =
@@ -103,29 +103,29 @@ module _ (sequences : SequencesAreUnits) (controls : ControlsAreUnits) where
         g0 = v.g0;
         g1 = v.g1;
         shift = v.shift;
-        pen = mapped (with_attr t.state.pen v.attr) false false false;
+        pen = with_mapping (with_attr t.state.pen v.attr) false false false;
       }) in
-      does-then (attributes-does sequences v.attr fg bg t)
-      (does-then (tables-does sequences controls v.g0 v.g1 v.shift g0 g1 shift _)
-      (does-then
-      (does-text (ap (λ (n : ℕ). place_text n v.x) (let e : v.y ≡ v.y - first_row t = omega (arith, first) in e))
-      (place-does sequences u v.y v.x (omega (arith, first)) (omega (arith, last, row)) (omega (arith, row, rows)) column (omega (arith, column, cols))))
-      (save-does sequences (at v.y v.x u))))
+      does_then (attributes_does sequences v.attr fg bg t)
+      (does_then (tables_does sequences controls v.g0 v.g1 v.shift g0 g1 shift _)
+      (does_then
+      (does_text (ap (λ (n : ℕ). place_text n v.x) (let e : v.y ≡ v.y - first_row t = omega (arith, first) in e))
+      (place_does sequences u v.y v.x (omega (arith, first)) (omega (arith, last, row)) (omega (arith, row, rows)) column (omega (arith, column, cols))))
+      (save_does sequences (at v.y v.x u))))
 
   -- the region and the mode of origin, which home the cursor
-  pub regions-do : (v : ScreenState) (t : Screen) → (v.top < v.bottom) ⊎ ((v.top ≡ t.state.top) × (v.bottom ≡ t.state.bottom) × (v.bottom ≤ v.top))
+  pub regions_do : (v : ScreenState) (t : Screen) → (v.top < v.bottom) ⊎ ((v.top ≡ t.state.top) × (v.bottom ≡ t.state.bottom) × (v.bottom ≤ v.top))
       → v.bottom < t.grid.rows → t.grid.rows ≤ 255
-      → Does (region_text v) t (homed (with_state t (record t.state { top = v.top; bottom = v.bottom; origin = v.origin })))
-  unfolding placed moved
-  regions-do v t (inl order) within rows =
-      does-then
-      (does-text (cond-true (nat_lt v.top v.bottom) _ _ (lt-ltb v.top v.bottom order)) (region-does sequences v.top v.bottom t order within rows))
-      (origin-does sequences v.origin _)
-  regions-do v t (inr same) within rows =
-      does-then
-      (does-text (cond-false (nat_lt v.top v.bottom) _ _ (le-ltb v.top v.bottom same.2))
-      (does-to (does-nothing t) (λ i. with_state t (record t.state { top = sym same.0 i; bottom = sym same.1 i }))))
-      (origin-does sequences v.origin _)
+      → Does (region_text v) t (cursor_home (with_state t (record t.state { top = v.top; bottom = v.bottom; origin = v.origin })))
+  unfolding cursor_to_in_region cursor_to
+  regions_do v t (inl order) within rows =
+      does_then
+      (does_text (cond-true (nat_lt v.top v.bottom) _ _ (lt-ltb v.top v.bottom order)) (region_does sequences v.top v.bottom t order within rows))
+      (origin_does sequences v.origin _)
+  regions_do v t (inr same) within rows =
+      does_then
+      (does_text (cond-false (nat_lt v.top v.bottom) _ _ (le-ltb v.top v.bottom same.2))
+      (does_to (does_nothing t) (λ i. with_state t (record t.state { top = sym same.0 i; bottom = sym same.1 i }))))
+      (origin_does sequences v.origin _)
 
 -- the cursor is there, and a wrap is pending or not
 pub record CursorDone (v : ScreenState) (text : List ℕ) (t : Screen) : Type 0 where
@@ -134,15 +134,15 @@ pub record CursorDone (v : ScreenState) (text : List ℕ) (t : Screen) : Type 0 
       (with_state t (record t.state { y = v.y; x = v.x; wrap = v.wrap; pen = with_attr t.state.pen attr }))
 
 -- a sheet is its rows above one, that one and those below
-parts-are : (rows : List (List Cell)) (y : ℕ) → y < length rows → take y rows ++ get_or rows y [] ∷ drop (y + 1) rows ≡ rows
-parts-are rows y h =
+parts_are : (rows : List (List Cell)) (y : ℕ) → y < length rows → take y rows ++ get_or rows y [] ∷ drop (y + 1) rows ≡ rows
+parts_are rows y h =
     ap (λ (more : List (List Cell)). take y rows ++ more) (sym (drop_more rows y [] h)) ∙ take-append-drop y rows
 
-row-holds : (rows : List (List Cell)) (y : ℕ) → y < length rows → list_all is_row_drawable rows ≡ true → is_row_drawable (get_or rows y []) ≡ true
-row-holds [] y h all = absurd (omega (arith, h))
-row-holds (row ∷ rows) zero h all = (and_parts (is_row_drawable row) (list_all is_row_drawable rows) all).0
-row-holds (row ∷ rows) (suc y) h all =
-    row-holds rows y (omega (arith, h)) (and_parts (is_row_drawable row) (list_all is_row_drawable rows) all).1
+row_holds : (rows : List (List Cell)) (y : ℕ) → y < length rows → list_all is_row_drawable rows ≡ true → is_row_drawable (get_or rows y []) ≡ true
+row_holds [] y h all = absurd (omega (arith, h))
+row_holds (row ∷ rows) zero h all = (and_parts (is_row_drawable row) (list_all is_row_drawable rows) all).0
+row_holds (row ∷ rows) (suc y) h all =
+    row_holds rows y (omega (arith, h)) (and_parts (is_row_drawable row) (list_all is_row_drawable rows) all).1
 
 module _ (sequences : SequencesAreUnits) (printables : PrintablesAreCharacters) (most : AtMostTwo) where
   -- a row is drawn once more, to its end
@@ -152,28 +152,28 @@ module _ (sequences : SequencesAreUnits) (printables : PrintablesAreCharacters) 
       × Does (cells_text false 256 (row_at t.grid y)) (after_columns t t.grid y 0 b.attr)
       (brushed t (record { y = y; x = t.grid.cols - 1; wrap = true; attr = a }))
   again-does t y b ready full within some drawable =
-      let g : Sheet = t.grid in
+      let g : GridView = t.grid in
       let row : List Cell = row_at g y in
       let above : List (List Cell) = take y g.cells in
       let below : List (List Cell) = drop (y + 1) g.cells in
       let inside : y < length g.cells = omega (arith, full.tall, within) in
       let wide : length row ≡ g.cols = full.wide y [] inside in
       let place : length above ≡ y = length-take-le y g.cells (omega (arith, inside)) in
-      let same : sheet_with g.rows g.cols above row below ≡ g = ap (sheet_of g.rows g.cols) (parts-are g.cells y inside) in
+      let same : sheet_with g.rows g.cols above row below ≡ g = ap (grid_view_of g.rows g.cols) (parts_are g.cells y inside) in
       let done : RowDone t (sheet_with g.rows g.cols above row below) (length above) false (cells_text false 256 row)
       (after_columns t (sheet_with g.rows g.cols above row below) (length above) 0 b.attr) =
-      cells-do t ready sequences printables most g.rows g.cols above below false row [] row 256 0 b.attr tt refl (omega (arith, wide)) (inl refl) (row-holds g.cells y inside drawable) in
+      cells_do t ready sequences printables most g.rows g.cols above below false row [] row 256 0 b.attr tt refl (omega (arith, wide)) (inl refl) (row_holds g.cells y inside drawable) in
       let ends = done.ends refl in (
         done.attr,
-        does-from (λ i. after_columns t (sym same i) (sym place i) 0 b.attr)
-            (does-to done.does
+        does_from (λ i. after_columns t (sym same i) (sym place i) 0 b.attr)
+            (does_to done.does
             (λ i. brushed (with_grid t (same i)) (record { y = place i; x = ends.0 i; wrap = ends.1 i; attr = done.attr }))),
       )
 
 -- the first row that a move reaches
-first-is : (v : ScreenState) (t : Screen) → t.state.top ≡ v.top → t.state.origin ≡ v.origin
+first_is : (v : ScreenState) (t : Screen) → t.state.top ≡ v.top → t.state.origin ≡ v.origin
     → first_row t ≡ cond v.origin v.top 0
-first-is v t top origin = λ i. cond (origin i) (top i) 0
+first_is v t top origin = λ i. cond (origin i) (top i) 0
 
 reaches : (o : Bool) (top bottom rows y : ℕ) → y < rows → (IsTrue o → (top ≤ y) × (y ≤ bottom))
     → (cond o top 0 ≤ y) × (y ≤ cond o bottom (rows - 1))
@@ -181,15 +181,15 @@ reaches true top bottom rows y h inside = inside refl
 reaches false top bottom rows y h inside = (omega arith, omega (arith, h))
 
 module _ (sequences : SequencesAreUnits) (printables : PrintablesAreCharacters) (most : AtMostTwo) where
-  pub cursor-does : (v : ScreenState) (t : Screen) → IsReady t → IsFull t.grid → list_all is_row_drawable t.grid.cells ≡ true
+  pub cursor_does : (v : ScreenState) (t : Screen) → IsReady t → IsFull t.grid → list_all is_row_drawable t.grid.cells ≡ true
       → t.state.top ≡ v.top → t.state.bottom ≡ v.bottom → t.state.origin ≡ v.origin
       → v.y < t.grid.rows → v.x < t.grid.cols → (IsTrue v.wrap → v.x + 1 ≡ t.grid.cols)
       → (IsTrue v.origin → (v.top ≤ v.y) × (v.y ≤ v.bottom)) → t.grid.rows ≤ 255 → t.grid.cols ≤ 255
       → CursorDone v (cursor_text (record { grid = t.grid; state = v })) t
-  cursor-does v t ready full drawable top bottom origin row column last inside rows cols = by v.wrap refl
+  cursor_does v t ready full drawable top bottom origin row column last inside rows cols = by v.wrap refl
     where
       first : first_row t ≡ cond v.origin v.top 0
-      first = first-is v t top origin
+      first = first_is v t top origin
 
       bounds : (cond v.origin v.top 0 ≤ v.y) × (v.y ≤ cond v.origin v.bottom (t.grid.rows - 1))
       bounds = reaches v.origin v.top v.bottom t.grid.rows v.y row inside
@@ -206,8 +206,8 @@ module _ (sequences : SequencesAreUnits) (printables : PrintablesAreCharacters) 
       -- to a column of the row
       placed-does : (x : ℕ) → x < t.grid.cols → Does (place_text (row_number v) x) t (at v.y x t)
       placed-does x h =
-          does-text (ap (λ (n : ℕ). place_text (v.y - n) x) (sym first))
-          (place-does sequences t v.y x low high (omega (arith, row, rows)) h (omega (arith, h, cols)))
+          does_text (ap (λ (n : ℕ). place_text (v.y - n) x) (sym first))
+          (place_does sequences t v.y x low high (omega (arith, row, rows)) h (omega (arith, h, cols)))
 
       by : (w : Bool) → v.wrap ≡ w
           → CursorDone v
@@ -216,7 +216,7 @@ module _ (sequences : SequencesAreUnits) (printables : PrintablesAreCharacters) 
       by false test = record {
         attr = t.state.pen.attr;
         does =
-            does-to (placed-does v.x column)
+            does_to (placed-does v.x column)
             (ap (λ (w : Bool). with_state t (record t.state { y = v.y; x = v.x; wrap = w })) (sym test));
       }
       by true test =
@@ -227,8 +227,8 @@ module _ (sequences : SequencesAreUnits) (printables : PrintablesAreCharacters) 
           record {
             attr = again.0;
             does =
-                does-then
-                (does-to (placed-does 0 some) (sym (column-is t t.grid v.y 0 t.state.pen.attr some)))
-                (does-to again.1
+                does_then
+                (does_to (placed-does 0 some) (sym (column_is t t.grid v.y 0 t.state.pen.attr some)))
+                (does_to again.1
                 (λ i. with_state t (record t.state { y = v.y; x = place i; wrap = sym test i; pen = with_attr t.state.pen again.0 })));
           }

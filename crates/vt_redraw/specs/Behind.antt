@@ -1,10 +1,10 @@
 -- What a text that is written behind a screen makes of one that was drawn again.
 use Rattle.std.specs.Prelude.{◌≡◌, ℕ, Bool, ◌≤◌, List, length, take}
 use Rattle.vt_redraw.specs.Redraw.{IsStored, redrawn_on}
-use Rattle.vt_screen.specs.Run.{ran}
+use Rattle.vt_screen.specs.Run.{run_from}
 use Rattle.vt_screen.specs.Screen.{Screen, with_state}
 use Rattle.vt_units.specs.Rest.{fresh}
-use Rattle.vt_units.specs.Run.{reached}
+use Rattle.vt_units.specs.Run.{make_reached}
 use Rattle.vt_units.specs.declared.mode.Mode.{Mode}
 
 -- the screen with other tab stops
@@ -25,6 +25,6 @@ pub record IsAlike (s t : Screen) : Type 0 where
 abbrev pub TextsFollow : Type 0
 TextsFollow =
     (s other : Screen) (m : Mode) (bytes : List ℕ) → IsStored s → s.state.map ≡ other.state.map
-    → let first = ran (reached s (fresh m)) bytes in
-    let again = ran (reached (redrawn_on other s) (fresh m)) bytes in
+    → let first = run_from (make_reached s (fresh m)) bytes in
+    let again = run_from (make_reached (redrawn_on other s) (fresh m)) bytes in
     IsAlike first.state.screen again.state.screen × (again.state.outs ≡ first.state.outs) × (again.rest ≡ first.rest)

@@ -1,18 +1,18 @@
 -- A screen as a text that draws it again, and what that text makes.
 use Rattle.std.specs.Prelude.{◌≡◌, ℕ, false, ◌-◌, ◌<◌, ◌≤◌, IsTrue, List, [], ◌++◌, length, take, replicate, All}
 use Rattle.vt_cells.specs.Colours.{Rgb}
-use Rattle.vt_grid.specs.Grid.{Sheet, filled}
+use Rattle.vt_grid.specs.Grid.{GridView, filled_grid}
 use Rattle.vt_redraw.specs.Cells.{changed_rows}
 use Rattle.vt_redraw.specs.Drawable.{is_redrawable}
 use Rattle.vt_redraw.specs.State.{clearing_text, setting_text, state_text}
-use Rattle.vt_screen.specs.Run.{having_said, ran}
+use Rattle.vt_screen.specs.Run.{with_outs, run_from}
 use Rattle.vt_screen.specs.Screen.{IsWhole, Screen, start_blank, with_state}
 use Rattle.vt_units.specs.Rest.{fresh}
-use Rattle.vt_units.specs.Run.{reached}
+use Rattle.vt_units.specs.Run.{make_reached}
 use Rattle.vt_units.specs.declared.mode.Mode.{Mode}
 
 -- the text that draws a screen on one whose cells are these: the rows that differ, and the state
-unfoldable pub changes_of : Sheet → Screen → List ℕ
+unfoldable pub changes_of : GridView → Screen → List ℕ
 changes_of old s = setting_text ++ (changed_rows 0 old.cells s.grid.cells ++ state_text s)
 
 -- the text that draws a screen on any of its size: it makes that one blank first
@@ -20,7 +20,7 @@ unfoldable pub redraw_of : Screen → List ℕ
 redraw_of s =
     setting_text
     ++ (clearing_text
-    ++ (changed_rows 0 (filled s.grid.rows s.grid.cols start_blank).cells s.grid.cells
+    ++ (changed_rows 0 (filled_grid s.grid.rows s.grid.cols start_blank).cells s.grid.cells
     ++ state_text s))
 
 -- what comes back of a screen that is drawn on another one: all but the tab stops past its columns, of
@@ -37,7 +37,7 @@ redrawn_on other s =
 -- leaves no text unfinished
 pub record Redraws (s other : Screen) (text : List ℕ) : Type 0 where
   pub again : (m : Mode) → (left : Mode)
-      × (ran (reached other (fresh m)) text ≡ having_said [] (reached (redrawn_on other s) (fresh left)))
+      × (run_from (make_reached other (fresh m)) text ≡ with_outs [] (make_reached (redrawn_on other s) (fresh left)))
 
 -- what each screen keeps to that a program holds: it is whole, has at most 255 rows and columns, 255
 -- columns may have a stop, 16 colours have parts of a byte, and two colours are below 16
@@ -51,7 +51,7 @@ pub record IsStored (s : Screen) : Type 0 where
   pub look : (s.state.pen.look.ul < 16) × (s.state.pen.look.dim < 16)
 
 -- both have the same rows and columns
-abbrev pub IsSameSize : Sheet → Sheet → Type 0
+abbrev pub IsSameSize : GridView → GridView → Type 0
 IsSameSize a b = (a.rows ≡ b.rows) × (a.cols ≡ b.cols)
 
 -- each redrawable screen is drawn again by its text, on every screen of its size

@@ -1,5 +1,4 @@
 pub mod Behind
-pub mod Comparing
 pub mod HighKinds
 pub mod Rings
 pub mod Stills

@@ -4,7 +4,7 @@ use Rattle.std.proofs.Common.{◌≡◌, ℕ, zero, suc, ◌+◌, Bool, true, fa
 use Rattle.std.specs.Prelude.{slice_get}
 use Rattle.std.proofs.lemmas.Bool.{le-ltb}
 use Rattle.std.proofs.lemmas.Slice.Eq.{bytes_eq-Decides}
-use Rattle.vt_review.specs.Announcements.{is_text, new_rows, rang, row_told, rows_of, rows_told}
+use Rattle.vt_review.specs.Announcements.{is_text, new_rows, has_rung, row_told, rows_of, rows_told}
 use Rattle.vt_review.specs.Seen.{IsLeft}
 use Rattle.vt_world.specs.State.{WorldState}
 use Rattle.vt_world.specs.Terminals.{TerminalState, bells_of, terminal_at}
@@ -19,7 +19,7 @@ still_by before after (inr gone) =
     ∙ le-ltb (bells_of before) 0 (omega arith)
 
 pub is_still : (w v : WorldState) (n : ℕ)
-    → IsLeft (terminal_at w.terminals n) (terminal_at v.terminals n) → rang w v n ≡ false
+    → IsLeft (terminal_at w.terminals n) (terminal_at v.terminals n) → has_rung w v n ≡ false
 is_still w v n left = still_by (terminal_at w.terminals n) (terminal_at v.terminals n) left
 
 -- what stands at a place, and what is behind it

@@ -3,7 +3,7 @@ use Rattle.std.proofs.Common.{◌≡◌, ◌≢◌, ℕ, ◌≤◌, Bool, true, 
 use Rattle.std.proofs.lemmas.List.Concat.{flat_map-append}
 use Rattle.vt_review.proofs.Rings.{no_console, one_console}
 use Rattle.vt_review.proofs.Stills.{is_shown, is_still}
-use Rattle.vt_review.specs.Announcements.{bell_told, consoles, display_told, entry_lines, left_by, rang, rows_told}
+use Rattle.vt_review.specs.Announcements.{bell_told, consoles, display_told, entry_lines, left_by, has_rung, rows_told}
 use Rattle.vt_review.specs.Lines.{Told, ear_lines}
 use Rattle.vt_review.specs.Seen.{IsLeft, OthersAreLeft}
 use Rattle.vt_review.specs.declared.ear_table.EarTable.{EarTable}
@@ -42,16 +42,16 @@ map_one false c = refl
 pub told_at : (tables : List EarTable) (e : ℕ) (w v : WorldState) (c : ℕ) (old a b d : List ℕ)
     → 1 ≤ c → c ≤ 63 → OthersAreLeft c w v
     → a ≡ old ++ flat_map (ear_lines 0 e tables) (map display_told (hops v.trace.marks))
-    → b ≡ a ++ flat_map (ear_lines 0 e tables) (cond (rang w v c) (bell_told c ∷ []) [])
+    → b ≡ a ++ flat_map (ear_lines 0 e tables) (cond (has_rung w v c) (bell_told c ∷ []) [])
     → d ≡ b ++ flat_map (ear_lines 0 e tables) (rows_told w v v.display.front)
     → d ≡ old ++ entry_lines tables e w v
 told_at tables e w v c old a b d low high left first second third =
     let f : Told → List ℕ = ear_lines 0 e tables in
-    let bells : map bell_told (filter (rang w v) consoles) ≡ cond (rang w v c) (bell_told c ∷ []) [] =
+    let bells : map bell_told (filter (has_rung w v) consoles) ≡ cond (has_rung w v c) (bell_told c ∷ []) [] =
     ap (map bell_told)
-    (one_console (rang w v) c low high (λ n above below other. is_still w v n (left n above below other)))
-    ∙ map_one (rang w v c) c in
-    in_parts f (map display_told (hops v.trace.marks)) (map bell_told (filter (rang w v) consoles))
+    (one_console (has_rung w v) c low high (λ n above below other. is_still w v n (left n above below other)))
+    ∙ map_one (has_rung w v c) c in
+    in_parts f (map display_told (hops v.trace.marks)) (map bell_told (filter (has_rung w v) consoles))
     (rows_told w v v.display.front) old a b d first
     (second ∙ ap (λ (ts : List Told). a ++ flat_map f ts) (sym bells)) third
 
@@ -60,7 +60,7 @@ pub told_aside : (tables : List EarTable) (e : ℕ) (w v : WorldState) (c : ℕ)
     → 1 ≤ c → c ≤ 63 → OthersAreLeft c w v
     → 1 ≤ v.display.front → v.display.front ≤ 63 → v.display.front ≢ c
     → a ≡ old ++ flat_map (ear_lines 0 e tables) (map display_told (hops v.trace.marks))
-    → b ≡ a ++ flat_map (ear_lines 0 e tables) (cond (rang w v c) (bell_told c ∷ []) [])
+    → b ≡ a ++ flat_map (ear_lines 0 e tables) (cond (has_rung w v c) (bell_told c ∷ []) [])
     → b ≡ old ++ entry_lines tables e w v
 told_aside tables e w v c old a b low high left from to other first second =
     told_at tables e w v c old a b b low high left first second
@@ -75,12 +75,12 @@ pub told_elsewhere : (tables : List EarTable) (e : ℕ) (w v : WorldState) (old 
     → a ≡ old ++ entry_lines tables e w v
 told_elsewhere tables e w v old a left from to first =
     let f : Told → List ℕ = ear_lines 0 e tables in
-    let bells : map bell_told (filter (rang w v) consoles) ≡ [] =
+    let bells : map bell_told (filter (has_rung w v) consoles) ≡ [] =
     ap (map bell_told)
-    (no_console (rang w v) (λ n above below. is_still w v n (left n above below))) in
-    in_parts f (map display_told (hops v.trace.marks)) (map bell_told (filter (rang w v) consoles))
+    (no_console (has_rung w v) (λ n above below. is_still w v n (left n above below))) in
+    in_parts f (map display_told (hops v.trace.marks)) (map bell_told (filter (has_rung w v) consoles))
     (rows_told w v v.display.front) old a a a first
-    (nothing_more f (map bell_told (filter (rang w v) consoles)) a bells)
+    (nothing_more f (map bell_told (filter (has_rung w v) consoles)) a bells)
     (nothing_more f (rows_told w v v.display.front) a
     (is_shown w v v.display.front (left v.display.front from to)))
 

@@ -4,7 +4,7 @@ use Rattle.std.specs.Prelude.{ℕ, ◌+◌, Bool, false, nat_lt, List, [], ◌�
 use Rattle.std.specs.List.{flat_map, range_with_len}
 use Rattle.vt_dump.specs.Rows.{row_text}
 use Rattle.vt_events.specs.declared.entry.Entry.{Entry}
-use Rattle.vt_review.specs.Lines.{Told, ear_lines, told}
+use Rattle.vt_review.specs.Lines.{Told, ear_lines, make_told}
 use Rattle.vt_review.specs.declared.ear_table.EarTable.{EarTable}
 use Rattle.vt_switch.specs.Moments.{hops}
 use Rattle.vt_switch.specs.declared.hop.Hop.{Hop}
@@ -14,22 +14,22 @@ use Rattle.vt_world.specs.Terminals.{TerminalState, bells_of, terminal_at}
 
 -- the display came to a console, and a console's bell rang: the line ends there
 abbrev pub display_told : Hop → Told
-display_told hop = told 0 hop.to (0x0A ∷ [])
+display_told hop = make_told 0 hop.to (0x0A ∷ [])
 
 abbrev pub bell_told : ℕ → Told
-bell_told n = told 1 n (0x0A ∷ [])
+bell_told n = make_told 1 n (0x0A ∷ [])
 
 -- row y of console n has this text, which ends its line
 abbrev pub row_told : ℕ → ℕ → List ℕ → Told
-row_told n y text = told 2 n (0x20 ∷ decimal y ++ 0x20 ∷ text)
+row_told n y text = make_told 2 n (0x20 ∷ decimal y ++ 0x20 ∷ text)
 
 -- all consoles, rising
 unfoldable pub consoles : List ℕ
 consoles = range_with_len 1 63
 
 -- console n's bell count rose from w to v
-abbrev pub rang : WorldState → WorldState → ℕ → Bool
-rang w v n = nat_lt (bells_of (terminal_at w.terminals n)) (bells_of (terminal_at v.terminals n))
+abbrev pub has_rung : WorldState → WorldState → ℕ → Bool
+has_rung w v n = nat_lt (bells_of (terminal_at w.terminals n)) (bells_of (terminal_at v.terminals n))
 
 -- the texts of a console's rows, from top to bottom; there are none where it isn't allocated
 abbrev pub rows_of : Option TerminalState → List (List ℕ)
@@ -56,10 +56,10 @@ rows_told w v n =
 
 -- what an entry tells, with the console w before and v after it: each switch of the display, the bells
 -- that rang, and the new rows of the console that has the display now
-abbrev pub announced : WorldState → WorldState → List Told
-announced w v =
+abbrev pub announcements : WorldState → WorldState → List Told
+announcements w v =
     map display_told (hops v.trace.marks)
-    ++ (map bell_told (filter (rang w v) consoles) ++ rows_told w v v.display.front)
+    ++ (map bell_told (filter (has_rung w v) consoles) ++ rows_told w v v.display.front)
 
 -- the console after an entry
 unfoldable pub left_by : WorldState → Entry → WorldState
@@ -67,7 +67,7 @@ left_by w entry = (step w entry.caller entry.event).world
 
 -- the lines of entry e
 abbrev pub entry_lines : List EarTable → ℕ → WorldState → WorldState → List ℕ
-entry_lines tables e w v = flat_map (ear_lines 0 e tables) (announced w v)
+entry_lines tables e w v = flat_map (ear_lines 0 e tables) (announcements w v)
 
 -- the lines of a history from console w on, whose entries are counted from e
 abbrev pub review_text : List EarTable → ℕ → WorldState → List Entry → List ℕ

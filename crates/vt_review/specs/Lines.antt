@@ -1,6 +1,6 @@
 -- The lines of a review. This project's own: docs/REVIEW.md.
 use Rattle.std.specs.Prelude.{ℕ, ◌+◌, ◌==◌, List, [], ◌∷◌, ◌++◌, codes, decimal, if◌then◌else◌}
-use Rattle.vt_journal.specs.Text.{spaced}
+use Rattle.vt_journal.specs.Text.{blank_before_each}
 use Rattle.vt_review.specs.Ears.{says}
 use Rattle.vt_review.specs.declared.ear_table.EarTable.{EarTable}
 use Rattle.vt_review.specs.declared.notice.Notice.{Notice}
@@ -10,8 +10,8 @@ pub record Told : Type 0 where
   pub notice : Notice
   pub end : List ℕ
 
-abbrev pub told : ℕ → ℕ → List ℕ → Told
-told kind console end = record {
+abbrev pub make_told : ℕ → ℕ → List ℕ → Told
+make_told kind console end = record {
   notice = record { kind = kind; console = console };
   end = end;
 }
@@ -24,7 +24,7 @@ kind_word kind =
 abbrev pub ear_line : ℕ → ℕ → Told → List ℕ
 ear_line a e t =
     decimal a
-    ++ (spaced (decimal e ∷ kind_word t.notice.kind ∷ decimal t.notice.console ∷ []) ++ t.end)
+    ++ (blank_before_each (decimal e ∷ kind_word t.notice.kind ∷ decimal t.notice.console ∷ []) ++ t.end)
 
 -- of the ears from place a on, whose tables are these, each that hears the notice has a line
 abbrev pub ear_lines : ℕ → ℕ → List EarTable → Told → List ℕ

@@ -1,6 +1,6 @@
 //! The lines of ears.
 ghost use Rattle.std.specs.Prelude.{◌≡◌, ◌<◌, ◌∷◌, ◌++◌, OnOk};
-ghost use Rattle.vt_review.specs.Lines.{ear_line, ear_lines, kind_word, told};
+ghost use Rattle.vt_review.specs.Lines.{ear_line, ear_lines, kind_word, make_told};
 
 use crate::{Ear, Listener, Notice};
 use itoa::Buffer;
@@ -21,7 +21,7 @@ pub(crate) fn add_lines<F: Listener>(
 ) -> Result<(), NoMemory>
     requires { kind < 3 }
     ensures { OnOk result (text.new.bytes
-        ≡ text.old.bytes ++ ear_lines 0 e ears.now (told kind console end.now)) }
+        ≡ text.old.bytes ++ ear_lines 0 e ears.now (make_told kind console end.now)) }
 {
     for a in 0..ears.len() {
         if ears[a].ask(Notice { kind, console }) {
@@ -42,7 +42,7 @@ fn add_line(
     end: &[u8],
 ) -> Result<(), NoMemory>
     ensures { OnOk result (text.new.bytes
-        ≡ text.old.bytes ++ ear_line a e (told kind console end.now)) }
+        ≡ text.old.bytes ++ ear_line a e (make_told kind console end.now)) }
 {
     let mut buffer = Buffer::new();
     add(alloc, text, buffer.format(a).as_bytes())?;

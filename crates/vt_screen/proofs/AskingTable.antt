@@ -4,7 +4,7 @@ use Rattle.std.specs.Prelude.{Option}
 use Rattle.vt_chars.specs.Utf8.{within}
 use Rattle.vt_screen.specs.Asking.{asks}
 use Rattle.vt_screen.specs.Effect.{control, control_sequence, effect, escape, number_at, plain_escape, private_sequence}
-use Rattle.vt_screen.specs.Saying.{Done, console_setting, device_report, lights, quiet, saying, status_report}
+use Rattle.vt_screen.specs.Saying.{Effect, console_setting, device_report, lights, without_out, with_out, status_report}
 use Rattle.vt_screen.specs.Screen.{Screen}
 use Rattle.vt_screen.specs.declared.out.Out.{Out}
 use Rattle.vt_screen.specs.declared.out.Out.TheVariants.{SwitchTo}
@@ -40,76 +40,76 @@ pub least : (n : ℕ) → 0 ≤ n
 least n = omega arith
 
 -- the effect table: what asks nothing
-both-quiet : (test : Bool) (a b : Done) → asked a.said ≡ 0 → asked b.said ≡ 0 → asked (cond test a b).said ≡ 0
-both-quiet true a b first second = first
-both-quiet false a b first second = second
+both_without_out : (test : Bool) (a b : Effect) → asked a.said ≡ 0 → asked b.said ≡ 0 → asked (cond test a b).said ≡ 0
+both_without_out true a b first second = first
+both_without_out false a b first second = second
 
-device-quiet : (which : ℕ) (s : Screen) → asked (device_report which s).said ≡ 0
+device_without_out : (which : ℕ) (s : Screen) → asked (device_report which s).said ≡ 0
 unfolding device_report
-device-quiet which s = both-quiet (which == 0) _ (quiet s) refl refl
+device_without_out which s = both_without_out (which == 0) _ (without_out s) refl refl
 
-status-quiet : (which : ℕ) (s : Screen) → asked (status_report which s).said ≡ 0
+status_without_out : (which : ℕ) (s : Screen) → asked (status_report which s).said ≡ 0
 unfolding status_report
-status-quiet which s = both-quiet (which == 5) _ _ refl (both-quiet (which == 6) _ (quiet s) refl refl)
+status_without_out which s = both_without_out (which == 5) _ _ refl (both_without_out (which == 6) _ (without_out s) refl refl)
 
-lights-quiet : (which : ℕ) (s : Screen) → asked (lights which s).said ≡ 0
+lights-without_out : (which : ℕ) (s : Screen) → asked (lights which s).said ≡ 0
 unfolding lights
-lights-quiet which s =
-    both-quiet (which == 0) _ _ refl
-    (both-quiet (which == 1) _ _ refl (both-quiet (which == 2) _ _ refl (both-quiet (which == 3) _ (quiet s) refl refl)))
+lights-without_out which s =
+    both_without_out (which == 0) _ _ refl
+    (both_without_out (which == 1) _ _ refl (both_without_out (which == 2) _ _ refl (both_without_out (which == 3) _ (without_out s) refl refl)))
 
-pub control-quiet : (code : ℕ) (s : Screen) → asked (control code s).said ≡ 0
+pub control-without_out : (code : ℕ) (s : Screen) → asked (control code s).said ≡ 0
 unfolding control
-control-quiet code s =
-    both-quiet (code == 0x07) _ _ refl
-    (both-quiet (code == 0x08) _ _ refl
-    (both-quiet (code == 0x09) _ _ refl
-    (both-quiet (within 0x0A 0x0C code) _ _ refl
-    (both-quiet (code == 0x0D) _ _ refl
-    (both-quiet (code == 0x0E) _ _ refl
-    (both-quiet (code == 0x0F) _ (quiet s) refl refl))))))
+control-without_out code s =
+    both_without_out (code == 0x07) _ _ refl
+    (both_without_out (code == 0x08) _ _ refl
+    (both_without_out (code == 0x09) _ _ refl
+    (both_without_out (within 0x0A 0x0C code) _ _ refl
+    (both_without_out (code == 0x0D) _ _ refl
+    (both_without_out (code == 0x0E) _ _ refl
+    (both_without_out (code == 0x0F) _ (without_out s) refl refl))))))
 
-plain-escape-quiet : (last : ℕ) (s : Screen) → asked (plain_escape last s).said ≡ 0
+plain_escape-without_out : (last : ℕ) (s : Screen) → asked (plain_escape last s).said ≡ 0
 unfolding plain_escape
-plain-escape-quiet last s =
-    both-quiet (last == 0x63) _ _ refl
-    (both-quiet (last == 0x44) _ _ refl
-    (both-quiet (last == 0x45) _ _ refl
-    (both-quiet (last == 0x48) _ _ refl
-    (both-quiet (last == 0x4D) _ _ refl
-    (both-quiet (last == 0x5A) _ _ (device-quiet 0 s)
-    (both-quiet (last == 0x37) _ _ refl
-    (both-quiet (last == 0x38) _ _ refl
-    (both-quiet (last == 0x3E) _ _ refl
-    (both-quiet (last == 0x3D) _ (quiet s) refl refl)))))))))
+plain_escape-without_out last s =
+    both_without_out (last == 0x63) _ _ refl
+    (both_without_out (last == 0x44) _ _ refl
+    (both_without_out (last == 0x45) _ _ refl
+    (both_without_out (last == 0x48) _ _ refl
+    (both_without_out (last == 0x4D) _ _ refl
+    (both_without_out (last == 0x5A) _ _ (device_without_out 0 s)
+    (both_without_out (last == 0x37) _ _ refl
+    (both_without_out (last == 0x38) _ _ refl
+    (both_without_out (last == 0x3E) _ _ refl
+    (both_without_out (last == 0x3D) _ (without_out s) refl refl)))))))))
 
-escape-quiet : (mid last : ℕ) (s : Screen) → asked (escape mid last s).said ≡ 0
+escape-without_out : (mid last : ℕ) (s : Screen) → asked (escape mid last s).said ≡ 0
 unfolding escape
-escape-quiet mid last s =
-    both-quiet (mid == 0) _ _ (plain-escape-quiet last s)
-    (both-quiet (mid == 0x25) _ _ refl
-    (both-quiet (mid == 0x23) _ _ refl
-    (both-quiet (mid == 0x28) _ _ refl
-    (both-quiet (mid == 0x29) _ (quiet s) refl refl))))
+escape-without_out mid last s =
+    both_without_out (mid == 0) _ _ (plain_escape-without_out last s)
+    (both_without_out (mid == 0x25) _ _ refl
+    (both_without_out (mid == 0x23) _ _ refl
+    (both_without_out (mid == 0x28) _ _ refl
+    (both_without_out (mid == 0x29) _ (without_out s) refl refl))))
 
-private-quiet : (params : List ℕ) (last : ℕ) (s : Screen) → asked (private_sequence params last s).said ≡ 0
+private_without_out : (params : List ℕ) (last : ℕ) (s : Screen) → asked (private_sequence params last s).said ≡ 0
 unfolding private_sequence
-private-quiet params last s =
-    both-quiet (last == 0x68) _ _ refl (both-quiet (last == 0x6C) _ (quiet s) refl refl)
+private_without_out params last s =
+    both_without_out (last == 0x68) _ _ refl (both_without_out (last == 0x6C) _ (without_out s) refl refl)
 
 -- what asks at most so often
-both-asked : (n : ℕ) (test : Bool) (a b : Done) → asked a.said ≡ 0 → asked b.said ≤ n → asked (cond test a b).said ≤ n
-both-asked n true a b first second = let h = first in omega arith
-both-asked n false a b first second = second
+both_asked : (n : ℕ) (test : Bool) (a b : Effect) → asked a.said ≡ 0 → asked b.said ≤ n → asked (cond test a b).said ≤ n
+both_asked n true a b first second = let h = first in omega arith
+both_asked n false a b first second = second
 
-either-asked : (n : ℕ) (test : Bool) (a b : Done) → (test ≡ true → asked a.said ≤ n) → asked b.said ≤ n
+either_asked : (n : ℕ) (test : Bool) (a b : Effect) → (test ≡ true → asked a.said ≤ n) → asked b.said ≤ n
     → asked (cond test a b).said ≤ n
-either-asked n true a b first second = first refl
-either-asked n false a b first second = second
+either_asked n true a b first second = first refl
+either_asked n false a b first second = second
 
-one-asked : (out : Option Out) → asked out ≤ 1
-one-asked None = omega arith
-one-asked (Some out) = by (asks out)
+one_asked : (out : Option Out) → asked out ≤ 1
+one_asked None = omega arith
+one_asked (Some out) = by (asks out)
   where
     by : (test : Bool) → cond test 1 0 ≤ 1
     by true = omega arith
@@ -118,77 +118,77 @@ one-asked (Some out) = by (asks out)
 counts : (a b c : Bool) → a ≡ true → b ≡ true → 1 ≤ counted (a && (b || c))
 counts a b c e f = rw (e, f) (omega arith)
 
-counts-second : (a b c : Bool) → a ≡ true → c ≡ true → 1 ≤ counted (a && (b || c))
-counts-second a true c e f = rw e (omega arith)
-counts-second a false c e f = rw (e, f) (omega arith)
+counts_second : (a b c : Bool) → a ≡ true → c ≡ true → 1 ≤ counted (a && (b || c))
+counts_second a true c e f = rw e (omega arith)
+counts_second a false c e f = rw (e, f) (omega arith)
 
-setting-asks : (last which value : ℕ) (s : Screen) → (last == 0x5D) ≡ true
+setting_asks : (last which value : ℕ) (s : Screen) → (last == 0x5D) ≡ true
     → asked (console_setting which value s).said ≤ counted (last == 0x5D && is_request which)
 unfolding console_setting
-setting-asks last which value s e =
+setting_asks last which value s e =
     let n = counted (last == 0x5D && is_request which) in
-    both-asked n (which == 1) _ _ refl
-    (both-asked n (which == 2) _ _ refl
-    (both-asked n (which == 8) _ _ refl
-    (either-asked n (which == 12) _ _
-    (λ f. let to : Done = cond (nat_le 1 value && nat_le value 63) (saying (SwitchTo value) s) (quiet s) in
-    let most : asked to.said ≤ 1 = one-asked to.said in
+    both_asked n (which == 1) _ _ refl
+    (both_asked n (which == 2) _ _ refl
+    (both_asked n (which == 8) _ _ refl
+    (either_asked n (which == 12) _ _
+    (λ f. let to : Effect = cond (nat_le 1 value && nat_le value 63) (with_out (SwitchTo value) s) (without_out s) in
+    let most : asked to.said ≤ 1 = one_asked to.said in
     let least : 1 ≤ counted (last == 0x5D && is_request which) =
     counts (last == 0x5D) (which == 12) (which == 15) e f in omega (arith, most, least))
-    (either-asked n (which == 15) _ (quiet s)
-    (λ f. counts-second (last == 0x5D) (which == 12) (which == 15) e f) (least n)))))
+    (either_asked n (which == 15) _ (without_out s)
+    (λ f. counts_second (last == 0x5D) (which == 12) (which == 15) e f) (least n)))))
 
-sequence-asks : (params : List ℕ) (last : ℕ) (s : Screen)
+sequence_asks : (params : List ℕ) (last : ℕ) (s : Screen)
     → asked (control_sequence params last s).said ≤ counted (asking_sequence params last)
 unfolding control_sequence
-sequence-asks params last s =
+sequence_asks params last s =
     let n = counted (asking_sequence params last) in
     let first = number_at params 0 in
     let second = number_at params 1 in
-    both-asked n (last == 0x40) _ _ refl
-    (both-asked n (last == 0x41) _ _ refl
-    (both-asked n (last == 0x42) _ _ refl
-    (both-asked n (last == 0x43) _ _ refl
-    (both-asked n (last == 0x44) _ _ refl
-    (both-asked n (last == 0x45) _ _ refl
-    (both-asked n (last == 0x46) _ _ refl
-    (both-asked n (last == 0x47) _ _ refl
-    (both-asked n (last == 0x48) _ _ refl
-    (both-asked n (last == 0x4A) _ _ refl
-    (both-asked n (last == 0x4B) _ _ refl
-    (both-asked n (last == 0x4C) _ _ refl
-    (both-asked n (last == 0x4D) _ _ refl
-    (both-asked n (last == 0x50) _ _ refl
-    (both-asked n (last == 0x58) _ _ refl
-    (both-asked n (last == 0x61) _ _ refl
-    (both-asked n (last == 0x63) _ _ (device-quiet first s)
-    (both-asked n (last == 0x64) _ _ refl
-    (both-asked n (last == 0x65) _ _ refl
-    (both-asked n (last == 0x66) _ _ refl
-    (both-asked n (last == 0x67) _ _ refl
-    (both-asked n (last == 0x68) _ _ refl
-    (both-asked n (last == 0x6C) _ _ refl
-    (both-asked n (last == 0x6D) _ _ refl
-    (both-asked n (last == 0x6E) _ _ (status-quiet first s)
-    (both-asked n (last == 0x71) _ _ (lights-quiet first s)
-    (both-asked n (last == 0x72) _ _ refl
-    (both-asked n (last == 0x73) _ _ refl
-    (both-asked n (last == 0x75) _ _ refl
-    (both-asked n (last == 0x60) _ _ refl
-    (either-asked n (last == 0x5D) _ (quiet s) (setting-asks last first second s) (least n)))))))))))))))))))))))))))))))
+    both_asked n (last == 0x40) _ _ refl
+    (both_asked n (last == 0x41) _ _ refl
+    (both_asked n (last == 0x42) _ _ refl
+    (both_asked n (last == 0x43) _ _ refl
+    (both_asked n (last == 0x44) _ _ refl
+    (both_asked n (last == 0x45) _ _ refl
+    (both_asked n (last == 0x46) _ _ refl
+    (both_asked n (last == 0x47) _ _ refl
+    (both_asked n (last == 0x48) _ _ refl
+    (both_asked n (last == 0x4A) _ _ refl
+    (both_asked n (last == 0x4B) _ _ refl
+    (both_asked n (last == 0x4C) _ _ refl
+    (both_asked n (last == 0x4D) _ _ refl
+    (both_asked n (last == 0x50) _ _ refl
+    (both_asked n (last == 0x58) _ _ refl
+    (both_asked n (last == 0x61) _ _ refl
+    (both_asked n (last == 0x63) _ _ (device_without_out first s)
+    (both_asked n (last == 0x64) _ _ refl
+    (both_asked n (last == 0x65) _ _ refl
+    (both_asked n (last == 0x66) _ _ refl
+    (both_asked n (last == 0x67) _ _ refl
+    (both_asked n (last == 0x68) _ _ refl
+    (both_asked n (last == 0x6C) _ _ refl
+    (both_asked n (last == 0x6D) _ _ refl
+    (both_asked n (last == 0x6E) _ _ (status_without_out first s)
+    (both_asked n (last == 0x71) _ _ (lights-without_out first s)
+    (both_asked n (last == 0x72) _ _ refl
+    (both_asked n (last == 0x73) _ _ refl
+    (both_asked n (last == 0x75) _ _ refl
+    (both_asked n (last == 0x60) _ _ refl
+    (either_asked n (last == 0x5D) _ (without_out s) (setting_asks last first second s) (least n)))))))))))))))))))))))))))))))
 
-either-private : (private : Bool) (a b : Done) (test : Bool) → asked a.said ≡ 0 → asked b.said ≤ counted test
+either_private : (private : Bool) (a b : Effect) (test : Bool) → asked a.said ≡ 0 → asked b.said ≤ counted test
     → asked (cond private a b).said ≤ counted (cond private false test)
-either-private true a b test first second = let h = first in omega arith
-either-private false a b test first second = second
+either_private true a b test first second = let h = first in omega arith
+either_private false a b test first second = second
 
 pub effect-asks : (u : units.Unit) (s : Screen) → asked (effect u s).said ≤ counted (asking u)
 effect-asks (units.Unit.Char code) s = omega arith
 effect-asks (units.Unit.Byte b) s = omega arith
-effect-asks (units.Unit.Control code) s = let h = control-quiet code s in omega arith
-effect-asks (units.Unit.Esc mid last) s = let h = escape-quiet mid last s in omega arith
+effect-asks (units.Unit.Control code) s = let h = control-without_out code s in omega arith
+effect-asks (units.Unit.Esc mid last) s = let h = escape-without_out mid last s in omega arith
 effect-asks (units.Unit.Csi private params last) s =
-    either-private private _ _ (asking_sequence params last) (private-quiet params last s) (sequence-asks params last s)
+    either_private private _ _ (asking_sequence params last) (private_without_out params last s) (sequence_asks params last s)
 effect-asks (units.Unit.Colour n rgb) s = omega arith
 effect-asks units.Unit.ColourReset s = omega arith
 effect-asks units.Unit.Ignored s = omega arith

@@ -1,10 +1,10 @@
 -- A control character by itself.
 use Rattle.std.proofs.Common.{◌≡◌, ◌==◌, ◌&&◌, not, ℕ, Bool, true, false, List, ◌++◌, refl, sym, ap, ◌∙◌}
 use Rattle.std.proofs.lemmas.Bool.{and_parts}
-use Rattle.vt_screen.proofs.Printed.{empty-is}
+use Rattle.vt_screen.proofs.Printed.{empty_is}
 use Rattle.vt_screen.specs.Effect.{control}
-use Rattle.vt_screen.specs.Run.{Drawn, drawing, having_said, listed}
-use Rattle.vt_screen.specs.Saying.{Done}
+use Rattle.vt_screen.specs.Run.{ScreenAndOuts, screen_effects, with_outs, outs_of_option}
+use Rattle.vt_screen.specs.Saying.{Effect}
 use Rattle.vt_screen.specs.Screen.{Screen, mode_of}
 use Rattle.vt_screen.specs.declared.out.Out.{Out}
 use Rattle.vt_units.specs.Answer.{answer, rest_after}
@@ -12,29 +12,29 @@ use Rattle.vt_units.specs.Bytes.{is_control}
 use Rattle.vt_units.specs.Laws.{ControlsAreUnits}
 use Rattle.vt_units.specs.Reading.{is_empty}
 use Rattle.vt_units.specs.Rest.{Rest, fresh}
-use Rattle.vt_units.specs.Run.{effects_of, reached, step}
+use Rattle.vt_units.specs.Run.{effects_of, make_reached, step}
 use Rattle.vt_units.specs.declared.mode.Mode.{Mode}
 use Rattle.vt_units.specs.declared.read.Read.{Read}
 
-is-not : (test : Bool) → not test ≡ true → test ≡ false
-is-not false is = refl
-is-not true is = absurd (let e : ⊥ = cc in e)
+is_not : (test : Bool) → not test ≡ true → test ≡ false
+is_not false is = refl
+is_not true is = absurd (let e : ⊥ = cc in e)
 
 -- it is the step of the byte
 pub control-step : ControlsAreUnits → (b : ℕ) (outs : List Out) (s : Screen) (rest : Rest) (m : Mode)
     → m ≡ mode_of s → (is_empty rest.text && is_control m b && not (b == 0x1B)) ≡ true
-    → (done : Done) → control b s ≡ done
-    → having_said (outs ++ listed done.said) (reached done.screen (fresh m))
-    ≡ step drawing b (having_said outs (reached s rest))
+    → (done : Effect) → control b s ≡ done
+    → with_outs (outs ++ outs_of_option done.said) (make_reached done.screen (fresh m))
+    ≡ step screen_effects b (with_outs outs (make_reached s rest))
 control-step law b outs s rest m mode takes done is =
     let last = and_parts (is_empty rest.text && is_control m b) (not (b == 0x1B)) takes in
     let first = and_parts (is_empty rest.text) (is_control m b) last.0 in
-    let one = law rest (mode_of s) b (empty-is rest.text first.0)
-    (ap (λ (n : Mode). is_control n b) (sym mode) ∙ first.1) (is-not (b == 0x1B) last.1) in
-    let start : Drawn = record { screen = s; outs = outs } in
-    let stepped : reached (effects_of drawing (answer rest (mode_of s) b) start) (rest_after rest (mode_of s) b)
-    ≡ having_said (outs ++ listed (control b s).said) (reached (control b s).screen (fresh (mode_of s))) =
-    ap (λ (r : Read). reached (effects_of drawing r start) (rest_after rest (mode_of s) b)) one.0
-    ∙ ap (λ (r : Rest). having_said (outs ++ listed (control b s).said) (reached (control b s).screen r)) one.1 in
-    (λ i. having_said (outs ++ listed (sym is i).said) (reached (sym is i).screen (fresh (mode i))))
+    let one = law rest (mode_of s) b (empty_is rest.text first.0)
+    (ap (λ (n : Mode). is_control n b) (sym mode) ∙ first.1) (is_not (b == 0x1B) last.1) in
+    let start : ScreenAndOuts = record { screen = s; outs = outs } in
+    let stepped : make_reached (effects_of screen_effects (answer rest (mode_of s) b) start) (rest_after rest (mode_of s) b)
+    ≡ with_outs (outs ++ outs_of_option (control b s).said) (make_reached (control b s).screen (fresh (mode_of s))) =
+    ap (λ (r : Read). make_reached (effects_of screen_effects r start) (rest_after rest (mode_of s) b)) one.0
+    ∙ ap (λ (r : Rest). with_outs (outs ++ outs_of_option (control b s).said) (make_reached (control b s).screen r)) one.1 in
+    (λ i. with_outs (outs ++ outs_of_option (sym is i).said) (make_reached (sym is i).screen (fresh (mode i))))
     ∙ sym stepped

@@ -3,32 +3,32 @@ use Rattle.std.proofs.Common.{◌≡◌, ℕ, ◌+◌, false, List}
 use Rattle.std.specs.Prelude.{All}
 use Rattle.vt_cells.specs.Width.{is_half}
 use Rattle.vt_cells.specs.declared.cell.Cell.{Cell}
-use Rattle.vt_grid.specs.Grid.{Sheet, deleted, erased, filled, inserted, resized, scrolled_down, scrolled_up}
-use Rattle.vt_grid.specs.Halves.{IsPairedRow, drawn, parted_between, parted_rows}
+use Rattle.vt_grid.specs.Grid.{GridView, with_deleted, with_erased, filled_grid, with_inserted, resized_grid, scrolled_down, scrolled_up}
+use Rattle.vt_grid.specs.Halves.{IsPairedRow, with_cells_at, split_wide_between, split_wide_rows}
 use Rattle.vt_grid.specs.Laws.{EditsKeepHalves}
 
-abbrev pub Each : (List Cell → Type 0) → Sheet → Type 0
+abbrev pub Each : (List Cell → Type 0) → GridView → Type 0
 Each Row s = All Row s.cells
 
 pub record Edits (Row : List Cell → Type 0) : Type 0 where
-  pub drawing : (s : Sheet) (y x : ℕ) (cells : List Cell) → Each Row s → Row cells → Each Row (drawn s y x cells)
-  pub inserting : (s : Sheet) (y x end n : ℕ) (c : Cell) → Each Row s → is_half c ≡ false
-      → Each Row (inserted (parted_between s y x end) y x n c)
-  pub deleting : (s : Sheet) (y x n : ℕ) (c : Cell) → Each Row s → is_half c ≡ false
-      → Each Row (deleted (parted_between s y x (x + n)) y x n c)
-  pub erasing : (s : Sheet) (y x0 x1 : ℕ) (c : Cell) → Each Row s → is_half c ≡ false
-      → Each Row (erased (parted_between s y x0 (x1 + 1)) y x0 x1 c)
-  pub scrolling_up : (s : Sheet) (top bottom n : ℕ) (c : Cell) → Each Row s → is_half c ≡ false
+  pub drawing : (s : GridView) (y x : ℕ) (cells : List Cell) → Each Row s → Row cells → Each Row (with_cells_at s y x cells)
+  pub inserting : (s : GridView) (y x end n : ℕ) (c : Cell) → Each Row s → is_half c ≡ false
+      → Each Row (with_inserted (split_wide_between s y x end) y x n c)
+  pub deleting : (s : GridView) (y x n : ℕ) (c : Cell) → Each Row s → is_half c ≡ false
+      → Each Row (with_deleted (split_wide_between s y x (x + n)) y x n c)
+  pub erasing : (s : GridView) (y x0 x1 : ℕ) (c : Cell) → Each Row s → is_half c ≡ false
+      → Each Row (with_erased (split_wide_between s y x0 (x1 + 1)) y x0 x1 c)
+  pub scrolling_up : (s : GridView) (top bottom n : ℕ) (c : Cell) → Each Row s → is_half c ≡ false
       → Each Row (scrolled_up s top bottom n c)
-  pub scrolling_down : (s : Sheet) (top bottom n : ℕ) (c : Cell) → Each Row s → is_half c ≡ false
+  pub scrolling_down : (s : GridView) (top bottom n : ℕ) (c : Cell) → Each Row s → is_half c ≡ false
       → Each Row (scrolled_down s top bottom n c)
-  pub filling : (rows cols : ℕ) (c : Cell) → is_half c ≡ false → Each Row (filled rows cols c)
-  pub resizing : (s : Sheet) (rows cols skip : ℕ) (c : Cell) → Each Row s → is_half c ≡ false
-      → Each Row (resized (parted_rows cols s) (filled rows cols c) skip)
+  pub filling : (rows cols : ℕ) (c : Cell) → is_half c ≡ false → Each Row (filled_grid rows cols c)
+  pub resizing : (s : GridView) (rows cols skip : ℕ) (c : Cell) → Each Row s → is_half c ≡ false
+      → Each Row (resized_grid (split_wide_rows cols s) (filled_grid rows cols c) skip)
 
 -- no half stands in column 0 or right of a half
-pub paired-edits : EditsKeepHalves → Edits IsPairedRow
-paired-edits law = record {
+pub paired_edits : EditsKeepHalves → Edits IsPairedRow
+paired_edits law = record {
   drawing = law.drawing;
   inserting = law.inserting;
   deleting = law.deleting;

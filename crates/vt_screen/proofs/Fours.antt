@@ -11,28 +11,28 @@ goes : (codes : List ℕ) (i : ℕ) → i < length codes → is_plain (get_or co
 goes codes i within passes = ap (prefix_len is_plain) (drop_more codes i 0 within) ∙ cond-true _ _ _ passes
 
 -- so many from a place on
-pub plain-run : (codes : List ℕ) (n from : ℕ) → from + n ≤ length codes
+pub plain_run : (codes : List ℕ) (n from : ℕ) → from + n ≤ length codes
     → ((k : ℕ) → from ≤ k → k < from + n → is_plain (get_or codes k 0) ≡ true)
     → prefix_len is_plain (drop from codes) ≡ n + prefix_len is_plain (drop (from + n) codes)
-plain-run codes zero from within each =
+plain_run codes zero from within each =
     let here : from ≡ from + 0 = omega arith in
     let same = ap (λ (k : ℕ). prefix_len is_plain (drop k codes)) here in
     omega (arith, same)
-plain-run codes (suc n) from within each =
+plain_run codes (suc n) from within each =
     let one = goes codes from (omega arith) (each from (omega arith) (omega arith)) in
-    let others = plain-run codes n (from + 1) (omega arith) (λ k low high. each k (omega arith) (omega arith)) in
+    let others = plain_run codes n (from + 1) (omega arith) (λ k low high. each k (omega arith) (omega arith)) in
     let there : from + 1 + n ≡ from + suc n = omega arith in
     let same : prefix_len is_plain (drop (from + 1 + n) codes) ≡ prefix_len is_plain (drop (from + suc n) codes) =
     ap (λ (k : ℕ). prefix_len is_plain (drop k codes)) there in
     omega (arith, one, others, same)
 
 -- all from a place on, where the last four are
-pub plain-end : (codes : List ℕ) (at : ℕ) → at ≤ length codes → length codes < at + 4 → 4 ≤ length codes
+pub plain_end : (codes : List ℕ) (at : ℕ) → at ≤ length codes → length codes < at + 4 → 4 ≤ length codes
     → ((k : ℕ) → length codes - 4 ≤ k → k < length codes - 4 + 4 → is_plain (get_or codes k 0) ≡ true)
     → length codes ≡ at + prefix_len is_plain (drop at codes)
-plain-end codes at within last some each =
+plain_end codes at within last some each =
     let n : ℕ = length codes - at in
-    let run = plain-run codes n at (omega arith) (λ k low high. each k (omega arith) (omega arith)) in
+    let run = plain_run codes n at (omega arith) (λ k low high. each k (omega arith) (omega arith)) in
     let left = prefix_len-le-length is_plain (drop (at + n) codes) in
     omega (arith, run, left, length-drop (at + n) codes)
 

@@ -7,14 +7,14 @@ use Rattle.vt_cells.specs.declared.cell.Cell.{Cell}
 use Rattle.vt_chars.specs.Utf8.{within}
 use Rattle.vt_grid.specs.Grid.{cells_of_codes}
 use Rattle.vt_screen.proofs.Edits.{Each, Edits}
-use Rattle.vt_screen.specs.Cursor.{at_column, at_row, linefeed, moved, newline, placed, region_down, region_up, reverse_linefeed, tab}
+use Rattle.vt_screen.specs.Cursor.{at_column, at_row, linefeed, cursor_to, newline, cursor_to_in_region, region_down, region_up, reverse_linefeed, tab}
 use Rattle.vt_cells.specs.Colours.{Rgb}
 use Rattle.vt_screen.specs.Effect.{control, control_sequence, count_of, escape, number_at, plain_escape, private_sequence}
-use Rattle.vt_screen.specs.Erasing.{above_erased, all_erased, below_erased, cells_deleted, cells_inserted, delete_characters, delete_lines, erase_characters, erase_display, erase_line, in_region, insert_characters, insert_lines, line_end_erased, line_erased, line_start_erased, rows_erased, unwrapped}
-use Rattle.vt_screen.specs.Printing.{codes_drawn, lacks_room, opened, print, put_here, set_down, wrapped}
-use Rattle.vt_screen.specs.Saying.{Done, console_setting, device_report, lights, quiet, status_report}
+use Rattle.vt_screen.specs.Erasing.{above_erased, all_erased, below_erased, cells_deleted, cells_inserted, delete_characters, delete_lines, erase_characters, erase_display, erase_line, in_region, insert_characters, insert_lines, line_end_erased, line_erased, line_start_erased, rows_erased, without_pending_wrap}
+use Rattle.vt_screen.specs.Printing.{codes_drawn, lacks_room, with_gap, print, with_cells_at_cursor, with_character, after_wrap}
+use Rattle.vt_screen.specs.Saying.{Effect, console_setting, device_report, lights, without_out, status_report}
 use Rattle.vt_screen.specs.Screen.{Screen, blank_of, pen_byte}
-use Rattle.vt_screen.specs.Settings.{aligned, clear_stops, each, invoking, rendered, reset, restore, save, set_stop, with_coding, with_colour, with_g0, with_g1, with_keypad, with_mode, with_private_mode, with_region, with_start_palette}
+use Rattle.vt_screen.specs.Settings.{alignment_pattern, clear_stops, each, after_shift, after_sgr, reset, restore, save, set_stop, with_coding, with_colour, with_g0, with_g1, with_keypad, with_mode, with_private_mode, with_region, with_start_palette}
 
 -- none of these codes is that of a half
 abbrev pub NoHalves : List ℕ → Type 0
@@ -34,7 +34,7 @@ module _ (Row : List Cell → Type 0) where
   either true s t first second = first
   either false s t first second = second
 
-  either-done : (test : Bool) (s t : Done) → HasHalves s.screen → HasHalves t.screen → HasHalves (cond test s t).screen
+  either-done : (test : Bool) (s t : Effect) → HasHalves s.screen → HasHalves t.screen → HasHalves (cond test s t).screen
   either-done true s t first second = first
   either-done false s t first second = second
 
@@ -93,18 +93,18 @@ module _ (Row : List Cell → Type 0) where
     display-erased which s h =
         let low = line_end_erased s in
         let high = line_start_erased s in
-        either (which == 0) (unwrapped (below_erased low)) _
+        either (which == 0) (without_pending_wrap (below_erased low)) _
         (rows-erased (low.state.y + 1) (low.grid.rows - (low.state.y + 1)) low (line-end s h))
-        (either (which == 1) (unwrapped (above_erased high)) _
+        (either (which == 1) (without_pending_wrap (above_erased high)) _
         (rows-erased 0 high.state.y high (line-start s h))
-        (either (which == 2 || which == 3) (unwrapped (all_erased s)) s (rows-erased 0 s.grid.rows s h) h))
+        (either (which == 2 || which == 3) (without_pending_wrap (all_erased s)) s (rows-erased 0 s.grid.rows s h) h))
 
     row-erased : (which : ℕ) (s : Screen) → HasHalves s → HasHalves (erase_line which s)
     unfolding erase_line
     row-erased which s h =
-        either (which == 0) (unwrapped (line_end_erased s)) _ (line-end s h)
-        (either (which == 1) (unwrapped (line_start_erased s)) _ (line-start s h)
-        (either (which == 2) (unwrapped (line_erased 0 (s.grid.cols - 1) s)) s (line-erased 0 (s.grid.cols - 1) s h) h))
+        either (which == 0) (without_pending_wrap (line_end_erased s)) _ (line-end s h)
+        (either (which == 1) (without_pending_wrap (line_start_erased s)) _ (line-start s h)
+        (either (which == 2) (without_pending_wrap (line_erased 0 (s.grid.cols - 1) s)) s (line-erased 0 (s.grid.cols - 1) s h) h))
 
     characters-erased : (n : ℕ) (s : Screen) → HasHalves s → HasHalves (erase_characters n s)
     unfolding erase_characters
@@ -133,44 +133,44 @@ module _ (Row : List Cell → Type 0) where
     unfolding reset
     screen-reset s h = (law.filling s.grid.rows s.grid.cols _ refl, h.1)
 
-    screen-aligned : (s : Screen) → HasHalves s → HasHalves (aligned s)
-    unfolding aligned
+    screen-aligned : (s : Screen) → HasHalves s → HasHalves (alignment_pattern s)
+    unfolding alignment_pattern
     screen-aligned s h = (law.filling s.grid.rows s.grid.cols _ refl, h.1)
 
     -- printing
-    put : (w code : ℕ) (s : Screen) → Draws w code → HasHalves s → HasHalves (put_here (codes_drawn w code) s)
+    put : (w code : ℕ) (s : Screen) → Draws w code → HasHalves s → HasHalves (with_cells_at_cursor (codes_drawn w code) s)
     put w code s is h =
         (law.drawing s.grid s.state.y s.state.x (cells_of_codes (codes_drawn w code) (pen_byte s)) h.0 (is (pen_byte s)), h.1)
 
-    set-down : (w code : ℕ) (s : Screen) → Draws w code → HasHalves s → HasHalves (set_down w code s)
+    set-down : (w code : ℕ) (s : Screen) → Draws w code → HasHalves s → HasHalves (with_character w code s)
     set-down w code s is h =
-        let there = wrapped w s in
+        let there = after_wrap w s in
         let there_is : HasHalves there =
         either (s.state.autowrap && (s.state.wrap || lacks_room w s)) (linefeed (at_column 0 s)) _ (line-feed (at_column 0 s) h)
         (either (lacks_room w s) (at_column (s.grid.cols - w) s) s h h) in
-        put w code (opened w there) is (either there.state.insert (cells_inserted w there) there (cells-inserted w there there_is) there_is)
+        put w code (with_gap w there) is (either there.state.insert (cells_inserted w there) there (cells-inserted w there there_is) there_is)
 
-    pub printed-once : (w code : ℕ) (s : Screen) → Draws 1 0xFFFD → Draws w code → HasHalves s → HasHalves (print w code s)
+    pub printed_once : (w code : ℕ) (s : Screen) → Draws 1 0xFFFD → Draws w code → HasHalves s → HasHalves (print w code s)
     unfolding print
-    printed-once w code s malformed is h =
+    printed_once w code s malformed is h =
         either (w == 0) s _ h
-        (either (w == 2 && s.grid.cols == 1) (set_down 1 0xFFFD s) (set_down w code s) (set-down 1 0xFFFD s malformed h) (set-down w code s is h))
+        (either (w == 2 && s.grid.cols == 1) (with_character 1 0xFFFD s) (with_character w code s) (set-down 1 0xFFFD s malformed h) (set-down w code s is h))
 
     -- what changes the state alone
-    cursor-moved : (y x : ℕ) (s : Screen) → HasHalves s → HasHalves (moved y x s)
-    unfolding moved
+    cursor-moved : (y x : ℕ) (s : Screen) → HasHalves s → HasHalves (cursor_to y x s)
+    unfolding cursor_to
     cursor-moved y x s h = h
 
-    cursor-placed : (y x : ℕ) (s : Screen) → HasHalves s → HasHalves (placed y x s)
-    unfolding placed moved
+    cursor-placed : (y x : ℕ) (s : Screen) → HasHalves s → HasHalves (cursor_to_in_region y x s)
+    unfolding cursor_to_in_region cursor_to
     cursor-placed y x s h = h
 
     tabbed : (s : Screen) → HasHalves s → HasHalves (tab s)
     unfolding tab
     tabbed s h = h
 
-    invoked : (shift : ℕ) (display : Bool) (s : Screen) → HasHalves s → HasHalves (invoking shift display s)
-    unfolding invoking
+    invoked : (shift : ℕ) (display : Bool) (s : Screen) → HasHalves s → HasHalves (after_shift shift display s)
+    unfolding after_shift
     invoked shift display s h = h
 
     coded : (last : ℕ) (s : Screen) → HasHalves s → HasHalves (with_coding last s)
@@ -222,8 +222,8 @@ module _ (Row : List Cell → Type 0) where
         let last = cond (b == 0) s.grid.rows b in
         either (nat_lt t last && nat_le last s.grid.rows) _ s (cursor-placed 0 0 _ h) h
 
-    pen-set : (params : List ℕ) (s : Screen) → HasHalves s → HasHalves (rendered params s)
-    unfolding rendered
+    pen-set : (params : List ℕ) (s : Screen) → HasHalves s → HasHalves (after_sgr params s)
+    unfolding after_sgr
     pen-set params s h = h
 
     saved : (s : Screen) → HasHalves s → HasHalves (save s)
@@ -231,31 +231,31 @@ module _ (Row : List Cell → Type 0) where
     saved s h = h
 
     restored : (s : Screen) → HasHalves s → HasHalves (restore s)
-    unfolding restore moved
+    unfolding restore cursor_to
     restored s h = h
 
     pub coloured : (n : ℕ) (rgb : Rgb) (s : Screen) → HasHalves s → HasHalves (with_colour n rgb s)
     unfolding with_colour
     coloured n rgb s h = either (nat_lt n 16) _ s h h
 
-    pub colours-reset : (s : Screen) → HasHalves s → HasHalves (with_start_palette s)
+    pub colours_reset : (s : Screen) → HasHalves s → HasHalves (with_start_palette s)
     unfolding with_start_palette
-    colours-reset s h = h
+    colours_reset s h = h
 
     -- what says something
     device : (which : ℕ) (s : Screen) → HasHalves s → HasHalves (device_report which s).screen
     unfolding device_report
-    device which s h = either-done (which == 0) _ (quiet s) h h
+    device which s h = either-done (which == 0) _ (without_out s) h h
 
     status : (which : ℕ) (s : Screen) → HasHalves s → HasHalves (status_report which s).screen
     unfolding status_report
-    status which s h = either-done (which == 5) _ _ h (either-done (which == 6) _ (quiet s) h h)
+    status which s h = either-done (which == 5) _ _ h (either-done (which == 6) _ (without_out s) h h)
 
     lit : (which : ℕ) (s : Screen) → HasHalves s → HasHalves (lights which s).screen
     unfolding lights
     lit which s h =
         either-done (which == 0) _ _ h
-        (either-done (which == 1) _ _ h (either-done (which == 2) _ _ h (either-done (which == 3) _ (quiet s) h h)))
+        (either-done (which == 1) _ _ h (either-done (which == 2) _ _ h (either-done (which == 3) _ (without_out s) h h)))
 
     setting : (which value : ℕ) (s : Screen) → HasHalves s → HasHalves (console_setting which value s).screen
     unfolding console_setting
@@ -263,20 +263,20 @@ module _ (Row : List Cell → Type 0) where
         either-done (which == 1) _ _ (either (nat_lt value 16) _ s h h)
         (either-done (which == 2) _ _ (either (nat_lt value 16) _ s h h)
         (either-done (which == 8) _ _ h
-        (either-done (which == 12) _ _ (either-done (nat_le 1 value && nat_le value 63) _ (quiet s) h h)
-        (either-done (which == 15) _ (quiet s) h h))))
+        (either-done (which == 12) _ _ (either-done (nat_le 1 value && nat_le value 63) _ (without_out s) h h)
+        (either-done (which == 15) _ (without_out s) h h))))
 
     -- the table
-    pub control-keeps : (code : ℕ) (s : Screen) → HasHalves s → HasHalves (control code s).screen
+    pub control_keeps : (code : ℕ) (s : Screen) → HasHalves s → HasHalves (control code s).screen
     unfolding control
-    control-keeps code s h =
+    control_keeps code s h =
         either-done (code == 0x07) _ _ h
         (either-done (code == 0x08) _ _ h
         (either-done (code == 0x09) _ _ (tabbed s h)
         (either-done (within 0x0A 0x0C code) _ _ (new-line s h)
         (either-done (code == 0x0D) _ _ h
         (either-done (code == 0x0E) _ _ (invoked 1 true s h)
-        (either-done (code == 0x0F) _ (quiet s) (invoked 0 false s h) h))))))
+        (either-done (code == 0x0F) _ (without_out s) (invoked 0 false s h) h))))))
 
     plain-escape-keeps : (last : ℕ) (s : Screen) → HasHalves s → HasHalves (plain_escape last s).screen
     unfolding plain_escape
@@ -290,26 +290,26 @@ module _ (Row : List Cell → Type 0) where
         (either-done (last == 0x37) _ _ (saved s h)
         (either-done (last == 0x38) _ _ (restored s h)
         (either-done (last == 0x3E) _ _ (keypad-set false s h)
-        (either-done (last == 0x3D) _ (quiet s) (keypad-set true s h) h)))))))))
+        (either-done (last == 0x3D) _ (without_out s) (keypad-set true s h) h)))))))))
 
-    pub escape-keeps : (mid last : ℕ) (s : Screen) → HasHalves s → HasHalves (escape mid last s).screen
+    pub escape_keeps : (mid last : ℕ) (s : Screen) → HasHalves s → HasHalves (escape mid last s).screen
     unfolding escape
-    escape-keeps mid last s h =
+    escape_keeps mid last s h =
         either-done (mid == 0) _ _ (plain-escape-keeps last s h)
         (either-done (mid == 0x25) _ _ (coded last s h)
-        (either-done (mid == 0x23) _ _ (either (last == 0x38) (aligned s) s (screen-aligned s h) h)
+        (either-done (mid == 0x23) _ _ (either (last == 0x38) (alignment_pattern s) s (screen-aligned s h) h)
         (either-done (mid == 0x28) _ _ (first-set last s h)
-        (either-done (mid == 0x29) _ (quiet s) (second-set last s h) h))))
+        (either-done (mid == 0x29) _ (without_out s) (second-set last s h) h))))
 
-    pub private-keeps : (params : List ℕ) (last : ℕ) (s : Screen) → HasHalves s → HasHalves (private_sequence params last s).screen
+    pub private_keeps : (params : List ℕ) (last : ℕ) (s : Screen) → HasHalves s → HasHalves (private_sequence params last s).screen
     unfolding private_sequence
-    private-keeps params last s h =
+    private_keeps params last s h =
         either-done (last == 0x68) _ _ (each-keeps (with_private_mode true) (private-mode-set true) params s h)
-        (either-done (last == 0x6C) _ (quiet s) (each-keeps (with_private_mode false) (private-mode-set false) params s h) h)
+        (either-done (last == 0x6C) _ (without_out s) (each-keeps (with_private_mode false) (private-mode-set false) params s h) h)
 
-    pub sequence-keeps : (params : List ℕ) (last : ℕ) (s : Screen) → HasHalves s → HasHalves (control_sequence params last s).screen
+    pub sequence_keeps : (params : List ℕ) (last : ℕ) (s : Screen) → HasHalves s → HasHalves (control_sequence params last s).screen
     unfolding control_sequence
-    sequence-keeps params last s h =
+    sequence_keeps params last s h =
         let n = count_of params in
         let first = number_at params 0 in
         let second = number_at params 1 in
@@ -345,4 +345,4 @@ module _ (Row : List Cell → Type 0) where
         (either-done (last == 0x73) _ _ (saved s h)
         (either-done (last == 0x75) _ _ (restored s h)
         (either-done (last == 0x60) _ _ (cursor-moved y (n - 1) s h)
-        (either-done (last == 0x5D) _ (quiet s) (setting first second s h) h))))))))))))))))))))))))))))))
+        (either-done (last == 0x5D) _ (without_out s) (setting first second s h) h))))))))))))))))))))))))))))))

@@ -4,13 +4,13 @@ use Rattle.std.specs.Prelude.{IsTrue}
 use Rattle.std.proofs.lemmas.Bool.{and_parts, false≢true, leb-true}
 use Rattle.std.proofs.lemmas.Bool.Decides.{eqb_tells}
 use Rattle.vt_cells.specs.Colours.{Rgb}
-use Rattle.vt_screen.specs.Cursor.{at_column, at_row, first_row, linefeed, moved, newline, placed, region_down, region_up, reverse_linefeed, tab}
-use Rattle.vt_screen.specs.Erasing.{above_erased, all_erased, below_erased, cells_deleted, cells_inserted, delete_characters, delete_lines, erase_characters, erase_display, erase_line, in_region, insert_characters, insert_lines, line_end_erased, line_erased, line_start_erased, rows_erased, unwrapped}
-use Rattle.vt_screen.specs.Printing.{codes_drawn, lacks_room, opened, print, put_here, set_down, wrapped}
-use Rattle.vt_screen.specs.Saying.{Done}
+use Rattle.vt_screen.specs.Cursor.{at_column, at_row, first_row, linefeed, cursor_to, newline, cursor_to_in_region, region_down, region_up, reverse_linefeed, tab}
+use Rattle.vt_screen.specs.Erasing.{above_erased, all_erased, below_erased, cells_deleted, cells_inserted, delete_characters, delete_lines, erase_characters, erase_display, erase_line, in_region, insert_characters, insert_lines, line_end_erased, line_erased, line_start_erased, rows_erased, without_pending_wrap}
+use Rattle.vt_screen.specs.Printing.{codes_drawn, lacks_room, with_gap, print, with_cells_at_cursor, with_character, after_wrap}
+use Rattle.vt_screen.specs.Saying.{Effect}
 use Rattle.vt_screen.specs.Screen.{Screen, start_saved, with_state}
 use Rattle.vt_screen.specs.SavedCursor.{saved_of}
-use Rattle.vt_screen.specs.Settings.{aligned, clear_stops, each, invoking, rendered, reset, restore, save, set_stop, with_coding, with_colour, with_g0, with_g1, with_keypad, with_mode, with_private_mode, with_region, with_start_palette}
+use Rattle.vt_screen.specs.Settings.{alignment_pattern, clear_stops, each, after_shift, after_sgr, reset, restore, save, set_stop, with_coding, with_colour, with_g0, with_g1, with_keypad, with_mode, with_private_mode, with_region, with_start_palette}
 use Rattle.vt_screen.specs.declared.saved.Saved.{Saved}
 
 -- the region's rows are rows of the screen, which has a column
@@ -32,16 +32,16 @@ apart n m e h = elim (eqb_tells n m) [
 ]
 
 -- a move goes to the rows that it reaches
-row-in : (o : Bool) (top bottom rows y : ℕ) → top ≤ bottom → bottom < rows → max (cond o top 0) (min y (cond o bottom (rows - 1))) < rows
-row-in true top bottom rows y h k = omega arith
-row-in false top bottom rows y h k = omega arith
+row_in : (o : Bool) (top bottom rows y : ℕ) → top ≤ bottom → bottom < rows → max (cond o top 0) (min y (cond o bottom (rows - 1))) < rows
+row_in true top bottom rows y h k = omega arith
+row_in false top bottom rows y h k = omega arith
 
-row-reached : (o : Bool) (top bottom rows y : ℕ) → top ≤ bottom → IsTrue o → (top ≤ max (cond o top 0) (min y (cond o bottom (rows - 1)))) × (max (cond o top 0) (min y (cond o bottom (rows - 1))) ≤ bottom)
-row-reached true top bottom rows y h o = (omega arith, omega arith)
-row-reached false top bottom rows y h o = absurd (false≢true o)
+row_reached : (o : Bool) (top bottom rows y : ℕ) → top ≤ bottom → IsTrue o → (top ≤ max (cond o top 0) (min y (cond o bottom (rows - 1)))) × (max (cond o top 0) (min y (cond o bottom (rows - 1))) ≤ bottom)
+row_reached true top bottom rows y h o = (omega arith, omega arith)
+row_reached false top bottom rows y h o = absurd (false≢true o)
 
-some-columns : (w : ℕ) → (w == 0) ≡ false → 1 ≤ w
-some-columns w e = let other = apart w 0 e in omega (arith, other)
+some_columns : (w : ℕ) → (w == 0) ≡ false → 1 ≤ w
+some_columns w e = let other = apart w 0 e in omega (arith, other)
 
 module _ (rule : Saved → ℕ → ℕ → Type 0) where
   region-of : (s : Screen) → IsInside rule s → HasRegion s
@@ -56,37 +56,37 @@ module _ (rule : Saved → ℕ → ℕ → Type 0) where
   either-if true s t first second = first refl
   either-if false s t first second = second refl
 
-  pub either-done-if : (test : Bool) (s t : Done) → (test ≡ true → IsInside rule s.screen) → (test ≡ false → IsInside rule t.screen) → IsInside rule (cond test s t).screen
-  either-done-if true s t first second = first refl
-  either-done-if false s t first second = second refl
+  pub either_done_if : (test : Bool) (s t : Effect) → (test ≡ true → IsInside rule s.screen) → (test ≡ false → IsInside rule t.screen) → IsInside rule (cond test s t).screen
+  either_done_if true s t first second = first refl
+  either_done_if false s t first second = second refl
 
-  pub either-done : (test : Bool) (s t : Done) → IsInside rule s.screen → IsInside rule t.screen → IsInside rule (cond test s t).screen
-  either-done true s t first second = first
-  either-done false s t first second = second
+  pub either_done : (test : Bool) (s t : Effect) → IsInside rule s.screen → IsInside rule t.screen → IsInside rule (cond test s t).screen
+  either_done true s t first second = first
+  either_done false s t first second = second
 
-  cursor-moved-in : (y x : ℕ) (s : Screen) → HasRegion s → rule s.state.saved s.grid.rows s.grid.cols → IsInside rule (moved y x s)
-  unfolding moved IsInside
+  cursor-moved-in : (y x : ℕ) (s : Screen) → HasRegion s → rule s.state.saved s.grid.rows s.grid.cols → IsInside rule (cursor_to y x s)
+  unfolding cursor_to IsInside
   cursor-moved-in y x s h k =
       let c = h.2 in (
-        row-in s.state.origin s.state.top s.state.bottom s.grid.rows y h.0 h.1,
+        row_in s.state.origin s.state.top s.state.bottom s.grid.rows y h.0 h.1,
         omega (arith, c),
         h.0,
         h.1,
-        row-reached s.state.origin s.state.top s.state.bottom s.grid.rows y h.0,
+        row_reached s.state.origin s.state.top s.state.bottom s.grid.rows y h.0,
         k,
       )
 
-  pub cursor-moved : (y x : ℕ) (s : Screen) → IsInside rule s → IsInside rule (moved y x s)
+  pub cursor_cursor_to : (y x : ℕ) (s : Screen) → IsInside rule s → IsInside rule (cursor_to y x s)
   unfolding IsInside
-  cursor-moved y x s h = cursor-moved-in y x s (region-of s h) h.5
+  cursor_cursor_to y x s h = cursor-moved-in y x s (region-of s h) h.5
 
-  cursor-placed-in : (y x : ℕ) (s : Screen) → HasRegion s → rule s.state.saved s.grid.rows s.grid.cols → IsInside rule (placed y x s)
-  unfolding placed IsInside
+  cursor-placed-in : (y x : ℕ) (s : Screen) → HasRegion s → rule s.state.saved s.grid.rows s.grid.cols → IsInside rule (cursor_to_in_region y x s)
+  unfolding cursor_to_in_region IsInside
   cursor-placed-in y x s h k = cursor-moved-in (first_row s + y) x s h k
 
-  pub cursor-placed : (y x : ℕ) (s : Screen) → IsInside rule s → IsInside rule (placed y x s)
+  pub cursor_cursor_to_in_region : (y x : ℕ) (s : Screen) → IsInside rule s → IsInside rule (cursor_to_in_region y x s)
   unfolding IsInside
-  cursor-placed y x s h = cursor-placed-in y x s (region-of s h) h.5
+  cursor_cursor_to_in_region y x s h = cursor-placed-in y x s (region-of s h) h.5
 
   -- what moves the cursor and scrolls
   region-up : (s : Screen) → IsInside rule s → IsInside rule (region_up s)
@@ -97,9 +97,9 @@ module _ (rule : Saved → ℕ → ℕ → Type 0) where
   unfolding IsInside
   region-down s h = h
 
-  pub line-feed : (s : Screen) → IsInside rule s → IsInside rule (linefeed s)
+  pub line_feed : (s : Screen) → IsInside rule s → IsInside rule (linefeed s)
   unfolding IsInside
-  line-feed s h =
+  line_feed s h =
       either-if (s.state.y == s.state.bottom) (region_up s) (at_row (min (s.state.y + 1) (s.grid.rows - 1)) s) (λ _. region-up s h)
       (λ e.
       let other = apart s.state.y s.state.bottom e in
@@ -116,9 +116,9 @@ module _ (rule : Saved → ℕ → ℕ → Type 0) where
         h.5,
       ))
 
-  pub reverse-line-feed : (s : Screen) → IsInside rule s → IsInside rule (reverse_linefeed s)
+  pub reverse_line_feed : (s : Screen) → IsInside rule s → IsInside rule (reverse_linefeed s)
   unfolding IsInside
-  reverse-line-feed s h =
+  reverse_line_feed s h =
       either-if (s.state.y == s.state.top) (region_down s) (at_row (s.state.y - 1) s) (λ _. region-down s h)
       (λ e.
       let other = apart s.state.y s.state.top e in
@@ -134,18 +134,18 @@ module _ (rule : Saved → ℕ → ℕ → Type 0) where
         h.5,
       ))
 
-  pub to-column : (x : ℕ) (s : Screen) → x < s.grid.cols → IsInside rule s → IsInside rule (at_column x s)
+  pub to_column : (x : ℕ) (s : Screen) → x < s.grid.cols → IsInside rule s → IsInside rule (at_column x s)
   unfolding IsInside
-  to-column x s there h = (h.0, there, h.2, h.3, h.4, h.5)
+  to_column x s there h = (h.0, there, h.2, h.3, h.4, h.5)
 
-  pub first-column : (s : Screen) → IsInside rule s → IsInside rule (at_column 0 s)
+  pub first_column : (s : Screen) → IsInside rule s → IsInside rule (at_column 0 s)
   unfolding IsInside
-  first-column s h = let x = h.1 in to-column 0 s (omega (arith, x)) h
+  first_column s h = let x = h.1 in to_column 0 s (omega (arith, x)) h
 
-  pub new-line : (s : Screen) → IsInside rule s → IsInside rule (newline s)
+  pub new_line : (s : Screen) → IsInside rule s → IsInside rule (newline s)
   unfolding IsInside
-  new-line s h =
-      line-feed (cond s.state.newline (at_column 0 s) s) (either s.state.newline (at_column 0 s) s (first-column s h) h)
+  new_line s h =
+      line_feed (cond s.state.newline (at_column 0 s) s) (either s.state.newline (at_column 0 s) s (first_column s h) h)
 
   -- what erases, inserts and deletes
   line-erased : (x0 x1 : ℕ) (s : Screen) → IsInside rule s → IsInside rule (line_erased x0 x1 s)
@@ -172,58 +172,58 @@ module _ (rule : Saved → ℕ → ℕ → Type 0) where
   unfolding IsInside
   line-start s h = line-erased 0 s.state.x s h
 
-  pub display-erased : (which : ℕ) (s : Screen) → IsInside rule s → IsInside rule (erase_display which s)
+  pub display_erased : (which : ℕ) (s : Screen) → IsInside rule s → IsInside rule (erase_display which s)
   unfolding erase_display IsInside
-  display-erased which s h =
+  display_erased which s h =
       let low = line_end_erased s in
       let high = line_start_erased s in
-      either (which == 0) (unwrapped (below_erased low)) _
+      either (which == 0) (without_pending_wrap (below_erased low)) _
       (rows-erased (low.state.y + 1) (low.grid.rows - (low.state.y + 1)) low (line-end s h))
-      (either (which == 1) (unwrapped (above_erased high)) _
+      (either (which == 1) (without_pending_wrap (above_erased high)) _
       (rows-erased 0 high.state.y high (line-start s h))
-      (either (which == 2 || which == 3) (unwrapped (all_erased s)) s (rows-erased 0 s.grid.rows s h) h))
+      (either (which == 2 || which == 3) (without_pending_wrap (all_erased s)) s (rows-erased 0 s.grid.rows s h) h))
 
-  pub row-erased : (which : ℕ) (s : Screen) → IsInside rule s → IsInside rule (erase_line which s)
+  pub row_erased : (which : ℕ) (s : Screen) → IsInside rule s → IsInside rule (erase_line which s)
   unfolding erase_line IsInside
-  row-erased which s h =
-      either (which == 0) (unwrapped (line_end_erased s)) _ (line-end s h)
-      (either (which == 1) (unwrapped (line_start_erased s)) _ (line-start s h)
-      (either (which == 2) (unwrapped (line_erased 0 (s.grid.cols - 1) s)) s (line-erased 0 (s.grid.cols - 1) s h) h))
+  row_erased which s h =
+      either (which == 0) (without_pending_wrap (line_end_erased s)) _ (line-end s h)
+      (either (which == 1) (without_pending_wrap (line_start_erased s)) _ (line-start s h)
+      (either (which == 2) (without_pending_wrap (line_erased 0 (s.grid.cols - 1) s)) s (line-erased 0 (s.grid.cols - 1) s h) h))
 
-  pub characters-erased : (n : ℕ) (s : Screen) → IsInside rule s → IsInside rule (erase_characters n s)
+  pub characters_erased : (n : ℕ) (s : Screen) → IsInside rule s → IsInside rule (erase_characters n s)
   unfolding erase_characters IsInside
-  characters-erased n s h = line-erased s.state.x (min (s.state.x + n - 1) (s.grid.cols - 1)) s h
+  characters_erased n s h = line-erased s.state.x (min (s.state.x + n - 1) (s.grid.cols - 1)) s h
 
-  pub characters-inserted : (n : ℕ) (s : Screen) → IsInside rule s → IsInside rule (insert_characters n s)
+  pub characters_inserted : (n : ℕ) (s : Screen) → IsInside rule s → IsInside rule (insert_characters n s)
   unfolding insert_characters IsInside
-  characters-inserted n s h = cells-inserted n s h
+  characters_inserted n s h = cells-inserted n s h
 
-  pub characters-deleted : (n : ℕ) (s : Screen) → IsInside rule s → IsInside rule (delete_characters n s)
+  pub characters_deleted : (n : ℕ) (s : Screen) → IsInside rule s → IsInside rule (delete_characters n s)
   unfolding delete_characters IsInside
-  characters-deleted n s h = cells-deleted n s h
+  characters_deleted n s h = cells-deleted n s h
 
-  pub lines-inserted : (n : ℕ) (s : Screen) → IsInside rule s → IsInside rule (insert_lines n s)
+  pub lines_inserted : (n : ℕ) (s : Screen) → IsInside rule s → IsInside rule (insert_lines n s)
   unfolding insert_lines IsInside
-  lines-inserted n s h = either (in_region s) _ s h h
+  lines_inserted n s h = either (in_region s) _ s h h
 
-  pub lines-deleted : (n : ℕ) (s : Screen) → IsInside rule s → IsInside rule (delete_lines n s)
+  pub lines_deleted : (n : ℕ) (s : Screen) → IsInside rule s → IsInside rule (delete_lines n s)
   unfolding delete_lines IsInside
-  lines-deleted n s h = either (in_region s) _ s h h
+  lines_deleted n s h = either (in_region s) _ s h h
 
   -- what makes the screen anew
-  pub screen-reset : (s : Screen) → IsInside rule s → rule start_saved s.grid.rows s.grid.cols → IsInside rule (reset s)
+  pub screen_reset : (s : Screen) → IsInside rule s → rule start_saved s.grid.rows s.grid.cols → IsInside rule (reset s)
   unfolding reset IsInside
-  screen-reset s h k =
+  screen_reset s h k =
       let y = h.0 in
       let x = h.1 in
       (omega (arith, y), omega (arith, x), omega arith, omega (arith, y), λ o. absurd (false≢true o), k)
 
-  pub screen-aligned : (s : Screen) → IsInside rule s → IsInside rule (aligned s)
-  unfolding aligned IsInside
-  screen-aligned s h = h
+  pub screen_alignment_pattern : (s : Screen) → IsInside rule s → IsInside rule (alignment_pattern s)
+  unfolding alignment_pattern IsInside
+  screen_alignment_pattern s h = h
 
   -- printing
-  put : (codes : List ℕ) (s : Screen) → IsInside rule s → IsInside rule (put_here codes s)
+  put : (codes : List ℕ) (s : Screen) → IsInside rule s → IsInside rule (with_cells_at_cursor codes s)
   unfolding IsInside
   put codes s h = (h.0, by (nat_lt (s.state.x + length codes) s.grid.cols) refl, h.2, h.3, h.4, h.5)
     where
@@ -231,67 +231,67 @@ module _ (rule : Saved → ℕ → ℕ → Type 0) where
       by true e = ltb-true (s.state.x + length codes) s.grid.cols e
       by false e = let x = h.1 in omega (arith, x)
 
-  wrapped-in : (w : ℕ) (s : Screen) → 1 ≤ w → IsInside rule s → IsInside rule (wrapped w s)
+  wrapped-in : (w : ℕ) (s : Screen) → 1 ≤ w → IsInside rule s → IsInside rule (after_wrap w s)
   unfolding IsInside
   wrapped-in w s some h =
       let x = h.1 in
-      either (s.state.autowrap && (s.state.wrap || lacks_room w s)) (linefeed (at_column 0 s)) _ (line-feed (at_column 0 s) (first-column s h))
-      (either (lacks_room w s) (at_column (s.grid.cols - w) s) s (to-column (s.grid.cols - w) s (omega (arith, some, x)) h) h)
+      either (s.state.autowrap && (s.state.wrap || lacks_room w s)) (linefeed (at_column 0 s)) _ (line_feed (at_column 0 s) (first_column s h))
+      (either (lacks_room w s) (at_column (s.grid.cols - w) s) s (to_column (s.grid.cols - w) s (omega (arith, some, x)) h) h)
 
-  set-down : (w code : ℕ) (s : Screen) → 1 ≤ w → IsInside rule s → IsInside rule (set_down w code s)
+  set-down : (w code : ℕ) (s : Screen) → 1 ≤ w → IsInside rule s → IsInside rule (with_character w code s)
   unfolding IsInside
   set-down w code s some h =
-      let there = wrapped w s in
+      let there = after_wrap w s in
       let there_is : IsInside rule there = wrapped-in w s some h in
-      put (codes_drawn w code) (opened w there) (either there.state.insert (cells_inserted w there) there (cells-inserted w there there_is) there_is)
+      put (codes_drawn w code) (with_gap w there) (either there.state.insert (cells_inserted w there) there (cells-inserted w there there_is) there_is)
 
-  pub printed-once : (w code : ℕ) (s : Screen) → IsInside rule s → IsInside rule (print w code s)
+  pub printed_once : (w code : ℕ) (s : Screen) → IsInside rule s → IsInside rule (print w code s)
   unfolding print IsInside
-  printed-once w code s h =
+  printed_once w code s h =
       either-if (w == 0) s _ (λ _. h)
-      (λ e. either (w == 2 && s.grid.cols == 1) (set_down 1 0xFFFD s) (set_down w code s) (set-down 1 0xFFFD s (omega arith) h) (set-down w code s (some-columns w e) h))
+      (λ e. either (w == 2 && s.grid.cols == 1) (with_character 1 0xFFFD s) (with_character w code s) (set-down 1 0xFFFD s (omega arith) h) (set-down w code s (some_columns w e) h))
 
   -- what changes the state alone
   pub tabbed : (s : Screen) → IsInside rule s → IsInside rule (tab s)
   unfolding tab IsInside
   tabbed s h = let x = h.1 in (h.0, omega (arith, x), h.2, h.3, h.4, h.5)
 
-  pub invoked : (shift : ℕ) (display : Bool) (s : Screen) → IsInside rule s → IsInside rule (invoking shift display s)
-  unfolding invoking IsInside
+  pub invoked : (shift : ℕ) (display : Bool) (s : Screen) → IsInside rule s → IsInside rule (after_shift shift display s)
+  unfolding after_shift IsInside
   invoked shift display s h = h
 
   pub coded : (last : ℕ) (s : Screen) → IsInside rule s → IsInside rule (with_coding last s)
   unfolding with_coding IsInside
   coded last s h = either (last == 0x40) _ _ h (either (last == 0x47) _ _ h (either (last == 0x38) _ s h h))
 
-  pub first-set : (last : ℕ) (s : Screen) → IsInside rule s → IsInside rule (with_g0 last s)
+  pub first_set : (last : ℕ) (s : Screen) → IsInside rule s → IsInside rule (with_g0 last s)
   unfolding with_g0 IsInside
-  first-set last s h = h
+  first_set last s h = h
 
-  pub second-set : (last : ℕ) (s : Screen) → IsInside rule s → IsInside rule (with_g1 last s)
+  pub second_set : (last : ℕ) (s : Screen) → IsInside rule s → IsInside rule (with_g1 last s)
   unfolding with_g1 IsInside
-  second-set last s h = h
+  second_set last s h = h
 
-  pub stop-set : (s : Screen) → IsInside rule s → IsInside rule (set_stop s)
+  pub stop_set : (s : Screen) → IsInside rule s → IsInside rule (set_stop s)
   unfolding set_stop IsInside
-  stop-set s h = h
+  stop_set s h = h
 
-  pub stops-cleared : (which : ℕ) (s : Screen) → IsInside rule s → IsInside rule (clear_stops which s)
+  pub stops_cleared : (which : ℕ) (s : Screen) → IsInside rule s → IsInside rule (clear_stops which s)
   unfolding clear_stops IsInside
-  stops-cleared which s h = either (which == 0) _ _ h (either (which == 3) _ s h h)
+  stops_cleared which s h = either (which == 0) _ _ h (either (which == 3) _ s h h)
 
-  pub keypad-set : (on : Bool) (s : Screen) → IsInside rule s → IsInside rule (with_keypad on s)
+  pub keypad_set : (on : Bool) (s : Screen) → IsInside rule s → IsInside rule (with_keypad on s)
   unfolding with_keypad IsInside
-  keypad-set on s h = h
+  keypad_set on s h = h
 
-  pub each-keeps : (f : ℕ → Screen → Screen) → ((n : ℕ) (s : Screen) → IsInside rule s → IsInside rule (f n s))
+  pub each_keeps : (f : ℕ → Screen → Screen) → ((n : ℕ) (s : Screen) → IsInside rule s → IsInside rule (f n s))
       → (numbers : List ℕ) (s : Screen) → IsInside rule s → IsInside rule (each f numbers s)
-  each-keeps f keeps [] s h = h
-  each-keeps f keeps (n ∷ numbers) s h = each-keeps f keeps numbers (f n s) (keeps n s h)
+  each_keeps f keeps [] s h = h
+  each_keeps f keeps (n ∷ numbers) s h = each_keeps f keeps numbers (f n s) (keeps n s h)
 
-  pub mode-set : (on : Bool) (n : ℕ) (s : Screen) → IsInside rule s → IsInside rule (with_mode on n s)
+  pub mode_set : (on : Bool) (n : ℕ) (s : Screen) → IsInside rule s → IsInside rule (with_mode on n s)
   unfolding with_mode IsInside
-  mode-set on n s h = either (n == 3) _ _ h (either (n == 4) _ _ h (either (n == 20) _ s h h))
+  mode_set on n s h = either (n == 3) _ _ h (either (n == 4) _ _ h (either (n == 20) _ s h h))
 
   -- a mode on or off
   key-mode : (on : Bool) (s : Screen) → IsInside rule s → IsInside rule (with_state s (record s.state { cursor = on }))
@@ -302,7 +302,7 @@ module _ (rule : Saved → ℕ → ℕ → Type 0) where
   unfolding IsInside
   reversed on s h = h
 
-  origin-set : (on : Bool) (s : Screen) → IsInside rule s → IsInside rule (placed 0 0 (with_state s (record s.state { origin = on })))
+  origin-set : (on : Bool) (s : Screen) → IsInside rule s → IsInside rule (cursor_to_in_region 0 0 (with_state s (record s.state { origin = on })))
   unfolding IsInside
   origin-set on s h = cursor-placed-in 0 0 (with_state s (record s.state { origin = on })) (region-of s h) h.5
 
@@ -318,9 +318,9 @@ module _ (rule : Saved → ℕ → ℕ → Type 0) where
   unfolding IsInside
   shows on s h = h
 
-  pub private-mode-set : (on : Bool) (n : ℕ) (s : Screen) → IsInside rule s → IsInside rule (with_private_mode on n s)
+  pub private_mode_set : (on : Bool) (n : ℕ) (s : Screen) → IsInside rule s → IsInside rule (with_private_mode on n s)
   unfolding with_private_mode
-  private-mode-set on n s h =
+  private_mode_set on n s h =
       either (n == 1) _ _ (key-mode on s h)
       (either (n == 5) _ _ (reversed on s h)
       (either (n == 6) _ _ (origin-set on s h)
@@ -328,9 +328,9 @@ module _ (rule : Saved → ℕ → ℕ → Type 0) where
       (either (n == 8) _ _ (repeats on s h)
       (either (n == 25) _ s (shows on s h) h)))))
 
-  pub region-set : (t b : ℕ) (s : Screen) → IsInside rule s → IsInside rule (with_region t b s)
+  pub region_set : (t b : ℕ) (s : Screen) → IsInside rule s → IsInside rule (with_region t b s)
   unfolding with_region IsInside
-  region-set t b s h =
+  region_set t b s h =
       let last = cond (b == 0) s.grid.rows b in
       either-if (nat_lt t last && nat_le last s.grid.rows) _ s
       (λ e.
@@ -341,13 +341,13 @@ module _ (rule : Saved → ℕ → ℕ → Type 0) where
       cursor-placed-in 0 0 _ (omega (arith, low), omega (arith, low, high), omega (arith, x)) h.5)
       (λ _. h)
 
-  pub pen-set : (params : List ℕ) (s : Screen) → IsInside rule s → IsInside rule (rendered params s)
-  unfolding rendered IsInside
-  pen-set params s h = h
+  pub pen_set : (params : List ℕ) (s : Screen) → IsInside rule s → IsInside rule (after_sgr params s)
+  unfolding after_sgr IsInside
+  pen_set params s h = h
 
-  pub cursor-saved : (s : Screen) → IsInside rule s → rule (saved_of s) s.grid.rows s.grid.cols → IsInside rule (save s)
+  pub cursor_saved : (s : Screen) → IsInside rule s → rule (saved_of s) s.grid.rows s.grid.cols → IsInside rule (save s)
   unfolding save IsInside
-  cursor-saved s h k = (h.0, h.1, h.2, h.3, h.4, k)
+  cursor_saved s h k = (h.0, h.1, h.2, h.3, h.4, k)
 
   pub restored : (s : Screen) → IsInside rule s → IsInside rule (restore s)
   unfolding restore IsInside
@@ -357,6 +357,6 @@ module _ (rule : Saved → ℕ → ℕ → Type 0) where
   unfolding with_colour IsInside
   coloured n rgb s h = either (nat_lt n 16) _ s h h
 
-  pub colours-reset : (s : Screen) → IsInside rule s → IsInside rule (with_start_palette s)
+  pub colours_reset : (s : Screen) → IsInside rule s → IsInside rule (with_start_palette s)
   unfolding with_start_palette IsInside
-  colours-reset s h = h
+  colours_reset s h = h

@@ -7,8 +7,8 @@ use Rattle.std.specs.List.{prefix_len}
 use Rattle.vt_screen.specs.Cursor.{at_column, linefeed}
 use Rattle.vt_screen.specs.Effect.{effect}
 use Rattle.vt_cells.specs.Width.{columns}
-use Rattle.vt_screen.specs.Printing.{lacks_room, print, print_character, printed, set_down, wrapped}
-use Rattle.vt_screen.specs.Run.{Drawn, drawing, having_said, then_done}
+use Rattle.vt_screen.specs.Printing.{lacks_room, print, print_character, print_characters, with_character, after_wrap}
+use Rattle.vt_screen.specs.Run.{ScreenAndOuts, screen_effects, with_outs, then_done}
 use Rattle.vt_screen.specs.Screen.{Screen, mode_of}
 use Rattle.vt_screen.specs.declared.out.Out.{Out}
 use Rattle.vt_units.specs.Answer.{answer, rest_after}
@@ -16,33 +16,33 @@ use Rattle.vt_units.specs.Bytes.{decodes, is_printable}
 use Rattle.vt_units.specs.Laws.{PrintablesAreCharacters}
 use Rattle.vt_units.specs.Reading.{is_empty}
 use Rattle.vt_units.specs.Rest.{Rest, fresh}
-use Rattle.vt_units.specs.Run.{effects_of, reached, run}
+use Rattle.vt_units.specs.Run.{effects_of, make_reached, run}
 use Rattle.vt_units.specs.declared.mode.Mode.{Mode}
 use Rattle.vt_units.specs.declared.read.Read.{Read}
 use Rattle.vt_units.specs.declared.unit.Unit as units
 
-pub either-mode : (test : Bool) (s t : Screen) (m : Mode) → mode_of s ≡ m → mode_of t ≡ m
+pub either_mode : (test : Bool) (s t : Screen) (m : Mode) → mode_of s ≡ m → mode_of t ≡ m
     → mode_of (cond test s t) ≡ m
-either-mode true s t m first second = first
-either-mode false s t m first second = second
+either_mode true s t m first second = first
+either_mode false s t m first second = second
 
 -- a print leaves the mode
-set_down-mode : (w code : ℕ) (s : Screen) → mode_of (set_down w code s) ≡ mode_of s
-set_down-mode w code s =
+with_character_mode : (w code : ℕ) (s : Screen) → mode_of (with_character w code s) ≡ mode_of s
+with_character_mode w code s =
     let first : Screen = at_column 0 s in
     let line : mode_of (linefeed first) ≡ mode_of s =
-    either-mode (first.state.y == first.state.bottom) _ _ (mode_of s) refl refl in
+    either_mode (first.state.y == first.state.bottom) _ _ (mode_of s) refl refl in
     let near : mode_of (cond (lacks_room w s) (at_column (s.grid.cols - w) s) s) ≡ mode_of s =
-    either-mode (lacks_room w s) _ _ (mode_of s) refl refl in
-    let after : mode_of (wrapped w s) ≡ mode_of s =
-    either-mode (s.state.autowrap && (s.state.wrap || lacks_room w s)) (linefeed first) _ (mode_of s) line near in
-    either-mode (wrapped w s).state.insert _ (wrapped w s) (mode_of s) after after
+    either_mode (lacks_room w s) _ _ (mode_of s) refl refl in
+    let after : mode_of (after_wrap w s) ≡ mode_of s =
+    either_mode (s.state.autowrap && (s.state.wrap || lacks_room w s)) (linefeed first) _ (mode_of s) line near in
+    either_mode (after_wrap w s).state.insert _ (after_wrap w s) (mode_of s) after after
 
-pub print-mode : (w code : ℕ) (s : Screen) → mode_of (print w code s) ≡ mode_of s
+pub print_mode : (w code : ℕ) (s : Screen) → mode_of (print w code s) ≡ mode_of s
 unfolding print
-print-mode w code s =
-    either-mode (w == 0) s _ (mode_of s) refl
-    (either-mode (w == 2 && s.grid.cols == 1) _ _ (mode_of s) (set_down-mode 1 0xFFFD s) (set_down-mode w code s))
+print_mode w code s =
+    either_mode (w == 0) s _ (mode_of s) refl
+    (either_mode (w == 2 && s.grid.cols == 1) _ _ (mode_of s) (with_character_mode 1 0xFFFD s) (with_character_mode w code s))
 
 -- each byte is printable
 abbrev pub AllPrintable : List ℕ → Type 0
@@ -54,35 +54,35 @@ abbrev pub rest_behind : List ℕ → Mode → Rest → Rest
 rest_behind [] m old = old
 rest_behind (b ∷ bytes) m old = fresh m
 
-pub fresh-behind : (bytes : List ℕ) (m : Mode) → rest_behind bytes m (fresh m) ≡ fresh m
-fresh-behind [] m = refl
-fresh-behind (b ∷ bytes) m = refl
+pub fresh_behind : (bytes : List ℕ) (m : Mode) → rest_behind bytes m (fresh m) ≡ fresh m
+fresh_behind [] m = refl
+fresh_behind (b ∷ bytes) m = refl
 
-pub printables-run : PrintablesAreCharacters → (bytes : List ℕ) (outs : List Out) (s : Screen) (rest : Rest)
+pub printables_run : PrintablesAreCharacters → (bytes : List ℕ) (outs : List Out) (s : Screen) (rest : Rest)
     → AllPrintable bytes → rest.text ≡ [] → decodes (mode_of s) ≡ true
-    → run drawing bytes (having_said outs (reached s rest))
-    ≡ having_said outs (reached (printed bytes s) (rest_behind bytes (mode_of s) rest))
-printables-run law [] outs s rest all nothing decoding = refl
-printables-run law (b ∷ bytes) outs s rest all nothing decoding =
+    → run screen_effects bytes (with_outs outs (make_reached s rest))
+    ≡ with_outs outs (make_reached (print_characters bytes s) (rest_behind bytes (mode_of s) rest))
+printables_run law [] outs s rest all nothing decoding = refl
+printables_run law (b ∷ bytes) outs s rest all nothing decoding =
     let m : Mode = mode_of s in
     let one = law rest m b nothing decoding all.0 in
-    let start : Drawn = record { screen = s; outs = outs } in
+    let start : ScreenAndOuts = record { screen = s; outs = outs } in
     let quiet : then_done (effect (units.Unit.Char b)) start ≡ record { screen = print_character b s; outs = outs } =
     ap (λ (o : List Out). record { screen = print_character b s; outs = o }) (append-nil outs) in
-    let same : mode_of (print_character b s) ≡ m = print-mode (columns b) b s in
+    let same : mode_of (print_character b s) ≡ m = print_mode (columns b) b s in
     let rests : rest_behind bytes (mode_of (print_character b s)) (fresh m) ≡ fresh m =
-    ap (λ (n : Mode). rest_behind bytes n (fresh m)) same ∙ fresh-behind bytes m in
-    let first : reached (effects_of drawing (answer rest m b) start) (rest_after rest m b)
-    ≡ having_said outs (reached (print_character b s) (fresh m)) =
-    ap (λ (r : Read). reached (effects_of drawing r start) (rest_after rest m b)) one.0
-    ∙ (λ i. reached (quiet i) (one.1 i)) in
-    ap (run drawing bytes) first
-    ∙ printables-run law bytes outs (print_character b s) (fresh m) all.1 refl (ap decodes same ∙ decoding)
-    ∙ ap (λ (r : Rest). having_said outs (reached (printed bytes (print_character b s)) r)) rests
+    ap (λ (n : Mode). rest_behind bytes n (fresh m)) same ∙ fresh_behind bytes m in
+    let first : make_reached (effects_of screen_effects (answer rest m b) start) (rest_after rest m b)
+    ≡ with_outs outs (make_reached (print_character b s) (fresh m)) =
+    ap (λ (r : Read). make_reached (effects_of screen_effects r start) (rest_after rest m b)) one.0
+    ∙ (λ i. make_reached (quiet i) (one.1 i)) in
+    ap (run screen_effects bytes) first
+    ∙ printables_run law bytes outs (print_character b s) (fresh m) all.1 refl (ap decodes same ∙ decoding)
+    ∙ ap (λ (r : Rest). with_outs outs (make_reached (print_characters bytes (print_character b s)) r)) rests
 
-pub prefix-printable : (bytes : List ℕ) → AllPrintable (take (prefix_len is_printable bytes) bytes)
-prefix-printable [] = tt
-prefix-printable (b ∷ bytes) = by (is_printable b) refl (prefix-printable bytes)
+pub prefix_printable : (bytes : List ℕ) → AllPrintable (take (prefix_len is_printable bytes) bytes)
+prefix_printable [] = tt
+prefix_printable (b ∷ bytes) = by (is_printable b) refl (prefix_printable bytes)
   where
     by : (test : Bool) → is_printable b ≡ test → AllPrintable (take (prefix_len is_printable bytes) bytes)
         → AllPrintable (take (prefix_len is_printable (b ∷ bytes)) (b ∷ bytes))
@@ -99,50 +99,50 @@ prefix-printable (b ∷ bytes) = by (is_printable b) refl (prefix-printable byte
         subst (λ (n : ℕ). AllPrintable (take n (b ∷ bytes))) (sym none) tt
 
 -- the first of the first bytes
-pub take-short : (n k : ℕ) (xs : List ℕ) → n ≤ length (take k xs) → take n xs ≡ take n (take k xs)
-take-short zero k xs within = refl
-take-short (suc n) zero xs within = absurd (omega (arith, within))
-take-short (suc n) (suc k) [] within = refl
-take-short (suc n) (suc k) (x ∷ xs) within =
-    ap (λ (ys : List ℕ). x ∷ ys) (take-short n k xs (omega (arith, within)))
+pub take_short : (n k : ℕ) (xs : List ℕ) → n ≤ length (take k xs) → take n xs ≡ take n (take k xs)
+take_short zero k xs within = refl
+take_short (suc n) zero xs within = absurd (omega (arith, within))
+take_short (suc n) (suc k) [] within = refl
+take_short (suc n) (suc k) (x ∷ xs) within =
+    ap (λ (ys : List ℕ). x ∷ ys) (take_short n k xs (omega (arith, within)))
 
-rest-is : (count : ℕ) (text : List ℕ) (m : Mode) (old : Rest) → count ≤ length text
+rest_is : (count : ℕ) (text : List ℕ) (m : Mode) (old : Rest) → count ≤ length text
     → rest_behind (take count text) m old ≡ (if count == 0 then old else fresh m)
-rest-is zero text m old within = refl
-rest-is (suc n) [] m old within = absurd (omega (arith, within))
-rest-is (suc n) (b ∷ text) m old within =
+rest_is zero text m old within = refl
+rest_is (suc n) [] m old within = absurd (omega (arith, within))
+rest_is (suc n) (b ∷ text) m old within =
     let some : (suc n == 0) ≡ false = grind (arith, nat_tests) in
     sym (cond-false (suc n == 0) old (fresh m) some)
 
-pub empty-is : (text : List ℕ) → is_empty text ≡ true → text ≡ []
-empty-is [] is = refl
-empty-is (b ∷ text) is = absurd (let e : ⊥ = cc in e)
+pub empty_is : (text : List ℕ) → is_empty text ≡ true → text ≡ []
+empty_is [] is = refl
+empty_is (b ∷ text) is = absurd (let e : ⊥ = cc in e)
 
 -- the printable bytes at the front of a text, as they are taken
-pub front-runs : PrintablesAreCharacters → (text : List ℕ) (count : ℕ) (outs : List Out) (s : Screen) (rest new : Rest)
+pub front_runs : PrintablesAreCharacters → (text : List ℕ) (count : ℕ) (outs : List Out) (s : Screen) (rest new : Rest)
     (m : Mode) → m ≡ mode_of s
     → count ≡ (if is_empty rest.text && decodes m then prefix_len is_printable text else 0)
     → count ≤ length text → new ≡ (if count == 0 then rest else fresh m)
-    → run drawing (take count text) (having_said outs (reached s rest))
-    ≡ having_said outs (reached (printed (take count text) s) new)
-front-runs law text count outs s rest new m mode is within left = by (is_empty rest.text && decodes m) refl
+    → run screen_effects (take count text) (with_outs outs (make_reached s rest))
+    ≡ with_outs outs (make_reached (print_characters (take count text) s) new)
+front_runs law text count outs s rest new m mode is within left = by (is_empty rest.text && decodes m) refl
   where
     by : (test : Bool) → (is_empty rest.text && decodes m) ≡ test
-        → run drawing (take count text) (having_said outs (reached s rest))
-        ≡ having_said outs (reached (printed (take count text) s) new)
+        → run screen_effects (take count text) (with_outs outs (make_reached s rest))
+        ≡ with_outs outs (make_reached (print_characters (take count text) s) new)
     by true both =
         let parts = and_parts (is_empty rest.text) (decodes m) both in
         let len : count ≡ prefix_len is_printable text = is ∙ cond-true _ _ _ both in
         let all : AllPrintable (take count text) =
-        subst (λ (n : ℕ). AllPrintable (take n text)) (sym len) (prefix-printable text) in
-        printables-run law (take count text) outs s rest all (empty-is rest.text parts.0)
+        subst (λ (n : ℕ). AllPrintable (take n text)) (sym len) (prefix_printable text) in
+        printables_run law (take count text) outs s rest all (empty_is rest.text parts.0)
         (ap decodes (sym mode) ∙ parts.1)
-        ∙ ap (λ (r : Rest). having_said outs (reached (printed (take count text) s) r))
+        ∙ ap (λ (r : Rest). with_outs outs (make_reached (print_characters (take count text) s) r))
         (ap (λ (n : Mode). rest_behind (take count text) n rest) (sym mode)
-        ∙ rest-is count text m rest within ∙ sym left)
+        ∙ rest_is count text m rest within ∙ sym left)
     by false other =
         let none : count ≡ 0 = is ∙ cond-false _ _ _ other in
         let stays : new ≡ rest = left ∙ ap (λ (n : ℕ). if n == 0 then rest else fresh m) none in
         let nothing : take count text ≡ [] = ap (λ (n : ℕ). take n text) none in
-        ap (λ (bytes : List ℕ). run drawing bytes (having_said outs (reached s rest))) nothing
-        ∙ (λ i. having_said outs (reached (printed (sym nothing i) s) (sym stays i)))
+        ap (λ (bytes : List ℕ). run screen_effects bytes (with_outs outs (make_reached s rest))) nothing
+        ∙ (λ i. with_outs outs (make_reached (print_characters (sym nothing i) s) (sym stays i)))

@@ -5,19 +5,19 @@ use Rattle.std.proofs.lemmas.Bool.{cases_lt, cond-true}
 use Rattle.std.proofs.lemmas.List.{append_assoc, append-nil, drop_all, drop-append-le, drop-drop, length-append, length-drop, length-replicate, length-take}
 use Rattle.std.specs.Prelude.{All, min, not, ◌||◌}
 use Rattle.vt_cells.specs.declared.cell.Cell.{Cell}
-use Rattle.vt_grid.specs.Grid.{Sheet, moved_up, scrolled_up}
-use Rattle.vt_screen.proofs.Printed.{either-mode, fresh-behind, rest_behind}
+use Rattle.vt_grid.specs.Grid.{GridView, moved_up, scrolled_up}
+use Rattle.vt_screen.proofs.Printed.{either_mode, fresh_behind, rest_behind}
 use Rattle.vt_screen.specs.Cursor.{at_column, at_row, linefeed, newline, newlines, region_up}
 use Rattle.vt_screen.specs.Effect.{control, effect}
-use Rattle.vt_screen.specs.Run.{Drawn, drawing, having_said, listed, then_done}
-use Rattle.vt_screen.specs.Saying.{Done, quiet}
+use Rattle.vt_screen.specs.Run.{ScreenAndOuts, screen_effects, with_outs, outs_of_option, then_done}
+use Rattle.vt_screen.specs.Saying.{Effect, without_out}
 use Rattle.vt_screen.specs.Screen.{Screen, blank_of, mode_of}
 use Rattle.vt_screen.specs.declared.out.Out.{Out}
 use Rattle.vt_units.specs.Answer.{answer, rest_after}
 use Rattle.vt_units.specs.Bytes.{is_control}
 use Rattle.vt_units.specs.Laws.{ControlsAreUnits}
 use Rattle.vt_units.specs.Rest.{Rest, fresh}
-use Rattle.vt_units.specs.Run.{effects_of, reached, run}
+use Rattle.vt_units.specs.Run.{effects_of, make_reached, run}
 use Rattle.vt_units.specs.declared.mode.Mode.{Mode}
 use Rattle.vt_units.specs.declared.read.Read.{Read}
 use Rattle.vt_units.specs.declared.unit.Unit as units
@@ -65,7 +65,7 @@ moved_more n h f rows tall some =
     (cases_lt n h)
 
 -- a region that scrolls by one and then by n
-scrolled_more : (s : Sheet) (top bottom n : ℕ) (c : Cell) → length s.cells ≡ s.rows → top ≤ bottom
+scrolled_more : (s : GridView) (top bottom n : ℕ) (c : Cell) → length s.cells ≡ s.rows → top ≤ bottom
     → bottom < s.rows
     → scrolled_up (scrolled_up s top bottom 1 c) top bottom n c ≡ scrolled_up s top bottom (suc n) c
 scrolled_more s top bottom n c tall order within =
@@ -125,9 +125,9 @@ twice true x = refl
 twice false x = refl
 
 -- the rows stay as many
-scrolled-tall : (s : Screen) → length s.grid.cells ≡ s.grid.rows → s.state.top ≤ s.state.bottom
+scrolled_tall : (s : Screen) → length s.grid.cells ≡ s.grid.rows → s.state.top ≤ s.state.bottom
     → s.state.bottom < s.grid.rows → length (at_once 1 s).grid.cells ≡ s.grid.rows
-scrolled-tall s tall order within =
+scrolled_tall s tall order within =
     let xs : List Row = s.grid.cells in
     let top : ℕ = s.state.top in
     let bottom : ℕ = s.state.bottom in
@@ -159,15 +159,15 @@ one s last =
     by_newline s.state.newline s same
 
 -- each more goes on
-pub all-at-once : (n : ℕ) (s : Screen) → s.state.y ≡ s.state.bottom
+pub all_at_once : (n : ℕ) (s : Screen) → s.state.y ≡ s.state.bottom
     → length s.grid.cells ≡ s.grid.rows → s.state.top ≤ s.state.bottom → s.state.bottom < s.grid.rows
     → newlines (suc n) s ≡ at_once (suc n) s
-all-at-once zero s last tall order within = one s last
-all-at-once (suc n) s last tall order within =
+all_at_once zero s last tall order within = one s last
+all_at_once (suc n) s last tall order within =
     let next : Screen = at_once 1 s in
-    let kept : length next.grid.cells ≡ next.grid.rows = scrolled-tall s tall order within in
+    let kept : length next.grid.cells ≡ next.grid.rows = scrolled_tall s tall order within in
     ap (newlines (suc n)) (one s last)
-    ∙ all-at-once n next last kept order within
+    ∙ all_at_once n next last kept order within
     ∙ (λ i. record {
       grid = scrolled_more s.grid s.state.top s.state.bottom (suc n) (blank_of s) tall order within i;
       state = record s.state {
@@ -177,51 +177,51 @@ all-at-once (suc n) s last tall order within =
     })
 
 -- a line feed leaves the mode
-newline-mode : (s : Screen) → mode_of (newline s) ≡ mode_of s
-newline-mode s =
+newline_mode : (s : Screen) → mode_of (newline s) ≡ mode_of s
+newline_mode s =
     let from : Screen = cond s.state.newline (at_column 0 s) s in
     let same : mode_of from ≡ mode_of s =
-    either-mode s.state.newline (at_column 0 s) s (mode_of s) refl refl in
-    either-mode (from.state.y == from.state.bottom) (region_up from)
+    either_mode s.state.newline (at_column 0 s) s (mode_of s) refl refl in
+    either_mode (from.state.y == from.state.bottom) (region_up from)
     (at_row (min (from.state.y + 1) (from.grid.rows - 1)) from) (mode_of s) same same
 
-control-feed : (s : Screen) → control 0x0A s ≡ quiet (newline s)
+control_feed : (s : Screen) → control 0x0A s ≡ without_out (newline s)
 unfolding control
-control-feed s = refl
+control_feed s = refl
 
 or_true : (b : Bool) → (b || true) ≡ true
 or_true true = refl
 or_true false = refl
 
-feed-controls : (m : Mode) → is_control m 0x0A ≡ true
-feed-controls m = or_true (not m.display)
+feed_controls : (m : Mode) → is_control m 0x0A ≡ true
+feed_controls m = or_true (not m.display)
 
 -- the run of line feeds, where no text is
-pub feeds-run : ControlsAreUnits → (bytes : List ℕ) (outs : List Out) (s : Screen) (rest : Rest)
+pub feeds_run : ControlsAreUnits → (bytes : List ℕ) (outs : List Out) (s : Screen) (rest : Rest)
     → All (λ b. b ≡ 0x0A) bytes → rest.text ≡ []
-    → run drawing bytes (having_said outs (reached s rest))
-    ≡ having_said outs (reached (newlines (length bytes) s) (rest_behind bytes (mode_of s) rest))
-feeds-run law [] outs s rest all nothing = refl
-feeds-run law (b ∷ bytes) outs s rest all nothing =
+    → run screen_effects bytes (with_outs outs (make_reached s rest))
+    ≡ with_outs outs (make_reached (newlines (length bytes) s) (rest_behind bytes (mode_of s) rest))
+feeds_run law [] outs s rest all nothing = refl
+feeds_run law (b ∷ bytes) outs s rest all nothing =
     let m : Mode = mode_of s in
     let feed : ℕ = 0x0A in
-    let one_step = law rest m feed nothing (feed-controls m) refl in
-    let start : Drawn = record { screen = s; outs = outs } in
+    let one_step = law rest m feed nothing (feed_controls m) refl in
+    let start : ScreenAndOuts = record { screen = s; outs = outs } in
     let said : then_done (effect (units.Unit.Control feed)) start ≡ record { screen = newline s; outs = outs } =
-    ap (λ (done : Done). record { screen = done.screen; outs = outs ++ listed done.said }) (control-feed s)
+    ap (λ (done : Effect). record { screen = done.screen; outs = outs ++ outs_of_option done.said }) (control_feed s)
     ∙ ap (λ (o : List Out). record { screen = newline s; outs = o }) (append-nil outs) in
     let rests : rest_behind bytes (mode_of (newline s)) (fresh m) ≡ fresh m =
-    ap (λ (n : Mode). rest_behind bytes n (fresh m)) (newline-mode s) ∙ fresh-behind bytes m in
-    let first : reached (effects_of drawing (answer rest m feed) start) (rest_after rest m feed)
-    ≡ having_said outs (reached (newline s) (fresh m)) =
-    ap (λ (r : Read). reached (effects_of drawing r start) (rest_after rest m feed)) one_step.0
-    ∙ (λ i. reached (said i) (one_step.1 i)) in
-    ap (λ (byte : ℕ). run drawing (byte ∷ bytes) (having_said outs (reached s rest))) (all zero 0 (omega arith))
-    ∙ ap (run drawing bytes) first
-    ∙ feeds-run law bytes outs (newline s) (fresh m) (λ k d within. all (suc k) d (omega (arith, within))) refl
-    ∙ ap (λ (r : Rest). having_said outs (reached (newlines (length bytes) (newline s)) r)) rests
+    ap (λ (n : Mode). rest_behind bytes n (fresh m)) (newline_mode s) ∙ fresh_behind bytes m in
+    let first : make_reached (effects_of screen_effects (answer rest m feed) start) (rest_after rest m feed)
+    ≡ with_outs outs (make_reached (newline s) (fresh m)) =
+    ap (λ (r : Read). make_reached (effects_of screen_effects r start) (rest_after rest m feed)) one_step.0
+    ∙ (λ i. make_reached (said i) (one_step.1 i)) in
+    ap (λ (byte : ℕ). run screen_effects (byte ∷ bytes) (with_outs outs (make_reached s rest))) (all zero 0 (omega arith))
+    ∙ ap (run screen_effects bytes) first
+    ∙ feeds_run law bytes outs (newline s) (fresh m) (λ k d within. all (suc k) d (omega (arith, within))) refl
+    ∙ ap (λ (r : Rest). with_outs outs (make_reached (newlines (length bytes) (newline s)) r)) rests
 
-pub behind-some : (bytes : List ℕ) (m : Mode) (rest : Rest) → 0 < length bytes
+pub behind_some : (bytes : List ℕ) (m : Mode) (rest : Rest) → 0 < length bytes
     → rest_behind bytes m rest ≡ fresh m
-behind-some [] m rest some = absurd (let z : ⊥ = omega (arith, some) in z)
-behind-some (b ∷ bytes) m rest some = refl
+behind_some [] m rest some = absurd (let z : ⊥ = omega (arith, some) in z)
+behind_some (b ∷ bytes) m rest some = refl

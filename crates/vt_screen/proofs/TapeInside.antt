@@ -4,14 +4,14 @@ use Rattle.std.specs.Prelude.{All}
 use Rattle.std.proofs.lemmas.Bool.{false≢true}
 use Rattle.std.proofs.lemmas.List.Elements.{All-head, All-tail}
 use Rattle.vt_cells.specs.Width.{columns}
-use Rattle.vt_screen.proofs.InsideTable.{control-keeps, escape-keeps, private-keeps, sequence-keeps}
-use Rattle.vt_screen.proofs.Insides.{IsInside, coloured, colours-reset, printed-once}
+use Rattle.vt_screen.proofs.InsideTable.{control_keeps, escape_keeps, private_keeps, sequence_keeps}
+use Rattle.vt_screen.proofs.Insides.{IsInside, coloured, colours_reset, printed_once}
 use Rattle.vt_screen.specs.Effect.{control_sequence, effect, private_sequence}
 use Rattle.vt_screen.specs.Inside.{HasPlaces, TapesKeepCursor}
-use Rattle.vt_screen.specs.Printing.{shown}
-use Rattle.vt_screen.specs.Run.{Drawn, drawing, having_said, start}
+use Rattle.vt_screen.specs.Printing.{character_of_byte}
+use Rattle.vt_screen.specs.Run.{ScreenAndOuts, screen_effects, with_outs, start}
 use Rattle.vt_screen.specs.Screen.{Screen, mode_of}
-use Rattle.vt_screen.specs.Tape.{Change, Taped, byte, change, changed, palette, played, resize, resized_to, run_tape, user_map}
+use Rattle.vt_screen.specs.Tape.{Change, Taped, byte, change, after_change, palette, after_tape_item, resize, resized_to, run_tape, user_map}
 use Rattle.vt_screen.specs.declared.saved.Saved.{Saved}
 use Rattle.vt_units.specs.Answer.{answer}
 use Rattle.vt_units.specs.Run.{Reached, effect_of}
@@ -23,54 +23,54 @@ use Rattle.vt_units.specs.declared.unit.Unit as units
 abbrev free : Saved → ℕ → ℕ → Type 0
 free saved rows cols = Unit {0}
 
-unit-keeps : (u : units.Unit) (s : Screen) → IsInside free s → IsInside free (effect u s).screen
-unit-keeps (units.Unit.Char code) s h = printed-once free (columns code) code s h
-unit-keeps (units.Unit.Byte x) s h = printed-once free 1 (shown x s) s h
-unit-keeps (units.Unit.Control code) s h = control-keeps free code s h
-unit-keeps (units.Unit.Esc mid last) s h = escape-keeps free mid last s (λ _. tt) (λ _. tt) h
-unit-keeps (units.Unit.Csi private params last) s h = by private
+unit_keeps : (u : units.Unit) (s : Screen) → IsInside free s → IsInside free (effect u s).screen
+unit_keeps (units.Unit.Char code) s h = printed_once free (columns code) code s h
+unit_keeps (units.Unit.Byte x) s h = printed_once free 1 (character_of_byte x s) s h
+unit_keeps (units.Unit.Control code) s h = control_keeps free code s h
+unit_keeps (units.Unit.Esc mid last) s h = escape_keeps free mid last s (λ _. tt) (λ _. tt) h
+unit_keeps (units.Unit.Csi private params last) s h = by private
   where
     by : (test : Bool) → IsInside free (cond test (private_sequence params last s) (control_sequence params last s)).screen
-    by true = private-keeps free params last s h
-    by false = sequence-keeps free params last s (λ _. tt) h
-unit-keeps (units.Unit.Colour n rgb) s h = coloured free n rgb s h
-unit-keeps units.Unit.ColourReset s h = colours-reset free s h
-unit-keeps units.Unit.Ignored s h = h
+    by true = private_keeps free params last s h
+    by false = sequence_keeps free params last s (λ _. tt) h
+unit_keeps (units.Unit.Colour n rgb) s h = coloured free n rgb s h
+unit_keeps units.Unit.ColourReset s h = colours_reset free s h
+unit_keeps units.Unit.Ignored s h = h
 
-then-keeps : (t : then.Then) (at : Drawn) → IsInside free at.screen → IsInside free (effect_of drawing t at).screen
-then-keeps (then.Then.Unit u) at h = unit-keeps u at.screen h
-then-keeps (then.Then.Act code) at h = control-keeps free code at.screen h
-then-keeps then.Then.More at h = h
-then-keeps then.Then.Dropped at h = h
+then_keeps : (t : then.Then) (at : ScreenAndOuts) → IsInside free at.screen → IsInside free (effect_of screen_effects t at).screen
+then_keeps (then.Then.Unit u) at h = unit_keeps u at.screen h
+then_keeps (then.Then.Act code) at h = control_keeps free code at.screen h
+then_keeps then.Then.More at h = h
+then_keeps then.Then.Dropped at h = h
 
-bad-keeps : (bad : Bool) (at : Drawn) → IsInside free at.screen → IsInside free (cond bad (drawing.on_unit (units.Unit.Char 0xFFFD) at) at).screen
-bad-keeps true at h = printed-once free (columns 0xFFFD) 0xFFFD at.screen h
-bad-keeps false at h = h
+bad_keeps : (bad : Bool) (at : ScreenAndOuts) → IsInside free at.screen → IsInside free (cond bad (screen_effects.on_unit (units.Unit.Char 0xFFFD) at) at).screen
+bad_keeps true at h = printed_once free (columns 0xFFFD) 0xFFFD at.screen h
+bad_keeps false at h = h
 
-change-keeps : (m : Change) (s : Screen) → HasPlaces (change m) → IsInside free s → IsInside free (changed m s)
+change_keeps : (m : Change) (s : Screen) → HasPlaces (change m) → IsInside free s → IsInside free (after_change m s)
 unfolding resized_to IsInside
-change-keeps (user_map words) s some h = h
-change-keeps (palette colours) s some h = h
-change-keeps (resize rows cols) s some h =
+change_keeps (user_map words) s some h = h
+change_keeps (palette colours) s some h = h
+change_keeps (resize rows cols) s some h =
     let r = some.0 in
     let c = some.1 in
     (omega (arith, r), omega (arith, c), omega arith, omega (arith, r), λ o. (omega arith, omega (arith, r)), tt)
 
-played-keeps : (item : Taped) (at : Reached Drawn) → HasPlaces item → IsInside free at.state.screen → IsInside free (played item at).state.screen
-played-keeps (byte b) at some h =
+after_tape_item_keeps : (item : Taped) (at : Reached ScreenAndOuts) → HasPlaces item → IsInside free at.state.screen → IsInside free (after_tape_item item at).state.screen
+after_tape_item_keeps (byte b) at some h =
     let m = mode_of at.state.screen in
     let read : Read = answer at.rest m b in
-    then-keeps read.got (cond read.bad (drawing.on_unit (units.Unit.Char 0xFFFD) at.state) at.state) (bad-keeps read.bad at.state h)
-played-keeps (change m) at some h = change-keeps m at.state.screen some h
+    then_keeps read.got (cond read.bad (screen_effects.on_unit (units.Unit.Char 0xFFFD) at.state) at.state) (bad_keeps read.bad at.state h)
+after_tape_item_keeps (change m) at some h = change_keeps m at.state.screen some h
 
-tape-keeps : (tape : List Taped) (at : Reached Drawn) → All HasPlaces tape → IsInside free at.state.screen → IsInside free (run_tape tape at).state.screen
-tape-keeps [] at some h = h
-tape-keeps (item ∷ tape) at some h =
-    tape-keeps tape (played item at) (All-tail HasPlaces item tape some) (played-keeps item at (All-head HasPlaces item tape some) h)
+tape_keeps : (tape : List Taped) (at : Reached ScreenAndOuts) → All HasPlaces tape → IsInside free at.state.screen → IsInside free (run_tape tape at).state.screen
+tape_keeps [] at some h = h
+tape_keeps (item ∷ tape) at some h =
+    tape_keeps tape (after_tape_item item at) (All-tail HasPlaces item tape some) (after_tape_item_keeps item at (All-head HasPlaces item tape some) h)
 
-pub tapes-keep-cursor : TapesKeepCursor
+pub tapes_keep_cursor : TapesKeepCursor
 unfolding IsInside
-tapes-keep-cursor rows cols tape r c some =
-    let h = tape-keeps tape (having_said [] (start rows cols)) some
+tapes_keep_cursor rows cols tape r c some =
+    let h = tape_keeps tape (with_outs [] (start rows cols)) some
     (omega (arith, r), omega (arith, c), omega arith, omega (arith, r), λ o. absurd (false≢true o), tt) in
     (h.0, h.1, h.4)

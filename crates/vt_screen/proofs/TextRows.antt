@@ -9,7 +9,7 @@ use Rattle.std.proofs.lemmas.List.Elements.{All-cons, All-head, All-nil, All-rep
 use Rattle.std.proofs.lemmas.Nat.{mul-add-lt}
 use Rattle.vt_cells.specs.Width.{is_half}
 use Rattle.vt_cells.specs.declared.cell.Cell.{Cell}
-use Rattle.vt_grid.specs.Grid.{IsFull, Sheet, filled, row_at, with_cell, with_run}
+use Rattle.vt_grid.specs.Grid.{IsFull, GridView, filled_grid, row_at, with_cell, with_run}
 use Rattle.vt_grid.specs.Laws.{RunOfMore, RunOfNone}
 use Rattle.vt_grid.proofs.Narrow.{filled_narrow, run_narrow}
 use Rattle.vt_screen.proofs.Printed.{AllPrintable}
@@ -43,10 +43,10 @@ set-joined cols (row ∷ rows) (suc y) x c wide in_rows in_row =
     ∙ sym (set-append_right row (joined rows) cols (suc y * cols + x) c long (omega (arith, place)))
 
 -- the first blank becomes the next character
-set-first-blank : (n : ℕ) (done : List ℕ) (b : ℕ) → length done < n
+set_first_blank : (n : ℕ) (done : List ℕ) (b : ℕ) → length done < n
     → set (map start_cell done ++ replicate (n - length done) start_blank) (length done) (start_cell b)
     ≡ map start_cell (done ++ b ∷ []) ++ replicate (n - length (done ++ b ∷ [])) start_blank
-set-first-blank n done b room =
+set_first_blank n done b room =
     let m : ℕ = n - length (done ++ b ∷ []) in
     let len : length (done ++ b ∷ []) ≡ length done + 1 = length-append done (b ∷ []) in
     let blanks : n - length done ≡ suc m = omega (arith, room, len) in
@@ -59,7 +59,7 @@ set-first-blank n done b room =
     ∙ ap (λ (cells : List Cell). cells ++ replicate m start_blank) (sym (map-append start_cell done (b ∷ [])))
 
 -- the grid after some characters, with the cursor after so many columns of row y
-pub record Holds (g : Sheet) (done : List ℕ) (y count : ℕ) : Type 0 where
+pub record Holds (g : GridView) (done : List ℕ) (y count : ℕ) : Type 0 where
   pub full : IsFull g
   pub narrow : IsNarrow g
   pub some_cols : 0 < g.cols
@@ -69,12 +69,12 @@ pub record Holds (g : Sheet) (done : List ℕ) (y count : ℕ) : Type 0 where
   pub some : 0 < length done → 0 < count
   pub cells : all_cells g ≡ map start_cell done ++ replicate (g.rows * g.cols - length done) start_blank
 
-one-narrow : (b : ℕ) → is_printable b ≡ true → is_half (start_cell b) ≡ false
-one-narrow b is = grind (arith, nat_tests, is)
+one_narrow : (b : ℕ) → is_printable b ≡ true → is_half (start_cell b) ≡ false
+one_narrow b is = grind (arith, nat_tests, is)
 
 module _ (none : RunOfNone) (more : RunOfMore) where
   -- one more character
-  pub grown : (g : Sheet) (done : List ℕ) (y x : ℕ) (b : ℕ) → is_printable b ≡ true → IsFull g → IsNarrow g
+  pub grown : (g : GridView) (done : List ℕ) (y x : ℕ) (b : ℕ) → is_printable b ≡ true → IsFull g → IsNarrow g
       → y < g.rows → x < g.cols → y * g.cols + x ≡ length done
       → all_cells g ≡ map start_cell done ++ replicate (g.rows * g.cols - length done) start_blank
       → Holds (with_cell g y x (start_cell b)) (done ++ b ∷ []) y (x + 1)
@@ -94,7 +94,7 @@ module _ (none : RunOfNone) (more : RunOfMore) where
         };
         narrow =
             subst IsNarrow one
-            (run_narrow g y x (c ∷ []) narrow (All-cons (λ d. is_half d ≡ false) c [] (one-narrow b is) (All-nil (λ d. is_half d ≡ false))));
+            (run_narrow g y x (c ∷ []) narrow (All-cons (λ d. is_half d ≡ false) c [] (one_narrow b is) (All-nil (λ d. is_half d ≡ false))));
         some_cols = omega (arith, in_row);
         in_rows = in_rows;
         place = omega (arith, place, len);
@@ -104,19 +104,19 @@ module _ (none : RunOfNone) (more : RunOfMore) where
             set-joined g.cols g.cells y x c full.wide (omega (arith, in_rows, full.tall)) in_row
             ∙ ap (λ (n : ℕ). set (joined g.cells) n c) place
             ∙ ap (λ (all : List Cell). set all (length done) c) cells
-            ∙ set-first-blank (g.rows * g.cols) done b room;
+            ∙ set_first_blank (g.rows * g.cols) done b room;
       }
 
-joined-blanks : (rows cols : ℕ) (c : Cell) → joined (replicate rows (replicate cols c)) ≡ replicate (rows * cols) c
-joined-blanks zero cols c =
+joined_blanks : (rows cols : ℕ) (c : Cell) → joined (replicate rows (replicate cols c)) ≡ replicate (rows * cols) c
+joined_blanks zero cols c =
     ap (λ (n : ℕ). replicate n c) (let e : zero ≡ 0 * cols = omega arith in e)
-joined-blanks (suc rows) cols c =
-    ap (λ (cells : List Cell). replicate cols c ++ cells) (joined-blanks rows cols c)
+joined_blanks (suc rows) cols c =
+    ap (λ (cells : List Cell). replicate cols c ++ cells) (joined_blanks rows cols c)
     ∙ replicate-append-replicate cols (rows * cols) c
     ∙ ap (λ (n : ℕ). replicate n c) (let e : cols + rows * cols ≡ suc rows * cols = omega arith in e)
 
-pub holds-none : (rows cols : ℕ) → 1 ≤ rows → 1 ≤ cols → Holds (filled rows cols start_blank) [] 0 0
-holds-none rows cols some_rows some_cols = record {
+pub holds_none : (rows cols : ℕ) → 1 ≤ rows → 1 ≤ cols → Holds (filled_grid rows cols start_blank) [] 0 0
+holds_none rows cols some_rows some_cols = record {
   full = record {
     tall = length-replicate rows (replicate cols start_blank);
     wide = All-replicate (λ row. length row ≡ cols) rows (replicate cols start_blank) (length-replicate cols start_blank);
@@ -128,16 +128,16 @@ holds-none rows cols some_rows some_cols = record {
   within = omega arith;
   some = λ h. h;
   cells =
-      joined-blanks rows cols start_blank
+      joined_blanks rows cols start_blank
       ∙ ap (λ (n : ℕ). replicate n start_blank) (let e : rows * cols ≡ rows * cols - 0 = omega arith in e);
 }
 
-pub at-start : (rows cols : ℕ) → 1 ≤ cols → at (filled rows cols start_blank) 0 0 ≡ start_screen rows cols
-at-start rows cols some =
+pub at_start : (rows cols : ℕ) → 1 ≤ cols → at (filled_grid rows cols start_blank) 0 0 ≡ start_screen rows cols
+at_start rows cols some =
     let column : min 0 (cols - 1) ≡ 0 = omega arith in
     let wrap : (0 == cols) ≡ false = ne_eqb 0 cols (λ same. let e : ⊥ = omega (arith, some, same) in e) in
     λ i. record {
-      grid = filled rows cols start_blank;
+      grid = filled_grid rows cols start_blank;
       state = record (start_state rows) { x = column i; y = 0; wrap = wrap i };
     }
 

@@ -1,6 +1,6 @@
 -- How often a text asks for another console.
 use Rattle.std.specs.Prelude.{ℕ, Bool, true, false, ◌+◌, ◌*◌, ◌≤◌, List, length, count_by}
-use Rattle.vt_screen.specs.Run.{said}
+use Rattle.vt_screen.specs.Run.{outs_of_run}
 use Rattle.vt_screen.specs.Screen.{Screen}
 use Rattle.vt_screen.specs.declared.out.Out.{Out}
 use Rattle.vt_screen.specs.declared.out.Out.TheVariants.{Bell, Lights, Report, SwitchLast, SwitchTo}
@@ -21,4 +21,4 @@ requests outs = count_by asks outs
 -- a request has at least four bytes, of which at most three are in the rest of an earlier text
 abbrev pub RequestsAreFew : Type 0
 RequestsAreFew =
-    (m : Reached Screen) (bytes : List ℕ) → 4 * requests (said m bytes) ≤ length bytes + 3
+    (m : Reached Screen) (bytes : List ℕ) → 4 * requests (outs_of_run m bytes) ≤ length bytes + 3

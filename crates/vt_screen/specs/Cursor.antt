@@ -61,8 +61,8 @@ abbrev pub last_row : Screen → ℕ
 last_row s = if s.state.origin then s.state.bottom else s.grid.rows - 1
 
 -- move: to a row and a column, or as far as a move reaches
-unfoldable pub moved : ℕ → ℕ → Screen → Screen
-moved y x s =
+unfoldable pub cursor_to : ℕ → ℕ → Screen → Screen
+cursor_to y x s =
     with_state s
     (record s.state {
       x = min x (s.grid.cols - 1);
@@ -71,9 +71,9 @@ moved y x s =
     })
 
 -- place: in origin mode rows are counted from the region's first one
-unfoldable pub placed : ℕ → ℕ → Screen → Screen
-placed y x s = moved (first_row s + y) x s
+unfoldable pub cursor_to_in_region : ℕ → ℕ → Screen → Screen
+cursor_to_in_region y x s = cursor_to (first_row s + y) x s
 
 -- home
-abbrev pub homed : Screen → Screen
-homed s = placed 0 0 s
+abbrev pub cursor_home : Screen → Screen
+cursor_home s = cursor_to_in_region 0 0 s

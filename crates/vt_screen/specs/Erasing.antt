@@ -1,15 +1,15 @@
 -- What erases, inserts and deletes (console_codes(4), "ECMA-48 CSI sequences"). What comes in is
 -- blank, in the pen's two colours. This project's own is that all of these switch the wrap flag off.
 use Rattle.std.specs.Prelude.{ℕ, Bool, false, ◌+◌, ◌-◌, ◌==◌, ◌&&◌, ◌||◌, nat_le, min, ◌++◌, take, drop, replicate, if◌then◌else◌}
-use Rattle.vt_grid.specs.Grid.{Sheet, deleted, erased, inserted, scrolled_down, scrolled_up}
-use Rattle.vt_grid.specs.Halves.{parted_between}
+use Rattle.vt_grid.specs.Grid.{GridView, with_deleted, with_erased, with_inserted, scrolled_down, scrolled_up}
+use Rattle.vt_grid.specs.Halves.{split_wide_between}
 use Rattle.vt_screen.specs.Screen.{Screen, blank_of, with_state}
 
 -- no wrap is pending
-abbrev pub unwrapped : Screen → Screen
-unwrapped s = with_state s (record s.state { wrap = false })
+abbrev pub without_pending_wrap : Screen → Screen
+without_pending_wrap s = with_state s (record s.state { wrap = false })
 
-abbrev pub with_grid : Screen → Sheet → Screen
+abbrev pub with_grid : Screen → GridView → Screen
 with_grid s grid = record s { grid = grid }
 
 -- the cells of the cursor's row from column x0 to x1, both included, are blank; a character that
@@ -17,11 +17,11 @@ with_grid s grid = record s { grid = grid }
 abbrev pub line_erased : ℕ → ℕ → Screen → Screen
 line_erased x0 x1 s =
     with_grid s
-    (erased (parted_between s.grid s.state.y x0 (x1 + 1)) s.state.y x0 x1 (blank_of s))
+    (with_erased (split_wide_between s.grid s.state.y x0 (x1 + 1)) s.state.y x0 x1 (blank_of s))
 
 -- as many of n cells as the cursor's row has from the cursor on
-abbrev pub fitting : ℕ → Screen → ℕ
-fitting n s = min n (s.grid.cols - s.state.x)
+abbrev pub fitting_count : ℕ → Screen → ℕ
+fitting_count n s = min n (s.grid.cols - s.state.x)
 
 -- n blanks come in at the cursor; a character that stands there, or of which a part passes the row's
 -- end, is parted
@@ -30,7 +30,7 @@ cells_inserted n s =
     let y = s.state.y in
     let x = s.state.x in
     with_grid s
-    (inserted (parted_between s.grid y x (s.grid.cols - fitting n s)) y x n (blank_of s))
+    (with_inserted (split_wide_between s.grid y x (s.grid.cols - fitting_count n s)) y x n (blank_of s))
 
 -- n cells go out at the cursor; a character that goes out in part is parted. Past the row's end there
 -- is none
@@ -38,7 +38,7 @@ abbrev pub cells_deleted : ℕ → Screen → Screen
 cells_deleted n s =
     let y = s.state.y in
     let x = s.state.x in
-    with_grid s (deleted (parted_between s.grid y x (x + n)) y x n (blank_of s))
+    with_grid s (with_deleted (split_wide_between s.grid y x (x + n)) y x n (blank_of s))
 
 -- so many rows from this one on are blank
 unfoldable pub rows_erased : ℕ → ℕ → Screen → Screen
@@ -73,31 +73,31 @@ all_erased s = rows_erased 0 s.grid.rows s
 -- no more to erase, since nothing scrolls back here
 unfoldable pub erase_display : ℕ → Screen → Screen
 erase_display which s =
-    if which == 0 then unwrapped (below_erased (line_end_erased s))
-    else if which == 1 then unwrapped (above_erased (line_start_erased s))
-    else if which == 2 || which == 3 then unwrapped (all_erased s)
+    if which == 0 then without_pending_wrap (below_erased (line_end_erased s))
+    else if which == 1 then without_pending_wrap (above_erased (line_start_erased s))
+    else if which == 2 || which == 3 then without_pending_wrap (all_erased s)
     else s
 
 -- EL: the same in the cursor's row
 unfoldable pub erase_line : ℕ → Screen → Screen
 erase_line which s =
-    if which == 0 then unwrapped (line_end_erased s)
-    else if which == 1 then unwrapped (line_start_erased s)
-    else if which == 2 then unwrapped (line_erased 0 (s.grid.cols - 1) s)
+    if which == 0 then without_pending_wrap (line_end_erased s)
+    else if which == 1 then without_pending_wrap (line_start_erased s)
+    else if which == 2 then without_pending_wrap (line_erased 0 (s.grid.cols - 1) s)
     else s
 
 -- ECH: n cells from the cursor on, as far as the row goes
 unfoldable pub erase_characters : ℕ → Screen → Screen
 erase_characters n s =
-    unwrapped (line_erased s.state.x (min (s.state.x + n - 1) (s.grid.cols - 1)) s)
+    without_pending_wrap (line_erased s.state.x (min (s.state.x + n - 1) (s.grid.cols - 1)) s)
 
 -- ICH: n blanks come in at the cursor
 unfoldable pub insert_characters : ℕ → Screen → Screen
-insert_characters n s = unwrapped (cells_inserted n s)
+insert_characters n s = without_pending_wrap (cells_inserted n s)
 
 -- DCH: n cells go out at the cursor
 unfoldable pub delete_characters : ℕ → Screen → Screen
-delete_characters n s = unwrapped (cells_deleted n s)
+delete_characters n s = without_pending_wrap (cells_deleted n s)
 
 -- the cursor is in the region
 abbrev pub in_region : Screen → Bool
@@ -107,7 +107,7 @@ in_region s = nat_le s.state.top s.state.y && nat_le s.state.y s.state.bottom
 -- Outside the region no row changes. The cursor keeps its column: this project's own
 unfoldable pub insert_lines : ℕ → Screen → Screen
 insert_lines n s =
-    unwrapped
+    without_pending_wrap
     (if in_region s
     then with_grid s (scrolled_down s.grid s.state.y s.state.bottom n (blank_of s))
     else s)
@@ -115,7 +115,7 @@ insert_lines n s =
 -- DL: n rows go out at the cursor's one, and the region's rows behind them move up
 unfoldable pub delete_lines : ℕ → Screen → Screen
 delete_lines n s =
-    unwrapped
+    without_pending_wrap
     (if in_region s
     then with_grid s (scrolled_up s.grid s.state.y s.state.bottom n (blank_of s))
     else s)

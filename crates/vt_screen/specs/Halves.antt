@@ -3,7 +3,7 @@ use Rattle.std.specs.Prelude.{◌≡◌, ◌<◌, ◌==◌, ℕ, Bool, true, fal
 use Rattle.vt_cells.specs.Width.{columns, is_half}
 use Rattle.vt_cells.specs.declared.cell.Cell.{Cell}
 use Rattle.vt_grid.specs.Halves.{IsPaired}
-use Rattle.vt_screen.specs.Run.{having_said, start}
+use Rattle.vt_screen.specs.Run.{with_outs, start}
 use Rattle.vt_screen.specs.Tape.{Change, Taped, byte, change, palette, resize, run_tape, user_map}
 
 -- a byte, and a change whose words for the user's table have 16 bits
@@ -20,7 +20,7 @@ IsPlainTaped (change m) = IsPlainChange m
 abbrev pub TapesKeepHalves : Type 0
 TapesKeepHalves =
     (rows cols : ℕ) (tape : List Taped) → All IsPlainTaped tape
-    → IsPaired (run_tape tape (having_said [] (start rows cols))).state.screen.grid
+    → IsPaired (run_tape tape (with_outs [] (start rows cols))).state.screen.grid
 
 -- each half among these cells follows the cell of a character of two columns. Whether they themselves
 -- follow one is given
@@ -34,4 +34,4 @@ FollowWide after_wide (c ∷ cells) =
 abbrev pub HalvesFollowWide : Type 0
 HalvesFollowWide =
     (rows cols : ℕ) (tape : List Taped) → All IsPlainTaped tape
-    → All (FollowWide false) (run_tape tape (having_said [] (start rows cols))).state.screen.grid.cells
+    → All (FollowWide false) (run_tape tape (with_outs [] (start rows cols))).state.screen.grid.cells

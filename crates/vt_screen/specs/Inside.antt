@@ -1,6 +1,6 @@
 -- Where the cursor stands, after all that a screen is made of.
 use Rattle.std.specs.Prelude.{◌<◌, ◌≤◌, ℕ, IsTrue, List, [], All}
-use Rattle.vt_screen.specs.Run.{having_said, start}
+use Rattle.vt_screen.specs.Run.{with_outs, start}
 use Rattle.vt_screen.specs.Screen.{Screen}
 use Rattle.vt_screen.specs.Tape.{Taped, byte, change, palette, resize, run_tape, user_map}
 
@@ -21,4 +21,4 @@ HasPlaces (change (resize rows cols)) = (1 ≤ rows) × (1 ≤ cols)
 abbrev pub TapesKeepCursor : Type 0
 TapesKeepCursor =
     (rows cols : ℕ) (tape : List Taped) → 1 ≤ rows → 1 ≤ cols → All HasPlaces tape
-    → CursorIsInside (run_tape tape (having_said [] (start rows cols))).state.screen
+    → CursorIsInside (run_tape tape (with_outs [] (start rows cols))).state.screen

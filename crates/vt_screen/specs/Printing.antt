@@ -4,7 +4,7 @@ use Rattle.std.specs.Prelude.{ℕ, Bool, false, ◌+◌, ◌-◌, ◌==◌, ◌&
 use Rattle.vt_cells.specs.Width.{columns, half}
 use Rattle.vt_chars.specs.CharMap.{char_of}
 use Rattle.vt_grid.specs.Grid.{cells_of_codes}
-use Rattle.vt_grid.specs.Halves.{drawn}
+use Rattle.vt_grid.specs.Halves.{with_cells_at}
 use Rattle.vt_screen.specs.Cursor.{at_column, linefeed}
 use Rattle.vt_screen.specs.Erasing.{cells_inserted}
 use Rattle.vt_screen.specs.Screen.{Screen, pen_byte}
@@ -15,15 +15,15 @@ lacks_room w s = nat_lt s.grid.cols (s.state.x + w)
 
 -- where a wrap is pending, or the character doesn't end in this row, it goes to the start of the next
 -- row; without autowrap as near to this row's end as it fits
-abbrev pub wrapped : ℕ → Screen → Screen
-wrapped w s =
+abbrev pub after_wrap : ℕ → Screen → Screen
+after_wrap w s =
     if s.state.autowrap && (s.state.wrap || lacks_room w s) then linefeed (at_column 0 s)
     else if lacks_room w s then at_column (s.grid.cols - w) s
     else s
 
 -- in insert mode as many blanks come in at the cursor
-abbrev pub opened : ℕ → Screen → Screen
-opened w s = if s.state.insert then cells_inserted w s else s
+abbrev pub with_gap : ℕ → Screen → Screen
+with_gap w s = if s.state.insert then cells_inserted w s else s
 
 -- the codes of a character's cells: of two, the right one has the code of a half
 abbrev pub codes_drawn : ℕ → ℕ → List ℕ
@@ -31,12 +31,12 @@ codes_drawn w code = if w == 2 then code ∷ half ∷ [] else code ∷ []
 
 -- cells of these codes from the cursor on, and the cursor after them; where they end the row the cursor
 -- is in the last column, and with autowrap a wrap is pending
-abbrev pub put_here : List ℕ → Screen → Screen
-put_here codes s =
+abbrev pub with_cells_at_cursor : List ℕ → Screen → Screen
+with_cells_at_cursor codes s =
     let end = s.state.x + length codes in
     let has_next = nat_lt end s.grid.cols in
     record {
-      grid = drawn s.grid s.state.y s.state.x (cells_of_codes codes (pen_byte s));
+      grid = with_cells_at s.grid s.state.y s.state.x (cells_of_codes codes (pen_byte s));
       state = record s.state {
         x = if has_next then end else s.grid.cols - 1;
         wrap = if has_next then false else s.state.autowrap;
@@ -44,25 +44,25 @@ put_here codes s =
     }
 
 -- a character of w columns, of which a row has as many, is printed
-abbrev pub set_down : ℕ → ℕ → Screen → Screen
-set_down w code s = put_here (codes_drawn w code) (opened w (wrapped w s))
+abbrev pub with_character : ℕ → ℕ → Screen → Screen
+with_character w code s = with_cells_at_cursor (codes_drawn w code) (with_gap w (after_wrap w s))
 
 -- a character of w columns is printed. One of none does nothing at all; one of two, where rows have
 -- one, is printed as the replacement character
 unfoldable pub print : ℕ → ℕ → Screen → Screen
 print w code s =
     if w == 0 then s
-    else if w == 2 && s.grid.cols == 1 then set_down 1 0xFFFD s
-    else set_down w code s
+    else if w == 2 && s.grid.cols == 1 then with_character 1 0xFFFD s
+    else with_character w code s
 
 -- a character is printed in the columns that it takes
 abbrev pub print_character : ℕ → Screen → Screen
 print_character code s = print (columns code) code s
 
 -- characters, one after another
-abbrev pub printed : List ℕ → Screen → Screen
-printed [] s = s
-printed (code ∷ codes) s = printed codes (print_character code s)
+abbrev pub print_characters : List ℕ → Screen → Screen
+print_characters [] s = s
+print_characters (code ∷ codes) s = print_characters codes (print_character code s)
 
 -- how many cells there are from the cursor to the end of its row, where no wrap is pending and insert
 -- mode is off: characters that end there are put at once
@@ -74,9 +74,9 @@ abbrev pub cells_codes : ℕ → ℕ → List ℕ
 cells_codes w code = if w == 0 then [] else codes_drawn w code
 
 -- the codes of the cells of characters, one after another. No public clause names this
-abbrev pub spread : List ℕ → List ℕ
-spread [] = []
-spread (code ∷ codes) = cells_codes (columns code) code ++ spread codes
+abbrev pub cells_of_characters : List ℕ → List ℕ
+cells_of_characters [] = []
+cells_of_characters (code ∷ codes) = cells_codes (columns code) code ++ cells_of_characters codes
 
 -- the table in use: the null mapping, or the one that is G0 or G1
 abbrev pub table_of : Screen → ℕ
@@ -86,9 +86,9 @@ table_of s =
     else s.state.g1
 
 -- a byte with its high bit changed
-abbrev pub toggled : ℕ → ℕ
-toggled b = if nat_lt b 0x80 then b + 0x80 else b - 0x80
+abbrev pub toggle_high_bit : ℕ → ℕ
+toggle_high_bit b = if nat_lt b 0x80 then b + 0x80 else b - 0x80
 
 -- the character that a byte is shown as
-unfoldable pub shown : ℕ → Screen → ℕ
-shown b s = char_of s.state.map (table_of s) (if s.state.pen.toggle then toggled b else b)
+unfoldable pub character_of_byte : ℕ → Screen → ℕ
+character_of_byte b s = char_of s.state.map (table_of s) (if s.state.pen.toggle then toggle_high_bit b else b)

@@ -2,66 +2,66 @@
 -- units have their effects in order.
 use Rattle.std.specs.Prelude.{◌≡◌, ℕ, ◌++◌, List, [], ◌∷◌, Option, Some, None}
 use Rattle.vt_screen.specs.Effect.{control, effect}
-use Rattle.vt_screen.specs.Saying.{Done}
+use Rattle.vt_screen.specs.Saying.{Effect}
 use Rattle.vt_screen.specs.Screen.{Screen, mode_of, start_screen}
 use Rattle.vt_screen.specs.declared.out.Out.{Out}
 use Rattle.vt_units.specs.Cutting.{IsCut, IsRest}
 use Rattle.vt_units.specs.Pieces.{HasEffect, controls_of, rest_with, text_of}
 use Rattle.vt_units.specs.Reading.{reading}
 use Rattle.vt_units.specs.Rest.{fresh, start_mode}
-use Rattle.vt_units.specs.Run.{Effects, Reached, reached, run}
+use Rattle.vt_units.specs.Run.{Effects, Reached, make_reached, run}
 use Rattle.vt_units.specs.Units.{IsUnfinished}
 
 -- the screen, and all that was said, in order
-pub record Drawn : Type 0 where
+pub record ScreenAndOuts : Type 0 where
   pub screen : Screen
   pub outs : List Out
 
-abbrev pub listed : Option Out → List Out
-listed None = []
-listed (Some out) = out ∷ []
+abbrev pub outs_of_option : Option Out → List Out
+outs_of_option None = []
+outs_of_option (Some out) = out ∷ []
 
 -- something is done to the screen; what it says comes last
-abbrev pub then_done : (Screen → Done) → Drawn → Drawn
+abbrev pub then_done : (Screen → Effect) → ScreenAndOuts → ScreenAndOuts
 then_done f t =
     let done = f t.screen in
-    record { screen = done.screen; outs = t.outs ++ listed done.said }
+    record { screen = done.screen; outs = t.outs ++ outs_of_option done.said }
 
 -- what control characters and units do: the effect table
-abbrev pub drawing : Effects Drawn
-drawing = record {
+abbrev pub screen_effects : Effects ScreenAndOuts
+screen_effects = record {
   mode_of = λ t. mode_of t.screen;
   on_control = λ code. then_done (control code);
   on_unit = λ unit. then_done (effect unit);
 }
 
 -- a screen with the rest of its text, and what it said so far
-abbrev pub having_said : List Out → Reached Screen → Reached Drawn
-having_said outs m = reached (record { screen = m.state; outs = outs }) m.rest
+abbrev pub with_outs : List Out → Reached Screen → Reached ScreenAndOuts
+with_outs outs m = make_reached (record { screen = m.state; outs = outs }) m.rest
 
 -- run: what the bytes make of a screen and the rest of its text
-abbrev pub ran : Reached Screen → List ℕ → Reached Drawn
-ran m bytes = run drawing bytes (having_said [] m)
+abbrev pub run_from : Reached Screen → List ℕ → Reached ScreenAndOuts
+run_from m bytes = run screen_effects bytes (with_outs [] m)
 
 -- the screen and the rest after the bytes
 abbrev pub after : Reached Screen → List ℕ → Reached Screen
 after m bytes =
-    let end = ran m bytes in
-    reached end.state.screen end.rest
+    let end = run_from m bytes in
+    make_reached end.state.screen end.rest
 
 -- what the bytes say, in order
-abbrev pub said : Reached Screen → List ℕ → List Out
-said m bytes = (ran m bytes).state.outs
+abbrev pub outs_of_run : Reached Screen → List ℕ → List Out
+outs_of_run m bytes = (run_from m bytes).state.outs
 
 -- the start: the start screen, and no text
 abbrev pub start : ℕ → ℕ → Reached Screen
-start rows cols = reached (start_screen rows cols) (fresh start_mode)
+start rows cols = make_reached (start_screen rows cols) (fresh start_mode)
 
 -- any cut: bytes run as a whole are run in two parts, wherever they are cut, and say what these say
 abbrev pub AnyCut : Type 0
 AnyCut =
     (m : Reached Screen) (a b : List ℕ)
-    → (after m (a ++ b) ≡ after (after m a) b) × (said m (a ++ b) ≡ said m a ++ said (after m a) b)
+    → (after m (a ++ b) ≡ after (after m a) b) × (outs_of_run m (a ++ b) ≡ outs_of_run m a ++ outs_of_run (after m a) b)
 
 -- the bytes of a piece have the effects of the control characters in it, in order, and then that of
 -- its unit
@@ -69,9 +69,9 @@ abbrev pub PiecesAct : Type 0
 PiecesAct =
     (m : Reached Screen) (bytes : List ℕ) → m.rest.text ≡ []
     → let mode = mode_of m.state in
-    let old : Drawn = record { screen = m.state; outs = [] } in
-    HasEffect drawing (reading mode (text_of mode [] bytes)) (controls_of mode [] bytes)
-    (rest_with drawing old (fresh mode) bytes) (ran m bytes) old
+    let old : ScreenAndOuts = record { screen = m.state; outs = [] } in
+    HasEffect screen_effects (reading mode (text_of mode [] bytes)) (controls_of mode [] bytes)
+    (rest_with screen_effects old (fresh mode) bytes) (run_from m bytes) old
 
 -- the same of a piece whose first bytes are in the rest
 abbrev pub PiecesResume : Type 0
@@ -79,11 +79,11 @@ PiecesResume =
     (m : Reached Screen) (bytes : List ℕ) → IsUnfinished m.rest.mode m.rest.text
     → let mode = m.rest.mode in
     let text = m.rest.text in
-    let old : Drawn = record { screen = m.state; outs = [] } in
-    HasEffect drawing (reading mode (text_of mode text bytes)) (controls_of mode text bytes)
-    (rest_with drawing old m.rest bytes) (ran m bytes) old
+    let old : ScreenAndOuts = record { screen = m.state; outs = [] } in
+    HasEffect screen_effects (reading mode (text_of mode text bytes)) (controls_of mode text bytes)
+    (rest_with screen_effects old m.rest bytes) (run_from m bytes) old
 
 -- every text is pieces and one last rest, and its run is what they come to
 abbrev pub TextsAreCut : Type 0
 TextsAreCut =
-    (m : Reached Screen) (bytes : List ℕ) → IsRest m.rest → IsCut drawing (having_said [] m) bytes (ran m bytes)
+    (m : Reached Screen) (bytes : List ℕ) → IsRest m.rest → IsCut screen_effects (with_outs [] m) bytes (run_from m bytes)

@@ -7,31 +7,31 @@ use Rattle.vt_screen.specs.declared.out.Out.{Out}
 use Rattle.vt_screen.specs.declared.out.Out.TheVariants.{Bell, Lights, Report, SwitchLast, SwitchTo}
 
 -- the screen after a unit, and what the unit says beside it
-pub record Done : Type 0 where
+pub record Effect : Type 0 where
   pub screen : Screen
   pub said : Option Out
 
-abbrev pub quiet : Screen → Done
-quiet s = record { screen = s; said = None }
+abbrev pub without_out : Screen → Effect
+without_out s = record { screen = s; said = None }
 
-abbrev pub saying : Out → Screen → Done
-saying out s = record { screen = s; said = Some out }
+abbrev pub with_out : Out → Screen → Effect
+with_out out s = record { screen = s; said = Some out }
 
 -- the bell, if it rings
-abbrev pub rung : Bool → Option Out
-rung true = Some Bell
-rung false = None
+abbrev pub bell_if : Bool → Option Out
+bell_if true = Some Bell
+bell_if false = None
 
 -- a report: ESC and these characters
-abbrev pub report : List ℕ → Screen → Done
-report text s = saying (Report (0x1B ∷ text)) s
+abbrev pub report : List ℕ → Screen → Effect
+report text s = with_out (Report (0x1B ∷ text)) s
 
 -- DECID, and DA with 0: a VT102
 abbrev pub device_text : List ℕ
 device_text = codes "[?6c"
 
-unfoldable pub device_report : ℕ → Screen → Done
-device_report which s = if which == 0 then report device_text s else quiet s
+unfoldable pub device_report : ℕ → Screen → Effect
+device_report which s = if which == 0 then report device_text s else without_out s
 
 -- CPR: the cursor's row and column, counted from 1; in origin mode the row is counted from the
 -- region's first one, which is this project's own
@@ -41,20 +41,20 @@ cursor_text s =
     codes "[" ++ (decimal (row + 1) ++ (codes ";" ++ (decimal (s.state.x + 1) ++ codes "R")))
 
 -- DSR: 5 asks whether all is well, and it is; 6 asks for the cursor
-unfoldable pub status_report : ℕ → Screen → Done
+unfoldable pub status_report : ℕ → Screen → Effect
 status_report which s =
     if which == 5 then report (codes "[0n") s
     else if which == 6 then report (cursor_text s) s
-    else quiet s
+    else without_out s
 
 -- DECLL: 0 clears the lights, and 1 to 3 set Scroll Lock, Num Lock or Caps Lock alone
-unfoldable pub lights : ℕ → Screen → Done
+unfoldable pub lights : ℕ → Screen → Effect
 lights which s =
-    if which == 0 then saying (Lights 0) s
-    else if which == 1 then saying (Lights 1) s
-    else if which == 2 then saying (Lights 2) s
-    else if which == 3 then saying (Lights 4) s
-    else quiet s
+    if which == 0 then with_out (Lights 0) s
+    else if which == 1 then with_out (Lights 1) s
+    else if which == 2 then with_out (Lights 2) s
+    else if which == 3 then with_out (Lights 4) s
+    else without_out s
 
 -- the colours for underline and half-bright
 abbrev pub with_underline_colour : ℕ → Screen → Screen
@@ -73,17 +73,17 @@ with_default_pair s =
 
 -- CSI ]: settings of the console. Timers, the bell's pitch and length and video modes do nothing:
 -- this project's own
-unfoldable pub console_setting : ℕ → ℕ → Screen → Done
+unfoldable pub console_setting : ℕ → ℕ → Screen → Effect
 console_setting which value s =
     -- the colour for underline
-    if which == 1 then quiet (if nat_lt value 16 then with_underline_colour value s else s)
+    if which == 1 then without_out (if nat_lt value 16 then with_underline_colour value s else s)
     -- the colour for half-bright
-    else if which == 2 then quiet (if nat_lt value 16 then with_dim_colour value s else s)
+    else if which == 2 then without_out (if nat_lt value 16 then with_dim_colour value s else s)
     -- the default pair
-    else if which == 8 then quiet (with_default_pair s)
+    else if which == 8 then without_out (with_default_pair s)
     -- to the console of this number
     else if which == 12
-    then (if nat_le 1 value && nat_le value 63 then saying (SwitchTo value) s else quiet s)
+    then (if nat_le 1 value && nat_le value 63 then with_out (SwitchTo value) s else without_out s)
     -- to the previous console
-    else if which == 15 then saying SwitchLast s
-    else quiet s
+    else if which == 15 then with_out SwitchLast s
+    else without_out s

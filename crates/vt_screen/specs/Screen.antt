@@ -7,7 +7,7 @@ use Rattle.vt_cells.specs.Rendition.{Rendition, Tints}
 use Rattle.vt_cells.specs.declared.cell.Cell.{Cell}
 use Rattle.vt_cells.specs.declared.intensity.Intensity.TheVariants.{Normal}
 use Rattle.vt_chars.specs.CharMap.{font_place}
-use Rattle.vt_grid.specs.Grid.{IsFull, Sheet, filled}
+use Rattle.vt_grid.specs.Grid.{IsFull, GridView, filled_grid}
 use Rattle.vt_screen.specs.declared.saved.Saved.{Saved}
 use Rattle.vt_screen.specs.declared.screen_state.ScreenState.{ScreenState}
 use Rattle.vt_sgr.specs.PenState.{PenState}
@@ -15,7 +15,7 @@ use Rattle.vt_units.specs.declared.mode.Mode.{Mode}
 
 -- the cells, and the state beside them
 pub record Screen : Type 0 where
-  pub grid : Sheet
+  pub grid : GridView
   pub state : ScreenState
 
 -- the screen with another state
@@ -140,4 +140,4 @@ start_blank = record { code = 0x20; attr = 0x07 }
 
 -- the start screen: all blank, in the start state
 abbrev pub start_screen : ℕ → ℕ → Screen
-start_screen rows cols = record { grid = filled rows cols start_blank; state = start_state rows }
+start_screen rows cols = record { grid = filled_grid rows cols start_blank; state = start_state rows }

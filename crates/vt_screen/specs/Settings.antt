@@ -2,10 +2,10 @@
 -- cursor that is saved (console_codes(4)); and what makes the whole screen anew.
 use Rattle.std.specs.Prelude.{ℕ, Bool, true, false, ◌-◌, ◌==◌, ◌&&◌, nat_le, nat_lt, List, [], ◌∷◌, replicate, slice_set, if◌then◌else◌}
 use Rattle.vt_cells.specs.Colours.{Rgb, start_palette}
-use Rattle.vt_grid.specs.Grid.{filled}
-use Rattle.vt_screen.specs.Cursor.{homed, moved}
+use Rattle.vt_grid.specs.Grid.{filled_grid}
+use Rattle.vt_screen.specs.Cursor.{cursor_home, cursor_to}
 use Rattle.vt_screen.specs.Screen.{Screen, erased_byte, start_attr, start_blank, start_state, with_state}
-use Rattle.vt_sgr.specs.PenState.{PenState, drawn, mapped}
+use Rattle.vt_sgr.specs.PenState.{PenState, with_attributes, with_mapping}
 use Rattle.vt_sgr.specs.Sgr.{sgr}
 
 -- another pen
@@ -14,10 +14,10 @@ with_pen s pen = with_state s (record s.state { pen = pen })
 
 -- SO invokes G1 and shows control characters, SI invokes G0 and doesn't (DECCRM); both end the null
 -- mapping and the toggled bit. This project's own is what they do beside the invoking
-unfoldable pub invoking : ℕ → Bool → Screen → Screen
-invoking shift display s =
+unfoldable pub after_shift : ℕ → Bool → Screen → Screen
+after_shift shift display s =
     with_state s
-    (record s.state { shift = shift; pen = mapped s.state.pen false display false })
+    (record s.state { shift = shift; pen = with_mapping s.state.pen false display false })
 
 -- ESC % @ leaves UTF-8, ESC % G and ESC % 8 select it
 unfoldable pub with_coding : ℕ → Screen → Screen
@@ -85,7 +85,7 @@ with_private_mode on n s =
     -- DECSCNM
     else if n == 5 then with_state s (record s.state { reverse = on })
     -- DECOM
-    else if n == 6 then homed (with_state s (record s.state { origin = on }))
+    else if n == 6 then cursor_home (with_state s (record s.state { origin = on }))
     -- DECAWM
     else if n == 7 then with_state s (record s.state { autowrap = on })
     -- DECARM
@@ -100,12 +100,12 @@ unfoldable pub with_region : ℕ → ℕ → Screen → Screen
 with_region t b s =
     let last = if b == 0 then s.grid.rows else b in
     if nat_lt t last && nat_le last s.grid.rows
-    then homed (with_state s (record s.state { top = t - 1; bottom = last - 1 }))
+    then cursor_home (with_state s (record s.state { top = t - 1; bottom = last - 1 }))
     else s
 
 -- SGR
-unfoldable pub rendered : List ℕ → Screen → Screen
-rendered params s = with_pen s (sgr params s.state.pen)
+unfoldable pub after_sgr : List ℕ → Screen → Screen
+after_sgr params s = with_pen s (sgr params s.state.pen)
 
 -- DECSC: the cursor, the pen's attributes and the character sets
 unfoldable pub save : Screen → Screen
@@ -127,10 +127,10 @@ save s =
 unfoldable pub restore : Screen → Screen
 restore s =
     let saved = s.state.saved in
-    moved saved.y saved.x
+    cursor_to saved.y saved.x
     (with_state s
     (record s.state {
-      pen = drawn s.state.pen saved.attr;
+      pen = with_attributes s.state.pen saved.attr;
       g0 = saved.g0;
       g1 = saved.g1;
       shift = saved.shift;
@@ -140,20 +140,20 @@ restore s =
 -- and the user's table are kept: this project's own
 unfoldable pub reset : Screen → Screen
 reset s = record {
-  grid = filled s.grid.rows s.grid.cols start_blank;
+  grid = filled_grid s.grid.rows s.grid.cols start_blank;
   state = record (start_state s.grid.rows) {
-    pen = mapped (drawn s.state.pen start_attr) false false false;
+    pen = with_mapping (with_attributes s.state.pen start_attr) false false false;
     palette = s.state.palette;
     map = s.state.map;
   };
 }
 
 -- DECALN: every cell is an E in the colours of erased ones
-unfoldable pub aligned : Screen → Screen
-aligned s =
+unfoldable pub alignment_pattern : Screen → Screen
+alignment_pattern s =
     record s {
       grid =
-          filled s.grid.rows s.grid.cols
+          filled_grid s.grid.rows s.grid.cols
           (record { code = 0x45; attr = erased_byte s.state.pen.attr });
     }
 

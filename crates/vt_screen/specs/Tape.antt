@@ -1,11 +1,11 @@
 -- What a screen is made of in all its life: bytes, and changes between them.
 use Rattle.std.specs.Prelude.{◌≡◌, ℕ, false, ◌+◌, ◌-◌, min, ◌++◌, List, [], ◌∷◌, map}
 use Rattle.vt_cells.specs.Colours.{Rgb}
-use Rattle.vt_grid.specs.Grid.{filled, resized}
-use Rattle.vt_grid.specs.Halves.{parted_rows}
-use Rattle.vt_screen.specs.Run.{Drawn, drawing, having_said, ran}
+use Rattle.vt_grid.specs.Grid.{filled_grid, resized_grid}
+use Rattle.vt_grid.specs.Halves.{split_wide_rows}
+use Rattle.vt_screen.specs.Run.{ScreenAndOuts, screen_effects, with_outs, run_from}
 use Rattle.vt_screen.specs.Screen.{Screen, blank_of, with_state}
-use Rattle.vt_units.specs.Run.{Reached, reached, step}
+use Rattle.vt_units.specs.Run.{Reached, make_reached, step}
 
 -- how many rows are lost at the top of a screen that is to have so many: as many as bring the
 -- cursor's row into it
@@ -16,7 +16,7 @@ lost_rows rows s = s.state.y + 1 - rows
 -- ones are blank, the cursor stays at its cell where that is kept, and the region is whole
 unfoldable pub resized_to : ℕ → ℕ → Screen → Screen
 resized_to rows cols s = record {
-  grid = resized (parted_rows cols s.grid) (filled rows cols (blank_of s)) (lost_rows rows s);
+  grid = resized_grid (split_wide_rows cols s.grid) (filled_grid rows cols (blank_of s)) (lost_rows rows s);
   state = record s.state {
     y = s.state.y - lost_rows rows s;
     x = min s.state.x (cols - 1);
@@ -39,29 +39,29 @@ pub data Taped : Type 0 where
   change : Change → Taped
 
 -- the screen that a change makes
-abbrev pub changed : Change → Screen → Screen
-changed (user_map words) s = with_state s (record s.state { map = words })
-changed (palette colours) s = with_state s (record s.state { palette = colours })
-changed (resize rows cols) s = resized_to rows cols s
+abbrev pub after_change : Change → Screen → Screen
+after_change (user_map words) s = with_state s (record s.state { map = words })
+after_change (palette colours) s = with_state s (record s.state { palette = colours })
+after_change (resize rows cols) s = resized_to rows cols s
 
 -- a change acts on the screen, and leaves the rest of the text
 abbrev pub with_change : Change → Reached Screen → Reached Screen
-with_change m at = reached (changed m at.state) at.rest
+with_change m at = make_reached (after_change m at.state) at.rest
 
 -- what an item of a tape does
-abbrev pub played : Taped → Reached Drawn → Reached Drawn
-played (byte b) at = step drawing b at
-played (change m) at = reached (record at.state { screen = changed m at.state.screen }) at.rest
+abbrev pub after_tape_item : Taped → Reached ScreenAndOuts → Reached ScreenAndOuts
+after_tape_item (byte b) at = step screen_effects b at
+after_tape_item (change m) at = make_reached (record at.state { screen = after_change m at.state.screen }) at.rest
 
 -- run over a tape: its items in order
-abbrev pub run_tape : List Taped → Reached Drawn → Reached Drawn
+abbrev pub run_tape : List Taped → Reached ScreenAndOuts → Reached ScreenAndOuts
 run_tape [] at = at
-run_tape (item ∷ items) at = run_tape items (played item at)
+run_tape (item ∷ items) at = run_tape items (after_tape_item item at)
 
 -- a stretch of bytes on a tape is the run of the bytes
 abbrev pub StretchesRun : Type 0
-StretchesRun = (m : Reached Screen) (bytes : List ℕ) → run_tape (map byte bytes) (having_said [] m) ≡ ran m bytes
+StretchesRun = (m : Reached Screen) (bytes : List ℕ) → run_tape (map byte bytes) (with_outs [] m) ≡ run_from m bytes
 
 -- a tape cut in two is run in two parts
 abbrev pub AnyTapeCut : Type 0
-AnyTapeCut = (a b : List Taped) (at : Reached Drawn) → run_tape (a ++ b) at ≡ run_tape b (run_tape a at)
+AnyTapeCut = (a b : List Taped) (at : Reached ScreenAndOuts) → run_tape (a ++ b) at ≡ run_tape b (run_tape a at)

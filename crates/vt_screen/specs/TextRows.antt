@@ -2,14 +2,14 @@
 use Rattle.std.specs.List.{flat_map}
 use Rattle.std.specs.Prelude.{◌≡◌, ℕ, ◌+◌, ◌-◌, ◌*◌, ◌<◌, ◌≤◌, ◌==◌, min, true, List, [], ◌++◌, length, map, replicate, All}
 use Rattle.vt_cells.specs.declared.cell.Cell.{Cell}
-use Rattle.vt_grid.specs.Grid.{IsFull, Sheet}
-use Rattle.vt_screen.specs.Run.{after, said, start}
+use Rattle.vt_grid.specs.Grid.{IsFull, GridView}
+use Rattle.vt_screen.specs.Run.{after, outs_of_run, start}
 use Rattle.vt_screen.specs.Screen.{Screen, start_blank, start_state}
 use Rattle.vt_screen.specs.declared.screen_state.ScreenState.{ScreenState}
 use Rattle.vt_units.specs.Bytes.{is_printable}
 
 -- the cells of a grid, row after row
-abbrev pub all_cells : Sheet → List Cell
+abbrev pub all_cells : GridView → List Cell
 all_cells grid = flat_map (λ row. row) grid.cells
 
 -- a character on the start screen has the colours of a blank there
@@ -61,4 +61,4 @@ TextScrolls =
     (rows cols : ℕ) (text : List ℕ) → 1 ≤ rows → 1 ≤ cols
     → All (λ byte. is_printable byte ≡ true) text
     → let end = after (start rows cols) text in
-    ShowsEnd rows cols text end.state × (end.rest.text ≡ []) × (said (start rows cols) text ≡ [])
+    ShowsEnd rows cols text end.state × (end.rest.text ≡ []) × (outs_of_run (start rows cols) text ≡ [])

@@ -5,15 +5,15 @@ ghost use Rattle.vt_screen.specs.Effect.{effect};
 ghost use Rattle.std.specs.Borrow.{Lends, sem};
 ghost use Rattle.vt_cells.specs.contracts.palette.Palette.{the_row as palette_row};
 ghost use Rattle.vt_screen.specs.contracts.canvas.Canvas.{the_row};
-ghost use Rattle.vt_screen.specs.Run.{listed};
-ghost use Rattle.vt_screen.specs.Tape.{changed, palette};
+ghost use Rattle.vt_screen.specs.Run.{outs_of_option};
+ghost use Rattle.vt_screen.specs.Tape.{after_change, palette};
 ghost use Rattle.vt_screen.specs.Screen.{IsWhole, blank_of, mode_of, start_screen, with_state};
 
 mod controls;
 mod erases;
 mod escapes;
-mod fronts;
 mod moves;
+mod prefixes;
 mod print;
 mod reports;
 mod resizes;
@@ -29,7 +29,7 @@ use vt_units::{Mode, Unit};
 
 /// A screen, and what each unit does to it.
 #[derive(Drop)]
-pub struct Canvas {
+pub(crate) struct Canvas {
     grid: Grid,
     state: ScreenState,
     // The attribute byte of what the pen prints.
@@ -52,7 +52,7 @@ impl Model for Canvas {
 impl Canvas {
     /// The start screen of this grid's size, whatever the grid has.
     #[tactic(auto, unfolding(crate::specs::Screen::printed_byte, crate::specs::Screen::erased_byte))]
-    pub fn new(grid: Grid) -> Canvas
+    pub(crate) fn new(grid: Grid) -> Canvas
         ensures { result ≡ start_screen grid.rows grid.cols }
     {
         let mut grid = grid;
@@ -67,7 +67,7 @@ impl Canvas {
     }
 
     /// The cells.
-    pub fn grid(&self) -> &Grid
+    pub(crate) fn grid(&self) -> &Grid
         ensures cells { result.now ≡ self.now.grid }
         ensures whole { IsWhole self.now }
     {
@@ -75,7 +75,7 @@ impl Canvas {
     }
 
     /// The state beside the cells.
-    pub fn state(&self) -> &ScreenState
+    pub(crate) fn state(&self) -> &ScreenState
         ensures state { result.now ≡ self.now.state }
         ensures whole { IsWhole self.now }
     {
@@ -83,7 +83,7 @@ impl Canvas {
     }
 
     /// How the next byte is read.
-    pub fn mode(&self) -> Mode
+    pub(crate) fn mode(&self) -> Mode
         ensures { result ≡ mode_of self.now }
     {
         Mode {
@@ -93,26 +93,26 @@ impl Canvas {
     }
 
     /// Gives each byte the user's character.
-    pub fn set_user(&mut self, words: &[u16; 256])
+    pub(crate) fn set_user(&mut self, words: &[u16; 256])
         ensures { self.new ≡ with_state self.old (record self.old.state { map = words.now }) }
     {
         self.state.map.set_user(words);
     }
 
     /// The palette.
-    pub fn palette_mut(&mut self) -> &mut Palette
+    pub(crate) fn palette_mut(&mut self) -> &mut Palette
         ensures* lends { sem 𝓛
-            (Lends the_row palette_row self.entry result (λ w. changed (palette w) self.old)) }
+            (Lends the_row palette_row self.entry result (λ w. after_change (palette w) self.old)) }
         ensures value { result.now ≡ self.old.state.palette }
     {
         &mut self.state.palette
     }
 
     /// Does what the unit does. What it says beside the screen is then last in `outs`.
-    pub fn obey(&mut self, unit: &Unit, outs: &mut Outs)
+    pub(crate) fn dispatch(&mut self, unit: &Unit, outs: &mut Outs)
         requires room { length outs.old < 64 }
         ensures screen { self.new ≡ (effect unit.now self.old).screen }
-        ensures said { outs.new ≡ outs.old ++ listed (effect unit.now self.old).said }
+        ensures said { outs.new ≡ outs.old ++ outs_of_option (effect unit.now self.old).said }
         ensures few { length outs.new ≤ length outs.old + 1 }
     {
         match unit {
@@ -124,7 +124,7 @@ impl Canvas {
                 private,
                 params,
                 last,
-            } => self.obey_sequence(*private, params.as_slice(), *last, outs),
+            } => self.dispatch_sequence(*private, params.as_slice(), *last, outs),
             Unit::Colour { n, rgb } => self.set_colour(*n, *rgb),
             Unit::ColourReset => self.reset_palette(),
             Unit::Ignored => {}

@@ -1,5 +1,5 @@
 ghost use Rattle.std.specs.Prelude.{◌≡◌, ◌<◌, ◌≤◌, ◌+◌, [], List, length, take};
-ghost use Rattle.vt_screen.specs.Run.{after, drawing, having_said, said, start};
+ghost use Rattle.vt_screen.specs.Run.{after, screen_effects, with_outs, outs_of_run, start};
 ghost use Rattle.vt_screen.specs.Screen.{IsWhole};
 ghost use Rattle.std.specs.Borrow.{Lends, sem};
 ghost use Rattle.vt_cells.specs.contracts.palette.Palette.{the_row as palette_row};
@@ -37,11 +37,11 @@ pub struct Emu {
 
 impl Model for Emu {
     ghost use Rattle.vt_screen.specs.Screen.{Screen};
-    ghost use Rattle.vt_units.specs.Run.{Reached, reached};
+    ghost use Rattle.vt_units.specs.Run.{Reached, make_reached};
 
     ghost Value = { Reached Screen };
 
-    ghost view = { λ e. reached e.canvas e.pending };
+    ghost view = { λ e. make_reached e.canvas e.pending };
 }
 
 impl Emu {
@@ -62,12 +62,12 @@ impl Emu {
         requires short { length b.now ≤ 64 }
         requires empty { outs.old ≡ [] }
         ensures screen { self.new ≡ after self.old b.now }
-        ensures outs { outs.new ≡ said self.old b.now }
+        ensures outs { outs.new ≡ outs_of_run self.old b.now }
         ensures few { length outs.new ≤ length b.now }
     {
         let mut at = 0;
         while at < b.len() {
-            at += self.take_front(&b[at..], outs);
+            at += self.take_prefix(&b[at..], outs);
         }
     }
 
@@ -76,7 +76,7 @@ impl Emu {
         requires short { length b.now ≤ 64 }
         requires empty { outs.old ≡ [] }
         ensures screen { self.new ≡ after self.old b.now }
-        ensures outs { outs.new ≡ said self.old b.now }
+        ensures outs { outs.new ≡ outs_of_run self.old b.now }
         ensures few { length outs.new ≤ length b.now }
     {
         for byte in b {
@@ -130,7 +130,7 @@ impl Emu {
     #[inline(never)]
     fn take(&mut self, byte: u8, outs: &mut Outs)
         requires room { length outs.old < 64 }
-        ensures step { having_said outs.new self.new ≡ step drawing byte (having_said outs.old self.old) }
+        ensures step { with_outs outs.new self.new ≡ step screen_effects byte (with_outs outs.old self.old) }
         ensures room { length outs.new ≤ length outs.old + 1 }
     {
         let read = self.pending.take(self.canvas.mode(), byte);
@@ -138,7 +138,7 @@ impl Emu {
             self.canvas.print(0xFFFD);
         }
         match read.got {
-            Then::Unit(unit) => self.canvas.obey(&unit, outs),
+            Then::Unit(unit) => self.canvas.dispatch(&unit, outs),
             Then::Act(code) => outs.say(Out::bell(self.canvas.control(code))),
             Then::More | Then::Dropped => {}
         }
@@ -147,7 +147,7 @@ impl Emu {
     // Does what `take` does, quickly where the byte is a control character by itself.
     fn take_quickly(&mut self, byte: u8, outs: &mut Outs)
         requires room { length outs.old < 64 }
-        ensures step { having_said outs.new self.new ≡ step drawing byte (having_said outs.old self.old) }
+        ensures step { with_outs outs.new self.new ≡ step screen_effects byte (with_outs outs.old self.old) }
         ensures room { length outs.new ≤ length outs.old + 1 }
     {
         controls_are_units();
@@ -161,17 +161,17 @@ impl Emu {
     // Does what stands at the front of the text, as much at once as can be, and tells how many bytes
     // that is.
     #[inline(always)]
-    pub(crate) fn take_front(&mut self, b: &[u8], outs: &mut Outs) -> usize
+    pub(crate) fn take_prefix(&mut self, b: &[u8], outs: &mut Outs) -> usize
         requires some { 0 < length b.now }
         requires room { length outs.old < 64 }
         ensures some { 0 < result }
         ensures within { result ≤ length b.now }
-        ensures run { run drawing (take result b.now) (having_said outs.old self.old)
-            ≡ having_said outs.new self.new }
+        ensures run { run screen_effects (take result b.now) (with_outs outs.old self.old)
+            ≡ with_outs outs.new self.new }
         ensures few { length outs.new ≤ length outs.old + result }
         ensures one { length outs.new ≤ length outs.old + 1 }
     {
-        let count = self.print_front(b);
+        let count = self.print_prefix(b);
         if count > 0 {
             return count;
         }
@@ -187,7 +187,7 @@ impl Emu {
         ensures within { result ≤ length b.now }
         ensures run { self.new ≡ after self.old (take result b.now) }
     {
-        let count = self.print_front(b);
+        let count = self.print_prefix(b);
         if count > 0 {
             return count;
         }
@@ -202,8 +202,8 @@ impl Emu {
         requires room { length outs.old < 64 }
         ensures some { 0 < result }
         ensures within { result ≤ length b.now }
-        ensures run { run drawing (take result b.now) (having_said outs.old self.old)
-            ≡ having_said outs.new self.new }
+        ensures run { run screen_effects (take result b.now) (with_outs outs.old self.old)
+            ≡ with_outs outs.new self.new }
         ensures few { length outs.new ≤ length outs.old + result }
         ensures one { length outs.new ≤ length outs.old + 1 }
     {
@@ -221,14 +221,14 @@ impl Emu {
         requires some { 0 < length b.now }
         requires room { length outs.old < 64 }
         ensures within { result ≤ length b.now }
-        ensures run { run drawing (take result b.now) (having_said outs.old self.old)
-            ≡ having_said outs.new self.new }
+        ensures run { run screen_effects (take result b.now) (with_outs outs.old self.old)
+            ≡ with_outs outs.new self.new }
         ensures few { length outs.new ≤ length outs.old + result }
         ensures one { length outs.new ≤ length outs.old + 1 }
     {
         match b[0] {
-            0x1B => self.obey_brief(b, outs),
-            b'\n' => self.scroll_front(b),
+            0x1B => self.dispatch_short_csi(b, outs),
+            b'\n' => self.scroll_linefeeds(b),
             _ => 0,
         }
     }
@@ -236,10 +236,10 @@ impl Emu {
     // Does the line feeds at the front of the text at once, where they scroll, and tells how many they
     // are.
     #[inline(never)]
-    fn scroll_front(&mut self, b: &[u8]) -> usize
+    fn scroll_linefeeds(&mut self, b: &[u8]) -> usize
         ensures within { result ≤ length b.now }
-        ensures run { (outs : List Out) → run drawing (take result b.now) (having_said outs self.old)
-            ≡ having_said outs self.new }
+        ensures run { (outs : List Out) → run screen_effects (take result b.now) (with_outs outs self.old)
+            ≡ with_outs outs self.new }
     {
         controls_are_units();
         let count = line_feeds(b);
@@ -255,11 +255,11 @@ impl Emu {
 
     // Prints characters at the front of the text, and tells how many bytes they are.
     #[inline(always)]
-    fn print_front(&mut self, b: &[u8]) -> usize
+    fn print_prefix(&mut self, b: &[u8]) -> usize
         requires { 0 < length b.now }
         ensures within { result ≤ length b.now }
-        ensures run { (outs : List Out) → run drawing (take result b.now) (having_said outs self.old)
-            ≡ having_said outs self.new }
+        ensures run { (outs : List Out) → run screen_effects (take result b.now) (with_outs outs self.old)
+            ≡ with_outs outs self.new }
     {
         if b[0] < 0x20 {
             0
@@ -274,8 +274,8 @@ impl Emu {
     #[inline(never)]
     fn print_characters(&mut self, b: &[u8]) -> usize
         ensures within { result ≤ length b.now }
-        ensures run { (outs : List Out) → run drawing (take result b.now) (having_said outs self.old)
-            ≡ having_said outs self.new }
+        ensures run { (outs : List Out) → run screen_effects (take result b.now) (with_outs outs self.old)
+            ≡ with_outs outs self.new }
     {
         printables_are_characters();
         let mut codes = Codes::new();
@@ -293,8 +293,8 @@ impl Emu {
     #[inline(always)]
     fn print_run(&mut self, b: &[u8]) -> usize
         ensures within { result ≤ length b.now }
-        ensures run { (outs : List Out) → run drawing (take result b.now) (having_said outs self.old)
-            ≡ having_said outs self.new }
+        ensures run { (outs : List Out) → run screen_effects (take result b.now) (with_outs outs self.old)
+            ≡ with_outs outs self.new }
     {
         printables_are_characters();
         columns_are_few();
@@ -312,8 +312,8 @@ impl Emu {
     #[inline(never)]
     fn print_one(&mut self, b: &[u8]) -> usize
         ensures within { result ≤ length b.now }
-        ensures run { (outs : List Out) → run drawing (take result b.now) (having_said outs self.old)
-            ≡ having_said outs self.new }
+        ensures run { (outs : List Out) → run screen_effects (take result b.now) (with_outs outs self.old)
+            ≡ with_outs outs self.new }
     {
         printables_are_characters();
         let front = &b[..b.len().min(1)];

@@ -1,5 +1,5 @@
 ghost use Rattle.std.specs.Prelude.{◌≡◌};
-ghost use Rattle.vt_screen.specs.Saying.{rung};
+ghost use Rattle.vt_screen.specs.Saying.{bell_if};
 
 use crate::ReportText;
 
@@ -22,7 +22,7 @@ pub enum Out {
 impl Out {
     /// The bell, if it rings.
     pub(crate) fn bell(rings: bool) -> Option<Out>
-        ensures { result ≡ rung rings }
+        ensures { result ≡ bell_if rings }
     {
         if rings { Some(Out::Bell) } else { None }
     }

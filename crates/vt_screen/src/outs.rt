@@ -1,5 +1,5 @@
 ghost use Rattle.std.specs.Prelude.{◌≡◌, ◌<◌, ◌≤◌, ◌+◌, [], ◌∷◌, ◌++◌, length, IfNone, IfSome};
-ghost use Rattle.vt_screen.specs.Run.{listed};
+ghost use Rattle.vt_screen.specs.Run.{outs_of_option};
 
 use crate::Out;
 use arrayvec::ArrayVec;
@@ -48,7 +48,7 @@ impl Outs {
     /// Adds what was said last, if anything was.
     pub(crate) fn say(&mut self, said: Option<Out>)
         requires { length self.old < 64 }
-        ensures said { self.new ≡ self.old ++ listed said }
+        ensures said { self.new ≡ self.old ++ outs_of_option said }
         ensures few { length self.new ≤ length self.old + 1 }
     {
         if let Some(out) = said {

@@ -1,7 +1,7 @@
 //! A text of any length with a listener.
 ghost use Rattle.std.specs.Prelude.{◌≡◌, ◌<◌, ◌≤◌, [], length, take};
 ghost use Rattle.vt_screen.specs.Hearing.{HearsAll};
-ghost use Rattle.vt_screen.specs.Run.{after, said};
+ghost use Rattle.vt_screen.specs.Run.{after, outs_of_run};
 
 use crate::{Emu, Listener, Outs, any_cut};
 
@@ -10,7 +10,7 @@ impl Emu {
     /// requests, lights and bells of the text, one after another and in their order.
     pub fn write_with<L: Listener>(&mut self, b: &[u8], listener: &mut L)
         ensures screen { self.new ≡ after self.old b.now }
-        ensures heard { HearsAll L.hears listener.old (said self.old b.now) listener.new }
+        ensures heard { HearsAll L.hears listener.old (outs_of_run self.old b.now) listener.new }
     {
         any_cut();
         let mut outs = Outs::new();
@@ -30,9 +30,9 @@ impl Emu {
         ensures within { result ≤ length b.now }
         ensures empty { outs.new ≡ [] }
         ensures screen { self.new ≡ after self.old (take result b.now) }
-        ensures heard { HearsAll L.hears listener.old (said self.old (take result b.now)) listener.new }
+        ensures heard { HearsAll L.hears listener.old (outs_of_run self.old (take result b.now)) listener.new }
     {
-        let count = self.take_front(b, outs);
+        let count = self.take_prefix(b, outs);
         tell(outs, listener);
         count
     }

@@ -1,6 +1,6 @@
 //! A text of any length.
 ghost use Rattle.std.specs.Prelude.{◌≡◌, ◌≤◌, [], length, take};
-ghost use Rattle.vt_screen.specs.Run.{after, said};
+ghost use Rattle.vt_screen.specs.Run.{after, outs_of_run};
 
 use crate::{Emu, Outs, any_cut};
 
@@ -24,7 +24,7 @@ impl Emu {
     pub fn write_until(&mut self, b: &[u8], outs: &mut Outs) -> usize
         ensures within { result ≤ length b.now }
         ensures screen { self.new ≡ after self.old (take result b.now) }
-        ensures outs { outs.new ≡ said self.old (take result b.now) }
+        ensures outs { outs.new ≡ outs_of_run self.old (take result b.now) }
         ensures one { length outs.new ≤ 1 }
         ensures all { outs.new ≡ [] → result ≡ length b.now }
     {

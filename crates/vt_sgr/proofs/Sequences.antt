@@ -3,78 +3,55 @@ use Rattle.std.proofs.Common.{◌≡◌, ℕ, zero, suc, ◌+◌, ◌<◌, List,
 use Rattle.std.proofs.Math.Seq.{drop-cons}
 use Rattle.std.proofs.lemmas.List.{drop-drop}
 use Rattle.vt_sgr.specs.PenState.{PenState}
-use Rattle.vt_sgr.specs.Sgr.{sgr, sgr_behind, taken_by, with_form}
+use Rattle.vt_sgr.specs.Sgr.{sgr, sgr_skipping, taken_by, with_form}
 
 -- what belongs to the form before is passed over
-sgr_behind-drop : (taken : ℕ) (params : List ℕ) (p : PenState)
-    → sgr_behind taken params p ≡ sgr_behind 0 (drop taken params) p
-sgr_behind-drop zero params p = refl
-sgr_behind-drop (suc taken) [] p = refl
-sgr_behind-drop (suc taken) (n ∷ rest) p = sgr_behind-drop taken rest p
+sgr_skipping-drop : (taken : ℕ) (params : List ℕ) (p : PenState)
+    → sgr_skipping taken params p ≡ sgr_skipping 0 (drop taken params) p
+sgr_skipping-drop zero params p = refl
+sgr_skipping-drop (suc taken) [] p = refl
+sgr_skipping-drop (suc taken) (n ∷ rest) p = sgr_skipping-drop taken rest p
 
 -- the next form was taken
 pub form_more : (params : List ℕ) (at taken n : ℕ) (rest : List ℕ) (p q end : PenState)
     → at < length params → n ≡ get_or params at 0 → rest ≡ drop (at + 1) params
     → q ≡ with_form n rest p → taken ≡ taken_by n rest
-    → sgr_behind 0 (drop at params) p ≡ end
-    → sgr_behind 0 (drop (at + (1 + taken)) params) q ≡ end
+    → sgr_skipping 0 (drop at params) p ≡ end
+    → sgr_skipping 0 (drop (at + (1 + taken)) params) q ≡ end
 form_more params at taken n rest p q end within n-is rest-is q-is taken-is so_far =
     let next : drop (suc at) params ≡ drop (at + 1) params = ap (λ m. drop m params) (sym (add-one at)) in
     let cut = drop-cons params at 0 within in
     let front : drop at params ≡ n ∷ rest = cc in
     let behind : drop taken rest ≡ drop (at + (1 + taken)) params =
     ap (drop taken) rest-is ∙ drop-drop taken (at + 1) params ∙ ap (λ m. drop m params) (omega arith) in
-    let formed : sgr_behind 0 (n ∷ rest) p ≡ sgr_behind 0 (drop (taken_by n rest) rest) (with_form n rest p) =
-    sgr_behind-drop (taken_by n rest) rest (with_form n rest p) in
-    let here : sgr_behind 0 (drop (taken_by n rest) rest) (with_form n rest p) ≡ sgr_behind 0 (drop (at + (1 + taken)) params) q =
-    ap (λ k. sgr_behind 0 (drop k rest) (with_form n rest p)) (sym taken-is)
-    ∙ ap (λ ns. sgr_behind 0 ns (with_form n rest p)) behind
-    ∙ ap (sgr_behind 0 (drop (at + (1 + taken)) params)) (sym q-is) in
-    sym here ∙ sym formed ∙ sym (ap (λ ns. sgr_behind 0 ns p) front) ∙ so_far
+    let formed : sgr_skipping 0 (n ∷ rest) p ≡ sgr_skipping 0 (drop (taken_by n rest) rest) (with_form n rest p) =
+    sgr_skipping-drop (taken_by n rest) rest (with_form n rest p) in
+    let here : sgr_skipping 0 (drop (taken_by n rest) rest) (with_form n rest p) ≡ sgr_skipping 0 (drop (at + (1 + taken)) params) q =
+    ap (λ k. sgr_skipping 0 (drop k rest) (with_form n rest p)) (sym taken-is)
+    ∙ ap (λ ns. sgr_skipping 0 ns (with_form n rest p)) behind
+    ∙ ap (sgr_skipping 0 (drop (at + (1 + taken)) params)) (sym q-is) in
+    sym here ∙ sym formed ∙ sym (ap (λ ns. sgr_skipping 0 ns p) front) ∙ so_far
 
--- no parameter is left
-behind-none : (taken : ℕ) (p : PenState) → sgr_behind taken [] p ≡ p
-behind-none zero p = refl
-behind-none (suc taken) p = refl
-
--- the last parameter belongs to the one before it
-behind-taken : (taken n : ℕ) (p : PenState) → 0 < taken → sgr_behind taken (n ∷ []) p ≡ p
-behind-taken zero n p some = absurd (omega (arith, some))
-behind-taken (suc taken) n p some = behind-none taken p
-
--- two parameters
-pub two-apart : (first second : ℕ) (p : PenState) → taken_by first (second ∷ []) ≡ 0
-    → sgr (first ∷ second ∷ []) p ≡ with_form second [] (with_form first (second ∷ []) p)
-two-apart first second p none =
-    let q : PenState = with_form first (second ∷ []) p in
-    ap (λ (taken : ℕ). sgr_behind taken (second ∷ []) q) none
-    ∙ behind-none (taken_by second []) (with_form second [] q)
-
-pub two-joined : (first second : ℕ) (p : PenState) → 0 < taken_by first (second ∷ [])
-    → sgr (first ∷ second ∷ []) p ≡ with_form first (second ∷ []) p
-two-joined first second p some =
-    behind-taken (taken_by first (second ∷ [])) second (with_form first (second ∷ []) p) some
-
-drop-all : {A : Type 0} (xs : List A) → drop (length xs) xs ≡ []
-drop-all [] = refl
-drop-all (x ∷ xs) = drop-all xs
+drop_all : {A : Type 0} (xs : List A) → drop (length xs) xs ≡ []
+drop_all [] = refl
+drop_all (x ∷ xs) = drop_all xs
 
 -- the first parameter takes all others along
-pub all-joined : (n : ℕ) (rest : List ℕ) (p : PenState) → taken_by n rest ≡ length rest
+pub all_joined : (n : ℕ) (rest : List ℕ) (p : PenState) → taken_by n rest ≡ length rest
     → sgr (n ∷ rest) p ≡ with_form n rest p
-all-joined n rest p all =
+all_joined n rest p all =
     let q : PenState = with_form n rest p in
-    sgr_behind-drop (taken_by n rest) rest q
-    ∙ ap (λ (taken : ℕ). sgr_behind 0 (drop taken rest) q) all
-    ∙ ap (λ (left : List ℕ). sgr_behind 0 left q) (drop-all rest)
+    sgr_skipping-drop (taken_by n rest) rest q
+    ∙ ap (λ (taken : ℕ). sgr_skipping 0 (drop taken rest) q) all
+    ∙ ap (λ (left : List ℕ). sgr_skipping 0 left q) (drop_all rest)
 
-front-is : (params : List ℕ) (n : ℕ) (rest : List ℕ) → 0 < length params → get_or params 0 0 ≡ n
+front_is : (params : List ℕ) (n : ℕ) (rest : List ℕ) → 0 < length params → get_or params 0 0 ≡ n
     → rest ≡ drop 1 params → params ≡ n ∷ rest
-front-is [] n rest some head tail = absurd (omega (arith, some))
-front-is (x ∷ xs) n rest some head tail =
+front_is [] n rest some head tail = absurd (omega (arith, some))
+front_is (x ∷ xs) n rest some head tail =
     ap (λ (first : ℕ). first ∷ xs) head ∙ ap (λ (others : List ℕ). n ∷ others) (sym tail)
 
-pub one-form : (params : List ℕ) (n : ℕ) (rest : List ℕ) (p : PenState) → 0 < length params → get_or params 0 0 ≡ n
+pub one_form : (params : List ℕ) (n : ℕ) (rest : List ℕ) (p : PenState) → 0 < length params → get_or params 0 0 ≡ n
     → rest ≡ drop 1 params → taken_by n rest ≡ length rest → sgr params p ≡ with_form n rest p
-one-form params n rest p some head tail all =
-    ap (λ (numbers : List ℕ). sgr numbers p) (front-is params n rest some head tail) ∙ all-joined n rest p all
+one_form params n rest p some head tail all =
+    ap (λ (numbers : List ℕ). sgr numbers p) (front_is params n rest some head tail) ∙ all_joined n rest p all

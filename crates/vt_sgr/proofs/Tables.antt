@@ -2,7 +2,7 @@
 use Rattle.std.proofs.Common.{◌≡◌, ℕ, ◌==◌, ◌<◌, ◌%◌, true, List, [], ◌∷◌, slice_index_or, refl}
 use Rattle.std.specs.Prelude.{nat_le, nat_lt}
 use Rattle.std.proofs.lemmas.Bool.{agree_below_at, eqb-true}
-use Rattle.vt_sgr.specs.Sgr.{ground_of, ink_of}
+use Rattle.vt_sgr.specs.Sgr.{background_of, foreground_of}
 
 abbrev inks : List ℕ
 inks =
@@ -42,20 +42,20 @@ grounds =
     7 ∷ 7 ∷ 3 ∷ 3 ∷ 3 ∷ 3 ∷ 7 ∷ 7 ∷ 0 ∷ 0 ∷ 0 ∷ 0 ∷ 0 ∷ 0 ∷ 0 ∷ 0 ∷
     0 ∷ 0 ∷ 0 ∷ 0 ∷ 7 ∷ 7 ∷ 7 ∷ 7 ∷ 7 ∷ 7 ∷ 7 ∷ 7 ∷ 7 ∷ 7 ∷ 7 ∷ 7 ∷ []
 
-pub ink-hue : (i : ℕ) → i < 256 → slice_index_or inks i 0 % 8 ≡ (ink_of i).0
-ink-hue i below =
+pub ink_hue : (i : ℕ) → i < 256 → slice_index_or inks i 0 % 8 ≡ (foreground_of i).0
+ink_hue i below =
     eqb-true _ _
-    (agree_below_at (λ (k : ℕ). (slice_index_or inks k 0 % 8) == (ink_of k).0) (λ _. true) 256 i refl below)
+    (agree_below_at (λ (k : ℕ). (slice_index_or inks k 0 % 8) == (foreground_of k).0) (λ _. true) 256 i refl below)
 
-pub ink-bold : (i : ℕ) → i < 256 → nat_le 8 (slice_index_or inks i 0) ≡ (ink_of i).1
-ink-bold i below =
-    agree_below_at (λ (k : ℕ). nat_le 8 (slice_index_or inks k 0)) (λ (k : ℕ). (ink_of k).1) 256 i refl below
+pub ink_bold : (i : ℕ) → i < 256 → nat_le 8 (slice_index_or inks i 0) ≡ (foreground_of i).1
+ink_bold i below =
+    agree_below_at (λ (k : ℕ). nat_le 8 (slice_index_or inks k 0)) (λ (k : ℕ). (foreground_of k).1) 256 i refl below
 
-pub ground-is : (i : ℕ) → i < 256 → slice_index_or grounds i 0 ≡ ground_of i
-ground-is i below =
+pub ground_is : (i : ℕ) → i < 256 → slice_index_or grounds i 0 ≡ background_of i
+ground_is i below =
     eqb-true _ _
-    (agree_below_at (λ (k : ℕ). slice_index_or grounds k 0 == ground_of k) (λ _. true) 256 i refl below)
+    (agree_below_at (λ (k : ℕ). slice_index_or grounds k 0 == background_of k) (λ _. true) 256 i refl below)
 
-pub ground-low : (i : ℕ) → i < 256 → nat_lt (slice_index_or grounds i 0) 8 ≡ true
-ground-low i below =
+pub ground_low : (i : ℕ) → i < 256 → nat_lt (slice_index_or grounds i 0) 8 ≡ true
+ground_low i below =
     agree_below_at (λ (k : ℕ). nat_lt (slice_index_or grounds k 0) 8) (λ _. true) 256 i refl below

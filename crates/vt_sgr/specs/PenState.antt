@@ -16,13 +16,13 @@ pub record PenState : Type 0 where
   pub toggle : Bool
 
 -- other attributes
-abbrev pub drawn : PenState → Rendition → PenState
-drawn p a = record p { attr = a }
+abbrev pub with_attributes : PenState → Rendition → PenState
+with_attributes p a = record p { attr = a }
 
 -- the default colours, and nothing on
 abbrev pub plain : PenState → PenState
 plain p =
-    drawn p
+    with_attributes p
     (record {
       fg = p.def_fg;
       bg = p.def_bg;
@@ -35,36 +35,36 @@ plain p =
 
 -- another colour of the character
 abbrev pub with_fg : PenState → ℕ → PenState
-with_fg p fg = drawn p (record p.attr { fg = fg })
+with_fg p fg = with_attributes p (record p.attr { fg = fg })
 
 -- another colour of the ground
 abbrev pub with_bg : PenState → ℕ → PenState
-with_bg p bg = drawn p (record p.attr { bg = bg })
+with_bg p bg = with_attributes p (record p.attr { bg = bg })
 
 -- another colour of the character, and another intensity
 abbrev pub with_bright : PenState → ℕ → Intensity → PenState
-with_bright p fg intensity = drawn p (record p.attr { fg = fg; intensity = intensity })
+with_bright p fg intensity = with_attributes p (record p.attr { fg = fg; intensity = intensity })
 
 -- another intensity
 abbrev pub with_intensity : PenState → Intensity → PenState
-with_intensity p intensity = drawn p (record p.attr { intensity = intensity })
+with_intensity p intensity = with_attributes p (record p.attr { intensity = intensity })
 
 -- italic on or off
 abbrev pub with_italic : PenState → Bool → PenState
-with_italic p on = drawn p (record p.attr { italic = on })
+with_italic p on = with_attributes p (record p.attr { italic = on })
 
 -- underline on or off
 abbrev pub with_underline : PenState → Bool → PenState
-with_underline p on = drawn p (record p.attr { underline = on })
+with_underline p on = with_attributes p (record p.attr { underline = on })
 
 -- blink on or off
 abbrev pub with_blink : PenState → Bool → PenState
-with_blink p on = drawn p (record p.attr { blink = on })
+with_blink p on = with_attributes p (record p.attr { blink = on })
 
 -- reverse video on or off
 abbrev pub with_reverse : PenState → Bool → PenState
-with_reverse p on = drawn p (record p.attr { reverse = on })
+with_reverse p on = with_attributes p (record p.attr { reverse = on })
 
 -- other flags of the mapping
-abbrev pub mapped : PenState → Bool → Bool → Bool → PenState
-mapped p alt display toggle = record p { alt = alt; display = display; toggle = toggle }
+abbrev pub with_mapping : PenState → Bool → Bool → Bool → PenState
+with_mapping p alt display toggle = record p { alt = alt; display = display; toggle = toggle }

@@ -2,7 +2,7 @@
 use Rattle.std.specs.Prelude.{ℕ, zero, suc, Bool, true, false, ◌+◌, ◌-◌, ◌==◌, ◌&&◌, ◌||◌, nat_le, min, Option, Some, None, List, [], ◌∷◌, length, slice_index, if◌then◌else◌}
 use Rattle.vt_cells.specs.Colours.{Rgb, fold_bg, fold_fg, rgb_of}
 use Rattle.vt_cells.specs.declared.intensity.Intensity.TheVariants.{Dim, Normal, Bold}
-use Rattle.vt_sgr.specs.PenState.{PenState, mapped, plain, with_bg, with_blink, with_bright, with_fg, with_intensity, with_italic, with_reverse, with_underline}
+use Rattle.vt_sgr.specs.PenState.{PenState, with_mapping, plain, with_bg, with_blink, with_bright, with_fg, with_intensity, with_italic, with_reverse, with_underline}
 
 -- the parameters begin with 5 and an index
 abbrev pub is_indexed : List ℕ → Bool
@@ -13,8 +13,8 @@ abbrev pub is_direct : List ℕ → Bool
 is_direct rest = nat_le 4 (length rest) && slice_index rest 0 == 2
 
 -- the colour of an index; there is none above 255
-abbrev pub indexed : ℕ → Option Rgb
-indexed i = if nat_le i 255 then Some (rgb_of i) else None
+abbrev pub colour_of_index : ℕ → Option Rgb
+colour_of_index i = if nat_le i 255 then Some (rgb_of i) else None
 
 -- a part of a colour; more than 255 counts as 255
 abbrev pub part : List ℕ → ℕ → ℕ
@@ -23,7 +23,7 @@ part rest place = min 255 (slice_index rest place)
 -- the colour that the parameters after a 38 or 48 give
 abbrev pub colour_of : List ℕ → Option Rgb
 colour_of rest =
-    if is_indexed rest then indexed (slice_index rest 1)
+    if is_indexed rest then colour_of_index (slice_index rest 1)
     else if is_direct rest then Some (part rest 1, part rest 2, part rest 3)
     else None
 
@@ -47,12 +47,12 @@ with_bg_colour p None = p
 with_bg_colour p (Some (r, g, b)) = with_bg p (fold_bg r g b)
 
 -- the colour of a character by an index, and whether it is bold. No public clause names this
-abbrev pub ink_of : ℕ → ℕ × Bool
-ink_of i = let rgb = rgb_of i in fold_fg rgb.0 rgb.1 rgb.2
+abbrev pub foreground_of : ℕ → ℕ × Bool
+foreground_of i = let rgb = rgb_of i in fold_fg rgb.0 rgb.1 rgb.2
 
 -- the colour of a ground by an index. No public clause names this
-abbrev pub ground_of : ℕ → ℕ
-ground_of i = let rgb = rgb_of i in fold_bg rgb.0 rgb.1 rgb.2
+abbrev pub background_of : ℕ → ℕ
+background_of i = let rgb = rgb_of i in fold_bg rgb.0 rgb.1 rgb.2
 
 -- n is one of the eight numbers from low on
 abbrev pub is_of : ℕ → ℕ → Bool
@@ -68,9 +68,9 @@ with_form n rest p =
     else if n == 4 then with_underline p true  -- underscore
     else if n == 5 then with_blink p true  -- blink
     else if n == 7 then with_reverse p true  -- reverse video
-    else if n == 10 then mapped p false false false  -- primary font
-    else if n == 11 then mapped p true true false  -- first alternate font
-    else if n == 12 then mapped p true true true  -- second alternate font
+    else if n == 10 then with_mapping p false false false  -- primary font
+    else if n == 11 then with_mapping p true true false  -- first alternate font
+    else if n == 12 then with_mapping p true true true  -- second alternate font
     else if n == 21 then with_underline p true  -- underline
     else if n == 22 then with_intensity p Normal  -- normal intensity
     else if n == 23 then with_italic p false  -- italic off
@@ -92,12 +92,12 @@ abbrev pub taken_by : ℕ → List ℕ → ℕ
 taken_by n rest = if n == 38 || n == 48 then colour_len rest else 0
 
 -- the pen after the parameters, of which the first `taken` belong to what stands before them
-abbrev pub sgr_behind : ℕ → List ℕ → PenState → PenState
-sgr_behind taken [] p = p
-sgr_behind (suc taken) (n ∷ rest) p = sgr_behind taken rest p
-sgr_behind zero (n ∷ rest) p = sgr_behind (taken_by n rest) rest (with_form n rest p)
+abbrev pub sgr_skipping : ℕ → List ℕ → PenState → PenState
+sgr_skipping taken [] p = p
+sgr_skipping (suc taken) (n ∷ rest) p = sgr_skipping taken rest p
+sgr_skipping zero (n ∷ rest) p = sgr_skipping (taken_by n rest) rest (with_form n rest p)
 
 -- the pen after all parameters; no parameter is 0
 abbrev pub sgr : List ℕ → PenState → PenState
 sgr [] p = with_form 0 [] p
-sgr (n ∷ rest) p = sgr_behind 0 (n ∷ rest) p
+sgr (n ∷ rest) p = sgr_skipping 0 (n ∷ rest) p

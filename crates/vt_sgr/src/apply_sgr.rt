@@ -1,7 +1,7 @@
 ghost use Rattle.std.specs.Prelude.{◌≡◌, ◌<◌, ◌≤◌, [], ◌∷◌, length, if◌then◌else◌};
 ghost use Rattle.vt_cells.specs.declared.intensity.Intensity.TheVariants.{Bold, Normal};
 ghost use Rattle.vt_sgr.specs.PenState.{with_bright};
-ghost use Rattle.vt_sgr.specs.Sgr.{colour_of, indexed, sgr, sgr_behind, taken_by, with_bg_colour, with_fg_colour, with_form};
+ghost use Rattle.vt_sgr.specs.Sgr.{colour_of, colour_of_index, sgr, sgr_skipping, taken_by, with_bg_colour, with_fg_colour, with_form};
 
 use crate::Pen;
 use crate::change::{
@@ -9,7 +9,7 @@ use crate::change::{
     set_italic, set_mapping, set_plain, set_reverse, set_underline,
 };
 use crate::colour::{colour_len, colour_of, part};
-use crate::indices::{ground_of, ink_of};
+use crate::indices::{background_of, foreground_of};
 use vt_cells::{Intensity, fold_bg, fold_fg};
 
 /// SGR: changes the pen by the parameters of the sequence (console_codes(4), "ECMA-48 Select Graphic
@@ -80,16 +80,16 @@ fn apply_listed(p: &mut Pen, first: u16, second: u16, third: u16)
 
 // A character takes the hue and intensity of the colour of an index, if there is one.
 fn set_fg_index(p: &mut Pen, index: u16)
-    ensures { p.new ≡ with_fg_colour p.old (indexed index) }
+    ensures { p.new ≡ with_fg_colour p.old (colour_of_index index) }
 {
     if index <= 255 {
-        let (fg, bold) = ink_of(index as u8);
-        set_ink(p, fg, bold);
+        let (fg, bold) = foreground_of(index as u8);
+        set_foreground(p, fg, bold);
     }
 }
 
 // A character takes this hue, and is bold or normal.
-fn set_ink(p: &mut Pen, fg: u8, bold: bool)
+fn set_foreground(p: &mut Pen, fg: u8, bold: bool)
     requires { fg < 16 }
     ensures { p.new ≡ with_bright p.old fg (if bold then Bold else Normal) }
 {
@@ -102,10 +102,10 @@ fn set_ink(p: &mut Pen, fg: u8, bold: bool)
 }
 
 fn set_bg_index(p: &mut Pen, index: u16)
-    ensures { p.new ≡ with_bg_colour p.old (indexed index) }
+    ensures { p.new ≡ with_bg_colour p.old (colour_of_index index) }
 {
     if index <= 255 {
-        set_bg(p, ground_of(index as u8));
+        set_bg(p, background_of(index as u8));
     }
 }
 
@@ -122,7 +122,7 @@ fn apply_two(p: &mut Pen, first: u16, second: u16)
 
 #[inline(never)]
 fn apply_all(p: &mut Pen, params: &[u16])
-    ensures { p.new ≡ sgr_behind 0 params.now p.old }
+    ensures { p.new ≡ sgr_skipping 0 params.now p.old }
 {
     let mut at = 0;
     while at < params.len() {

@@ -1,11 +1,11 @@
 //! The changes that one parameter makes to a pen.
 ghost use Rattle.std.specs.Prelude.{◌≡◌, ◌<◌};
-ghost use Rattle.vt_sgr.specs.PenState.{mapped, plain, with_bg, with_blink, with_bright, with_fg, with_intensity, with_italic, with_reverse, with_underline};
+ghost use Rattle.vt_sgr.specs.PenState.{with_mapping, plain, with_bg, with_blink, with_bright, with_fg, with_intensity, with_italic, with_reverse, with_underline};
 
 use crate::Pen;
 use vt_cells::{Attr, Intensity};
 
-pub fn set_plain(p: &mut Pen)
+pub(crate) fn set_plain(p: &mut Pen)
     ensures { p.new ≡ plain p.old }
 {
     p.attr = Attr {
@@ -19,33 +19,33 @@ pub fn set_plain(p: &mut Pen)
     };
 }
 
-pub fn set_fg(p: &mut Pen, fg: u8)
+pub(crate) fn set_fg(p: &mut Pen, fg: u8)
     requires { fg < 16 }
     ensures { p.new ≡ with_fg p.old fg }
 {
     p.attr.fg = fg;
 }
 
-pub fn set_bg(p: &mut Pen, bg: u8)
+pub(crate) fn set_bg(p: &mut Pen, bg: u8)
     requires { bg < 8 }
     ensures { p.new ≡ with_bg p.old bg }
 {
     p.attr.bg = bg;
 }
 
-pub fn set_default_fg(p: &mut Pen)
+pub(crate) fn set_default_fg(p: &mut Pen)
     ensures { p.new ≡ with_fg p.old p.old.def_fg }
 {
     p.attr.fg = p.def_fg;
 }
 
-pub fn set_default_bg(p: &mut Pen)
+pub(crate) fn set_default_bg(p: &mut Pen)
     ensures { p.new ≡ with_bg p.old p.old.def_bg }
 {
     p.attr.bg = p.def_bg;
 }
 
-pub fn set_bright(p: &mut Pen, fg: u8, intensity: Intensity)
+pub(crate) fn set_bright(p: &mut Pen, fg: u8, intensity: Intensity)
     requires { fg < 16 }
     ensures { p.new ≡ with_bright p.old fg intensity }
 {
@@ -53,38 +53,38 @@ pub fn set_bright(p: &mut Pen, fg: u8, intensity: Intensity)
     p.attr.intensity = intensity;
 }
 
-pub fn set_intensity(p: &mut Pen, intensity: Intensity)
+pub(crate) fn set_intensity(p: &mut Pen, intensity: Intensity)
     ensures { p.new ≡ with_intensity p.old intensity }
 {
     p.attr.intensity = intensity;
 }
 
-pub fn set_italic(p: &mut Pen, on: bool)
+pub(crate) fn set_italic(p: &mut Pen, on: bool)
     ensures { p.new ≡ with_italic p.old on }
 {
     p.attr.italic = on;
 }
 
-pub fn set_underline(p: &mut Pen, on: bool)
+pub(crate) fn set_underline(p: &mut Pen, on: bool)
     ensures { p.new ≡ with_underline p.old on }
 {
     p.attr.underline = on;
 }
 
-pub fn set_blink(p: &mut Pen, on: bool)
+pub(crate) fn set_blink(p: &mut Pen, on: bool)
     ensures { p.new ≡ with_blink p.old on }
 {
     p.attr.blink = on;
 }
 
-pub fn set_reverse(p: &mut Pen, on: bool)
+pub(crate) fn set_reverse(p: &mut Pen, on: bool)
     ensures { p.new ≡ with_reverse p.old on }
 {
     p.attr.reverse = on;
 }
 
-pub fn set_mapping(p: &mut Pen, alt: bool, display: bool, toggle: bool)
-    ensures { p.new ≡ mapped p.old alt display toggle }
+pub(crate) fn set_mapping(p: &mut Pen, alt: bool, display: bool, toggle: bool)
+    ensures { p.new ≡ with_mapping p.old alt display toggle }
 {
     p.alt = alt;
     p.display = display;

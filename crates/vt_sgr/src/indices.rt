@@ -1,10 +1,10 @@
 //! The colours of the indices from 0 to 255 as a text cell shows them.
 ghost use Rattle.std.specs.Prelude.{◌≡◌, ◌<◌};
-ghost use Rattle.vt_sgr.specs.Sgr.{ground_of, ink_of};
+ghost use Rattle.vt_sgr.specs.Sgr.{background_of, foreground_of};
 
 // Of each index the colour of a character, and 8 more where it is bold.
 #[rattlefmt::skip]
-static INKS: [u8; 256] = [
+static FOREGROUNDS: [u8; 256] = [
     0, 1, 2, 3, 4, 5, 6, 7, 8, 9, 10, 11, 12, 13, 14, 15, // 00
     0, 4, 4, 4, 4, 12, 2, 6, 4, 4, 4, 12, 2, 2, 6, 6, // 10
     4, 12, 2, 2, 6, 6, 6, 14, 2, 2, 2, 6, 6, 14, 10, 10, // 20
@@ -25,7 +25,7 @@ static INKS: [u8; 256] = [
 
 // Of each index the colour of a ground.
 #[rattlefmt::skip]
-static GROUNDS: [u8; 256] = [
+static BACKGROUNDS: [u8; 256] = [
     0, 1, 2, 3, 4, 5, 6, 7, 0, 1, 2, 3, 4, 5, 6, 7, // 00
     0, 0, 0, 0, 4, 4, 0, 0, 0, 0, 4, 4, 0, 0, 0, 0, // 10
     4, 4, 0, 0, 0, 0, 4, 4, 2, 2, 2, 2, 6, 6, 2, 2, // 20
@@ -46,19 +46,19 @@ static GROUNDS: [u8; 256] = [
 
 /// The colour of a character, and whether it is bold.
 #[inline(always)]
-pub(crate) fn ink_of(index: u8) -> (u8, bool)
-    ensures folded { result ≡ ink_of index }
+pub(crate) fn foreground_of(index: u8) -> (u8, bool)
+    ensures folded { result ≡ foreground_of index }
     ensures colour { result.0 < 8 }
 {
-    let ink = INKS[usize::from(index)];
+    let ink = FOREGROUNDS[usize::from(index)];
     (ink % 8, ink >= 8)
 }
 
 /// The colour of a ground.
 #[inline(always)]
-pub(crate) fn ground_of(index: u8) -> u8
-    ensures folded { result ≡ ground_of index }
+pub(crate) fn background_of(index: u8) -> u8
+    ensures folded { result ≡ background_of index }
     ensures colour { result < 8 }
 {
-    GROUNDS[usize::from(index)]
+    BACKGROUNDS[usize::from(index)]
 }

@@ -3,7 +3,7 @@ use Rattle.std.proofs.Common.{◌≡◌, ℕ, Bool, true, false, cond, Option, S
 use Rattle.std.specs.Prelude.{◌==◌, ◌||◌, not, IfSome}
 use Rattle.vt_switch.proofs.Lookups.{equal, named}
 use Rattle.vt_switch.specs.Acts.{Allocate, Request, Release, SetMode, SetKd, Lock, Free, End, hop_of_asked, hop_of_released}
-use Rattle.vt_switch.specs.Calls.{asked_of, inval, kept, let_go, owns}
+use Rattle.vt_switch.specs.Calls.{asked_of, inval, drop_pending, let_go, owns}
 use Rattle.vt_switch.specs.Deaths.{falls_to}
 use Rattle.vt_switch.specs.Display.{Display, console, is_allocated, owner_of}
 use Rattle.vt_switch.specs.Law.{HopsAreDue, IsDue, IsLetGo}
@@ -35,7 +35,7 @@ released_due : (d : Display) (c p arg : ℕ) (mine keeps goes knows here : Bool)
     → owns d p c ≡ mine → (arg == 1) ≡ goes → (c == d.front) ≡ here → d.pending ≡ waits
     → IfSome
     (hop_of_released
-    (cond (not mine) (Err inval) (cond keeps (kept (cond here waits None))
+    (cond (not mine) (Err inval) (cond keeps (drop_pending (cond here waits None))
     (cond goes (let_go d p (cond here waits None)) (cond knows (Ok None) (Err inval))))))
     (IsDue d (Release c p arg))
 released_due d c p arg false keeps goes knows here waits owned one front pend = tt
@@ -66,16 +66,16 @@ ended_due d p true None owned pend = tt
 ended_due d p true (Some n) owned pend =
     record { from = refl; because = (refl, let_go_by d p n owned pend) }
 
-pub hops-are-due : HopsAreDue
-hops-are-due d (Allocate n) = tt
-hops-are-due d (Request n) =
+pub hops_are_due : HopsAreDue
+hops_are_due d (Allocate n) = tt
+hops_are_due d (Request n) =
     asked_due d n (not (is_allocated d n)) (n == d.front) d.locked (console d d.front).graphics
     (console d d.front).handling refl refl refl
-hops-are-due d (Release c p arg) =
+hops_are_due d (Release c p arg) =
     released_due d c p arg (owns d p c) (arg == 0) (arg == 1) (arg == 2) (c == d.front) d.pending
     refl refl refl refl
-hops-are-due d (SetMode c p m) = tt
-hops-are-due d (SetKd c graphics) = tt
-hops-are-due d (Lock on) = tt
-hops-are-due d (Free n) = tt
-hops-are-due d (End p) = ended_due d p (owns d p d.front) d.pending refl refl
+hops_are_due d (SetMode c p m) = tt
+hops_are_due d (SetKd c graphics) = tt
+hops_are_due d (Lock on) = tt
+hops_are_due d (Free n) = tt
+hops_are_due d (End p) = ended_due d p (owns d p d.front) d.pending refl refl

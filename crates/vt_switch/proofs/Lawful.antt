@@ -127,11 +127,11 @@ from_nothing k list owners none ordered =
       lawful = tt;
     })
 
-pub display-law : DisplayLaw
-display-law k list owners none ordered = (from_nothing k list owners none ordered).lawful
+pub display_law : DisplayLaw
+display_law k list owners none ordered = (from_nothing k list owners none ordered).lawful
 
-pub target-law : TargetLaw
-target-law k list owners none ordered =
+pub target_law : TargetLaw
+target_law k list owners none ordered =
     explained_more (0 + length list) (length list) (after_entries k list) (history 0 k list [])
     (omega arith) (from_nothing k list owners none ordered).explained
 
@@ -139,7 +139,7 @@ acts_live : (k : Core) (acts : List SwitchAct) → OwnersLive k → OwnersLive (
 acts_live k [] owners = owners
 acts_live k (act ∷ acts) owners = acts_live (core_after k act) acts (owners_live k act owners)
 
-pub owners-stay-live : OwnersStayLive
-owners-stay-live k [] owners = owners
-owners-stay-live k (acts ∷ list) owners =
-    owners-stay-live (all_after k acts) list (acts_live k acts owners)
+pub owners_stay_live : OwnersStayLive
+owners_stay_live k [] owners = owners
+owners_stay_live k (acts ∷ list) owners =
+    owners_stay_live (all_after k acts) list (acts_live k acts owners)

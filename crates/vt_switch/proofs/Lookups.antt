@@ -53,7 +53,3 @@ and_false false b isnt = refl
 pub or_left : (a b : Bool) → (a || b) ≡ false → a ≡ false
 or_left true b isnt = isnt
 or_left false b isnt = refl
-
-pub or_right : (a b : Bool) → (a || b) ≡ false → b ≡ false
-or_right true b isnt = differ (sym isnt)
-or_right false b isnt = isnt

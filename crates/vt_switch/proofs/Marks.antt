@@ -2,7 +2,7 @@
 use Rattle.std.proofs.Common.{◌≡◌, ℕ, Bool, true, false, cond, List, [], ◌∷◌, ◌++◌, Option, Some, None, refl, ap, ◌∙◌}
 use Rattle.std.specs.Prelude.{option_to_list}
 use Rattle.vt_switch.specs.Acts.{SwitchAct, Allocate, Request, Release, SetMode, SetKd, Lock, Free, End, hop_of}
-use Rattle.vt_switch.specs.Calls.{asked}
+use Rattle.vt_switch.specs.Calls.{request_outcome}
 use Rattle.vt_switch.specs.Display.{console, is_allocated}
 use Rattle.vt_switch.specs.Moments.{Core, core_after, hop_marks, hops, is_live, own_marks, raise_acquire, raise_release}
 use Rattle.vt_switch.specs.News.{OneHopIsTold}
@@ -34,7 +34,7 @@ own_quiet : (k : Core) (act : SwitchAct) (more : List Mark)
     → hops (own_marks k act ++ more) ≡ hops more
 own_quiet k (Allocate n) more = refl
 own_quiet k (Request n) more =
-    asked_if (is_allocated k.display n) n k (asked k.display n) more
+    asked_if (is_allocated k.display n) n k (request_outcome k.display n) more
 own_quiet k (Release c p arg) more = refl
 own_quiet k (SetMode c p m) more = refl
 own_quiet k (SetKd c graphics) more = refl

@@ -9,7 +9,7 @@ use Rattle.vt_switch.proofs.Lookups.{nothing, same_number, set_either, unequal}
 use Rattle.vt_switch.proofs.Sound.{given_back}
 use Rattle.vt_switch.proofs.Stays.{owner_in, with_graphics, with_handling}
 use Rattle.vt_switch.specs.Acts.{SwitchAct, Allocate, Request, Release, SetMode, SetKd, Lock, Free, End}
-use Rattle.vt_switch.specs.Calls.{after_asked, after_mode, after_released, asked, freed, handled, handling_of, is_held, names, process_of, released, signal_of}
+use Rattle.vt_switch.specs.Calls.{after_asked, after_mode, after_released, request_outcome, without_console, with_console_handling, handling_of, is_held, names, process_of, release_result, signal_of}
 use Rattle.vt_switch.specs.Deaths.{after_hop, ended_hop, left_by}
 use Rattle.vt_switch.specs.Display.{Display, fresh, or_fresh, owner_of}
 use Rattle.vt_switch.specs.Law.{OwnersLive}
@@ -99,9 +99,9 @@ mode_live k c p m false h is sets all = all
 mode_live k c p m true None is sets all = all
 mode_live k c p m true (Some h) is sets all =
     let d = k.display in
-    same_live k.live (handled d c h).consoles
-    (cond (c == d.front) (record (handled d c h) { pending = None }) (handled d c h)).consoles
-    (either_same (c == d.front) (record (handled d c h) { pending = None }) (handled d c h) refl)
+    same_live k.live (with_console_handling d c h).consoles
+    (cond (c == d.front) (record (with_console_handling d c h) { pending = None }) (with_console_handling d c h)).consoles
+    (either_same (c == d.front) (record (with_console_handling d c h) { pending = None }) (with_console_handling d c h) refl)
     (set_live k.live d.consoles c
     (option_map (with_handling h) (get_or d.consoles c None)) all
     (handled_lives k.live p m h (get_or d.consoles c None) sets is))
@@ -112,7 +112,7 @@ shown_lives live graphics None all q owned = nothing q owned
 shown_lives live graphics (Some console) all q owned = all q owned
 
 free_live : (k : Core) (c : ℕ) (held : Bool) → AllLive k.live k.display.consoles
-    → AllLive k.live (cond held k.display (freed k.display c)).consoles
+    → AllLive k.live (cond held k.display (without_console k.display c)).consoles
 free_live k c true all = all
 free_live k c false all =
     set_live k.live k.display.consoles c None all (λ q owned. nothing q owned)
@@ -146,10 +146,10 @@ owners_live k (Allocate c) all =
     (all c)
 owners_live k (Request n) all =
     same_live k.live k.display.consoles (core_after k (Request n)).display.consoles
-    (asked_same k.display n (asked k.display n)) all
+    (asked_same k.display n (request_outcome k.display n)) all
 owners_live k (Release c p arg) all =
     same_live k.live k.display.consoles (core_after k (Release c p arg)).display.consoles
-    (released_same k.display arg (released k.display c p arg)) all
+    (released_same k.display arg (release_result k.display c p arg)) all
 owners_live k (SetMode c p m) all = mode_live k c p m (is_live k p) (handling_of p m) refl refl all
 owners_live k (SetKd c graphics) all =
     let place : Option Console = get_or k.display.consoles c None in

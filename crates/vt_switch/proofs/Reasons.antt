@@ -2,12 +2,12 @@
 use Rattle.std.proofs.Common.{◌≡◌, ℕ, ◌+◌, ◌≤◌, Bool, true, false, cond, List, [], ◌∷◌, ◌++◌, Option, Some, None, refl, sym, ap, subst, ◌∙◌, inl, inr, arith}
 use Rattle.std.specs.Prelude.{◌==◌, ◌||◌, not, IfSome, option_to_list}
 use Rattle.vt_switch.proofs.Lookups.{nothing, same_number}
-use Rattle.vt_switch.proofs.Due.{hops-are-due}
+use Rattle.vt_switch.proofs.Due.{hops_are_due}
 use Rattle.vt_switch.proofs.Marks.{hops_of_marks}
 use Rattle.vt_switch.proofs.Stays.{Stays, stays}
 use Rattle.vt_switch.proofs.Told.{going, ignored_tells, quiet_tells}
 use Rattle.vt_switch.specs.Acts.{SwitchAct, Request, hop_of, hop_of_asked}
-use Rattle.vt_switch.specs.Calls.{after_asked, asked, asked_of}
+use Rattle.vt_switch.specs.Calls.{after_asked, request_outcome, asked_of}
 use Rattle.vt_switch.specs.Display.{Display, console, is_allocated, owner_of}
 use Rattle.vt_switch.specs.Law.{AllowedBy, DueBy, EachAllowed, Handed, IsDue, IsExplained, IsLetGo, OwnersLive, Quiet, Raises, Since, WasAskedFor, release_of}
 use Rattle.vt_switch.specs.Moments.{Core, Moment, core_after, hop_marks, hops, is_live, is_request, raise_release, settles, trace}
@@ -107,19 +107,19 @@ owner_asked (Process handshake) owner signal is = ap first_of is
 
 -- the trace of a request that raised a signal
 raised_trace : (e : ℕ) (k : Core) (n owner signal : ℕ) → is_allocated k.display n ≡ true
-    → asked k.display n ≡ Signalled owner signal → is_live k owner ≡ true
+    → request_outcome k.display n ≡ Signalled owner signal → is_live k owner ≡ true
     → trace (moment e k (Request n)) ≡ mark.Asked n ∷ mark.Raised owner signal ∷ []
 raised_trace e k n owner signal there is lives =
     let after : Core = core_after k (Request n) in
     ap
-    (λ (b : Bool). cond b (mark.Asked n ∷ raise_release k (asked k.display n)) []
-    ++ hop_marks after (hop_of_asked (asked k.display n)))
+    (λ (b : Bool). cond b (mark.Asked n ∷ raise_release k (request_outcome k.display n)) []
+    ++ hop_marks after (hop_of_asked (request_outcome k.display n)))
     there
     ∙ ap (λ (a : Asked). (mark.Asked n ∷ raise_release k a) ++ hop_marks after (hop_of_asked a)) is
     ∙ ap (λ (b : Bool). mark.Asked n ∷ (cond b (mark.Raised owner signal ∷ []) [] ++ [])) lives
 
 -- what a request leaves, by its answer
-ask_by : (i e : ℕ) (k : Core) (h : List Moment) (n : ℕ) (a : Asked) → asked k.display n ≡ a
+ask_by : (i e : ℕ) (k : Core) (h : List Moment) (n : ℕ) (a : Asked) → request_outcome k.display n ≡ a
     → i ≤ e + 1 → OwnersLive k → IsExplained i k h → (w : ℕ)
     → (core_after k (Request n)).display.pending ≡ Some w
     → WasAskedFor (e + 1) (core_after k (Request n)) (moment e k (Request n) ∷ h) w
@@ -175,7 +175,7 @@ ask_by i e k h n (Signalled owner signal) is more owners explained w waits =
 pub ask : (i e : ℕ) (k : Core) (h : List Moment) (n : ℕ) → i ≤ e + 1 → OwnersLive k
     → IsExplained i k h → IsExplained (e + 1) (core_after k (Request n)) (moment e k (Request n) ∷ h)
 ask i e k h n more owners explained w waits =
-    ask_by i e k h n (asked k.display n) refl more owners explained w waits
+    ask_by i e k h n (request_outcome k.display n) refl more owners explained w waits
 
 -- the owner had been asked
 handed : (m : Moment) (h : List Moment) (p n : ℕ) → IsExplained m.entry m.before h
@@ -221,4 +221,4 @@ pub allowed : (e : ℕ) (k : Core) (h : List Moment) (act : SwitchAct)
     → EachAllowed h (moment e k act) (hops (trace (moment e k act)))
 allowed e k h act explained =
     subst (EachAllowed h (moment e k act)) (sym (hops_of_marks k act))
-    (by_hop (moment e k act) h (hop_of k.display act) explained (hops-are-due k.display act))
+    (by_hop (moment e k act) h (hop_of k.display act) explained (hops_are_due k.display act))

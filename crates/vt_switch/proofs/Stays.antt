@@ -9,7 +9,7 @@ use Rattle.vt_base.specs.declared.vt_mode.VtMode.{VtMode}
 use Rattle.vt_switch.proofs.Lookups.{and_false, differ, nothing, or_left, set_alike, unequal}
 use Rattle.vt_switch.proofs.Sound.{given_back, still}
 use Rattle.vt_switch.specs.Acts.{SwitchAct, Allocate, Request, Release, SetMode, SetKd, Lock, Free, End, hop_of, hop_of_released}
-use Rattle.vt_switch.specs.Calls.{after_mode, after_released, freed, handled, handling_of, inval, is_held, kept, let_go, names, owns, waiting}
+use Rattle.vt_switch.specs.Calls.{after_mode, after_released, without_console, with_console_handling, handling_of, inval, is_held, drop_pending, let_go, names, owns, pending_at}
 use Rattle.vt_switch.specs.Deaths.{after_hop, falls_to, left_by}
 use Rattle.vt_switch.specs.Display.{Display, console, or_fresh, owner_of}
 use Rattle.vt_switch.specs.Moments.{Core, accepts, core_after, is_live, is_request, refuses, sets_mode}
@@ -39,7 +39,7 @@ pub record Stays (k : Core) (act : SwitchAct) (n : ℕ) : Type 0 where
 -- a release, with its tests as variables
 abbrev answer : Display → ℕ → Bool → Bool → Bool → Bool → Option ℕ → Result (Option Hop) Inval
 answer d p other keeps goes knows waits =
-    cond other (Err inval) (cond keeps (kept waits)
+    cond other (Err inval) (cond keeps (drop_pending waits)
     (cond goes (let_go d p waits) (cond knows (Ok None) (Err inval))))
 
 record Left (d e : Display) (n : ℕ) (here keeps : Bool) (r : Result (Option Hop) Inval) : Type 0 where
@@ -88,7 +88,7 @@ release_stays k c p arg n left =
     let d = k.display in
     let l =
     by_release d p arg n (c == d.front) (not (owns d p c)) (arg == 0) (arg == 1) (arg == 2)
-    (waiting d c) refl left in
+    (pending_at d c) refl left in
     record {
       front = l.front;
       owner = ap (λ (cs : List (Option Console)). owner_in (get_or cs d.front None)) l.consoles;
@@ -106,8 +106,8 @@ record Moded (d e : Display) (n : ℕ) (here accepted : Bool) : Type 0 where
   no_mode : (here && accepted) ≡ false
 
 by_handling : (d : Display) (c n : ℕ) (here : Bool) (h : Handling) → (c == d.front) ≡ here
-    → (cond here (record (handled d c h) { pending = None }) (handled d c h)).pending ≡ Some n
-    → Moded d (cond here (record (handled d c h) { pending = None }) (handled d c h)) n here true
+    → (cond here (record (with_console_handling d c h) { pending = None }) (with_console_handling d c h)).pending ≡ Some n
+    → Moded d (cond here (record (with_console_handling d c h) { pending = None }) (with_console_handling d c h)) n here true
 by_handling d c n true h is left = nothing n left
 by_handling d c n false h is left =
     record {
@@ -201,7 +201,7 @@ record Freed (d e : Display) (n : ℕ) : Type 0 where
   waits : d.pending ≡ Some n
 
 by_free : (d : Display) (c n : ℕ) (held : Bool) → is_held d c ≡ held
-    → (cond held d (freed d c)).pending ≡ Some n → Freed d (cond held d (freed d c)) n
+    → (cond held d (without_console d c)).pending ≡ Some n → Freed d (cond held d (without_console d c)) n
 by_free d c n true is left = record { front = refl; owner = refl; waits = left }
 by_free d c n false is left =
     let other : (c == d.front) ≡ false =

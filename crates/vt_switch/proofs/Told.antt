@@ -2,7 +2,7 @@
 use Rattle.std.proofs.Common.{◌≡◌, ◌≤◌, ℕ, Bool, true, false, cond, List, [], ◌∷◌, ◌++◌, length, Option, Some, None, refl, sym, ap, subst, ◌∙◌, lit≤}
 use Rattle.vt_switch.proofs.Lookups.{differ}
 use Rattle.vt_switch.specs.Acts.{SwitchAct, Allocate, Request, Release, SetMode, SetKd, Lock, Free, End, hop_of, hop_of_asked}
-use Rattle.vt_switch.specs.Calls.{asked}
+use Rattle.vt_switch.specs.Calls.{request_outcome}
 use Rattle.vt_switch.specs.Display.{console, is_allocated}
 use Rattle.vt_switch.specs.Moments.{Core, core_after, hop_marks, is_live, is_request, marks, raise_acquire, raise_release}
 use Rattle.vt_switch.specs.News.{News, Going, OneNewsIsTold, news}
@@ -56,7 +56,7 @@ ignored_if : (k after : Core) (there : Bool) (n : ℕ)
 ignored_if k after true n = refl
 ignored_if k after false n = refl
 
-pub ignored_tells : (k : Core) (n : ℕ) → asked k.display n ≡ Ignored
+pub ignored_tells : (k : Core) (n : ℕ) → request_outcome k.display n ≡ Ignored
     → news (marks k (Request n)) ≡ []
 ignored_tells k n is =
     let after : Core = core_after k (Request n) in
@@ -90,13 +90,13 @@ one_quiet k act isnt =
     subst (λ (list : List News). length list ≤ 1) (sym (quiet_tells k act isnt))
     (one_going (hop_of k.display act))
 
-pub one-news-is-told : OneNewsIsTold
-one-news-is-told k (Request n) =
-    one_request k (core_after k (Request n)) (is_allocated k.display n) n (asked k.display n)
-one-news-is-told k (Allocate n) = one_quiet k (Allocate n) refl
-one-news-is-told k (Release c p arg) = one_quiet k (Release c p arg) refl
-one-news-is-told k (SetMode c p m) = one_quiet k (SetMode c p m) refl
-one-news-is-told k (SetKd c graphics) = one_quiet k (SetKd c graphics) refl
-one-news-is-told k (Lock on) = one_quiet k (Lock on) refl
-one-news-is-told k (Free n) = one_quiet k (Free n) refl
-one-news-is-told k (End p) = one_quiet k (End p) refl
+pub one_news_is_told : OneNewsIsTold
+one_news_is_told k (Request n) =
+    one_request k (core_after k (Request n)) (is_allocated k.display n) n (request_outcome k.display n)
+one_news_is_told k (Allocate n) = one_quiet k (Allocate n) refl
+one_news_is_told k (Release c p arg) = one_quiet k (Release c p arg) refl
+one_news_is_told k (SetMode c p m) = one_quiet k (SetMode c p m) refl
+one_news_is_told k (SetKd c graphics) = one_quiet k (SetKd c graphics) refl
+one_news_is_told k (Lock on) = one_quiet k (Lock on) refl
+one_news_is_told k (Free n) = one_quiet k (Free n) refl
+one_news_is_told k (End p) = one_quiet k (End p) refl

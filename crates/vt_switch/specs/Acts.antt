@@ -4,8 +4,8 @@ use Rattle.std.specs.Prelude.{◌≡◌, ℕ, Bool, Option, Some, None, Result, 
 use Rattle.vt_base.specs.declared.vt_mode.VtMode.{VtMode}
 use Rattle.vt_base.specs.declared.inval.Inval.{Inval}
 use Rattle.vt_switch.specs.Display.{Display}
-use Rattle.vt_switch.specs.Calls.{allocate, asked, free, release, released, request, set_mode, with_kd, with_lock}
-use Rattle.vt_switch.specs.Deaths.{ended, ended_hop}
+use Rattle.vt_switch.specs.Calls.{allocate, request_outcome, free, release, release_result, request, set_mode, with_kd, with_lock}
+use Rattle.vt_switch.specs.Deaths.{after_process_end, ended_hop}
 use Rattle.vt_switch.specs.declared.asked.Asked.{Asked}
 use Rattle.vt_switch.specs.declared.asked.Asked.TheVariants.{Hopped, Signalled, Ignored}
 use Rattle.vt_switch.specs.declared.hop.Hop.{Hop}
@@ -29,7 +29,7 @@ after d (SetMode c p m) = set_mode d c p m
 after d (SetKd c graphics) = with_kd d c graphics
 after d (Lock on) = with_lock d on
 after d (Free n) = free d n
-after d (End p) = ended d p
+after d (End p) = after_process_end d p
 
 abbrev pub hop_of_asked : Asked → Option Hop
 hop_of_asked (Hopped hop) = Some hop
@@ -43,8 +43,8 @@ hop_of_released (Err refused) = None
 -- the hop that an act makes, with its cause
 abbrev pub hop_of : Display → SwitchAct → Option Hop
 hop_of d (Allocate n) = None
-hop_of d (Request n) = hop_of_asked (asked d n)
-hop_of d (Release c p arg) = hop_of_released (released d c p arg)
+hop_of d (Request n) = hop_of_asked (request_outcome d n)
+hop_of d (Release c p arg) = hop_of_released (release_result d c p arg)
 hop_of d (SetMode c p m) = None
 hop_of d (SetKd c graphics) = None
 hop_of d (Lock on) = None

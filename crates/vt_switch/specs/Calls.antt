@@ -35,8 +35,8 @@ allocate d n = record d { consoles = slice_set d.consoles n (Some (or_fresh (pla
 abbrev pub hop_from : Display → ℕ → Cause → Hop
 hop_from d n cause = record { from = d.front; to = n; cause = cause }
 
-abbrev pub hopped : Display → Hop → Display
-hopped d hop = record d { front = hop.to; last = hop.from; pending = None }
+abbrev pub with_hop : Display → Hop → Display
+with_hop d hop = record d { front = hop.to; last = hop.from; pending = None }
 
 abbrev pub asked_of : Display → ℕ → Bool → Handling → Asked
 asked_of d n graphics (Process handshake) = Signalled handshake.owner handshake.relsig
@@ -45,19 +45,19 @@ asked_of d n graphics (Auto words) = if graphics then Ignored else Hopped (hop_f
 -- request: nothing where the console isn't allocated or is in front, switching is locked, or the
 -- front handles its switches itself and shows graphics. Where the front handles them itself, the
 -- display switches; where a process does, it is asked by its release signal
-abbrev pub asked : Display → ℕ → Asked
-asked d n =
+abbrev pub request_outcome : Display → ℕ → Asked
+request_outcome d n =
     if not (is_allocated d n) || n == d.front || d.locked then Ignored
     else asked_of d n (console d d.front).graphics (console d d.front).handling
 
 abbrev pub after_asked : Display → ℕ → Asked → Display
-after_asked d n (Hopped hop) = hopped d hop
+after_asked d n (Hopped hop) = with_hop d hop
 after_asked d n (Signalled owner signal) = record d { pending = Some n }
 after_asked d n Ignored = d
 
 -- what a request leaves: one that waits takes the place of an earlier one
 abbrev pub request : Display → ℕ → Display
-request d n = after_asked d n (asked d n)
+request d n = after_asked d n (request_outcome d n)
 
 -- where a request isn't ignored, the console that it asks for is allocated
 abbrev pub HasTarget : Display → ℕ → Asked → Type 0
@@ -66,8 +66,8 @@ HasTarget d n (Signalled owner signal) = MayWait d n
 HasTarget d n Ignored = ⊤
 
 -- what waits for the display, where console c has it
-abbrev pub waiting : Display → ℕ → Option ℕ
-waiting d c = if c == d.front then d.pending else None
+abbrev pub pending_at : Display → ℕ → Option ℕ
+pending_at d c = if c == d.front then d.pending else None
 
 -- the number is there, and is n
 abbrev pub names : ℕ → Option ℕ → Bool
@@ -82,28 +82,28 @@ abbrev pub let_go : Display → ℕ → Option ℕ → Result (Option Hop) Inval
 let_go d p None = Err inval
 let_go d p (Some n) = Ok (Some (hop_from d n (Released p)))
 
-abbrev pub kept : Option ℕ → Result (Option Hop) Inval
-kept None = Err inval
-kept (Some n) = Ok None
+abbrev pub drop_pending : Option ℕ → Result (Option Hop) Inval
+drop_pending None = Err inval
+drop_pending (Some n) = Ok None
 
 -- release of console c by p, which has to be the owner: 1 lets the pending switch away from c go
 -- on, 0 drops it, and 2 acknowledges that c got the display
-abbrev pub released : Display → ℕ → ℕ → ℕ → Result (Option Hop) Inval
-released d c p arg =
+abbrev pub release_result : Display → ℕ → ℕ → ℕ → Result (Option Hop) Inval
+release_result d c p arg =
     if not (owns d p c) then Err inval
-    else if arg == 0 then kept (waiting d c)
-    else if arg == 1 then let_go d p (waiting d c)
+    else if arg == 0 then drop_pending (pending_at d c)
+    else if arg == 1 then let_go d p (pending_at d c)
     else if arg == 2 then Ok None
     else Err inval
 
 abbrev pub after_released : Display → ℕ → Result (Option Hop) Inval → Display
-after_released d arg (Ok (Some hop)) = hopped d hop
+after_released d arg (Ok (Some hop)) = with_hop d hop
 after_released d arg (Ok None) = if arg == 0 then record d { pending = None } else d
 after_released d arg (Err refused) = d
 
 -- what a release leaves
 abbrev pub release : Display → ℕ → ℕ → ℕ → Display
-release d c p arg = after_released d arg (released d c p arg)
+release d c p arg = after_released d arg (release_result d c p arg)
 
 -- a signal of a handshake, which is any but 9
 abbrev pub signal_of : ℕ → Option ℕ
@@ -135,13 +135,13 @@ handling_of p m =
     else None
 
 -- it takes the place of the console's handling; a switch away from c that was pending is dropped
-abbrev pub handled : Display → ℕ → Handling → Display
-handled d c handling = with_console d c (λ console. record console { handling = handling })
+abbrev pub with_console_handling : Display → ℕ → Handling → Display
+with_console_handling d c handling = with_console d c (λ console. record console { handling = handling })
 
 abbrev pub after_mode : Display → ℕ → Option Handling → Display
 after_mode d c None = d
 after_mode d c (Some handling) =
-    if c == d.front then record (handled d c handling) { pending = None } else handled d c handling
+    if c == d.front then record (with_console_handling d c handling) { pending = None } else with_console_handling d c handling
 
 -- what a set mode leaves
 abbrev pub set_mode : Display → ℕ → ℕ → VtMode → Display
@@ -182,9 +182,9 @@ with_kd d c graphics = with_console d c (λ console. record console { graphics =
 abbrev pub is_held : Display → ℕ → Bool
 is_held d c = c == d.front || names c d.pending || is_some (owner_of (console d c).handling)
 
-abbrev pub freed : Display → ℕ → Display
-freed d c = record d { consoles = slice_set d.consoles c None }
+abbrev pub without_console : Display → ℕ → Display
+without_console d c = record d { consoles = slice_set d.consoles c None }
 
 -- free: a console that has to stay isn't freed
 abbrev pub free : Display → ℕ → Display
-free d c = if is_held d c then d else freed d c
+free d c = if is_held d c then d else without_console d c

@@ -1,6 +1,6 @@
 -- What the death of a process does to the display (ioctl_console(2)). This project's own.
 use Rattle.std.specs.Prelude.{ℕ, ◌==◌, Option, Some, None, option_map, map, if◌then◌else◌}
-use Rattle.vt_switch.specs.Calls.{hop_from, hopped, names, owns}
+use Rattle.vt_switch.specs.Calls.{hop_from, with_hop, names, owns}
 use Rattle.vt_switch.specs.Display.{Display, fresh, owner_of, with_console}
 use Rattle.vt_switch.specs.declared.cause.Cause.TheVariants.{Died}
 use Rattle.vt_switch.specs.declared.console.Console.{Console}
@@ -13,7 +13,7 @@ falls_to d p (Some n) = Some (hop_from d n (Died p))
 
 abbrev pub after_hop : Display → Option Hop → Display
 after_hop d None = d
-after_hop d (Some hop) = hopped d hop
+after_hop d (Some hop) = with_hop d hop
 
 -- reset: console c, whose switches p handled, is as a new one; where it is in front, the display
 -- goes to what waits for it
@@ -32,6 +32,6 @@ left_by p console = if names p (owner_of console.handling) then fresh else conso
 abbrev pub ended_hop : Display → ℕ → Option Hop
 ended_hop d p = if owns d p d.front then falls_to d p d.pending else None
 
-abbrev pub ended : Display → ℕ → Display
-ended d p =
+abbrev pub after_process_end : Display → ℕ → Display
+after_process_end d p =
     after_hop (record d { consoles = map (option_map (left_by p)) d.consoles }) (ended_hop d p)

@@ -2,7 +2,7 @@
 use Rattle.std.specs.Prelude.{◌≡◌, ⊤, ◌⊎◌, ◌<◌, ℕ, true, false, List, [], ◌∷◌, length, Option, Some, None, IfSome}
 use Rattle.vt_switch.specs.Acts.{SwitchAct, Release, End, hop_of}
 use Rattle.vt_switch.specs.Display.{Display, console, owner_of}
-use Rattle.vt_switch.specs.Moments.{Core, Moment, after_entries, history, hops, is_live, is_ordered, left, refuses, sets_mode, trace}
+use Rattle.vt_switch.specs.Moments.{Core, Moment, after_entries, history, hops, is_live, is_ordered, core_left_by, refuses, sets_mode, trace}
 use Rattle.vt_switch.specs.News.{news}
 use Rattle.vt_switch.specs.declared.cause.Cause.{Cause}
 use Rattle.vt_switch.specs.declared.cause.Cause.TheVariants.{Free, Released, Died}
@@ -29,14 +29,14 @@ pub record Raises (i a p n : ℕ) (m : Moment) : Type 0 where
   pub signal : ℕ
   pub handled : release_of (console m.before.display a).handling ≡ Some (p, signal)
   pub raised : trace m ≡ mark.Asked n ∷ mark.Raised p signal ∷ []
-  pub target : (left m).display.pending ≡ Some n
+  pub target : (core_left_by m).display.pending ≡ Some n
 
 -- no accepted set mode of a, no accepted refusal of a, no hop and nobody asked, and n still waits
 pub record Quiet (a n : ℕ) (m : Moment) : Type 0 where
   pub no_mode : sets_mode a m.before m.act ≡ false
   pub no_refusal : refuses a m.before m.act ≡ false
   pub no_news : news (trace m) ≡ []
-  pub target : (left m).display.pending ≡ Some n
+  pub target : (core_left_by m).display.pending ≡ Some n
 
 -- p handled the switches of a, n waited, and a's release signal had been raised to p for it
 pub record Handed (earlier : List Moment) (m : Moment) (a p n : ℕ) : Type 0 where

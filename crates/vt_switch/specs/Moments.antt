@@ -3,7 +3,7 @@
 use Rattle.std.specs.Prelude.{ℕ, ◌+◌, ◌==◌, ◌&&◌, ◌||◌, ◌++◌, Bool, true, false, not, List, [], ◌∷◌, Option, Some, None, Result, Ok, Err, is_some, slice_index_or, slice_set, if◌then◌else◌}
 use Rattle.vt_base.specs.declared.inval.Inval.{Inval}
 use Rattle.vt_switch.specs.Acts.{SwitchAct, Allocate, Request, Release, SetMode, SetKd, Lock, Free, End, after, hop_of}
-use Rattle.vt_switch.specs.Calls.{asked, handling_of, released}
+use Rattle.vt_switch.specs.Calls.{request_outcome, handling_of, release_result}
 use Rattle.vt_switch.specs.Display.{Display, console, is_allocated}
 use Rattle.vt_switch.specs.declared.asked.Asked.{Asked}
 use Rattle.vt_switch.specs.declared.asked.Asked.TheVariants.{Hopped, Signalled, Ignored}
@@ -52,7 +52,7 @@ raise_acquire k (Process handshake) = raise k handshake.owner handshake.acqsig
 abbrev pub own_marks : Core → SwitchAct → List Mark
 own_marks k (Allocate n) = []
 own_marks k (Request n) =
-    if is_allocated k.display n then mark.Asked n ∷ raise_release k (asked k.display n) else []
+    if is_allocated k.display n then mark.Asked n ∷ raise_release k (request_outcome k.display n) else []
 own_marks k (Release c p arg) = []
 own_marks k (SetMode c p m) = []
 own_marks k (SetKd c graphics) = []
@@ -84,8 +84,8 @@ pub record Moment : Type 0 where
   pub before : Core
   pub act : SwitchAct
 
-abbrev pub left : Moment → Core
-left m = core_after m.before m.act
+abbrev pub core_left_by : Moment → Core
+core_left_by m = core_after m.before m.act
 
 abbrev pub trace : Moment → List Mark
 trace m = marks m.before m.act
@@ -135,9 +135,9 @@ settles (End p) = true
 
 -- in an entry no request stands before a release or an end
 abbrev pub is_ordered : Bool → List SwitchAct → Bool
-is_ordered asked [] = true
-is_ordered asked (act ∷ acts) =
-    not (asked && settles act) && is_ordered (asked || is_request act) acts
+is_ordered request_outcome [] = true
+is_ordered request_outcome (act ∷ acts) =
+    not (request_outcome && settles act) && is_ordered (request_outcome || is_request act) acts
 
 abbrev pub accepts : Result (Option Hop) Inval → Bool
 accepts (Ok hop) = true
@@ -158,7 +158,7 @@ sets_mode c k (End p) = false
 abbrev pub refuses : ℕ → Core → SwitchAct → Bool
 refuses c k (Allocate n) = false
 refuses c k (Request n) = false
-refuses c k (Release n p arg) = n == c && (arg == 0 && accepts (released k.display n p arg))
+refuses c k (Release n p arg) = n == c && (arg == 0 && accepts (release_result k.display n p arg))
 refuses c k (SetMode n p m) = false
 refuses c k (SetKd n graphics) = false
 refuses c k (Lock on) = false

@@ -2,9 +2,9 @@
 ghost use Rattle.std.specs.Prelude.{◌≡◌, true, None, option_map, map, if◌then◌else◌};
 ghost use Rattle.vt_switch.specs.Calls.{names, owns};
 ghost use Rattle.vt_switch.specs.Display.{owner_of};
-ghost use Rattle.vt_switch.specs.Deaths.{after_hop, ended, ended_hop, falls_to, left_by, reset, reset_hop};
+ghost use Rattle.vt_switch.specs.Deaths.{after_hop, after_process_end, ended_hop, falls_to, left_by, reset, reset_hop};
 
-use crate::state::{FRESH, PLACES};
+use crate::state::{CONSOLE_PLACES, FRESH};
 use crate::{Cause, Console, Handling, Hop, Switch};
 use vt_base::{CallerNo, ConsoleNo};
 
@@ -24,7 +24,7 @@ impl Switch {
     /// Gives back every console whose switches `p` handled, as `p` dies.
     pub fn leave(&mut self, p: CallerNo) -> Option<Hop>
         ensures answer { result ≡ ended_hop self.old p }
-        ensures state { self.new ≡ ended self.old p }
+        ensures state { self.new ≡ after_process_end self.old p }
     {
         let front = self.front;
         let hop = self.fall(self.owns(p, front), p);
@@ -50,10 +50,10 @@ impl Switch {
 }
 
 // Each console whose switches `p` handled is as a new one.
-fn give_back(consoles: &mut [Option<Console>; PLACES], p: CallerNo)
+fn give_back(consoles: &mut [Option<Console>; CONSOLE_PLACES], p: CallerNo)
     ensures { consoles.new ≡ map (option_map (left_by p)) consoles.old }
 {
-    for n in 0..PLACES {
+    for n in 0..CONSOLE_PLACES {
         consoles[n] = left_by(&consoles[n], p);
     }
 }

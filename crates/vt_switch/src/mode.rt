@@ -1,12 +1,12 @@
 //! Who is to handle the switches of a console.
 ghost use Rattle.std.specs.Prelude.{◌≡◌, Some};
-ghost use Rattle.vt_switch.specs.Calls.{after_mode, handled, handling_of, mode_answer, process_of, set_mode, signal_of};
+ghost use Rattle.vt_switch.specs.Calls.{after_mode, with_console_handling, handling_of, mode_answer, process_of, set_mode, signal_of};
 
 use crate::{Handling, Handshake, Switch, Words};
 use vt_base::{CallerNo, ConsoleNo, Inval, Signal, VtMode};
 
 /// SIGKILL, which no handshake may use (signal(7)).
-const KILL: u16 = 9;
+const SIGKILL: u16 = 9;
 
 impl Switch {
     /// Sets who handles the switches of console `c`, as `p` asks for (ioctl_console(2), VT_SETMODE).
@@ -67,7 +67,7 @@ fn process_of(p: CallerNo, m: VtMode) -> Option<Handling>
 fn signal_of(n: u16) -> Option<Signal>
     ensures { result ≡ signal_of n }
 {
-    if n == KILL {
+    if n == SIGKILL {
         return None;
     }
     Signal::new(n)

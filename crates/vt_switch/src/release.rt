@@ -1,7 +1,7 @@
 //! What the process answers that handles the switches of a console.
 ghost use Rattle.std.specs.Prelude.{◌≡◌, true, IfSome};
 ghost use Rattle.vt_switch.specs.Display.{is_allocated};
-ghost use Rattle.vt_switch.specs.Calls.{after_released, kept, let_go, owns, release, released, waiting};
+ghost use Rattle.vt_switch.specs.Calls.{after_released, drop_pending, let_go, owns, release, release_result, pending_at};
 
 use crate::{Cause, Handling, Hop, Switch};
 use vt_base::{CallerNo, ConsoleNo, Inval};
@@ -10,7 +10,7 @@ impl Switch {
     /// The answer of `p` for console `c`: 1 lets a pending switch away from it go on, 0 drops it, 2
     /// acknowledges that `c` got the display (ioctl_console(2), VT_RELDISP).
     pub fn release(&mut self, c: ConsoleNo, p: CallerNo, arg: u16) -> Result<Option<Hop>, Inval>
-        ensures answer { result ≡ released self.old c p arg }
+        ensures answer { result ≡ release_result self.old c p arg }
         ensures state { self.new ≡ release self.old c p arg }
     {
         if !self.owns(p, c) {
@@ -38,15 +38,15 @@ impl Switch {
     }
 
     fn waiting(&self, c: ConsoleNo) -> Option<ConsoleNo>
-        ensures console { result ≡ waiting self.now c }
+        ensures console { result ≡ pending_at self.now c }
         ensures allocated { IfSome result (λ n. is_allocated self.now n ≡ true) }
     {
         if c == self.front { self.pending } else { None }
     }
 
     fn keep(&mut self, c: ConsoleNo) -> Result<Option<Hop>, Inval>
-        ensures answer { result ≡ kept (waiting self.old c) }
-        ensures state { self.new ≡ after_released self.old 0 (kept (waiting self.old c)) }
+        ensures answer { result ≡ drop_pending (pending_at self.old c) }
+        ensures state { self.new ≡ after_released self.old 0 (drop_pending (pending_at self.old c)) }
     {
         match self.waiting(c) {
             Some(_) => {
@@ -58,8 +58,8 @@ impl Switch {
     }
 
     fn let_go(&mut self, c: ConsoleNo, p: CallerNo) -> Result<Option<Hop>, Inval>
-        ensures answer { result ≡ let_go self.old p (waiting self.old c) }
-        ensures state { self.new ≡ after_released self.old 1 (let_go self.old p (waiting self.old c)) }
+        ensures answer { result ≡ let_go self.old p (pending_at self.old c) }
+        ensures state { self.new ≡ after_released self.old 1 (let_go self.old p (pending_at self.old c)) }
     {
         match self.waiting(c) {
             Some(to) => {

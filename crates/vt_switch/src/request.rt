@@ -1,7 +1,7 @@
 //! Requests for the display, and what makes it change hands.
 ghost use Rattle.std.specs.Prelude.{◌≡◌, true};
 ghost use Rattle.vt_switch.specs.Display.{is_allocated};
-ghost use Rattle.vt_switch.specs.Calls.{HasTarget, asked, hop_from, hopped, request};
+ghost use Rattle.vt_switch.specs.Calls.{HasTarget, request_outcome, hop_from, with_hop, request};
 
 use crate::{Asked, Cause, Handling, Hop, Switch};
 use vt_base::ConsoleNo;
@@ -9,7 +9,7 @@ use vt_base::ConsoleNo;
 impl Switch {
     /// A request to bring a console to the front (ioctl_console(2), VT_ACTIVATE).
     pub fn request(&mut self, to: ConsoleNo) -> Asked
-        ensures answer { result ≡ asked self.old to }
+        ensures answer { result ≡ request_outcome self.old to }
         ensures state { self.new ≡ request self.old to }
     {
         let asked = self.asked(to);
@@ -22,7 +22,7 @@ impl Switch {
     }
 
     fn asked(&self, to: ConsoleNo) -> Asked
-        ensures answer { result ≡ asked self.now to }
+        ensures answer { result ≡ request_outcome self.now to }
         ensures target { HasTarget self.now to result }
     {
         if !self.allocated(to) || to == self.front || self.locked {
@@ -53,7 +53,7 @@ impl Switch {
 
     pub(crate) fn hop(&mut self, hop: &Hop)
         requires { is_allocated self.old hop.now.to ≡ true }
-        ensures { self.new ≡ hopped self.old hop.now }
+        ensures { self.new ≡ with_hop self.old hop.now }
     {
         self.front = hop.to;
         self.last = hop.from;

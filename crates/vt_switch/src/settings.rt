@@ -1,6 +1,6 @@
 //! What is set of the display and of a console, and read again.
 ghost use Rattle.std.specs.Prelude.{◌≡◌, false};
-ghost use Rattle.vt_switch.specs.Calls.{freed, is_held, with_kd, with_lock, words_of};
+ghost use Rattle.vt_switch.specs.Calls.{without_console, is_held, with_kd, with_lock, words_of};
 ghost use Rattle.vt_switch.specs.Display.{console, owner_of};
 
 use crate::state::FRESH;
@@ -74,7 +74,7 @@ impl Switch {
     /// A console that nobody needs is allocated no longer.
     pub fn free(&mut self, c: ConsoleNo)
         requires { is_held self.old c ≡ false }
-        ensures { self.new ≡ freed self.old c }
+        ensures { self.new ≡ without_console self.old c }
     {
         self.consoles[usize::from(c.get())] = None;
     }

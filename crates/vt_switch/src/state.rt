@@ -8,7 +8,7 @@ use std::marker::Model;
 use vt_base::{CONSOLES, ConsoleNo, is_among};
 
 /// The places for consoles by their numbers, of which 0 stays free.
-pub(crate) const PLACES: usize = CONSOLES + 1;
+pub(crate) const CONSOLE_PLACES: usize = CONSOLES + 1;
 
 /// What a new console has.
 pub(crate) const FRESH: Console = Console {
@@ -28,7 +28,7 @@ pub struct Switch {
     pub(crate) last: ConsoleNo,
     pub(crate) locked: bool,
     pub(crate) pending: Option<ConsoleNo>,
-    pub(crate) consoles: [Option<Console>; PLACES],
+    pub(crate) consoles: [Option<Console>; CONSOLE_PLACES],
 }
 
 impl Model for Switch {
@@ -50,7 +50,7 @@ impl Switch {
         ensures { result ≡ first_display allocated front }
     {
         front.stays_in_range();
-        let mut consoles = [None; PLACES];
+        let mut consoles = [None; CONSOLE_PLACES];
         fill(&mut consoles, allocated);
         Switch {
             front,
@@ -113,7 +113,7 @@ fn fill(consoles: &mut [Option<Console>], allocated: u64)
     requires { length consoles.old ≡ 64 }
     ensures { consoles.new ≡ at_each allocated fresh }
 {
-    for n in 0..PLACES {
+    for n in 0..CONSOLE_PLACES {
         consoles[n] = if is_among(allocated, n) {
             Some(FRESH)
         } else {

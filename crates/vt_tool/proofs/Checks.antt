@@ -10,7 +10,7 @@ use Rattle.vt_check.specs.declared.verdict.Verdict.TheVariants.{Legal, Illegal}
 use Rattle.vt_events.specs.declared.entry.Entry.{Entry}
 use Rattle.vt_journal.specs.declared.tail.Tail.{Tail}
 use Rattle.vt_switch.specs.Law.{IsLawful}
-use Rattle.vt_tool.proofs.Sessions.{is-start}
+use Rattle.vt_tool.proofs.Sessions.{is_start}
 use Rattle.vt_tool.specs.Commands.Session.{IsRightRun}
 use Rattle.vt_tool.specs.Commands.Judged.{judged_text}
 use Rattle.vt_tool.specs.Outcome.{Outcome}
@@ -22,32 +22,32 @@ use Rattle.vt_world.specs.Laws.{TargetsAreExplained, moments}
 abbrev pub outcome : Status → List ℕ → Outcome
 outcome status text = record { status = status; text = text }
 
-pub same-outcome : (s s' : Status) (t t' : List ℕ) → s ≡ s' → t ≡ t' → outcome s t ≡ outcome s' t'
-same-outcome s s' t t' p q = ap (λ (x : Status). outcome x t) p ∙ ap (outcome s') q
+pub same_outcome : (s s' : Status) (t t' : List ℕ) → s ≡ s' → t ≡ t' → outcome s t ≡ outcome s' t'
+same_outcome s s' t t' p q = ap (λ (x : Status). outcome x t) p ∙ ap (outcome s') q
 
 -- what is told of a legal journal, and of another one
-pub told-legal : (s : Status) (t text : List ℕ) (v : Verdict) → s ≡ status.Fine → t ≡ text → v ≡ Legal
+pub told_legal : (s : Status) (t text : List ℕ) (v : Verdict) → s ≡ status.Fine → t ≡ text → v ≡ Legal
     → outcome s t ≡ judged_text text v
-told-legal s t text v fine same legal =
-    same-outcome s status.Fine t text fine same ∙ ap (judged_text text) (sym legal)
+told_legal s t text v fine same legal =
+    same_outcome s status.Fine t text fine same ∙ ap (judged_text text) (sym legal)
 
-pub told-illegal : (s : Status) (t text : List ℕ) (index why : ℕ) (v : Verdict)
+pub told_illegal : (s : Status) (t text : List ℕ) (index why : ℕ) (v : Verdict)
     → s ≡ status.Illegal index why → t ≡ [] → v ≡ Illegal index why → outcome s t ≡ judged_text text v
-told-illegal s t text index why v is none illegal =
-    same-outcome s (status.Illegal index why) t [] is none ∙ ap (judged_text text) (sym illegal)
+told_illegal s t text index why v is none illegal =
+    same_outcome s (status.Illegal index why) t [] is none ∙ ap (judged_text text) (sym illegal)
 
 -- where a journal is legal it is of a right run
-pub right-if-legal : (s : SessionView) (entries : List Entry) (end : Tail) (v : Verdict)
+pub right_if_legal : (s : SessionView) (entries : List Entry) (end : Tail) (v : Verdict)
     → TargetsAreExplained → IsFitSet s.config.consoles s.config.front
     → (v ≡ Legal) ↔ IsRightJournal (setup_of s) entries end
     → (v ≡ Legal → IsLawful (moments (start_of s) entries))
     → (v ≡ Legal → ShowsTapes s (replay (start_of s) entries) entries)
     → v ≡ Legal → IsRightRun s entries end
-right-if-legal s entries end v explained fit right lawful screens legal = record {
+right_if_legal s entries end v explained fit right lawful screens legal = record {
   legal = (right.0 legal).legal;
   follows = (right.0 legal).follows;
   ends = (right.0 legal).ends;
   lawful = lawful legal;
-  explained = explained (start_of s) entries (is-start s fit);
+  explained = explained (start_of s) entries (is_start s fit);
   screens = screens legal;
 }

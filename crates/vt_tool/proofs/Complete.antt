@@ -21,58 +21,58 @@ pub one_command : (known : List Form) (words : List (List ℕ)) (a b : Command)
 one_command known words a b first second = cc
 
 -- a source that stopped at a fault has counted it
-stop-rose : (i : Intake) (src src' : Stream) → StopsAtFault i src src' → Rose src.faults src'.faults
-stop-rose (ToEnd limit) src src' stops = stops.0
-stop-rose (InPieces limit) src src' stops = stops.0
-stop-rose NoInput src src' stops = absurd stops
+stop_rose : (i : Intake) (src src' : Stream) → StopsAtFault i src src' → Rose src.faults src'.faults
+stop_rose (ToEnd limit) src src' stops = stops.0
+stop_rose (InPieces limit) src src' stops = stops.0
+stop_rose NoInput src src' stops = absurd stops
 
 -- the bytes taken of known ones are a prefix of these
-taken-prefix : (known : List ℕ) (told told' : Option (List ℕ)) (taken : List ℕ)
+taken_prefix : (known : List ℕ) (told told' : Option (List ℕ)) (taken : List ℕ)
     → told ≡ Some known → Consumes told told' taken
     → (rest : List ℕ) × (known ≡ taken ++ rest)
-taken-prefix known None told' taken is gave =
+taken_prefix known None told' taken is gave =
     let clash : None ≡ Some known = is in
     absurd (let impossible : ⊥ = cc in impossible)
-taken-prefix known (Some xs) None taken is gave = absurd gave
-taken-prefix known (Some xs) (Some ys) taken is gave = (ys, (let e : known ≡ xs = cc in e) ∙ gave)
+taken_prefix known (Some xs) None taken is gave = absurd gave
+taken_prefix known (Some xs) (Some ys) taken is gave = (ys, (let e : known ≡ xs = cc in e) ∙ gave)
 
 -- no more bytes than offered are taken
-within-limit : (limit : ℕ) (src src' : Stream) (input taken : List ℕ) → src.told ≡ Some input
+within_limit : (limit : ℕ) (src src' : Stream) (input taken : List ℕ) → src.told ≡ Some input
     → length input ≤ limit → Consumes src.told src'.told taken → limit < length taken → ⊥
-within-limit limit src src' input taken told fits gave past =
-    let (rest, whole) = taken-prefix input src.told src'.told taken told gave in
+within_limit limit src src' input taken told fits gave past =
+    let (rest, whole) = taken_prefix input src.told src'.told taken told gave in
     omega (arith, length-append taken rest, ap length whole, past, fits)
 
-not-past : (i : Intake) (src src' : Stream) (input : List ℕ) → Offers i src input
+not_past : (i : Intake) (src src' : Stream) (input : List ℕ) → Offers i src input
     → PassesLimit i src src' → ⊥
-not-past (ToEnd limit) src src' input offered (taken, gave, past) =
-    within-limit limit src src' input taken offered.0 offered.1 gave past
-not-past (InPieces limit) src src' input offered (taken, gave, past) =
-    within-limit limit src src' input taken offered.0 offered.1 gave past
-not-past NoInput src src' input offered past = past
+not_past (ToEnd limit) src src' input offered (taken, gave, past) =
+    within_limit limit src src' input taken offered.0 offered.1 gave past
+not_past (InPieces limit) src src' input offered (taken, gave, past) =
+    within_limit limit src src' input taken offered.0 offered.1 gave past
+not_past NoInput src src' input offered past = past
 
 -- what was read to the end is what was offered
-whole-input : (known input : List ℕ) (told told' : Option (List ℕ)) → told ≡ Some known
+whole_input : (known input : List ℕ) (told told' : Option (List ℕ)) → told ≡ Some known
     → Consumes told told' input → IsAtEnd told' → input ≡ known
-whole-input known input None told' is gave end =
+whole_input known input None told' is gave end =
     let clash : None ≡ Some known = is in
     absurd (let impossible : ⊥ = cc in impossible)
-whole-input known input (Some xs) None is gave end = absurd gave
-whole-input known input (Some xs) (Some ys) is gave end =
+whole_input known input (Some xs) None is gave end = absurd gave
+whole_input known input (Some xs) (Some ys) is gave end =
     sym ((let e : known ≡ xs = cc in e) ∙ gave ∙ ap (λ rest. input ++ rest) end ∙ append-nil input)
 
-read-offered : (i : Intake) (src src' : Stream) (known input : List ℕ) → Offers i src known
+read_offered : (i : Intake) (src src' : Stream) (known input : List ℕ) → Offers i src known
     → ReadsAll i src src' input → input ≡ known
-read-offered (ToEnd limit) src src' known input offered read =
-    whole-input known input src.told src'.told offered.0 read.0 read.1
-read-offered (InPieces limit) src src' known input offered read =
-    whole-input known input src.told src'.told offered.0 read.0 read.1
-read-offered NoInput src src' known input offered read = read.1 ∙ sym offered
+read_offered (ToEnd limit) src src' known input offered read =
+    whole_input known input src.told src'.told offered.0 read.0 read.1
+read_offered (InPieces limit) src src' known input offered read =
+    whole_input known input src.told src'.told offered.0 read.0 read.1
+read_offered NoInput src src' known input offered read = read.1 ∙ sym offered
 
 -- where err had no fault, the status is the first one
-tells-first : (first : Status) (err err' : Stream) (status : Status)
+tells_first : (first : Status) (err err' : Stream) (status : Status)
     → ¬ Rose err.faults err'.faults → Tells first err err' status → status ≡ first
-tells-first first err err' status none tells =
+tells_first first err err' status none tells =
     ⊎_elim (λ told. told.0) (λ failed. absurd (none failed.2)) tells
 
 module _ (known : List Form) (words : List (List ℕ)) (src src' out out' : Stream) (status : Status)
@@ -93,7 +93,7 @@ module _ (known : List Form) (words : List (List ℕ)) (src src' out out' : Stre
         let read : ReadsAll (intake_of command) src src' answers.input =
         subst (λ (c : Command). ReadsAll (intake_of c) src src' answers.input) same answers.read in
         let all : answers.input ≡ input =
-        read-offered (intake_of command) src src' input answers.input offered read in
+        read_offered (intake_of command) src src' input answers.input offered read in
         let outcome : Outcome = record { status = first; text = answers.text } in
         let gives : Gives command input outcome =
         subst (λ (bytes : List ℕ). Gives command bytes outcome) all
@@ -106,10 +106,10 @@ module _ (known : List Form) (words : List (List ℕ)) (src src' out out' : Stre
         let none : command_of known words ≡ None = begins.0 in
         absurd (let impossible : ⊥ = cc in impossible)
     completed ReadFault is (other, spelled', holds) =
-        absurd (no_read (stop-rose (intake_of other) src src' holds.0))
+        absurd (no_read (stop_rose (intake_of other) src src' holds.0))
     completed TooLong is (other, spelled', holds) =
         let same : other ≡ command = one_command known words other command spelled' spelled in
-        absurd (not-past (intake_of command) src src' input offered
+        absurd (not_past (intake_of command) src src' input offered
         (subst (λ (c : Command). PassesLimit (intake_of c) src src') same holds.0))
     completed NoMemory is begins = inl is
     completed WriteFault is (other, spelled', holds) = absurd (no_write holds.0)
@@ -121,8 +121,8 @@ module _ (known : List Form) (words : List (List ℕ)) (src src' out out' : Stre
     completed (Illegal index why) is (other, spelled', holds) =
         inr (answered other (Illegal index why) is spelled' holds)
 
-pub run-completes : (known : List Form) (words : List (List ℕ)) (old new : Streams) (status : Status)
+pub run_completes : (known : List Form) (words : List (List ℕ)) (old new : Streams) (status : Status)
     → ProgramRun known words old new status → Completes known words old new status
-run-completes known words old new status run command input spelled offered no_read no_write no_tell =
+run_completes known words old new status run command input spelled offered no_read no_write no_tell =
     completed known words old.src new.src old.out new.out status command input spelled offered no_read
-    no_write run.first (tells-first run.first old.err new.err status no_tell run.tells) run.begins
+    no_write run.first (tells_first run.first old.err new.err status no_tell run.tells) run.begins

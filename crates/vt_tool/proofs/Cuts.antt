@@ -5,11 +5,11 @@ use Rattle.std.proofs.lemmas.Bool.{cases_lt}
 use Rattle.std.proofs.lemmas.List.{take-append-drop}
 use Rattle.vt_journal.specs.Journal.{first_words, line_text}
 use Rattle.vt_tool.specs.Commands.Cut.{BeginsLine, HasMark, IsCut, IsCutFirst, IsMarked, cert_mark}
-use Rattle.vt_tool.specs.declared.commands.cut.Mark.{Mark}
-use Rattle.vt_tool.specs.declared.commands.cut.Mark.TheVariants as mark
+use Rattle.vt_tool.specs.declared.commands.cut.CutMark.{CutMark}
+use Rattle.vt_tool.specs.declared.commands.cut.CutMark.TheVariants as mark
 
 -- a text that begins with a mark is not empty
-some : (what : Mark) (text : List ℕ) → HasMark what text → 0 < length text
+some : (what : CutMark) (text : List ℕ) → HasMark what text → 0 < length text
 some mark.Journal text (version, has) =
     omega (arith, ap length has.parts, length-append (line_text (first_words version)) has.rest, first version)
   where
@@ -18,11 +18,11 @@ some mark.Journal text (version, has) =
 some mark.Certificate text (rest, is) = omega (arith, ap length is, length-append cert_mark rest)
 
 -- no mark stands at a place before this one
-abbrev pub NoneBefore : Mark → List ℕ → ℕ → Type 0
+abbrev pub NoneBefore : CutMark → List ℕ → ℕ → Type 0
 NoneBefore what input at =
     (k : ℕ) → k < at → ¬ IsMarked what input (take k input) (drop k input)
 
-module _ (what : Mark)
+module _ (what : CutMark)
   where
     -- the place where the mark stands decides what is before it and after it
     taken : (input text after : List ℕ) → IsMarked what input text after
@@ -36,9 +36,9 @@ module _ (what : Mark)
         sym (ap (drop (length text)) has.parts ∙ drop-append_seam text after)
 
     -- so one that stands somewhere stands there or behind
-    pub at-least : (input : List ℕ) (at : ℕ) → NoneBefore what input at → (text after : List ℕ)
+    pub at_least : (input : List ℕ) (at : ℕ) → NoneBefore what input at → (text after : List ℕ)
         → IsMarked what input text after → at ≤ length text
-    at-least input at none text after has = ⊎_elim
+    at_least input at none text after has = ⊎_elim
         (λ before.
         absurd (none (length text) before
         (subst (λ (t : List ℕ). IsMarked what input t (drop (length text) input)) (taken input text after has)
@@ -54,7 +54,7 @@ module _ (what : Mark)
     pub nowhere : (input : List ℕ) → NoneBefore what input (length input) → (text after : List ℕ)
         → ¬ IsMarked what input text after
     nowhere input none text after has =
-        omega (arith, at-least input (length input) none text after has, within input text after has)
+        omega (arith, at_least input (length input) none text after has, within input text after has)
 
     -- an input is cut at one place
     one-first : (input a b c d : List ℕ) → IsCutFirst what input a b → IsCutFirst what input c d
@@ -65,45 +65,45 @@ module _ (what : Mark)
           left input a b x.has ∙ ap (λ n. drop n input) same ∙ sym (left input c d y.has),
         )
 
-    pub one-cut : (input a b c d : List ℕ) → IsCut what input a b → IsCut what input c d → (a ≡ c) × (b ≡ d)
-    one-cut input a b c d (inl x) (inl y) = one-first input a b c d x y
-    one-cut input a b c d (inl x) (inr y) = absurd (y.none a b x.has)
-    one-cut input a b c d (inr x) (inl y) = absurd (x.none c d y.has)
-    one-cut input a b c d (inr x) (inr y) = (x.all ∙ sym y.all, x.nothing ∙ sym y.nothing)
+    pub one_cut : (input a b c d : List ℕ) → IsCut what input a b → IsCut what input c d → (a ≡ c) × (b ≡ d)
+    one_cut input a b c d (inl x) (inl y) = one-first input a b c d x y
+    one_cut input a b c d (inl x) (inr y) = absurd (y.none a b x.has)
+    one_cut input a b c d (inr x) (inl y) = absurd (x.none c d y.has)
+    one_cut input a b c d (inr x) (inr y) = (x.all ∙ sym y.all, x.nothing ∙ sym y.nothing)
 
     -- what the code finds is where the input is cut
-    pub cut-here : (input : List ℕ) (at : ℕ) → at < length input → NoneBefore what input at
+    pub cut_here : (input : List ℕ) (at : ℕ) → at < length input → NoneBefore what input at
         → IsMarked what input (take at input) (drop at input)
         → IsCut what input (take at input) (take (length input - at) (drop at input))
-    cut-here input at inside none has =
+    cut_here input at inside none has =
         let whole : take (length input - at) (drop at input) ≡ drop at input =
         take_all (length input - at) (drop at input) (omega (arith, length-drop at input)) in
         subst (λ (after : List ℕ). IsCut what input (take at input) after) (sym whole)
         (inl (record {
           has = has;
           first = λ before rest other.
-              omega (arith, length-take at input, at-least input at none before rest other);
+              omega (arith, length-take at input, at_least input at none before rest other);
         }))
 
-    pub cut-nowhere : (input : List ℕ) (at : ℕ) → length input ≤ at → NoneBefore what input at
+    pub cut_nowhere : (input : List ℕ) (at : ℕ) → length input ≤ at → NoneBefore what input at
         → IsCut what input input []
-    cut-nowhere input at past none = inr (record {
+    cut_nowhere input at past none = inr (record {
       none = nowhere input (λ k before. none k (omega (arith, before, past)));
       all = refl;
       nothing = refl;
     })
 
     -- a mark stands at a place where a line begins and the text goes on with it
-    pub mark-here : (input front after : List ℕ) (at : ℕ) → front ≡ take at input
+    pub mark_here : (input front after : List ℕ) (at : ℕ) → front ≡ take at input
         → after ≡ drop at input → BeginsLine front → HasMark what after
         → IsMarked what input (take at input) (drop at input)
-    mark-here input front after at fronts backs begins is = record {
+    mark_here input front after at fronts backs begins is = record {
       parts = sym (take-append-drop at input);
       line = subst BeginsLine fronts begins;
       first = subst (HasMark what) backs is;
     }
 
     -- and it doesn't where the text doesn't go on with it
-    pub no-mark : (input after : List ℕ) (at : ℕ) → after ≡ drop at input → ¬ HasMark what after
+    pub no_mark : (input after : List ℕ) (at : ℕ) → after ≡ drop at input → ¬ HasMark what after
         → ¬ IsMarked what input (take at input) (drop at input)
-    no-mark input after at backs none has = none (subst (HasMark what) (sym backs) has.first)
+    no_mark input after at backs none has = none (subst (HasMark what) (sym backs) has.first)

@@ -5,7 +5,7 @@ use Rattle.std.proofs.lemmas.List.{length-take-le}
 use Rattle.std.specs.Io.KnownBytes.{Consumes}
 use Rattle.vt_screen.specs.Run.{AnyCut, after}
 use Rattle.vt_screen.specs.Screen.{Screen}
-use Rattle.vt_tool.proofs.Streams.{consumes-append}
+use Rattle.vt_tool.proofs.Streams.{consumes_append}
 use Rattle.vt_units.specs.Run.{Reached}
 
 -- these bytes were taken and drawn, and so many may come yet
@@ -15,41 +15,14 @@ pub record HasDrawn (told told' : Option (List ℕ)) (emu emu' : Reached Screen)
   pub counted : length taken + left ≡ limit
   pub drawn : emu' ≡ after emu taken
 
-pub consumes-none : (told : Option (List ℕ)) → Consumes told told []
-consumes-none None = tt
-consumes-none (Some xs) = refl
-
-pub drawn-nothing : (told : Option (List ℕ)) (emu : Reached Screen) (limit : ℕ)
-    → HasDrawn told told emu emu limit limit
-drawn-nothing told emu limit = record {
-  taken = [];
-  consumed = consumes-none told;
-  counted = omega arith;
-  drawn = refl;
-}
-
--- one more piece
-pub drawn-more : AnyCut → (told told' told'' : Option (List ℕ)) (emu emu' emu'' : Reached Screen)
-    (limit left left' : ℕ) (piece : List ℕ)
-    → HasDrawn told told' emu emu' limit left → Consumes told' told'' piece → length piece + left' ≡ left
-    → emu'' ≡ after emu' piece → HasDrawn told told'' emu emu'' limit left'
-drawn-more any_cut told told' told'' emu emu' emu'' limit left left' piece so_far took fits draws = record {
-  taken = so_far.taken ++ piece;
-  consumed = consumes-append told told' told'' so_far.taken piece so_far.consumed took;
-  counted = omega (arith, length-append so_far.taken piece, so_far.counted, fits);
-  drawn =
-      draws ∙ ap (λ (m : Reached Screen). after m piece) so_far.drawn
-      ∙ sym (any_cut emu so_far.taken piece).0;
-}
-
 -- one more piece that passes the limit, of which the front is drawn
-pub drawn-past : AnyCut → (told told' told'' : Option (List ℕ)) (emu emu' emu'' : Reached Screen)
+pub drawn_past : AnyCut → (told told' told'' : Option (List ℕ)) (emu emu' emu'' : Reached Screen)
     (limit left count : ℕ) (piece : List ℕ)
     → HasDrawn told told' emu emu' limit left → Consumes told' told'' (take count piece)
     → left < count → count ≤ length piece → emu'' ≡ after emu' (take left piece)
     → (taken : List ℕ) × Consumes told told'' taken × (limit < length taken)
     × (emu'' ≡ after emu (take limit taken))
-drawn-past any_cut told told' told'' emu emu' emu'' limit left count piece so_far took past fits draws =
+drawn_past any_cut told told' told'' emu emu' emu'' limit left count piece so_far took past fits draws =
     let taken : List ℕ = so_far.taken in
     let bytes : List ℕ = take count piece in
     let cut : take (length taken + left) (taken ++ bytes) ≡ taken ++ take left bytes =
@@ -59,7 +32,7 @@ drawn-past any_cut told told' told'' emu emu' emu'' limit left count piece so_fa
     ap (λ (n : ℕ). take n (taken ++ bytes)) (sym so_far.counted)
     ∙ cut ∙ ap (λ (xs : List ℕ). taken ++ xs) front in (
       taken ++ bytes,
-      consumes-append told told' told'' taken bytes so_far.consumed took,
+      consumes_append told told' told'' taken bytes so_far.consumed took,
       omega (arith, length-append taken bytes, length-take-le count piece fits, so_far.counted, past),
       draws ∙ ap (λ (m : Reached Screen). after m (take left piece)) so_far.drawn
           ∙ sym (any_cut emu taken (take left piece)).0

@@ -126,10 +126,10 @@ module _ (cores : ActsMakeCores) (calls : ActsAreCalls) (tells : TracesTellActs)
         begun-shows (Illegal index why) whole begins = absurd whole
 
     -- a run that printed a journal tells its displays
-    pub tells-displays : (known : List Form) (words : List (List ℕ)) (old new : Streams)
+    pub tells_displays : (known : List Form) (words : List (List ℕ)) (old new : Streams)
         (status : Status) → ProgramRun known words old new status
         → TellsDisplays known words old new status
-    tells-displays known words old new status run asked spelled prints whole =
+    tells_displays known words old new status run asked spelled prints whole =
         let same : status ≡ run.first =
         ⊎_elim (λ told. told.0) (λ failed. absurd (subst HasJournal failed.0 whole)) run.tells in
         begun-shows known words old.src new.src old.out new.out asked spelled prints run.first

@@ -31,36 +31,36 @@ abbrev pub explained_told : Explained → Outcome
 explained_told (explained.Cert c) = record { status = status.Fine; text = cert_text c.items }
 explained_told (explained.Illegal index why) = no_text (status.Illegal index why)
 
-pub made-review : (ear : EarTable) (s : SessionView) (j : Journal) (ears : List EarTable) (r : Reviewed)
+pub made_review : (ear : EarTable) (s : SessionView) (j : Journal) (ears : List EarTable) (r : Reviewed)
     (o : Outcome) → ears ≡ ear ∷ [] → Judges (setup_of s) j.entries j.tail (reviewed_verdict r)
     → TellsHistory s j ears r → o ≡ review_told r → IsReviewed ear s j o
-made-review ear s j ears (reviewed.Text text) o same judged tells is = record {
+made_review ear s j ears (reviewed.Text text) o same judged tells is = record {
   verdict = verdict.Legal;
   judged = judged;
   is = is
       ∙ ap (λ (bytes : List ℕ). judged_text bytes verdict.Legal)
       (tells ∙ ap (λ (tables : List EarTable). review_text tables 0 (start_of s) j.entries) same);
 }
-made-review ear s j ears (reviewed.Illegal index why) o same judged tells is =
+made_review ear s j ears (reviewed.Illegal index why) o same judged tells is =
     record { verdict = verdict.Illegal index why; judged = judged; is = is }
 
-never-legal : (index why : ℕ) → verdict.Illegal index why ≢ verdict.Legal
-never-legal index why clash = let impossible : ⊥ = cc in impossible
+never_legal : (index why : ℕ) → verdict.Illegal index why ≢ verdict.Legal
+never_legal index why clash = let impossible : ⊥ = cc in impossible
 
-pub made-explained : (s : SessionView) (j : Journal) (x : Explained) (o : Outcome)
+pub made_explained : (s : SessionView) (j : Journal) (x : Explained) (o : Outcome)
     → Judges (setup_of s) j.entries j.tail (verdict_of x)
     → IfCert x (IsCertificate (moments (start_of s) j.entries)) → o ≡ explained_told x → IsExplained s j o
-made-explained s j (explained.Cert c) o judged cert is = record {
+made_explained s j (explained.Cert c) o judged cert is = record {
   verdict = verdict.Legal;
   judged = judged;
   items = c.items;
   cert = λ _. cert;
   is = is;
 }
-made-explained s j (explained.Illegal index why) o judged cert is = record {
+made_explained s j (explained.Illegal index why) o judged cert is = record {
   verdict = verdict.Illegal index why;
   judged = judged;
   items = [];
-  cert = λ legal. absurd (never-legal index why legal);
+  cert = λ legal. absurd (never_legal index why legal);
   is = is;
 }

@@ -52,35 +52,35 @@ words_meant version (entry ∷ entries) =
     ∷ call_words entry.event i ++ codes "=" ∷ answer_words entry.reply i)
     ∷ words_meant version entries i
 
-journal-meant : (version : ℕ) (entries : List Entry) (end : Tail)
+journal_meant : (version : ℕ) (entries : List Entry) (end : Tail)
     → journal_text version (plain_history entries) end ≡ journal_text version entries end
-journal-meant version entries end =
+journal_meant version entries end =
     ap (λ (lines : List (List (List ℕ))). flat_map line_text (first_words version ∷ lines ++ tail_words end ∷ []))
     (words_meant version entries)
 
-charges-meant : (entries : List Entry) → charge_of_all (plain_history entries) ≡ charge_of_all entries
-charges-meant entries =
+charges_meant : (entries : List Entry) → charge_of_all (plain_history entries) ≡ charge_of_all entries
+charges_meant entries =
     fold-map (λ n (x : Entry). n + charge_of x.event) plain_entry 0 entries
     ∙ (λ i. sum_by (λ (x : Entry). charge_meant x.event i) entries)
 
-pub tail-meant : (entries : List Entry) (stop : Option Full)
+pub tail_meant : (entries : List Entry) (stop : Option Full)
     → tail_at (plain_history entries) stop ≡ tail_at entries stop
-tail-meant entries None = λ i. tail.End (length-map entries plain_entry i) (charges-meant entries i)
-tail-meant entries (Some full) = refl
+tail_meant entries None = λ i. tail.End (length-map entries plain_entry i) (charges_meant entries i)
+tail_meant entries (Some full) = refl
 
 -- the journal of a history that stops there, and the console after it
 abbrev pub run_text : WorldState → List Entry → Option Full → List ℕ
 run_text start history stop = journal_text 2 history (tail_at history stop) ++ final_text (replay start history)
 
-pub text-meant : ReplayIsMeant → (start : WorldState) (history : List Entry) (stop : Option Full)
+pub text_meant : ReplayIsMeant → (start : WorldState) (history : List Entry) (stop : Option Full)
     → run_text start (plain_history history) stop ≡ run_text start history stop
-text-meant replay_meant start history stop =
+text_meant replay_meant start history stop =
     ap (λ (w : WorldState). journal_text 2 (plain_history history) (tail_at (plain_history history) stop) ++ final_text w)
     (replay_meant start history)
     ∙ ap (λ (end : Tail). journal_text 2 (plain_history history) end ++ final_text (replay start history))
-    (tail-meant history stop)
+    (tail_meant history stop)
     ∙ ap (λ (text : List ℕ). text ++ final_text (replay start history))
-    (journal-meant 2 history (tail_at history stop))
+    (journal_meant 2 history (tail_at history stop))
 
 -- the numbers of a drill
 abbrev drilled : ℕ → ℕ → WorldState → List ℕ
@@ -90,12 +90,12 @@ drilled events bytes w =
     ++ number_line (codes "dropped") (dropped_in w))
     ++ number_line (codes "display") w.display.front
 
-pub drill-meant : ReplayIsMeant → (start : WorldState) (history : List Entry)
+pub drill_meant : ReplayIsMeant → (start : WorldState) (history : List Entry)
     → drill_text (plain_history history) (replay start (plain_history history))
     ≡ drill_text history (replay start history)
-drill-meant replay_meant start history =
+drill_meant replay_meant start history =
     ap (drilled (length (plain_history history)) (charge_of_all (plain_history history)))
     (replay_meant start history)
     ∙ ap (λ (n : ℕ). drilled n (charge_of_all (plain_history history)) (replay start history))
     (length-map history plain_entry)
-    ∙ ap (λ (n : ℕ). drilled (length history) n (replay start history)) (charges-meant history)
+    ∙ ap (λ (n : ℕ). drilled (length history) n (replay start history)) (charges_meant history)

@@ -17,102 +17,102 @@ use Rattle.vt_journal.specs.Says.{JournalSays, OneJournal}
 use Rattle.vt_journal.specs.declared.j_fault.JFault.{JFault}
 use Rattle.vt_journal.specs.declared.journal.Journal.{Journal}
 use Rattle.vt_review.specs.Announcements.{review_text}
-use Rattle.vt_tool.proofs.Cuts.{one-cut}
-use Rattle.vt_tool.proofs.Setups.{one-setup, one-start}
-use Rattle.vt_tool.specs.Commands.Accept.{ComesOfCert, IsAnswered, answered}
+use Rattle.vt_tool.proofs.Cuts.{one_cut}
+use Rattle.vt_tool.proofs.Setups.{one_setup, one_start}
+use Rattle.vt_tool.specs.Commands.Accept.{ComesOfCert, IsAnswered, accept_outcome}
 use Rattle.vt_tool.specs.Commands.Check.{legal_text}
 use Rattle.vt_tool.specs.Commands.Judging.{ComesOf, GivesFaultBefore, GivesMade, IsParted, IsReadAs, MakesOf, OneOutcomeOf}
 use Rattle.vt_tool.specs.Commands.Review.{ear_of}
 use Rattle.vt_tool.specs.Commands.Judged.{judged_text}
 use Rattle.vt_tool.specs.Outcome.{Outcome}
-use Rattle.vt_tool.specs.declared.commands.asked.Asked.{Asked}
-use Rattle.vt_tool.specs.declared.commands.asked.Asked.TheVariants as asked
-use Rattle.vt_tool.specs.declared.commands.cut.Mark.TheVariants as mark
+use Rattle.vt_tool.specs.declared.commands.judge_request.JudgeRequest.{JudgeRequest}
+use Rattle.vt_tool.specs.declared.commands.judge_request.JudgeRequest.TheVariants as asked
+use Rattle.vt_tool.specs.declared.commands.cut.CutMark.TheVariants as mark
 use Rattle.vt_world.specs.Laws.{moments}
 use Rattle.vt_world.specs.State.{WorldState}
 
 -- what is made of a journal is one outcome, wherever sessions begin alike
-abbrev pub OneMade : Asked → Type 0
+abbrev pub OneMade : JudgeRequest → Type 0
 OneMade asked =
     (cert : List ℕ) (s t : SessionView) (j : Journal) (a b : Outcome) → setup_of s ≡ setup_of t
     → MakesOf asked cert s j a → MakesOf asked cert t j b → a ≡ b
 
 -- one verdict
-same-verdict : OneVerdict → (s t : SessionView) (j : Journal) (v w : Verdict)
+same_verdict : OneVerdict → (s t : SessionView) (j : Journal) (v w : Verdict)
     → setup_of s ≡ setup_of t → Judges (setup_of s) j.entries j.tail v
     → Judges (setup_of t) j.entries j.tail w → v ≡ w
-same-verdict one_verdict s t j v w same mine yours =
+same_verdict one_verdict s t j v w same mine yours =
     one_verdict (setup_of t) j.entries j.tail v w
     (subst (λ (o : Setup). Judges o j.entries j.tail v) same mine) yours
 
-pub one-judged : OneVerdict → OneMade asked.Verdict
-one-judged one_verdict cert s t j a b same x y =
+pub one_judged : OneVerdict → OneMade asked.Verdict
+one_judged one_verdict cert s t j a b same x y =
     x.is
     ∙ ap (judged_text (legal_text (length j.entries)))
-    (same-verdict one_verdict s t j x.verdict y.verdict same x.judged y.judged)
+    (same_verdict one_verdict s t j x.verdict y.verdict same x.judged y.judged)
     ∙ sym y.is
 
-pub one-reviewed : OneVerdict → (kinds console : ℕ) → OneMade (asked.Review kinds console)
-one-reviewed one_verdict kinds console cert s t j a b same x y =
+pub one_reviewed : OneVerdict → (kinds console : ℕ) → OneMade (asked.Review kinds console)
+one_reviewed one_verdict kinds console cert s t j a b same x y =
     x.is
     ∙ ap (λ (w : WorldState). judged_text (review_text (ear_of kinds console ∷ []) 0 w j.entries) x.verdict)
-    (one-start s t same)
+    (one_start s t same)
     ∙ ap (judged_text (review_text (ear_of kinds console ∷ []) 0 (start_of t) j.entries))
-    (same-verdict one_verdict s t j x.verdict y.verdict same x.judged y.judged)
+    (same_verdict one_verdict s t j x.verdict y.verdict same x.judged y.judged)
     ∙ sym y.is
 
 -- the certificate counts where the journal is legal
-same-told : OneCertificate → (start start' : WorldState) (entries : List Entry) (c d : List HopWhy)
+same_told : OneCertificate → (start start' : WorldState) (entries : List Entry) (c d : List HopWhy)
     (v : Verdict) → start ≡ start'
     → (v ≡ Legal → IsCertificate (moments start entries) c)
     → (v ≡ Legal → IsCertificate (moments start' entries) d)
     → judged_text (cert_text c) v ≡ judged_text (cert_text d) v
-same-told one_certificate start start' entries c d Legal same x y =
+same_told one_certificate start start' entries c d Legal same x y =
     ap (λ (items : List HopWhy). judged_text (cert_text items) Legal)
     (one_certificate (moments start' entries) c d
     (subst (λ (w : WorldState). IsCertificate (moments w entries) c) same (x refl)) (y refl))
-same-told one_certificate start start' entries c d (Illegal index why) same x y = refl
+same_told one_certificate start start' entries c d (Illegal index why) same x y = refl
 
-pub one-explained : OneVerdict → OneCertificate → OneMade asked.Explanation
-one-explained one_verdict one_certificate cert s t j a b same x y =
+pub one_explained : OneVerdict → OneCertificate → OneMade asked.Explanation
+one_explained one_verdict one_certificate cert s t j a b same x y =
     let verdicts : x.verdict ≡ y.verdict =
-    same-verdict one_verdict s t j x.verdict y.verdict same x.judged y.judged in
+    same_verdict one_verdict s t j x.verdict y.verdict same x.judged y.judged in
     x.is
     ∙ ap (judged_text (cert_text x.items)) verdicts
-    ∙ same-told one_certificate (start_of s) (start_of t) j.entries x.items y.items y.verdict
-    (one-start s t same) (λ legal. x.cert (verdicts ∙ legal)) y.cert
+    ∙ same_told one_certificate (start_of s) (start_of t) j.entries x.items y.items y.verdict
+    (one_start s t same) (λ legal. x.cert (verdicts ∙ legal)) y.cert
     ∙ sym y.is
 
-one-answered : OneAcceptance → (c : List HopWhy) (s t : SessionView) (j : Journal) (a b : Outcome)
+one_accept_outcome : OneAcceptance → (c : List HopWhy) (s t : SessionView) (j : Journal) (a b : Outcome)
     → setup_of s ≡ setup_of t → IsAnswered c s j a → IsAnswered c t j b → a ≡ b
-one-answered one_acceptance c s t j a b same x y =
+one_accept_outcome one_acceptance c s t j a b same x y =
     x.is
-    ∙ ap (answered (length c))
+    ∙ ap (accept_outcome (length c))
     (one_acceptance (setup_of t) j.entries j.tail c x.judged y.judged
     (subst (λ (o : Setup). Accepts o j.entries j.tail c x.judged) same x.accepts) y.accepts)
     ∙ sym y.is
 
-one-of-cert : OneAcceptance → (said : Result (List HopWhy) ℕ) (s t : SessionView) (j : Journal)
+one_of_cert : OneAcceptance → (said : Result (List HopWhy) ℕ) (s t : SessionView) (j : Journal)
     (a b : Outcome) → setup_of s ≡ setup_of t → ComesOfCert said s j a → ComesOfCert said t j b → a ≡ b
-one-of-cert one_acceptance (Ok c) s t j a b same x y = one-answered one_acceptance c s t j a b same x y
-one-of-cert one_acceptance (Err line) s t j a b same x y = x ∙ sym y
+one_of_cert one_acceptance (Ok c) s t j a b same x y = one_accept_outcome one_acceptance c s t j a b same x y
+one_of_cert one_acceptance (Err line) s t j a b same x y = x ∙ sym y
 
-pub one-accepted : OneAcceptance → OneCert → OneMade asked.Acceptance
-one-accepted one_acceptance one_cert [] s t j a b same x y = x ∙ sym y
-one-accepted one_acceptance one_cert (b ∷ more) s t j a c same (said, says, comes) (said', says', comes') =
-    one-of-cert one_acceptance said' s t j a c same
+pub one_accepted : OneAcceptance → OneCert → OneMade asked.Acceptance
+one_accepted one_acceptance one_cert [] s t j a b same x y = x ∙ sym y
+one_accepted one_acceptance one_cert (b ∷ more) s t j a c same (said, says, comes) (said', says', comes') =
+    one_of_cert one_acceptance said' s t j a c same
     (subst (λ (r : Result (List HopWhy) ℕ). ComesOfCert r s j a)
     (one_cert (b ∷ more) said said' says says') comes) comes'
 
 -- what is after a session is parted in one way
-one-parted : (what : Asked) (behind a b c d : List ℕ) → IsParted what behind a b
+one_parted : (what : JudgeRequest) (behind a b c d : List ℕ) → IsParted what behind a b
     → IsParted what behind c d → (a ≡ c) × (b ≡ d)
-one-parted asked.Acceptance behind a b c d x y = one-cut mark.Certificate behind a b c d x y
-one-parted asked.Verdict behind a b c d x y = (x.0 ∙ sym y.0, x.1 ∙ sym y.1)
-one-parted (asked.Review kinds console) behind a b c d x y = (x.0 ∙ sym y.0, x.1 ∙ sym y.1)
-one-parted asked.Explanation behind a b c d x y = (x.0 ∙ sym y.0, x.1 ∙ sym y.1)
+one_parted asked.Acceptance behind a b c d x y = one_cut mark.Certificate behind a b c d x y
+one_parted asked.Verdict behind a b c d x y = (x.0 ∙ sym y.0, x.1 ∙ sym y.1)
+one_parted (asked.Review kinds console) behind a b c d x y = (x.0 ∙ sym y.0, x.1 ∙ sym y.1)
+one_parted asked.Explanation behind a b c d x y = (x.0 ∙ sym y.0, x.1 ∙ sym y.1)
 
-module _ (one_session : OneSession) (one_value : OneValue) (one_journal : OneJournal) (what : Asked)
+module _ (one_session : OneSession) (one_value : OneValue) (one_journal : OneJournal) (what : JudgeRequest)
     (one_made : OneMade what)
   where
     one-comes : (cert : List ℕ) (s t : SessionView) (read : Result Journal JFault) (a b : Outcome)
@@ -124,7 +124,7 @@ module _ (one_session : OneSession) (one_value : OneValue) (one_journal : OneJou
         → IsReadAs what s behind a → IsReadAs what t behind b → a ≡ b
     one-read s t behind a b same x y =
         let (journals, certs) =
-        one-parted what behind x.journal x.cert y.journal y.cert x.parted y.parted in
+        one_parted what behind x.journal x.cert y.journal y.cert x.parted y.parted in
         let reads : x.read ≡ y.read =
         one_journal y.journal x.read y.read
         (subst (λ (text : List ℕ). JournalSays text x.read) journals x.says) y.says in
@@ -142,20 +142,20 @@ module _ (one_session : OneSession) (one_value : OneValue) (one_journal : OneJou
         → a ≡ b
     both-made input a b x y =
         let (texts, afters) =
-        one-cut mark.Journal input x.text x.behind y.text y.behind x.cut y.cut in
+        one_cut mark.Journal input x.text x.behind y.text y.behind x.cut y.cut in
         let oks : Ok x.value ≡ Ok y.value =
         one-said x.text y.text texts (Ok x.value) (Ok y.value) x.said y.said in
         let values : x.value ≡ y.value = cc in
         let is : IsSessionOf x.session y.value =
         subst (λ (v : SessionValue). IsSessionOf x.session v) values x.is in
         one-read x.session y.session y.behind a b
-        (one-setup one_value y.value x.session y.session is y.is)
+        (one_setup one_value y.value x.session y.session is y.is)
         (subst (λ (j : List ℕ). IsReadAs what x.session j a) afters x.read) y.read
 
     not-both : (input : List ℕ) (a b : Outcome) → GivesMade what input a → GivesFaultBefore input b → ⊥
     not-both input a b x y =
         let (texts, afters) =
-        one-cut mark.Journal input x.text x.behind y.text y.behind x.cut y.cut in
+        one_cut mark.Journal input x.text x.behind y.text y.behind x.cut y.cut in
         let clash : Ok x.value ≡ Err y.refused.fault =
         one-said x.text y.text texts (Ok x.value) (Err y.refused.fault) x.said y.refused.found in
         let impossible : ⊥ = cc in
@@ -165,7 +165,7 @@ module _ (one_session : OneSession) (one_value : OneValue) (one_journal : OneJou
         → GivesFaultBefore input b → a ≡ b
     both-refused input a b x y =
         let (texts, afters) =
-        one-cut mark.Journal input x.text x.behind y.text y.behind x.cut y.cut in
+        one_cut mark.Journal input x.text x.behind y.text y.behind x.cut y.cut in
         let errs : Err x.refused.fault ≡ Err y.refused.fault =
         one-said x.text y.text texts (Err x.refused.fault) (Err y.refused.fault) x.refused.found
         y.refused.found in
@@ -174,8 +174,8 @@ module _ (one_session : OneSession) (one_value : OneValue) (one_journal : OneJou
         let yours = y.refused.refused in
         cc
 
-    pub one-outcome : OneOutcomeOf what
-    one-outcome input a b (inl x) (inl y) = both-made input a b x y
-    one-outcome input a b (inl x) (inr y) = absurd (not-both input a b x y)
-    one-outcome input a b (inr x) (inl y) = absurd (not-both input b a y x)
-    one-outcome input a b (inr x) (inr y) = both-refused input a b x y
+    pub one_outcome : OneOutcomeOf what
+    one_outcome input a b (inl x) (inl y) = both-made input a b x y
+    one_outcome input a b (inl x) (inr y) = absurd (not-both input a b x y)
+    one_outcome input a b (inr x) (inl y) = absurd (not-both input b a y x)
+    one_outcome input a b (inr x) (inr y) = both-refused input a b x y

@@ -13,9 +13,9 @@ use Rattle.table_fields.specs.Fields.{keymap_of}
 use Rattle.vt_events.specs.declared.entry.Entry.{Entry}
 use Rattle.vt_journal.specs.Room.{tail_at}
 use Rattle.vt_journal.specs.declared.full.Full.{Full}
-use Rattle.vt_tool.proofs.Meant.{drill-meant, run_text, tail-meant, text-meant}
-use Rattle.vt_tool.proofs.Once.{ok-once}
-use Rattle.vt_tool.proofs.Setups.{alike-setup, one-setup, one-start}
+use Rattle.vt_tool.proofs.Meant.{drill_meant, run_text, tail_meant, text_meant}
+use Rattle.vt_tool.proofs.Once.{ok_once}
+use Rattle.vt_tool.proofs.Setups.{alike_setup, one_setup, one_start}
 use Rattle.vt_tool.specs.Commands.Drill.{GivesDrill, drill_text}
 use Rattle.vt_tool.specs.Commands.Play.{GivesPlayed}
 use Rattle.vt_tool.specs.Commands.Session.{GivesSessionFault, IsPrinted, status_of}
@@ -24,8 +24,8 @@ use Rattle.vt_tool.specs.Outcome.{Outcome}
 use Rattle.vt_world.specs.History.{replay}
 use Rattle.vt_world.specs.State.{WorldState}
 
-same-outcome : (a b : Outcome) → a.status ≡ b.status → a.text ≡ b.text → a ≡ b
-same-outcome a b p q = λ i. record { status = p i; text = q i }
+same_outcome : (a b : Outcome) → a.status ≡ b.status → a.text ≡ b.text → a ≡ b
+same_outcome a b p q = λ i. record { status = p i; text = q i }
 
 -- a history as it is meant, and where it stopped
 abbrev played : List Entry → Option Full → Played
@@ -36,47 +36,47 @@ pub record IsSameRun (h k : List Entry) (p q : Option Full) : Type 0 where
   pub meant : plain_history h ≡ plain_history k
   pub stop : p ≡ q
 
-same-status : (h k : List Entry) (p q : Option Full) → IsSameRun h k p q
+same_status : (h k : List Entry) (p q : Option Full) → IsSameRun h k p q
     → status_of (tail_at h p) ≡ status_of (tail_at k q)
-same-status h k p q same =
+same_status h k p q same =
     ap status_of
-    (sym (tail-meant h p)
+    (sym (tail_meant h p)
     ∙ ap (λ (entries : List Entry). tail_at entries p) same.meant
     ∙ ap (tail_at (plain_history k)) same.stop
-    ∙ tail-meant k q)
+    ∙ tail_meant k q)
 
 module _ (replay_meant : ReplayIsMeant) (start start' : WorldState) (starts : start ≡ start')
     (h k : List Entry) (p q : Option Full) (same : IsSameRun h k p q)
   where
-    pub same-text : run_text start h p ≡ run_text start' k q
-    same-text =
-        sym (text-meant replay_meant start h p)
+    pub same_text : run_text start h p ≡ run_text start' k q
+    same_text =
+        sym (text_meant replay_meant start h p)
         ∙ ap (λ (entries : List Entry). run_text start entries p) same.meant
         ∙ ap (run_text start (plain_history k)) same.stop
         ∙ ap (λ (w : WorldState). run_text w (plain_history k) q) starts
-        ∙ text-meant replay_meant start' k q
+        ∙ text_meant replay_meant start' k q
 
-    pub same-drill : drill_text h (replay start h) ≡ drill_text k (replay start' k)
-    same-drill =
-        sym (drill-meant replay_meant start h)
+    pub same_drill : drill_text h (replay start h) ≡ drill_text k (replay start' k)
+    same_drill =
+        sym (drill_meant replay_meant start h)
         ∙ ap (λ (entries : List Entry). drill_text entries (replay start entries)) same.meant
         ∙ ap (λ (w : WorldState). drill_text (plain_history k) (replay w (plain_history k))) starts
-        ∙ drill-meant replay_meant start' k
+        ∙ drill_meant replay_meant start' k
 
 -- one run is printed in one way
-same-printed : ReplayIsMeant → (s t : SessionView) → start_of s ≡ start_of t → (h k : List Entry)
+same_printed : ReplayIsMeant → (s t : SessionView) → start_of s ≡ start_of t → (h k : List Entry)
     (p q : Option Full) → IsSameRun h k p q → (a b : Outcome)
     → IsPrinted s h (tail_at h p) a.status a.text → IsPrinted t k (tail_at k q) b.status b.text → a ≡ b
-same-printed replay_meant s t starts h k p q same a b x y =
-    same-outcome a b
-    (x.status_is ∙ same-status h k p q same ∙ sym y.status_is)
-    (x.text ∙ same-text replay_meant (start_of s) (start_of t) starts h k p q same ∙ sym y.text)
+same_printed replay_meant s t starts h k p q same a b x y =
+    same_outcome a b
+    (x.status_is ∙ same_status h k p q same ∙ sym y.status_is)
+    (x.text ∙ same_text replay_meant (start_of s) (start_of t) starts h k p q same ∙ sym y.text)
 
 -- the serial schedule has one run
-same-run : SerialIsOne → (o o' : Setup) (first first' : List ℕ) (h k : List Entry) (p q : Option Full)
+same_run : SerialIsOne → (o o' : Setup) (first first' : List ℕ) (h k : List Entry) (p q : Option Full)
     → o ≡ o' → first ≡ first' → IsSerial o first (played h p) → IsSerial o' first' (played k q)
     → IsSameRun h k p q
-same-run serial_one o o' first first' h k p q setups turns x y =
+same_run serial_one o o' first first' h k p q setups turns x y =
     let one : played h p ≡ played k q =
     serial_one o' first' (played h p) (played k q)
     (subst (λ (f : List ℕ). IsSerial o' f (played h p)) turns
@@ -88,20 +88,20 @@ same-run serial_one o o' first first' h k p q setups turns x y =
 
 module _ (one_session : OneSession) (input : List ℕ)
   where
-    pub one-said : (v w : SessionValue) → session_says input (Ok v) → session_says input (Ok w) → v ≡ w
-    one-said v w x y =
+    pub one_said : (v w : SessionValue) → session_says input (Ok v) → session_says input (Ok w) → v ≡ w
+    one_said v w x y =
         let same : Ok v ≡ Ok w = one_session input (Ok v) (Ok w) x y in
         let values : v ≡ w = cc in
         values
 
-    pub not-refused : (v : SessionValue) (b : Outcome) → session_says input (Ok v) → GivesSessionFault input b → ⊥
-    not-refused v b x y =
+    pub not_refused : (v : SessionValue) (b : Outcome) → session_says input (Ok v) → GivesSessionFault input b → ⊥
+    not_refused v b x y =
         let clash : Ok v ≡ Err y.fault = one_session input (Ok v) (Err y.fault) x y.found in
         let impossible : ⊥ = cc in
         impossible
 
-    pub both-refused : (a b : Outcome) → GivesSessionFault input a → GivesSessionFault input b → a ≡ b
-    both-refused a b x y =
+    pub both_refused : (a b : Outcome) → GivesSessionFault input a → GivesSessionFault input b → a ≡ b
+    both_refused a b x y =
         let same : Err x.fault ≡ Err y.fault = one_session input (Err x.fault) (Err y.fault) x.found y.found in
         let faults : x.fault ≡ y.fault = cc in
         let mine = x.refused in
@@ -109,11 +109,11 @@ module _ (one_session : OneSession) (input : List ℕ)
         cc
 
     -- sessions that an input says begin alike
-    pub same-setup : OneValue → (v w : SessionValue) (s t : SessionView) → session_says input (Ok v)
+    pub same_setup : OneValue → (v w : SessionValue) (s t : SessionView) → session_says input (Ok v)
         → session_says input (Ok w) → IsSessionOf s v → IsSessionOf t w → setup_of s ≡ setup_of t
-    same-setup one_value v w s t said said' is is' =
-        one-setup one_value w s t
-        (subst (λ (value : SessionValue). IsSessionOf s value) (one-said v w said said') is) is'
+    same_setup one_value v w s t said said' is is' =
+        one_setup one_value w s t
+        (subst (λ (value : SessionValue). IsSessionOf s value) (one_said v w said said') is) is'
 
 module _ (one_session : OneSession) (one_value : OneValue) (serial_one : SerialIsOne)
     (replay_meant : ReplayIsMeant)
@@ -121,35 +121,35 @@ module _ (one_session : OneSession) (one_value : OneValue) (serial_one : SerialI
     both-played : (input : List ℕ) (a b : Outcome) → GivesPlayed input a → GivesPlayed input b → a ≡ b
     both-played input a b x y =
         let setups : setup_of x.session ≡ setup_of y.session =
-        same-setup one_session input one_value x.value y.value x.session y.session x.said y.said x.is y.is in
-        let values : x.value ≡ y.value = one-said one_session input x.value y.value x.said y.said in
+        same_setup one_session input one_value x.value y.value x.session y.session x.said y.said x.is y.is in
+        let values : x.value ≡ y.value = one_said one_session input x.value y.value x.said y.said in
         let turns : x.session.turns ≡ y.session.turns =
         x.is.turns ∙ ap (λ (v : SessionValue). v.turns) values ∙ sym y.is.turns in
-        same-printed replay_meant x.session y.session (one-start x.session y.session setups)
+        same_printed replay_meant x.session y.session (one_start x.session y.session setups)
         x.played.history y.played.history x.played.stop y.played.stop
-        (same-run serial_one (setup_of x.session) (setup_of y.session) x.session.turns y.session.turns
+        (same_run serial_one (setup_of x.session) (setup_of y.session) x.session.turns y.session.turns
         x.played.history y.played.history x.played.stop y.played.stop setups turns x.played.serial
         y.played.serial)
         a b x.played.printed y.played.printed
 
-    pub one-played : (input : List ℕ) (a b : Outcome) → GivesPlayed input a ⊎ GivesSessionFault input a
+    pub one_played : (input : List ℕ) (a b : Outcome) → GivesPlayed input a ⊎ GivesSessionFault input a
         → GivesPlayed input b ⊎ GivesSessionFault input b → a ≡ b
-    one-played input a b (inl x) (inl y) = both-played input a b x y
-    one-played input a b (inl x) (inr y) = absurd (not-refused one_session input x.value b x.said y)
-    one-played input a b (inr x) (inl y) = absurd (not-refused one_session input y.value a y.said x)
-    one-played input a b (inr x) (inr y) = both-refused one_session input a b x y
+    one_played input a b (inl x) (inl y) = both-played input a b x y
+    one_played input a b (inl x) (inr y) = absurd (not_refused one_session input x.value b x.said y)
+    one_played input a b (inr x) (inl y) = absurd (not_refused one_session input y.value a y.said x)
+    one_played input a b (inr x) (inr y) = both_refused one_session input a b x y
 
-pub run-decides : OneSession → OneValue → ReplayIsMeant → RunDecides
-run-decides one_session one_value replay_meant input a b x y meant stops =
+pub run_decides : OneSession → OneValue → ReplayIsMeant → RunDecides
+run_decides one_session one_value replay_meant input a b x y meant stops =
     let setups : setup_of x.session ≡ setup_of y.session =
-    same-setup one_session input one_value x.value y.value x.session y.session x.said y.said x.is y.is in
-    same-printed replay_meant x.session y.session (one-start x.session y.session setups)
+    same_setup one_session input one_value x.value y.value x.session y.session x.said y.said x.is y.is in
+    same_printed replay_meant x.session y.session (one_start x.session y.session setups)
     x.raced.history y.raced.history x.raced.stop y.raced.stop
     (record { meant = meant; stop = stops })
     a b x.raced.printed y.raced.printed
 
-pub race-may-play : RaceMayPlay
-race-may-play input outcome (inl x) = inl (record {
+pub race_may_play : RaceMayPlay
+race_may_play input outcome (inl x) = inl (record {
   value = x.value;
   session = x.session;
   said = x.said;
@@ -161,15 +161,15 @@ race-may-play input outcome (inl x) = inl (record {
     printed = x.played.printed;
   };
 })
-race-may-play input outcome (inr y) = inr y
+race_may_play input outcome (inr y) = inr y
 
 -- the sessions that a seed makes begin alike
-drill-setup : OneValue → (n seed : ℕ) (s t : SessionView) → IsDrill n seed s → IsDrill n seed t
+drill_setup : OneValue → (n seed : ℕ) (s t : SessionView) → IsDrill n seed s → IsDrill n seed t
     → setup_of s ≡ setup_of t
-drill-setup one_value n seed s t x y =
+drill_setup one_value n seed s t x y =
     let lines : x.tables.lines ≡ y.tables.lines =
-    ok-once (keymap_of [] (codes "keycode 30 = a")) x.tables.lines y.tables.lines x.tables.keymap y.tables.keymap in
-    alike-setup s t (record {
+    ok_once (keymap_of [] (codes "keycode 30 = a")) x.tables.lines y.tables.lines x.tables.keymap y.tables.keymap in
+    alike_setup s t (record {
       rows = x.rows ∙ sym y.rows;
       cols = x.cols ∙ sym y.cols;
       consoles = x.consoles ∙ sym y.consoles;
@@ -184,17 +184,17 @@ drill-setup one_value n seed s t x y =
       bytes = x.bytes ∙ sym y.bytes;
     })
 
-pub one-drill : OneValue → SerialIsOne → ReplayIsMeant → (n seed : ℕ) (a b : Outcome)
+pub one_drill : OneValue → SerialIsOne → ReplayIsMeant → (n seed : ℕ) (a b : Outcome)
     → GivesDrill n seed a → GivesDrill n seed b → a ≡ b
-one-drill one_value serial_one replay_meant n seed a b x y =
+one_drill one_value serial_one replay_meant n seed a b x y =
     let setups : setup_of x.session ≡ setup_of y.session =
-    drill-setup one_value n seed x.session y.session x.is y.is in
+    drill_setup one_value n seed x.session y.session x.is y.is in
     let same : IsSameRun x.history y.history x.stop y.stop =
-    same-run serial_one (setup_of x.session) (setup_of y.session) x.session.turns y.session.turns
+    same_run serial_one (setup_of x.session) (setup_of y.session) x.session.turns y.session.turns
     x.history y.history x.stop y.stop setups (x.is.turns ∙ sym y.is.turns) x.serial y.serial in
-    same-outcome a b
-    (x.status_is ∙ same-status x.history y.history x.stop y.stop same ∙ sym y.status_is)
+    same_outcome a b
+    (x.status_is ∙ same_status x.history y.history x.stop y.stop same ∙ sym y.status_is)
     (x.text
-    ∙ same-drill replay_meant (start_of x.session) (start_of y.session)
-    (one-start x.session y.session setups) x.history y.history x.stop y.stop same
+    ∙ same_drill replay_meant (start_of x.session) (start_of y.session)
+    (one_start x.session y.session setups) x.history y.history x.stop y.stop same
     ∙ sym y.text)

@@ -18,8 +18,8 @@ use Rattle.vt_world.specs.Laws.{IsStart, moments}
 use Rattle.vt_world.specs.State.{WorldState, core}
 
 -- a session begins at a start of the console
-pub is-start : (s : SessionView) → IsFitSet s.config.consoles s.config.front → IsStart (start_of s)
-is-start s fit = record {
+pub is_start : (s : SessionView) → IsFitSet s.config.consoles s.config.front → IsStart (start_of s)
+is_start s fit = record {
   rows = s.config.size.rows;
   cols = s.config.size.cols;
   consoles = s.config.consoles;
@@ -35,13 +35,13 @@ module _ (s : SessionView) (world : WorldState) (history : List Entry) (stop : O
     (replayed : world ≡ replay (start_of s) history)
   where
     -- what is known of a run makes it a right one
-    pub right-run : IsLegal (start_of s) history
+    pub right_run : IsLegal (start_of s) history
         → Follows (start_of s) s.programs history
         → Ends (setup_of s) history (tail_at history stop)
         → IsLawful (moments (start_of s) history)
         → IsExplained (length history) (core world) (moments (start_of s) history)
         → ShowsTapes s world history → IsRightRun s history (tail_at history stop)
-    right-run legal follows ends lawful explained screens = record {
+    right_run legal follows ends lawful explained screens = record {
       legal = legal;
       follows = follows;
       ends = ends;
@@ -52,10 +52,10 @@ module _ (s : SessionView) (world : WorldState) (history : List Entry) (stop : O
       screens = subst (λ (w : WorldState). ShowsTapes s w history) replayed screens;
     }
 
-    pub run-printed : (status : Status) (written : List ℕ) → status ≡ status_of (tail_at history stop)
+    pub run_printed : (status : Status) (written : List ℕ) → status ≡ status_of (tail_at history stop)
         → written ≡ journal_text 2 history (tail_at history stop) ++ final_text world
         → IsPrinted s history (tail_at history stop) status written
-    run-printed status written is text = record {
+    run_printed status written is text = record {
       status_is = is;
       text = text
           ∙ ap (λ (w : WorldState). journal_text 2 history (tail_at history stop) ++ final_text w) replayed;

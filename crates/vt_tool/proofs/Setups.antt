@@ -6,7 +6,7 @@ use Rattle.session_order.specs.Sessions.{setup_of, start_of}
 use Rattle.session_text.specs.Sessions.{IsSessionOf, SessionValue, SessionView}
 use Rattle.session_text.specs.declared.program.Program.{Program}
 use Rattle.vt_journal.specs.declared.limits.Limits.{Limits}
-use Rattle.vt_world.specs.Start.{opening}
+use Rattle.vt_world.specs.Start.{start_world}
 use Rattle.vt_world.specs.State.{WorldState}
 
 -- a function gives one value for seven arguments
@@ -35,10 +35,10 @@ pub record AreAlike (s t : SessionView) : Type 0 where
   pub events : s.limits.events ≡ t.limits.events
   pub bytes : s.limits.bytes ≡ t.limits.bytes
 
-pub alike-setup : (s t : SessionView) → AreAlike s t → setup_of s ≡ setup_of t
-alike-setup s t x =
+pub alike_setup : (s t : SessionView) → AreAlike s t → setup_of s ≡ setup_of t
+alike_setup s t x =
     let starts : start_of s ≡ start_of t =
-    same7 opening s.config.size.rows t.config.size.rows s.config.size.cols t.config.size.cols
+    same7 start_world s.config.size.rows t.config.size.rows s.config.size.cols t.config.size.cols
     s.config.consoles t.config.consoles s.config.front t.config.front
     s.config.keyboards t.config.keyboards s.config.procs t.config.procs s.tables t.tables
     x.rows x.cols x.consoles x.front x.keyboards x.starts x.tables in
@@ -50,9 +50,9 @@ alike-setup s t x =
     ∙ ap (λ (l : Limits). setup (start_of t) t.programs l) limits
 
 -- a value is of sessions that begin alike
-pub one-setup : OneValue → (value : SessionValue) (s t : SessionView) → IsSessionOf s value
+pub one_setup : OneValue → (value : SessionValue) (s t : SessionView) → IsSessionOf s value
     → IsSessionOf t value → setup_of s ≡ setup_of t
-one-setup one_value value s t x y = alike-setup s t (record {
+one_setup one_value value s t x y = alike_setup s t (record {
   rows = x.rows ∙ sym y.rows;
   cols = x.cols ∙ sym y.cols;
   consoles = x.consoles ∙ sym y.consoles;
@@ -66,5 +66,5 @@ one-setup one_value value s t x y = alike-setup s t (record {
 })
 
 -- and they start alike
-pub one-start : (s t : SessionView) → setup_of s ≡ setup_of t → start_of s ≡ start_of t
-one-start s t same = ap (λ (o : Setup). o.start) same
+pub one_start : (s t : SessionView) → setup_of s ≡ setup_of t → start_of s ≡ start_of t
+one_start s t same = ap (λ (o : Setup). o.start) same

@@ -5,7 +5,7 @@ use Rattle.vt_io.specs.Stream.{Stream}
 use Rattle.vt_tool.specs.Commands.{Gives, intake_of}
 use Rattle.vt_tool.specs.Input.{ReadsAll, ReadsSome}
 use Rattle.vt_tool.specs.Run.{Answers, Holds}
-use Rattle.vt_tool.specs.Status.{is_own}
+use Rattle.vt_tool.specs.Status.{is_command_status}
 use Rattle.vt_tool.specs.Writing.{EndsGiving}
 use Rattle.vt_tool.specs.declared.answer.Answer.{Answer}
 use Rattle.vt_tool.specs.declared.command.Command.{Command}
@@ -15,32 +15,32 @@ use Rattle.vt_tool.specs.declared.status.Status.{Status}
 use Rattle.vt_tool.specs.declared.status.Status.TheVariants.{Usage, ReadFault, WriteFault, NoMemory, TooLong}
 
 -- an answer that was written whole holds
-answers-hold : (command : Command) (src src' out out' : Stream) (status : Status)
-    → IsTrue (is_own status) → Answers command src src' out out' status
+answers_hold : (command : Command) (src src' out out' : Stream) (status : Status)
+    → IsTrue (is_command_status status) → Answers command src src' out out' status
     → Holds command src src' out out' status
-answers-hold command src src' out out' Usage own answers = absurd (true≢false (sym own))
-answers-hold command src src' out out' ReadFault own answers = absurd (true≢false (sym own))
-answers-hold command src src' out out' WriteFault own answers = absurd (true≢false (sym own))
-answers-hold command src src' out out' NoMemory own answers = absurd (true≢false (sym own))
-answers-hold command src src' out out' TooLong own answers = absurd (true≢false (sym own))
-answers-hold command src src' out out' other own answers = answers
+answers_hold command src src' out out' Usage own answers = absurd (true≢false (sym own))
+answers_hold command src src' out out' ReadFault own answers = absurd (true≢false (sym own))
+answers_hold command src src' out out' WriteFault own answers = absurd (true≢false (sym own))
+answers_hold command src src' out out' NoMemory own answers = absurd (true≢false (sym own))
+answers_hold command src src' out out' TooLong own answers = absurd (true≢false (sym own))
+answers_hold command src src' out out' other own answers = answers
 
-reads-some : (i : Intake) (src src' : Stream) (input : List ℕ) → ReadsAll i src src' input
+reads_some : (i : Intake) (src src' : Stream) (input : List ℕ) → ReadsAll i src src' input
     → ReadsSome i src src'
-reads-some (ToEnd limit) src src' input read = (input, read.0)
-reads-some (InPieces limit) src src' input read = (input, read.0)
-reads-some NoInput src src' input read = read.0
+reads_some (ToEnd limit) src src' input read = (input, read.0)
+reads_some (InPieces limit) src src' input read = (input, read.0)
+reads_some NoInput src src' input read = read.0
 
 -- what a command gives for the whole input makes a run of it
-pub given-holds : {E : Type 0} (command : Command) (src src' out out' : Stream) (input : List ℕ)
+pub given_holds : {E : Type 0} (command : Command) (src src' out out' : Stream) (input : List ℕ)
     (answer : Result Answer E) (status : Status) → ReadsAll (intake_of command) src src' input
     → IfOk answer (λ a. Gives command input (record { status = a.status; text = a.text.bytes }))
-    → IfOk answer (λ a. IsTrue (is_own a.status)) → EndsGiving out out' answer status
+    → IfOk answer (λ a. IsTrue (is_command_status a.status)) → EndsGiving out out' answer status
     → Holds command src src' out out' status
-given-holds command src src' out out' input (Ok answer) status read gives own ends = ⊎_elim
+given_holds command src src' out out' input (Ok answer) status read gives own ends = ⊎_elim
     (λ whole.
     subst (Holds command src src' out out') (sym whole.0)
-    (answers-hold command src src' out out' answer.status own (record {
+    (answers_hold command src src' out out' answer.status own (record {
       input = input;
       text = answer.text.bytes;
       read = read;
@@ -59,6 +59,6 @@ given-holds command src src' out out' input (Ok answer) status read gives own en
       },
     ))
     ends
-given-holds command src src' out out' input (Err e) status read gives own ends =
+given_holds command src src' out out' input (Err e) status read gives own ends =
     subst (Holds command src src' out out') (sym ends.0)
-    (inl (reads-some (intake_of command) src src' input read, ends.1))
+    (inl (reads_some (intake_of command) src src' input read, ends.1))

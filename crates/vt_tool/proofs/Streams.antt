@@ -3,20 +3,20 @@ use Rattle.std.proofs.Common.{ℕ, List, ◌++◌, Option, Some, None, sym, ap, 
 use Rattle.std.proofs.Math.Seq.{take-add}
 use Rattle.std.specs.Io.KnownBytes.{Appends, Consumes}
 
-pub consumes-append : (a b c : Option (List ℕ)) (xs ys : List ℕ)
+pub consumes_append : (a b c : Option (List ℕ)) (xs ys : List ℕ)
     → Consumes a b xs → Consumes b c ys → Consumes a c (xs ++ ys)
-consumes-append None b c xs ys first second = tt
-consumes-append (Some a) None c xs ys first second = absurd first
-consumes-append (Some a) (Some b) None xs ys first second = absurd second
-consumes-append (Some a) (Some b) (Some c) xs ys first second =
+consumes_append None b c xs ys first second = tt
+consumes_append (Some a) None c xs ys first second = absurd first
+consumes_append (Some a) (Some b) None xs ys first second = absurd second
+consumes_append (Some a) (Some b) (Some c) xs ys first second =
     first ∙ ap (λ rest. xs ++ rest) second ∙ sym (append_assoc xs ys c)
 
-pub appends-append : (a b c : Option (List ℕ)) (xs ys : List ℕ)
+pub appends_append : (a b c : Option (List ℕ)) (xs ys : List ℕ)
     → Appends a b xs → Appends b c ys → Appends a c (xs ++ ys)
-appends-append None b c xs ys first second = tt
-appends-append (Some a) None c xs ys first second = absurd first
-appends-append (Some a) (Some b) None xs ys first second = absurd second
-appends-append (Some a) (Some b) (Some c) xs ys first second =
+appends_append None b c xs ys first second = tt
+appends_append (Some a) None c xs ys first second = absurd first
+appends_append (Some a) (Some b) None xs ys first second = absurd second
+appends_append (Some a) (Some b) (Some c) xs ys first second =
     second ∙ ap (λ front. front ++ ys) first ∙ append_assoc a xs ys
 
 -- a text of which so much is written, and then some of the rest
@@ -34,5 +34,5 @@ written_more held held' held'' text at count before piece fits =
     ∙ ap (λ more. take at text ++ more)
     (sym (take-take count (length text - at) (drop at text) left)) in
     subst (Appends held held'') (sym taken)
-    (appends-append held held' held'' (take at text)
+    (appends_append held held' held'' (take at text)
     (take count (take (length text - at) (drop at text))) before piece)

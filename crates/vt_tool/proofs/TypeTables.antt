@@ -6,7 +6,7 @@ use Rattle.toml.specs.Data.{Data, Members, get_member}
 use Rattle.table_fields.specs.Fields.{keymap_of, keys_pass, number_of, scan_bytes_of, text_of, texts_of}
 use Rattle.vt_tool.specs.Commands.Typing.{is_type_key, type_table_at}
 
-pub type_table-read : (members : Members) (m t k s : Option Data) (mode : ℕ) (texts : List Named)
+pub type_table_read : (members : Members) (m t k s : Option Data) (mode : ℕ) (texts : List Named)
     (keymap : List ℕ) (lines : List KeymapLine) (text keys : List ℕ)
     → keys_pass is_type_key members ≡ true
     → m ≡ get_member (codes "mode") members → number_of 0 1 3 0 4 m ≡ Ok mode
@@ -16,7 +16,7 @@ pub type_table-read : (members : Members) (m t k s : Option Data) (mode : ℕ) (
     → s ≡ get_member (codes "keys") members → text_of 0 4 s ≡ Ok text
     → scan_bytes_of 0 4 text ≡ Ok keys
     → type_table_at members ≡ Ok (record { mode = mode; lines = lines; keys = keys })
-type_table-read members m t k s mode texts keymap lines text keys known m_is number t_is included k_is
+type_table_read members m t k s mode texts keymap lines text keys known m_is number t_is included k_is
     map lines_are s_is scans bytes =
     let number' = ap (number_of 0 1 3 0 4) (sym m_is) ∙ number in
     let included' = ap (texts_of 0 2) (sym t_is) ∙ included in

@@ -18,8 +18,8 @@ first_is : (version : ℕ) → version < 10
 first_is version few = ap (λ digits. codes "%journal " ++ (digits ++ 0x0A ∷ [])) (decimal_digit version few)
 
 -- no text begins with the first lines of both versions
-one-version : (text : List ℕ) → HasFirst 1 text → HasFirst 2 text → ⊥
-one-version text x y =
+one_version : (text : List ℕ) → HasFirst 1 text → HasFirst 2 text → ⊥
+one_version text x y =
     let same : codes "%journal 1\n" ++ x.rest ≡ codes "%journal 2\n" ++ y.rest =
     ap (λ (line : List ℕ). line ++ x.rest) (sym (first_is 1 (omega arith)))
     ∙ sym x.parts ∙ y.parts
@@ -35,24 +35,24 @@ refused fault = record { status = status.Refused fault.kind fault.line (column_o
 
 module _ (one_journal : OneJournal) (input : List ℕ) (a b : Outcome)
   where
-    pub both-upgraded : IsUpgraded input a → IsUpgraded input b → a ≡ b
-    both-upgraded x y =
+    pub both_upgraded : IsUpgraded input a → IsUpgraded input b → a ≡ b
+    both_upgraded x y =
         let j : Journal = record { version = 1; entries = x.entries; tail = x.end } in
         let k : Journal = record { version = 1; entries = y.entries; tail = y.end } in
         let same : Ok j ≡ Ok k = one_journal input (Ok j) (Ok k) x.says y.says in
         let journals : j ≡ k = cc in
         x.is ∙ ap printed journals ∙ sym y.is
 
-    pub both-refused : IsNoJournal input a → IsNoJournal input b → a ≡ b
-    both-refused x y =
+    pub both_refused : IsNoJournal input a → IsNoJournal input b → a ≡ b
+    both_refused x y =
         let same : Err x.fault ≡ Err y.fault = one_journal input (Err x.fault) (Err y.fault) x.says y.says in
         let faults : x.fault ≡ y.fault = cc in
         x.is ∙ ap refused faults ∙ sym y.is
 
 -- a journal of version 1 is no newer one, and has no fault
-not-newer : (input : List ℕ) (a b : Outcome) → IsUpgraded input a → IsNewer input b → ⊥
-not-newer input a b x y =
-    one-version input
+not_newer : (input : List ℕ) (a b : Outcome) → IsUpgraded input a → IsNewer input b → ⊥
+not_newer input a b x y =
+    one_version input
     (first_line input (record { version = 1; entries = x.entries; tail = x.end }) x.says) y.first
 
 not-refused : OneJournal → (input : List ℕ) (a b : Outcome) → IsUpgraded input a → IsNoJournal input b → ⊥
@@ -62,14 +62,14 @@ not-refused one_journal input a b x y =
     let impossible : ⊥ = cc in
     impossible
 
-pub one-upgraded : OneJournal → (input : List ℕ) (a b : Outcome) → GivesUpgraded input a
+pub one_upgraded : OneJournal → (input : List ℕ) (a b : Outcome) → GivesUpgraded input a
     → GivesUpgraded input b → a ≡ b
-one-upgraded one input a b (inl x) (inl y) = both-upgraded one input a b x y
-one-upgraded one input a b (inl x) (inr (inl y)) = absurd (not-newer input a b x y)
-one-upgraded one input a b (inl x) (inr (inr y)) = absurd (not-refused one input a b x y)
-one-upgraded one input a b (inr (inl x)) (inl y) = absurd (not-newer input b a y x)
-one-upgraded one input a b (inr (inl x)) (inr (inl y)) = x.is ∙ sym y.is
-one-upgraded one input a b (inr (inl x)) (inr (inr y)) = absurd (y.other x.first)
-one-upgraded one input a b (inr (inr x)) (inl y) = absurd (not-refused one input b a y x)
-one-upgraded one input a b (inr (inr x)) (inr (inl y)) = absurd (x.other y.first)
-one-upgraded one input a b (inr (inr x)) (inr (inr y)) = both-refused one input a b x y
+one_upgraded one input a b (inl x) (inl y) = both_upgraded one input a b x y
+one_upgraded one input a b (inl x) (inr (inl y)) = absurd (not_newer input a b x y)
+one_upgraded one input a b (inl x) (inr (inr y)) = absurd (not-refused one input a b x y)
+one_upgraded one input a b (inr (inl x)) (inl y) = absurd (not_newer input b a y x)
+one_upgraded one input a b (inr (inl x)) (inr (inl y)) = x.is ∙ sym y.is
+one_upgraded one input a b (inr (inl x)) (inr (inr y)) = absurd (y.other x.first)
+one_upgraded one input a b (inr (inr x)) (inl y) = absurd (not-refused one input b a y x)
+one_upgraded one input a b (inr (inr x)) (inr (inl y)) = absurd (x.other y.first)
+one_upgraded one input a b (inr (inr x)) (inr (inr y)) = both_refused one input a b x y

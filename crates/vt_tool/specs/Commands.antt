@@ -20,9 +20,9 @@ use Rattle.vt_tool.specs.Commands.Review.{IsEar, consoles_heard, kinds_heard}
 use Rattle.vt_tool.specs.Commands.Session.{GivesSessionFault}
 use Rattle.vt_tool.specs.Commands.Typing.{GivesTableFault, GivesTyped}
 use Rattle.vt_tool.specs.Commands.Upgrade.{GivesUpgraded}
-use Rattle.vt_tool.specs.declared.commands.asked.Asked.TheVariants as asked
-use Rattle.vt_tool.specs.declared.with_two.WithTwo.{WithTwo}
-use Rattle.vt_tool.specs.declared.with_two.WithTwo.TheVariants as two
+use Rattle.vt_tool.specs.declared.commands.judge_request.JudgeRequest.TheVariants as asked
+use Rattle.vt_tool.specs.declared.numbered_form.NumberedForm.{NumberedForm}
+use Rattle.vt_tool.specs.declared.numbered_form.NumberedForm.TheVariants as two
 pub mod Accept
 pub mod Check
 pub mod Cook
@@ -43,7 +43,7 @@ pub mod Typing
 pub mod Upgrade
 
 -- what stands after the names of the commands with numbers
-abbrev pub rest_of : WithTwo → Rest
+abbrev pub rest_of : NumberedForm → Rest
 rest_of two.Screen = with_two side side command.Screen
 rest_of two.Drill = with_two items_each seeds command.Drill
 rest_of two.Review = with_two kinds_heard consoles_heard command.Review

@@ -35,10 +35,10 @@ line_of (Illegal index why) =
     codes "vt: illegal " ++ (decimal index ++ (codes " " ++ (decimal why ++ codes "\n")))
 
 -- a status that a command gives for its input; the others come of words, streams and memory
-abbrev pub is_own : Status → Bool
-is_own Usage = false
-is_own ReadFault = false
-is_own WriteFault = false
-is_own NoMemory = false
-is_own TooLong = false
-is_own other = true
+abbrev pub is_command_status : Status → Bool
+is_command_status Usage = false
+is_command_status ReadFault = false
+is_command_status WriteFault = false
+is_command_status NoMemory = false
+is_command_status TooLong = false
+is_command_status other = true

@@ -7,14 +7,14 @@ use vt_base::Bytes;
 
 /// What a command gives for an input: the status, and the text for out.
 #[derive(Drop)]
-pub struct Answer {
+pub(crate) struct Answer {
     pub status: Status,
     pub text: Bytes,
 }
 
 impl Answer {
     /// This text, and nothing went wrong.
-    pub fn fine(text: Bytes) -> Answer
+    pub(crate) fn fine(text: Bytes) -> Answer
         ensures status { result.status ≡ Status.Fine }
         ensures text { result.text.bytes ≡ text.bytes }
     {
@@ -25,7 +25,7 @@ impl Answer {
     }
 
     /// This status, and no text.
-    pub fn without_text(alloc: Global, status: Status) -> Answer
+    pub(crate) fn without_text(alloc: Global, status: Status) -> Answer
         ensures status { result.status ≡ status }
         ensures text { result.text.bytes ≡ [] }
     {
@@ -36,7 +36,7 @@ impl Answer {
     }
 
     /// The answer to an input that is refused at this place.
-    pub fn refused(alloc: Global, code: u16, a: u32, b: u32) -> Answer
+    pub(crate) fn refused(alloc: Global, code: u16, a: u32, b: u32) -> Answer
         ensures status { result.status ≡ Status.Refused code a b }
         ensures text { result.text.bytes ≡ [] }
     {
@@ -44,7 +44,7 @@ impl Answer {
     }
 
     /// The answer to a journal that is illegal there.
-    pub fn illegal(alloc: Global, index: u32, why: u8) -> Answer
+    pub(crate) fn illegal(alloc: Global, index: u32, why: u8) -> Answer
         ensures status { result.status ≡ Status.Illegal index why }
         ensures text { result.text.bytes ≡ [] }
     {
@@ -53,7 +53,7 @@ impl Answer {
 }
 
 /// The answer to a table that is refused at this fault.
-pub fn refused(alloc: Global, fault: TableFault) -> Answer
+pub(crate) fn refused(alloc: Global, fault: TableFault) -> Answer
     ensures status { result.status ≡ Status.Refused fault.kind fault.part fault.item }
     ensures text { result.text.bytes ≡ [] }
 {

@@ -1,6 +1,6 @@
 /// What the program is asked to do, in the order of the line of usage.
 #[derive(Clone, Copy)]
-pub enum Command {
+pub(crate) enum Command {
     /// The rows of a screen of this size after the input.
     Screen { rows: u8, cols: u8 },
     /// The listing of the tables of a keymap text.

@@ -2,16 +2,16 @@
 ghost use Rattle.std.specs.Prelude.{IfOk, IsTrue};
 ghost use Rattle.vt_tool.specs.Commands.{Gives, IsFit, IsSerial, TakesText, intake_of};
 ghost use Rattle.vt_tool.specs.Input.{IsWithin};
-ghost use Rattle.vt_tool.specs.Status.{is_own};
+ghost use Rattle.vt_tool.specs.Status.{is_command_status};
 
 mod accept;
-mod asked;
 mod check;
 mod cook;
 mod cut;
 mod drill;
 mod dumpkeys;
 mod explain;
+mod judge_request;
 mod judging;
 mod keys;
 mod lines;
@@ -25,34 +25,34 @@ mod upgrade;
 
 use crate::answer::Answer;
 use crate::command::Command;
-use crate::commands::asked::Asked;
+use crate::commands::judge_request::JudgeRequest;
 use std::alloc::Global;
 use vt_base::NoMemory;
 
 /// What the command gives for the input that it takes as one text, if it needs no threads.
-pub fn answer_to(alloc: Global, command: Command, input: &[u8]) -> Result<Answer, NoMemory>
+pub(crate) fn answer_to(alloc: Global, command: Command, input: &[u8]) -> Result<Answer, NoMemory>
     requires serial { IsSerial command }
     requires text { TakesText command }
     requires fit { IsFit command }
     requires within { IsWithin (intake_of command) input.now }
     ensures gives { IfOk result (λ answer. Gives command input.now
         (record { status = answer.status; text = answer.text.bytes })) }
-    ensures own { IfOk result (λ answer. IsTrue (is_own answer.status)) }
+    ensures own { IfOk result (λ answer. IsTrue (is_command_status answer.status)) }
 {
     match command {
         Command::Keys => keys::answer(alloc, input),
         Command::Typing => typing::answer(alloc, input),
         Command::Play => play::answer(alloc, input),
-        Command::Check => judging::answer(alloc, Asked::Verdict, input),
+        Command::Check => judging::answer(alloc, JudgeRequest::Verdict, input),
         Command::Drill { n, seed } => drill::answer(alloc, n, seed),
         Command::Upgrade => upgrade::answer(alloc, input),
         Command::Cook => cook::answer(alloc, input),
         Command::DumpKeys => dumpkeys::answer(alloc, input),
         Command::Review { kinds, console } => {
-            judging::answer(alloc, Asked::Review { kinds, console }, input)
+            judging::answer(alloc, JudgeRequest::Review { kinds, console }, input)
         }
-        Command::Explain => judging::answer(alloc, Asked::Explanation, input),
-        Command::Accept => judging::answer(alloc, Asked::Acceptance, input),
+        Command::Explain => judging::answer(alloc, JudgeRequest::Explanation, input),
+        Command::Accept => judging::answer(alloc, JudgeRequest::Acceptance, input),
         Command::Screen { .. } | Command::Race => unreachable!(),
     }
 }

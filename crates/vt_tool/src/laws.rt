@@ -2,7 +2,7 @@
 ghost use Rattle.std.specs.Prelude.{ℕ};
 ghost use Rattle.vt_tool.specs.Commands.Judging.{OneOutcomeOf};
 ghost use Rattle.vt_tool.specs.Laws.{OneOutcome, RaceMayPlay, RunDecides};
-ghost use Rattle.vt_tool.specs.declared.commands.asked.Asked.TheVariants.{Verdict, Review, Explanation, Acceptance};
+ghost use Rattle.vt_tool.specs.declared.commands.judge_request.JudgeRequest.TheVariants.{Verdict, Review, Explanation, Acceptance};
 
 use key_compile::one_value;
 use session_order::{meant_laws, serial_laws};

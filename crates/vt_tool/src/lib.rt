@@ -6,6 +6,7 @@ mod command;
 mod commands;
 mod intake;
 mod laws;
+mod numbered_form;
 mod read_end;
 mod reading;
 mod run;
@@ -14,7 +15,6 @@ mod streamed;
 mod streaming;
 mod telling;
 mod tool;
-mod with_two;
 mod words;
 mod writing;
 

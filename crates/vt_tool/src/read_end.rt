@@ -6,7 +6,7 @@ use vt_io::Failed;
 
 /// Why an input wasn't read whole.
 #[derive(Clone, Copy)]
-pub enum ReadEnd {
+pub(crate) enum ReadEnd {
     /// The source failed.
     Fault,
     /// The source gives more bytes than are read.

@@ -13,7 +13,11 @@ use vt_io::Source;
 const READ_BYTES: usize = 65_536;
 
 /// The input of the command, or the status that comes in its place.
-pub fn input_of<S: Source>(alloc: Global, command: Command, src: &mut S) -> Result<Bytes, Status>
+pub(crate) fn input_of<S: Source>(
+    alloc: Global,
+    command: Command,
+    src: &mut S,
+) -> Result<Bytes, Status>
     requires { TakesText command }
     ensures { GivesInput command
         (record { told = S.left src.old; faults = S.faults src.old })

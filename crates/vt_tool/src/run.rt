@@ -7,10 +7,10 @@ use crate::command::Command;
 use crate::commands::race;
 use crate::reading::input_of;
 use crate::status::Status;
-use crate::telling::tell;
+use crate::telling::write_status;
 use crate::tool::vt_command;
 use crate::words::is_race;
-use crate::writing::give;
+use crate::writing::write_answer;
 use std::alloc::Global;
 use std::sync::Wait;
 use std::thread::Threads;
@@ -68,7 +68,7 @@ pub fn vt_run<S: Source, O: Sink, E: Sink, G: Gate + Sync, R: Threads + Wait + S
         return vt_command(alloc, words, src, out, err);
     }
     let first = do_race(rt, alloc, src, out, gate);
-    tell(err, first)
+    write_status(err, first)
 }
 
 // Does `race`.
@@ -86,7 +86,7 @@ fn do_race<S: Source, O: Sink, G: Gate + Sync, R: Threads + Wait + Sync>(
         (record { told = O.held out.new; faults = O.faults out.new }) result }
 {
     match input_of(alloc, Command::Race, src) {
-        Ok(input) => give(out, race::answer(rt, alloc, input.as_slice(), gate)),
+        Ok(input) => write_answer(out, race::answer(rt, alloc, input.as_slice(), gate)),
         Err(status) => status,
     }
 }

@@ -13,38 +13,38 @@ use vt_journal::Full;
 const LINE_BYTES: usize = 160;
 
 /// Writes the status's line on err, and gives the status that the run then has.
-pub fn tell<E: Sink>(err: &mut E, first: Status) -> Status
+pub(crate) fn write_status<E: Sink>(err: &mut E, first: Status) -> Status
     ensures { Tells first
         (record { told = E.held err.old; faults = E.faults err.old })
         (record { told = E.held err.new; faults = E.faults err.new }) result }
 {
     match first {
         Status::Fine => Status::Fine,
-        Status::Usage => say(
+        Status::Usage => write_line(
             err,
             first,
             b"vt: usage: screen R C | keys | type | play | race | check | drill N SEED | upgrade | cook | dumpkeys | review K N | explain | accept\n",
         ),
-        Status::ReadFault => say(err, first, b"vt: read failed\n"),
-        Status::WriteFault => say(err, first, b"vt: write failed\n"),
-        Status::NoMemory => say(err, first, b"vt: no memory\n"),
+        Status::ReadFault => write_line(err, first, b"vt: read failed\n"),
+        Status::WriteFault => write_line(err, first, b"vt: write failed\n"),
+        Status::NoMemory => write_line(err, first, b"vt: no memory\n"),
         Status::Refused { code, a, b } => {
             let line = refusal_line(code, a, b);
-            say(err, first, line.as_str().as_bytes())
+            write_line(err, first, line.as_str().as_bytes())
         }
-        Status::TooLong => say(err, first, b"vt: input too long\n"),
+        Status::TooLong => write_line(err, first, b"vt: input too long\n"),
         Status::JournalFull(full) => {
             let line = full_line(&full);
-            say(err, first, line.as_str().as_bytes())
+            write_line(err, first, line.as_str().as_bytes())
         }
         Status::Illegal { index, why } => {
             let line = illegal_line(index, why);
-            say(err, first, line.as_str().as_bytes())
+            write_line(err, first, line.as_str().as_bytes())
         }
     }
 }
 
-fn say<E: Sink>(err: &mut E, first: Status, line: &[u8]) -> Status
+fn write_line<E: Sink>(err: &mut E, first: Status, line: &[u8]) -> Status
     requires line { line.now ≡ line_of first }
     requires some { line_of first ≢ [] }
     ensures { Tells first

@@ -7,9 +7,9 @@ use crate::command::Command;
 use crate::commands::{answer_to, screen};
 use crate::reading::input_of;
 use crate::status::Status;
-use crate::telling::tell;
+use crate::telling::write_status;
 use crate::words::parse_words;
-use crate::writing::give;
+use crate::writing::write_answer;
 use std::alloc::Global;
 use vt_base::Size;
 use vt_io::{Sink, Source};
@@ -62,7 +62,7 @@ pub fn vt_command<S: Source, O: Sink, E: Sink>(
     displays_are_lawful();
     refused_calls_change_nothing();
     let first = begin(alloc, words, src, out);
-    tell(err, first)
+    write_status(err, first)
 }
 
 // The status before its line is told.
@@ -109,7 +109,7 @@ fn do_screen<S: Source, O: Sink>(alloc: Global, size: Size, src: &mut S, out: &m
         (record { told = O.held out.new; faults = O.faults out.new }) result }
 {
     match screen::draw(alloc, size, src) {
-        Ok(emu) => give(out, screen::answer(alloc, &emu)),
+        Ok(emu) => write_answer(out, screen::answer(alloc, &emu)),
         Err(status) => status,
     }
 }
@@ -126,7 +126,7 @@ fn do_text<S: Source, O: Sink>(alloc: Global, command: Command, src: &mut S, out
         (record { told = O.held out.new; faults = O.faults out.new }) result }
 {
     match input_of(alloc, command, src) {
-        Ok(input) => give(out, answer_to(alloc, command, input.as_slice())),
+        Ok(input) => write_answer(out, answer_to(alloc, command, input.as_slice())),
         Err(status) => status,
     }
 }

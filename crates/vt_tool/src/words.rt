@@ -3,27 +3,27 @@ ghost use Rattle.vt_tool.specs.Commands.{IsFit, IsSerial, all_forms, rest_of, se
 ghost use Rattle.vt_tool.specs.Words.{command_of, command_with, if_no_words, number_in};
 
 use crate::command::Command;
-use crate::with_two::WithTwo;
+use crate::numbered_form::NumberedForm;
 use vt_base::parse_decimal;
 
 /// The command that the words spell, if it needs no threads.
-pub fn parse_words(words: &[String]) -> Option<Command>
+pub(crate) fn parse_words(words: &[String]) -> Option<Command>
     ensures command { result ≡ command_of serial_forms (map string_bytes words.now) }
     ensures serial { IfSome result (λ command. IsSerial command) }
     ensures fit { IfSome result (λ command. IsFit command) }
 {
     let (name, others) = words.split_first()?;
     match name.as_str() {
-        "screen" => two_numbers(WithTwo::Screen, others),
+        "screen" => two_numbers(NumberedForm::Screen, others),
         "keys" => alone(Command::Keys, others),
         "type" => alone(Command::Typing, others),
         "play" => alone(Command::Play, others),
         "check" => alone(Command::Check, others),
-        "drill" => two_numbers(WithTwo::Drill, others),
+        "drill" => two_numbers(NumberedForm::Drill, others),
         "upgrade" => alone(Command::Upgrade, others),
         "cook" => alone(Command::Cook, others),
         "dumpkeys" => alone(Command::DumpKeys, others),
-        "review" => two_numbers(WithTwo::Review, others),
+        "review" => two_numbers(NumberedForm::Review, others),
         "explain" => alone(Command::Explain, others),
         "accept" => alone(Command::Accept, others),
         _ => None,
@@ -31,7 +31,7 @@ pub fn parse_words(words: &[String]) -> Option<Command>
 }
 
 /// The words spell `race`.
-pub fn is_race(words: &[String]) -> bool
+pub(crate) fn is_race(words: &[String]) -> bool
     ensures race { result ≡ true
         → command_of all_forms (map string_bytes words.now) ≡ Some Command.Race }
     ensures other { result ≡ false → command_of serial_forms (map string_bytes words.now)
@@ -61,22 +61,22 @@ fn alone(command: Command, words: &[String]) -> Option<Command>
 }
 
 // The command of two numbers, each in its range.
-fn two_numbers(form: WithTwo, words: &[String]) -> Option<Command>
+fn two_numbers(form: NumberedForm, words: &[String]) -> Option<Command>
     ensures command { result ≡ command_with (rest_of form) (map string_bytes words.now) }
     ensures serial { IfSome result (λ command. IsSerial command) }
     ensures fit { IfSome result (λ command. IsFit command) }
 {
     let [first, second] = words else { return None };
     match form {
-        WithTwo::Screen => Some(Command::Screen {
+        NumberedForm::Screen => Some(Command::Screen {
             rows: parse_number(first.as_str(), 1, 255)? as u8,
             cols: parse_number(second.as_str(), 1, 255)? as u8,
         }),
-        WithTwo::Drill => Some(Command::Drill {
+        NumberedForm::Drill => Some(Command::Drill {
             n: parse_number(first.as_str(), 1, 10_000)? as u32,
             seed: parse_number(second.as_str(), 0, u64::MAX)?,
         }),
-        WithTwo::Review => Some(Command::Review {
+        NumberedForm::Review => Some(Command::Review {
             kinds: parse_number(first.as_str(), 0, 7)? as u8,
             console: parse_number(second.as_str(), 0, 63)? as u8,
         }),

@@ -6,7 +6,7 @@ use vt_base::NoMemory;
 use vt_io::{Failed, Sink};
 
 /// Writes what a command gives, and says how the run ends.
-pub fn give<O: Sink>(out: &mut O, answer: Result<Answer, NoMemory>) -> Status
+pub(crate) fn write_answer<O: Sink>(out: &mut O, answer: Result<Answer, NoMemory>) -> Status
     ensures { EndsGiving
         (record { told = O.held out.old; faults = O.faults out.old })
         (record { told = O.held out.new; faults = O.faults out.new }) answer result }
@@ -22,7 +22,7 @@ pub fn give<O: Sink>(out: &mut O, answer: Result<Answer, NoMemory>) -> Status
 
 /// Writes the whole text, in as many pieces as the sink takes it.
 #[tactic(auto, using(crate::proofs::Streams::written_more))]
-pub fn write_all<K: Sink>(sink: &mut K, text: &[u8]) -> Result<(), Failed>
+pub(crate) fn write_all<K: Sink>(sink: &mut K, text: &[u8]) -> Result<(), Failed>
     ensures { EndsWriting
         (record { told = K.held sink.old; faults = K.faults sink.old })
         (record { told = K.held sink.new; faults = K.faults sink.new }) text.now result }

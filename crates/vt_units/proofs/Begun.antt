@@ -3,11 +3,11 @@ use Rattle.std.proofs.Common.{◌≡◌, ◌≢◌, ℕ, ◌==◌, ◌≤◌, �
 use Rattle.std.specs.Prelude.{nat_lt}
 use Rattle.std.proofs.lemmas.Bool.{and_parts, and_from, cases_Bool, cond-true, cond-false, eqb-true, lt-ltb, ltb-true, false≢true, false_from_ne_true}
 use Rattle.std.proofs.lemmas.List.{append-nil, append_assoc, length-append, length-drop, length-take-le, take-append-drop, take-append-le, take-take, take_at}
-use Rattle.vt_chars.specs.Utf8.{Begins, UnfinishedBegins, decoded, is_begun, is_well_formed}
+use Rattle.vt_chars.specs.Utf8.{Begins, UnfinishedBegins, decoding_of, is_begun, is_well_formed}
 use Rattle.vt_chars.specs.declared.decoded.Decoded.{Decoded}
 use Rattle.vt_chars.specs.declared.decoded.Decoded.TheVariants.{Character, Unfinished, Malformed}
-use Rattle.vt_units.proofs.Opens.{Goes, IsSome, Opens, alone-ends, by-test, opens-control, opens-escape}
-use Rattle.vt_units.proofs.Readings.{short-reading}
+use Rattle.vt_units.proofs.Opens.{Goes, IsSome, Opens, alone_ends, by_test, opens_control, opens_escape}
+use Rattle.vt_units.proofs.Readings.{short_reading}
 use Rattle.vt_units.specs.Bytes.{decodes, is_control, is_csi}
 use Rattle.vt_units.specs.Reading.{Kind, Reading, whole, dropped, unfinished, none, begins_csi, character_reading, character_text, is_sequence, overlong, reading, text_reading}
 use Rattle.vt_units.specs.Units.{Before, IsUnfinished, Spells}
@@ -16,15 +16,15 @@ use Rattle.vt_units.specs.declared.unit.Unit as units
 
 -- what a text in UTF-8 is, by a decoded text that isn't malformed
 module _ (law : UnfinishedBegins) where
-  formed : (w : List ℕ) (code : ℕ) → decoded w ≡ Character code → is_well_formed w ≡ true
+  formed : (w : List ℕ) (code : ℕ) → decoding_of w ≡ Character code → is_well_formed w ≡ true
   formed w code is = ⊎_elim
       (λ (whole_one : is_well_formed w ≡ true). whole_one)
       (λ (not_whole : is_well_formed w ≡ false). ⊎_elim
       (λ (begun : is_begun w ≡ true).
-      let e : decoded w ≡ Unfinished = cond-false _ _ _ not_whole ∙ cond-true _ _ _ begun in
+      let e : decoding_of w ≡ Unfinished = cond-false _ _ _ not_whole ∙ cond-true _ _ _ begun in
       absurd (let wrong : ⊥ = cc in wrong))
       (λ (not_begun : is_begun w ≡ false).
-      let e : decoded w ≡ Malformed = cond-false _ _ _ not_whole ∙ cond-false _ _ _ not_begun in
+      let e : decoding_of w ≡ Malformed = cond-false _ _ _ not_whole ∙ cond-false _ _ _ not_begun in
       absurd (let wrong : ⊥ = cc in wrong))
       (cases_Bool (is_begun w)))
       (cases_Bool (is_well_formed w))
@@ -32,8 +32,8 @@ module _ (law : UnfinishedBegins) where
   some-more : (x : ℕ) (xs : List ℕ) → x ∷ xs ≢ []
   some-more x xs e = cc
 
-  prefix-by : (d : Decoded) (t : List ℕ) (x : ℕ) (xs : List ℕ) → decoded (t ++ x ∷ xs) ≡ d → d ≢ Malformed
-      → t ≢ [] → decoded t ≡ Unfinished
+  prefix-by : (d : Decoded) (t : List ℕ) (x : ℕ) (xs : List ℕ) → decoding_of (t ++ x ∷ xs) ≡ d → d ≢ Malformed
+      → t ≢ [] → decoding_of t ≡ Unfinished
   prefix-by (Character code) t x xs is well some =
       (law t).1 (some, (x ∷ xs, some-more x xs, formed (t ++ x ∷ xs) code is))
   prefix-by Unfinished t x xs is well some =
@@ -55,13 +55,13 @@ module _ (law : UnfinishedBegins) where
   not-malformed a (b ∷ more) d some is e = subst (λ x. IsSome (character_reading (a ∷ b ∷ more) x)) e is
 
   opens-decoded : (a : ℕ) (p : List ℕ) (x : ℕ) (xs : List ℕ)
-      → IsSome (character_reading (a ∷ p ++ x ∷ xs) (decoded (a ∷ p ++ x ∷ xs)))
-      → Goes (character_reading (a ∷ p) (decoded (a ∷ p)))
+      → IsSome (character_reading (a ∷ p ++ x ∷ xs) (decoding_of (a ∷ p ++ x ∷ xs)))
+      → Goes (character_reading (a ∷ p) (decoding_of (a ∷ p)))
   opens-decoded a p x xs is =
-      let well : decoded (a ∷ p ++ x ∷ xs) ≢ Malformed =
-      not-malformed a (p ++ x ∷ xs) (decoded (a ∷ p ++ x ∷ xs)) (behind-some p) is in
-      let begun : decoded (a ∷ p) ≡ Unfinished =
-      prefix-by (decoded (a ∷ p ++ x ∷ xs)) (a ∷ p) x xs refl well (some-more a p) in
+      let well : decoding_of (a ∷ p ++ x ∷ xs) ≢ Malformed =
+      not-malformed a (p ++ x ∷ xs) (decoding_of (a ∷ p ++ x ∷ xs)) (behind-some p) is in
+      let begun : decoding_of (a ∷ p) ≡ Unfinished =
+      prefix-by (decoding_of (a ∷ p ++ x ∷ xs)) (a ∷ p) x xs refl well (some-more a p) in
       subst (λ d. Goes (character_reading (a ∷ p) d)) (sym begun) tt
     where
       behind-some : (q : List ℕ) → q ++ x ∷ xs ≢ []
@@ -77,15 +77,15 @@ module _ (law : UnfinishedBegins) where
       opens-decoded a [] x xs (subst IsSome (cond-false _ _ _ no_csi) some))
       (cases_Bool (begins_csi (a ∷ x ∷ xs)))
   opens-character m a (b ∷ p) x xs some =
-      by-test (a == 0xC2 && b == 0x9B) _ _ _ _ (opens-control m p x xs) (opens-decoded a (b ∷ p) x xs) some
+      by_test (a == 0xC2 && b == 0x9B) _ _ _ _ (opens_control m p x xs) (opens-decoded a (b ∷ p) x xs) some
 
   opens-text : (m : Mode) (a : ℕ) → Opens (λ p. text_reading m (a ∷ p))
   opens-text m a p x xs some =
-      by-test (a == 0x1B) _ _ _ _ (opens-escape m p x xs)
-      (by-test (is_csi m a) _ _ _ _ (opens-control m p x xs)
-      (by-test (is_control m a) _ _ _ _ (λ single. absurd (alone-ends p x xs _ single))
-      (by-test (decodes m) _ _ _ _ (opens-character m a p x xs)
-      (λ single. absurd (alone-ends p x xs _ single))))) some
+      by_test (a == 0x1B) _ _ _ _ (opens_escape m p x xs)
+      (by_test (is_csi m a) _ _ _ _ (opens_control m p x xs)
+      (by_test (is_control m a) _ _ _ _ (λ single. absurd (alone_ends p x xs _ single))
+      (by_test (decodes m) _ _ _ _ (opens-character m a p x xs)
+      (λ single. absurd (alone_ends p x xs _ single))))) some
 
   opens-some : (m : Mode) (t : List ℕ) (x : ℕ) (xs : List ℕ) → t ≢ []
       → IsSome (text_reading m (t ++ x ∷ xs)) → Goes (text_reading m t)
@@ -134,9 +134,9 @@ module _ (law : UnfinishedBegins) where
   overlong-one m (x ∷ []) some = omega arith
   overlong-one m (x ∷ y ∷ xs) some = absurd some
 
-  pub opens-reading : (m : Mode) (t : List ℕ) (x : ℕ) (xs : List ℕ) → t ≢ []
+  pub opens_reading : (m : Mode) (t : List ℕ) (x : ℕ) (xs : List ℕ) → t ≢ []
       → IsSome (reading m (t ++ x ∷ xs)) → Goes (reading m t)
-  opens-reading m t x xs some is = ⊎_elim
+  opens_reading m t x xs some is = ⊎_elim
       (λ (long : is_long m (t ++ x ∷ xs) ≡ true).
       let p : (nat_lt 256 (length (t ++ x ∷ xs)) ≡ true)
       × (is_sequence (text_reading m (take 256 (t ++ x ∷ xs))) ≡ true) = and_parts _ _ long in
@@ -151,7 +151,7 @@ module _ (law : UnfinishedBegins) where
       length-take-le 256 (t ++ x ∷ xs) (omega arith) in
       let front : take (length t) (take 256 (t ++ x ∷ xs)) ≡ t =
       take-take (length t) 256 (t ++ x ∷ xs) short ∙ take_at t (x ∷ xs) (length t) refl in
-      subst Goes (sym (short-reading m t short))
+      subst Goes (sym (short_reading m t short))
       (goes-front m t (take 256 (t ++ x ∷ xs)) some short front full (sequence-goes _ p.1)))
       (λ (not_long : is_long m (t ++ x ∷ xs) ≡ false).
       let here : is_long m t ≡ false =
@@ -172,6 +172,6 @@ module _ (law : UnfinishedBegins) where
       (λ is. subst IsSome (sym is.0) tt)
       spelled
 
-  pub before-unfinished : (m : Mode) (t : List ℕ) → Before m t → IsUnfinished m t
-  before-unfinished m t (some, x, more, u, spelled) =
-      goes-kind (reading m t) (opens-reading m t x more some (spelled-some m (t ++ x ∷ more) u spelled))
+  pub before_unfinished : (m : Mode) (t : List ℕ) → Before m t → IsUnfinished m t
+  before_unfinished m t (some, x, more, u, spelled) =
+      goes-kind (reading m t) (opens_reading m t x more some (spelled-some m (t ++ x ∷ more) u spelled))

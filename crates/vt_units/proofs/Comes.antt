@@ -6,32 +6,32 @@ use Rattle.std.proofs.lemmas.Bool.Decides.{nat_tests}
 use Rattle.std.proofs.lemmas.List.{append-nil, append_assoc, length-append, length-take, take_at, take-take}
 use Rattle.vt_chars.specs.Utf8.{within}
 use Rattle.vt_units.proofs.Follows.{admits}
-use Rattle.vt_units.proofs.Fronts.{each-push}
-use Rattle.vt_units.proofs.Joined.{took-joined}
-use Rattle.vt_units.proofs.Numbered.{each-all, each-map, front-behind, front-each}
-use Rattle.vt_units.proofs.Readings.{control-whole, control-body, control-ends, empty-is, escape-ends, escape-mid, short-reading}
-use Rattle.vt_units.specs.Ahead.{Sequence, control_ahead, ends_control, ends_escape, escape_ahead, mid_ahead, numbers_ahead, numbers_end, opened_ahead, sequence_ahead}
-use Rattle.vt_units.specs.Answer.{Settled, Taken, answer, joined_by, kept, rest_after, settled, settled_by, taken, took}
+use Rattle.vt_units.proofs.Fronts.{each_push}
+use Rattle.vt_units.proofs.Joined.{byte_outcome-outcome_of_text}
+use Rattle.vt_units.proofs.Numbered.{each_all, each_map, longest_prefix-after_prefix, longest_prefix_each}
+use Rattle.vt_units.proofs.Readings.{control_whole, control_body, control-ends, empty_is, escape-ends, escape_mid, short_reading}
+use Rattle.vt_units.specs.WholeSequence.{Sequence, control_ahead, ends_control, ends_escape, escape_ahead, mid_ahead, numbers_ahead, numbers_end, opened_ahead, sequence_ahead}
+use Rattle.vt_units.specs.Answer.{RestBefore, ByteOutcome, answer, outcome_by_reading, unbroken_rest, rest_after, rest_before, rest_before_by, make_outcome, byte_outcome}
 use Rattle.vt_units.specs.Bytes.{acts, interrupts, is_body, is_mid, opens_string}
 use Rattle.vt_units.specs.Laws.{ComeTo, IsUnitOf, SequencesAreUnits}
 use Rattle.vt_units.specs.Numbers.{params_of}
-use Rattle.vt_units.specs.Reading.{Reading, behind, front, is_empty, reading, sequence, text_reading, unfinished, whole}
+use Rattle.vt_units.specs.Reading.{Reading, after_prefix, longest_prefix, is_empty, reading, sequence, text_reading, unfinished, whole}
 use Rattle.vt_units.specs.Rest.{Rest, fresh}
 use Rattle.vt_units.specs.Sequences.{control_unit, is_parameter, numbered_unit}
-use Rattle.vt_units.specs.Stage.{Each, rest_of}
+use Rattle.vt_units.specs.ParserState.{Each, rest_of}
 use Rattle.vt_units.specs.declared.mode.Mode.{Mode}
 use Rattle.vt_units.specs.declared.read.Read.{Read}
 use Rattle.vt_units.specs.declared.then.Then as then
 use Rattle.vt_units.specs.declared.unit.Unit as units
 use Rattle.vt_units.specs.declared.unit.Unit.TheVariants.{Esc, Csi}
 
-abbrev answer_of : Settled → ℕ → Read
-answer_of s b = record { bad = s.bad; got = (took s.rest b).got }
+abbrev answer_of : RestBefore → ℕ → Read
+answer_of s b = record { bad = s.bad; got = (byte_outcome s.rest b).got }
 
 -- a byte that is admitted neither acts nor interrupts nor is DEL
-pub admitted-quiet : (m : Mode) (b : ℕ) → admits b ≡ true
+pub admitted_quiet : (m : Mode) (b : ℕ) → admits b ≡ true
     → (acts b ≡ false) × (interrupts m b ≡ false) × ((b == 0x7F) ≡ false)
-admitted-quiet m b is =
+admitted_quiet m b is =
     let low : nat_lt b 0x20 ≡ false = grind (arith, nat_tests) in
     let esc : (b == 0x1B) ≡ false = grind (arith, nat_tests) in
     let csi : (b == 0x9B) ≡ false = grind (arith, nat_tests) in
@@ -42,39 +42,39 @@ admitted-quiet m b is =
 abbrev pub Gives : Mode → Rest → ℕ → then.Then → Rest → Type 0
 Gives m old b got new = (answer old m b ≡ record { bad = false; got = got }) × (rest_after old m b ≡ new)
 
-pub gives : (m : Mode) (old before : Rest) (b : ℕ) (all : Taken) → settled old m b ≡ kept before → took before b ≡ all
+pub gives : (m : Mode) (old before : Rest) (b : ℕ) (all : ByteOutcome) → rest_before old m b ≡ unbroken_rest before → byte_outcome before b ≡ all
     → Gives m old b all.got all.rest
 gives m old before b all left is = (
-  ap (λ (s : Settled). answer_of s b) left ∙ ap (λ (t : Taken). record { bad = false; got = t.got }) is,
-  ap (λ (s : Settled). (took s.rest b).rest) left ∙ ap (λ (t : Taken). t.rest) is,
+  ap (λ (s : RestBefore). answer_of s b) left ∙ ap (λ (t : ByteOutcome). record { bad = false; got = t.got }) is,
+  ap (λ (s : RestBefore). (byte_outcome s.rest b).rest) left ∙ ap (λ (t : ByteOutcome). t.rest) is,
 )
 
 -- behind a sequence a byte that is admitted joins it
-gives-inside : (m : Mode) (t : List ℕ) (b : ℕ) (r : Reading) → length t ≤ 256
+gives_inside : (m : Mode) (t : List ℕ) (b : ℕ) (r : Reading) → length t ≤ 256
     → text_reading m t ≡ unfinished sequence → admits b ≡ true → reading m (t ++ b ∷ []) ≡ r
-    → Gives m (rest_of m t) b (joined_by r (rest_of m t) b).got (joined_by r (rest_of m t) b).rest
-gives-inside m t b r bound is admitted next =
-    let quiet = admitted-quiet m b admitted in
-    let left : settled (rest_of m t) m b ≡ kept (rest_of m t) =
-    ap (λ (now : Reading). settled_by now (rest_of m t) m b) (short-reading m t bound ∙ is)
-    ∙ ap kept (cond-false _ _ _ quiet.1) in
-    gives m (rest_of m t) (rest_of m t) b (joined_by r (rest_of m t) b) left
-    (took-joined m t b bound sequence is quiet.0 quiet.2 ∙ ap (λ (now : Reading). joined_by now (rest_of m t) b) next)
+    → Gives m (rest_of m t) b (outcome_by_reading r (rest_of m t) b).got (outcome_by_reading r (rest_of m t) b).rest
+gives_inside m t b r bound is admitted next =
+    let quiet = admitted_quiet m b admitted in
+    let left : rest_before (rest_of m t) m b ≡ unbroken_rest (rest_of m t) =
+    ap (λ (now : Reading). rest_before_by now (rest_of m t) m b) (short_reading m t bound ∙ is)
+    ∙ ap unbroken_rest (cond-false _ _ _ quiet.1) in
+    gives m (rest_of m t) (rest_of m t) b (outcome_by_reading r (rest_of m t) b) left
+    (byte_outcome-outcome_of_text m t b bound sequence is quiet.0 quiet.2 ∙ ap (λ (now : Reading). outcome_by_reading now (rest_of m t) b) next)
 
-come-more : (u : units.Unit) (m : Mode) (old new : Rest) (b : ℕ) (bytes : List ℕ) → Gives m old b then.Then.More new
+come_more : (u : units.Unit) (m : Mode) (old new : Rest) (b : ℕ) (bytes : List ℕ) → Gives m old b then.Then.More new
     → ComeTo u m new bytes → ComeTo u m old (b ∷ bytes)
-come-more u m old new b [] quiet comes = absurd comes
-come-more u m old new b (c ∷ bytes) quiet comes =
+come_more u m old new b [] quiet comes = absurd comes
+come_more u m old new b (c ∷ bytes) quiet comes =
     (quiet.0, subst (λ (r : Rest). ComeTo u m r (c ∷ bytes)) (sym quiet.1) comes)
 
 -- ESC where no text is
-come-escape : (u : units.Unit) (m : Mode) (old : Rest) (bytes : List ℕ) → old.text ≡ []
+come_escape : (u : units.Unit) (m : Mode) (old : Rest) (bytes : List ℕ) → old.text ≡ []
     → ComeTo u m (rest_of m (0x1B ∷ [])) bytes → ComeTo u m old (0x1B ∷ bytes)
-come-escape u m old bytes nothing comes =
-    let left : settled old m 0x1B ≡ kept (fresh m) =
-    ap (λ t. settled_by (reading old.mode t) old m 0x1B) nothing in
-    come-more u m old (rest_of m (0x1B ∷ [])) 0x1B bytes
-    (gives m old (fresh m) 0x1B (taken then.Then.More (rest_of m (0x1B ∷ []))) left refl) comes
+come_escape u m old bytes nothing comes =
+    let left : rest_before old m 0x1B ≡ unbroken_rest (fresh m) =
+    ap (λ t. rest_before_by (reading old.mode t) old m 0x1B) nothing in
+    come_more u m old (rest_of m (0x1B ∷ [])) 0x1B bytes
+    (gives m old (fresh m) 0x1B (make_outcome then.Then.More (rest_of m (0x1B ∷ []))) left refl) comes
 
 -- behind ESC [ and a body
 abbrev behind_csi : List ℕ → List ℕ
@@ -93,7 +93,7 @@ module _ (m : Mode) where
       ∙ cond-false _ _ _ is.first ∙ cond-true _ _ _ is.ends
 
   control-text-reading : (body : List ℕ) → Each is_body body → text_reading m (behind_csi body) ≡ unfinished sequence
-  control-text-reading body passes = control-whole m (0x1B ∷ 0x5B ∷ []) body (inl refl) passes 0
+  control-text-reading body passes = control_whole m (0x1B ∷ 0x5B ∷ []) body (inl refl) passes 0
 
   come-body : (done left : List ℕ) (last : ℕ) → Each is_body done → Each is_body left
       → IsLast (done ++ left) last → length (done ++ left) < 254
@@ -105,9 +105,9 @@ module _ (m : Mode) where
       let len : length (done ++ last ∷ []) ≡ length done + 1 = length-append done (last ∷ []) in
       let admitted : admits last ≡ true = grind (arith, nat_tests, here.ends) in
       let all : reading m (behind_csi done ++ last ∷ []) ≡ whole (control_unit done last) =
-      short-reading m (behind_csi done ++ last ∷ []) (omega arith) ∙ control-unit-reading done last passes here in
+      short_reading m (behind_csi done ++ last ∷ []) (omega arith) ∙ control-unit-reading done last passes here in
       subst (λ (body : List ℕ). ComeTo (control_unit body last) m (rest_of m (behind_csi done)) (last ∷ [])) (sym none)
-      (gives-inside m (behind_csi done) last (whole (control_unit done last)) (omega arith)
+      (gives_inside m (behind_csi done) last (whole (control_unit done last)) (omega arith)
       (control-text-reading done passes) admitted all)
   come-body done (b ∷ left) last passes (first, others) is short =
       let joined_lists : (done ++ b ∷ []) ++ left ≡ done ++ b ∷ left = append_assoc done (b ∷ []) left in
@@ -115,15 +115,15 @@ module _ (m : Mode) where
       let len : length (done ++ b ∷ []) ≡ length done + 1 = length-append done (b ∷ []) in
       let admitted : admits b ≡ true = grind (arith, nat_tests, first) in
       let more : reading m (behind_csi done ++ b ∷ []) ≡ unfinished sequence =
-      short-reading m (behind_csi done ++ b ∷ []) (omega arith)
-      ∙ control-body m (0x1B ∷ 0x5B ∷ []) done (inl refl) passes b first in
+      short_reading m (behind_csi done ++ b ∷ []) (omega arith)
+      ∙ control_body m (0x1B ∷ 0x5B ∷ []) done (inl refl) passes b first in
       let again : ComeTo (control_unit ((done ++ b ∷ []) ++ left) last) m (rest_of m (behind_csi (done ++ b ∷ []))) (left ++ last ∷ []) =
-      come-body (done ++ b ∷ []) left last (each-push is_body done b passes first) others
+      come-body (done ++ b ∷ []) left last (each_push is_body done b passes first) others
       (subst (λ (body : List ℕ). IsLast body last) (sym joined_lists) is)
       (subst (λ (body : List ℕ). length body < 254) (sym joined_lists) short) in
-      come-more (control_unit (done ++ b ∷ left) last) m (rest_of m (behind_csi done)) (rest_of m (behind_csi (done ++ b ∷ []))) b
+      come_more (control_unit (done ++ b ∷ left) last) m (rest_of m (behind_csi done)) (rest_of m (behind_csi (done ++ b ∷ []))) b
       (left ++ last ∷ [])
-      (gives-inside m (behind_csi done) b (unfinished sequence) (omega arith) (control-text-reading done passes) admitted more)
+      (gives_inside m (behind_csi done) b (unfinished sequence) (omega arith) (control-text-reading done passes) admitted more)
       (subst (λ (body : List ℕ). ComeTo (control_unit body last) m (rest_of m (behind_csi (done ++ b ∷ []))) (left ++ last ∷ [])) joined_lists again)
 
   -- a control sequence at the front of a text
@@ -140,14 +140,14 @@ module _ (m : Mode) where
       ∙ take_at (behind_csi (body ++ last ∷ [])) more s.count (omega arith) in
       let csi : reading m (0x1B ∷ 0x5B ∷ []) ≡ unfinished sequence = refl in
       let comes : ComeTo (control_unit body last) m old (behind_csi (body ++ last ∷ [])) =
-      come-escape (control_unit body last) m old (0x5B ∷ body ++ last ∷ []) nothing
-      (come-more (control_unit body last) m (rest_of m (0x1B ∷ [])) (rest_of m (behind_csi [])) 0x5B (body ++ last ∷ [])
-      (gives-inside m (0x1B ∷ []) 0x5B (unfinished sequence) (omega arith) refl refl csi)
+      come_escape (control_unit body last) m old (0x5B ∷ body ++ last ∷ []) nothing
+      (come_more (control_unit body last) m (rest_of m (0x1B ∷ [])) (rest_of m (behind_csi [])) 0x5B (body ++ last ∷ [])
+      (gives_inside m (0x1B ∷ []) 0x5B (unfinished sequence) (omega arith) refl refl csi)
       (come-body [] body last tt passes is (omega arith))) in
       record {
         within = omega arith;
         spells =
-            ap (reading m) front_is ∙ short-reading m (behind_csi (body ++ last ∷ [])) (omega arith)
+            ap (reading m) front_is ∙ short_reading m (behind_csi (body ++ last ∷ [])) (omega arith)
             ∙ control-unit-reading body last passes is ∙ ap whole (sym unit);
         comes =
             subst (λ (bytes : List ℕ). ComeTo s.unit m old bytes) (sym front_is)
@@ -165,13 +165,13 @@ module _ (m : Mode) where
       let all : text_reading m (0x1B ∷ b ∷ []) ≡ whole (Esc 0 b) =
       escape-ends m [] tt b mid
       ∙ cond-false _ _ _ no_csi.0 ∙ cond-false _ _ _ no_csi.1 ∙ cond-false _ _ _ no_text.1 ∙ cond-true _ _ _ parts.0 in
-      let read : reading m (0x1B ∷ b ∷ []) ≡ whole (Esc 0 b) = short-reading m (0x1B ∷ b ∷ []) (omega arith) ∙ all in
+      let read : reading m (0x1B ∷ b ∷ []) ≡ whole (Esc 0 b) = short_reading m (0x1B ∷ b ∷ []) (omega arith) ∙ all in
       record {
         within = omega arith;
         spells = read;
         comes =
-            come-escape (Esc 0 b) m old (b ∷ []) nothing
-            (gives-inside m (0x1B ∷ []) b (whole (Esc 0 b)) (omega arith) refl admitted read);
+            come_escape (Esc 0 b) m old (b ∷ []) nothing
+            (gives_inside m (0x1B ∷ []) b (whole (Esc 0 b)) (omega arith) refl admitted read);
       }
 
   escape-three : (old : Rest) → old.text ≡ [] → (mid last : ℕ) (more : List ℕ) → is_mid mid ≡ true → within 0x30 0x7E last ≡ true
@@ -180,21 +180,21 @@ module _ (m : Mode) where
       let first : admits mid ≡ true = grind (arith, nat_tests, is) in
       let second : admits last ≡ true = grind (arith, nat_tests, ends) in
       let stops : is_mid last ≡ false = grind (arith, nat_tests, ends) in
-      let before : text_reading m (0x1B ∷ mid ∷ []) ≡ unfinished sequence = escape-mid m [] tt mid is in
+      let before : text_reading m (0x1B ∷ mid ∷ []) ≡ unfinished sequence = escape_mid m [] tt mid is in
       let begun : reading m (0x1B ∷ mid ∷ []) ≡ unfinished sequence =
-      short-reading m (0x1B ∷ mid ∷ []) (omega arith) ∙ before in
+      short_reading m (0x1B ∷ mid ∷ []) (omega arith) ∙ before in
       let all : text_reading m (0x1B ∷ mid ∷ last ∷ []) ≡ whole (Esc mid last) =
       escape-ends m (mid ∷ []) (is, tt) last stops ∙ cond-true _ _ _ ends in
       let read : reading m (0x1B ∷ mid ∷ last ∷ []) ≡ whole (Esc mid last) =
-      short-reading m (0x1B ∷ mid ∷ last ∷ []) (omega arith) ∙ all in
+      short_reading m (0x1B ∷ mid ∷ last ∷ []) (omega arith) ∙ all in
       record {
         within = omega arith;
         spells = read;
         comes =
-            come-escape (Esc mid last) m old (mid ∷ last ∷ []) nothing
-            (come-more (Esc mid last) m (rest_of m (0x1B ∷ [])) (rest_of m (0x1B ∷ mid ∷ [])) mid (last ∷ [])
-            (gives-inside m (0x1B ∷ []) mid (unfinished sequence) (omega arith) refl first begun)
-            (gives-inside m (0x1B ∷ mid ∷ []) last (whole (Esc mid last)) (omega arith) before second read));
+            come_escape (Esc mid last) m old (mid ∷ last ∷ []) nothing
+            (come_more (Esc mid last) m (rest_of m (0x1B ∷ [])) (rest_of m (0x1B ∷ mid ∷ [])) mid (last ∷ [])
+            (gives_inside m (0x1B ∷ []) mid (unfinished sequence) (omega arith) refl first begun)
+            (gives_inside m (0x1B ∷ mid ∷ []) last (whole (Esc mid last)) (omega arith) before second read));
       }
 
 -- parameters and a last byte, as they stand in a text
@@ -207,14 +207,14 @@ record HasNumbers (private : Bool) (before : ℕ) (text : List ℕ) (s : Sequenc
   ends : ends_control last ≡ true
   found : s ≡ record { unit = Csi private (params_of numbers) last; count = before + length numbers + 1 }
 
-numbers-found : (private : Bool) (before : ℕ) (text : List ℕ) (s : Sequence)
+numbers_found : (private : Bool) (before : ℕ) (text : List ℕ) (s : Sequence)
     → numbers_ahead private before text ≡ Some s → HasNumbers private before text s
-numbers-found private before text s found = by (behind is_parameter text) (front-behind is_parameter text) found
+numbers_found private before text s found = by (after_prefix is_parameter text) (longest_prefix-after_prefix is_parameter text) found
   where
     numbers : List ℕ
-    numbers = front is_parameter text
+    numbers = longest_prefix is_parameter text
 
-    by : (after : List ℕ) → text ≡ front is_parameter text ++ after → numbers_end private before (front is_parameter text) after ≡ Some s
+    by : (after : List ℕ) → text ≡ longest_prefix is_parameter text ++ after → numbers_end private before (longest_prefix is_parameter text) after ≡ Some s
         → HasNumbers private before text s
     by [] is same = absurd (let e : ⊥ = cc in e)
     by (last ∷ more) is same = ⊎_elim
@@ -223,7 +223,7 @@ numbers-found private before text s found = by (behind is_parameter text) (front
           last = last;
           more = more;
           is = is;
-          passes = front-each is_parameter text;
+          passes = longest_prefix_each is_parameter text;
           ends = ends;
           found = let e : Some s ≡ Some (record { unit = Csi private (params_of numbers) last; count = before + length numbers + 1 }) =
               sym same ∙ cond-true _ _ _ ends in cc;
@@ -232,25 +232,25 @@ numbers-found private before text s found = by (behind is_parameter text) (front
         absurd (let e : None ≡ Some s = sym (cond-false _ _ _ other) ∙ same in let f : ⊥ = cc in f))
         (cases_Bool (ends_control last))
 
-parameter-body : (b : ℕ) → is_parameter b ≡ true → is_body b ≡ true
-parameter-body b is = grind (arith, nat_tests, is)
+parameter_body : (b : ℕ) → is_parameter b ≡ true → is_body b ≡ true
+parameter_body b is = grind (arith, nat_tests, is)
 
-parameter-unmarked : (b : ℕ) → is_parameter b ≡ true → (b == 0x3F) ≡ false
-parameter-unmarked b is = grind (arith, nat_tests, is)
+parameter_unmarked : (b : ℕ) → is_parameter b ≡ true → (b == 0x3F) ≡ false
+parameter_unmarked b is = grind (arith, nat_tests, is)
 
 -- the unit of parameters alone, and of parameters behind a question mark
-numbers-unit : (private : Bool) (numbers : List ℕ) (last : ℕ) → Each is_parameter numbers
+numbers_unit : (private : Bool) (numbers : List ℕ) (last : ℕ) → Each is_parameter numbers
     → numbered_unit private numbers last ≡ Csi private (params_of numbers) last
-numbers-unit private numbers last passes = cond-true _ _ _ (each-all is_parameter numbers passes)
+numbers_unit private numbers last passes = cond-true _ _ _ (each_all is_parameter numbers passes)
 
-plain-unit : (numbers : List ℕ) (last : ℕ) → Each is_parameter numbers
+plain_unit : (numbers : List ℕ) (last : ℕ) → Each is_parameter numbers
     → control_unit numbers last ≡ Csi false (params_of numbers) last
-plain-unit [] last passes = numbers-unit false [] last passes
-plain-unit (b ∷ numbers) last (first, others) =
-    cond-false _ _ _ (parameter-unmarked b first) ∙ numbers-unit false (b ∷ numbers) last (first, others)
+plain_unit [] last passes = numbers_unit false [] last passes
+plain_unit (b ∷ numbers) last (first, others) =
+    cond-false _ _ _ (parameter_unmarked b first) ∙ numbers_unit false (b ∷ numbers) last (first, others)
 
-last-byte : (body : List ℕ) (last : ℕ) → ends_control last ≡ true → IsLast body last
-last-byte body last is =
+last_byte : (body : List ℕ) (last : ℕ) → ends_control last ≡ true → IsLast body last
+last_byte body last is =
     let parts = and_parts (within 0x40 0x7E last) (not (last == 0x5B)) is in
     record {
       stops = grind (arith, nat_tests, parts.0);
@@ -262,25 +262,25 @@ module _ (m : Mode) (old : Rest) (nothing : old.text ≡ []) where
   marked-is : (text : List ℕ) (s : Sequence) → length (behind_csi (0x3F ∷ text)) ≤ 256
       → numbers_ahead true 3 text ≡ Some s → IsUnitOf m old (behind_csi (0x3F ∷ text)) s
   marked-is text s short found =
-      let has : HasNumbers true 3 text s = numbers-found true 3 text s found in
+      let has : HasNumbers true 3 text s = numbers_found true 3 text s found in
       let all : behind_csi (0x3F ∷ text) ≡ behind_csi (0x3F ∷ has.numbers ++ has.last ∷ has.more) =
       ap (λ (bytes : List ℕ). behind_csi (0x3F ∷ bytes)) has.is in
-      let body : Each is_body (0x3F ∷ has.numbers) = (refl, each-map is_parameter is_body parameter-body has.numbers has.passes) in
+      let body : Each is_body (0x3F ∷ has.numbers) = (refl, each_map is_parameter is_body parameter_body has.numbers has.passes) in
       subst (λ (bytes : List ℕ). IsUnitOf m old bytes s) (sym all)
-      (control-is m old nothing (0x3F ∷ has.numbers) has.last has.more s body (last-byte (0x3F ∷ has.numbers) has.last has.ends)
-      (ap (λ (t : Sequence). t.unit) has.found ∙ sym (numbers-unit true has.numbers has.last has.passes))
+      (control-is m old nothing (0x3F ∷ has.numbers) has.last has.more s body (last_byte (0x3F ∷ has.numbers) has.last has.ends)
+      (ap (λ (t : Sequence). t.unit) has.found ∙ sym (numbers_unit true has.numbers has.last has.passes))
       (ap (λ (t : Sequence). t.count) has.found ∙ omega arith)
       (subst (λ (bytes : List ℕ). length bytes ≤ 256) all short))
 
   plain-is : (text : List ℕ) (s : Sequence) → length (behind_csi text) ≤ 256
       → numbers_ahead false 2 text ≡ Some s → IsUnitOf m old (behind_csi text) s
   plain-is text s short found =
-      let has : HasNumbers false 2 text s = numbers-found false 2 text s found in
+      let has : HasNumbers false 2 text s = numbers_found false 2 text s found in
       let all : behind_csi text ≡ behind_csi (has.numbers ++ has.last ∷ has.more) = ap behind_csi has.is in
       subst (λ (bytes : List ℕ). IsUnitOf m old bytes s) (sym all)
-      (control-is m old nothing has.numbers has.last has.more s (each-map is_parameter is_body parameter-body has.numbers has.passes)
-      (last-byte has.numbers has.last has.ends)
-      (ap (λ (t : Sequence). t.unit) has.found ∙ sym (plain-unit has.numbers has.last has.passes))
+      (control-is m old nothing has.numbers has.last has.more s (each_map is_parameter is_body parameter_body has.numbers has.passes)
+      (last_byte has.numbers has.last has.ends)
+      (ap (λ (t : Sequence). t.unit) has.found ∙ sym (plain_unit has.numbers has.last has.passes))
       (ap (λ (t : Sequence). t.count) has.found ∙ omega arith)
       (subst (λ (bytes : List ℕ). length bytes ≤ 256) all short))
 
@@ -356,10 +356,10 @@ module _ (m : Mode) (old : Rest) (nothing : old.text ≡ []) where
         comes = subst (λ (bytes : List ℕ). ComeTo s.unit m old bytes) same here.comes;
       }
 
-pub sequences-are-units : SequencesAreUnits
-sequences-are-units old m text s found = ⊎_elim
+pub sequences_are_units : SequencesAreUnits
+sequences_are_units old m text s found = ⊎_elim
     (λ (empty : is_empty old.text ≡ true).
-    sequence-found m old (empty-is old.text empty) text s (sym (cond-true _ _ _ empty) ∙ found))
+    sequence-found m old (empty_is old.text empty) text s (sym (cond-true _ _ _ empty) ∙ found))
     (λ (other : is_empty old.text ≡ false).
     absurd (let e : None ≡ Some s = sym (cond-false _ _ _ other) ∙ found in let f : ⊥ = cc in f))
     (cases_Bool (is_empty old.text))

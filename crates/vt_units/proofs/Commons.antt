@@ -13,12 +13,12 @@ flags =
     replicate 195 false ++ replicate 29 true ++ replicate 1 false ++ replicate 12 true ++ replicate 1 false
     ++ replicate 2 true ++ replicate 16 false
 
-pub flag-is : (a : ℕ) → a < 256 → slice_index_or flags a false ≡ is_common a
-flag-is a below = agree_below_at (λ a. slice_index_or flags a false) is_common 256 a refl below
+pub flag_is : (a : ℕ) → a < 256 → slice_index_or flags a false ≡ is_common a
+flag_is a below = agree_below_at (λ a. slice_index_or flags a false) is_common 256 a refl below
 
 -- any tail may follow
-second-is : (a b : ℕ) → is_common a ≡ true → is_second a b ≡ is_tail b
-second-is a b common =
+second_is : (a b : ℕ) → is_common a ≡ true → is_second a b ≡ is_tail b
+second_is a b common =
     let parts = and_parts (within 0xC3 0xEF a && not (a == 0xE0)) (not (a == 0xED)) common in
     let front = and_parts (within 0xC3 0xEF a) (not (a == 0xE0)) parts.0 in
     let first : (a == 0xE0) ≡ false = grind (arith, nat_tests, front.1) in
@@ -41,11 +41,11 @@ module _ (a b c code n : ℕ) (common : is_common a ≡ true) (is : Begins (a �
       let here = subst (λ (k : ℕ). Begins (a ∷ b ∷ c ∷ []) code k) three is in
       let parts = and_parts (within 0xE0 0xEF a && is_second a b) (is_tail c) (well (a ∷ b ∷ c ∷ []) code here.first.whole).0 in
       let front = and_parts (within 0xE0 0xEF a) (is_second a b) parts.0 in
-      (sym (second-is a b common) ∙ front.1, parts.1)
+      (sym (second_is a b common) ∙ front.1, parts.1)
 
 -- such a character has two bytes or three
-size-is : (a n : ℕ) → is_common a ≡ true → Sized a n → ((a < 0xE0) × (n ≡ 2)) ⊎ ((0xE0 ≤ a) × (n ≡ 3))
-size-is a n common size =
+size_is : (a n : ℕ) → is_common a ≡ true → Sized a n → ((a < 0xE0) × (n ≡ 2)) ⊎ ((0xE0 ≤ a) × (n ≡ 3))
+size_is a n common size =
     let parts = and_parts (within 0xC3 0xEF a && not (a == 0xE0)) (not (a == 0xED)) common in
     let front = and_parts (within 0xC3 0xEF a) (not (a == 0xE0)) parts.0 in
     let low : 0x80 ≤ a = grind (arith, nat_tests, front.0) in
@@ -54,9 +54,9 @@ size-is a n common size =
     (cases_lt a 0xE0)
 
 -- a byte that has to be a tail is none
-pub none-common : (a b c last : ℕ) → is_common a ≡ true → (a < 0xE0 → last ≡ 0x80) → (0xE0 ≤ a → last ≡ c)
+pub none_common : (a b c last : ℕ) → is_common a ≡ true → (a < 0xE0 → last ≡ 0x80) → (0xE0 ≤ a → last ≡ c)
     → (is_tail b ≡ false) ⊎ (is_tail last ≡ false) → NoneBegins (a ∷ b ∷ c ∷ [])
-none-common a b c last common two three fails code n is = ⊎_elim
+none_common a b c last common two three fails code n is = ⊎_elim
     (λ (size : (a < 0xE0) × (n ≡ 2)). ⊎_elim
     (λ (second : is_tail b ≡ false). false≢true (sym second ∙ two-tail a b c code n common is size.1))
     (λ (third : is_tail last ≡ false). false≢true (sym third ∙ ap is_tail (two size.0)))
@@ -67,38 +67,38 @@ none-common a b c last common two three fails code n is = ⊎_elim
     (λ (second : is_tail b ≡ false). false≢true (sym second ∙ tails.0))
     (λ (third : is_tail last ≡ false). false≢true (sym third ∙ ap is_tail (three size.0) ∙ tails.1))
     fails)
-    (size-is a n common (sized (a ∷ b ∷ c ∷ []) code n is))
+    (size_is a n common (sized (a ∷ b ∷ c ∷ []) code n is))
 
-take-front : (n k : ℕ) (xs : List ℕ) → n ≤ k → take n (take k xs) ≡ take n xs
-take-front zero k xs within = refl
-take-front (suc n) zero xs within = absurd (omega (arith, within))
-take-front (suc n) (suc k) [] within = refl
-take-front (suc n) (suc k) (x ∷ xs) within = ap (λ (ys : List ℕ). x ∷ ys) (take-front n k xs (omega (arith, within)))
+take_front : (n k : ℕ) (xs : List ℕ) → n ≤ k → take n (take k xs) ≡ take n xs
+take_front zero k xs within = refl
+take_front (suc n) zero xs within = absurd (omega (arith, within))
+take_front (suc n) (suc k) [] within = refl
+take_front (suc n) (suc k) (x ∷ xs) within = ap (λ (ys : List ℕ). x ∷ ys) (take_front n k xs (omega (arith, within)))
 
 -- three bytes of a text
 module _ (text : List ℕ) (a b c : ℕ) (long : 3 ≤ length text) (front : take 3 text ≡ a ∷ b ∷ c ∷ []) where
   -- begin with a character that the text begins with
-  pub begins-longer : (code n : ℕ) → Begins (a ∷ b ∷ c ∷ []) code n → Begins text code n
-  begins-longer code n is = record {
+  pub begins_longer : (code n : ℕ) → Begins (a ∷ b ∷ c ∷ []) code n → Begins text code n
+  begins_longer code n is = record {
     some = is.some;
     within = omega (arith, is.within, long);
     first =
         subst (λ (xs : List ℕ). IsTextOf xs code)
-        (ap (λ (xs : List ℕ). take n xs) (sym front) ∙ take-front n 3 text (omega (arith, is.within))) is.first;
+        (ap (λ (xs : List ℕ). take n xs) (sym front) ∙ take_front n 3 text (omega (arith, is.within))) is.first;
   }
 
   -- begin with one, where the text does
-  pub none-longer : is_common a ≡ true → get_or text 0 0 ≡ a → NoneBegins (a ∷ b ∷ c ∷ []) → NoneBegins text
-  none-longer common head never code n is =
+  pub none_longer : is_common a ≡ true → get_or text 0 0 ≡ a → NoneBegins (a ∷ b ∷ c ∷ []) → NoneBegins text
+  none_longer common head never code n is =
       let size = sized text code n is in
       let few : n ≤ 3 = ⊎_elim
       (λ (two : (a < 0xE0) × (n ≡ 2)). omega (arith, two.1))
       (λ (three : (0xE0 ≤ a) × (n ≡ 3)). omega (arith, three.1))
-      (size-is a n common (subst (λ (x : ℕ). Sized x n) head size)) in
+      (size_is a n common (subst (λ (x : ℕ). Sized x n) head size)) in
       never code n (record {
         some = is.some;
         within = few;
         first =
             subst (λ (xs : List ℕ). IsTextOf xs code)
-            (sym (take-front n 3 text few) ∙ ap (λ (xs : List ℕ). take n xs) front) is.first;
+            (sym (take_front n 3 text few) ∙ ap (λ (xs : List ℕ). take n xs) front) is.first;
       })

@@ -2,15 +2,15 @@
 use Rattle.std.proofs.Common.{◌≡◌, ◌≢◌, ◌↔◌, ℕ, ◌==◌, ◌≤◌, Bool, true, false, cond, ◌&&◌, List, [], ◌∷◌, ◌++◌, length, drop, refl, sym, ap, ◌∙◌, subst, arith, ⊎_elim, inl, inr}
 use Rattle.std.proofs.lemmas.Bool.{and_parts, cases_Bool, cond-true, cond-false, eqb-true, false≢true}
 use Rattle.std.proofs.lemmas.List.{append_assoc}
-use Rattle.vt_chars.specs.Utf8.{Begins, UnfinishedBegins, code_of, decoded, is_well_formed, within}
+use Rattle.vt_chars.specs.Utf8.{Begins, UnfinishedBegins, code_of, decoding_of, is_well_formed, within}
 use Rattle.vt_chars.specs.declared.decoded.Decoded.{Decoded}
 use Rattle.vt_chars.specs.declared.decoded.Decoded.TheVariants.{Character, Unfinished, Malformed}
-use Rattle.vt_units.proofs.Begun.{before-unfinished}
-use Rattle.vt_units.proofs.Joined.{character-text, decoded-begun}
-use Rattle.vt_units.proofs.Readings.{introduced, short-reading}
-use Rattle.vt_units.proofs.Steps.{follows-reading, within-bound}
+use Rattle.vt_units.proofs.Begun.{before_unfinished}
+use Rattle.vt_units.proofs.Joined.{character-text, decoding_of_begun}
+use Rattle.vt_units.proofs.Readings.{introduced, short_reading}
+use Rattle.vt_units.proofs.Steps.{follows_reading, within_bound}
 use Rattle.vt_units.specs.Bytes.{decodes, is_control, is_body, is_csi, is_digit, is_hex, is_mid, is_swallowed, opens_string}
-use Rattle.vt_units.specs.Reading.{Kind, Reading, unfinished, character, sequence, command, string, string_end, whole, dropped, none, alone, begins_csi, behind, bracket_text, byte_unit, character_reading, character_text, character_unit, command_text, control_ends, control_text, escape_ends, escape_text, front, is_empty, palette_ends, reading, refused, refused_command, string_ends, string_tail, text_reading}
+use Rattle.vt_units.specs.Reading.{Kind, Reading, unfinished, character, sequence, command, string, string_end, whole, dropped, none, alone, begins_csi, after_prefix, bracket_text, byte_unit, character_reading, character_text, character_unit, command_text, control_ends, control_text, escape_ends, escape_text, longest_prefix, is_empty, palette_ends, reading, dropped_or_none, dropped_or_none_command, string_ends, string_tail, text_reading}
 use Rattle.vt_units.specs.Sequences.{escape_unit}
 use Rattle.vt_units.specs.Units.{Before, IsUnfinished, Spells}
 use Rattle.vt_units.specs.declared.mode.Mode.{Mode}
@@ -21,136 +21,136 @@ use Rattle.vt_units.specs.declared.unit.Unit.TheVariants.{ColourReset, Ignored}
 abbrev IsOther : Reading → Type 0
 IsOther r = r ≡ unfinished character → ⊥
 
-other-none : IsOther none
-other-none e = cc
+other_none : IsOther none
+other_none e = cc
 
-other-going : IsOther (unfinished command)
-other-going e = cc
+other_going : IsOther (unfinished command)
+other_going e = cc
 
-other-cond : (c : Bool) (a b : Reading) → IsOther a → IsOther b → IsOther (cond c a b)
-other-cond true a b first second = first
-other-cond false a b first second = second
+other_cond : (c : Bool) (a b : Reading) → IsOther a → IsOther b → IsOther (cond c a b)
+other_cond true a b first second = first
+other_cond false a b first second = second
 
-other-alone : (ys : List ℕ) (r : Reading) → IsOther r → IsOther (alone ys r)
-other-alone [] r is = is
-other-alone (y ∷ ys) r is = other-none
+other_alone : (ys : List ℕ) (r : Reading) → IsOther r → IsOther (alone ys r)
+other_alone [] r is = is
+other_alone (y ∷ ys) r is = other_none
 
-other-whole : (u : units.Unit) → IsOther (whole u)
-other-whole u e = cc
+other_whole : (u : units.Unit) → IsOther (whole u)
+other_whole u e = cc
 
-other-refused : (m : Mode) (b : ℕ) → IsOther (refused m b)
-other-refused m b = other-cond _ dropped none (λ e. cc) (λ e. cc)
+other_dropped_or_none : (m : Mode) (b : ℕ) → IsOther (dropped_or_none m b)
+other_dropped_or_none m b = other_cond _ dropped none (λ e. cc) (λ e. cc)
 
-other-refused-command : (m : Mode) (b : ℕ) → IsOther (refused_command m b)
-other-refused-command m b = other-cond _ dropped none (λ e. cc) (λ e. cc)
+other_dropped_or_none_command : (m : Mode) (b : ℕ) → IsOther (dropped_or_none_command m b)
+other_dropped_or_none_command m b = other_cond _ dropped none (λ e. cc) (λ e. cc)
 
-other-bracket : (m : Mode) (t : List ℕ) → IsOther (bracket_text m t)
-other-bracket m [] = λ e. cc
-other-bracket m (y ∷ ys) = other-alone ys _ (other-cond _ _ _ (other-whole Ignored) (other-refused m y))
+other_bracket : (m : Mode) (t : List ℕ) → IsOther (bracket_text m t)
+other_bracket m [] = λ e. cc
+other_bracket m (y ∷ ys) = other_alone ys _ (other_cond _ _ _ (other_whole Ignored) (other_dropped_or_none m y))
 
-other-control : (m : Mode) (q t : List ℕ) → IsOther (control_ends m q t)
-other-control m q [] = λ e. cc
-other-control m q (y ∷ ys) = other-cond _ _ _ (other-bracket m ys)
-    (other-alone ys _ (other-cond _ _ _ (other-whole _) (other-refused m y)))
+other_control : (m : Mode) (q t : List ℕ) → IsOther (control_ends m q t)
+other_control m q [] = λ e. cc
+other_control m q (y ∷ ys) = other_cond _ _ _ (other_bracket m ys)
+    (other_alone ys _ (other_cond _ _ _ (other_whole _) (other_dropped_or_none m y)))
 
-other-tail : (t : List ℕ) → IsOther (string_tail t)
-other-tail [] = λ e. cc
-other-tail (y ∷ ys) = other-alone ys _ (other-cond _ _ _ (other-whole Ignored) other-none)
+other_tail : (t : List ℕ) → IsOther (string_tail t)
+other_tail [] = λ e. cc
+other_tail (y ∷ ys) = other_alone ys _ (other_cond _ _ _ (other_whole Ignored) other_none)
 
-other-string : (t : List ℕ) → IsOther (string_ends t)
-other-string [] = λ e. cc
-other-string (y ∷ ys) = other-cond _ _ _ (other-tail ys) (other-alone ys _ (other-whole Ignored))
+other_string : (t : List ℕ) → IsOther (string_ends t)
+other_string [] = λ e. cc
+other_string (y ∷ ys) = other_cond _ _ _ (other_tail ys) (other_alone ys _ (other_whole Ignored))
 
-other-palette : (m : Mode) (q t : List ℕ) → IsOther (palette_ends m q t)
-other-palette m q [] = other-cond _ _ _ other-going (other-cond _ _ _ (other-whole _) other-none)
-other-palette m q (y ∷ ys) = other-cond _ _ _ (other-alone ys _ (other-refused-command m y)) other-none
+other_palette : (m : Mode) (q t : List ℕ) → IsOther (palette_ends m q t)
+other_palette m q [] = other_cond _ _ _ other_going (other_cond _ _ _ (other_whole _) other_none)
+other_palette m q (y ∷ ys) = other_cond _ _ _ (other_alone ys _ (other_dropped_or_none_command m y)) other_none
 
-other-command : (m : Mode) (t : List ℕ) → IsOther (command_text m t)
-other-command m [] = λ e. cc
-other-command m (y ∷ ys) = other-cond (is_digit y) _ _ (other-string (behind is_swallowed ys))
-    (other-cond (y == 0x50) _ _ (other-palette m (front is_hex ys) (behind is_hex ys))
-    (other-alone ys _ (other-cond (y == 0x52) _ _ (other-whole ColourReset) (other-refused-command m y))))
+other_command : (m : Mode) (t : List ℕ) → IsOther (command_text m t)
+other_command m [] = λ e. cc
+other_command m (y ∷ ys) = other_cond (is_digit y) _ _ (other_string (after_prefix is_swallowed ys))
+    (other_cond (y == 0x50) _ _ (other_palette m (longest_prefix is_hex ys) (after_prefix is_hex ys))
+    (other_alone ys _ (other_cond (y == 0x52) _ _ (other_whole ColourReset) (other_dropped_or_none_command m y))))
 
-other-escape : (m : Mode) (q t : List ℕ) → IsOther (escape_ends m q t)
-other-escape m q [] = λ e. cc
-other-escape m q (y ∷ ys) = other-cond (is_empty q && opens_string y) _ _ (other-string (behind is_swallowed ys))
-    (other-cond (is_empty q && y == 0x5B) _ _ (other-control m (front is_body ys) (behind is_body ys))
-    (other-cond (is_empty q && y == 0x5D) _ _ (other-command m ys)
-    (other-alone ys _ (other-cond (within 0x30 0x7E y) _ _ (other-whole (escape_unit q y)) (other-refused m y)))))
+other_escape : (m : Mode) (q t : List ℕ) → IsOther (escape_ends m q t)
+other_escape m q [] = λ e. cc
+other_escape m q (y ∷ ys) = other_cond (is_empty q && opens_string y) _ _ (other_string (after_prefix is_swallowed ys))
+    (other_cond (is_empty q && y == 0x5B) _ _ (other_control m (longest_prefix is_body ys) (after_prefix is_body ys))
+    (other_cond (is_empty q && y == 0x5D) _ _ (other_command m ys)
+    (other_alone ys _ (other_cond (within 0x30 0x7E y) _ _ (other_whole (escape_unit q y)) (other_dropped_or_none m y)))))
 
 -- the beginning of a character is unfinished UTF-8
-by-test-other : (c : Bool) (a b : Reading) → IsOther a → cond c a b ≡ unfinished character
+by_test_other : (c : Bool) (a b : Reading) → IsOther a → cond c a b ≡ unfinished character
     → (c ≡ false) × (b ≡ unfinished character)
-by-test-other true a b other is = absurd (other is)
-by-test-other false a b other is = (refl, is)
+by_test_other true a b other is = absurd (other is)
+by_test_other false a b other is = (refl, is)
 
-decoded-unfinished : (w : List ℕ) (d : Decoded) → character_reading w d ≡ unfinished character → d ≡ Unfinished
-decoded-unfinished w (Character code) is = absurd (other-whole _ is)
-decoded-unfinished w Unfinished is = refl
-decoded-unfinished w Malformed is = absurd (other-alone _ _ (other-whole _) is)
+decoding_of-unfinished : (w : List ℕ) (d : Decoded) → character_reading w d ≡ unfinished character → d ≡ Unfinished
+decoding_of-unfinished w (Character code) is = absurd (other_whole _ is)
+decoding_of-unfinished w Unfinished is = refl
+decoding_of-unfinished w Malformed is = absurd (other_alone _ _ (other_whole _) is)
 
-pub part-of : (m : Mode) (t : List ℕ) → text_reading m t ≡ unfinished character
-    → (decodes m ≡ true) × (decoded t ≡ Unfinished)
-part-of m [] is = absurd (let wrong : ⊥ = cc in wrong)
-part-of m (a ∷ p) is =
-    let one : ((a == 0x1B) ≡ false) × (cond (is_csi m a) (control_text m p) (cond (is_control m a) (alone p (whole (units.Unit.Control a))) (cond (decodes m) (character_text m (a ∷ p)) (alone p (whole (byte_unit m a))))) ≡ unfinished character) = by-test-other (a == 0x1B) (escape_text m p) _ (other-escape m (front is_mid p) (behind is_mid p)) is in
-    let two : (is_csi m a ≡ false) × (cond (is_control m a) (alone p (whole (units.Unit.Control a))) (cond (decodes m) (character_text m (a ∷ p)) (alone p (whole (byte_unit m a)))) ≡ unfinished character) = by-test-other (is_csi m a) (control_text m p) _ (other-control m (front is_body p) (behind is_body p)) one.1 in
-    let three : (is_control m a ≡ false) × (cond (decodes m) (character_text m (a ∷ p)) (alone p (whole (byte_unit m a))) ≡ unfinished character) = by-test-other (is_control m a) (alone p (whole (units.Unit.Control a))) _ (other-alone p _ (other-whole (units.Unit.Control a))) two.1 in
+pub part_of : (m : Mode) (t : List ℕ) → text_reading m t ≡ unfinished character
+    → (decodes m ≡ true) × (decoding_of t ≡ Unfinished)
+part_of m [] is = absurd (let wrong : ⊥ = cc in wrong)
+part_of m (a ∷ p) is =
+    let one : ((a == 0x1B) ≡ false) × (cond (is_csi m a) (control_text m p) (cond (is_control m a) (alone p (whole (units.Unit.Control a))) (cond (decodes m) (character_text m (a ∷ p)) (alone p (whole (byte_unit m a))))) ≡ unfinished character) = by_test_other (a == 0x1B) (escape_text m p) _ (other_escape m (longest_prefix is_mid p) (after_prefix is_mid p)) is in
+    let two : (is_csi m a ≡ false) × (cond (is_control m a) (alone p (whole (units.Unit.Control a))) (cond (decodes m) (character_text m (a ∷ p)) (alone p (whole (byte_unit m a)))) ≡ unfinished character) = by_test_other (is_csi m a) (control_text m p) _ (other_control m (longest_prefix is_body p) (after_prefix is_body p)) one.1 in
+    let three : (is_control m a ≡ false) × (cond (decodes m) (character_text m (a ∷ p)) (alone p (whole (byte_unit m a))) ≡ unfinished character) = by_test_other (is_control m a) (alone p (whole (units.Unit.Control a))) _ (other_alone p _ (other_whole (units.Unit.Control a))) two.1 in
     ⊎_elim
     (λ (decoding : decodes m ≡ true).
     let text : character_text m (a ∷ p) ≡ unfinished character = sym (cond-true _ _ _ decoding) ∙ three.1 in (
       decoding,
-      decoded-unfinished (a ∷ p) (decoded (a ∷ p))
-          (by-test-other (begins_csi (a ∷ p)) (control_text m (drop 2 (a ∷ p))) _
-          (other-control m (front is_body (drop 2 (a ∷ p))) (behind is_body (drop 2 (a ∷ p)))) text).1,
+      decoding_of-unfinished (a ∷ p) (decoding_of (a ∷ p))
+          (by_test_other (begins_csi (a ∷ p)) (control_text m (drop 2 (a ∷ p))) _
+          (other_control m (longest_prefix is_body (drop 2 (a ∷ p))) (after_prefix is_body (drop 2 (a ∷ p)))) text).1,
     ))
     (λ (bytes : decodes m ≡ false).
-    absurd (other-alone p _ (other-whole (byte_unit m a)) (sym (cond-false _ _ _ bytes) ∙ three.1)))
+    absurd (other_alone p _ (other_whole (byte_unit m a)) (sym (cond-false _ _ _ bytes) ∙ three.1)))
     (cases_Bool (decodes m))
 
 -- CSI is the only character whose text begins so
-csi-only : (w : List ℕ) → is_well_formed w ≡ true → begins_csi w ≡ true → w ≡ 0xC2 ∷ 0x9B ∷ []
-csi-only [] is csi = absurd (false≢true csi)
-csi-only (a ∷ []) is csi = absurd (false≢true csi)
-csi-only (a ∷ b ∷ []) is csi =
+csi_only : (w : List ℕ) → is_well_formed w ≡ true → begins_csi w ≡ true → w ≡ 0xC2 ∷ 0x9B ∷ []
+csi_only [] is csi = absurd (false≢true csi)
+csi_only (a ∷ []) is csi = absurd (false≢true csi)
+csi_only (a ∷ b ∷ []) is csi =
     let p : ((a == 0xC2) ≡ true) × ((b == 0x9B) ≡ true) = and_parts _ _ csi in
     let first : a ≡ 0xC2 = eqb-true a 0xC2 p.0 in
     let second : b ≡ 0x9B = eqb-true b 0x9B p.1 in
     λ i. first i ∷ second i ∷ []
-csi-only (a ∷ b ∷ c ∷ []) is csi =
+csi_only (a ∷ b ∷ c ∷ []) is csi =
     let first : a ≡ 0xC2 = eqb-true a 0xC2 (and_parts _ _ csi).0 in
     absurd (false≢true (sym (ap (λ x. within 0xE0 0xEF x) first) ∙ (and_parts _ _ (and_parts _ _ is).0).0))
-csi-only (a ∷ b ∷ c ∷ d ∷ []) is csi =
+csi_only (a ∷ b ∷ c ∷ d ∷ []) is csi =
     let first : a ≡ 0xC2 = eqb-true a 0xC2 (and_parts _ _ csi).0 in
     absurd (false≢true (sym (ap (λ x. within 0xF0 0xF4 x) first)
     ∙ (and_parts _ _ (and_parts _ _ (and_parts _ _ is).0).0).0))
-csi-only (a ∷ b ∷ c ∷ d ∷ e ∷ w) is csi = absurd (false≢true is)
+csi_only (a ∷ b ∷ c ∷ d ∷ e ∷ w) is csi = absurd (false≢true is)
 
-formed-short : (w : List ℕ) → is_well_formed w ≡ true → length w ≤ 4
-formed-short [] is = omega arith
-formed-short (a ∷ []) is = omega arith
-formed-short (a ∷ b ∷ []) is = omega arith
-formed-short (a ∷ b ∷ c ∷ []) is = omega arith
-formed-short (a ∷ b ∷ c ∷ d ∷ []) is = omega arith
-formed-short (a ∷ b ∷ c ∷ d ∷ e ∷ w) is = absurd (false≢true is)
+formed_short : (w : List ℕ) → is_well_formed w ≡ true → length w ≤ 4
+formed_short [] is = omega arith
+formed_short (a ∷ []) is = omega arith
+formed_short (a ∷ b ∷ []) is = omega arith
+formed_short (a ∷ b ∷ c ∷ []) is = omega arith
+formed_short (a ∷ b ∷ c ∷ d ∷ []) is = omega arith
+formed_short (a ∷ b ∷ c ∷ d ∷ e ∷ w) is = absurd (false≢true is)
 
-not-nothing : (m : Mode) (t : List ℕ) (k : Kind) → reading m t ≡ unfinished k → t ≢ []
-not-nothing m t k is nothing =
+not_nothing : (m : Mode) (t : List ℕ) (k : Kind) → reading m t ≡ unfinished k → t ≢ []
+not_nothing m t k is nothing =
     let e : reading m [] ≡ unfinished k = subst (λ xs. reading m xs ≡ unfinished k) nothing is in
     let wrong : ⊥ = cc in wrong
 
 -- a character with the rest of its bytes, and CSI with a byte that drops it
-completed : (m : Mode) (t : List ℕ) (x : ℕ) (xs : List ℕ) → decodes m ≡ true → decoded t ≡ Unfinished
+completed : (m : Mode) (t : List ℕ) (x : ℕ) (xs : List ℕ) → decodes m ≡ true → decoding_of t ≡ Unfinished
     → is_well_formed (t ++ x ∷ xs) ≡ true
     → (y : ℕ) × (ys : List ℕ) × (u : units.Unit) × Spells m (t ++ y ∷ ys) u
 completed m t x xs decoding is well =
     let w : List ℕ = t ++ x ∷ xs in
-    let short : length (t ++ x ∷ xs) ≤ 4 = formed-short (t ++ x ∷ xs) well in
+    let short : length (t ++ x ∷ xs) ≤ 4 = formed_short (t ++ x ∷ xs) well in
     let text : reading m (t ++ x ∷ xs) ≡ character_text m (t ++ x ∷ xs) =
-    short-reading m (t ++ x ∷ xs) (omega arith) ∙ character-text m t (x ∷ xs) decoding (decoded-begun t is) in
+    short_reading m (t ++ x ∷ xs) (omega arith) ∙ character-text m t (x ∷ xs) decoding (decoding_of_begun t is) in
     ⊎_elim
     (λ (csi : begins_csi (t ++ x ∷ xs) ≡ true).
-    let two : t ++ x ∷ xs ≡ 0xC2 ∷ 0x9B ∷ [] = csi-only (t ++ x ∷ xs) well csi in
+    let two : t ++ x ∷ xs ≡ 0xC2 ∷ 0x9B ∷ [] = csi_only (t ++ x ∷ xs) well csi in
     let three : t ++ x ∷ (xs ++ 0x18 ∷ []) ≡ 0xC2 ∷ 0x9B ∷ 0x18 ∷ [] =
     sym (append_assoc t (x ∷ xs) (0x18 ∷ [])) ∙ ap (λ zs. zs ++ 0x18 ∷ []) two in
     let drops : reading m (t ++ x ∷ (xs ++ 0x18 ∷ [])) ≡ dropped =
@@ -167,26 +167,26 @@ completed m t x xs decoding is well =
 
 completes : UnfinishedBegins → (m : Mode) (t : List ℕ) (k : Kind) → reading m t ≡ unfinished k
     → (y : ℕ) × (ys : List ℕ) × (u : units.Unit) × Spells m (t ++ y ∷ ys) u
-completes law m t sequence is = (0x18, [], Ignored, inr ((follows-reading m 0x18 t sequence is).1 refl, refl))
-completes law m t command is = (0x18, [], Ignored, inr ((follows-reading m 0x18 t command is).1 refl, refl))
-completes law m t string is = (0x18, [], Ignored, inl (follows-reading m 0x18 t string is))
-completes law m t string_end is = (0x5C, [], Ignored, inl (follows-reading m 0x5C t string_end is))
+completes law m t sequence is = (0x18, [], Ignored, inr ((follows_reading m 0x18 t sequence is).1 refl, refl))
+completes law m t command is = (0x18, [], Ignored, inr ((follows_reading m 0x18 t command is).1 refl, refl))
+completes law m t string is = (0x18, [], Ignored, inl (follows_reading m 0x18 t string is))
+completes law m t string_end is = (0x5C, [], Ignored, inl (follows_reading m 0x5C t string_end is))
 completes law m t character is =
-    let text : text_reading m t ≡ unfinished character = (within-bound m t character is).1 in
-    let p : (decodes m ≡ true) × (decoded t ≡ Unfinished) = part-of m t text in
+    let text : text_reading m t ≡ unfinished character = (within_bound m t character is).1 in
+    let p : (decodes m ≡ true) × (decoding_of t ≡ Unfinished) = part_of m t text in
     let begins : Begins t = ((law t).0 p.1).1 in
     more-of begins.0 p.0 p.1 begins.1 begins.2
   where
-    more-of : (more : List ℕ) → decodes m ≡ true → decoded t ≡ Unfinished → more ≢ []
+    more-of : (more : List ℕ) → decodes m ≡ true → decoding_of t ≡ Unfinished → more ≢ []
         → is_well_formed (t ++ more) ≡ true
         → (y : ℕ) × (ys : List ℕ) × (u : units.Unit) × Spells m (t ++ y ∷ ys) u
     more-of [] decoding part some well = absurd (some refl)
     more-of (x ∷ xs) decoding part some well = completed m t x xs decoding part well
 
-pub unfinished-before : UnfinishedBegins → (m : Mode) (t : List ℕ) → IsUnfinished m t → Before m t
-unfinished-before law m t (k, is) =
+pub unfinished_before : UnfinishedBegins → (m : Mode) (t : List ℕ) → IsUnfinished m t → Before m t
+unfinished_before law m t (k, is) =
     let done : (y : ℕ) × (ys : List ℕ) × (u : units.Unit) × Spells m (t ++ y ∷ ys) u = completes law m t k is in
-    (not-nothing m t k is, done.0, done.1, done.2, done.3)
+    (not_nothing m t k is, done.0, done.1, done.2, done.3)
 
-pub unfinished-is-before : UnfinishedBegins → (m : Mode) (t : List ℕ) → IsUnfinished m t ↔ Before m t
-unfinished-is-before law m t = (unfinished-before law m t, before-unfinished law m t)
+pub unfinished_is_before : UnfinishedBegins → (m : Mode) (t : List ℕ) → IsUnfinished m t ↔ Before m t
+unfinished_is_before law m t = (unfinished_before law m t, before_unfinished law m t)

@@ -3,25 +3,25 @@ use Rattle.std.proofs.Common.{◌≡◌, ◌⊎◌, ℕ, ◌==◌, true, false, 
 use Rattle.std.proofs.lemmas.Bool.{cases_Bool, cond-false, cond-true, false≢true}
 use Rattle.std.proofs.lemmas.List.{append-nil, append_assoc}
 use Rattle.vt_chars.specs.Utf8.{UnfinishedBegins}
-use Rattle.vt_units.proofs.Bases.{base, base-some, unfinished-some}
-use Rattle.vt_units.proofs.Broken.{breaks-command, breaks-sequence, ends-off, not-none, one-some, some-unfinished, string-some, text-more}
-use Rattle.vt_units.proofs.Bytewise.{Becomes, St, base-reads, grown-st}
+use Rattle.vt_units.proofs.Bases.{base, base_some, unfinished_some}
+use Rattle.vt_units.proofs.Broken.{breaks_command, breaks_sequence, ends_off, not-none, one_some, some_unfinished, string_some, text_more}
+use Rattle.vt_units.proofs.Bytewise.{Becomes, St, base_reads, rest_with_byte_st}
 use Rattle.vt_units.proofs.Follows.{After, string_next}
 use Rattle.vt_units.proofs.Openers.{in_string}
 use Rattle.vt_units.proofs.Opens.{IsSome}
 use Rattle.vt_units.proofs.Piecewise.{walk}
-use Rattle.vt_units.proofs.Runs.{any-cut, characters-end, sequences-end, strings-end}
-use Rattle.vt_units.proofs.Steps.{follows-reading}
+use Rattle.vt_units.proofs.Runs.{any_cut, characters_end, sequences_end, strings_end}
+use Rattle.vt_units.proofs.Steps.{follows_reading}
 use Rattle.vt_units.proofs.Walks.{IsStringRest}
 use Rattle.vt_units.specs.Answer.{answer, rest_after}
 use Rattle.vt_units.specs.Bytes.{interrupts}
-use Rattle.vt_units.specs.Cutting.{ComeInOrder, IsCut, IsEnded, IsEndedBefore, IsLast, IsPiece, IsRest, PieceComesTo, all_bytes, begun}
+use Rattle.vt_units.specs.Cutting.{ComeInOrder, IsCut, IsEnded, IsEndedBefore, IsLast, IsPiece, IsRest, PieceComesTo, all_bytes, rest_before_piece}
 use Rattle.vt_units.specs.Laws.{AreAlike}
-use Rattle.vt_units.specs.Pieces.{acted, controls_of, is_left_out, rest_with, text_of}
+use Rattle.vt_units.specs.Pieces.{after_controls, controls_of, is_left_out, rest_with, text_of}
 use Rattle.vt_units.specs.Reading.{Kind, Reading, character, command, dropped, none, reading, sequence, string, string_end, unfinished, whole}
 use Rattle.vt_units.specs.Rest.{Rest, fresh}
-use Rattle.vt_units.specs.Run.{Effects, Reached, effects_of, reached, run, step}
-use Rattle.vt_units.specs.Stage.{rest_of}
+use Rattle.vt_units.specs.Run.{Effects, Reached, effects_of, make_reached, run, step}
+use Rattle.vt_units.specs.ParserState.{rest_of}
 use Rattle.vt_units.specs.Units.{IsUnfinished}
 use Rattle.vt_units.specs.declared.mode.Mode.{Mode}
 use Rattle.vt_units.specs.declared.unit.Unit as units
@@ -31,29 +31,29 @@ module _ {S : Type 0} (e : Effects S) (law : UnfinishedBegins)
     (keeps : (s : S) → e.mode_of (e.on_unit (units.Unit.Char 0xFFFD) s) ≡ e.mode_of s) where
   -- the mode at the first byte of a piece, and what its first bytes come to
   abbrev mode_at : Reached S → Mode
-  mode_at at = (begun e at).mode
+  mode_at at = (rest_before_piece e at).mode
 
   abbrev text_at : Reached S → List ℕ → List ℕ
-  text_at at front = text_of (begun e at).mode (begun e at).text front
+  text_at at front = text_of (rest_before_piece e at).mode (rest_before_piece e at).text front
 
   abbrev state_at : Reached S → List ℕ → S
-  state_at at front = acted e (controls_of (begun e at).mode (begun e at).text front) at.state
+  state_at at front = after_controls e (controls_of (rest_before_piece e at).mode (rest_before_piece e at).text front) at.state
 
   abbrev rest_at : Reached S → List ℕ → Rest
-  rest_at at front = rest_with e at.state (begun e at) front
+  rest_at at front = rest_with e at.state (rest_before_piece e at) front
 
   -- the rest before a piece stands for its text
   abbrev Starts : Reached S → Type 0
-  Starts at = St e at.state at.rest (begun e at).mode (begun e at).text
-      × (base at.rest (begun e at).mode (begun e at).text ≡ begun e at)
+  Starts at = St e at.state at.rest (rest_before_piece e at).mode (rest_before_piece e at).text
+      × (base at.rest (rest_before_piece e at).mode (rest_before_piece e at).text ≡ rest_before_piece e at)
 
   starts : (at : Reached S) → IsRest at.rest → Starts at
   starts at ok = by at.state at.rest.mode at.rest.text ok
     where
-      by : (s : S) (n : Mode) (t : List ℕ) → (t ≡ []) ⊎ IsUnfinished n t → Starts (reached s (rest_of n t))
+      by : (s : S) (n : Mode) (t : List ℕ) → (t ≡ []) ⊎ IsUnfinished n t → Starts (make_reached s (rest_of n t))
       by s n [] one = (inl (refl, refl, refl), refl)
       by s n (x ∷ t) (inl nothing) = absurd (let no : ⊥ = cc in no)
-      by s n (x ∷ t) (inr is) = (grown-st e s n (x ∷ t) is.0 is.1, refl)
+      by s n (x ∷ t) (inr is) = (rest_with_byte_st e s n (x ∷ t) is.0 is.1, refl)
 
   walked : (at : Reached S) → IsRest at.rest → (front : List ℕ) → IsSome (reading (mode_at at) (text_at at front))
       → Becomes e (reading (mode_at at) (text_at at front)) (run e front at) (state_at at front) (mode_at at) (text_at at front) (rest_at at front)
@@ -61,11 +61,11 @@ module _ {S : Type 0} (e : Effects S) (law : UnfinishedBegins)
       let start : Starts at = starts at ok in
       subst (λ (left : Rest). Becomes e (reading (mode_at at) (text_at at front)) (run e front at) (state_at at front) (mode_at at)
       (text_at at front) (rest_with e at.state left front)) start.1
-      (walk e law front (mode_at at) at.state at.rest (begun e at).text start.0 some)
+      (walk e law front (mode_at at) at.state at.rest (rest_before_piece e at).text start.0 some)
 
   -- the first bytes of a piece aren't the whole of it
   abbrev Unread : Reached S → List ℕ → Type 0
-  Unread at front = (((begun e at).text ≡ []) × (front ≡ [])) ⊎ IsUnfinished (mode_at at) (text_at at front)
+  Unread at front = (((rest_before_piece e at).text ≡ []) × (front ≡ [])) ⊎ IsUnfinished (mode_at at) (text_at at front)
 
   -- the bytes behind them are cut
   abbrev CutFrom : Reached S → List ℕ → List ℕ → Type 0
@@ -76,7 +76,7 @@ module _ {S : Type 0} (e : Effects S) (law : UnfinishedBegins)
       → ((more : List ℕ) → IsPiece e at front more next) → run e front at ≡ next → CutFrom next [] bytes
       → CutFrom at front bytes
   whole-piece at front next bytes piece there c =
-      let runs : run e (front ++ bytes) at ≡ run e bytes next = any-cut e front bytes at ∙ ap (run e bytes) there in
+      let runs : run e (front ++ bytes) at ≡ run e bytes next = any_cut e front bytes at ∙ ap (run e bytes) there in
       record {
         pieces = front ∷ c.pieces;
         last = c.last;
@@ -99,7 +99,7 @@ module _ {S : Type 0} (e : Effects S) (law : UnfinishedBegins)
         come = subst (λ xs. IsLast e at front (run e xs at)) (sym same) (by unread);
       }
     where
-      empty : (s : S) (n : Mode) (t : List ℕ) → (begun e (reached s (rest_of n t))).text ≡ [] → t ≡ []
+      empty : (s : S) (n : Mode) (t : List ℕ) → (rest_before_piece e (make_reached s (rest_of n t))).text ≡ [] → t ≡ []
       empty s n [] is = refl
       empty s n (x ∷ t) is = is
 
@@ -108,13 +108,13 @@ module _ {S : Type 0} (e : Effects S) (law : UnfinishedBegins)
           inl (none_yet, empty at.state at.rest.mode at.rest.text nothing, ap (λ xs. run e xs at) none_yet)
       by (inr (k, is)) =
           let all = subst (λ now. Becomes e now (run e front at) (state_at at front) (mode_at at) (text_at at front) (rest_at at front)) is
-          (walked at ok front (some-unfinished (reading (mode_at at) (text_at at front)) k is)) in
+          (walked at ok front (some_unfinished (reading (mode_at at) (text_at at front)) k is)) in
           inr ((k, is), all.0)
 
   plain-left : (s : S) (left : Rest) (m : Mode) (w : List ℕ) (k : Kind) → St e s left m w → reading m w ≡ unfinished k
       → in_string (unfinished k) ≡ false → left ≡ rest_of m w
   plain-left s left m w k st is out = ⊎_elim
-      (λ (empty : (w ≡ []) × (left.text ≡ []) × (m ≡ e.mode_of s)). absurd (unfinished-some m w k is empty.0))
+      (λ (empty : (w ≡ []) × (left.text ≡ []) × (m ≡ e.mode_of s)). absurd (unfinished_some m w k is empty.0))
       (λ others. ⊎_elim
       (λ (plain : (j : Kind) × (reading m w ≡ unfinished j) × (in_string (unfinished j) ≡ false) × (left ≡ rest_of m w)). plain.3)
       (λ (strings : (j : Kind) × (reading m w ≡ unfinished j) × (in_string (unfinished j) ≡ true) × IsStringRest left w).
@@ -125,7 +125,7 @@ module _ {S : Type 0} (e : Effects S) (law : UnfinishedBegins)
   reads-left : (s : S) (left : Rest) (m : Mode) (w : List ℕ) (k : Kind) → St e s left m w → reading m w ≡ unfinished k
       → reading left.mode left.text ≡ unfinished k
   reads-left s left m w k st is =
-      subst (λ (r : Rest). reading r.mode r.text ≡ reading m w) (base-some left m w (unfinished-some m w k is)) (base-reads e s left m w st)
+      subst (λ (r : Rest). reading r.mode r.text ≡ reading m w) (base_some left m w (unfinished_some m w k is)) (base_reads e s left m w st)
       ∙ is
 
   -- one byte more, where the bytes behind it are cut
@@ -152,15 +152,15 @@ module _ {S : Type 0} (e : Effects S) (law : UnfinishedBegins)
             → CutFrom at (front ++ b ∷ []) bytes
         by (unfinished k) is becomes = again at ok (front ++ b ∷ []) (inr (k, is))
         by (whole u) is becomes =
-            let next : Reached S = reached (e.on_unit u (state_at at (front ++ b ∷ []))) (fresh (rest_at at (front ++ b ∷ [])).mode) in
+            let next : Reached S = make_reached (e.on_unit u (state_at at (front ++ b ∷ []))) (fresh (rest_at at (front ++ b ∷ [])).mode) in
             whole-piece at (front ++ b ∷ []) next bytes (comes (whole u) next is (λ more. refl)) becomes (again next (inl refl) [] (inl (refl, refl)))
         by dropped is becomes =
-            let next : Reached S = reached (state_at at (front ++ b ∷ [])) (fresh (rest_at at (front ++ b ∷ [])).mode) in
+            let next : Reached S = make_reached (state_at at (front ++ b ∷ [])) (fresh (rest_at at (front ++ b ∷ [])).mode) in
             whole-piece at (front ++ b ∷ []) next bytes (comes dropped next is (λ more. refl)) becomes (again next (inl refl) [] (inl (refl, refl)))
         by none is becomes = absurd becomes
 
-    fresh-cut : (s : S) (n : Mode) → CutFrom (reached s (fresh n)) [] (b ∷ bytes)
-    fresh-cut s n = advance (reached s (fresh n)) (inl refl) [] (one-some (e.mode_of s) b)
+    fresh-cut : (s : S) (n : Mode) → CutFrom (make_reached s (fresh n)) [] (b ∷ bytes)
+    fresh-cut s n = advance (make_reached s (fresh n)) (inl refl) [] (one_some (e.mode_of s) b)
 
     -- a piece that the byte ends
     ended : (at : Reached S) (front : List ℕ) (k : Kind) (next : Reached S) → reading (mode_at at) (text_at at front) ≡ unfinished k
@@ -168,7 +168,7 @@ module _ {S : Type 0} (e : Effects S) (law : UnfinishedBegins)
         → step e b (run e front at) ≡ step e b next → CutFrom next [] (b ∷ bytes) → CutFrom at front (b ∷ bytes)
     ended at front k next is end there c =
         let runs : run e (front ++ b ∷ bytes) at ≡ run e (b ∷ bytes) next =
-        any-cut e front (b ∷ bytes) at ∙ ap (run e bytes) there in
+        any_cut e front (b ∷ bytes) at ∙ ap (run e bytes) there in
         record {
           pieces = front ∷ c.pieces;
           last = c.last;
@@ -183,15 +183,15 @@ module _ {S : Type 0} (e : Effects S) (law : UnfinishedBegins)
         }
 
     alike-step : (s : S) (left other : Rest) → AreAlike left other (e.mode_of s) b
-        → step e b (reached s left) ≡ step e b (reached s other)
-    alike-step s left other alike = λ i. reached (effects_of e (alike.0 i) s) (alike.1 i)
+        → step e b (make_reached s left) ≡ step e b (make_reached s other)
+    alike-step s left other alike = λ i. make_reached (effects_of e (alike.0 i) s) (alike.1 i)
 
     -- by the kind of the text
     module _ (at : Reached S) (ok : IsRest at.rest) (front : List ℕ) (k : Kind)
         (was : reading (mode_at at) (text_at at front) ≡ unfinished k) where
       read : Becomes e (unfinished k) (run e front at) (state_at at front) (mode_at at) (text_at at front) (rest_at at front)
       read = subst (λ now. Becomes e now (run e front at) (state_at at front) (mode_at at) (text_at at front) (rest_at at front)) was
-          (walked at ok front (some-unfinished (reading (mode_at at) (text_at at front)) k was))
+          (walked at ok front (some_unfinished (reading (mode_at at) (text_at at front)) k was))
 
       left-reads : reading (rest_at at front).mode (rest_at at front).text ≡ unfinished k
       left-reads = reads-left (state_at at front) (rest_at at front) (mode_at at) (text_at at front) k read.1 was
@@ -202,17 +202,17 @@ module _ {S : Type 0} (e : Effects S) (law : UnfinishedBegins)
       broken-off : in_string (unfinished k) ≡ false
           → (unfinished k ≡ unfinished sequence) ⊎ (unfinished k ≡ unfinished command)
           → (interrupts (mode_at at) b ≡ true
-          → IsEnded e k (mode_at at) (text_at at front) b (state_at at front) (rest_at at front) (reached (state_at at front) (fresh (mode_at at))))
+          → IsEnded e k (mode_at at) (text_at at front) b (state_at at front) (rest_at at front) (make_reached (state_at at front) (fresh (mode_at at))))
           → interrupts (mode_at at) b ≡ true → CutFrom at front (b ∷ bytes)
       broken-off out sort end breaks =
           let s : S = state_at at front in
           let left : Rest = rest_at at front in
           let breaks_left : interrupts left.mode b ≡ true = ap (λ (r : Rest). interrupts r.mode b) (left-is out) ∙ breaks in
           let alike : AreAlike left (fresh (e.mode_of s)) (e.mode_of s) b =
-          sequences-end left (e.mode_of s) b
+          sequences_end left (e.mode_of s) b
           (⊎_elim (λ (one : unfinished k ≡ unfinished sequence). inl (left-reads ∙ one)) (λ (one : unfinished k ≡ unfinished command). inr (left-reads ∙ one)) sort)
           breaks_left in
-          ended at front k (reached s (fresh (mode_at at))) was (end breaks)
+          ended at front k (make_reached s (fresh (mode_at at))) was (end breaks)
           (ap (step e b) read.0 ∙ alike-step s left (fresh (e.mode_of s)) alike)
           (fresh-cut s (mode_at at))
 
@@ -225,13 +225,13 @@ module _ {S : Type 0} (e : Effects S) (law : UnfinishedBegins)
         let s : S = state_at at front in
         let n : Mode = e.mode_of s in
         let t : S = e.on_unit (units.Unit.Char 0xFFFD) s in
-        let ends = characters-end (rest_of m w) n b was out in
-        let first : step e b (reached s (rest_of m w)) ≡ reached (effects_of e (answer (fresh m) n b) t) (rest_after (fresh m) n b) =
-        λ i. reached (effects_of e (ends.0 i) s) (ends.1 i) in
-        let second : step e b (reached t (fresh m)) ≡ reached (effects_of e (answer (fresh m) n b) t) (rest_after (fresh m) n b) =
-        ap (λ (x : Mode). reached (effects_of e (answer (fresh m) x b) t) (rest_after (fresh m) x b)) (keeps s) in
-        ended at front character (reached t (fresh m)) was (out, refl)
-        (ap (step e b) ((read at ok front character was).0 ∙ ap (reached s) (left-is at ok front character was refl)) ∙ first ∙ sym second)
+        let ends = characters_end (rest_of m w) n b was out in
+        let first : step e b (make_reached s (rest_of m w)) ≡ make_reached (effects_of e (answer (fresh m) n b) t) (rest_after (fresh m) n b) =
+        λ i. make_reached (effects_of e (ends.0 i) s) (ends.1 i) in
+        let second : step e b (make_reached t (fresh m)) ≡ make_reached (effects_of e (answer (fresh m) n b) t) (rest_after (fresh m) n b) =
+        ap (λ (x : Mode). make_reached (effects_of e (answer (fresh m) x b) t) (rest_after (fresh m) x b)) (keeps s) in
+        ended at front character (make_reached t (fresh m)) was (out, refl)
+        (ap (step e b) ((read at ok front character was).0 ∙ ap (make_reached s) (left-is at ok front character was refl)) ∙ first ∙ sym second)
         (fresh-cut t m)
 
     -- a byte that is no part of a text that isn't finished
@@ -241,7 +241,7 @@ module _ {S : Type 0} (e : Effects S) (law : UnfinishedBegins)
       part k was = ⊎_elim
           (λ (yes : is_left_out (unfinished k) b ≡ true).
           let same : text_at at (front ++ b ∷ []) ≡ text_at at front =
-          text-more (mode_at at) (begun e at).text front b ∙ cond-true _ _ _ (ap (λ x. is_left_out x b) was ∙ yes) in
+          text_more (mode_at at) (rest_before_piece e at).text front b ∙ cond-true _ _ _ (ap (λ x. is_left_out x b) was ∙ yes) in
           absurd (not-none (unfinished k) tt (sym was ∙ ap (reading (mode_at at)) (sym same) ∙ out)))
           (λ (no_part : is_left_out (unfinished k) b ≡ false). no_part)
           (cases_Bool (is_left_out (unfinished k) b))
@@ -249,56 +249,56 @@ module _ {S : Type 0} (e : Effects S) (law : UnfinishedBegins)
       out-now : (k : Kind) → reading (mode_at at) (text_at at front) ≡ unfinished k
           → reading (mode_at at) (text_at at front ++ b ∷ []) ≡ none
       out-now k was =
-          ap (reading (mode_at at)) (sym (text-more (mode_at at) (begun e at).text front b
+          ap (reading (mode_at at)) (sym (text_more (mode_at at) (rest_before_piece e at).text front b
           ∙ cond-false _ _ _ (ap (λ x. is_left_out x b) was ∙ part k was)))
           ∙ out
 
       after : (k : Kind) → reading (mode_at at) (text_at at front) ≡ unfinished k → After (mode_at at) k b none
-      after k was = subst (After (mode_at at) k b) (out-now k was) (follows-reading (mode_at at) b (text_at at front) k was)
+      after k was = subst (After (mode_at at) k b) (out-now k was) (follows_reading (mode_at at) b (text_at at front) k was)
 
       cut-sequence : reading (mode_at at) (text_at at front) ≡ unfinished sequence → CutFrom at front (b ∷ bytes)
       cut-sequence was =
           broken-off at ok front sequence was refl (inl refl) (λ breaks. (breaks, refl))
-          (breaks-sequence (mode_at at) b none (part sequence was) (after sequence was) refl)
+          (breaks_sequence (mode_at at) b none (part sequence was) (after sequence was) refl)
 
     -- behind the ESC that ended a string
-    escape-cut : (s : S) (n : Mode) → CutFrom (reached s (rest_of n (0x1B ∷ []))) [] (b ∷ bytes)
+    escape-cut : (s : S) (n : Mode) → CutFrom (make_reached s (rest_of n (0x1B ∷ []))) [] (b ∷ bytes)
     escape-cut s n = by (reading n (text_of n (0x1B ∷ []) (b ∷ []))) refl
       where
         at : Reached S
-        at = reached s (rest_of n (0x1B ∷ []))
+        at = make_reached s (rest_of n (0x1B ∷ []))
 
-        by : (now : Reading) → reading n (text_of n (0x1B ∷ []) (b ∷ [])) ≡ now → CutFrom (reached s (rest_of n (0x1B ∷ []))) [] (b ∷ bytes)
-        by none is = cut-sequence (reached s (rest_of n (0x1B ∷ []))) (inr (sequence, refl)) [] is refl
-        by (whole u) is = advance (reached s (rest_of n (0x1B ∷ []))) (inr (sequence, refl)) [] (subst IsSome (sym is) tt)
-        by dropped is = advance (reached s (rest_of n (0x1B ∷ []))) (inr (sequence, refl)) [] (subst IsSome (sym is) tt)
-        by (unfinished k) is = advance (reached s (rest_of n (0x1B ∷ []))) (inr (sequence, refl)) [] (subst IsSome (sym is) tt)
+        by : (now : Reading) → reading n (text_of n (0x1B ∷ []) (b ∷ [])) ≡ now → CutFrom (make_reached s (rest_of n (0x1B ∷ []))) [] (b ∷ bytes)
+        by none is = cut-sequence (make_reached s (rest_of n (0x1B ∷ []))) (inr (sequence, refl)) [] is refl
+        by (whole u) is = advance (make_reached s (rest_of n (0x1B ∷ []))) (inr (sequence, refl)) [] (subst IsSome (sym is) tt)
+        by dropped is = advance (make_reached s (rest_of n (0x1B ∷ []))) (inr (sequence, refl)) [] (subst IsSome (sym is) tt)
+        by (unfinished k) is = advance (make_reached s (rest_of n (0x1B ∷ []))) (inr (sequence, refl)) [] (subst IsSome (sym is) tt)
 
     cut-out : (at : Reached S) (ok : IsRest at.rest) (front : List ℕ) → Unread at front
         → reading (mode_at at) (text_at at (front ++ b ∷ [])) ≡ none → CutFrom at front (b ∷ bytes)
     cut-out at ok front (inl (nothing, none_yet)) out =
         let m : Mode = mode_at at in
-        let some : IsSome (reading m (text_of m (begun e at).text (front ++ b ∷ []))) =
+        let some : IsSome (reading m (text_of m (rest_before_piece e at).text (front ++ b ∷ []))) =
         subst (λ xs. IsSome (reading m (text_of m xs (front ++ b ∷ [])))) (sym nothing)
-        (subst (λ ys. IsSome (reading m (text_of m [] (ys ++ b ∷ [])))) (sym none_yet) (one-some m b)) in
-        absurd (not-none (reading m (text_of m (begun e at).text (front ++ b ∷ []))) some out)
+        (subst (λ ys. IsSome (reading m (text_of m [] (ys ++ b ∷ [])))) (sym none_yet) (one_some m b)) in
+        absurd (not-none (reading m (text_of m (rest_before_piece e at).text (front ++ b ∷ []))) some out)
     cut-out at ok front (inr (sequence, was)) out = cut-sequence at ok front out was
     cut-out at ok front (inr (command, was)) out =
         broken-off at ok front command was refl (inr refl) (λ breaks. (breaks, refl))
-        (breaks-command (mode_at at) b none (part at ok front out command was) (after at ok front out command was) refl)
+        (breaks_command (mode_at at) b none (part at ok front out command was) (after at ok front out command was) refl)
     cut-out at ok front (inr (character, was)) out = malformed at ok front was (out-now at ok front out character was)
     cut-out at ok front (inr (string, was)) out =
         let next : none ≡ string_next b = after at ok front out string was in
-        absurd (not-none (string_next b) (string-some b) (sym next))
+        absurd (not-none (string_next b) (string_some b) (sym next))
     cut-out at ok front (inr (string_end, was)) out =
         let s : S = state_at at front in
         let left : Rest = rest_at at front in
         let next : none ≡ cond (b == 0x5C) (whole Ignored) none = after at ok front out string_end was in
-        let other : (b == 0x5C) ≡ false = ends-off (b == 0x5C) (sym next) in
+        let other : (b == 0x5C) ≡ false = ends_off (b == 0x5C) (sym next) in
         let opened : Rest = rest_of left.mode (0x1B ∷ []) in
         let alike : AreAlike left opened (e.mode_of s) b =
-        strings-end left (e.mode_of s) b (left-reads at ok front string_end was) other in
-        ended at front string_end (reached s opened) was (other, refl)
+        strings_end left (e.mode_of s) b (left-reads at ok front string_end was) other in
+        ended at front string_end (make_reached s opened) was (other, refl)
         (ap (step e b) (read at ok front string_end was).0 ∙ alike-step s left opened alike)
         (escape-cut s left.mode)
 
@@ -315,10 +315,10 @@ module _ {S : Type 0} (e : Effects S) (law : UnfinishedBegins)
   cut-all [] at ok front unread = last-rest at ok front unread
   cut-all (b ∷ bytes) at ok front unread = cut-more b bytes (cut-all bytes) at ok front unread
 
-  pub text-cut : (at : Reached S) (bytes : List ℕ) → IsRest at.rest → IsCut e at bytes (run e bytes at)
-  text-cut at bytes ok = cut-all bytes at ok [] (unread at.state at.rest.mode at.rest.text ok)
+  pub text_cut : (at : Reached S) (bytes : List ℕ) → IsRest at.rest → IsCut e at bytes (run e bytes at)
+  text_cut at bytes ok = cut-all bytes at ok [] (unread at.state at.rest.mode at.rest.text ok)
     where
-      unread : (s : S) (n : Mode) (t : List ℕ) → (t ≡ []) ⊎ IsUnfinished n t → Unread (reached s (rest_of n t)) []
+      unread : (s : S) (n : Mode) (t : List ℕ) → (t ≡ []) ⊎ IsUnfinished n t → Unread (make_reached s (rest_of n t)) []
       unread s n [] one = inl (refl, refl)
       unread s n (x ∷ t) (inl nothing) = absurd (let no : ⊥ = cc in no)
       unread s n (x ∷ t) (inr is) = inr is

@@ -2,7 +2,7 @@
 use Rattle.std.proofs.Common.{◌≡◌, ℕ, ◌==◌, ◌≤◌, ◌<◌, ◌+◌, ◌-◌, ◌*◌, min, true, false, List, [], ◌∷◌, ◌++◌, map, length, take, drop, get_or, sym, ap, ◌∙◌, arith, ⊎_elim}
 use Rattle.std.proofs.lemmas.Bool.{cases_Bool, cases_lt, cond-true, cond-false}
 use Rattle.std.proofs.lemmas.List.{length-take-le, take-append-le, take-take, take_all, take_at, append_assoc, drop_more}
-use Rattle.vt_units.specs.Numbers.{Fields, continued, fields_of, number_of, params_of, shifted, with_digits}
+use Rattle.vt_units.specs.Numbers.{Fields, numbers_after, fields_of, number_of, params_of, number_with_digit, with_digits}
 
 abbrev from : ℕ → List ℕ → ℕ
 from n digits = min 65535 (with_digits n digits)
@@ -12,8 +12,8 @@ large n [] big = big
 large n (d ∷ digits) big = large (n * 10 + (d - 0x30)) digits (omega arith)
 
 -- a number that is cut is cut at the end too
-from-cut : (n : ℕ) (digits : List ℕ) → from (min 65535 n) digits ≡ from n digits
-from-cut n digits = ⊎_elim
+from_cut : (n : ℕ) (digits : List ℕ) → from (min 65535 n) digits ≡ from n digits
+from_cut n digits = ⊎_elim
     (λ (small : n < 65535). let e : min 65535 n ≡ n = omega arith in ap (λ k. from k digits) e)
     (λ (big : 65535 ≤ n).
     let e : min 65535 n ≡ 65535 = omega arith in
@@ -25,28 +25,28 @@ from-cut n digits = ⊎_elim
 abbrev numbers_of : ℕ → Fields → List ℕ
 numbers_of n fields = from n fields.first ∷ map number_of fields.others
 
-pub continued-is : (n : ℕ) (body : List ℕ) → n ≤ 65535 → continued n body ≡ numbers_of n (fields_of body)
-continued-is n [] small = let e : n ≡ min 65535 n = omega arith in ap (λ k. k ∷ []) e
-continued-is n (b ∷ bs) small = ⊎_elim
+pub numbers_after_is : (n : ℕ) (body : List ℕ) → n ≤ 65535 → numbers_after n body ≡ numbers_of n (fields_of body)
+numbers_after_is n [] small = let e : n ≡ min 65535 n = omega arith in ap (λ k. k ∷ []) e
+numbers_after_is n (b ∷ bs) small = ⊎_elim
     (λ (ends : (b == 0x3B) ≡ true).
     let e : n ≡ min 65535 n = omega arith in
     cond-true _ _ _ ends
-    ∙ (λ i. e i ∷ continued-is 0 bs (omega arith) i)
+    ∙ (λ i. e i ∷ numbers_after_is 0 bs (omega arith) i)
     ∙ ap (numbers_of n) (sym (cond-true _ _ _ ends)))
     (λ (goes : (b == 0x3B) ≡ false).
     let cut : min 65535 (n * 10 + (b - 0x30)) ≤ 65535 = omega arith in
     cond-false _ _ _ goes
-    ∙ continued-is (shifted n b) bs cut
-    ∙ ap (λ k. k ∷ map number_of (fields_of bs).others) (from-cut (n * 10 + (b - 0x30)) (fields_of bs).first)
+    ∙ numbers_after_is (number_with_digit n b) bs cut
+    ∙ ap (λ k. k ∷ map number_of (fields_of bs).others) (from_cut (n * 10 + (b - 0x30)) (fields_of bs).first)
     ∙ ap (numbers_of n) (sym (cond-false _ _ _ goes)))
     (cases_Bool (b == 0x3B))
 
-pub continued-all : (body : List ℕ) → take 16 (continued 0 body) ≡ params_of body
-continued-all body = ap (take 16) (continued-is 0 body (omega arith))
+pub numbers_after_all : (body : List ℕ) → take 16 (numbers_after 0 body) ≡ params_of body
+numbers_after_all body = ap (take 16) (numbers_after_is 0 body (omega arith))
 
 -- a list that was cut before another was added
-pub cut-before : (n : ℕ) (xs ys : List ℕ) → take n (take n xs ++ ys) ≡ take n (xs ++ ys)
-cut-before n xs ys = ⊎_elim
+pub cut_before : (n : ℕ) (xs ys : List ℕ) → take n (take n xs ++ ys) ≡ take n (xs ++ ys)
+cut_before n xs ys = ⊎_elim
     (λ (long : n < length xs).
     let len : length (take n xs) ≡ n = length-take-le n xs (omega arith) in
     take-append-le n (take n xs) ys (omega arith)
@@ -59,33 +59,33 @@ pub full : (xs : List ℕ) (n : ℕ) → length xs ≡ 16 → xs ≡ take 16 (xs
 full xs n len = sym (take_at xs (n ∷ []) 16 len)
 
 -- a step of the reading: a semicolon, or a digit
-pub field-ends : (kept : List ℕ) (n b : ℕ) (rest all : List ℕ) → b ≡ 0x3B
-    → take 16 (kept ++ continued n (b ∷ rest)) ≡ all
-    → take 16 (take 16 (kept ++ n ∷ []) ++ continued 0 rest) ≡ all
-field-ends kept n b rest all is before =
-    cut-before 16 (kept ++ n ∷ []) (continued 0 rest)
-    ∙ ap (take 16) (append_assoc kept (n ∷ []) (continued 0 rest))
-    ∙ ap (λ x. take 16 (kept ++ continued n (x ∷ rest))) (sym is)
+pub field_ends : (kept : List ℕ) (n b : ℕ) (rest all : List ℕ) → b ≡ 0x3B
+    → take 16 (kept ++ numbers_after n (b ∷ rest)) ≡ all
+    → take 16 (take 16 (kept ++ n ∷ []) ++ numbers_after 0 rest) ≡ all
+field_ends kept n b rest all is before =
+    cut_before 16 (kept ++ n ∷ []) (numbers_after 0 rest)
+    ∙ ap (take 16) (append_assoc kept (n ∷ []) (numbers_after 0 rest))
+    ∙ ap (λ x. take 16 (kept ++ numbers_after n (x ∷ rest))) (sym is)
     ∙ before
 
-pub field-goes : (kept : List ℕ) (n b : ℕ) (rest all : List ℕ) → (b == 0x3B) ≡ false
-    → take 16 (kept ++ continued n (b ∷ rest)) ≡ all
-    → take 16 (kept ++ continued (shifted n b) rest) ≡ all
-field-goes kept n b rest all goes before =
+pub field_goes : (kept : List ℕ) (n b : ℕ) (rest all : List ℕ) → (b == 0x3B) ≡ false
+    → take 16 (kept ++ numbers_after n (b ∷ rest)) ≡ all
+    → take 16 (kept ++ numbers_after (number_with_digit n b) rest) ≡ all
+field_goes kept n b rest all goes before =
     ap (λ ns. take 16 (kept ++ ns)) (sym (cond-false _ _ _ goes)) ∙ before
 
-pub front-number : (kept body all : List ℕ) (n i : ℕ) → i < length body
-    → take 16 (kept ++ continued n (drop i body)) ≡ all
-    → take 16 (kept ++ continued n (get_or body i 0 ∷ drop (i + 1) body)) ≡ all
-front-number kept body all n i within before =
-    ap (λ xs. take 16 (kept ++ continued n xs)) (sym (drop_more body i 0 within)) ∙ before
+pub front_number : (kept body all : List ℕ) (n i : ℕ) → i < length body
+    → take 16 (kept ++ numbers_after n (drop i body)) ≡ all
+    → take 16 (kept ++ numbers_after n (get_or body i 0 ∷ drop (i + 1) body)) ≡ all
+front_number kept body all n i within before =
+    ap (λ xs. take 16 (kept ++ numbers_after n xs)) (sym (drop_more body i 0 within)) ∙ before
 
 -- a parameter that is read as a whole, and those after it
-pub field-more : (kept : List ℕ) (m : ℕ) (here after all : List ℕ) → here ≡ m ∷ after
+pub field_more : (kept : List ℕ) (m : ℕ) (here after all : List ℕ) → here ≡ m ∷ after
     → take 16 (kept ++ here) ≡ all
     → take 16 (take 16 (kept ++ m ∷ []) ++ after) ≡ all
-field-more kept m here after all is before =
-    cut-before 16 (kept ++ m ∷ []) after
+field_more kept m here after all is before =
+    cut_before 16 (kept ++ m ∷ []) after
     ∙ ap (take 16) (append_assoc kept (m ∷ []) after)
     ∙ ap (λ ns. take 16 (kept ++ ns)) (sym is)
     ∙ before

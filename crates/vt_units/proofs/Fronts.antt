@@ -2,30 +2,30 @@
 use Rattle.std.proofs.Common.{◌≡◌, ◌⊎◌, ℕ, Bool, true, false, List, [], ◌∷◌, ◌++◌, refl, ap, ◌∙◌, ⊎_elim, inl, inr}
 use Rattle.std.proofs.lemmas.Bool.{cases_Bool, cond-true, cond-false}
 use Rattle.std.proofs.lemmas.List.{append-nil}
-use Rattle.vt_units.specs.Reading.{behind, front}
-use Rattle.vt_units.specs.Stage.{Each}
+use Rattle.vt_units.specs.Reading.{after_prefix, longest_prefix}
+use Rattle.vt_units.specs.ParserState.{Each}
 
-pub front-pass : (p : ℕ → Bool) (xs ys : List ℕ) → Each p xs → front p (xs ++ ys) ≡ xs ++ front p ys
-front-pass p [] ys passes = refl
-front-pass p (x ∷ xs) ys (first, passes) =
-    cond-true _ _ _ first ∙ ap (λ zs. x ∷ zs) (front-pass p xs ys passes)
+pub longest_prefix_pass : (p : ℕ → Bool) (xs ys : List ℕ) → Each p xs → longest_prefix p (xs ++ ys) ≡ xs ++ longest_prefix p ys
+longest_prefix_pass p [] ys passes = refl
+longest_prefix_pass p (x ∷ xs) ys (first, passes) =
+    cond-true _ _ _ first ∙ ap (λ zs. x ∷ zs) (longest_prefix_pass p xs ys passes)
 
-pub behind-pass : (p : ℕ → Bool) (xs ys : List ℕ) → Each p xs → behind p (xs ++ ys) ≡ behind p ys
-behind-pass p [] ys passes = refl
-behind-pass p (x ∷ xs) ys (first, passes) = cond-true _ _ _ first ∙ behind-pass p xs ys passes
+pub after_prefix_pass : (p : ℕ → Bool) (xs ys : List ℕ) → Each p xs → after_prefix p (xs ++ ys) ≡ after_prefix p ys
+after_prefix_pass p [] ys passes = refl
+after_prefix_pass p (x ∷ xs) ys (first, passes) = cond-true _ _ _ first ∙ after_prefix_pass p xs ys passes
 
-pub each-push : (p : ℕ → Bool) (xs : List ℕ) (b : ℕ) → Each p xs → p b ≡ true → Each p (xs ++ b ∷ [])
-each-push p [] b passes is = (is, tt)
-each-push p (x ∷ xs) b (first, passes) is = (first, each-push p xs b passes is)
+pub each_push : (p : ℕ → Bool) (xs : List ℕ) (b : ℕ) → Each p xs → p b ≡ true → Each p (xs ++ b ∷ [])
+each_push p [] b passes is = (is, tt)
+each_push p (x ∷ xs) b (first, passes) is = (first, each_push p xs b passes is)
 
-pub front-stop : (p : ℕ → Bool) (xs : List ℕ) (y : ℕ) (ys : List ℕ) → Each p xs → p y ≡ false
-    → front p (xs ++ y ∷ ys) ≡ xs
-front-stop p xs y ys passes stops =
-    front-pass p xs (y ∷ ys) passes ∙ ap (λ zs. xs ++ zs) (cond-false _ _ _ stops) ∙ append-nil xs
+pub longest_prefix_stop : (p : ℕ → Bool) (xs : List ℕ) (y : ℕ) (ys : List ℕ) → Each p xs → p y ≡ false
+    → longest_prefix p (xs ++ y ∷ ys) ≡ xs
+longest_prefix_stop p xs y ys passes stops =
+    longest_prefix_pass p xs (y ∷ ys) passes ∙ ap (λ zs. xs ++ zs) (cond-false _ _ _ stops) ∙ append-nil xs
 
-pub behind-stop : (p : ℕ → Bool) (xs : List ℕ) (y : ℕ) (ys : List ℕ) → Each p xs → p y ≡ false
-    → behind p (xs ++ y ∷ ys) ≡ y ∷ ys
-behind-stop p xs y ys passes stops = behind-pass p xs (y ∷ ys) passes ∙ cond-false _ _ _ stops
+pub after_prefix_stop : (p : ℕ → Bool) (xs : List ℕ) (y : ℕ) (ys : List ℕ) → Each p xs → p y ≡ false
+    → after_prefix p (xs ++ y ∷ ys) ≡ y ∷ ys
+after_prefix_stop p xs y ys passes stops = after_prefix_pass p xs (y ∷ ys) passes ∙ cond-false _ _ _ stops
 
 -- a byte that doesn't pass, what stands before it and what stands behind it
 pub record IsCut (p : ℕ → Bool) (t : List ℕ) : Type 0 where

@@ -16,8 +16,8 @@ abbrev pub is_other : ℕ → Bool
 is_other b = not (is_printable b)
 
 -- a byte isn't printable where, 32 less and modulo 256, it is 95 at least
-other-byte : (b : ℕ) → b < 256 → leb 95 ((b + (256 - 32)) % 256) ≡ is_other b
-other-byte b small = ⊎_elim
+other_byte : (b : ℕ) → b < 256 → leb 95 ((b + (256 - 32)) % 256) ≡ is_other b
+other_byte b small = ⊎_elim
     (λ (low : b < 32).
     let same : (b + (256 - 32)) % 256 ≡ b + 224 = omega arith in
     ap (leb 95) same ∙ (let e : leb 95 (b + 224) ≡ is_other b = grind (arith, nat_tests, low) in e))
@@ -31,9 +31,9 @@ not-not true = refl
 not-not false = refl
 
 -- where all pass, no bit is set
-no-bits : (xs : List ℕ) → prefix_len (λ x. not (is_other x)) xs ≡ length xs → mask_l (map is_other xs) ≡ 0
-no-bits [] all = refl
-no-bits (x ∷ xs) all = by (is_other x) (prefix_len-le-length (λ y. not (is_other y)) xs) all (no-bits xs)
+no_bits : (xs : List ℕ) → prefix_len (λ x. not (is_other x)) xs ≡ length xs → mask_l (map is_other xs) ≡ 0
+no_bits [] all = refl
+no_bits (x ∷ xs) all = by (is_other x) (prefix_len-le-length (λ y. not (is_other y)) xs) all (no_bits xs)
   where
     by : (test : Bool) → prefix_len (λ y. not (is_other y)) xs ≤ length xs
         → cond (not test) (1 + prefix_len (λ y. not (is_other y)) xs) 0 ≡ length (x ∷ xs)
@@ -42,9 +42,9 @@ no-bits (x ∷ xs) all = by (is_other x) (prefix_len-le-length (λ y. not (is_ot
     by true within same others = absurd (let e : ⊥ = omega arith in e)
     by false within same others = let none : mask_l (map is_other xs) ≡ 0 = others (omega arith) in omega arith
 
-same-run : (xs : List ℕ) → prefix_len is_printable xs ≡ prefix_len (λ x. not (is_other x)) xs
-same-run [] = refl
-same-run (x ∷ xs) = λ i. cond (not-not (is_printable x) i) (1 + same-run xs i) 0
+same_run : (xs : List ℕ) → prefix_len is_printable xs ≡ prefix_len (λ x. not (is_other x)) xs
+same_run [] = refl
+same_run (x ∷ xs) = λ i. cond (not-not (is_printable x) i) (1 + same_run xs i) 0
 
 split : (text : List ℕ) (i n : ℕ) → prefix_len is_printable (drop i text)
     ≡ cond (eqb (prefix_len is_printable (chunk i n text)) (length (chunk i n text)))
@@ -54,43 +54,43 @@ split text i n =
     ∙ prefix_len-append is_printable (chunk i n text) (drop (i + n) text)
 
 -- no bit is set: the run goes through
-pub run-through : (text : List ℕ) (i : ℕ) → i + 16 ≤ length text → mask_l (map is_other (chunk i 16 text)) ≡ 0
+pub run_through : (text : List ℕ) (i : ℕ) → i + 16 ≤ length text → mask_l (map is_other (chunk i 16 text)) ≡ 0
     → prefix_len is_printable (drop i text) ≡ 16 + prefix_len is_printable (drop (i + 16) text)
-run-through text i room none =
+run_through text i room none =
     let part : List ℕ = chunk i 16 text in
     split text i 16
     ∙ ap (λ (b : Bool). cond b (length part + prefix_len is_printable (drop (i + 16) text)) (prefix_len is_printable part))
-    (eq-eqb _ _ (same-run part ∙ leading_from_mask_l is_other part none))
+    (eq-eqb _ _ (same_run part ∙ leading_from_mask_l is_other part none))
     ∙ ap (λ (k : ℕ). k + prefix_len is_printable (drop (i + 16) text)) (length-chunk i 16 text room)
 
 -- the lowest bit says where the run ends
-pub run-stops : (text : List ℕ) (i : ℕ) → i + 16 ≤ length text → 0 < mask_l (map is_other (chunk i 16 text))
+pub run_stops : (text : List ℕ) (i : ℕ) → i + 16 ≤ length text → 0 < mask_l (map is_other (chunk i 16 text))
     → prefix_len is_printable (drop i text) ≡ count_trailing_zeros 64 (mask_l (map is_other (chunk i 16 text)))
-run-stops text i room some =
+run_stops text i room some =
     let part : List ℕ = chunk i 16 text in
     split text i 16
     ∙ ap (λ (b : Bool). cond b (length part + prefix_len is_printable (drop (i + 16) text)) (prefix_len is_printable part))
-    (ne_eqb _ _ (λ (e : prefix_len is_printable part ≡ length part). omega (arith, no-bits part (sym (same-run part) ∙ e))))
-    ∙ same-run part ∙ sym (trailing_mask_l is_other 64 part (omega (arith, length-chunk i 16 text room)) some)
+    (ne_eqb _ _ (λ (e : prefix_len is_printable part ≡ length part). omega (arith, no_bits part (sym (same_run part) ∙ e))))
+    ∙ same_run part ∙ sym (trailing_mask_l is_other 64 part (omega (arith, length-chunk i 16 text room)) some)
 
-pub run-within : (text : List ℕ) (i : ℕ) → i ≤ length text → i + prefix_len is_printable (drop i text) ≤ length text
-run-within text i within = omega (arith, prefix_len-le-length is_printable (drop i text), length-drop i text)
+pub run_within : (text : List ℕ) (i : ℕ) → i ≤ length text → i + prefix_len is_printable (drop i text) ≤ length text
+run_within text i within = omega (arith, prefix_len-le-length is_printable (drop i text), length-drop i text)
 
 abbrev lowered : ℕ → ℕ
 lowered b = (b + (256 - 32)) % 256
 
-each-byte : (v : List ℕ) → Each1 (Fits w8) v → map (λ b. leb 95 (lowered b)) v ≡ map is_other v
-each-byte [] fits = refl
-each-byte (b ∷ v) fits = λ i. other-byte b fits.0.fits i ∷ each-byte v fits.1 i
+each_byte : (v : List ℕ) → Each1 (Fits w8) v → map (λ b. leb 95 (lowered b)) v ≡ map is_other v
+each_byte [] fits = refl
+each_byte (b ∷ v) fits = λ i. other_byte b fits.0.fits i ∷ each_byte v fits.1 i
 
 -- the mask that is computed is the mask of these bytes
-pub stops-mask : (v lanes : List ℕ) → length v ≡ 16 → Each1 (Fits w8) v → lanes ≡ map lowered v
+pub stops_mask : (v lanes : List ℕ) → length v ≡ 16 → Each1 (Fits w8) v → lanes ≡ map lowered v
     → mask_l (map (top 7) (zip2 (λ a b. cond (leb a b) 255 0) (replicate 16 95) lanes)) % 2 ^ 64 ≡ mask_l (map is_other v)
-stops-mask v lanes long fits low =
+stops_mask v lanes long fits low =
     let tests : map (top 7) (zip2 (λ a b. cond (leb a b) 255 0) (replicate 16 95) (map lowered v)) ≡ map is_other v =
     tops_compared w8 leb (replicate 16 95) (map lowered v)
     ∙ zip2_splat_left leb 95 16 (map lowered v) (length-map v lowered ∙ long)
-    ∙ map-map (leb 95) lowered v ∙ each-byte v fits in
+    ∙ map-map (leb 95) lowered v ∙ each_byte v fits in
     ap (λ (xs : List ℕ). mask_l (map (top 7) (zip2 (λ a b. cond (leb a b) 255 0) (replicate 16 95) xs)) % 2 ^ 64) low
     ∙ ap (λ (bits : List Bool). mask_l bits % 2 ^ 64) tests
     ∙ mask_l-mod (map is_other v) 64 (omega (arith, length-map v is_other))

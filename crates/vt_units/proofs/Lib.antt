@@ -1,7 +1,7 @@
 mod Fields
 mod Fronts
-mod BriefForms
-mod Briefs
+mod ShortForms
+mod ShortSequences
 mod Numbered
 mod Comes
 mod Readings

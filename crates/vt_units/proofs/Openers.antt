@@ -4,16 +4,16 @@ use Rattle.std.specs.Prelude.{nat_lt}
 use Rattle.std.proofs.lemmas.Bool.{and_parts, cases_Bool, cond-true, cond-false, eqb-true, false≢true}
 use Rattle.std.proofs.lemmas.Bool.Decides.{nat_tests}
 use Rattle.std.proofs.lemmas.List.{append-nil}
-use Rattle.vt_chars.specs.Utf8.{decoded, within}
+use Rattle.vt_chars.specs.Utf8.{decoding_of, within}
 use Rattle.vt_chars.specs.declared.decoded.Decoded.{Decoded}
 use Rattle.vt_chars.specs.declared.decoded.Decoded.TheVariants.{Character, Unfinished, Malformed}
-use Rattle.vt_units.proofs.Fronts.{IsCut, behind-pass, behind-stop, cut, front-stop}
-use Rattle.vt_units.proofs.Readings.{empty-is}
-use Rattle.vt_units.proofs.Steps.{within-bound}
+use Rattle.vt_units.proofs.Fronts.{IsCut, after_prefix_pass, after_prefix_stop, cut, longest_prefix_stop}
+use Rattle.vt_units.proofs.Readings.{empty_is}
+use Rattle.vt_units.proofs.Steps.{within_bound}
 use Rattle.vt_units.specs.Bytes.{decodes, is_body, is_control, is_csi, is_digit, is_hex, is_mid, opens_string}
-use Rattle.vt_units.specs.Reading.{Kind, Reading, unfinished, sequence, command, string, string_end, whole, dropped, none, alone, begins_csi, behind, bracket_text, byte_unit, character_reading, command_text, control_ends, control_text, escape_ends, escape_text, front, is_empty, palette_ends, palette_text, reading, refused, refused_command, string_text, text_reading}
+use Rattle.vt_units.specs.Reading.{Kind, Reading, unfinished, sequence, command, string, string_end, whole, dropped, none, alone, begins_csi, after_prefix, bracket_text, byte_unit, character_reading, command_text, control_ends, control_text, escape_ends, escape_text, longest_prefix, is_empty, palette_ends, palette_text, reading, dropped_or_none, dropped_or_none_command, string_text, text_reading}
 use Rattle.vt_units.specs.Sequences.{colour_unit, control_unit, escape_unit}
-use Rattle.vt_units.specs.Stage.{Each, IsOpener}
+use Rattle.vt_units.specs.ParserState.{Each, IsOpener}
 use Rattle.vt_units.specs.declared.mode.Mode.{Mode}
 use Rattle.vt_units.specs.declared.unit.Unit as units
 
@@ -23,41 +23,41 @@ in_string (unfinished string) = true
 in_string (unfinished string_end) = true
 in_string r = false
 
-out-cond : (c : Bool) (a b : Reading) → in_string a ≡ false → in_string b ≡ false → in_string (cond c a b) ≡ false
-out-cond true a b first second = first
-out-cond false a b first second = second
+out_cond : (c : Bool) (a b : Reading) → in_string a ≡ false → in_string b ≡ false → in_string (cond c a b) ≡ false
+out_cond true a b first second = first
+out_cond false a b first second = second
 
-out-alone : (ys : List ℕ) (r : Reading) → in_string r ≡ false → in_string (alone ys r) ≡ false
-out-alone [] r is = is
-out-alone (y ∷ ys) r is = refl
+out_alone : (ys : List ℕ) (r : Reading) → in_string r ≡ false → in_string (alone ys r) ≡ false
+out_alone [] r is = is
+out_alone (y ∷ ys) r is = refl
 
-out-refused : (m : Mode) (b : ℕ) → in_string (refused m b) ≡ false
-out-refused m b = out-cond _ dropped none refl refl
+out_dropped_or_none : (m : Mode) (b : ℕ) → in_string (dropped_or_none m b) ≡ false
+out_dropped_or_none m b = out_cond _ dropped none refl refl
 
-out-refused-command : (m : Mode) (b : ℕ) → in_string (refused_command m b) ≡ false
-out-refused-command m b = out-cond _ dropped none refl refl
+out_dropped_or_none_command : (m : Mode) (b : ℕ) → in_string (dropped_or_none_command m b) ≡ false
+out_dropped_or_none_command m b = out_cond _ dropped none refl refl
 
-out-bracket : (m : Mode) (t : List ℕ) → in_string (bracket_text m t) ≡ false
-out-bracket m [] = refl
-out-bracket m (y ∷ ys) = out-alone ys _ (out-cond (within 0x20 0x7E y) (whole units.Unit.Ignored) (refused m y) refl (out-refused m y))
+out_bracket : (m : Mode) (t : List ℕ) → in_string (bracket_text m t) ≡ false
+out_bracket m [] = refl
+out_bracket m (y ∷ ys) = out_alone ys _ (out_cond (within 0x20 0x7E y) (whole units.Unit.Ignored) (dropped_or_none m y) refl (out_dropped_or_none m y))
 
-out-control : (m : Mode) (q t : List ℕ) → in_string (control_ends m q t) ≡ false
-out-control m q [] = refl
-out-control m q (y ∷ ys) = out-cond (is_empty q && y == 0x5B) _ _ (out-bracket m ys)
-    (out-alone ys _ (out-cond (within 0x40 0x7E y) (whole (control_unit q y)) (refused m y) refl (out-refused m y)))
+out_control : (m : Mode) (q t : List ℕ) → in_string (control_ends m q t) ≡ false
+out_control m q [] = refl
+out_control m q (y ∷ ys) = out_cond (is_empty q && y == 0x5B) _ _ (out_bracket m ys)
+    (out_alone ys _ (out_cond (within 0x40 0x7E y) (whole (control_unit q y)) (dropped_or_none m y) refl (out_dropped_or_none m y)))
 
-out-palette : (m : Mode) (q t : List ℕ) → in_string (palette_ends m q t) ≡ false
-out-palette m q [] =
-    out-cond (nat_lt (length q) 7) (unfinished command) (cond (length q == 7) (whole (colour_unit q)) none) refl
-    (out-cond (length q == 7) (whole (colour_unit q)) none refl refl)
-out-palette m q (y ∷ ys) =
-    out-cond (nat_lt (length q) 7) (alone ys (refused_command m y)) none
-    (out-alone ys (refused_command m y) (out-refused-command m y)) refl
+out_palette : (m : Mode) (q t : List ℕ) → in_string (palette_ends m q t) ≡ false
+out_palette m q [] =
+    out_cond (nat_lt (length q) 7) (unfinished command) (cond (length q == 7) (whole (colour_unit q)) none) refl
+    (out_cond (length q == 7) (whole (colour_unit q)) none refl refl)
+out_palette m q (y ∷ ys) =
+    out_cond (nat_lt (length q) 7) (alone ys (dropped_or_none_command m y)) none
+    (out_alone ys (dropped_or_none_command m y) (out_dropped_or_none_command m y)) refl
 
-out-character : (w : List ℕ) (d : Decoded) → in_string (character_reading w d) ≡ false
-out-character w (Character code) = refl
-out-character w Unfinished = refl
-out-character w Malformed = out-alone _ (whole _) refl
+out_character : (w : List ℕ) (d : Decoded) → in_string (character_reading w d) ≡ false
+out_character w (Character code) = refl
+out_character w Unfinished = refl
+out_character w Malformed = out_alone _ (whole _) refl
 
 -- a string's text: what opened it, and what stands behind that
 pub record HasOpener (t : List ℕ) (r : Reading) : Type 0 where
@@ -67,10 +67,10 @@ pub record HasOpener (t : List ℕ) (r : Reading) : Type 0 where
   pub opens : IsOpener opener
   pub reads : string_text behind_it ≡ r
 
-command-opener : (m : Mode) (p : List ℕ) → in_string (command_text m p) ≡ true
+command_opener : (m : Mode) (p : List ℕ) → in_string (command_text m p) ≡ true
     → HasOpener (0x1B ∷ 0x5D ∷ p) (command_text m p)
-command-opener m [] is = absurd (false≢true is)
-command-opener m (d ∷ p) is = ⊎_elim
+command_opener m [] is = absurd (false≢true is)
+command_opener m (d ∷ p) is = ⊎_elim
     (λ (digit : is_digit d ≡ true). record {
       opener = 0x1B ∷ 0x5D ∷ d ∷ [];
       behind_it = p;
@@ -80,23 +80,23 @@ command-opener m (d ∷ p) is = ⊎_elim
     })
     (λ (other : is_digit d ≡ false).
     absurd (false≢true (sym (ap in_string (cond-false _ _ _ other)
-    ∙ out-cond (d == 0x50) (palette_text m p) _ (out-palette m (front is_hex p) (behind is_hex p))
-    (out-alone p _ (out-cond (d == 0x52) (whole units.Unit.ColourReset) (refused_command m d) refl (out-refused-command m d))))
+    ∙ out_cond (d == 0x50) (palette_text m p) _ (out_palette m (longest_prefix is_hex p) (after_prefix is_hex p))
+    (out_alone p _ (out_cond (d == 0x52) (whole units.Unit.ColourReset) (dropped_or_none_command m d) refl (out_dropped_or_none_command m d))))
     ∙ is)))
     (cases_Bool (is_digit d))
 
-escape-opener : (m : Mode) (p : List ℕ) → in_string (escape_text m p) ≡ true
+escape_opener : (m : Mode) (p : List ℕ) → in_string (escape_text m p) ≡ true
     → HasOpener (0x1B ∷ p) (escape_text m p)
-escape-opener m p is = ⊎_elim
+escape_opener m p is = ⊎_elim
     (λ (passes : Each is_mid p).
-    let nothing : behind is_mid p ≡ [] = ap (behind is_mid) (sym (append-nil p)) ∙ behind-pass is_mid p [] passes in
-    let here : escape_text m p ≡ unfinished sequence = ap (escape_ends m (front is_mid p)) nothing in
+    let nothing : after_prefix is_mid p ≡ [] = ap (after_prefix is_mid) (sym (append-nil p)) ∙ after_prefix_pass is_mid p [] passes in
+    let here : escape_text m p ≡ unfinished sequence = ap (escape_ends m (longest_prefix is_mid p)) nothing in
     absurd (false≢true (sym (ap in_string here) ∙ is)))
     (λ (c : IsCut is_mid p).
     let here : escape_text m p ≡ escape_ends m c.before (c.stop ∷ c.after) =
     ap (escape_text m) c.is
-    ∙ (λ i. escape_ends m (front-stop is_mid c.before c.stop c.after c.passes c.stops i)
-    (behind-stop is_mid c.before c.stop c.after c.passes c.stops i)) in
+    ∙ (λ i. escape_ends m (longest_prefix_stop is_mid c.before c.stop c.after c.passes c.stops i)
+    (after_prefix_stop is_mid c.before c.stop c.after c.passes c.stops i)) in
     let cut_in : in_string (escape_ends m c.before (c.stop ∷ c.after)) ≡ true = ap in_string (sym here) ∙ is in
     subst (HasOpener (0x1B ∷ p)) (sym here)
     (subst (λ xs. HasOpener (0x1B ∷ xs) (escape_ends m c.before (c.stop ∷ c.after))) (sym c.is)
@@ -106,7 +106,7 @@ escape-opener m p is = ⊎_elim
     opener-first : (q : List ℕ) (y : ℕ) (ys : List ℕ) → (is_empty q && opens_string y) ≡ true
         → HasOpener (0x1B ∷ q ++ y ∷ ys) (escape_ends m q (y ∷ ys))
     opener-first q y ys first =
-        let e : q ≡ [] = empty-is q (and_parts (is_empty q) (opens_string y) first).0 in
+        let e : q ≡ [] = empty_is q (and_parts (is_empty q) (opens_string y) first).0 in
         record {
           opener = 0x1B ∷ y ∷ [];
           behind_it = ys;
@@ -118,11 +118,11 @@ escape-opener m p is = ⊎_elim
     opener-command : (q : List ℕ) (y : ℕ) (ys : List ℕ) (r : Reading) → (is_empty q && y == 0x5D) ≡ true
         → command_text m ys ≡ r → in_string r ≡ true → HasOpener (0x1B ∷ q ++ y ∷ ys) r
     opener-command q y ys r third same inside =
-        let e : q ≡ [] = empty-is q (and_parts (is_empty q) (y == 0x5D) third).0 in
+        let e : q ≡ [] = empty_is q (and_parts (is_empty q) (y == 0x5D) third).0 in
         let sign : y ≡ 0x5D = eqb-true y 0x5D (and_parts (is_empty q) (y == 0x5D) third).1 in
         let all : 0x1B ∷ 0x5D ∷ ys ≡ 0x1B ∷ q ++ y ∷ ys = sym (λ i. 0x1B ∷ e i ++ sign i ∷ ys) in
         subst (λ xs. HasOpener xs r) all
-        (subst (HasOpener (0x1B ∷ 0x5D ∷ ys)) same (command-opener m ys (ap in_string same ∙ inside)))
+        (subst (HasOpener (0x1B ∷ 0x5D ∷ ys)) same (command_opener m ys (ap in_string same ∙ inside)))
 
     opener-at : (q : List ℕ) (y : ℕ) (ys : List ℕ) → in_string (escape_ends m q (y ∷ ys)) ≡ true
         → HasOpener (0x1B ∷ q ++ y ∷ ys) (escape_ends m q (y ∷ ys))
@@ -130,45 +130,45 @@ escape-opener m p is = ⊎_elim
         (λ (first : (is_empty q && opens_string y) ≡ false). ⊎_elim
         (λ (second : (is_empty q && y == 0x5B) ≡ true).
         absurd (false≢true (sym (ap in_string (cond-false _ _ _ first ∙ cond-true _ _ _ second)
-        ∙ out-control m (front is_body ys) (behind is_body ys)) ∙ inside)))
+        ∙ out_control m (longest_prefix is_body ys) (after_prefix is_body ys)) ∙ inside)))
         (λ (second : (is_empty q && y == 0x5B) ≡ false). ⊎_elim
         (λ (third : (is_empty q && y == 0x5D) ≡ true).
         opener-command q y ys (escape_ends m q (y ∷ ys)) third
         (sym (cond-false _ _ _ first ∙ cond-false _ _ _ second ∙ cond-true _ _ _ third)) inside)
         (λ (third : (is_empty q && y == 0x5D) ≡ false).
         absurd (false≢true (sym (ap in_string (cond-false _ _ _ first ∙ cond-false _ _ _ second ∙ cond-false _ _ _ third)
-        ∙ out-alone ys _ (out-cond (within 0x30 0x7E y) (whole (escape_unit q y)) (refused m y) refl (out-refused m y))) ∙ inside)))
+        ∙ out_alone ys _ (out_cond (within 0x30 0x7E y) (whole (escape_unit q y)) (dropped_or_none m y) refl (out_dropped_or_none m y))) ∙ inside)))
         (cases_Bool (is_empty q && y == 0x5D)))
         (cases_Bool (is_empty q && y == 0x5B)))
         (cases_Bool (is_empty q && opens_string y))
 
-text-opener : (m : Mode) (t : List ℕ) → in_string (text_reading m t) ≡ true → HasOpener t (text_reading m t)
-text-opener m [] is = absurd (false≢true is)
-text-opener m (a ∷ p) is = ⊎_elim
+text_opener : (m : Mode) (t : List ℕ) → in_string (text_reading m t) ≡ true → HasOpener t (text_reading m t)
+text_opener m [] is = absurd (false≢true is)
+text_opener m (a ∷ p) is = ⊎_elim
     (λ (esc : (a == 0x1B) ≡ true).
     let sign : a ≡ 0x1B = eqb-true a 0x1B esc in
     let here : text_reading m (a ∷ p) ≡ escape_text m p = cond-true _ _ _ esc in
     subst (λ x. HasOpener (x ∷ p) (text_reading m (a ∷ p))) (sym sign)
-    (subst (HasOpener (0x1B ∷ p)) (sym here) (escape-opener m p (ap in_string (sym here) ∙ is))))
+    (subst (HasOpener (0x1B ∷ p)) (sym here) (escape_opener m p (ap in_string (sym here) ∙ is))))
     (λ (other : (a == 0x1B) ≡ false).
     absurd (false≢true (sym (ap in_string (cond-false _ _ _ other)
-    ∙ out-cond (is_csi m a) (control_text m p) _ (out-control m (front is_body p) (behind is_body p))
-    (out-cond (is_control m a) _ _ (out-alone p (whole (units.Unit.Control a)) refl)
-    (out-cond (decodes m) _ _
-    (out-cond (begins_csi (a ∷ p)) _ _
-    (out-control m (front is_body (drop 2 (a ∷ p))) (behind is_body (drop 2 (a ∷ p))))
-    (out-character (a ∷ p) (decoded (a ∷ p))))
-    (out-alone p (whole (byte_unit m a)) refl)))) ∙ is)))
+    ∙ out_cond (is_csi m a) (control_text m p) _ (out_control m (longest_prefix is_body p) (after_prefix is_body p))
+    (out_cond (is_control m a) _ _ (out_alone p (whole (units.Unit.Control a)) refl)
+    (out_cond (decodes m) _ _
+    (out_cond (begins_csi (a ∷ p)) _ _
+    (out_control m (longest_prefix is_body (drop 2 (a ∷ p))) (after_prefix is_body (drop 2 (a ∷ p))))
+    (out_character (a ∷ p) (decoding_of (a ∷ p))))
+    (out_alone p (whole (byte_unit m a)) refl)))) ∙ is)))
     (cases_Bool (a == 0x1B))
 
 -- a string is read alike in every mode
-pub opener-reads : (m : Mode) (o xs : List ℕ) → IsOpener o → text_reading m (o ++ xs) ≡ string_text xs
-opener-reads m o xs opens = ⊎_elim
+pub opener_reads : (m : Mode) (o xs : List ℕ) → IsOpener o → text_reading m (o ++ xs) ≡ string_text xs
+opener_reads m o xs opens = ⊎_elim
     (λ (esc : (b : ℕ) × (o ≡ 0x1B ∷ b ∷ []) × (opens_string b ≡ true)).
     let mid : is_mid esc.0 ≡ false = not-mid esc.0 esc.2 in
     ap (λ zs. text_reading m (zs ++ xs)) esc.1
-    ∙ (λ i. escape_ends m (cond-false (is_mid esc.0) (esc.0 ∷ front is_mid xs) [] mid i)
-    (cond-false (is_mid esc.0) (behind is_mid xs) (esc.0 ∷ xs) mid i))
+    ∙ (λ i. escape_ends m (cond-false (is_mid esc.0) (esc.0 ∷ longest_prefix is_mid xs) [] mid i)
+    (cond-false (is_mid esc.0) (after_prefix is_mid xs) (esc.0 ∷ xs) mid i))
     ∙ cond-true _ _ _ esc.2)
     (λ (osc : (b : ℕ) × (o ≡ 0x1B ∷ 0x5D ∷ b ∷ []) × (is_digit b ≡ true)).
     ap (λ zs. text_reading m (zs ++ xs)) osc.1 ∙ cond-true _ _ _ osc.2)
@@ -177,8 +177,8 @@ opener-reads m o xs opens = ⊎_elim
     not-mid : (b : ℕ) → opens_string b ≡ true → is_mid b ≡ false
     not-mid b is = grind (arith, nat_tests)
 
-pub string-opener : (m : Mode) (t : List ℕ) (k : Kind) → in_string (unfinished k) ≡ true
+pub string_opener : (m : Mode) (t : List ℕ) (k : Kind) → in_string (unfinished k) ≡ true
     → reading m t ≡ unfinished k → HasOpener t (unfinished k)
-string-opener m t k inside is =
-    let text : text_reading m t ≡ unfinished k = (within-bound m t k is).1 in
-    subst (HasOpener t) text (text-opener m t (ap in_string text ∙ inside))
+string_opener m t k inside is =
+    let text : text_reading m t ≡ unfinished k = (within_bound m t k is).1 in
+    subst (HasOpener t) text (text_opener m t (ap in_string text ∙ inside))

@@ -3,15 +3,15 @@ use Rattle.std.proofs.Common.{◌≡◌, ◌≢◌, ℕ, Bool, true, false, cond
 use Rattle.std.proofs.lemmas.Bool.{cases_Bool, cond-true, cond-false, or_from, or_left, or_right}
 use Rattle.std.proofs.lemmas.List.{append-nil, append_assoc}
 use Rattle.vt_chars.specs.Utf8.{UnfinishedBegins}
-use Rattle.vt_units.proofs.Begun.{opens-reading}
-use Rattle.vt_units.proofs.Bases.{base, base-some}
-use Rattle.vt_units.proofs.Bytewise.{Becomes, St, base-reads, step-acts, step-ignored, step-text}
+use Rattle.vt_units.proofs.Begun.{opens_reading}
+use Rattle.vt_units.proofs.Bases.{base, base_some}
+use Rattle.vt_units.proofs.Bytewise.{Becomes, St, base_reads, step-acts, step_ignored, step_text}
 use Rattle.vt_units.proofs.Opens.{Goes, IsSome}
 use Rattle.vt_units.specs.Answer.{acts_in}
-use Rattle.vt_units.specs.Pieces.{acted, controls_of, is_ignored_in, is_left_out, read_on, rest_with, text_of}
+use Rattle.vt_units.specs.Pieces.{after_controls, controls_of, is_ignored_in, is_left_out, read_on, rest_with, text_of}
 use Rattle.vt_units.specs.Reading.{Reading, unfinished, whole, dropped, none, reading}
 use Rattle.vt_units.specs.Rest.{Rest}
-use Rattle.vt_units.specs.Run.{Effects, Reached, reached, run, step}
+use Rattle.vt_units.specs.Run.{Effects, Reached, make_reached, run, step}
 use Rattle.vt_units.specs.declared.mode.Mode.{Mode}
 
 -- a text is a front of the text with bytes behind it
@@ -25,37 +25,37 @@ extends m t (b ∷ bytes) = by-test (is_left_out (reading m t) b) (extends m t b
     by-test true same longer = same
     by-test false same longer = (b ∷ longer.0, longer.1 ∙ append_assoc t (b ∷ []) longer.0)
 
-goes-some : (r : Reading) → Goes r → IsSome r
-goes-some (unfinished k) g = tt
-goes-some (whole u) g = absurd g
-goes-some dropped g = absurd g
-goes-some none g = absurd g
+goes_some : (r : Reading) → Goes r → IsSome r
+goes_some (unfinished k) g = tt
+goes_some (whole u) g = absurd g
+goes_some dropped g = absurd g
+goes_some none g = absurd g
 
-some-more : (t : List ℕ) (b : ℕ) → t ++ b ∷ [] ≢ []
-some-more [] b e = cc
-some-more (x ∷ t) b e = cc
+some_more : (t : List ℕ) (b : ℕ) → t ++ b ∷ [] ≢ []
+some_more [] b e = cc
+some_more (x ∷ t) b e = cc
 
 -- a front of a text that is something is something
-front-some : UnfinishedBegins → (m : Mode) (t more : List ℕ) → t ≢ [] → IsSome (reading m (t ++ more))
+front_some : UnfinishedBegins → (m : Mode) (t more : List ℕ) → t ≢ [] → IsSome (reading m (t ++ more))
     → IsSome (reading m t)
-front-some law m t [] some is = subst (λ xs. IsSome (reading m xs)) (append-nil t) is
-front-some law m t (x ∷ xs) some is = goes-some (reading m t) (opens-reading law m t x xs some is)
+front_some law m t [] some is = subst (λ xs. IsSome (reading m xs)) (append-nil t) is
+front_some law m t (x ∷ xs) some is = goes_some (reading m t) (opens_reading law m t x xs some is)
 
 -- nothing stands behind a unit or a drop
-over-alone : UnfinishedBegins → (m : Mode) (t bytes : List ℕ) → t ≢ [] → (Goes (reading m t) → ⊥)
+over_alone : UnfinishedBegins → (m : Mode) (t bytes : List ℕ) → t ≢ [] → (Goes (reading m t) → ⊥)
     → ((b : ℕ) → is_left_out (reading m t) b ≡ false) → IsSome (reading m (text_of m t bytes)) → bytes ≡ []
-over-alone law m t [] some over none_out is = refl
-over-alone law m t (b ∷ bytes) some over none_out is =
+over_alone law m t [] some over none_out is = refl
+over_alone law m t (b ∷ bytes) some over none_out is =
     let more : (more : List ℕ) × (text_of m (t ++ b ∷ []) bytes ≡ (t ++ b ∷ []) ++ more) = extends m (t ++ b ∷ []) bytes in
     let all : text_of m t (b ∷ bytes) ≡ t ++ b ∷ more.0 =
     cond-false _ _ _ (none_out b) ∙ more.1 ∙ append_assoc t (b ∷ []) more.0 in
-    absurd (over (opens-reading law m t b more.0 some (subst (λ xs. IsSome (reading m xs)) all is)))
+    absurd (over (opens_reading law m t b more.0 some (subst (λ xs. IsSome (reading m xs)) all is)))
 
 module _ {S : Type 0} (e : Effects S) (law : UnfinishedBegins) where
   -- what all bytes of a text come to
   abbrev Walks : List ℕ → S → Rest → Mode → List ℕ → Type 0
   Walks bytes s r m q =
-      Becomes e (reading m (text_of m q bytes)) (run e bytes (reached s r)) (acted e (controls_of m q bytes) s) m
+      Becomes e (reading m (text_of m q bytes)) (run e bytes (make_reached s r)) (after_controls e (controls_of m q bytes) s) m
       (text_of m q bytes) (rest_with e s (base r m q) bytes)
 
   carry : (m : Mode) (w v : List ℕ) (at to : Reached S) (s t : S) (left now : Rest) → w ≡ v → at ≡ to → s ≡ t → left ≡ now
@@ -67,14 +67,14 @@ module _ {S : Type 0} (e : Effects S) (law : UnfinishedBegins) where
       (subst (λ x. Becomes e (reading m x) at s m x left) same is)))
 
   stays : (s : S) (r : Rest) (m : Mode) (q : List ℕ) → St e s r m q → IsSome (reading m q)
-      → Becomes e (reading m q) (reached s r) s m q (base r m q)
+      → Becomes e (reading m q) (make_reached s r) s m q (base r m q)
   stays s r m q st some = ⊎_elim
       (λ (empty : (q ≡ []) × (r.text ≡ []) × (m ≡ e.mode_of s)).
       absurd (subst (λ xs. IsSome (reading m xs)) empty.0 some))
-      (λ others. subst (Becomes e (reading m q) (reached s r) s m q) (sym (base-some r m q (some-text some)))
+      (λ others. subst (Becomes e (reading m q) (make_reached s r) s m q) (sym (base_some r m q (some-text some)))
       (⊎_elim
-      (λ plain. subst (λ x. Becomes e x (reached s r) s m q r) (sym plain.1) (refl, st))
-      (λ strings. subst (λ x. Becomes e x (reached s r) s m q r) (sym strings.1) (refl, st))
+      (λ plain. subst (λ x. Becomes e x (make_reached s r) s m q r) (sym plain.1) (refl, st))
+      (λ strings. subst (λ x. Becomes e x (make_reached s r) s m q r) (sym strings.1) (refl, st))
       others))
       st
     where
@@ -84,10 +84,10 @@ module _ {S : Type 0} (e : Effects S) (law : UnfinishedBegins) where
   -- nothing is left to be read behind a unit or a drop
   over-walks : (m : Mode) (t bytes : List ℕ) (at : Reached S) (s : S) (left : Rest) → bytes ≡ []
       → Becomes e (reading m t) at s m t left
-      → Becomes e (reading m (text_of m t bytes)) (run e bytes at) (acted e (controls_of m t bytes) s) m (text_of m t bytes)
+      → Becomes e (reading m (text_of m t bytes)) (run e bytes at) (after_controls e (controls_of m t bytes) s) m (text_of m t bytes)
       (rest_with e s left bytes)
   over-walks m t bytes at s left nothing is =
-      subst (λ xs. Becomes e (reading m (text_of m t xs)) (run e xs at) (acted e (controls_of m t xs) s) m (text_of m t xs)
+      subst (λ xs. Becomes e (reading m (text_of m t xs)) (run e xs at) (after_controls e (controls_of m t xs) s) m (text_of m t xs)
       (rest_with e s left xs))
       (sym nothing) is
 
@@ -99,7 +99,7 @@ module _ {S : Type 0} (e : Effects S) (law : UnfinishedBegins) where
     read-now : rest_with e s (base r m q) (b ∷ bytes)
         ≡ rest_with e (cond (acts_in (reading m q) b) (e.on_control b s) s) (read_on (reading m q) (e.mode_of s) (base r m q) b) bytes
     read-now = ap (λ now. rest_with e (cond (acts_in now b) (e.on_control b s) s) (read_on now (e.mode_of s) (base r m q) b) bytes)
-        (base-reads e s r m q st)
+        (base_reads e s r m q st)
 
     left-now : is_left_out (reading m q) b ≡ true → read_on (reading m q) (e.mode_of s) (base r m q) b ≡ base r m q
     left-now out = cond-true _ _ _ (or_left _ _ out)
@@ -107,18 +107,18 @@ module _ {S : Type 0} (e : Effects S) (law : UnfinishedBegins) where
     acting : acts_in (reading m q) b ≡ true → Walks (b ∷ bytes) s r m q
     acting act =
         let out : is_left_out (reading m q) b ≡ true = or_left _ _ act in
-        let p : (step e b (reached s r) ≡ reached (e.on_control b s) r) × St e (e.on_control b s) r m q =
+        let p : (step e b (make_reached s r) ≡ make_reached (e.on_control b s) r) × St e (e.on_control b s) r m q =
         step-acts e s r m q b st act in
         let text : text_of m q (b ∷ bytes) ≡ text_of m q bytes = cond-true _ _ _ out in
         let controls : controls_of m q (b ∷ bytes) ≡ b ∷ controls_of m q bytes = cond-true _ _ _ act in
         let state : cond (acts_in (reading m q) b) (e.on_control b s) s ≡ e.on_control b s = cond-true _ _ _ act in
         let left : rest_with e s (base r m q) (b ∷ bytes) ≡ rest_with e (e.on_control b s) (base r m q) bytes =
         read-now ∙ (λ i. rest_with e (state i) (left-now out i) bytes) in
-        carry m (text_of m q bytes) (text_of m q (b ∷ bytes)) (run e bytes (reached (e.on_control b s) r))
-        (run e bytes (step e b (reached s r))) (acted e (controls_of m q bytes) (e.on_control b s))
-        (acted e (controls_of m q (b ∷ bytes)) s)
+        carry m (text_of m q bytes) (text_of m q (b ∷ bytes)) (run e bytes (make_reached (e.on_control b s) r))
+        (run e bytes (step e b (make_reached s r))) (after_controls e (controls_of m q bytes) (e.on_control b s))
+        (after_controls e (controls_of m q (b ∷ bytes)) s)
         (rest_with e (e.on_control b s) (base r m q) bytes) (rest_with e s (base r m q) (b ∷ bytes))
-        (sym text) (ap (run e bytes) (sym p.0)) (ap (λ xs. acted e xs s) (sym controls)) (sym left)
+        (sym text) (ap (run e bytes) (sym p.0)) (ap (λ xs. after_controls e xs s) (sym controls)) (sym left)
         (again (e.on_control b s) r q p.1 (subst (λ xs. IsSome (reading m xs)) text some))
 
     ignoring : acts_in (reading m q) b ≡ false → is_ignored_in (reading m q) b ≡ true → Walks (b ∷ bytes) s r m q
@@ -130,11 +130,11 @@ module _ {S : Type 0} (e : Effects S) (law : UnfinishedBegins) where
         let state : cond (acts_in (reading m q) b) (e.on_control b s) s ≡ s = cond-false _ _ _ act in
         let left : rest_with e s (base r m q) (b ∷ bytes) ≡ rest_with e s (base r m q) bytes =
         read-now ∙ (λ i. rest_with e (state i) (left-now out i) bytes) in
-        carry m (text_of m q bytes) (text_of m q (b ∷ bytes)) (run e bytes (reached s r))
-        (run e bytes (step e b (reached s r))) (acted e (controls_of m q bytes) s) (acted e (controls_of m q (b ∷ bytes)) s)
+        carry m (text_of m q bytes) (text_of m q (b ∷ bytes)) (run e bytes (make_reached s r))
+        (run e bytes (step e b (make_reached s r))) (after_controls e (controls_of m q bytes) s) (after_controls e (controls_of m q (b ∷ bytes)) s)
         (rest_with e s (base r m q) bytes) (rest_with e s (base r m q) (b ∷ bytes))
-        (sym text) (ap (run e bytes) (sym (step-ignored e s r m q b st act ignored)))
-        (ap (λ xs. acted e xs s) (sym controls)) (sym left)
+        (sym text) (ap (run e bytes) (sym (step_ignored e s r m q b st act ignored)))
+        (ap (λ xs. after_controls e xs s) (sym controls)) (sym left)
         (again s r q st (subst (λ xs. IsSome (reading m xs)) text some))
 
     growing : acts_in (reading m q) b ≡ false → is_ignored_in (reading m q) b ≡ false → Walks (b ∷ bytes) s r m q
@@ -148,43 +148,43 @@ module _ {S : Type 0} (e : Effects S) (law : UnfinishedBegins) where
         let more : (more : List ℕ) × (text_of m (q ++ b ∷ []) bytes ≡ (q ++ b ∷ []) ++ more) =
         extends m (q ++ b ∷ []) bytes in
         let here : IsSome (reading m (q ++ b ∷ [])) =
-        front-some law m (q ++ b ∷ []) more.0 (some-more q b)
+        front_some law m (q ++ b ∷ []) more.0 (some_more q b)
         (subst (λ xs. IsSome (reading m xs)) more.1 there) in
         let state : cond (acts_in (reading m q) b) (e.on_control b s) s ≡ s = cond-false _ _ _ act in
         let left : rest_with e s (base r m q) (b ∷ bytes) ≡ rest_with e s next bytes =
         read-now ∙ ap (λ x. rest_with e x next bytes) state in
-        carry m (text_of m (q ++ b ∷ []) bytes) (text_of m q (b ∷ bytes)) (run e bytes (step e b (reached s r)))
-        (run e bytes (step e b (reached s r))) (acted e (controls_of m (q ++ b ∷ []) bytes) s)
-        (acted e (controls_of m q (b ∷ bytes)) s)
+        carry m (text_of m (q ++ b ∷ []) bytes) (text_of m q (b ∷ bytes)) (run e bytes (step e b (make_reached s r)))
+        (run e bytes (step e b (make_reached s r))) (after_controls e (controls_of m (q ++ b ∷ []) bytes) s)
+        (after_controls e (controls_of m q (b ∷ bytes)) s)
         (rest_with e s next bytes) (rest_with e s (base r m q) (b ∷ bytes))
-        (sym text) refl (ap (λ xs. acted e xs s) (sym controls)) (sym left)
-        (by-reading (reading m (q ++ b ∷ [])) refl there (step-text e s r m q b st part here))
+        (sym text) refl (ap (λ xs. after_controls e xs s) (sym controls)) (sym left)
+        (by-reading (reading m (q ++ b ∷ [])) refl there (step_text e s r m q b st part here))
       where
         next : Rest
         next = read_on (reading m q) (e.mode_of s) (base r m q) b
 
         by-reading : (now : Reading) → reading m (q ++ b ∷ []) ≡ now
             → IsSome (reading m (text_of m (q ++ b ∷ []) bytes))
-            → Becomes e now (step e b (reached s r)) s m (q ++ b ∷ []) next
-            → Becomes e (reading m (text_of m (q ++ b ∷ []) bytes)) (run e bytes (step e b (reached s r)))
-            (acted e (controls_of m (q ++ b ∷ []) bytes) s) m (text_of m (q ++ b ∷ []) bytes) (rest_with e s next bytes)
+            → Becomes e now (step e b (make_reached s r)) s m (q ++ b ∷ []) next
+            → Becomes e (reading m (text_of m (q ++ b ∷ []) bytes)) (run e bytes (step e b (make_reached s r)))
+            (after_controls e (controls_of m (q ++ b ∷ []) bytes) s) m (text_of m (q ++ b ∷ []) bytes) (rest_with e s next bytes)
         by-reading (unfinished k) is is_some becomes =
             subst (λ x. Becomes e (reading m (text_of m (q ++ b ∷ []) bytes)) (run e bytes x)
-            (acted e (controls_of m (q ++ b ∷ []) bytes) s) m (text_of m (q ++ b ∷ []) bytes) (rest_with e s next bytes)) (sym becomes.0)
-            (subst (λ x. Becomes e (reading m (text_of m (q ++ b ∷ []) bytes)) (run e bytes (reached s next))
-            (acted e (controls_of m (q ++ b ∷ []) bytes) s) m (text_of m (q ++ b ∷ []) bytes) (rest_with e s x bytes))
-            (base-some next m (q ++ b ∷ []) (some-more q b))
+            (after_controls e (controls_of m (q ++ b ∷ []) bytes) s) m (text_of m (q ++ b ∷ []) bytes) (rest_with e s next bytes)) (sym becomes.0)
+            (subst (λ x. Becomes e (reading m (text_of m (q ++ b ∷ []) bytes)) (run e bytes (make_reached s next))
+            (after_controls e (controls_of m (q ++ b ∷ []) bytes) s) m (text_of m (q ++ b ∷ []) bytes) (rest_with e s x bytes))
+            (base_some next m (q ++ b ∷ []) (some_more q b))
             (again s next (q ++ b ∷ []) becomes.1 is_some))
         by-reading (whole u) is is_some becomes =
-            over-walks m (q ++ b ∷ []) bytes (step e b (reached s r)) s next
-            (over-alone law m (q ++ b ∷ []) bytes (some-more q b) (λ g. subst Goes is g)
+            over-walks m (q ++ b ∷ []) bytes (step e b (make_reached s r)) s next
+            (over_alone law m (q ++ b ∷ []) bytes (some_more q b) (λ g. subst Goes is g)
             (λ x. ap (λ y. is_left_out y x) is) is_some)
-            (subst (λ x. Becomes e x (step e b (reached s r)) s m (q ++ b ∷ []) next) (sym is) becomes)
+            (subst (λ x. Becomes e x (step e b (make_reached s r)) s m (q ++ b ∷ []) next) (sym is) becomes)
         by-reading dropped is is_some becomes =
-            over-walks m (q ++ b ∷ []) bytes (step e b (reached s r)) s next
-            (over-alone law m (q ++ b ∷ []) bytes (some-more q b) (λ g. subst Goes is g)
+            over-walks m (q ++ b ∷ []) bytes (step e b (make_reached s r)) s next
+            (over_alone law m (q ++ b ∷ []) bytes (some_more q b) (λ g. subst Goes is g)
             (λ x. ap (λ y. is_left_out y x) is) is_some)
-            (subst (λ x. Becomes e x (step e b (reached s r)) s m (q ++ b ∷ []) next) (sym is) becomes)
+            (subst (λ x. Becomes e x (step e b (make_reached s r)) s m (q ++ b ∷ []) next) (sym is) becomes)
         by-reading none is is_some becomes = absurd becomes
 
     walk-more : Walks (b ∷ bytes) s r m q

@@ -3,31 +3,31 @@ use Rattle.std.proofs.Common.{◌≡◌, ℕ, Bool, true, false, not, cond, ◌=
 use Rattle.std.specs.Prelude.{nat_le, nat_lt, if◌then◌else◌}
 use Rattle.std.proofs.lemmas.Bool.{and_left, and_parts, cond-true, cond-false, eqb-true}
 use Rattle.std.proofs.lemmas.Bool.Decides.{nat_tests}
-use Rattle.vt_chars.specs.Utf8.{code_of, decoded, is_begun, is_second, is_tail, is_well_formed, within}
+use Rattle.vt_chars.specs.Utf8.{code_of, decoding_of, is_begun, is_second, is_tail, is_well_formed, within}
 use Rattle.vt_chars.specs.declared.decoded.Decoded.TheVariants.{Character, Unfinished, Malformed}
-use Rattle.vt_units.proofs.Readings.{short-reading}
-use Rattle.vt_units.proofs.Runs.{any-cut}
-use Rattle.vt_units.specs.Answer.{Settled, Taken, acts_in, answer, rest_after, goes_on, joined, joined_by, kept, settled, settled_by, taken, took, vanishes_in}
+use Rattle.vt_units.proofs.Readings.{short_reading}
+use Rattle.vt_units.proofs.Runs.{any_cut}
+use Rattle.vt_units.specs.Answer.{RestBefore, ByteOutcome, acts_in, answer, rest_after, goes_on, outcome_of_text, outcome_by_reading, unbroken_rest, rest_before, rest_before_by, make_outcome, byte_outcome, vanishes_in}
 use Rattle.vt_units.specs.Bytes.{decodes, is_printable}
 use Rattle.vt_units.specs.Characters.{AreTextsOf, IsTextOf, is_shown}
 use Rattle.vt_units.specs.Laws.{PrintablesAreCharacters}
 use Rattle.vt_units.specs.Reading.{Reading, begins_csi, character, character_reading, reading, unfinished, whole}
-use Rattle.vt_units.specs.Rest.{Rest, fresh, grown}
-use Rattle.vt_units.specs.Run.{Effects, Reached, effects_of, reached, run, step}
+use Rattle.vt_units.specs.Rest.{Rest, fresh, rest_with_byte}
+use Rattle.vt_units.specs.Run.{Effects, Reached, effects_of, make_reached, run, step}
 use Rattle.vt_units.specs.declared.mode.Mode.{Mode}
 use Rattle.vt_units.specs.declared.then.Then as then
 use Rattle.vt_units.specs.declared.unit.Unit as units
 
 -- one character more
-pub texts-more : (text : List ℕ) (codes : List ℕ) (first : List ℕ) (code : ℕ) → AreTextsOf text codes
+pub texts_more : (text : List ℕ) (codes : List ℕ) (first : List ℕ) (code : ℕ) → AreTextsOf text codes
     → IsTextOf first code → AreTextsOf (text ++ first) (codes ++ code ∷ [])
-texts-more text [] first code are is =
+texts_more text [] first code are is =
     (first, [], ap (λ t. t ++ first) are ∙ sym (append-nil first), is, refl)
-texts-more text (c ∷ codes) first code (front, more, joined, one, others) is =
-    (front, more ++ first, ap (λ t. t ++ first) joined ∙ append_assoc front more first, one, texts-more more codes first code others is)
+texts_more text (c ∷ codes) first code (front, more, outcome_of_text, one, others) is =
+    (front, more ++ first, ap (λ t. t ++ first) outcome_of_text ∙ append_assoc front more first, one, texts_more more codes first code others is)
 
 -- what is decoded as a character is well formed
-pub well : (t : List ℕ) (code : ℕ) → decoded t ≡ Character code → (is_well_formed t ≡ true) × (code_of t ≡ code)
+pub well : (t : List ℕ) (code : ℕ) → decoding_of t ≡ Character code → (is_well_formed t ≡ true) × (code_of t ≡ code)
 well t code is = by (is_well_formed t) (is_begun t) refl is
   where
     by : (a b : Bool) → is_well_formed t ≡ a → cond a (Character (code_of t)) (cond b Unfinished Malformed) ≡ Character code
@@ -37,15 +37,15 @@ well t code is = by (is_well_formed t) (is_begun t) refl is
     by false false test same = absurd (let e : ⊥ = cc in e)
 
 -- a text that begins with a byte of a character of more than one
-char-reading : (m : Mode) (a : ℕ) (more : List ℕ) → length more ≤ 3 → 0xC2 ≤ a → decodes m ≡ true
+char_reading : (m : Mode) (a : ℕ) (more : List ℕ) → length more ≤ 3 → 0xC2 ≤ a → decodes m ≡ true
     → begins_csi (a ∷ more) ≡ false
-    → reading m (a ∷ more) ≡ character_reading (a ∷ more) (decoded (a ∷ more))
-char-reading m a more short high decoding plain =
+    → reading m (a ∷ more) ≡ character_reading (a ∷ more) (decoding_of (a ∷ more))
+char_reading m a more short high decoding plain =
     let esc : (a == 0x1B) ≡ false = grind (arith, nat_tests, high) in
     let shows = and_parts m.utf8 (not m.display) decoding in
     let csi : (m.display || not m.utf8) ≡ false = both m.display m.utf8 shows.0 shows.1 in
     let low : nat_lt a 0x20 ≡ false = grind (arith, nat_tests, high) in
-    short-reading m (a ∷ more) (omega (arith, short))
+    short_reading m (a ∷ more) (omega (arith, short))
     ∙ cond-false _ _ _ esc
     ∙ cond-false _ _ _ (ap (λ (t : Bool). (a == 0x9B) && t) csi ∙ none (a == 0x9B))
     ∙ cond-false _ _ _ (and_left _ _ low)
@@ -62,62 +62,62 @@ char-reading m a more short high decoding plain =
 
 -- what a byte comes to makes the step
 stepped : {S : Type 0} (e : Effects S) (s : S) (rest : Rest) (m : Mode) (b : ℕ) → e.mode_of s ≡ m
-    → (before : Rest) (got : then.Then) (after : Rest) → settled rest m b ≡ kept before
-    → took before b ≡ taken got after
-    → step e b (reached s rest) ≡ reached (effects_of e (record { bad = false; got = got }) s) after
+    → (before : Rest) (got : then.Then) (after : Rest) → rest_before rest m b ≡ unbroken_rest before
+    → byte_outcome before b ≡ make_outcome got after
+    → step e b (make_reached s rest) ≡ make_reached (effects_of e (record { bad = false; got = got }) s) after
 stepped e s rest m b mode before got after left all =
-    ap (λ (n : Mode). reached (effects_of e (answer rest n b) s) (rest_after rest n b)) mode
-    ∙ ap (λ (l : Settled). reached (effects_of e (record { bad = l.bad; got = (took l.rest b).got }) s) (took l.rest b).rest) left
-    ∙ ap (λ (t : Taken). reached (effects_of e (record { bad = false; got = t.got }) s) t.rest) all
+    ap (λ (n : Mode). make_reached (effects_of e (answer rest n b) s) (rest_after rest n b)) mode
+    ∙ ap (λ (l : RestBefore). make_reached (effects_of e (record { bad = l.bad; got = (byte_outcome l.rest b).got }) s) (byte_outcome l.rest b).rest) left
+    ∙ ap (λ (t : ByteOutcome). make_reached (effects_of e (record { bad = false; got = t.got }) s) t.rest) all
 
 -- the first byte of a character of more than one
-step-first : {S : Type 0} (e : Effects S) (s : S) (rest : Rest) (m : Mode) (b : ℕ) → e.mode_of s ≡ m
+step_first : {S : Type 0} (e : Effects S) (s : S) (rest : Rest) (m : Mode) (b : ℕ) → e.mode_of s ≡ m
     → rest.text ≡ [] → reading m (b ∷ []) ≡ unfinished character
-    → step e b (reached s rest) ≡ reached s (record { mode = m; text = b ∷ [] })
-step-first e s rest m b mode nothing is =
-    let left : settled rest m b ≡ kept (fresh m) = ap (λ t. settled_by (reading rest.mode t) rest m b) nothing in
-    let all : took (fresh m) b ≡ taken then.Then.More (grown (fresh m) b) =
-    ap (λ r. joined_by r (fresh m) b) is in
-    stepped e s rest m b mode (fresh m) then.Then.More (grown (fresh m) b) left all
+    → step e b (make_reached s rest) ≡ make_reached s (record { mode = m; text = b ∷ [] })
+step_first e s rest m b mode nothing is =
+    let left : rest_before rest m b ≡ unbroken_rest (fresh m) = ap (λ t. rest_before_by (reading rest.mode t) rest m b) nothing in
+    let all : byte_outcome (fresh m) b ≡ make_outcome then.Then.More (rest_with_byte (fresh m) b) =
+    ap (λ r. outcome_by_reading r (fresh m) b) is in
+    stepped e s rest m b mode (fresh m) then.Then.More (rest_with_byte (fresh m) b) left all
 
 -- a byte behind the beginning of a character joins it
-took-joins : (m : Mode) (t : List ℕ) (b : ℕ) → reading m t ≡ unfinished character
-    → took (record { mode = m; text = t }) b ≡ joined (record { mode = m; text = t }) b
-took-joins m t b is =
+byte_outcome_joins : (m : Mode) (t : List ℕ) (b : ℕ) → reading m t ≡ unfinished character
+    → byte_outcome (record { mode = m; text = t }) b ≡ outcome_of_text (record { mode = m; text = t }) b
+byte_outcome_joins m t b is =
     let old : Rest = record { mode = m; text = t } in
-    ap (λ (now : Reading). if acts_in now b then taken (then.Then.Act b) old
-    else if vanishes_in now b then taken then.Then.More old
-    else joined old b) is
+    ap (λ (now : Reading). if acts_in now b then make_outcome (then.Then.Act b) old
+    else if vanishes_in now b then make_outcome then.Then.More old
+    else outcome_of_text old b) is
 
 stays : (m : Mode) (t : List ℕ) (b : ℕ) (r : Reading) → reading m t ≡ unfinished character
     → reading m (t ++ b ∷ []) ≡ r → goes_on r ≡ true
-    → settled (record { mode = m; text = t }) m b ≡ kept (record { mode = m; text = t })
+    → rest_before (record { mode = m; text = t }) m b ≡ unbroken_rest (record { mode = m; text = t })
 stays m t b r is next goes =
     let old : Rest = record { mode = m; text = t } in
-    ap (λ (now : Reading). settled_by now old m b) is ∙ cond-true _ _ _ (ap goes_on next ∙ goes)
+    ap (λ (now : Reading). rest_before_by now old m b) is ∙ cond-true _ _ _ (ap goes_on next ∙ goes)
 
-step-more : {S : Type 0} (e : Effects S) (s : S) (m : Mode) (t : List ℕ) (b : ℕ) → e.mode_of s ≡ m
+step_more : {S : Type 0} (e : Effects S) (s : S) (m : Mode) (t : List ℕ) (b : ℕ) → e.mode_of s ≡ m
     → reading m t ≡ unfinished character → reading m (t ++ b ∷ []) ≡ unfinished character
-    → step e b (reached s (record { mode = m; text = t })) ≡ reached s (record { mode = m; text = t ++ b ∷ [] })
-step-more e s m t b mode is next =
+    → step e b (make_reached s (record { mode = m; text = t })) ≡ make_reached s (record { mode = m; text = t ++ b ∷ [] })
+step_more e s m t b mode is next =
     let old : Rest = record { mode = m; text = t } in
-    stepped e s old m b mode old then.Then.More (grown old b) (stays m t b (unfinished character) is next refl)
-    (took-joins m t b is ∙ ap (λ r. joined_by r old b) next)
+    stepped e s old m b mode old then.Then.More (rest_with_byte old b) (stays m t b (unfinished character) is next refl)
+    (byte_outcome_joins m t b is ∙ ap (λ r. outcome_by_reading r old b) next)
 
-step-last : {S : Type 0} (e : Effects S) (s : S) (m : Mode) (t : List ℕ) (b : ℕ) (u : units.Unit) → e.mode_of s ≡ m
+step_last : {S : Type 0} (e : Effects S) (s : S) (m : Mode) (t : List ℕ) (b : ℕ) (u : units.Unit) → e.mode_of s ≡ m
     → reading m t ≡ unfinished character → reading m (t ++ b ∷ []) ≡ whole u
-    → step e b (reached s (record { mode = m; text = t })) ≡ reached (e.on_unit u s) (fresh m)
-step-last e s m t b u mode is next =
+    → step e b (make_reached s (record { mode = m; text = t })) ≡ make_reached (e.on_unit u s) (fresh m)
+step_last e s m t b u mode is next =
     let old : Rest = record { mode = m; text = t } in
     stepped e s old m b mode old (then.Then.Unit u) (fresh m) (stays m t b (whole u) is next refl)
-    (took-joins m t b is ∙ ap (λ r. joined_by r old b) next)
+    (byte_outcome_joins m t b is ∙ ap (λ r. outcome_by_reading r old b) next)
 
 -- a beginning of a character
-begun-reading : (m : Mode) (a : ℕ) (more : List ℕ) → length more ≤ 3 → 0xC2 ≤ a → decodes m ≡ true
+begun_reading : (m : Mode) (a : ℕ) (more : List ℕ) → length more ≤ 3 → 0xC2 ≤ a → decodes m ≡ true
     → begins_csi (a ∷ more) ≡ false → is_well_formed (a ∷ more) ≡ false → is_begun (a ∷ more) ≡ true
     → reading m (a ∷ more) ≡ unfinished character
-begun-reading m a more short high decoding plain ill begun =
-    char-reading m a more short high decoding plain
+begun_reading m a more short high decoding plain ill begun =
+    char_reading m a more short high decoding plain
     ∙ ap (character_reading (a ∷ more)) (cond-false _ _ _ ill ∙ cond-true _ _ _ begun)
 
 off : (t : Bool) → not t ≡ true → t ≡ false
@@ -130,13 +130,13 @@ whole-reading : (m : Mode) (a : ℕ) (more : List ℕ) (code : ℕ) → length m
     → reading m (a ∷ more) ≡ whole (units.Unit.Char code)
 whole-reading m a more code short high decoding plain is =
     let parts = and_parts (nat_le 0x20 code) (not (within 0x7F 0x9F code)) is.shown in
-    char-reading m a more short high decoding plain
+    char_reading m a more short high decoding plain
     ∙ ap (character_reading (a ∷ more)) is.whole
     ∙ ap whole (cond-false _ _ _ (off (within 0x7F 0x9F code) parts.1))
 
 -- U+009B isn't shown
-no-csi : (a b code : ℕ) → code_of (a ∷ b ∷ []) ≡ code → is_shown code ≡ true → (a == 0xC2 && b == 0x9B) ≡ false
-no-csi a b code is shown = by (a == 0xC2 && b == 0x9B) refl
+no_csi : (a b code : ℕ) → code_of (a ∷ b ∷ []) ≡ code → is_shown code ≡ true → (a == 0xC2 && b == 0x9B) ≡ false
+no_csi a b code is shown = by (a == 0xC2 && b == 0x9B) refl
   where
     by : (test : Bool) → (a == 0xC2 && b == 0x9B) ≡ test → (a == 0xC2 && b == 0x9B) ≡ false
     by false same = same
@@ -148,8 +148,8 @@ no-csi a b code is shown = by (a == 0xC2 && b == 0x9B) refl
         let hidden : true ≡ false = sym shown ∙ ap is_shown value in
         absurd (let e : ⊥ = cc in e)
 
-not-c2 : (a b : ℕ) → 0xE0 ≤ a → (a == 0xC2 && b == 0x9B) ≡ false
-not-c2 a b high =
+not_c2 : (a b : ℕ) → 0xE0 ≤ a → (a == 0xC2 && b == 0x9B) ≡ false
+not_c2 a b high =
     let other : (a == 0xC2) ≡ false = grind (arith, nat_tests, high) in
     ap (λ (t : Bool). t && (b == 0x9B)) other
 
@@ -157,7 +157,7 @@ module _ {S : Type 0} (e : Effects S) (printables : PrintablesAreCharacters) (s 
     (nothing : rest.text ≡ []) (decoding : decodes m ≡ true)
   where
     abbrev Runs : List ℕ → ℕ → Type 0
-    Runs first code = run e first (reached s rest) ≡ reached (e.on_unit (units.Unit.Char code) s) (fresh m)
+    Runs first code = run e first (make_reached s rest) ≡ make_reached (e.on_unit (units.Unit.Char code) s) (fresh m)
 
     one-run : (a code : ℕ) → IsTextOf (a ∷ []) code → Runs (a ∷ []) code
     one-run a code is =
@@ -168,9 +168,9 @@ module _ {S : Type 0} (e : Effects S) (printables : PrintablesAreCharacters) (s 
         let out : within 0x7F 0x9F a ≡ false = off (within 0x7F 0x9F a) parts.1 in
         let printable : is_printable a ≡ true = grind (arith, nat_tests, low, parts.0, out) in
         let one = printables rest m a nothing decoding printable in
-        ap (λ (n : Mode). reached (effects_of e (answer rest n a) s) (rest_after rest n a)) mode
-        ∙ (λ i. reached (effects_of e (one.0 i) s) (one.1 i))
-        ∙ ap (λ (c : ℕ). reached (e.on_unit (units.Unit.Char c) s) (fresh m)) formed.1
+        ap (λ (n : Mode). make_reached (effects_of e (answer rest n a) s) (rest_after rest n a)) mode
+        ∙ (λ i. make_reached (effects_of e (one.0 i) s) (one.1 i))
+        ∙ ap (λ (c : ℕ). make_reached (e.on_unit (units.Unit.Char c) s) (fresh m)) formed.1
 
     two-run : (a b code : ℕ) → IsTextOf (a ∷ b ∷ []) code → Runs (a ∷ b ∷ []) code
     two-run a b code is =
@@ -180,12 +180,12 @@ module _ {S : Type 0} (e : Effects S) (printables : PrintablesAreCharacters) (s 
         let ill : nat_le a 0x7F ≡ false = grind (arith, nat_tests, high) in
         let begun : within 0xC2 0xF4 a ≡ true = grind (arith, nat_tests, parts.0) in
         let first : reading m (a ∷ []) ≡ unfinished character =
-        begun-reading m a [] (omega arith) high decoding refl ill begun in
-        let plain : begins_csi (a ∷ b ∷ []) ≡ false = no-csi a b code formed.1 is.shown in
+        begun_reading m a [] (omega arith) high decoding refl ill begun in
+        let plain : begins_csi (a ∷ b ∷ []) ≡ false = no_csi a b code formed.1 is.shown in
         let both : reading m (a ∷ b ∷ []) ≡ whole (units.Unit.Char code) =
         whole-reading m a (b ∷ []) code (omega arith) high decoding plain is in
-        ap (step e b) (step-first e s rest m a mode nothing first)
-        ∙ step-last e s m (a ∷ []) b (units.Unit.Char code) mode first both
+        ap (step e b) (step_first e s rest m a mode nothing first)
+        ∙ step_last e s m (a ∷ []) b (units.Unit.Char code) mode first both
 
     three-run : (a b c code : ℕ) → IsTextOf (a ∷ b ∷ c ∷ []) code → Runs (a ∷ b ∷ c ∷ []) code
     three-run a b c code is =
@@ -197,18 +197,18 @@ module _ {S : Type 0} (e : Effects S) (printables : PrintablesAreCharacters) (s 
         let ill : nat_le a 0x7F ≡ false = grind (arith, nat_tests, high) in
         let begun : within 0xC2 0xF4 a ≡ true = grind (arith, nat_tests, front.0) in
         let first : reading m (a ∷ []) ≡ unfinished character =
-        begun-reading m a [] (omega arith) multi decoding refl ill begun in
-        let plain : (a == 0xC2 && b == 0x9B) ≡ false = not-c2 a b high in
+        begun_reading m a [] (omega arith) multi decoding refl ill begun in
+        let plain : (a == 0xC2 && b == 0x9B) ≡ false = not_c2 a b high in
         let longer : within 0xC2 0xDF a ≡ false = grind (arith, nat_tests, high) in
         let wide : within 0xE0 0xF4 a ≡ true = grind (arith, nat_tests, front.0) in
         let second : reading m (a ∷ b ∷ []) ≡ unfinished character =
-        begun-reading m a (b ∷ []) (omega arith) multi decoding plain (and_left _ _ longer)
+        begun_reading m a (b ∷ []) (omega arith) multi decoding plain (and_left _ _ longer)
         (ap (λ (t : Bool). t && is_second a b) wide ∙ front.1) in
         let all : reading m (a ∷ b ∷ c ∷ []) ≡ whole (units.Unit.Char code) =
         whole-reading m a (b ∷ c ∷ []) code (omega arith) multi decoding plain is in
-        ap (λ (at : Reached S). step e c (step e b at)) (step-first e s rest m a mode nothing first)
-        ∙ ap (step e c) (step-more e s m (a ∷ []) b mode first second)
-        ∙ step-last e s m (a ∷ b ∷ []) c (units.Unit.Char code) mode second all
+        ap (λ (at : Reached S). step e c (step e b at)) (step_first e s rest m a mode nothing first)
+        ∙ ap (step e c) (step_more e s m (a ∷ []) b mode first second)
+        ∙ step_last e s m (a ∷ b ∷ []) c (units.Unit.Char code) mode second all
 
     four-run : (a b c d code : ℕ) → IsTextOf (a ∷ b ∷ c ∷ d ∷ []) code → Runs (a ∷ b ∷ c ∷ d ∷ []) code
     four-run a b c d code is =
@@ -221,23 +221,23 @@ module _ {S : Type 0} (e : Effects S) (printables : PrintablesAreCharacters) (s 
         let ill : nat_le a 0x7F ≡ false = grind (arith, nat_tests, high) in
         let begun : within 0xC2 0xF4 a ≡ true = grind (arith, nat_tests, front.0) in
         let first : reading m (a ∷ []) ≡ unfinished character =
-        begun-reading m a [] (omega arith) multi decoding refl ill begun in
-        let plain : (a == 0xC2 && b == 0x9B) ≡ false = not-c2 a b (omega (arith, high)) in
+        begun_reading m a [] (omega arith) multi decoding refl ill begun in
+        let plain : (a == 0xC2 && b == 0x9B) ≡ false = not_c2 a b (omega (arith, high)) in
         let longer : within 0xC2 0xDF a ≡ false = grind (arith, nat_tests, high) in
         let longest : within 0xE0 0xEF a ≡ false = grind (arith, nat_tests, high) in
         let wide : within 0xE0 0xF4 a ≡ true = grind (arith, nat_tests, front.0) in
         let second : reading m (a ∷ b ∷ []) ≡ unfinished character =
-        begun-reading m a (b ∷ []) (omega arith) multi decoding plain (and_left _ _ longer)
+        begun_reading m a (b ∷ []) (omega arith) multi decoding plain (and_left _ _ longer)
         (ap (λ (t : Bool). t && is_second a b) wide ∙ front.1) in
         let third : reading m (a ∷ b ∷ c ∷ []) ≡ unfinished character =
-        begun-reading m a (b ∷ c ∷ []) (omega arith) multi decoding plain
+        begun_reading m a (b ∷ c ∷ []) (omega arith) multi decoding plain
         (and_left _ _ (and_left _ _ longest)) parts.0 in
         let all : reading m (a ∷ b ∷ c ∷ d ∷ []) ≡ whole (units.Unit.Char code) =
         whole-reading m a (b ∷ c ∷ d ∷ []) code (omega arith) multi decoding plain is in
-        ap (λ (at : Reached S). step e d (step e c (step e b at))) (step-first e s rest m a mode nothing first)
-        ∙ ap (λ (at : Reached S). step e d (step e c at)) (step-more e s m (a ∷ []) b mode first second)
-        ∙ ap (step e d) (step-more e s m (a ∷ b ∷ []) c mode second third)
-        ∙ step-last e s m (a ∷ b ∷ c ∷ []) d (units.Unit.Char code) mode third all
+        ap (λ (at : Reached S). step e d (step e c (step e b at))) (step_first e s rest m a mode nothing first)
+        ∙ ap (λ (at : Reached S). step e d (step e c at)) (step_more e s m (a ∷ []) b mode first second)
+        ∙ ap (step e d) (step_more e s m (a ∷ b ∷ []) c mode second third)
+        ∙ step_last e s m (a ∷ b ∷ c ∷ []) d (units.Unit.Char code) mode third all
 
     -- the bytes of a character are read as that character
     character-run : (first : List ℕ) (code : ℕ) → IsTextOf first code → Runs first code
@@ -258,21 +258,21 @@ abbrev pub rest_of_codes : List ℕ → Mode → Rest → Rest
 rest_of_codes [] m old = old
 rest_of_codes (code ∷ codes) m old = fresh m
 
-fresh-codes : (codes : List ℕ) (m : Mode) → rest_of_codes codes m (fresh m) ≡ fresh m
-fresh-codes [] m = refl
-fresh-codes (code ∷ codes) m = refl
+fresh_codes : (codes : List ℕ) (m : Mode) → rest_of_codes codes m (fresh m) ≡ fresh m
+fresh_codes [] m = refl
+fresh_codes (code ∷ codes) m = refl
 
 -- where characters leave the mode, text that is characters is run as them
-pub characters-run : {S : Type 0} (e : Effects S) → PrintablesAreCharacters
+pub characters_run : {S : Type 0} (e : Effects S) → PrintablesAreCharacters
     → ((code : ℕ) (s : S) → e.mode_of (e.on_unit (units.Unit.Char code) s) ≡ e.mode_of s)
     → (text codes : List ℕ) (s : S) (rest : Rest) (m : Mode) → e.mode_of s ≡ m → AreTextsOf text codes
     → rest.text ≡ [] → decodes m ≡ true
-    → run e text (reached s rest) ≡ reached (all_shown e codes s) (rest_of_codes codes m rest)
-characters-run e law keeps text [] s rest m mode are nothing decoding =
-    ap (λ (bytes : List ℕ). run e bytes (reached s rest)) are
-characters-run {S = S} e law keeps text (code ∷ codes) s rest m mode (first, more, joined, one, others) nothing decoding =
-    ap (λ (bytes : List ℕ). run e bytes (reached s rest)) joined
-    ∙ any-cut e first more (reached s rest)
+    → run e text (make_reached s rest) ≡ make_reached (all_shown e codes s) (rest_of_codes codes m rest)
+characters_run e law keeps text [] s rest m mode are nothing decoding =
+    ap (λ (bytes : List ℕ). run e bytes (make_reached s rest)) are
+characters_run {S = S} e law keeps text (code ∷ codes) s rest m mode (first, more, outcome_of_text, one, others) nothing decoding =
+    ap (λ (bytes : List ℕ). run e bytes (make_reached s rest)) outcome_of_text
+    ∙ any_cut e first more (make_reached s rest)
     ∙ ap (run e more) (character-run e law s rest m mode nothing decoding first code one)
-    ∙ characters-run e law keeps more codes (e.on_unit (units.Unit.Char code) s) (fresh m) m (keeps code s ∙ mode) others refl decoding
-    ∙ ap (λ (r : Rest). reached (all_shown e codes (e.on_unit (units.Unit.Char code) s)) r) (fresh-codes codes m)
+    ∙ characters_run e law keeps more codes (e.on_unit (units.Unit.Char code) s) (fresh m) m (keeps code s ∙ mode) others refl decoding
+    ∙ ap (λ (r : Rest). make_reached (all_shown e codes (e.on_unit (units.Unit.Char code) s)) r) (fresh_codes codes m)

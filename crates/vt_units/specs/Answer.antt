@@ -2,7 +2,7 @@
 use Rattle.std.specs.Prelude.{ℕ, Bool, true, false, ◌==◌, [], ◌∷◌, ◌++◌, if◌then◌else◌}
 use Rattle.vt_units.specs.Bytes.{acts, interrupts, is_swallowed}
 use Rattle.vt_units.specs.Reading.{Reading, character, sequence, command, string, string_end, whole, dropped, unfinished, none, reading}
-use Rattle.vt_units.specs.Rest.{Rest, fresh, grown}
+use Rattle.vt_units.specs.Rest.{Rest, fresh, rest_with_byte}
 use Rattle.vt_units.specs.declared.mode.Mode.{Mode}
 use Rattle.vt_units.specs.declared.read.Read.{Read}
 use Rattle.vt_units.specs.declared.then.Then as then
@@ -14,32 +14,32 @@ goes_on r = true
 
 -- some texts are units by what follows them: what then is left of the rest before b, and whether
 -- it was a malformed character
-pub record Settled : Type 0 where
+pub record RestBefore : Type 0 where
   pub bad : Bool
   pub rest : Rest
 
-abbrev pub kept : Rest → Settled
-kept r = record { bad = false; rest = r }
+abbrev pub unbroken_rest : Rest → RestBefore
+unbroken_rest r = record { bad = false; rest = r }
 
 -- an unfinished character before a byte that doesn't go on with it is malformed; ESC, and CSI in
 -- byte mode, break a sequence off; behind ESC in a string a byte that isn't \ ends the string and
 -- belongs to the sequence of that ESC
-abbrev pub settled_by : Reading → Rest → Mode → ℕ → Settled
-settled_by (unfinished character) old m b =
-    if goes_on (reading old.mode (old.text ++ b ∷ [])) then kept old
+abbrev pub rest_before_by : Reading → Rest → Mode → ℕ → RestBefore
+rest_before_by (unfinished character) old m b =
+    if goes_on (reading old.mode (old.text ++ b ∷ [])) then unbroken_rest old
     else record { bad = true; rest = fresh m }
-settled_by (unfinished sequence) old m b = kept (if interrupts old.mode b then fresh m else old)
-settled_by (unfinished command) old m b = kept (if interrupts old.mode b then fresh m else old)
-settled_by (unfinished string) old m b =
-    kept (if b == 0x1B then record { mode = m; text = old.text } else old)
-settled_by (unfinished string_end) old m b =
-    kept (if b == 0x5C then old
+rest_before_by (unfinished sequence) old m b = unbroken_rest (if interrupts old.mode b then fresh m else old)
+rest_before_by (unfinished command) old m b = unbroken_rest (if interrupts old.mode b then fresh m else old)
+rest_before_by (unfinished string) old m b =
+    unbroken_rest (if b == 0x1B then record { mode = m; text = old.text } else old)
+rest_before_by (unfinished string_end) old m b =
+    unbroken_rest (if b == 0x5C then old
     else if interrupts old.mode b then fresh m
     else record { mode = old.mode; text = 0x1B ∷ [] })
-settled_by r old m b = kept (fresh m)
+rest_before_by r old m b = unbroken_rest (fresh m)
 
-abbrev pub settled : Rest → Mode → ℕ → Settled
-settled old m b = settled_by (reading old.mode old.text) old m b
+abbrev pub rest_before : Rest → Mode → ℕ → RestBefore
+rest_before old m b = rest_before_by (reading old.mode old.text) old m b
 
 -- the byte acts inside the sequence
 abbrev pub acts_in : Reading → ℕ → Bool
@@ -54,36 +54,36 @@ vanishes_in (unfinished string) b = is_swallowed b
 vanishes_in r b = false
 
 -- what a byte comes to, and the rest after it
-pub record Taken : Type 0 where
+pub record ByteOutcome : Type 0 where
   pub got : then.Then
   pub rest : Rest
 
-abbrev pub taken : then.Then → Rest → Taken
-taken got r = record { got = got; rest = r }
+abbrev pub make_outcome : then.Then → Rest → ByteOutcome
+make_outcome got r = record { got = got; rest = r }
 
 -- by what the text with the byte is
-abbrev pub joined_by : Reading → Rest → ℕ → Taken
-joined_by (whole u) r b = taken (then.Then.Unit u) (fresh r.mode)
-joined_by (unfinished kind) r b = taken then.Then.More (grown r b)
-joined_by dropped r b = taken then.Then.Dropped (fresh r.mode)
-joined_by none r b = taken then.Then.Dropped (fresh r.mode)
+abbrev pub outcome_by_reading : Reading → Rest → ℕ → ByteOutcome
+outcome_by_reading (whole u) r b = make_outcome (then.Then.Unit u) (fresh r.mode)
+outcome_by_reading (unfinished kind) r b = make_outcome then.Then.More (rest_with_byte r b)
+outcome_by_reading dropped r b = make_outcome then.Then.Dropped (fresh r.mode)
+outcome_by_reading none r b = make_outcome then.Then.Dropped (fresh r.mode)
 
-abbrev pub joined : Rest → ℕ → Taken
-joined r b = joined_by (reading r.mode (r.text ++ b ∷ [])) r b
+abbrev pub outcome_of_text : Rest → ℕ → ByteOutcome
+outcome_of_text r b = outcome_by_reading (reading r.mode (r.text ++ b ∷ [])) r b
 
-abbrev pub took : Rest → ℕ → Taken
-took r b =
+abbrev pub byte_outcome : Rest → ℕ → ByteOutcome
+byte_outcome r b =
     let now = reading r.mode r.text in
-    if acts_in now b then taken (then.Then.Act b) r
-    else if vanishes_in now b then taken then.Then.More r
-    else joined r b
+    if acts_in now b then make_outcome (then.Then.Act b) r
+    else if vanishes_in now b then make_outcome then.Then.More r
+    else outcome_of_text r b
 
 -- the answer to b, given with mode m
 abbrev pub answer : Rest → Mode → ℕ → Read
 answer old m b =
-    let s = settled old m b in
-    record { bad = s.bad; got = (took s.rest b).got }
+    let s = rest_before old m b in
+    record { bad = s.bad; got = (byte_outcome s.rest b).got }
 
 -- the rest after b
 abbrev pub rest_after : Rest → Mode → ℕ → Rest
-rest_after old m b = (took (settled old m b).rest b).rest
+rest_after old m b = (byte_outcome (rest_before old m b).rest b).rest

@@ -1,6 +1,6 @@
 -- Text that is whole characters, one after another.
 use Rattle.std.specs.Prelude.{◌≡◌, ℕ, Bool, true, not, ◌&&◌, ◌==◌, ◌<◌, ◌≤◌, nat_le, List, [], ◌∷◌, ◌++◌, length, take}
-use Rattle.vt_chars.specs.Utf8.{decoded, within}
+use Rattle.vt_chars.specs.Utf8.{decoding_of, within}
 use Rattle.vt_chars.specs.declared.decoded.Decoded.{Decoded}
 use Rattle.vt_chars.specs.declared.decoded.Decoded.TheVariants.{Character}
 
@@ -14,7 +14,7 @@ IsHidden d = (code : ℕ) → d ≡ Character code → is_shown code ≡ true �
 
 -- the text is the UTF-8 of this character, which is shown
 pub record IsTextOf (text : List ℕ) (code : ℕ) : Type 0 where
-  pub whole : decoded text ≡ Character code
+  pub whole : decoding_of text ≡ Character code
   pub shown : is_shown code ≡ true
 
 -- the text is the UTF-8 of these characters, which are shown

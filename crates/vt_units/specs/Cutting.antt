@@ -1,30 +1,30 @@
 -- A text cut into pieces and one last rest.
 use Rattle.std.specs.Prelude.{◌≡◌, ◌⊎◌, ℕ, true, false, ◌==◌, List, [], ◌∷◌, ◌++◌, if◌then◌else◌}
 use Rattle.vt_units.specs.Bytes.{interrupts}
-use Rattle.vt_units.specs.Laws.{Event, did, gathering}
-use Rattle.vt_units.specs.Pieces.{acted, controls_of, rest_with, text_of}
+use Rattle.vt_units.specs.Laws.{Event, did, event_effects}
+use Rattle.vt_units.specs.Pieces.{after_controls, controls_of, rest_with, text_of}
 use Rattle.vt_units.specs.Reading.{Kind, Reading, character, sequence, command, string, string_end, whole, dropped, unfinished, none, is_empty, reading}
 use Rattle.vt_units.specs.Rest.{Rest, fresh}
-use Rattle.vt_units.specs.Run.{Effects, Reached, reached, run}
+use Rattle.vt_units.specs.Run.{Effects, Reached, make_reached, run}
 use Rattle.vt_units.specs.Units.{IsUnfinished}
 use Rattle.vt_units.specs.declared.mode.Mode.{Mode}
 use Rattle.vt_units.specs.declared.unit.Unit as units
 
 -- the rest before a piece. Of no text its mode is the state's
-abbrev pub begun : {S : Type 0} → Effects S → Reached S → Rest
-begun e at = if is_empty at.rest.text then fresh (e.mode_of at.state) else at.rest
+abbrev pub rest_before_piece : {S : Type 0} → Effects S → Reached S → Rest
+rest_before_piece e at = if is_empty at.rest.text then fresh (e.mode_of at.state) else at.rest
 
 -- a text of this kind is ended by a byte that isn't part of it. A character that isn't finished is
 -- U+FFFD; ESC, and 9B in byte mode, break a sequence off; a byte behind the ESC of a string that isn't \
 -- ends the string before that ESC, and the next piece begins with it
 abbrev pub IsEnded : {S : Type 0} → Effects S → Kind → Mode → List ℕ → ℕ → S → Rest → Reached S → Type 0
 IsEnded e character m text b s left next =
-    (reading m (text ++ b ∷ []) ≡ none) × (next ≡ reached (e.on_unit (units.Unit.Char 0xFFFD) s) (fresh m))
-IsEnded e sequence m text b s left next = (interrupts m b ≡ true) × (next ≡ reached s (fresh m))
-IsEnded e command m text b s left next = (interrupts m b ≡ true) × (next ≡ reached s (fresh m))
+    (reading m (text ++ b ∷ []) ≡ none) × (next ≡ make_reached (e.on_unit (units.Unit.Char 0xFFFD) s) (fresh m))
+IsEnded e sequence m text b s left next = (interrupts m b ≡ true) × (next ≡ make_reached s (fresh m))
+IsEnded e command m text b s left next = (interrupts m b ≡ true) × (next ≡ make_reached s (fresh m))
 IsEnded e string m text b s left next = ⊥
 IsEnded e string_end m text b s left next =
-    ((b == 0x5C) ≡ false) × (next ≡ reached s (record { mode = left.mode; text = 0x1B ∷ [] }))
+    ((b == 0x5C) ≡ false) × (next ≡ make_reached s (record { mode = left.mode; text = 0x1B ∷ [] }))
 
 abbrev pub IsEndedBefore : {S : Type 0} → Effects S → Kind → Mode → List ℕ → List ℕ → S → Rest → Reached S → Type 0
 IsEndedBefore e k m text [] s left next = ⊥
@@ -33,8 +33,8 @@ IsEndedBefore e k m text (b ∷ more) s left next = IsEnded e k m text b s left 
 -- what a piece comes to, by what its text is: a unit, a sequence that is dropped, or what the bytes
 -- behind it end
 abbrev pub PieceComesTo : {S : Type 0} → Effects S → Reading → Mode → List ℕ → List ℕ → S → Rest → Reached S → Type 0
-PieceComesTo e (whole u) m text more s left next = next ≡ reached (e.on_unit u s) (fresh left.mode)
-PieceComesTo e dropped m text more s left next = next ≡ reached s (fresh left.mode)
+PieceComesTo e (whole u) m text more s left next = next ≡ make_reached (e.on_unit u s) (fresh left.mode)
+PieceComesTo e dropped m text more s left next = next ≡ make_reached s (fresh left.mode)
 PieceComesTo e (unfinished k) m text more s left next = IsEndedBefore e k m text more s left next
 PieceComesTo e none m text more s left next = ⊥
 
@@ -42,19 +42,19 @@ PieceComesTo e none m text more s left next = ⊥
 -- text has its effect
 abbrev pub IsPiece : {S : Type 0} → Effects S → Reached S → List ℕ → List ℕ → Reached S → Type 0
 IsPiece e at bytes more next =
-    let r = begun e at in
+    let r = rest_before_piece e at in
     let text = text_of r.mode r.text bytes in
     PieceComesTo e (reading r.mode text) r.mode text more
-    (acted e (controls_of r.mode r.text bytes) at.state) (rest_with e at.state r bytes) next
+    (after_controls e (controls_of r.mode r.text bytes) at.state) (rest_with e at.state r bytes) next
 
 -- the last bytes: none where no text is, or those of a text that isn't finished. Its control characters
 -- have acted, and the text is the rest
 abbrev pub IsLast : {S : Type 0} → Effects S → Reached S → List ℕ → Reached S → Type 0
 IsLast e at bytes after =
-    let r = begun e at in
+    let r = rest_before_piece e at in
     ((bytes ≡ []) × (at.rest.text ≡ []) × (after ≡ at))
     ⊎ (IsUnfinished r.mode (text_of r.mode r.text bytes)
-    × (after ≡ reached (acted e (controls_of r.mode r.text bytes) at.state) (rest_with e at.state r bytes)))
+    × (after ≡ make_reached (after_controls e (controls_of r.mode r.text bytes) at.state) (rest_with e at.state r bytes)))
 
 -- the bytes of pieces, one after another, and the last ones
 abbrev pub all_bytes : List (List ℕ) → List ℕ → List ℕ
@@ -83,4 +83,4 @@ TextsAreCut =
     (mode_of : List Event → Mode)
     → ((events : List Event) → mode_of (events ++ did (units.Unit.Char 0xFFFD) ∷ []) ≡ mode_of events)
     → (at : Reached (List Event)) (bytes : List ℕ) → IsRest at.rest
-    → IsCut (gathering mode_of) at bytes (run (gathering mode_of) bytes at)
+    → IsCut (event_effects mode_of) at bytes (run (event_effects mode_of) bytes at)

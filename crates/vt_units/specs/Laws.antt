@@ -1,12 +1,12 @@
 -- The laws of runs. Each is of the definitions alone.
 use Rattle.std.specs.Prelude.{◌≡◌, ◌⊎◌, ◌↔◌, ◌<◌, ◌≤◌, ℕ, true, false, ◌==◌, List, [], ◌∷◌, ◌++◌, length, take, Some}
-use Rattle.vt_units.specs.Ahead.{Sequence, taken_ahead}
-use Rattle.vt_units.specs.Answer.{answer, rest_after, settled}
+use Rattle.vt_units.specs.WholeSequence.{Sequence, taken_ahead}
+use Rattle.vt_units.specs.Answer.{answer, rest_after, rest_before}
 use Rattle.vt_units.specs.Bytes.{decodes, interrupts, is_control, is_printable}
 use Rattle.vt_units.specs.Pieces.{HasEffect, controls_of, rest_with, text_of}
 use Rattle.vt_units.specs.Reading.{character, sequence, command, string_end, dropped, unfinished, none, reading, whole}
 use Rattle.vt_units.specs.Rest.{Rest, fresh}
-use Rattle.vt_units.specs.Run.{Effects, Reached, Runs, reached, run}
+use Rattle.vt_units.specs.Run.{Effects, Reached, Runs, make_reached, run}
 use Rattle.vt_units.specs.Units.{IsUnfinished}
 use Rattle.vt_units.specs.declared.mode.Mode.{Mode}
 use Rattle.vt_units.specs.declared.then.Then as then
@@ -18,8 +18,8 @@ pub data Event : Type 0 where
   did : units.Unit → Event
 
 -- the list of events, with any modes: what each other state is made from
-abbrev pub gathering : (List Event → Mode) → Effects (List Event)
-gathering mode_of = record {
+abbrev pub event_effects : (List Event → Mode) → Effects (List Event)
+event_effects mode_of = record {
   mode_of = mode_of;
   on_control = λ c events. events ++ act c ∷ [];
   on_unit = λ u events. events ++ did u ∷ [];
@@ -29,14 +29,14 @@ gathering mode_of = record {
 abbrev pub OneResult : Type 0
 OneResult =
     (mode_of : List Event → Mode) (at : Reached (List Event)) (bytes : List ℕ)
-    → (after : Reached (List Event)) × Runs (gathering mode_of) at bytes after
-    × ((other : Reached (List Event)) → Runs (gathering mode_of) at bytes other → other ≡ after)
+    → (after : Reached (List Event)) × Runs (event_effects mode_of) at bytes after
+    × ((other : Reached (List Event)) → Runs (event_effects mode_of) at bytes other → other ≡ after)
 
 -- any cut: bytes run as a whole are run in two parts, wherever they are cut
 abbrev pub AnyCut : Type 0
 AnyCut =
     (mode_of : List Event → Mode) (at : Reached (List Event)) (a b : List ℕ)
-    → run (gathering mode_of) (a ++ b) at ≡ run (gathering mode_of) b (run (gathering mode_of) a at)
+    → run (event_effects mode_of) (a ++ b) at ≡ run (event_effects mode_of) b (run (event_effects mode_of) a at)
 
 -- the bytes of a piece have the effects of the control characters in it, in order, and then that of
 -- its unit, whichever modes these give the bytes behind the first
@@ -44,9 +44,9 @@ abbrev pub PiecesAct : Type 0
 PiecesAct =
     (mode_of : List Event → Mode) (events : List Event) (rest : Rest) (bytes : List ℕ) → rest.text ≡ []
     → let m = mode_of events in
-    HasEffect (gathering mode_of) (reading m (text_of m [] bytes)) (controls_of m [] bytes)
-    (rest_with (gathering mode_of) events (fresh m) bytes)
-    (run (gathering mode_of) bytes (reached events rest)) events
+    HasEffect (event_effects mode_of) (reading m (text_of m [] bytes)) (controls_of m [] bytes)
+    (rest_with (event_effects mode_of) events (fresh m) bytes)
+    (run (event_effects mode_of) bytes (make_reached events rest)) events
 
 -- the answers and the rests are alike
 abbrev pub AreAlike : Rest → Rest → Mode → ℕ → Type 0
@@ -78,15 +78,15 @@ abbrev pub PiecesResume : Type 0
 PiecesResume =
     (mode_of : List Event → Mode) (events : List Event) (rest : Rest) (bytes : List ℕ)
     → IsUnfinished rest.mode rest.text
-    → HasEffect (gathering mode_of) (reading rest.mode (text_of rest.mode rest.text bytes))
-    (controls_of rest.mode rest.text bytes) (rest_with (gathering mode_of) events rest bytes)
-    (run (gathering mode_of) bytes (reached events rest)) events
+    → HasEffect (event_effects mode_of) (reading rest.mode (text_of rest.mode rest.text bytes))
+    (controls_of rest.mode rest.text bytes) (rest_with (event_effects mode_of) events rest bytes)
+    (run (event_effects mode_of) bytes (make_reached events rest)) events
 
 -- a byte drops a sequence exactly where the text that it stands behind, with it, is a dropped one
 abbrev pub DropsExactly : Type 0
 DropsExactly =
     (old : Rest) (m : Mode) (b : ℕ) → (old.text ≡ []) ⊎ IsUnfinished old.mode old.text
-    → let r = (settled old m b).rest in
+    → let r = (rest_before old m b).rest in
     ((answer old m b).got ≡ then.Then.Dropped) ↔ (reading r.mode (r.text ++ b ∷ []) ≡ dropped)
 
 -- a printable byte of UTF-8, where no text is, is a character by itself and leaves no text

@@ -1,7 +1,7 @@
-pub mod Ahead
+pub mod WholeSequence
 pub mod Answer
-pub mod BriefForms
-pub mod Briefs
+pub mod ShortForms
+pub mod ShortSequences
 pub mod Bytes
 pub mod Characters
 pub mod Cutting
@@ -12,5 +12,5 @@ pub mod Reading
 pub mod Rest
 pub mod Run
 pub mod Sequences
-pub mod Stage
+pub mod ParserState
 pub mod Units

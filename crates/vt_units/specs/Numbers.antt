@@ -29,10 +29,10 @@ params_of body =
     take 16 (map number_of (fields.first ∷ fields.others))
 
 -- a number with one digit more. No public clause names this
-abbrev pub shifted : ℕ → ℕ → ℕ
-shifted n d = min 65535 (n * 10 + (d - 0x30))
+abbrev pub number_with_digit : ℕ → ℕ → ℕ
+number_with_digit n d = min 65535 (n * 10 + (d - 0x30))
 
 -- the numbers of a body, where n was read before it. No public clause names this
-abbrev pub continued : ℕ → List ℕ → List ℕ
-continued n [] = n ∷ []
-continued n (b ∷ bs) = cond (b == 0x3B) (n ∷ continued 0 bs) (continued (shifted n b) bs)
+abbrev pub numbers_after : ℕ → List ℕ → List ℕ
+numbers_after n [] = n ∷ []
+numbers_after n (b ∷ bs) = cond (b == 0x3B) (n ∷ numbers_after 0 bs) (numbers_after (number_with_digit n b) bs)

@@ -3,8 +3,8 @@ use Rattle.std.specs.Prelude.{◌≡◌, ℕ, Bool, false, ◌==◌, ◌||◌, L
 use Rattle.vt_units.specs.Answer.{acts_in}
 use Rattle.vt_units.specs.Bytes.{is_swallowed}
 use Rattle.vt_units.specs.Reading.{Reading, sequence, string, whole, dropped, unfinished, none, reading}
-use Rattle.vt_units.specs.Rest.{Rest, fresh, grown}
-use Rattle.vt_units.specs.Run.{Effects, Reached, reached}
+use Rattle.vt_units.specs.Rest.{Rest, fresh, rest_with_byte}
+use Rattle.vt_units.specs.Run.{Effects, Reached, make_reached}
 use Rattle.vt_units.specs.declared.mode.Mode.{Mode}
 
 -- DEL in a sequence
@@ -31,9 +31,9 @@ controls_of m text (b ∷ bytes) =
     else controls_of m (text ++ b ∷ []) bytes
 
 -- control characters in order
-abbrev pub acted : {S : Type 0} → Effects S → List ℕ → S → S
-acted e [] s = s
-acted e (c ∷ controls) s = acted e controls (e.on_control c s)
+abbrev pub after_controls : {S : Type 0} → Effects S → List ℕ → S → S
+after_controls e [] s = s
+after_controls e (c ∷ controls) s = after_controls e controls (e.on_control c s)
 
 -- a byte that a string swallows
 abbrev pub is_swallowed_in : Reading → ℕ → Bool
@@ -51,7 +51,7 @@ abbrev pub read_on : Reading → Mode → Rest → ℕ → Rest
 read_on now mode r b =
     if is_left_out now b || is_swallowed_in now b then r
     else if is_end_in now b then record { mode = mode; text = r.text ++ b ∷ [] }
-    else grown r b
+    else rest_with_byte r b
 
 -- the rest with these bytes, from a state on: a control character among them acts on the state
 abbrev pub rest_with : {S : Type 0} → Effects S → S → Rest → List ℕ → Rest
@@ -65,7 +65,7 @@ rest_with e s r (b ∷ bytes) =
 -- rest is left; of a unit and of a drop its mode
 abbrev pub HasEffect : {S : Type 0} → Effects S → Reading → List ℕ → Rest → Reached S → S → Type 0
 HasEffect e (whole u) controls left after s =
-    after ≡ reached (e.on_unit u (acted e controls s)) (fresh left.mode)
-HasEffect e dropped controls left after s = after ≡ reached (acted e controls s) (fresh left.mode)
-HasEffect e (unfinished k) controls left after s = after ≡ reached (acted e controls s) left
+    after ≡ make_reached (e.on_unit u (after_controls e controls s)) (fresh left.mode)
+HasEffect e dropped controls left after s = after ≡ make_reached (after_controls e controls s) (fresh left.mode)
+HasEffect e (unfinished k) controls left after s = after ≡ make_reached (after_controls e controls s) left
 HasEffect e none controls left after s = Unit {0}

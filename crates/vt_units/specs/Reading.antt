@@ -1,7 +1,7 @@
 -- Which whole text is which unit, in a mode (console_codes(4)). The text of a unit is its bytes
 -- without control characters that acted inside it and DEL that was ignored there.
 use Rattle.std.specs.Prelude.{ℕ, Bool, true, false, not, cond, ◌==◌, ◌&&◌, nat_lt, List, [], ◌∷◌, length, take, drop, if◌then◌else◌}
-use Rattle.vt_chars.specs.Utf8.{decoded, within}
+use Rattle.vt_chars.specs.Utf8.{decoding_of, within}
 use Rattle.vt_chars.specs.declared.decoded.Decoded.{Decoded}
 use Rattle.vt_chars.specs.declared.decoded.Decoded.TheVariants.{Character, Unfinished, Malformed}
 use Rattle.vt_units.specs.Bytes.{decodes, is_body, is_control, is_csi, is_digit, is_hex, is_mid, is_swallowed, joins, joins_command, opens_string}
@@ -28,13 +28,13 @@ pub data Reading : Type 0 where
   none : Reading
 
 -- the longest front whose bytes pass, and what stands behind it
-abbrev pub front : (ℕ → Bool) → List ℕ → List ℕ
-front p [] = []
-front p (x ∷ xs) = cond (p x) (x ∷ front p xs) []
+abbrev pub longest_prefix : (ℕ → Bool) → List ℕ → List ℕ
+longest_prefix p [] = []
+longest_prefix p (x ∷ xs) = cond (p x) (x ∷ longest_prefix p xs) []
 
-abbrev pub behind : (ℕ → Bool) → List ℕ → List ℕ
-behind p [] = []
-behind p (x ∷ xs) = cond (p x) (behind p xs) (x ∷ xs)
+abbrev pub after_prefix : (ℕ → Bool) → List ℕ → List ℕ
+after_prefix p [] = []
+after_prefix p (x ∷ xs) = cond (p x) (after_prefix p xs) (x ∷ xs)
 
 abbrev pub is_empty : List ℕ → Bool
 is_empty [] = true
@@ -46,27 +46,27 @@ alone [] r = r
 alone (x ∷ more) r = none
 
 -- a byte that a sequence doesn't admit drops it, where the byte is part of it
-abbrev pub refused : Mode → ℕ → Reading
-refused m b = if joins m b then dropped else none
+abbrev pub dropped_or_none : Mode → ℕ → Reading
+dropped_or_none m b = if joins m b then dropped else none
 
-abbrev pub refused_command : Mode → ℕ → Reading
-refused_command m b = if joins_command m b then dropped else none
+abbrev pub dropped_or_none_command : Mode → ℕ → Reading
+dropped_or_none_command m b = if joins_command m b then dropped else none
 
 -- CSI [ and one more byte
 abbrev pub bracket_text : Mode → List ℕ → Reading
 bracket_text m [] = unfinished sequence
 bracket_text m (last ∷ more) =
-    alone more (if within 0x20 0x7E last then whole Ignored else refused m last)
+    alone more (if within 0x20 0x7E last then whole Ignored else dropped_or_none m last)
 
 -- a control sequence, behind CSI: a body, and what ends it
 abbrev pub control_ends : Mode → List ℕ → List ℕ → Reading
 control_ends m body [] = unfinished sequence
 control_ends m body (last ∷ more) =
     if is_empty body && last == 0x5B then bracket_text m more
-    else alone more (if within 0x40 0x7E last then whole (control_unit body last) else refused m last)
+    else alone more (if within 0x40 0x7E last then whole (control_unit body last) else dropped_or_none m last)
 
 abbrev pub control_text : Mode → List ℕ → Reading
-control_text m text = control_ends m (front is_body text) (behind is_body text)
+control_text m text = control_ends m (longest_prefix is_body text) (after_prefix is_body text)
 
 -- a string, behind what opened it, and behind the ESC that may end it
 abbrev pub string_tail : List ℕ → Reading
@@ -79,7 +79,7 @@ string_ends (last ∷ more) =
     if last == 0x1B then string_tail more else alone more (whole Ignored)
 
 abbrev pub string_text : List ℕ → Reading
-string_text text = string_ends (behind is_swallowed text)
+string_text text = string_ends (after_prefix is_swallowed text)
 
 -- a colour of the palette, behind ESC ] P: seven digits
 abbrev pub palette_ends : Mode → List ℕ → List ℕ → Reading
@@ -88,10 +88,10 @@ palette_ends m digits [] =
     else if length digits == 7 then whole (colour_unit digits)
     else none
 palette_ends m digits (last ∷ more) =
-    if nat_lt (length digits) 7 then alone more (refused_command m last) else none
+    if nat_lt (length digits) 7 then alone more (dropped_or_none_command m last) else none
 
 abbrev pub palette_text : Mode → List ℕ → Reading
-palette_text m text = palette_ends m (front is_hex text) (behind is_hex text)
+palette_text m text = palette_ends m (longest_prefix is_hex text) (after_prefix is_hex text)
 
 -- behind ESC ]
 abbrev pub command_text : Mode → List ℕ → Reading
@@ -99,7 +99,7 @@ command_text m [] = unfinished command
 command_text m (b ∷ more) =
     if is_digit b then string_text more
     else if b == 0x50 then palette_text m more
-    else alone more (if b == 0x52 then whole ColourReset else refused_command m b)
+    else alone more (if b == 0x52 then whole ColourReset else dropped_or_none_command m b)
 
 -- an escape sequence, behind ESC: intermediate bytes, and what ends it
 abbrev pub escape_ends : Mode → List ℕ → List ℕ → Reading
@@ -108,10 +108,10 @@ escape_ends m mids (last ∷ more) =
     if is_empty mids && opens_string last then string_text more
     else if is_empty mids && last == 0x5B then control_text m more
     else if is_empty mids && last == 0x5D then command_text m more
-    else alone more (if within 0x30 0x7E last then whole (escape_unit mids last) else refused m last)
+    else alone more (if within 0x30 0x7E last then whole (escape_unit mids last) else dropped_or_none m last)
 
 abbrev pub escape_text : Mode → List ℕ → Reading
-escape_text m text = escape_ends m (front is_mid text) (behind is_mid text)
+escape_text m text = escape_ends m (longest_prefix is_mid text) (after_prefix is_mid text)
 
 -- a character: DEL and the C1 control characters are ignored, and a malformed byte is U+FFFD
 abbrev pub character_unit : ℕ → units.Unit
@@ -130,7 +130,7 @@ begins_csi text = false
 abbrev pub character_text : Mode → List ℕ → Reading
 character_text m text =
     if begins_csi text then control_text m (drop 2 text)
-    else character_reading text (decoded text)
+    else character_reading text (decoding_of text)
 
 -- a byte that is shown as the byte tables say; DEL only where control characters are shown
 abbrev pub byte_unit : Mode → ℕ → units.Unit
@@ -153,7 +153,7 @@ is_sequence r = false
 -- a byte behind 256 bytes of a sequence drops it
 abbrev pub overlong : Mode → List ℕ → Reading
 overlong m [] = none
-overlong m (last ∷ more) = alone more (refused m last)
+overlong m (last ∷ more) = alone more (dropped_or_none m last)
 
 -- what a whole text is. A sequence that isn't a string has at most 256 bytes: this project's own
 abbrev pub reading : Mode → List ℕ → Reading

@@ -13,8 +13,8 @@ pub record Rest : Type 0 where
 abbrev pub fresh : Mode → Rest
 fresh m = record { mode = m; text = [] }
 
-abbrev pub grown : Rest → ℕ → Rest
-grown r b = record r { text = r.text ++ b ∷ [] }
+abbrev pub rest_with_byte : Rest → ℕ → Rest
+rest_with_byte r b = record r { text = r.text ++ b ∷ [] }
 
 -- the mode at the start
 abbrev pub start_mode : Mode

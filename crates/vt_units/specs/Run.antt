@@ -18,8 +18,8 @@ pub record Reached (S : Type 0) : Type 0 where
   pub state : S
   pub rest : Rest
 
-abbrev pub reached : {S : Type 0} → S → Rest → Reached S
-reached s r = record { state = s; rest = r }
+abbrev pub make_reached : {S : Type 0} → S → Rest → Reached S
+make_reached s r = record { state = s; rest = r }
 
 -- the effect of what a byte comes to
 abbrev pub effect_of : {S : Type 0} → Effects S → then.Then → S → S
@@ -37,7 +37,7 @@ effects_of e read s =
 abbrev pub step : {S : Type 0} → Effects S → ℕ → Reached S → Reached S
 step e b at =
     let m = e.mode_of at.state in
-    reached (effects_of e (answer at.rest m b) at.state) (rest_after at.rest m b)
+    make_reached (effects_of e (answer at.rest m b) at.state) (rest_after at.rest m b)
 
 -- run: the bytes in order
 abbrev pub run : {S : Type 0} → Effects S → List ℕ → Reached S → Reached S

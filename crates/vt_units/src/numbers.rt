@@ -1,12 +1,12 @@
 //! The parameters of a control sequence.
 ghost use Rattle.std.specs.Prelude.{◌≡◌, ◌≤◌, ◌+◌, ◌++◌, ◌∷◌, [], take, drop, length};
-ghost use Rattle.vt_units.specs.Numbers.{continued, params_of, shifted};
-ghost use Rattle.vt_units.specs.Reading.{behind, front};
+ghost use Rattle.vt_units.specs.Numbers.{numbers_after, params_of, number_with_digit};
+ghost use Rattle.vt_units.specs.Reading.{after_prefix, longest_prefix};
 ghost use Rattle.vt_units.specs.Sequences.{is_parameter};
 
 use crate::Params;
-use crate::brief_ahead::number_at;
 use crate::bytes::is_digit;
+use crate::short_csi_ahead::number_at;
 
 /// The numbers between the semicolons, of which the first 16 count.
 pub(crate) fn params_of(body: &[u8]) -> Params
@@ -19,7 +19,7 @@ pub(crate) fn params_of(body: &[u8]) -> Params
             add(&mut params, number);
             number = 0;
         } else {
-            number = shifted(number, *b);
+            number = number_with_digit(number, *b);
         }
     }
     add(&mut params, number);
@@ -30,9 +30,9 @@ pub(crate) fn params_of(body: &[u8]) -> Params
 pub(crate) fn read_numbers(text: &[u8], params: &mut Params) -> usize
     requires none { params.old ≡ [] }
     requires short { length text.now ≤ 256 }
-    ensures params { params.new ≡ params_of (front is_parameter text.now) }
-    ensures count { result ≡ length (front is_parameter text.now) }
-    ensures rest { drop result text.now ≡ behind is_parameter text.now }
+    ensures params { params.new ≡ params_of (longest_prefix is_parameter text.now) }
+    ensures count { result ≡ length (longest_prefix is_parameter text.now) }
+    ensures rest { drop result text.now ≡ after_prefix is_parameter text.now }
     ensures bound { result ≤ length text.now }
 {
     let mut at = 0;
@@ -53,15 +53,15 @@ pub(crate) fn read_numbers(text: &[u8], params: &mut Params) -> usize
 // Reads the parameters at the front of the text, behind others.
 fn read_more_numbers(text: &[u8], params: &mut Params) -> usize
     ensures params { params.new
-        ≡ take 16 (params.old ++ continued 0 (front is_parameter text.now)) }
-    ensures count { result ≡ length (front is_parameter text.now) }
-    ensures rest { drop result text.now ≡ behind is_parameter text.now }
+        ≡ take 16 (params.old ++ numbers_after 0 (longest_prefix is_parameter text.now)) }
+    ensures count { result ≡ length (longest_prefix is_parameter text.now) }
+    ensures rest { drop result text.now ≡ after_prefix is_parameter text.now }
     ensures bound { result ≤ length text.now }
 {
     let mut number = 0;
     for (i, b) in text.iter().enumerate() {
         if is_digit(*b) {
-            number = shifted(number, *b);
+            number = number_with_digit(number, *b);
         } else if *b == b';' {
             add(params, number);
             number = 0;
@@ -85,9 +85,9 @@ fn add(params: &mut Params, number: u32)
 }
 
 // The number with one digit more, at most 65,535.
-fn shifted(number: u32, digit: u8) -> u32
+fn number_with_digit(number: u32, digit: u8) -> u32
     requires { number ≤ 65535 }
-    ensures { result ≡ shifted number digit }
+    ensures { result ≡ number_with_digit number digit }
 {
     let value = u32::from(digit.saturating_sub(b'0'));
     (number * 10 + value).min(65_535)

@@ -1,10 +1,10 @@
 //! A byte behind ESC ].
 ghost use Rattle.std.specs.Prelude.{◌≡◌};
-ghost use Rattle.vt_units.specs.Stage.{Inside, Joins, Stands};
+ghost use Rattle.vt_units.specs.ParserState.{Inside, IsOutcomeOf, Stands};
 
 use crate::bytes::{acts, is_digit, is_hex};
+use crate::parser_state::ParserState;
 use crate::sequences::colour_unit;
-use crate::stage::Stage;
 use crate::step::Step;
 use crate::{Mode, Then, Unit};
 
@@ -16,7 +16,7 @@ const DIGITS: usize = 6;
 
 /// Right behind ESC ].
 pub(crate) fn command(mode: Mode, text: &[u8], b: u8) -> (Then, Step)
-    requires { Stands Stage.Command mode text.now }
+    requires { Stands ParserState.Osc mode text.now }
     ensures { Inside mode text.now b result.0 result.1 }
 {
     let _ = mode;
@@ -24,9 +24,9 @@ pub(crate) fn command(mode: Mode, text: &[u8], b: u8) -> (Then, Step)
     if acts(b) {
         (Then::Act(b), Step::Keep)
     } else if is_digit(b) {
-        (Then::More, Step::Grow(Stage::Text))
+        (Then::More, Step::Grow(ParserState::ControlString))
     } else if b == b'P' {
-        (Then::More, Step::Grow(Stage::Palette))
+        (Then::More, Step::Grow(ParserState::Palette))
     } else if b == b'R' {
         (Then::Unit(Unit::ColourReset), Step::Clear)
     } else {
@@ -36,7 +36,7 @@ pub(crate) fn command(mode: Mode, text: &[u8], b: u8) -> (Then, Step)
 
 /// Behind ESC ] P and digits.
 pub(crate) fn palette(mode: Mode, text: &[u8], b: u8) -> (Then, Step)
-    requires { Stands Stage.Palette mode text.now }
+    requires { Stands ParserState.Palette mode text.now }
     ensures { Inside mode text.now b result.0 result.1 }
 {
     let _ = mode;
@@ -45,7 +45,7 @@ pub(crate) fn palette(mode: Mode, text: &[u8], b: u8) -> (Then, Step)
     } else if !is_hex(b) {
         (Then::Dropped, Step::Clear)
     } else if text.len() < OPENING + DIGITS {
-        (Then::More, Step::Grow(Stage::Palette))
+        (Then::More, Step::Grow(ParserState::Palette))
     } else {
         (Then::Unit(colour_unit(&text[OPENING..], b)), Step::Clear)
     }

@@ -1,34 +1,34 @@
 ghost use Rattle.std.specs.Prelude.{◌≡◌, false, ◌==◌, ◌≤◌, ◌<◌, ◌&&◌, not, true, drop, take, [], ◌∷◌, ◌++◌, length, Some, IfSome, MatchOption, if◌then◌else◌};
 ghost use Rattle.std.specs.List.{prefix_len};
-ghost use Rattle.vt_units.specs.Ahead.{parameters_ahead, rest_ahead, sequence_of, taken_ahead};
-ghost use Rattle.vt_units.specs.Answer.{answer, rest_after, settled, took};
-ghost use Rattle.vt_units.specs.BriefForms.{brief_stands, escape_stands};
-ghost use Rattle.vt_units.specs.Briefs.{sequence_in};
+ghost use Rattle.vt_units.specs.WholeSequence.{parameters_ahead, rest_ahead, sequence_of, taken_ahead};
+ghost use Rattle.vt_units.specs.Answer.{answer, rest_after, rest_before, byte_outcome};
+ghost use Rattle.vt_units.specs.ShortForms.{short_stands, escape_stands};
+ghost use Rattle.vt_units.specs.ShortSequences.{csi_in};
 ghost use Rattle.vt_units.specs.Bytes.{decodes, interrupts, is_control, is_printable};
 ghost use Rattle.vt_units.specs.Characters.{AreTextsOf, NoneBegins};
 ghost use Rattle.vt_units.specs.Reading.{is_empty};
 ghost use Rattle.vt_units.specs.Rest.{fresh, start_mode};
-ghost use Rattle.vt_units.specs.Stage.{Inside, Leaves, Quiet, Stands, rest_of};
+ghost use Rattle.vt_units.specs.ParserState.{Inside, Leaves, Quiet, Stands, rest_of};
 ghost use Rattle.vt_units.specs.Units.{IsUnfinished};
 ghost use Rattle.vt_units.specs.declared.unit.Unit.TheVariants.{Esc};
 
-mod longer;
+mod long_sgr;
 
-use crate::brief_ahead::{brief_ahead, escape_ahead_of};
 use crate::bytes::{decodes, interrupts, is_body, is_control};
 use crate::characters::read_characters;
 use crate::codes::Codes;
 use crate::ground::{ground, part};
-use crate::kept::{Kept, SEQUENCE_BYTES};
-use crate::left::Left;
 use crate::osc::{command, palette};
+use crate::parser_state::ParserState;
+use crate::pending_bytes::{PendingBytes, SEQUENCE_BYTES};
 use crate::printable::printable_prefix;
+use crate::remainder::Remainder;
 use crate::sequence::sequence;
 use crate::sequence_ahead::sequence_ahead;
-use crate::stage::Stage;
+use crate::short_csi_ahead::{escape_ahead_of, short_csi_ahead};
 use crate::step::Step;
 use crate::strings::{string, string_end};
-use crate::{Ahead, Brief, Mode, Params, Read, Then};
+use crate::{Mode, Params, Read, ShortCsi, Then, WholeSequence};
 use std::marker::Model;
 use vt_chars::{Decoded, decode};
 
@@ -37,13 +37,13 @@ use vt_chars::{Decoded, decode};
 #[derive(Debug, Drop)]
 pub struct Pending {
     mode: Mode,
-    stage: Stage,
-    text: Kept,
+    stage: ParserState,
+    text: PendingBytes,
 }
 
 impl Model for Pending {
     ghost use Rattle.vt_units.specs.Rest.{Rest};
-    ghost use Rattle.vt_units.specs.Stage.{Stands};
+    ghost use Rattle.vt_units.specs.ParserState.{Stands};
 
     ghost Value = { Rest };
 
@@ -62,8 +62,8 @@ impl Pending {
                 utf8: true,
                 display: false,
             },
-            stage: Stage::Ground,
-            text: Kept::new(),
+            stage: ParserState::Ground,
+            text: PendingBytes::new(),
         }
     }
 
@@ -142,17 +142,17 @@ impl Pending {
     /// control sequence of parameters alone, or an escape sequence with at most one intermediate
     /// byte. The parameters are then in `params`, and what was there before is gone. It answers at
     /// once what [`Pending::take`] answers byte by byte, in which there is nothing but that unit.
-    pub fn take_sequence(&mut self, mode: Mode, b: &[u8], params: &mut Params) -> Ahead
+    pub fn take_sequence(&mut self, mode: Mode, b: &[u8], params: &mut Params) -> WholeSequence
         ensures sequence { sequence_of result params.new ≡ taken_ahead self.old b.now }
         ensures parameters { params.new ≡ parameters_ahead (taken_ahead self.old b.now) }
         ensures rest { self.new ≡ rest_ahead self.old mode (taken_ahead self.old b.now) }
     {
         params.clear();
         if !self.is_empty() {
-            return Ahead::Nothing;
+            return WholeSequence::Nothing;
         }
         let ahead = sequence_ahead(b, params);
-        if !matches!(ahead, Ahead::Nothing) {
+        if !matches!(ahead, WholeSequence::Nothing) {
             self.go_on(mode);
         }
         ahead
@@ -162,18 +162,18 @@ impl Pending {
     /// short parameters, which no `?` begins. Where there is no answer, that call says what is
     /// there.
     #[inline(always)]
-    pub fn take_brief(&mut self, mode: Mode, b: &[u8]) -> Option<Brief>
-        ensures sequence { IfSome result (λ brief. taken_ahead self.old b.now ≡ Some (sequence_in brief)) }
+    pub fn take_short_csi(&mut self, mode: Mode, b: &[u8]) -> Option<ShortCsi>
+        ensures sequence { IfSome result (λ brief. taken_ahead self.old b.now ≡ Some (csi_in brief)) }
         ensures within { IfSome result (λ brief. brief.count ≤ length b.now) }
-        ensures exact { MatchOption result (brief_stands self.old b.now ≡ false)
-            (λ _. brief_stands self.old b.now ≡ true) }
+        ensures exact { MatchOption result (short_stands self.old b.now ≡ false)
+            (λ _. short_stands self.old b.now ≡ true) }
         ensures rest { MatchOption result (self.new ≡ self.old) (λ _. self.new ≡ fresh mode) }
     {
         let begins = self.is_empty();
         if !begins {
             return None;
         }
-        let brief = brief_ahead(b)?;
+        let brief = short_csi_ahead(b)?;
         self.go_on(mode);
         Some(brief)
     }
@@ -226,17 +226,17 @@ impl Pending {
 
     // Ends what the byte ends by following it; the answer is whether that was malformed.
     fn settle(&mut self, mode: Mode, b: u8) -> bool
-        ensures { settled self.old mode b ≡ record { bad = result; rest = self.new } }
+        ensures { rest_before self.old mode b ≡ record { bad = result; rest = self.new } }
     {
         match settling(self.stage, self.mode, self.text.as_slice(), mode, b) {
-            Left::Old => return false,
-            Left::Moded => self.mode = mode,
-            Left::Fresh => self.restart(mode),
-            Left::Bad => {
+            Remainder::All => return false,
+            Remainder::AllInNewMode => self.mode = mode,
+            Remainder::Nothing => self.restart(mode),
+            Remainder::Malformed => {
                 self.restart(mode);
                 return true;
             }
-            Left::Escape => self.escape(),
+            Remainder::Escape => self.escape(),
         }
         false
     }
@@ -254,7 +254,7 @@ impl Pending {
         ensures { self.new ≡ fresh mode }
     {
         self.mode = mode;
-        self.stage = Stage::Ground;
+        self.stage = ParserState::Ground;
         self.text.clear();
     }
 
@@ -262,14 +262,14 @@ impl Pending {
     fn escape(&mut self)
         ensures { self.new ≡ rest_of self.old.mode (0x1B ∷ []) }
     {
-        self.stage = Stage::Escape;
+        self.stage = ParserState::Escape;
         self.text.clear();
         self.text.push(0x1B);
     }
 
     // Reads the byte behind what is left.
     fn advance(&mut self, b: u8) -> Then
-        ensures { took self.old b ≡ record { got = result; rest = self.new } }
+        ensures { byte_outcome self.old b ≡ record { got = result; rest = self.new } }
     {
         let (got, step) = decide(self.stage, self.mode, self.text.as_slice(), b);
         match step {
@@ -279,7 +279,7 @@ impl Pending {
                 self.text.push(b);
             }
             Step::Clear => {
-                self.stage = Stage::Ground;
+                self.stage = ParserState::Ground;
                 self.text.clear();
             }
         }
@@ -295,7 +295,7 @@ impl Default for Pending {
     }
 }
 
-fn is_none(stage: Stage, mode: Mode, text: &[u8]) -> bool
+fn is_none(stage: ParserState, mode: Mode, text: &[u8]) -> bool
     requires stands { Stands stage mode text.now }
     requires bound { length text.now ≤ 256 }
     ensures empty { result ≡ is_empty text.now }
@@ -306,7 +306,7 @@ fn is_none(stage: Stage, mode: Mode, text: &[u8]) -> bool
     text.is_empty()
 }
 
-fn joins_body(stage: Stage, mode: Mode, text: &[u8], b: u8) -> bool
+fn joins_body(stage: ParserState, mode: Mode, text: &[u8], b: u8) -> bool
     requires stands { Stands stage mode text.now }
     requires bound { length text.now ≤ 256 }
     ensures goes { result ≡ true → Quiet (rest_of mode text.now) b (rest_of mode (text.now ++ b ∷ [])) }
@@ -314,80 +314,84 @@ fn joins_body(stage: Stage, mode: Mode, text: &[u8], b: u8) -> bool
     ensures stands { result ≡ true → Stands stage mode (text.now ++ b ∷ []) }
 {
     match stage {
-        Stage::Control => is_body(b) && text.len() < SEQUENCE_BYTES,
+        ParserState::Control => is_body(b) && text.len() < SEQUENCE_BYTES,
         _ => false,
     }
 }
 
-fn settling(stage: Stage, mode: Mode, text: &[u8], now: Mode, b: u8) -> Left
+fn settling(stage: ParserState, mode: Mode, text: &[u8], now: Mode, b: u8) -> Remainder
     requires stands { Stands stage mode text.now }
     requires bound { length text.now ≤ 256 }
-    ensures { Leaves (settled (rest_of mode text.now) now b) stage (rest_of mode text.now) now result }
+    ensures { Leaves (rest_before (rest_of mode text.now) now b) stage (rest_of mode text.now) now result }
 {
     match stage {
-        Stage::Ground => Left::Fresh,
-        Stage::Part => match decode(text, b) {
-            Decoded::Character(_) => Left::Old,
-            Decoded::Unfinished => Left::Old,
-            Decoded::Malformed => Left::Bad,
+        ParserState::Ground => Remainder::Nothing,
+        ParserState::Utf8 => match decode(text, b) {
+            Decoded::Character(_) => Remainder::All,
+            Decoded::Unfinished => Remainder::All,
+            Decoded::Malformed => Remainder::Malformed,
         },
-        Stage::Text => opened(b),
-        Stage::TextEnd => ended(mode, b),
-        Stage::Escape => broken(mode, b),
-        Stage::Control => broken(mode, b),
-        Stage::Bracket => broken(mode, b),
-        Stage::Command => broken(mode, b),
-        Stage::Palette => broken(mode, b),
+        ParserState::ControlString => opened(b),
+        ParserState::StringEscape => ended(mode, b),
+        ParserState::Escape => broken(mode, b),
+        ParserState::Control => broken(mode, b),
+        ParserState::CsiBracket => broken(mode, b),
+        ParserState::Osc => broken(mode, b),
+        ParserState::Palette => broken(mode, b),
     }
 }
 
 // Of a string: its rest has the mode at an ESC.
-fn opened(b: u8) -> Left
-    ensures { result ≡ (if b == 0x1B then Left.Moded else Left.Old) }
+fn opened(b: u8) -> Remainder
+    ensures { result ≡ (if b == 0x1B then Remainder.AllInNewMode else Remainder.All) }
 {
-    if b == 0x1B { Left::Moded } else { Left::Old }
+    if b == 0x1B {
+        Remainder::AllInNewMode
+    } else {
+        Remainder::All
+    }
 }
 
 // Of a string and an ESC.
-fn ended(mode: Mode, b: u8) -> Left
-    ensures { result ≡ (if b == 0x5C then Left.Old
-        else if interrupts mode b then Left.Fresh
-        else Left.Escape) }
+fn ended(mode: Mode, b: u8) -> Remainder
+    ensures { result ≡ (if b == 0x5C then Remainder.All
+        else if interrupts mode b then Remainder.Nothing
+        else Remainder.Escape) }
 {
     if b == b'\\' {
-        Left::Old
+        Remainder::All
     } else if interrupts(mode, b) {
-        Left::Fresh
+        Remainder::Nothing
     } else {
-        Left::Escape
+        Remainder::Escape
     }
 }
 
 // Of a sequence that isn't a string.
-fn broken(mode: Mode, b: u8) -> Left
-    ensures { result ≡ (if interrupts mode b then Left.Fresh else Left.Old) }
+fn broken(mode: Mode, b: u8) -> Remainder
+    ensures { result ≡ (if interrupts mode b then Remainder.Nothing else Remainder.All) }
 {
     if interrupts(mode, b) {
-        Left::Fresh
+        Remainder::Nothing
     } else {
-        Left::Old
+        Remainder::All
     }
 }
 
-fn decide(stage: Stage, mode: Mode, text: &[u8], b: u8) -> (Then, Step)
+fn decide(stage: ParserState, mode: Mode, text: &[u8], b: u8) -> (Then, Step)
     requires stands { Stands stage mode text.now }
     requires bound { length text.now ≤ 256 }
     ensures { Inside mode text.now b result.0 result.1 }
 {
     match stage {
-        Stage::Ground => ground(mode, b),
-        Stage::Part => part(mode, text, b),
-        Stage::Command => command(mode, text, b),
-        Stage::Palette => palette(mode, text, b),
-        Stage::Text => string(mode, text, b),
-        Stage::TextEnd => string_end(mode, text, b),
-        Stage::Escape => sequence(Stage::Escape, mode, text, b),
-        Stage::Control => sequence(Stage::Control, mode, text, b),
-        Stage::Bracket => sequence(Stage::Bracket, mode, text, b),
+        ParserState::Ground => ground(mode, b),
+        ParserState::Utf8 => part(mode, text, b),
+        ParserState::Osc => command(mode, text, b),
+        ParserState::Palette => palette(mode, text, b),
+        ParserState::ControlString => string(mode, text, b),
+        ParserState::StringEscape => string_end(mode, text, b),
+        ParserState::Escape => sequence(ParserState::Escape, mode, text, b),
+        ParserState::Control => sequence(ParserState::Control, mode, text, b),
+        ParserState::CsiBracket => sequence(ParserState::CsiBracket, mode, text, b),
     }
 }

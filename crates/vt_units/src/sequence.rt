@@ -2,17 +2,17 @@
 ghost use Rattle.std.specs.Prelude.{◌≡◌, ◌≤◌, ◌<◌, ◌==◌, ◌&&◌, ◌∷◌, length, drop};
 ghost use Rattle.vt_units.specs.Bytes.{is_mid, opens_string};
 ghost use Rattle.vt_units.specs.Reading.{is_empty};
-ghost use Rattle.vt_units.specs.Stage.{Each, HasBody, Inside, IsSequence, Joins, Stands};
+ghost use Rattle.vt_units.specs.ParserState.{Each, HasBody, Inside, IsSequence, IsOutcomeOf, Stands};
 
 use crate::bytes::{acts, is_body, is_mid, is_within, opens_string};
-use crate::kept::SEQUENCE_BYTES;
+use crate::parser_state::ParserState;
+use crate::pending_bytes::SEQUENCE_BYTES;
 use crate::sequences::{control_unit, escape_unit};
-use crate::stage::Stage;
 use crate::step::Step;
 use crate::{Mode, Then, Unit};
 
 /// What acts or vanishes comes first, then the bound, and then what the sequence admits.
-pub(crate) fn sequence(stage: Stage, mode: Mode, text: &[u8], b: u8) -> (Then, Step)
+pub(crate) fn sequence(stage: ParserState, mode: Mode, text: &[u8], b: u8) -> (Then, Step)
     requires stands { Stands stage mode text.now }
     requires sequence { IsSequence stage }
     requires bound { length text.now ≤ 256 }
@@ -29,34 +29,34 @@ pub(crate) fn sequence(stage: Stage, mode: Mode, text: &[u8], b: u8) -> (Then, S
     }
 }
 
-fn admit(stage: Stage, mode: Mode, text: &[u8], b: u8) -> (Then, Step)
+fn admit(stage: ParserState, mode: Mode, text: &[u8], b: u8) -> (Then, Step)
     requires stands { Stands stage mode text.now }
     requires sequence { IsSequence stage }
     requires room { length text.now < 256 }
-    ensures { Joins mode text.now b result.0 result.1 }
+    ensures { IsOutcomeOf mode text.now b result.0 result.1 }
 {
     match stage {
-        Stage::Escape => escape(mode, text, b),
-        Stage::Control => control(mode, text, b),
+        ParserState::Escape => escape(mode, text, b),
+        ParserState::Control => control(mode, text, b),
         _ => bracket(mode, text, b),
     }
 }
 
 // Behind ESC and intermediate bytes.
 fn escape(mode: Mode, text: &[u8], b: u8) -> (Then, Step)
-    requires stands { Stands Stage.Escape mode text.now }
+    requires stands { Stands ParserState.Escape mode text.now }
     requires room { length text.now < 256 }
-    ensures { Joins mode text.now b result.0 result.1 }
+    ensures { IsOutcomeOf mode text.now b result.0 result.1 }
 {
     let mids = mids_of(mode, text);
     if is_mid(b) {
-        (Then::More, Step::Grow(Stage::Escape))
+        (Then::More, Step::Grow(ParserState::Escape))
     } else if opens_first(mids, b) {
-        (Then::More, Step::Grow(Stage::Text))
+        (Then::More, Step::Grow(ParserState::ControlString))
     } else if is_first(mids, b, b'[') {
-        (Then::More, Step::Grow(Stage::Control))
+        (Then::More, Step::Grow(ParserState::Control))
     } else if is_first(mids, b, b']') {
-        (Then::More, Step::Grow(Stage::Command))
+        (Then::More, Step::Grow(ParserState::Osc))
     } else if is_within(0x30, 0x7E, b) {
         (Then::Unit(escape_unit(mids, b)), Step::Clear)
     } else {
@@ -65,7 +65,7 @@ fn escape(mode: Mode, text: &[u8], b: u8) -> (Then, Step)
 }
 
 fn mids_of(mode: Mode, text: &[u8]) -> &[u8]
-    requires { Stands Stage.Escape mode text.now }
+    requires { Stands ParserState.Escape mode text.now }
     ensures text { text.now ≡ 0x1B ∷ result.now }
     ensures mids { Each is_mid result.now }
 {
@@ -75,15 +75,15 @@ fn mids_of(mode: Mode, text: &[u8]) -> &[u8]
 
 // Behind CSI and a body.
 fn control(mode: Mode, text: &[u8], b: u8) -> (Then, Step)
-    requires stands { Stands Stage.Control mode text.now }
+    requires stands { Stands ParserState.Control mode text.now }
     requires room { length text.now < 256 }
-    ensures { Joins mode text.now b result.0 result.1 }
+    ensures { IsOutcomeOf mode text.now b result.0 result.1 }
 {
     let body = body_of(mode, text);
     if is_body(b) {
-        (Then::More, Step::Grow(Stage::Control))
+        (Then::More, Step::Grow(ParserState::Control))
     } else if is_first(body, b, b'[') {
-        (Then::More, Step::Grow(Stage::Bracket))
+        (Then::More, Step::Grow(ParserState::CsiBracket))
     } else if is_within(0x40, 0x7E, b) {
         (Then::Unit(control_unit(body, b)), Step::Clear)
     } else {
@@ -93,7 +93,7 @@ fn control(mode: Mode, text: &[u8], b: u8) -> (Then, Step)
 
 // CSI is one byte, or two where it begins with ESC or is the character U+009B.
 fn body_of(mode: Mode, text: &[u8]) -> &[u8]
-    requires { Stands Stage.Control mode text.now }
+    requires { Stands ParserState.Control mode text.now }
     ensures { HasBody mode text.now result.now }
 {
     let _ = mode;
@@ -106,9 +106,9 @@ fn body_of(mode: Mode, text: &[u8]) -> &[u8]
 
 // Behind CSI [.
 fn bracket(mode: Mode, text: &[u8], b: u8) -> (Then, Step)
-    requires stands { Stands Stage.Bracket mode text.now }
+    requires stands { Stands ParserState.CsiBracket mode text.now }
     requires room { length text.now < 256 }
-    ensures { Joins mode text.now b result.0 result.1 }
+    ensures { IsOutcomeOf mode text.now b result.0 result.1 }
 {
     let _ = mode;
     let _ = text;

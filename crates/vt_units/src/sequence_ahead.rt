@@ -1,18 +1,18 @@
 //! A whole sequence at the front of a text.
 ghost use Rattle.std.specs.Prelude.{◌≡◌, ◌≤◌, [], length, drop};
-ghost use Rattle.vt_units.specs.Ahead.{control_ahead, ends_control, ends_escape, escape_ahead, mid_ahead, numbers_ahead, opened_ahead, parameters_ahead, sequence_ahead, sequence_of};
+ghost use Rattle.vt_units.specs.WholeSequence.{control_ahead, ends_control, ends_escape, escape_ahead, mid_ahead, numbers_ahead, opened_ahead, parameters_ahead, sequence_ahead, sequence_of};
 ghost use Rattle.vt_units.specs.Numbers.{params_of};
-ghost use Rattle.vt_units.specs.Reading.{behind, front};
+ghost use Rattle.vt_units.specs.Reading.{after_prefix, longest_prefix};
 ghost use Rattle.vt_units.specs.Sequences.{is_parameter};
 
 use crate::bytes::{is_mid, is_within, opens_string};
-use crate::kept::SEQUENCE_BYTES;
 use crate::numbers::read_numbers;
-use crate::{Ahead, Params};
+use crate::pending_bytes::SEQUENCE_BYTES;
+use crate::{Params, WholeSequence};
 
 /// The sequence that the text begins with, where it is one that is read at once. Its parameters are
 /// then in `params`.
-pub(crate) fn sequence_ahead(b: &[u8], params: &mut Params) -> Ahead
+pub(crate) fn sequence_ahead(b: &[u8], params: &mut Params) -> WholeSequence
     requires { params.old ≡ [] }
     ensures sequence { sequence_of result params.new ≡ sequence_ahead b.now }
     ensures parameters { params.new ≡ parameters_ahead (sequence_ahead b.now) }
@@ -20,7 +20,7 @@ pub(crate) fn sequence_ahead(b: &[u8], params: &mut Params) -> Ahead
     opened_ahead(&b[..b.len().min(SEQUENCE_BYTES)], params)
 }
 
-fn opened_ahead(b: &[u8], params: &mut Params) -> Ahead
+fn opened_ahead(b: &[u8], params: &mut Params) -> WholeSequence
     requires none { params.old ≡ [] }
     requires short { length b.now ≤ 256 }
     ensures sequence { sequence_of result params.new ≡ opened_ahead b.now }
@@ -28,12 +28,12 @@ fn opened_ahead(b: &[u8], params: &mut Params) -> Ahead
 {
     match b {
         [0x1B, second, more @ ..] => escape_ahead(*second, more, params),
-        _ => Ahead::Nothing,
+        _ => WholeSequence::Nothing,
     }
 }
 
 // Behind ESC.
-fn escape_ahead(b: u8, more: &[u8], params: &mut Params) -> Ahead
+fn escape_ahead(b: u8, more: &[u8], params: &mut Params) -> WholeSequence
     requires none { params.old ≡ [] }
     requires short { length more.now ≤ 256 }
     ensures sequence { sequence_of result params.new ≡ escape_ahead b more.now }
@@ -44,33 +44,33 @@ fn escape_ahead(b: u8, more: &[u8], params: &mut Params) -> Ahead
     } else if is_mid(b) {
         mid_ahead(b, more)
     } else if ends_escape(b) {
-        Ahead::Esc {
+        WholeSequence::Esc {
             mid: 0,
             last: b,
             count: 2,
         }
     } else {
-        Ahead::Nothing
+        WholeSequence::Nothing
     }
 }
 
 // Behind ESC and an intermediate byte.
-fn mid_ahead(mid: u8, more: &[u8]) -> Ahead
+fn mid_ahead(mid: u8, more: &[u8]) -> WholeSequence
     ensures sequence { sequence_of result [] ≡ mid_ahead mid more.now }
     ensures parameters { parameters_ahead (mid_ahead mid more.now) ≡ [] }
 {
     match more {
-        [last, ..] if is_within(0x30, 0x7E, *last) => Ahead::Esc {
+        [last, ..] if is_within(0x30, 0x7E, *last) => WholeSequence::Esc {
             mid,
             last: *last,
             count: 3,
         },
-        _ => Ahead::Nothing,
+        _ => WholeSequence::Nothing,
     }
 }
 
 // Behind ESC [.
-fn control_ahead(text: &[u8], params: &mut Params) -> Ahead
+fn control_ahead(text: &[u8], params: &mut Params) -> WholeSequence
     requires none { params.old ≡ [] }
     requires short { length text.now ≤ 256 }
     ensures sequence { sequence_of result params.new ≡ control_ahead text.now }
@@ -84,7 +84,7 @@ fn control_ahead(text: &[u8], params: &mut Params) -> Ahead
 
 // Parameters and a last byte, behind so many bytes.
 #[inline(always)]
-fn numbers_ahead(private: bool, before: usize, text: &[u8], params: &mut Params) -> Ahead
+fn numbers_ahead(private: bool, before: usize, text: &[u8], params: &mut Params) -> WholeSequence
     requires none { params.old ≡ [] }
     requires few { before ≤ 3 }
     requires short { length text.now ≤ 256 }
@@ -93,14 +93,14 @@ fn numbers_ahead(private: bool, before: usize, text: &[u8], params: &mut Params)
 {
     let len = read_numbers(text, params);
     if len < text.len() && ends_control(text[len]) {
-        Ahead::Csi {
+        WholeSequence::Csi {
             private,
             last: text[len],
             count: before + len + 1,
         }
     } else {
         params.clear();
-        Ahead::Nothing
+        WholeSequence::Nothing
     }
 }
 

@@ -3,7 +3,7 @@ ghost use Rattle.std.specs.Prelude.{◌≡◌, ◌<◌, ◌++◌, ◌∷◌, [],
 ghost use Rattle.std.specs.List.{list_all};
 ghost use Rattle.vt_units.specs.Bytes.{is_hex};
 ghost use Rattle.vt_units.specs.Sequences.{colour_unit, control_unit, escape_unit, hex_pair, hex_value, is_parameter, numbered_unit};
-ghost use Rattle.vt_units.specs.Stage.{Each};
+ghost use Rattle.vt_units.specs.ParserState.{Each};
 
 use crate::Unit;
 use crate::bytes::{is_digit, is_within};

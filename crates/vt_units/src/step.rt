@@ -1,4 +1,4 @@
-use crate::stage::Stage;
+use crate::parser_state::ParserState;
 
 /// What a byte does to the pending bytes.
 #[derive(Debug, Clone, Copy, PartialEq, Eq)]
@@ -6,7 +6,7 @@ pub(crate) enum Step {
     /// They stay.
     Keep,
     /// The byte is added, and the stage is then this one.
-    Grow(Stage),
+    Grow(ParserState),
     /// None are left.
     Clear,
 }

@@ -1,15 +1,15 @@
 //! A byte of a string.
 ghost use Rattle.std.specs.Prelude.{◌≡◌};
-ghost use Rattle.vt_units.specs.Stage.{Inside, Stands};
+ghost use Rattle.vt_units.specs.ParserState.{Inside, Stands};
 
 use crate::bytes::is_swallowed;
-use crate::stage::Stage;
+use crate::parser_state::ParserState;
 use crate::step::Step;
 use crate::{Mode, Then, Unit};
 
 /// In a string.
 pub(crate) fn string(mode: Mode, text: &[u8], b: u8) -> (Then, Step)
-    requires { Stands Stage.Text mode text.now }
+    requires { Stands ParserState.ControlString mode text.now }
     ensures { Inside mode text.now b result.0 result.1 }
 {
     let _ = mode;
@@ -17,7 +17,7 @@ pub(crate) fn string(mode: Mode, text: &[u8], b: u8) -> (Then, Step)
     if is_swallowed(b) {
         (Then::More, Step::Keep)
     } else if b == 0x1B {
-        (Then::More, Step::Grow(Stage::TextEnd))
+        (Then::More, Step::Grow(ParserState::StringEscape))
     } else {
         (Then::Unit(Unit::Ignored), Step::Clear)
     }
@@ -25,7 +25,7 @@ pub(crate) fn string(mode: Mode, text: &[u8], b: u8) -> (Then, Step)
 
 /// Behind an ESC in a string.
 pub(crate) fn string_end(mode: Mode, text: &[u8], b: u8) -> (Then, Step)
-    requires { Stands Stage.TextEnd mode text.now }
+    requires { Stands ParserState.StringEscape mode text.now }
     ensures { Inside mode text.now b result.0 result.1 }
 {
     let _ = mode;

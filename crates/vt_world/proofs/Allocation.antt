@@ -19,7 +19,7 @@ use Rattle.vt_procs.specs.declared.ticket.Ticket.TheVariants.{Active, Input}
 use Rattle.vt_screen.specs.Tape.{palette, resize, user_map}
 use Rattle.vt_screen.specs.declared.out.Out.{Out}
 use Rattle.vt_switch.specs.Acts.{SwitchAct, Allocate, Request, Release, SetMode, SetKd, Lock, Free, End}
-use Rattle.vt_switch.specs.Calls.{after_asked, after_mode, after_released, asked, free, freed, handled, handling_of, is_held, names, released}
+use Rattle.vt_switch.specs.Calls.{after_asked, after_mode, after_released, request_outcome, free, without_console, with_console_handling, handling_of, is_held, names, release_result}
 use Rattle.vt_switch.specs.Deaths.{after_hop, ended_hop, left_by}
 use Rattle.vt_switch.specs.Display.{Display, console, fresh, or_fresh, owner_of}
 use Rattle.vt_switch.specs.Moments.{Core, core_after, is_live, marks, raise}
@@ -32,16 +32,16 @@ use Rattle.vt_switch.specs.declared.mark.Mark.{Mark}
 use Rattle.vt_world.proofs.Quiet.{are_quiet, is_quiet_act, is_quiet_own, outs_quiet, scan_quiet, sent_quiet, wait_quiet}
 use Rattle.vt_world.proofs.Steps.{by_step}
 use Rattle.vt_world.proofs.Truths.{differ, left_of, or_false, or_left, or_right, right_of}
-use Rattle.vt_world.specs.Deeds.{Deed, Asks, By, Clears, Own, OwnDeed, Alters, Raises, Starts, Writes, acted, all_done, done, own_done, requested}
-use Rattle.vt_world.specs.Heard.{cleared, heard, tell}
+use Rattle.vt_world.specs.Deeds.{Deed, Asks, By, Clears, Own, OwnDeed, Alters, Raises, Starts, Writes, after_switch_act, apply_deeds, apply_deed, apply_own_deed, after_request}
+use Rattle.vt_world.specs.Heard.{without_marks, apply_mark, apply_marks}
 use Rattle.vt_world.specs.History.{replay}
 use Rattle.vt_world.specs.Laws.{IsStart, TerminalsAreAllocated}
-use Rattle.vt_world.specs.Rows.{freeing, out_deeds, row}
-use Rattle.vt_world.specs.Start.{opening}
+use Rattle.vt_world.specs.Rows.{free_deeds, out_deeds, row}
+use Rattle.vt_world.specs.Start.{start_world}
 use Rattle.vt_world.specs.State.{WorldState, HasTerminals, core}
 use Rattle.vt_world.specs.Step.{Outcome, step}
 use Rattle.vt_world.specs.Terminals.{altered_by, new_terminal, or_new, said_of, terminal_at, written_on}
-use Rattle.vt_world.specs.Refusals.{Refusal, first_refusal, is_empty, is_in_use, mode_of, named, needs_console_or_0, needs_open, needs_right, own_refusals, refusal, target}
+use Rattle.vt_world.specs.Refusals.{Refusal, first_refusal, is_empty, is_in_use, mode_of, console_by_number, needs_console_or_0, needs_open, needs_right, own_refusals, refusal, target}
 use Rattle.vt_world.specs.Wanted.{wanted_in}
 use Rattle.key_tables.specs.Tables.{Tables}
 
@@ -92,7 +92,7 @@ mode_kept : (d : Display) (c : ℕ) (handling : Option Handling)
     → taken (after_mode d c handling).consoles ≡ taken d.consoles
 mode_kept d c None = refl
 mode_kept d c (Some handling) =
-    let new : Display = handled d c handling in
+    let new : Display = with_console_handling d c handling in
     ap taken (either_same (c == d.front) (record new { pending = None }) new refl)
     ∙ set_kept d.consoles c (with_handling handling)
 
@@ -112,9 +112,9 @@ pub act_kept : (k : Core) (act : SwitchAct) → places act ≡ false
     → taken (core_after k act).display.consoles ≡ taken k.display.consoles
 act_kept k (Allocate n) stays = differ (sym stays)
 act_kept k (Free n) stays = differ (sym stays)
-act_kept k (Request n) stays = ap taken (asked_same k.display n (asked k.display n))
+act_kept k (Request n) stays = ap taken (asked_same k.display n (request_outcome k.display n))
 act_kept k (Release c p arg) stays =
-    ap taken (released_same k.display arg (released k.display c p arg))
+    ap taken (released_same k.display arg (release_result k.display c p arg))
 act_kept k (SetMode c p m) stays = mode_if (is_live k p) k c (handling_of p m)
 act_kept k (SetKd c graphics) stays =
     set_kept k.display.consoles c (λ console. record console { graphics = graphics })
@@ -124,30 +124,30 @@ act_kept k (End p) stays =
     record k.display { consoles = map (option_map (left_by p)) k.display.consoles } in
     ap taken (hop_same given (ended_hop k.display p)) ∙ map_kept (left_by p) k.display.consoles
 
-tell_keeps : (w : WorldState) (told : List Mark) → HasTerminals w → HasTerminals (tell w told)
+tell_keeps : (w : WorldState) (told : List Mark) → HasTerminals w → HasTerminals (apply_marks w told)
 tell_keeps w [] has = has
-tell_keeps w (m ∷ told) has = tell_keeps (heard w m) told has
+tell_keeps w (m ∷ told) has = tell_keeps (apply_mark w m) told has
 
 acted_keeps : (w : WorldState) (act : SwitchAct) → places act ≡ false → HasTerminals w
-    → HasTerminals (acted w act)
+    → HasTerminals (after_switch_act w act)
 acted_keeps w act stays has =
     let k : Core = core_after (core w) act in
     tell_keeps (record w { display = k.display }) (marks (core w) act)
     (has ∙ sym (act_kept (core w) act stays))
 
 quiet_act_keeps : (w : WorldState) (act : SwitchAct) → is_quiet_act act ≡ true → HasTerminals w
-    → HasTerminals (acted w act)
+    → HasTerminals (after_switch_act w act)
 quiet_act_keeps w (Allocate n) quiet has = differ quiet
 quiet_act_keeps w (Free n) quiet has = differ quiet
 quiet_act_keeps w act quiet has = acted_keeps w act refl has
 
 request_keeps : (w : WorldState) (wanted : Option ℕ) → HasTerminals w
-    → HasTerminals (requested w wanted)
+    → HasTerminals (after_request w wanted)
 request_keeps w None has = has
 request_keeps w (Some n) has = acted_keeps w (Request n) refl has
 
 quiet_own_keeps : (w : WorldState) (deed : OwnDeed) → is_quiet_own deed ≡ true → HasTerminals w
-    → HasTerminals (own_done w deed)
+    → HasTerminals (apply_own_deed w deed)
 quiet_own_keeps w (Starts n) quiet has = differ quiet
 quiet_own_keeps w (Clears n) quiet has = differ quiet
 quiet_own_keeps w (Writes n bytes) quiet has = differ quiet
@@ -156,26 +156,26 @@ quiet_own_keeps w (Raises p signal) quiet has = tell_keeps w (raise (core w) p s
 quiet_own_keeps w deed quiet has = has
 
 quiet_keeps : (w : WorldState) (deeds : List Deed) → are_quiet deeds ≡ true → HasTerminals w
-    → HasTerminals (all_done w deeds)
+    → HasTerminals (apply_deeds w deeds)
 quiet_keeps w [] quiet has = has
 quiet_keeps w (By act ∷ deeds) quiet has =
-    quiet_keeps (acted w act) deeds (right_of (is_quiet_act act) (are_quiet deeds) quiet)
+    quiet_keeps (after_switch_act w act) deeds (right_of (is_quiet_act act) (are_quiet deeds) quiet)
     (quiet_act_keeps w act (left_of (is_quiet_act act) (are_quiet deeds) quiet) has)
 quiet_keeps w (Asks wanted ∷ deeds) quiet has =
-    quiet_keeps (done w (Asks wanted)) deeds quiet
+    quiet_keeps (apply_deed w (Asks wanted)) deeds quiet
     (request_keeps w (wanted_in w.display wanted) has)
 quiet_keeps w (Own deed ∷ deeds) quiet has =
-    quiet_keeps (own_done w deed) deeds (right_of (is_quiet_own deed) (are_quiet deeds) quiet)
+    quiet_keeps (apply_own_deed w deed) deeds (right_of (is_quiet_own deed) (are_quiet deeds) quiet)
     (quiet_own_keeps w deed (left_of (is_quiet_own deed) (are_quiet deeds) quiet) has)
 
 -- a write and a change keep who has a terminal
 writes_keeps : (w : WorldState) (n : ℕ) (bytes : List ℕ) → HasTerminals w
-    → HasTerminals (done w (Own (Writes n bytes)))
+    → HasTerminals (apply_deed w (Own (Writes n bytes)))
 writes_keeps w n bytes has = set_kept w.terminals n (written_on bytes) ∙ has
 
 -- console n is allocated, and has a terminal
 starts_keeps : (w : WorldState) (n : ℕ) → HasTerminals w
-    → HasTerminals (done (done w (By (Allocate n))) (Own (Starts n)))
+    → HasTerminals (apply_deed (apply_deed w (By (Allocate n))) (Own (Starts n)))
 starts_keeps w n has =
     map-set is_some w.terminals n (Some (or_new w.rows w.cols (terminal_at w.terminals n)))
     ∙ ap (λ (list : List Bool). set list n true) has
@@ -185,19 +185,19 @@ starts_keeps w n has =
 -- a console that isn't held is freed, and its terminal with it
 both_cleared : (w : WorldState) (n : ℕ) (d : Display)
     → taken d.consoles ≡ set (taken w.display.consoles) n false → HasTerminals w
-    → HasTerminals (done (record w { display = d }) (Own (Clears n)))
-both_cleared w n d freed has =
+    → HasTerminals (apply_deed (record w { display = d }) (Own (Clears n)))
+both_cleared w n d without_console has =
     map-set is_some w.terminals n None
     ∙ ap (λ (list : List Bool). set list n false) has
-    ∙ sym freed
+    ∙ sym without_console
 
 free_if : (held : Bool) (d : Display) (n : ℕ) → held ≡ false
-    → cond held d (freed d n) ≡ freed d n
+    → cond held d (without_console d n) ≡ without_console d n
 free_if true d n isnt = differ (sym isnt)
 free_if false d n isnt = refl
 
 frees_keeps : (w : WorldState) (n : ℕ) → is_held w.display n ≡ false → HasTerminals w
-    → HasTerminals (done (done w (By (Free n))) (Own (Clears n)))
+    → HasTerminals (apply_deed (apply_deed w (By (Free n))) (Own (Clears n)))
 frees_keeps w n loose has =
     both_cleared w n (free w.display n)
     (ap (λ (d : Display). taken d.consoles) (free_if (is_held w.display n) w.display n loose)
@@ -216,15 +216,15 @@ none_owned (place ∷ places) (suc n) zero loose = loose
 none_owned (place ∷ places) (suc n) (suc k) loose = none_owned places n k loose
 
 -- to free a console makes no other held
-freed_loose : (d : Display) (n k : ℕ) → is_held d k ≡ false → is_held (freed d n) k ≡ false
+freed_loose : (d : Display) (n k : ℕ) → is_held d k ≡ false → is_held (without_console d n) k ≡ false
 freed_loose d n k loose =
-    let named : Bool = k == d.front || names k d.pending in
+    let console_by_number : Bool = k == d.front || names k d.pending in
     let owned : Bool = is_owned (get_or d.consoles k None) in
-    or_false named (is_owned (get_or (set d.consoles n None) k None)) (or_left named owned loose)
-    (none_owned d.consoles n k (or_right named owned loose))
+    or_false console_by_number (is_owned (get_or (set d.consoles n None) k None)) (or_left console_by_number owned loose)
+    (none_owned d.consoles n k (or_right console_by_number owned loose))
 
 loose_if : (held : Bool) (d : Display) (n k : ℕ) → is_held d k ≡ false
-    → is_held (cond held d (freed d n)) k ≡ false
+    → is_held (cond held d (without_console d n)) k ≡ false
 loose_if true d n k loose = loose
 loose_if false d n k loose = freed_loose d n k loose
 
@@ -241,17 +241,17 @@ abbrev Looser : WorldState → WorldState → Type 0
 Looser v w = (k : ℕ) → is_held v.display k ≡ false → is_held w.display k ≡ false
 
 abbrev without : WorldState → ℕ → WorldState
-without w n = done (done w (By (Free n))) (Own (Clears n))
+without w n = apply_deed (apply_deed w (By (Free n))) (Own (Clears n))
 
 free_unless : (v w : WorldState) (n : ℕ) (used : Bool) (rest : List ℕ) → is_in_use v n ≡ used
-    → HasTerminals (all_done w (flat_map freeing rest))
-    → (is_in_use v n ≡ false → HasTerminals (all_done (without w n) (flat_map freeing rest)))
-    → HasTerminals (all_done w (flat_map freeing (cond (not used) (n ∷ rest) rest)))
-free_unless v w n true rest is skipped freed = skipped
-free_unless v w n false rest is skipped freed = freed is
+    → HasTerminals (apply_deeds w (flat_map free_deeds rest))
+    → (is_in_use v n ≡ false → HasTerminals (apply_deeds (without w n) (flat_map free_deeds rest)))
+    → HasTerminals (apply_deeds w (flat_map free_deeds (cond (not used) (n ∷ rest) rest)))
+free_unless v w n true rest is skipped without_console = skipped
+free_unless v w n false rest is skipped without_console = without_console is
 
 all_frees_keep : (v w : WorldState) (numbers : List ℕ) → Looser v w → HasTerminals w
-    → HasTerminals (all_done w (flat_map freeing (unused v numbers)))
+    → HasTerminals (apply_deeds w (flat_map free_deeds (unused v numbers)))
 all_frees_keep v w [] looser has = has
 all_frees_keep v w (n ∷ numbers) looser has =
     let rest : List ℕ = unused v numbers in
@@ -263,7 +263,7 @@ all_frees_keep v w (n ∷ numbers) looser has =
 
 frees_if : (all : Bool) (w : WorldState) (n : ℕ) → (not all && is_in_use w n) ≡ false
     → HasTerminals w
-    → HasTerminals (all_done w (cond all (flat_map freeing (unused w (range_with_len 1 63))) (freeing n)))
+    → HasTerminals (apply_deeds w (cond all (flat_map free_deeds (unused w (range_with_len 1 63))) (free_deeds n)))
 frees_if true w n free has = all_frees_keep w w (range_with_len 1 63) (λ k loose. loose) has
 frees_if false w n free has = frees_keeps w n (not_used w n free) has
 
@@ -282,7 +282,7 @@ passed r refusals none = pass_if r.applies r.with (first_refusal refusals) none
 
 disallocate_keeps : (w : WorldState) (p fd n : ℕ)
     → first_refusal (own_refusals w p (event.Disallocate fd n)) ≡ None → HasTerminals w
-    → HasTerminals (all_done w (row w p (event.Disallocate fd n)).deeds)
+    → HasTerminals (apply_deeds w (row w p (event.Disallocate fd n)).deeds)
 disallocate_keeps w p fd n accepted has =
     let fourth : Refusal = refusal (not (n == 0) && is_in_use w n) Busy in
     let third : Refusal = needs_console_or_0 n in
@@ -295,17 +295,17 @@ disallocate_keeps w p fd n accepted has =
 
 -- the deeds of an event that nothing refuses
 row_keeps : (w : WorldState) (p : ℕ) (e : Event) → first_refusal (own_refusals w p e) ≡ None
-    → HasTerminals w → HasTerminals (all_done w (row w p e).deeds)
+    → HasTerminals w → HasTerminals (apply_deeds w (row w p e).deeds)
 row_keeps w p (event.Scan b) accepted has =
     quiet_keeps w (row w p (event.Scan b)).deeds (scan_quiet w _ w.display.front b) has
-row_keeps w p (event.OpenCon n) accepted has = starts_keeps w (named w n) has
+row_keeps w p (event.OpenCon n) accepted has = starts_keeps w (console_by_number w n) has
 row_keeps w p (event.Activate fd n) accepted has =
-    acted_keeps (done (done w (By (Allocate n))) (Own (Starts n))) (Request n) refl
+    acted_keeps (apply_deed (apply_deed w (By (Allocate n))) (Own (Starts n))) (Request n) refl
     (starts_keeps w n has)
 row_keeps w p (event.Write fd b) accepted has =
     let c : ℕ = target w p fd in
     let said : List Out = said_of (terminal_at w.terminals c) b.bytes in
-    quiet_keeps (done w (Own (Writes c b.bytes))) (flat_map (out_deeds c) said) (outs_quiet c said)
+    quiet_keeps (apply_deed w (Own (Writes c b.bytes))) (flat_map (out_deeds c) said) (outs_quiet c said)
     (writes_keeps w c b.bytes has)
 row_keeps w p (event.WaitInput fd) accepted has =
     quiet_keeps w (row w p (event.WaitInput fd)).deeds
@@ -334,7 +334,7 @@ pub step_keeps : (w : WorldState) (p : ℕ) (e : Event) → HasTerminals w
     → HasTerminals (step w p e).world
 step_keeps w p e has =
     by_step (λ (deeds : List Deed) (after : Outcome). HasTerminals after.world) w p e
-    (λ errno. has) (λ accepted. row_keeps (cleared w) p e accepted has)
+    (λ errno. has) (λ accepted. row_keeps (without_marks w) p e accepted has)
 
 -- at a start
 taken_if : {A B : Type 0} (b : Bool) (one : A) (other : B)
@@ -354,7 +354,7 @@ taken_alike consoles one other (n ∷ numbers) =
     (taken_alike consoles one other numbers)
 
 pub opening_has : (rows cols consoles front keyboards : ℕ) (processes : List ProcStart) (tables : Tables)
-    → HasTerminals (opening rows cols consoles front keyboards processes tables)
+    → HasTerminals (start_world rows cols consoles front keyboards processes tables)
 opening_has rows cols consoles front keyboards processes tables =
     taken_alike consoles (new_terminal rows cols) fresh (range_with_len 0 64)
 
@@ -370,5 +370,5 @@ start_has w start =
     subst HasTerminals (sym start.opened)
     (opening_has start.rows start.cols start.consoles start.front start.keyboards start.processes start.tables)
 
-pub terminals-are-allocated : TerminalsAreAllocated
-terminals-are-allocated w entries start = replay_keeps w entries (start_has w start)
+pub terminals_are_allocated : TerminalsAreAllocated
+terminals_are_allocated w entries start = replay_keeps w entries (start_has w start)

@@ -11,10 +11,10 @@ use Rattle.vt_world.proofs.Quiet.{are_quiet, is_quiet_act, is_quiet_own, outs_qu
 use Rattle.vt_world.proofs.Steps.{by_step}
 use Rattle.vt_world.proofs.Truths.{differ, left_of, right_of}
 use Rattle.vt_world.specs.Acts.{all_acts, request_of}
-use Rattle.vt_world.specs.Deeds.{Deed, Asks, By, Clears, Own, Writes, done}
-use Rattle.vt_world.specs.Heard.{cleared}
+use Rattle.vt_world.specs.Deeds.{Deed, Asks, By, Clears, Own, Writes, apply_deed}
+use Rattle.vt_world.specs.Heard.{without_marks}
 use Rattle.vt_world.specs.Laws.{ActsAreCalls, AllCalled, IsCalled}
-use Rattle.vt_world.specs.Rows.{freeing, out_deeds, row}
+use Rattle.vt_world.specs.Rows.{free_deeds, out_deeds, row}
 use Rattle.vt_world.specs.State.{WorldState}
 use Rattle.vt_world.specs.Step.{Outcome}
 use Rattle.vt_world.specs.Terminals.{said_of, terminal_at}
@@ -39,53 +39,53 @@ all_quiet : (w : WorldState) (p : ℕ) (e : Event) (v : WorldState) (deeds : Lis
 all_quiet w p e v [] quiet = tt
 all_quiet w p e v (By act ∷ deeds) quiet = (
   quiet_called w p e act (left_of (is_quiet_act act) (are_quiet deeds) quiet),
-  all_quiet w p e (done v (By act)) deeds
+  all_quiet w p e (apply_deed v (By act)) deeds
       (right_of (is_quiet_act act) (are_quiet deeds) quiet),
 )
 all_quiet w p e v (Asks wanted ∷ deeds) quiet =
-    let next : WorldState = done v (Asks wanted) in
+    let next : WorldState = apply_deed v (Asks wanted) in
     requests_called w p e (wanted_in v.display wanted) (all_acts next deeds)
     (all_quiet w p e next deeds quiet)
 all_quiet w p e v (Own deed ∷ deeds) quiet =
-    all_quiet w p e (done v (Own deed)) deeds
+    all_quiet w p e (apply_deed v (Own deed)) deeds
     (right_of (is_quiet_own deed) (are_quiet deeds) quiet)
 
 frees_called : (w : WorldState) (p : ℕ) (e : Event) (v : WorldState) (consoles : List ℕ)
-    → AllCalled w p e (all_acts v (flat_map freeing consoles))
+    → AllCalled w p e (all_acts v (flat_map free_deeds consoles))
 frees_called w p e v [] = tt
 frees_called w p e v (c ∷ consoles) =
-    (tt, frees_called w p e (done (done v (By (Free c))) (Own (Clears c))) consoles)
+    (tt, frees_called w p e (apply_deed (apply_deed v (By (Free c))) (Own (Clears c))) consoles)
 
 disallocate_called : (all : Bool) (w : WorldState) (p : ℕ) (e : Event) (v : WorldState) (n : ℕ)
     (consoles : List ℕ)
-    → AllCalled w p e (all_acts v (cond all (flat_map freeing consoles) (freeing n)))
+    → AllCalled w p e (all_acts v (cond all (flat_map free_deeds consoles) (free_deeds n)))
 disallocate_called true w p e v n consoles = frees_called w p e v consoles
 disallocate_called false w p e v n consoles = (tt, tt)
 
 row_called : (w : WorldState) (p : ℕ) (e : Event)
-    → AllCalled w p e (all_acts (cleared w) (row (cleared w) p e).deeds)
+    → AllCalled w p e (all_acts (without_marks w) (row (without_marks w) p e).deeds)
 row_called w p (event.Scan b) =
-    let v : WorldState = cleared w in
+    let v : WorldState = without_marks w in
     all_quiet w p (event.Scan b) v (row v p (event.Scan b)).deeds (scan_quiet v _ w.display.front b)
 row_called w p (event.Write fd b) =
-    let v : WorldState = cleared w in
+    let v : WorldState = without_marks w in
     let c : ℕ = target w p fd in
     let said : List Out = said_of (terminal_at w.terminals c) b.bytes in
-    all_quiet w p (event.Write fd b) (done v (Own (Writes c b.bytes)))
+    all_quiet w p (event.Write fd b) (apply_deed v (Own (Writes c b.bytes)))
     (flat_map (out_deeds c) said) (outs_quiet c said)
 row_called w p (event.WaitInput fd) =
-    let v : WorldState = cleared w in
+    let v : WorldState = without_marks w in
     all_quiet w p (event.WaitInput fd) v (row v p (event.WaitInput fd)).deeds
     (wait_quiet (not (is_empty w (target w p fd))) p (Input (target w p fd)))
 row_called w p (event.WaitActive fd n) =
-    let v : WorldState = cleared w in
+    let v : WorldState = without_marks w in
     all_quiet w p (event.WaitActive fd n) v (row v p (event.WaitActive fd n)).deeds
     (wait_quiet (n == w.display.front) p (Active n))
 row_called w p (event.Disallocate fd n) =
-    disallocate_called (n == 0) w p (event.Disallocate fd n) (cleared w) n
+    disallocate_called (n == 0) w p (event.Disallocate fd n) (without_marks w) n
     (filter (λ c. not (is_in_use w c)) (range_with_len 1 63))
 row_called w p (event.Kill q s) =
-    let v : WorldState = cleared w in
+    let v : WorldState = without_marks w in
     all_quiet w p (event.Kill q s) v (row v p (event.Kill q s)).deeds (sent_quiet (s == 9) q s)
 row_called w p (event.SetMode fd m wait r a f) =
     ((refl, record { fd = fd; call = refl; console = refl }), tt)
@@ -96,10 +96,10 @@ row_called w p (event.Activate fd n) = (tt, (tt, tt))
 row_called w p (event.Resize fd rows cols) = tt
 row_called w p (event.SetMap fd b) = tt
 row_called w p (event.SetPal fd b) = tt
-row_called w p e = all_quiet w p e (cleared w) (row (cleared w) p e).deeds refl
+row_called w p e = all_quiet w p e (without_marks w) (row (without_marks w) p e).deeds refl
 
-pub acts-are-calls : ActsAreCalls
-acts-are-calls w p e =
+pub acts_are_calls : ActsAreCalls
+acts_are_calls w p e =
     by_step
-    (λ (deeds : List Deed) (after : Outcome). AllCalled w p e (all_acts (cleared w) deeds))
+    (λ (deeds : List Deed) (after : Outcome). AllCalled w p e (all_acts (without_marks w) deeds))
     w p e (λ errno. tt) (λ accepted. row_called w p e)

@@ -3,13 +3,13 @@ use Rattle.std.proofs.Common.{◌≡◌, ℕ, Bool, true, false, cond, List, [],
 use Rattle.std.proofs.Math.Seq.{map-set_same}
 use Rattle.std.proofs.lemmas.List.{map-set}
 use Rattle.std.specs.List.{list_any}
-use Rattle.vt_procs.specs.Callers.{Callers, adds_open, caller_at, gone, loses_open, no_caller, with_caller}
-use Rattle.vt_procs.specs.Tickets.{broken, can_go, filled, is_for_display, is_for_input, left, settled, signalled, succeeded, with_waiting, without_pending}
+use Rattle.vt_procs.specs.Callers.{Callers, adds_open, caller_at, dead_process, loses_open, no_caller, with_caller}
+use Rattle.vt_procs.specs.Tickets.{after_signal, can_go, after_input_on, is_for_display, is_for_input, waiting_after_report, after_idle_rule, with_signal_pending, after_success, with_waiting, without_pending}
 use Rattle.vt_procs.specs.declared.process.Process.{Process}
 use Rattle.vt_procs.specs.declared.waiting.Waiting.{Waiting}
 use Rattle.vt_procs.specs.declared.waiting.Waiting.TheVariants.{Open}
 use Rattle.vt_switch.specs.Acts.{SwitchAct, Allocate, Request, Release, SetMode, SetKd, Lock, Free, End, after, hop_of}
-use Rattle.vt_switch.specs.Calls.{asked}
+use Rattle.vt_switch.specs.Calls.{request_outcome}
 use Rattle.vt_switch.specs.Display.{Display, console, is_allocated}
 use Rattle.vt_switch.specs.Moments.{Core, all_after, core_after, hop_marks, is_live, marks, own_marks, raise_acquire, raise_release}
 use Rattle.vt_switch.specs.declared.asked.Asked.{Asked}
@@ -20,8 +20,8 @@ use Rattle.vt_switch.specs.declared.hop.Hop.{Hop}
 use Rattle.vt_switch.specs.declared.mark.Mark.{Mark}
 use Rattle.vt_switch.specs.declared.mark.Mark.TheVariants as mark
 use Rattle.vt_world.specs.Acts.{acts_of, all_acts, request_of}
-use Rattle.vt_world.specs.Deeds.{Deed, By, Asks, Own, OwnDeed, Starts, Clears, Writes, Alters, Puts, Takes, Lights, Keyed, Scanned, Coded, Mapped, Types, Unplugs, Opens, Shuts, Waits, Collects, Receives, Accepts, Raises, acted, all_done, done, own_done, requested}
-use Rattle.vt_world.specs.Heard.{heard, heard_by, tell}
+use Rattle.vt_world.specs.Deeds.{Deed, By, Asks, Own, OwnDeed, Starts, Clears, Writes, Alters, Puts, Takes, Lights, Keyed, Scanned, Coded, Mapped, Types, Unplugs, Opens, Shuts, Waits, Collects, Receives, Accepts, Raises, after_switch_act, apply_deeds, apply_deed, apply_own_deed, after_request}
+use Rattle.vt_world.specs.Heard.{apply_mark, callers_after_mark, apply_marks}
 use Rattle.vt_world.specs.Inputs.{comes, input_at}
 use Rattle.vt_world.specs.State.{WorldState, core}
 use Rattle.vt_world.specs.Wanted.{wanted_in}
@@ -51,18 +51,18 @@ waiting_kept ends (process ∷ list) =
     ap (λ (live : List Bool). process.live ∷ live) (waiting_kept ends list)
 
 pub filled_kept : (b : Bool) (n : ℕ) (callers : Callers)
-    → lives (cond b (filled n callers) callers) ≡ lives callers
-filled_kept true n callers = waiting_kept (succeeded (is_for_input n)) callers.list
+    → lives (cond b (after_input_on n callers) callers) ≡ lives callers
+filled_kept true n callers = waiting_kept (after_success (is_for_input n)) callers.list
 filled_kept false n callers = refl
 
 settled_if : (b : Bool) (callers : Callers)
-    → lives (cond b callers (record callers { list = all_waiting broken callers.list }))
+    → lives (cond b callers (record callers { list = all_waiting after_signal callers.list }))
     ≡ lives callers
 settled_if true callers = refl
-settled_if false callers = waiting_kept broken callers.list
+settled_if false callers = waiting_kept after_signal callers.list
 
 -- the idle rule keeps who lives
-pub settled_kept : (callers : Callers) → lives (settled callers) ≡ lives callers
+pub settled_kept : (callers : Callers) → lives (after_idle_rule callers) ≡ lives callers
 settled_kept callers = settled_if (list_any can_go callers.list) callers
 
 -- who lives after a mark is heard, and after several
@@ -76,19 +76,19 @@ abbrev all_lives_after : List Mark → List Bool → List Bool
 all_lives_after [] live = live
 all_lives_after (m ∷ told) live = all_lives_after told (lives_after m live)
 
-pub hears : (m : Mark) (callers : Callers) → lives (heard_by m callers) ≡ lives_after m (lives callers)
+pub hears : (m : Mark) (callers : Callers) → lives (callers_after_mark m callers) ≡ lives_after m (lives callers)
 hears (mark.Asked n) callers = refl
 hears (mark.Raised p signal) callers =
-    with_kept callers p (signalled (caller_at callers p) signal) refl
-hears (mark.Hopped hop) callers = waiting_kept (succeeded (is_for_display hop.to)) callers.list
+    with_kept callers p (with_signal_pending (caller_at callers p) signal) refl
+hears (mark.Hopped hop) callers = waiting_kept (after_success (is_for_display hop.to)) callers.list
 hears (mark.Ended p) callers =
-    map-set (λ (caller : Process). caller.live) callers.list p (gone (caller_at callers p))
+    map-set (λ (caller : Process). caller.live) callers.list p (dead_process (caller_at callers p))
 
 tells : (w : WorldState) (told : List Mark)
-    → core (tell w told) ≡ core_of w.display (all_lives_after told (lives w.callers))
+    → core (apply_marks w told) ≡ core_of w.display (all_lives_after told (lives w.callers))
 tells w [] = refl
 tells w (m ∷ told) =
-    tells (heard w m) told
+    tells (apply_mark w m) told
     ∙ ap (λ (live : List Bool). core_of w.display (all_lives_after told live)) (hears m w.callers)
 
 -- only an end ends a life
@@ -132,7 +132,7 @@ if_live false k display = refl
 own_lives : (k : Core) (act : SwitchAct)
     → all_lives_after (own_marks k act) k.live ≡ (core_after k act).live
 own_lives k (Allocate n) = refl
-own_lives k (Request n) = asked_keeps (is_allocated k.display n) n k (asked k.display n) k.live
+own_lives k (Request n) = asked_keeps (is_allocated k.display n) n k (request_outcome k.display n) k.live
 own_lives k (Release c p arg) = refl
 own_lives k (SetMode c p m) = if_live (is_live k p) k (after k.display (SetMode c p m))
 own_lives k (SetKd c graphics) = refl
@@ -149,7 +149,7 @@ marks_live k act =
     ∙ own_lives k act
 
 -- an act of the console is an act on its core
-pub acted_core : (w : WorldState) (act : SwitchAct) → core (acted w act) ≡ core_after (core w) act
+pub acted_core : (w : WorldState) (act : SwitchAct) → core (after_switch_act w act) ≡ core_after (core w) act
 acted_core w act =
     let display : Display = (core_after (core w) act).display in
     tells (record w { display = display }) (marks (core w) act)
@@ -160,20 +160,20 @@ pub same_core : (w : WorldState) (callers : Callers) → lives callers ≡ lives
 same_core w callers same = ap (core_of w.display) same
 
 raises_core : (b : Bool) (w : WorldState) (p signal : ℕ)
-    → core (tell w (cond b (mark.Raised p signal ∷ []) [])) ≡ core w
+    → core (apply_marks w (cond b (mark.Raised p signal ∷ []) [])) ≡ core w
 raises_core b w p signal =
     tells w (cond b (mark.Raised p signal ∷ []) [])
     ∙ ap (core_of w.display) (raised_if b p signal (lives w.callers))
 
 -- a deed of its own keeps the core
-pub own_core : (w : WorldState) (deed : OwnDeed) → core (own_done w deed) ≡ core w
+pub own_core : (w : WorldState) (deed : OwnDeed) → core (apply_own_deed w deed) ≡ core w
 own_core w (Starts n) = refl
 own_core w (Clears n) = refl
 own_core w (Writes n bytes) = refl
 own_core w (Alters n m) = refl
 own_core w (Puts n piece) =
     let some : Bool = comes (input_at w.inputs n).queue piece in
-    same_core w (cond some (filled n w.callers) w.callers) (filled_kept some n w.callers)
+    same_core w (cond some (after_input_on n w.callers) w.callers) (filled_kept some n w.callers)
 own_core w (Takes n count) = refl
 own_core w (Lights n lights) = refl
 own_core w (Keyed n state) = refl
@@ -193,7 +193,7 @@ own_core w (Waits p ticket) =
     same_core w (with_caller w.callers p new) (with_kept w.callers p new refl)
 own_core w (Collects p) =
     let new : Process =
-    with_waiting (caller_at w.callers p) (left (caller_at w.callers p).waiting) in
+    with_waiting (caller_at w.callers p) (waiting_after_report (caller_at w.callers p).waiting) in
     same_core w (with_caller w.callers p new) (with_kept w.callers p new refl)
 own_core w (Receives p) =
     let new : Process = without_pending (caller_at w.callers p) in
@@ -202,13 +202,13 @@ own_core w (Accepts p signal) = refl
 own_core w (Raises p signal) = raises_core (is_live (core w) p) w p signal
 
 requested_core : (w : WorldState) (wanted : Option ℕ)
-    → core (requested w wanted) ≡ all_after (core w) (request_of wanted)
+    → core (after_request w wanted) ≡ all_after (core w) (request_of wanted)
 requested_core w None = refl
 requested_core w (Some n) = acted_core w (Request n)
 
 -- a deed leaves the core that its acts leave
 pub deed_core : (w : WorldState) (deed : Deed)
-    → core (done w deed) ≡ all_after (core w) (acts_of w deed)
+    → core (apply_deed w deed) ≡ all_after (core w) (acts_of w deed)
 deed_core w (By act) = acted_core w act
 deed_core w (Asks wanted) = requested_core w (wanted_in w.display wanted)
 deed_core w (Own deed) = own_core w deed
@@ -219,10 +219,10 @@ after_append k [] b = refl
 after_append k (act ∷ a) b = after_append (core_after k act) a b
 
 pub deeds_core : (w : WorldState) (deeds : List Deed)
-    → core (all_done w deeds) ≡ all_after (core w) (all_acts w deeds)
+    → core (apply_deeds w deeds) ≡ all_after (core w) (all_acts w deeds)
 deeds_core w [] = refl
 deeds_core w (deed ∷ deeds) =
-    let rest : List SwitchAct = all_acts (done w deed) deeds in
-    deeds_core (done w deed) deeds
+    let rest : List SwitchAct = all_acts (apply_deed w deed) deeds in
+    deeds_core (apply_deed w deed) deeds
     ∙ ap (λ (k : Core). all_after k rest) (deed_core w deed)
     ∙ sym (after_append (core w) (acts_of w deed) rest)

@@ -9,15 +9,15 @@ use Rattle.std.specs.Prelude.{slice_get}
 use Rattle.vt_world.specs.History.{IsNext, LegalGrows, NothingIsLegal, ReplayGrows}
 use Rattle.vt_world.specs.Step.{step}
 
-pub nothing-is-legal : NothingIsLegal
-nothing-is-legal start k entry is =
+pub nothing_is_legal : NothingIsLegal
+nothing_is_legal start k entry is =
     let within : k < 0 = slice_get_within [] k entry is in
     absurd (let impossible : ⊥ = omega (arith, within) in impossible)
 
-pub replay-grows : ReplayGrows
-replay-grows start [] entry = refl
-replay-grows start (first ∷ entries) entry =
-    replay-grows (step start first.caller first.event).world entries entry
+pub replay_grows : ReplayGrows
+replay_grows start [] entry = refl
+replay_grows start (first ∷ entries) entry =
+    replay_grows (step start first.caller first.event).world entries entry
 
 -- what stands in a list with one more element: an element of the list, or that one behind it
 at_either : {A : Type 0} (xs : List A) (x : A) (k : ℕ) (y : A)
@@ -37,8 +37,8 @@ at_either xs x k y is =
     inr (last, sym here ∙ read))
     (cases_lt k (length xs))
 
-pub legal-grows : LegalGrows
-legal-grows start entries entry legal next k found is = ⊎_elim
+pub legal_grows : LegalGrows
+legal_grows start entries entry legal next k found is = ⊎_elim
     (λ old.
     let within : k < length entries = slice_get_within entries k found old in
     subst (λ before. IsNext start before found)

@@ -2,11 +2,11 @@
 use Rattle.std.proofs.Common.{◌≡◌, ℕ, List, [], ◌∷◌, map, Option, Some, refl, sym, ap, ◌∙◌}
 use Rattle.std.proofs.lemmas.List.{map-set}
 use Rattle.std.specs.Prelude.{Bool, false, slice_set}
-use Rattle.vt_procs.specs.Callers.{caller_at, gone}
-use Rattle.vt_procs.specs.Tickets.{shown}
+use Rattle.vt_procs.specs.Callers.{caller_at, dead_process}
+use Rattle.vt_procs.specs.Tickets.{after_display_of}
 use Rattle.vt_procs.specs.declared.process.Process.{Process}
 use Rattle.vt_switch.specs.Acts.{End}
-use Rattle.vt_switch.specs.Deaths.{ended, ended_hop}
+use Rattle.vt_switch.specs.Deaths.{after_process_end, ended_hop}
 use Rattle.vt_switch.specs.Display.{console}
 use Rattle.vt_switch.specs.Moments.{Core, core_after, hop_marks, raise, raise_acquire}
 use Rattle.vt_switch.specs.declared.handling.Handling.{Handling}
@@ -14,51 +14,51 @@ use Rattle.vt_switch.specs.declared.handling.Handling.TheVariants.{Process as Ha
 use Rattle.vt_switch.specs.declared.handshake.Handshake.{Handshake}
 use Rattle.vt_switch.specs.declared.hop.Hop.{Hop}
 use Rattle.vt_switch.specs.declared.mark.Mark.TheVariants as mark
-use Rattle.vt_world.specs.Deeds.{acted}
-use Rattle.vt_world.specs.Heard.{heard, tell}
+use Rattle.vt_world.specs.Deeds.{after_switch_act}
+use Rattle.vt_world.specs.Heard.{apply_mark, apply_marks}
 use Rattle.vt_world.specs.State.{WorldState, core}
 
 abbrev pub lives : List Process → List Bool
 lives list = map (λ (caller : Process). caller.live) list
 
 -- a hop ends tickets, and leaves who lives
-lives-shown : (c : ℕ) (accepter : Option (ℕ × ℕ)) (list : List Process)
-    → lives (shown c (record { list = list; accepter = accepter })).list ≡ lives list
-lives-shown c accepter [] = refl
-lives-shown c accepter (caller ∷ list) =
-    ap (λ more. caller.live ∷ more) (lives-shown c accepter list)
+lives-after_display_of : (c : ℕ) (accepter : Option (ℕ × ℕ)) (list : List Process)
+    → lives (after_display_of c (record { list = list; accepter = accepter })).list ≡ lives list
+lives-after_display_of c accepter [] = refl
+lives-after_display_of c accepter (caller ∷ list) =
+    ap (λ more. caller.live ∷ more) (lives-after_display_of c accepter list)
 
-pub core-hop : (w : WorldState) (hop : Hop) → core (heard w (mark.Hopped hop)) ≡ core w
-core-hop w hop =
-    λ i. record { display = w.display; live = lives-shown hop.to w.callers.accepter w.callers.list i }
+pub core_hop : (w : WorldState) (hop : Hop) → core (apply_mark w (mark.Hopped hop)) ≡ core w
+core_hop w hop =
+    λ i. record { display = w.display; live = lives-after_display_of hop.to w.callers.accepter w.callers.list i }
 
 -- who ended is dead
-pub core-end : (w : WorldState) (p : ℕ)
-    → core (heard w (mark.Ended p)) ≡ record (core w) { live = slice_set (core w).live p false }
-core-end w p = λ i. record {
+pub core_end : (w : WorldState) (p : ℕ)
+    → core (apply_mark w (mark.Ended p)) ≡ record (core w) { live = slice_set (core w).live p false }
+core_end w p = λ i. record {
   display = w.display;
-  live = map-set (λ (caller : Process). caller.live) w.callers.list p (gone (caller_at w.callers p)) i;
+  live = map-set (λ (caller : Process). caller.live) w.callers.list p (dead_process (caller_at w.callers p)) i;
 }
 
 -- an end is told, and the hop that it makes
-pub end-told : (w v : WorldState) (p : ℕ) (hop : Option Hop)
-    → v ≡ heard (record w { display = ended w.display p }) (mark.Ended p)
+pub end_told : (w v : WorldState) (p : ℕ) (hop : Option Hop)
+    → v ≡ apply_mark (record w { display = after_process_end w.display p }) (mark.Ended p)
     → hop ≡ ended_hop w.display p
-    → tell v (hop_marks (core v) hop) ≡ acted w (End p)
-end-told w v p hop heard_it is =
-    let gone : WorldState = record w { display = ended w.display p } in
-    let after : WorldState = heard gone (mark.Ended p) in
-    ap (λ (u : WorldState). tell u (hop_marks (core u) hop)) heard_it
-    ∙ ap (λ (k : Core). tell after (hop_marks k hop)) (core-end gone p)
-    ∙ ap (λ (h : Option Hop). tell after (hop_marks (core_after (core w) (End p)) h)) is
+    → apply_marks v (hop_marks (core v) hop) ≡ after_switch_act w (End p)
+end_told w v p hop heard_it is =
+    let dead_process : WorldState = record w { display = after_process_end w.display p } in
+    let after : WorldState = apply_mark dead_process (mark.Ended p) in
+    ap (λ (u : WorldState). apply_marks u (hop_marks (core u) hop)) heard_it
+    ∙ ap (λ (k : Core). apply_marks after (hop_marks k hop)) (core_end dead_process p)
+    ∙ ap (λ (h : Option Hop). apply_marks after (hop_marks (core_after (core w) (End p)) h)) is
 
 -- a hop and the acquire signal behind it are what a hop tells
-pub hop-told : (w v : WorldState) (hop : Hop) (handshake : Handshake)
-    → v ≡ heard w (mark.Hopped hop)
+pub hop_told : (w v : WorldState) (hop : Hop) (handshake : Handshake)
+    → v ≡ apply_mark w (mark.Hopped hop)
     → (console w.display hop.to).handling ≡ HandledBy handshake
-    → tell v (raise (core v) handshake.owner handshake.acqsig) ≡ tell w (hop_marks (core w) (Some hop))
-hop-told w v hop handshake heard_it handling =
-    let after : WorldState = heard w (mark.Hopped hop) in
-    ap (λ (u : WorldState). tell u (raise (core u) handshake.owner handshake.acqsig)) heard_it
-    ∙ ap (λ (k : Core). tell after (raise k handshake.owner handshake.acqsig)) (core-hop w hop)
-    ∙ ap (λ (h : Handling). tell after (raise_acquire (core w) h)) (sym handling)
+    → apply_marks v (raise (core v) handshake.owner handshake.acqsig) ≡ apply_marks w (hop_marks (core w) (Some hop))
+hop_told w v hop handshake heard_it handling =
+    let after : WorldState = apply_mark w (mark.Hopped hop) in
+    ap (λ (u : WorldState). apply_marks u (raise (core u) handshake.owner handshake.acqsig)) heard_it
+    ∙ ap (λ (k : Core). apply_marks after (raise k handshake.owner handshake.acqsig)) (core_hop w hop)
+    ∙ ap (λ (h : Handling). apply_marks after (raise_acquire (core w) h)) (sym handling)

@@ -33,8 +33,8 @@ acts_grow w (first ∷ entries) entry =
     ap (λ (list : List (List SwitchAct)). event_acts w first.caller first.event ∷ list)
     (acts_grow (step w first.caller first.event).world entries entry)
 
-pub moments-grow : MomentsGrow
-moments-grow w entries entry =
+pub moments_grow : MomentsGrow
+moments_grow w entries entry =
     let acts : List SwitchAct = event_acts (replay w entries) entry.caller entry.event in
     ap (λ (list : List (List SwitchAct)). history 0 (core w) list []) (acts_grow w entries entry)
     ∙ history_grows 0 (core w) (history_acts w entries) acts []

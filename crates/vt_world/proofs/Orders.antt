@@ -17,9 +17,9 @@ use Rattle.vt_switch.specs.Acts.{SwitchAct, End, SetKd}
 use Rattle.vt_switch.specs.Moments.{is_ordered, is_request, settles}
 use Rattle.vt_world.proofs.Truths.{both_of, left_of, right_of}
 use Rattle.vt_world.specs.Acts.{all_acts, request_of}
-use Rattle.vt_world.specs.Deeds.{Deed, Asks, By, Own, Puts, Raises, done}
+use Rattle.vt_world.specs.Deeds.{Deed, Asks, By, Own, Puts, Raises, apply_deed}
 use Rattle.vt_world.specs.Inputs.{input_at}
-use Rattle.vt_world.specs.Rows.{freeing, out_deeds, row, waits_unless}
+use Rattle.vt_world.specs.Rows.{free_deeds, out_deeds, row, waits_unless}
 use Rattle.vt_world.specs.State.{WorldState}
 use Rattle.vt_world.specs.Terminals.{said_of, terminal_at}
 use Rattle.vt_world.specs.Refusals.{is_empty, is_in_use, target}
@@ -75,18 +75,18 @@ acts_ordered asked w [] ordered = refl
 acts_ordered asked w (By act ∷ deeds) ordered =
     let here : Bool = not (asked && settles act) in
     let rest : Bool = in_order (asked || is_request act) deeds in
-    both_of here (is_ordered (asked || is_request act) (all_acts (done w (By act)) deeds))
+    both_of here (is_ordered (asked || is_request act) (all_acts (apply_deed w (By act)) deeds))
     (left_of here rest ordered)
-    (acts_ordered (asked || is_request act) (done w (By act)) deeds (right_of here rest ordered))
+    (acts_ordered (asked || is_request act) (apply_deed w (By act)) deeds (right_of here rest ordered))
 acts_ordered asked w (Asks wanted ∷ deeds) ordered =
     let rest : Bool = in_order (asked || true) deeds in
-    after_wanted asked w (wanted_in w.display wanted) (all_acts (done w (Asks wanted)) deeds)
-    (acts_ordered (asked || true) (done w (Asks wanted)) deeds
+    after_wanted asked w (wanted_in w.display wanted) (all_acts (apply_deed w (Asks wanted)) deeds)
+    (acts_ordered (asked || true) (apply_deed w (Asks wanted)) deeds
     (right_of (not (asked && false)) rest ordered))
 acts_ordered asked w (Own deed ∷ deeds) ordered =
     let rest : Bool = in_order (asked || false) deeds in
-    or_not asked (all_acts (done w (Own deed)) deeds)
-    (acts_ordered (asked || false) (done w (Own deed)) deeds
+    or_not asked (all_acts (apply_deed w (Own deed)) deeds)
+    (acts_ordered (asked || false) (apply_deed w (Own deed)) deeds
     (right_of (not (asked && ends (Own deed))) rest ordered))
 
 -- what a text says asks, and ends nothing
@@ -103,12 +103,12 @@ outs_ordered true c (outs.Lights lights ∷ said) = outs_ordered true c said
 outs_ordered false c (outs.Lights lights ∷ said) = outs_ordered false c said
 outs_ordered asked c (outs.Bell ∷ said) = outs_ordered asked c said
 
-frees_ordered : (consoles : List ℕ) → in_order false (flat_map freeing consoles) ≡ true
+frees_ordered : (consoles : List ℕ) → in_order false (flat_map free_deeds consoles) ≡ true
 frees_ordered [] = refl
 frees_ordered (c ∷ consoles) = frees_ordered consoles
 
 disallocate_ordered : (all : Bool) (n : ℕ) (consoles : List ℕ)
-    → in_order false (cond all (flat_map freeing consoles) (freeing n)) ≡ true
+    → in_order false (cond all (flat_map free_deeds consoles) (free_deeds n)) ≡ true
 disallocate_ordered true n consoles = frees_ordered consoles
 disallocate_ordered false n consoles = refl
 

@@ -6,7 +6,7 @@ use Rattle.std.specs.List.{range_with_len}
 use Rattle.std.specs.Prelude.{is_some}
 use Rattle.vt_base.specs.ConsoleSet.{is_among}
 use Rattle.vt_base.specs.declared.vt_mode.VtMode.{VtMode}
-use Rattle.vt_procs.specs.Callers.{Callers, caller_at, ended, gone, is_live, no_caller}
+use Rattle.vt_procs.specs.Callers.{Callers, caller_at, after_exit, dead_process, is_live, no_caller}
 use Rattle.vt_procs.specs.declared.process.Process.{Process}
 use Rattle.vt_switch.specs.Acts.{SwitchAct, SetMode, End, after}
 use Rattle.vt_switch.specs.Calls.{first_display}
@@ -20,57 +20,57 @@ use Rattle.vt_world.specs.State.{IsWorld, core_of}
 use Rattle.vt_world.specs.Terminals.{TerminalState}
 
 -- after an act that makes a core of this one
-pub after-act : OwnersStayLive → (k l : Core) (act : SwitchAct) → core_after k act ≡ l
+pub after_act : OwnersStayLive → (k l : Core) (act : SwitchAct) → core_after k act ≡ l
     → OwnersLive k → OwnersLive l
-after-act law k l act is owners = subst OwnersLive is (law k ((act ∷ []) ∷ []) owners)
+after_act law k l act is owners = subst OwnersLive is (law k ((act ∷ []) ∷ []) owners)
 
 -- an act that leaves which consoles are allocated, and who lives
-pub still-world : OwnersStayLive → (terminals : List (Option TerminalState)) (d e : Display)
+pub still_world : OwnersStayLive → (terminals : List (Option TerminalState)) (d e : Display)
     (callers : Callers) (act : SwitchAct) → stays act ≡ true
     → core_after (core_of d callers) act ≡ core_of (after d act) callers
     → e ≡ after d act → IsWorld terminals d callers → IsWorld terminals e callers
-still-world law terminals d e callers act it same is w = record {
+still_world law terminals d e callers act it same is w = record {
   alike = still_alike terminals d e act it is w.alike;
   owners =
-      after-act law (core_of d callers) (core_of e callers) act
+      after_act law (core_of d callers) (core_of e callers) act
       (same ∙ ap (λ (x : Display). core_of x callers) (sym is)) w.owners;
 }
 
 -- other terminals, alike
-pub alike-world : (old new : List (Option TerminalState)) (d : Display) (callers : Callers)
+pub alike_world : (old new : List (Option TerminalState)) (d : Display) (callers : Callers)
     → map is_some new ≡ map is_some old → IsWorld old d callers → IsWorld new d callers
-alike-world old new d callers same w = record { alike = same ∙ w.alike; owners = w.owners }
+alike_world old new d callers same w = record { alike = same ∙ w.alike; owners = w.owners }
 
 -- other callers, of whom the same live
-pub same-live : (terminals : List (Option TerminalState)) (d : Display) (old new : Callers)
+pub same_live : (terminals : List (Option TerminalState)) (d : Display) (old new : Callers)
     → lives new ≡ lives old → IsWorld terminals d old → IsWorld terminals d new
-same-live terminals d old new same w = record {
+same_live terminals d old new same w = record {
   alike = w.alike;
   owners = subst (λ (live : List Bool). OwnersLive (record { display = d; live = live })) (sym same) w.owners;
 }
 
 -- who lives in the list of callers is who lives in the core
-live-in : (callers : Callers) (p : ℕ) → get_or (lives callers) p false ≡ is_live callers p
-live-in callers p = get_or-map (λ (caller : Process). caller.live) callers.list p no_caller
+live_in : (callers : Callers) (p : ℕ) → get_or (lives callers) p false ≡ is_live callers p
+live_in callers p = get_or-map (λ (caller : Process). caller.live) callers.list p no_caller
 
 -- a live caller sets a mode
-mode-if : (b : Bool) (k : Core) (d : Display) → b ≡ true
+mode_if : (b : Bool) (k : Core) (d : Display) → b ≡ true
     → cond b (record k { display = d }) k ≡ record k { display = d }
-mode-if true k d it = refl
-mode-if false k d it = absurd (true≢false (sym it))
+mode_if true k d it = refl
+mode_if false k d it = absurd (true≢false (sym it))
 
-pub set-mode : (d : Display) (callers : Callers) (c p : ℕ) (m : VtMode) → is_live callers p ≡ true
+pub set_mode : (d : Display) (callers : Callers) (c p : ℕ) (m : VtMode) → is_live callers p ≡ true
     → core_after (core_of d callers) (SetMode c p m) ≡ core_of (after d (SetMode c p m)) callers
-set-mode d callers c p m it =
-    mode-if (get_or (lives callers) p false) (core_of d callers) (after d (SetMode c p m))
-    (live-in callers p ∙ it)
+set_mode d callers c p m it =
+    mode_if (get_or (lives callers) p false) (core_of d callers) (after d (SetMode c p m))
+    (live_in callers p ∙ it)
 
 -- who ended is dead
-pub end-core : (d : Display) (callers : Callers) (p : ℕ)
-    → core_after (core_of d callers) (End p) ≡ core_of (after d (End p)) (ended p callers)
-end-core d callers p =
+pub end_core : (d : Display) (callers : Callers) (p : ℕ)
+    → core_after (core_of d callers) (End p) ≡ core_of (after d (End p)) (after_exit p callers)
+end_core d callers p =
     ap (λ (live : List Bool). record { display = after d (End p); live = live })
-    (sym (map-set (λ (caller : Process). caller.live) callers.list p (gone (caller_at callers p))))
+    (sym (map-set (λ (caller : Process). caller.live) callers.list p (dead_process (caller_at callers p))))
 
 -- who lives once a caller is dead lived before
 lived : (live : List Bool) (p q : ℕ) → get_or (set live p false) q false ≡ true
@@ -82,14 +82,14 @@ lived (b ∷ live) (suc p) zero it = it
 lived (b ∷ live) (suc p) (suc q) it = lived live p q it
 
 -- the consoles of a caller are given back before it dies
-pub given-back : OwnersStayLive → (terminals : List (Option TerminalState)) (d e : Display)
+pub given_back : OwnersStayLive → (terminals : List (Option TerminalState)) (d e : Display)
     (callers : Callers) (p : ℕ) → e ≡ after d (End p)
     → IsWorld terminals d callers → IsWorld terminals e callers
-given-back law terminals d e callers p is w = record {
+given_back law terminals d e callers p is w = record {
   alike = still_alike terminals d e (End p) refl is w.alike;
   owners = λ c q owned.
       lived (lives callers) p q
-      (after-act law (core_of d callers) (record { display = e; live = set (lives callers) p false })
+      (after_act law (core_of d callers) (record { display = e; live = set (lives callers) p false })
       (End p)
       (ap (λ (x : Display). record { display = x; live = set (lives callers) p false }) (sym is))
       w.owners c q owned);
@@ -110,9 +110,9 @@ all_fresh consoles (n ∷ numbers) (suc c) = all_fresh consoles numbers c
 nobody : {X : Type 0} (p : ℕ) → None ≡ Some p → X
 nobody p same = absurd (true≢false (sym (ap (λ (o : Option ℕ). is_some o) same)))
 
-pub first-owners : (consoles front : ℕ) (callers : Callers)
+pub first_owners : (consoles front : ℕ) (callers : Callers)
     → OwnersLive (core_of (first_display consoles front) callers)
-first-owners consoles front callers c p owned =
+first_owners consoles front callers c p owned =
     nobody p
     (sym (ap (λ (place : Console). owner_of place.handling)
     (all_fresh consoles (range_with_len 0 64) c))

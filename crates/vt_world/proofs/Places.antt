@@ -7,12 +7,12 @@ use Rattle.std.proofs.Math.Seq.{map-set_same}
 use Rattle.std.specs.List.{range_with_len}
 use Rattle.std.specs.Prelude.{◌==◌, is_some, option_map, if◌then◌else◌}
 use Rattle.vt_switch.specs.Display.{Display, or_fresh, is_allocated}
-use Rattle.vt_world.specs.Rows.{allocating}
+use Rattle.vt_world.specs.Rows.{with_allocation}
 use Rattle.vt_base.specs.ConsoleSet.{at_each, is_among}
-use Rattle.vt_world.specs.Deeds.{all_done}
+use Rattle.vt_world.specs.Deeds.{apply_deeds}
 use Rattle.vt_world.specs.State.{WorldState, HasTerminals}
-use Rattle.vt_switch.specs.Calls.{after_mode, handled}
-use Rattle.vt_world.specs.Terminals.{TerminalState, with_start, or_new, terminal_at, written, written_on}
+use Rattle.vt_switch.specs.Calls.{after_mode, with_console_handling}
+use Rattle.vt_world.specs.Terminals.{TerminalState, with_start, or_new, terminal_at, after_write, written_on}
 use Rattle.vt_switch.specs.declared.console.Console.{Console}
 use Rattle.vt_switch.specs.declared.handling.Handling.{Handling}
 
@@ -32,7 +32,7 @@ both_set xs ys n a b alike =
 
 -- a write leaves the consoles that have a terminal
 pub written_alike : (n : ℕ) (bytes : List ℕ) (terminals : List (Option TerminalState))
-    → map is_some (written n bytes terminals) ≡ map is_some terminals
+    → map is_some (after_write n bytes terminals) ≡ map is_some terminals
 written_alike n bytes terminals =
     map-set_same is_some terminals n (option_map (written_on bytes) (terminal_at terminals n)) None
     (kept (written_on bytes) (terminal_at terminals n))
@@ -49,7 +49,7 @@ mode_alike d c None = refl
 mode_alike d c (Some handling) =
     let new : Console → Console = λ console. record console { handling = handling } in
     ap (map is_some)
-    (either (c == d.front) (record (handled d c handling) { pending = None }) (handled d c handling)
+    (either (c == d.front) (record (with_console_handling d c handling) { pending = None }) (with_console_handling d c handling)
     refl)
     ∙ map-set_same is_some d.consoles c (option_map new (get_or d.consoles c None)) None
     (kept new (get_or d.consoles c None))
@@ -81,7 +81,7 @@ taken_alike xs ys n alike =
 
 -- to allocate a console again changes nothing
 pub allocating_same : (w : WorldState) (n : ℕ) → HasTerminals w → is_allocated w.display n ≡ true
-    → w ≡ all_done w (allocating n [])
+    → w ≡ apply_deeds w (with_allocation n [])
 allocating_same w n alike taken =
     let consoles = w.display.consoles in
     let has_terminal : is_some (get_or w.terminals n None) ≡ true =

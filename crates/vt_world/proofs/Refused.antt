@@ -6,14 +6,14 @@ use Rattle.vt_events.specs.declared.event.Event.{Event}
 use Rattle.vt_events.specs.declared.reply.Reply.{Reply}
 use Rattle.vt_world.specs.Rows.{row}
 use Rattle.vt_world.specs.State.{WorldState}
-use Rattle.vt_world.specs.Step.{Effect, Has, effect_of, own_effect, plain_answer}
+use Rattle.vt_world.specs.Step.{RowResult, HasRowResult, row_result, own_row_result, plain_answer}
 use Rattle.vt_world.specs.Refusals.{first_refusal, own_refusals}
 
-abbrev unchanged : WorldState → Result Reply Errno → Effect
+abbrev unchanged : WorldState → Result Reply Errno → RowResult
 unchanged w answer = record { world = w; answer = answer }
 
-pub is-refused : (w : WorldState) (p : ℕ) (e : Event) (errno : Errno) (given : Result Reply Errno)
+pub is_refused : (w : WorldState) (p : ℕ) (e : Event) (errno : Errno) (given : Result Reply Errno)
     → Some errno ≡ first_refusal (own_refusals w p e) → Err errno ≡ plain_answer given
-    → Has (own_effect w p e) w given
-is-refused w p e errno given is same =
-    ap (λ (refused : Option Errno). effect_of w refused (row w p e)) (sym is) ∙ ap (unchanged w) same
+    → HasRowResult (own_row_result w p e) w given
+is_refused w p e errno given is same =
+    ap (λ (refused : Option Errno). row_result w refused (row w p e)) (sym is) ∙ ap (unchanged w) same

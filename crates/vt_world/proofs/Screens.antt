@@ -22,12 +22,12 @@ use Rattle.vt_world.proofs.Reruns.{tape_changes, tape_writes}
 use Rattle.vt_world.proofs.Steps.{by_step}
 use Rattle.vt_world.proofs.Taping.{Tape, accepted_tape, begun, refused_tape, tape_by, tape_of_deeds, taped}
 use Rattle.vt_world.proofs.Truths.{equal, unequal}
-use Rattle.vt_world.specs.Deeds.{Deed, By, Asks, Own, OwnDeed, Starts, Clears, Writes, Alters, Raises, acted, all_done, done, own_done, requested}
-use Rattle.vt_world.specs.Heard.{cleared, heard, tell}
+use Rattle.vt_world.specs.Deeds.{Deed, By, Asks, Own, OwnDeed, Starts, Clears, Writes, Alters, Raises, after_switch_act, apply_deeds, apply_deed, apply_own_deed, after_request}
+use Rattle.vt_world.specs.Heard.{without_marks, apply_mark, apply_marks}
 use Rattle.vt_world.specs.History.{replay}
 use Rattle.vt_world.specs.Laws.{IsStart, ScreensAreTapes}
 use Rattle.vt_world.specs.Rows.{row}
-use Rattle.vt_world.specs.Start.{opening}
+use Rattle.vt_world.specs.Start.{start_world}
 use Rattle.vt_world.specs.State.{WorldState, HasTerminals, core}
 use Rattle.vt_world.specs.Step.{Outcome, step}
 use Rattle.vt_world.specs.Tapes.{accepted_items, items_of, screen_of, tape_after, tape_from, unless_refused}
@@ -143,24 +143,24 @@ is_changed rows cols c n new_rows new_cols alter add terminals tape keeps shown 
 }
 
 tell_shows : (rows cols c : ℕ) (w : WorldState) (tape : Tape) (marks : List told.Mark)
-    → ShownIn rows cols c w tape → ShownIn rows cols c (tell w marks) tape
+    → ShownIn rows cols c w tape → ShownIn rows cols c (apply_marks w marks) tape
 tell_shows rows cols c w tape [] shown = shown
 tell_shows rows cols c w tape (m ∷ marks) shown =
-    tell_shows rows cols c (heard w m) tape marks shown
+    tell_shows rows cols c (apply_mark w m) tape marks shown
 
 acted_shows : (rows cols c : ℕ) (w : WorldState) (tape : Tape) (act : SwitchAct)
-    → ShownIn rows cols c w tape → ShownIn rows cols c (acted w act) tape
+    → ShownIn rows cols c w tape → ShownIn rows cols c (after_switch_act w act) tape
 acted_shows rows cols c w tape act shown =
     let display : Display = (core_after (core w) act).display in
     tell_shows rows cols c (record w { display = display }) tape (marks (core w) act) shown
 
 requested_shows : (rows cols c : ℕ) (w : WorldState) (tape : Tape) (wanted : Option ℕ)
-    → ShownIn rows cols c w tape → ShownIn rows cols c (requested w wanted) tape
+    → ShownIn rows cols c w tape → ShownIn rows cols c (after_request w wanted) tape
 requested_shows rows cols c w tape None shown = shown
 requested_shows rows cols c w tape (Some n) shown = acted_shows rows cols c w tape (Request n) shown
 
 own_shows : RunLaws → (rows cols c : ℕ) (w : WorldState) (tape : Tape) (deed : OwnDeed)
-    → ShownIn rows cols c w tape → ShownIn rows cols c (own_done w deed) (tape_by c tape deed)
+    → ShownIn rows cols c w tape → ShownIn rows cols c (apply_own_deed w deed) (tape_by c tape deed)
 own_shows laws rows cols c w tape (Starts n) shown =
     is_changed rows cols c n w.rows w.cols (λ terminal. Some (or_new w.rows w.cols terminal)) begun
     w.terminals tape (starts_show rows cols w.rows w.cols shown.rows_are shown.cols_are) shown
@@ -179,15 +179,15 @@ own_shows laws rows cols c w tape deed shown = shown
 
 deeds_show : RunLaws → (rows cols c : ℕ) (w : WorldState) (tape : Tape) (deeds : List Deed)
     → ShownIn rows cols c w tape
-    → ShownIn rows cols c (all_done w deeds) (tape_of_deeds c tape deeds)
+    → ShownIn rows cols c (apply_deeds w deeds) (tape_of_deeds c tape deeds)
 deeds_show laws rows cols c w tape [] shown = shown
 deeds_show laws rows cols c w tape (By act ∷ deeds) shown =
-    deeds_show laws rows cols c (acted w act) tape deeds (acted_shows rows cols c w tape act shown)
+    deeds_show laws rows cols c (after_switch_act w act) tape deeds (acted_shows rows cols c w tape act shown)
 deeds_show laws rows cols c w tape (Asks wanted ∷ deeds) shown =
-    deeds_show laws rows cols c (done w (Asks wanted)) tape deeds
+    deeds_show laws rows cols c (apply_deed w (Asks wanted)) tape deeds
     (requested_shows rows cols c w tape (wanted_in w.display wanted) shown)
 deeds_show laws rows cols c w tape (Own deed ∷ deeds) shown =
-    deeds_show laws rows cols c (own_done w deed) (tape_by c tape deed) deeds
+    deeds_show laws rows cols c (apply_own_deed w deed) (tape_by c tape deed) deeds
     (own_shows laws rows cols c w tape deed shown)
 
 -- a tape is there where the console is allocated
@@ -233,9 +233,9 @@ follow laws rows cols c w p e tape has shown =
     subst (ShownIn rows cols c w)
     (refused_tape tape (is_allocated w.display c) (tape_there rows cols c w tape has shown)) shown)
     (λ accepted still.
-    let v : WorldState = cleared w in
+    let v : WorldState = without_marks w in
     let deeds : List Deed = (row v p e).deeds in
-    let end : WorldState = all_done v deeds in
+    let end : WorldState = apply_deeds v deeds in
     let new : Tape = tape_of_deeds c tape deeds in
     let shown_after : ShownIn rows cols c end new = deeds_show laws rows cols c v tape deeds shown in
     subst (ShownIn rows cols c end)
@@ -274,8 +274,8 @@ new_shows rows cols consoles (n ∷ numbers) (suc c) = new_shows rows cols conso
 
 opening_shows : (rows cols consoles front keyboards : ℕ) (processes : List ProcStart) (tables : Tables)
     (c : ℕ) → c < 64
-    → ShownIn rows cols c (opening rows cols consoles front keyboards processes tables)
-    (tape_after (is_allocated (opening rows cols consoles front keyboards processes tables).display c) [] None)
+    → ShownIn rows cols c (start_world rows cols consoles front keyboards processes tables)
+    (tape_after (is_allocated (start_world rows cols consoles front keyboards processes tables).display c) [] None)
 opening_shows rows cols consoles front keyboards processes tables c within = record {
   rows_are = refl;
   cols_are = refl;
@@ -293,8 +293,8 @@ start_shows w start c within =
     (opening_shows start.rows start.cols start.consoles start.front start.keyboards start.processes start.tables c
     within)
 
-pub screens-are-tapes : StretchesRun → AnyTapeCut → ScreensAreTapes
-screens-are-tapes stretches cuts w entries start c within =
+pub screens_are_tapes : StretchesRun → AnyTapeCut → ScreensAreTapes
+screens_are_tapes stretches cuts w entries start c within =
     (replay_shows (record { stretches = stretches; cuts = cuts }) start.rows start.cols c w
     (tape_after (is_allocated w.display c) [] None) entries (start_has w start)
     (start_shows w start c within)).shows

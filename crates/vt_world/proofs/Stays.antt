@@ -4,7 +4,7 @@ use Rattle.std.proofs.Math.Seq.{map-set_same}
 use Rattle.std.specs.Prelude.{◌==◌, Result, Ok, Err, is_some, option_map}
 use Rattle.vt_base.specs.declared.inval.Inval.{Inval}
 use Rattle.vt_switch.specs.Acts.{SwitchAct, Allocate, Request, Release, SetMode, SetKd, Lock, Free, End, after}
-use Rattle.vt_switch.specs.Calls.{after_released, handling_of, released}
+use Rattle.vt_switch.specs.Calls.{after_released, handling_of, release_result}
 use Rattle.vt_switch.specs.Deaths.{after_hop, ended_hop, left_by}
 use Rattle.vt_switch.specs.Display.{Display}
 use Rattle.vt_switch.specs.declared.console.Console.{Console}
@@ -42,7 +42,7 @@ pub after_alike : (d : Display) (act : SwitchAct) → stays act ≡ true
     → map is_some (after d act).consoles ≡ map is_some d.consoles
 after_alike d (Allocate n) it = absurd (true≢false (sym it))
 after_alike d (Request n) it = ap (map is_some) (request_alike d n)
-after_alike d (Release c p arg) it = ap (map is_some) (released_alike d arg (released d c p arg))
+after_alike d (Release c p arg) it = ap (map is_some) (released_alike d arg (release_result d c p arg))
 after_alike d (SetMode c p m) it = mode_alike d c (handling_of p m)
 after_alike d (SetKd c graphics) it =
     let new : Console → Console = λ console. record console { graphics = graphics } in

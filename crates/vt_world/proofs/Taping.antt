@@ -14,11 +14,11 @@ use Rattle.vt_screen.specs.declared.out.Out.{Out}
 use Rattle.vt_world.proofs.Quiet.{are_quiet, is_quiet_act, is_quiet_own, outs_quiet, scan_quiet, sent_quiet, wait_quiet}
 use Rattle.vt_world.proofs.Truths.{differ, left_of, right_of}
 use Rattle.vt_world.specs.Deeds.{Deed, Alters, Asks, By, Clears, Own, OwnDeed, Starts, Writes}
-use Rattle.vt_world.specs.Rows.{freeing, out_deeds, row}
+use Rattle.vt_world.specs.Rows.{free_deeds, out_deeds, row}
 use Rattle.vt_world.specs.State.{WorldState}
 use Rattle.vt_world.specs.Tapes.{items_of, tape_after, unless_refused}
 use Rattle.vt_world.specs.Terminals.{said_of, terminal_at}
-use Rattle.vt_world.specs.Refusals.{is_empty, is_in_use, named, target}
+use Rattle.vt_world.specs.Refusals.{is_empty, is_in_use, console_by_number, target}
 
 abbrev pub Tape : Type 0
 Tape = Option (List Taped)
@@ -91,13 +91,13 @@ cleared_if true tape new grows = inl refl
 cleared_if false tape new grows = grows
 
 frees_grow : (c : ℕ) (tape new : Tape) (consoles : List ℕ) → Grows [] tape new
-    → Grows [] tape (tape_of_deeds c new (flat_map freeing consoles))
+    → Grows [] tape (tape_of_deeds c new (flat_map free_deeds consoles))
 frees_grow c tape new [] grows = grows
 frees_grow c tape new (n ∷ consoles) grows =
     frees_grow c tape (cond (n == c) None new) consoles (cleared_if (n == c) tape new grows)
 
 disallocate_grows : (all : Bool) (c : ℕ) (tape : Tape) (n : ℕ) (consoles : List ℕ)
-    → Grows [] tape (tape_of_deeds c tape (cond all (flat_map freeing consoles) (freeing n)))
+    → Grows [] tape (tape_of_deeds c tape (cond all (flat_map free_deeds consoles) (free_deeds n)))
 disallocate_grows true c tape n consoles = frees_grow c tape tape consoles (stays tape)
 disallocate_grows false c tape n consoles = cleared_if (n == c) tape tape (stays tape)
 
@@ -110,7 +110,7 @@ row_grows : (c : ℕ) (tape : Tape) (w : WorldState) (p : ℕ) (e : Event)
     → Grows (items_of w p c e) tape (tape_of_deeds c tape (row w p e).deeds)
 row_grows c tape w p (event.Scan b) =
     quiet_grows c tape (row w p (event.Scan b)).deeds (scan_quiet w _ w.display.front b)
-row_grows c tape w p (event.OpenCon n) = begins_if (named w n == c) tape
+row_grows c tape w p (event.OpenCon n) = begins_if (console_by_number w n == c) tape
 row_grows c tape w p (event.Activate fd n) = begins_if (n == c) tape
 row_grows c tape w p (event.Write fd b) =
     let n : ℕ = target w p fd in

@@ -14,11 +14,11 @@ use Rattle.vt_switch.specs.declared.mark.Mark.TheVariants as mark
 use Rattle.vt_world.proofs.Cores.{acted_core, own_core}
 use Rattle.vt_world.proofs.Orders.{ends, in_order, row_ordered}
 use Rattle.vt_world.proofs.Steps.{by_step}
-use Rattle.vt_world.proofs.Traces.{traces-tell-deeds}
+use Rattle.vt_world.proofs.Traces.{traces_apply_marks_deeds}
 use Rattle.vt_world.proofs.Truths.{differ, left_of, right_of}
 use Rattle.vt_world.specs.Acts.{all_acts, request_of}
-use Rattle.vt_world.specs.Deeds.{Deed, By, Asks, Own, OwnDeed, Raises, acted, done, own_done, requested}
-use Rattle.vt_world.specs.Heard.{cleared}
+use Rattle.vt_world.specs.Deeds.{Deed, By, Asks, Own, OwnDeed, Raises, after_switch_act, apply_deed, apply_own_deed, after_request}
+use Rattle.vt_world.specs.Heard.{without_marks}
 use Rattle.vt_world.specs.Laws.{TracesTellNews, all_marks, marks_by, marks_of_request}
 use Rattle.vt_world.specs.Rows.{row}
 use Rattle.vt_world.specs.State.{WorldState, core}
@@ -138,7 +138,7 @@ is_or true b is = refl
 is_or false b is = is
 
 by_act : (asked : Bool) (w : WorldState) (act : SwitchAct) (more : List Mark)
-    (acts : List SwitchAct) → Tells (asked || is_request act) more (core (acted w act)) acts
+    (acts : List SwitchAct) → Tells (asked || is_request act) more (core (after_switch_act w act)) acts
     → Tells asked (marks (core w) act ++ more) (core w) (act ∷ acts)
 by_act asked w act more acts rest = record {
   same = act_then (core w) act more (λ is. rest.calm (is_or asked (is_request act) is))
@@ -148,7 +148,7 @@ by_act asked w act more acts rest = record {
 }
 
 by_request : (asked : Bool) (w : WorldState) (wanted : Option ℕ) (more : List Mark)
-    (acts : List SwitchAct) → Tells (asked || true) more (core (requested w wanted)) acts
+    (acts : List SwitchAct) → Tells (asked || true) more (core (after_request w wanted)) acts
     → Tells asked (marks_of_request w wanted ++ more) (core w) (request_of wanted ++ acts)
 by_request asked w None more acts rest =
     record { same = rest.same; calm = λ is. rest.calm (or_is asked true is) }
@@ -167,34 +167,34 @@ not_asked false ordered is = differ is
 
 by_own : (asked : Bool) (w : WorldState) (deed : OwnDeed) (more : List Mark)
     (acts : List SwitchAct) → not (asked && ends (Own deed)) ≡ true
-    → Tells (asked || false) more (core (own_done w deed)) acts
+    → Tells (asked || false) more (core (apply_own_deed w deed)) acts
     → Tells asked (marks_by w (Own deed) ++ more) (core w) acts
 by_own asked w (Raises p signal) more acts ordered rest =
-    let core_is : core (own_done w (Raises p signal)) ≡ core w = own_core w (Raises p signal) in
+    let core_is : core (apply_own_deed w (Raises p signal)) ≡ core w = own_core w (Raises p signal) in
     record {
       same = raised_then (is_live (core w) p) p signal more
           ∙ rest.same ∙ ap (λ (k : Core). news_of k acts) core_is;
       calm = λ is. not_asked asked ordered is;
     }
 by_own asked w deed more acts ordered rest =
-    same_core asked more (core (own_done w deed)) (core w) acts (own_core w deed) rest
+    same_core asked more (core (apply_own_deed w deed)) (core w) acts (own_core w deed) rest
 
 deeds_tell : (asked : Bool) (w : WorldState) (deeds : List Deed) → in_order asked deeds ≡ true
     → Tells asked (all_marks w deeds) (core w) (all_acts w deeds)
 deeds_tell asked w [] ordered = record { same = refl; calm = λ is. refl }
 deeds_tell asked w (By act ∷ deeds) ordered =
-    let next : WorldState = done w (By act) in
+    let next : WorldState = apply_deed w (By act) in
     let later : Bool = in_order (asked || is_request act) deeds in
     by_act asked w act (all_marks next deeds) (all_acts next deeds)
     (deeds_tell (asked || is_request act) next deeds
     (right_of (not (asked && ends (By act))) later ordered))
 deeds_tell asked w (Asks wanted ∷ deeds) ordered =
-    let next : WorldState = done w (Asks wanted) in
+    let next : WorldState = apply_deed w (Asks wanted) in
     let later : Bool = in_order (asked || true) deeds in
     by_request asked w (wanted_in w.display wanted) (all_marks next deeds) (all_acts next deeds)
     (deeds_tell (asked || true) next deeds (right_of (not (asked && false)) later ordered))
 deeds_tell asked w (Own deed ∷ deeds) ordered =
-    let next : WorldState = done w (Own deed) in
+    let next : WorldState = apply_deed w (Own deed) in
     let later : Bool = in_order (asked || false) deeds in
     by_own asked w deed (all_marks next deeds) (all_acts next deeds)
     (left_of (not (asked && ends (Own deed))) later ordered)
@@ -205,10 +205,10 @@ row_tells : (w : WorldState) (p : ℕ) (e : Event)
     → news (all_marks w (row w p e).deeds) ≡ news_of (core w) (all_acts w (row w p e).deeds)
 row_tells w p e = (deeds_tell false w (row w p e).deeds (row_ordered w p e)).same
 
-pub traces-tell-news : TracesTellNews
-traces-tell-news w p e =
-    ap news (traces-tell-deeds w p e)
+pub traces_tell_news : TracesTellNews
+traces_tell_news w p e =
+    ap news (traces_apply_marks_deeds w p e)
     ∙ by_step
     (λ (deeds : List Deed) (after : Outcome).
-    news (all_marks (cleared w) deeds) ≡ news_of (core w) (all_acts (cleared w) deeds))
-    w p e (λ errno. refl) (λ accepted. row_tells (cleared w) p e)
+    news (all_marks (without_marks w) deeds) ≡ news_of (core w) (all_acts (without_marks w) deeds))
+    w p e (λ errno. refl) (λ accepted. row_tells (without_marks w) p e)

@@ -10,8 +10,8 @@ use Rattle.vt_world.proofs.Cores.{acted_core, own_core}
 use Rattle.vt_world.proofs.Steps.{by_step}
 use Rattle.vt_world.proofs.Truths.{differ}
 use Rattle.vt_world.specs.Acts.{all_acts, event_acts, request_of}
-use Rattle.vt_world.specs.Deeds.{Deed, By, Asks, Own, OwnDeed, Raises, acted, all_done, done, own_done, requested}
-use Rattle.vt_world.specs.Heard.{cleared, heard, tell}
+use Rattle.vt_world.specs.Deeds.{Deed, By, Asks, Own, OwnDeed, Raises, after_switch_act, apply_deeds, apply_deed, apply_own_deed, after_request}
+use Rattle.vt_world.specs.Heard.{without_marks, apply_mark, apply_marks}
 use Rattle.vt_world.specs.Laws.{TellsActs, TracesTellActs, TracesTellDeeds, TracesTellHops, all_marks, hops_of, is_raise, marks_by, marks_of_request}
 use Rattle.vt_world.specs.Rows.{row}
 use Rattle.vt_world.specs.State.{WorldState, core}
@@ -68,12 +68,12 @@ adds_signals old new signals k acts raised adds = record {
   tells = tells_later k acts signals adds.more raised adds.tells;
 }
 
-tell_trace : (w : WorldState) (told : List Mark) → (tell w told).trace.marks ≡ w.trace.marks ++ told
+tell_trace : (w : WorldState) (told : List Mark) → (apply_marks w told).trace.marks ≡ w.trace.marks ++ told
 tell_trace w [] = sym (append-nil w.trace.marks)
-tell_trace w (m ∷ told) = tell_trace (heard w m) told ∙ append_assoc w.trace.marks (m ∷ []) told
+tell_trace w (m ∷ told) = tell_trace (apply_mark w m) told ∙ append_assoc w.trace.marks (m ∷ []) told
 
 by_act : (w : WorldState) (act : SwitchAct) (acts : List SwitchAct) (new : List Mark)
-    → Adds (acted w act).trace.marks new (core (acted w act)) acts
+    → Adds (after_switch_act w act).trace.marks new (core (after_switch_act w act)) acts
     → Adds w.trace.marks new (core w) (act ∷ acts)
 by_act w act acts new adds =
     let k : Core = core_after (core w) act in
@@ -83,7 +83,7 @@ by_act w act acts new adds =
     (tell_trace (record w { display = k.display }) told) (acted_core w act) adds)
 
 by_request : (w : WorldState) (wanted : Option ℕ) (acts : List SwitchAct) (new : List Mark)
-    → Adds (requested w wanted).trace.marks new (core (requested w wanted)) acts
+    → Adds (after_request w wanted).trace.marks new (core (after_request w wanted)) acts
     → Adds w.trace.marks new (core w) (request_of wanted ++ acts)
 by_request w None acts new adds = adds
 by_request w (Some n) acts new adds = by_act w (Request n) acts new adds
@@ -94,7 +94,7 @@ raised_pass true p signal = refl
 raised_pass false p signal = refl
 
 by_own : (w : WorldState) (deed : OwnDeed) (acts : List SwitchAct) (new : List Mark)
-    → Adds (own_done w deed).trace.marks new (core w) acts → Adds w.trace.marks new (core w) acts
+    → Adds (apply_own_deed w deed).trace.marks new (core w) acts → Adds w.trace.marks new (core w) acts
 by_own w (Raises p signal) acts new adds =
     let signals : List Mark = raise (core w) p signal in
     adds_signals w.trace.marks new signals (core w) acts
@@ -103,48 +103,48 @@ by_own w (Raises p signal) acts new adds =
 by_own w deed acts new adds = adds
 
 deeds_tell : (w : WorldState) (deeds : List Deed)
-    → Adds w.trace.marks (all_done w deeds).trace.marks (core w) (all_acts w deeds)
+    → Adds w.trace.marks (apply_deeds w deeds).trace.marks (core w) (all_acts w deeds)
 deeds_tell w [] = record { more = []; is = sym (append-nil w.trace.marks); tells = refl }
 deeds_tell w (By act ∷ deeds) =
-    by_act w act (all_acts (acted w act) deeds) (all_done (acted w act) deeds).trace.marks
-    (deeds_tell (acted w act) deeds)
+    by_act w act (all_acts (after_switch_act w act) deeds) (apply_deeds (after_switch_act w act) deeds).trace.marks
+    (deeds_tell (after_switch_act w act) deeds)
 deeds_tell w (Asks wanted ∷ deeds) =
-    let next : WorldState = done w (Asks wanted) in
+    let next : WorldState = apply_deed w (Asks wanted) in
     by_request w (wanted_in w.display wanted) (all_acts next deeds)
-    (all_done next deeds).trace.marks (deeds_tell next deeds)
+    (apply_deeds next deeds).trace.marks (deeds_tell next deeds)
 deeds_tell w (Own deed ∷ deeds) =
-    let next : WorldState = own_done w deed in
+    let next : WorldState = apply_own_deed w deed in
     let acts : List SwitchAct = all_acts next deeds in
-    let new : List Mark = (all_done next deeds).trace.marks in
+    let new : List Mark = (apply_deeds next deeds).trace.marks in
     by_own w deed acts new
     (subst (λ (k : Core). Adds next.trace.marks new k acts) (own_core w deed) (deeds_tell next deeds))
 
-pub traces-tell-acts : TracesTellActs
-traces-tell-acts w p e =
+pub traces_apply_marks_acts : TracesTellActs
+traces_apply_marks_acts w p e =
     by_step
     (λ (deeds : List Deed) (after : Outcome).
-    TellsActs (core w) (all_acts (cleared w) deeds) after.world.trace.marks)
+    TellsActs (core w) (all_acts (without_marks w) deeds) after.world.trace.marks)
     w p e (λ errno. refl)
     (λ accepted.
-    let deeds : List Deed = (row (cleared w) p e).deeds in
-    let adds = deeds_tell (cleared w) deeds in
-    subst (TellsActs (core w) (all_acts (cleared w) deeds)) (sym adds.is) adds.tells)
+    let deeds : List Deed = (row (without_marks w) p e).deeds in
+    let adds = deeds_tell (without_marks w) deeds in
+    subst (TellsActs (core w) (all_acts (without_marks w) deeds)) (sym adds.is) adds.tells)
 
 -- the trace of deeds is what they tell
 requested_trace : (w : WorldState) (wanted : Option ℕ)
-    → (requested w wanted).trace.marks ≡ w.trace.marks ++ marks_of_request w wanted
+    → (after_request w wanted).trace.marks ≡ w.trace.marks ++ marks_of_request w wanted
 requested_trace w None = sym (append-nil w.trace.marks)
 requested_trace w (Some n) =
     let k : Core = core_after (core w) (Request n) in
     tell_trace (record w { display = k.display }) (marks (core w) (Request n))
 
 own_trace : (w : WorldState) (deed : OwnDeed)
-    → (own_done w deed).trace.marks ≡ w.trace.marks ++ marks_by w (Own deed)
+    → (apply_own_deed w deed).trace.marks ≡ w.trace.marks ++ marks_by w (Own deed)
 own_trace w (Raises p signal) = tell_trace w (raise (core w) p signal)
 own_trace w deed = sym (append-nil w.trace.marks)
 
 deed_trace : (w : WorldState) (deed : Deed)
-    → (done w deed).trace.marks ≡ w.trace.marks ++ marks_by w deed
+    → (apply_deed w deed).trace.marks ≡ w.trace.marks ++ marks_by w deed
 deed_trace w (By act) =
     let k : Core = core_after (core w) act in
     tell_trace (record w { display = k.display }) (marks (core w) act)
@@ -152,20 +152,20 @@ deed_trace w (Asks wanted) = requested_trace w (wanted_in w.display wanted)
 deed_trace w (Own deed) = own_trace w deed
 
 deeds_trace : (w : WorldState) (deeds : List Deed)
-    → (all_done w deeds).trace.marks ≡ w.trace.marks ++ all_marks w deeds
+    → (apply_deeds w deeds).trace.marks ≡ w.trace.marks ++ all_marks w deeds
 deeds_trace w [] = sym (append-nil w.trace.marks)
 deeds_trace w (deed ∷ deeds) =
-    let rest : List Mark = all_marks (done w deed) deeds in
-    deeds_trace (done w deed) deeds
+    let rest : List Mark = all_marks (apply_deed w deed) deeds in
+    deeds_trace (apply_deed w deed) deeds
     ∙ ap (λ (trace : List Mark). trace ++ rest) (deed_trace w deed)
     ∙ append_assoc w.trace.marks (marks_by w deed) rest
 
-pub traces-tell-deeds : TracesTellDeeds
-traces-tell-deeds w p e =
+pub traces_apply_marks_deeds : TracesTellDeeds
+traces_apply_marks_deeds w p e =
     by_step
-    (λ (deeds : List Deed) (after : Outcome). after.world.trace.marks ≡ all_marks (cleared w) deeds)
+    (λ (deeds : List Deed) (after : Outcome). after.world.trace.marks ≡ all_marks (without_marks w) deeds)
     w p e (λ errno. refl)
-    (λ accepted. deeds_trace (cleared w) (row (cleared w) p e).deeds)
+    (λ accepted. deeds_trace (without_marks w) (row (without_marks w) p e).deeds)
 
 hops_append : (a b : List Mark) → hops (a ++ b) ≡ hops a ++ hops b
 hops_append [] b = refl
@@ -193,6 +193,6 @@ told_hops k (act ∷ acts) trace tells =
     ∙ ap (λ (list : List Hop). hops (marks k act) ++ list)
     (told_hops (core_after k act) acts tells.more tells.rest)
 
-pub traces-tell-hops : TracesTellHops
-traces-tell-hops w p e =
-    told_hops (core w) (event_acts w p e) (step w p e).world.trace.marks (traces-tell-acts w p e)
+pub traces_apply_marks-hops : TracesTellHops
+traces_apply_marks-hops w p e =
+    told_hops (core w) (event_acts w p e) (step w p e).world.trace.marks (traces_apply_marks_acts w p e)

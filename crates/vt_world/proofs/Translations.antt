@@ -20,17 +20,17 @@ use Rattle.vt_switch.specs.Acts.{End, Request, SetKd, SwitchAct}
 use Rattle.vt_switch.specs.Moments.{core_after, marks, raise}
 use Rattle.vt_switch.specs.declared.mark.Mark.{Mark}
 use Rattle.vt_world.proofs.Steps.{by_step}
-use Rattle.vt_world.specs.Deeds.{Deed, Asks, By, Coded, Own, OwnDeed, Puts, Raises, Scanned, acted, all_done, done, own_done, requested}
-use Rattle.vt_world.specs.Heard.{cleared, heard, tell}
+use Rattle.vt_world.specs.Deeds.{Deed, Asks, By, Coded, Own, OwnDeed, Puts, Raises, Scanned, after_switch_act, apply_deeds, apply_deed, apply_own_deed, after_request}
+use Rattle.vt_world.specs.Heard.{without_marks, apply_mark, apply_marks}
 use Rattle.vt_world.specs.History.{replay}
 use Rattle.vt_world.specs.Inputs.{input_at}
 use Rattle.vt_world.specs.Refusals.{is_empty, is_in_use, target}
-use Rattle.vt_world.specs.Rows.{disallocating, freeing, out_deeds, row, waits_unless}
+use Rattle.vt_world.specs.Rows.{disallocate_deeds, free_deeds, out_deeds, row, waits_unless}
 use Rattle.vt_world.specs.State.{WorldState, core}
 use Rattle.vt_world.specs.Step.{Outcome, step}
 use Rattle.vt_world.specs.StepLaws.{IsOneTranslation, OneTranslation, translations}
 use Rattle.vt_world.specs.Terminals.{said_of, terminal_at}
-use Rattle.vt_world.specs.Typing.{ends_of, key_deeds, key_on, key_out_deeds, read_by, read_deeds, scanner_of, sent, spawn_deeds, users}
+use Rattle.vt_world.specs.Typing.{ends_of, key_deeds, key_on, key_out_deeds, read_by, read_deeds, scanner_of, signal_deed, spawn_deeds, users}
 use Rattle.vt_world.specs.Wanted.{wanted_in}
 
 -- most deeds leave the scanners
@@ -45,36 +45,36 @@ is_still deed = true
 abbrev are_still : List Deed → Bool
 are_still deeds = list_all is_still deeds
 
-tells : (marked : List Mark) (w : WorldState) → scanners (tell w marked) ≡ scanners w
+tells : (marked : List Mark) (w : WorldState) → scanners (apply_marks w marked) ≡ scanners w
 tells [] w = refl
-tells (m ∷ marked) w = tells marked (heard w m)
+tells (m ∷ marked) w = tells marked (apply_mark w m)
 
-acts : (w : WorldState) (act : SwitchAct) → scanners (acted w act) ≡ scanners w
+acts : (w : WorldState) (act : SwitchAct) → scanners (after_switch_act w act) ≡ scanners w
 acts w act =
     tells (marks (core w) act) (record w { display = (core_after (core w) act).display })
 
-requests : (w : WorldState) (n : Option ℕ) → scanners (requested w n) ≡ scanners w
+requests : (w : WorldState) (n : Option ℕ) → scanners (after_request w n) ≡ scanners w
 requests w None = refl
 requests w (Some n) = acts w (Request n)
 
 own : (w : WorldState) (deed : OwnDeed) → is_still (Own deed) ≡ true
-    → scanners (own_done w deed) ≡ scanners w
+    → scanners (apply_own_deed w deed) ≡ scanners w
 own w (Scanned k scanner) still = absurd (false≢true still)
 own w (Coded scan code) still = absurd (false≢true still)
 own w (Raises p signal) still = tells (raise (core w) p signal) w
 own w deed still = refl
 
-does : (w : WorldState) (deed : Deed) → is_still deed ≡ true → scanners (done w deed) ≡ scanners w
+does : (w : WorldState) (deed : Deed) → is_still deed ≡ true → scanners (apply_deed w deed) ≡ scanners w
 does w (By act) still = acts w act
 does w (Asks wanted) still = requests w (wanted_in w.display wanted)
 does w (Own deed) still = own w deed still
 
 all : (deeds : List Deed) (w : WorldState) → are_still deeds ≡ true
-    → scanners (all_done w deeds) ≡ scanners w
+    → scanners (apply_deeds w deeds) ≡ scanners w
 all [] w still = refl
 all (deed ∷ deeds) w still =
     let both = and_parts (is_still deed) (are_still deeds) still in
-    all deeds (done w deed) both.1 ∙ does w deed both.0
+    all deeds (apply_deed w deed) both.1 ∙ does w deed both.0
 
 append_still : (a b : List Deed) → are_still a ≡ true → are_still b ≡ true → are_still (a ++ b) ≡ true
 append_still a b first second =
@@ -85,13 +85,13 @@ flat_still : {A : Type 0} (f : A → List Deed) (xs : List A) → ((x : A) → a
 flat_still f [] still = refl
 flat_still f (x ∷ xs) still = append_still (f x) (flat_map f xs) (still x) (flat_still f xs still)
 
-sent_still : (p signal : ℕ) → is_still (sent p signal) ≡ true
+sent_still : (p signal : ℕ) → is_still (signal_deed p signal) ≡ true
 sent_still p signal =
     elim (signal == 9) as (λ b. is_still (if b then By (End p) else Own (Raises p signal)) ≡ true)
     [ true ↦ refl | false ↦ refl ]
 
-one_sent : (p signal : ℕ) → are_still (sent p signal ∷ []) ≡ true
-one_sent p signal = and_from (is_still (sent p signal)) true (sent_still p signal) refl
+one_sent : (p signal : ℕ) → are_still (signal_deed p signal ∷ []) ≡ true
+one_sent p signal = and_from (is_still (signal_deed p signal)) true (sent_still p signal) refl
 
 spawn_still : (accepter : Option (ℕ × ℕ)) → are_still (spawn_deeds accepter) ≡ true
 spawn_still None = refl
@@ -118,10 +118,10 @@ out_still c outs.SwitchLast = refl
 out_still c (outs.Lights lights) = refl
 out_still c outs.Bell = refl
 
-free_still : (w : WorldState) (n : ℕ) → are_still (disallocating w n) ≡ true
+free_still : (w : WorldState) (n : ℕ) → are_still (disallocate_deeds w n) ≡ true
 free_still w n =
-    elim (n == 0) as (λ b. are_still (if b then flat_map freeing (filter (λ c. not (is_in_use w c)) (range_with_len 1 63)) else freeing n) ≡ true) [
-      | true ↦ flat_still freeing (filter (λ c. not (is_in_use w c)) (range_with_len 1 63)) (λ c. refl)
+    elim (n == 0) as (λ b. are_still (if b then flat_map free_deeds (filter (λ c. not (is_in_use w c)) (range_with_len 1 63)) else free_deeds n) ≡ true) [
+      | true ↦ flat_still free_deeds (filter (λ c. not (is_in_use w c)) (range_with_len 1 63)) (λ c. refl)
       | false ↦ refl
     ]
 
@@ -137,10 +137,10 @@ read_keeps (x ∷ xs) zero b = refl
 read_keeps (x ∷ xs) (suc k) b = ap (λ (all : List (List ℕ)). x.codes ∷ all) (read_keeps xs k b)
 
 reads : (w v : WorldState) (k n b : ℕ) → scanners v ≡ scanners w
-    → translations (all_done v (read_deeds w k n b)) ≡ translations w
+    → translations (apply_deeds v (read_deeds w k n b)) ≡ translations w
 reads w v k n b same =
     let scanner : Scan = scanner_of w.board.scanners k in
-    let read : WorldState = own_done v (Scanned k (read_by scanner b)) in
+    let read : WorldState = apply_own_deed v (Scanned k (read_by scanner b)) in
     ap (map (λ (s : Scan). s.codes))
     (all (key_deeds w k n (event_after scanner.codes scanner.bytes b)) read
     (key_still w k n (event_after scanner.codes scanner.bytes b)))
@@ -148,9 +148,9 @@ reads w v k n b same =
     ∙ read_keeps w.board.scanners k b
 
 scans : (raw : Bool) (w : WorldState) (k n b : ℕ)
-    → translations (all_done w (if raw then Own (Puts n (b ∷ [])) ∷ read_deeds w k n b else read_deeds w k n b))
+    → translations (apply_deeds w (if raw then Own (Puts n (b ∷ [])) ∷ read_deeds w k n b else read_deeds w k n b))
     ≡ translations w
-scans true w k n b = reads w (done w (Own (Puts n (b ∷ [])))) k n b refl
+scans true w k n b = reads w (apply_deed w (Own (Puts n (b ∷ [])))) k n b refl
 scans false w k n b = reads w w k n b refl
 
 -- one translation stays one
@@ -158,9 +158,9 @@ alike : (w v : WorldState) → translations v ≡ translations w → IsOneTransl
 alike w v same one = (one.0, same ∙ one.1)
 
 stills : (w : WorldState) (deeds : List Deed) → are_still deeds ≡ true → IsOneTranslation w
-    → IsOneTranslation (all_done w deeds)
+    → IsOneTranslation (apply_deeds w deeds)
 stills w deeds still =
-    alike w (all_done w deeds) (ap (map (λ (s : Scan). s.codes)) (all deeds w still))
+    alike w (apply_deeds w deeds) (ap (map (λ (s : Scan). s.codes)) (all deeds w still))
 
 codes_set : (xs : List Scan) (scan code : ℕ)
     → map (λ (s : Scan). s.codes) (map (λ (s : Scan). with_code s scan code) xs)
@@ -170,10 +170,10 @@ codes_set (x ∷ xs) scan code =
     ap (λ (all : List (List ℕ)). slice_set x.codes scan code ∷ all) (codes_set xs scan code)
 
 row_keeps : (w : WorldState) (p : ℕ) (e : Event) → IsOneTranslation w
-    → IsOneTranslation (all_done w (row w p e).deeds)
+    → IsOneTranslation (apply_deeds w (row w p e).deeds)
 row_keeps w p (event.Scan b) =
     let n : ℕ = w.display.front in
-    alike w (all_done w (row w p (event.Scan b)).deeds)
+    alike w (apply_deeds w (row w p (event.Scan b)).deeds)
     (scans ((input_at w.inputs n).keys.mode == 0) w (unwrap_or (keyboard_of p) 0) n b)
 row_keeps w p (event.SetCode fd scan code) = λ one. (
   slice_set one.0 scan code,
@@ -196,14 +196,14 @@ row_keeps w p e = stills w (row w p e).deeds refl
 step_keeps : (w : WorldState) (p : ℕ) (e : Event) → IsOneTranslation w → IsOneTranslation (step w p e).world
 step_keeps w p e one =
     by_step (λ (deeds : List Deed) (after : Outcome). IsOneTranslation after.world) w p e
-    (λ errno. one) (λ accepted. row_keeps (cleared w) p e one)
+    (λ errno. one) (λ accepted. row_keeps (without_marks w) p e one)
 
 replays : (entries : List Entry) (w : WorldState) → IsOneTranslation w → IsOneTranslation (replay w entries)
 replays [] w one = one
 replays (entry ∷ entries) w one =
     replays entries (step w entry.caller entry.event).world (step_keeps w entry.caller entry.event one)
 
-pub one-translation : OneTranslation
-one-translation w entries start =
+pub one_translation : OneTranslation
+one_translation w entries start =
     replays entries w
     (subst IsOneTranslation (sym start.opened) (start_codes, refl))

@@ -10,7 +10,7 @@ use Rattle.vt_events.specs.declared.event.Event.TheVariants as event
 use Rattle.vt_events.specs.declared.reply.Reply.{Reply}
 use Rattle.vt_events.specs.declared.reply.Reply.TheVariants as reply
 use Rattle.vt_procs.specs.Callers.{Callers, caller_at, is_live, no_caller}
-use Rattle.vt_procs.specs.Tickets.{can_go, collected, is_open, left, settled, waited_of, with_waiting}
+use Rattle.vt_procs.specs.Tickets.{can_go, after_wait_report, is_open, waiting_after_report, after_idle_rule, waited_of, with_waiting}
 use Rattle.vt_procs.specs.declared.process.Process.{Process}
 use Rattle.vt_procs.specs.declared.ticket.Ticket.{Ticket}
 use Rattle.vt_procs.specs.declared.ticket.Ticket.TheVariants.{Active, Input}
@@ -19,13 +19,13 @@ use Rattle.vt_procs.specs.declared.waiting.Waiting.TheVariants as waiting
 use Rattle.vt_world.proofs.Steps.{by_step}
 use Rattle.vt_world.proofs.Truths.{both_of, differ}
 use Rattle.vt_world.specs.Deeds.{Deed, Collects, Own}
-use Rattle.vt_world.specs.Heard.{cleared}
+use Rattle.vt_world.specs.Heard.{without_marks}
 use Rattle.vt_world.specs.History.{replay}
-use Rattle.vt_world.specs.RefusalLaws.{BrokenWaitsAreTaken, IsSameWithout, LaterAnswersStay, RefusalsCanGo, RefusalsChangeNothing, accepted, calls, exchanges, is_refusal}
+use Rattle.vt_world.specs.RefusalLaws.{BrokenWaitsAreTaken, IsSameWithout, LaterAnswersStay, RefusalsCanGo, RefusalsChangeNothing, accepted_entries, calls, exchanges, is_refusal}
 use Rattle.vt_world.specs.Refusals.{caller, has_ticket, holds_ticket, is_empty, target}
 use Rattle.vt_world.specs.Rows.{ended_reply, row, row_of, waits_unless}
 use Rattle.vt_world.specs.State.{WorldState}
-use Rattle.vt_world.specs.Step.{Outcome, answered, effect_after, effect_of, step}
+use Rattle.vt_world.specs.Step.{Outcome, outcome_of_row, row_result_after, row_result, step}
 
 -- no row answers by a refusal
 end_accepts : (ended : Waiting) → is_refusal event.WaitEnd (ended_reply ended) ≡ false
@@ -52,28 +52,28 @@ row_accepts w p (event.WaitActive fd n) =
 row_accepts w p event.WaitEnd = end_accepts (caller w p).waiting
 row_accepts w p e = refl
 
-pub refusals-change-nothing : RefusalsChangeNothing
-refusals-change-nothing w p e =
+pub refusals_change_nothing : RefusalsChangeNothing
+refusals_change_nothing w p e =
     by_step
     (λ (deeds : List Deed) (after : Outcome).
-    is_refusal e after.reply ≡ true → after.world ≡ cleared w)
+    is_refusal e after.reply ≡ true → after.world ≡ without_marks w)
     w p e (λ errno refused. refl)
-    (λ passed refused. differ (sym (row_accepts (cleared w) p e) ∙ refused))
+    (λ passed refused. differ (sym (row_accepts (without_marks w) p e) ∙ refused))
 
 -- what is told of an event before makes no difference
 untold : (w : WorldState) (entries : List Entry)
-    → exchanges (cleared w) entries ≡ exchanges w entries
+    → exchanges (without_marks w) entries ≡ exchanges w entries
 untold w [] = refl
 untold w (entry ∷ entries) = refl
 
 untold_end : (w : WorldState) (entries : List Entry)
-    → cleared (replay (cleared w) entries) ≡ cleared (replay w entries)
+    → without_marks (replay (without_marks w) entries) ≡ without_marks (replay w entries)
 untold_end w [] = refl
 untold_end w (entry ∷ entries) = refl
 
-pub later-answers-stay : LaterAnswersStay
-later-answers-stay w p e later refused =
-    ap (λ (v : WorldState). exchanges v later) (refusals-change-nothing w p e refused) ∙ untold w later
+pub later_answers_stay : LaterAnswersStay
+later_answers_stay w p e later refused =
+    ap (λ (v : WorldState). exchanges v later) (refusals_change_nothing w p e refused) ∙ untold w later
 
 -- a list of calls without those that were refused
 kept_answers : (w : WorldState) (entry : Entry) (entries : List Entry) (refused : Bool)
@@ -83,16 +83,16 @@ kept_answers : (w : WorldState) (entry : Entry) (entries : List Entry) (refused 
     (calls
     (cond (not refused)
     ((entry, (step w entry.caller entry.event).reply)
-    ∷ accepted (exchanges (step w entry.caller entry.event).world entries))
-    (accepted (exchanges (step w entry.caller entry.event).world entries))))
+    ∷ accepted_entries (exchanges (step w entry.caller entry.event).world entries))
+    (accepted_entries (exchanges (step w entry.caller entry.event).world entries))))
     ≡ cond (not refused)
     ((entry, (step w entry.caller entry.event).reply)
-    ∷ accepted (exchanges (step w entry.caller entry.event).world entries))
-    (accepted (exchanges (step w entry.caller entry.event).world entries))
+    ∷ accepted_entries (exchanges (step w entry.caller entry.event).world entries))
+    (accepted_entries (exchanges (step w entry.caller entry.event).world entries))
 kept_answers w entry entries true is same =
     let rest : List (Entry × Reply) =
-    accepted (exchanges (step w entry.caller entry.event).world entries) in
-    sym (later-answers-stay w entry.caller entry.event (calls rest) is) ∙ same.answers
+    accepted_entries (exchanges (step w entry.caller entry.event).world entries) in
+    sym (later_answers_stay w entry.caller entry.event (calls rest) is) ∙ same.answers
 kept_answers w entry entries false is same =
     ap
     (λ (rest : List (Entry × Reply)). (entry, (step w entry.caller entry.event).reply) ∷ rest)
@@ -101,29 +101,29 @@ kept_answers w entry entries false is same =
 kept_world : (w : WorldState) (entry : Entry) (entries : List Entry) (refused : Bool)
     → is_refusal entry.event (step w entry.caller entry.event).reply ≡ refused
     → IsSameWithout (step w entry.caller entry.event).world entries
-    → cleared
+    → without_marks
     (replay w
     (calls
     (cond (not refused)
     ((entry, (step w entry.caller entry.event).reply)
-    ∷ accepted (exchanges (step w entry.caller entry.event).world entries))
-    (accepted (exchanges (step w entry.caller entry.event).world entries)))))
-    ≡ cleared (replay (step w entry.caller entry.event).world entries)
+    ∷ accepted_entries (exchanges (step w entry.caller entry.event).world entries))
+    (accepted_entries (exchanges (step w entry.caller entry.event).world entries)))))
+    ≡ without_marks (replay (step w entry.caller entry.event).world entries)
 kept_world w entry entries true is same =
     let rest : List (Entry × Reply) =
-    accepted (exchanges (step w entry.caller entry.event).world entries) in
+    accepted_entries (exchanges (step w entry.caller entry.event).world entries) in
     sym
-    (ap (λ (v : WorldState). cleared (replay v (calls rest)))
-    (refusals-change-nothing w entry.caller entry.event is)
+    (ap (λ (v : WorldState). without_marks (replay v (calls rest)))
+    (refusals_change_nothing w entry.caller entry.event is)
     ∙ untold_end w (calls rest))
     ∙ same.world
 kept_world w entry entries false is same = same.world
 
-pub refusals-can-go : RefusalsCanGo
-refusals-can-go w [] = record { answers = refl; world = refl }
-refusals-can-go w (entry ∷ entries) =
+pub refusals_can_go : RefusalsCanGo
+refusals_can_go w [] = record { answers = refl; world = refl }
+refusals_can_go w (entry ∷ entries) =
     let after : Outcome = step w entry.caller entry.event in
-    let same : IsSameWithout after.world entries = refusals-can-go after.world entries in
+    let same : IsSameWithout after.world entries = refusals_can_go after.world entries in
     record {
       answers = kept_answers w entry entries (is_refusal entry.event after.reply) refl same;
       world = kept_world w entry entries (is_refusal entry.event after.reply) refl same;
@@ -149,14 +149,14 @@ goes_if false callers others is = differ is
 
 goes_on : (callers : Callers) (p : ℕ) → is_live callers p ≡ true
     → (caller_at callers p).waiting ≡ waiting.Broken
-    → settled (collected p callers) ≡ collected p callers
+    → after_idle_rule (after_wait_report p callers) ≡ after_wait_report p callers
 goes_on callers p live is =
     let told : Process =
-    with_waiting (caller_at callers p) (left (caller_at callers p).waiting) in
-    goes_if (list_any can_go (collected p callers).list) (collected p callers) _
+    with_waiting (caller_at callers p) (waiting_after_report (caller_at callers p).waiting) in
+    goes_if (list_any can_go (after_wait_report p callers).list) (after_wait_report p callers) _
     (one_goes callers.list p told live
-    (both_of (caller_at callers p).live (not (is_open (left (caller_at callers p).waiting))) live
-    (ap (λ (ended : Waiting). not (is_open (left ended))) is)))
+    (both_of (caller_at callers p).live (not (is_open (waiting_after_report (caller_at callers p).waiting))) live
+    (ap (λ (ended : Waiting). not (is_open (waiting_after_report ended))) is)))
 
 abbrev tells_signal : Reply → Bool
 tells_signal (reply.Err Intr) = true
@@ -165,17 +165,17 @@ tells_signal answer = false
 -- how a wait ended, told to a live process
 own_end : (v : WorldState) (p : ℕ) (ended : Waiting) → is_live v.callers p ≡ true
     → (caller v p).waiting ≡ ended
-    → (answered
-    (effect_of v
+    → (outcome_of_row
+    (row_result v
     (cond (not (has_ticket (waited_of ended))) (Some Inval)
     (cond (is_open ended) (Some Again) None))
     (row_of (ended_reply ended) (Own (Collects p) ∷ [])))).reply ≡ reply.Err Intr
-    → (answered
-    (effect_of v
+    → (outcome_of_row
+    (row_result v
     (cond (not (has_ticket (waited_of ended))) (Some Inval)
     (cond (is_open ended) (Some Again) None))
     (row_of (ended_reply ended) (Own (Collects p) ∷ [])))).world
-    ≡ record v { callers = collected p v.callers }
+    ≡ record v { callers = after_wait_report p v.callers }
 own_end v p waiting.Nothing live is told = differ (ap tells_signal told)
 own_end v p (waiting.Open ticket) live is told = differ (ap tells_signal told)
 own_end v p waiting.Done live is told = differ (ap tells_signal told)
@@ -183,22 +183,22 @@ own_end v p waiting.Broken live is told =
     ap (λ (callers : Callers). record v { callers = callers }) (goes_on v.callers p live is)
 
 any_end : (v : WorldState) (p : ℕ) (live keyboard ticket : Bool) → is_live v.callers p ≡ live
-    → (answered
-    (effect_after v p event.WaitEnd
+    → (outcome_of_row
+    (row_result_after v p event.WaitEnd
     (cond (not live) (Some Srch)
     (cond (not (not keyboard)) (Some Notty)
     (cond (ticket && false) (Some Inval) None))))).reply ≡ reply.Err Intr
-    → (answered
-    (effect_after v p event.WaitEnd
+    → (outcome_of_row
+    (row_result_after v p event.WaitEnd
     (cond (not live) (Some Srch)
     (cond (not (not keyboard)) (Some Notty)
     (cond (ticket && false) (Some Inval) None))))).world
-    ≡ record v { callers = collected p v.callers }
+    ≡ record v { callers = after_wait_report p v.callers }
 any_end v p false keyboard ticket is told = differ (ap tells_signal told)
 any_end v p true true ticket is told = differ (ap tells_signal told)
 any_end v p true false true is told = own_end v p (caller v p).waiting is refl told
 any_end v p true false false is told = own_end v p (caller v p).waiting is refl told
 
-pub broken-waits-are-taken : BrokenWaitsAreTaken
-broken-waits-are-taken w p told =
-    any_end (cleared w) p (is_live w.callers p) (is_keyboard p) (holds_ticket w p) refl told
+pub broken_waits_are_taken : BrokenWaitsAreTaken
+broken_waits_are_taken w p told =
+    any_end (without_marks w) p (is_live w.callers p) (is_keyboard p) (holds_ticket w p) refl told

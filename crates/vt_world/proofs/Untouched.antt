@@ -13,10 +13,10 @@ use Rattle.vt_switch.specs.declared.mark.Mark.{Mark}
 use Rattle.vt_world.proofs.Quiet.{are_quiet, is_quiet, is_quiet_own, outs_quiet, scan_quiet, sent_quiet, wait_quiet}
 use Rattle.vt_world.proofs.Steps.{by_step}
 use Rattle.vt_world.proofs.Truths.{both_of, differ, left_of, right_of, unequal}
-use Rattle.vt_world.specs.Deeds.{Deed, By, Asks, Own, OwnDeed, Starts, Clears, Writes, Alters, Raises, acted, all_done, done, own_done, requested}
-use Rattle.vt_world.specs.Heard.{cleared, heard, tell}
-use Rattle.vt_world.specs.Refusals.{is_empty, is_in_use, named, target}
-use Rattle.vt_world.specs.Rows.{freeing, out_deeds, row}
+use Rattle.vt_world.specs.Deeds.{Deed, By, Asks, Own, OwnDeed, Starts, Clears, Writes, Alters, Raises, after_switch_act, apply_deeds, apply_deed, apply_own_deed, after_request}
+use Rattle.vt_world.specs.Heard.{without_marks, apply_mark, apply_marks}
+use Rattle.vt_world.specs.Refusals.{is_empty, is_in_use, console_by_number, target}
+use Rattle.vt_world.specs.Rows.{free_deeds, out_deeds, row}
 use Rattle.vt_world.specs.State.{WorldState, core}
 use Rattle.vt_world.specs.Step.{Outcome}
 use Rattle.vt_world.specs.StepLaws.{TerminalsStay, touches}
@@ -33,19 +33,19 @@ then c u v w first (inr gone) = inr gone
 then c u v w (inl same) (inl more) = inl (more ∙ same)
 then c u v w (inr gone) (inl more) = inr (more ∙ gone)
 
-tells : (marked : List Mark) (w : WorldState) → (tell w marked).terminals ≡ w.terminals
+tells : (marked : List Mark) (w : WorldState) → (apply_marks w marked).terminals ≡ w.terminals
 tells [] w = refl
-tells (m ∷ marked) w = tells marked (heard w m)
+tells (m ∷ marked) w = tells marked (apply_mark w m)
 
 at_same : (c : ℕ) (w v : WorldState) → v.terminals ≡ w.terminals → Stays c w v
 at_same c w v same = inl (ap (λ (terminals : List (Option TerminalState)). terminal_at terminals c) same)
 
-acts : (c : ℕ) (w : WorldState) (act : SwitchAct) → Stays c w (acted w act)
+acts : (c : ℕ) (w : WorldState) (act : SwitchAct) → Stays c w (after_switch_act w act)
 acts c w act =
-    at_same c w (acted w act)
+    at_same c w (after_switch_act w act)
     (tells (marks (core w) act) (record w { display = (core_after (core w) act).display }))
 
-requests : (c : ℕ) (w : WorldState) (n : Option ℕ) → Stays c w (requested w n)
+requests : (c : ℕ) (w : WorldState) (n : Option ℕ) → Stays c w (after_request w n)
 requests c w None = inl refl
 requests c w (Some n) = acts c w (Request n)
 
@@ -77,33 +77,33 @@ gone_or zero (suc n) (place ∷ terminals) = inl refl
 gone_or (suc c) (suc n) (place ∷ terminals) = gone_or c n terminals
 
 own : (c : ℕ) (w : WorldState) (deed : OwnDeed) → leaves c (Own deed) ≡ true
-    → Stays c w (own_done w deed)
+    → Stays c w (apply_own_deed w deed)
 own c w (Starts n) other =
-    elsewhere c n w (own_done w (Starts n)) (Some (or_new w.rows w.cols (terminal_at w.terminals n)))
+    elsewhere c n w (apply_own_deed w (Starts n)) (Some (or_new w.rows w.cols (terminal_at w.terminals n)))
     refl other
 own c w (Clears n) other = gone_or c n w.terminals
 own c w (Writes n bytes) other =
-    elsewhere c n w (own_done w (Writes n bytes))
+    elsewhere c n w (apply_own_deed w (Writes n bytes))
     (option_map (written_on bytes) (terminal_at w.terminals n)) refl other
 own c w (Alters n m) other =
-    elsewhere c n w (own_done w (Alters n m))
+    elsewhere c n w (apply_own_deed w (Alters n m))
     (option_map (altered_by m) (terminal_at w.terminals n)) refl other
 own c w (Raises p signal) other =
-    at_same c w (own_done w (Raises p signal)) (tells (raise (core w) p signal) w)
+    at_same c w (apply_own_deed w (Raises p signal)) (tells (raise (core w) p signal) w)
 own c w deed other = inl refl
 
-does : (c : ℕ) (w : WorldState) (deed : Deed) → leaves c deed ≡ true → Stays c w (done w deed)
+does : (c : ℕ) (w : WorldState) (deed : Deed) → leaves c deed ≡ true → Stays c w (apply_deed w deed)
 does c w (By act) other = acts c w act
 does c w (Asks wanted) other = requests c w (wanted_in w.display wanted)
 does c w (Own deed) other = own c w deed other
 
 all_leave : (c : ℕ) (w : WorldState) (deeds : List Deed) → list_all (leaves c) deeds ≡ true
-    → Stays c w (all_done w deeds)
+    → Stays c w (apply_deeds w deeds)
 all_leave c w [] other = inl refl
 all_leave c w (deed ∷ deeds) other =
-    then c w (done w deed) (all_done (done w deed) deeds)
+    then c w (apply_deed w deed) (apply_deeds (apply_deed w deed) deeds)
     (does c w deed (left_of (leaves c deed) (list_all (leaves c) deeds) other))
-    (all_leave c (done w deed) deeds (right_of (leaves c deed) (list_all (leaves c) deeds) other))
+    (all_leave c (apply_deed w deed) deeds (right_of (leaves c deed) (list_all (leaves c) deeds) other))
 
 -- the deeds of most events leave every console
 quiet_own_leaves : (c : ℕ) (deed : OwnDeed) → is_quiet_own deed ≡ true
@@ -126,12 +126,12 @@ quiet_leave c (deed ∷ deeds) quiet =
     (quiet_leaves c deed (left_of (is_quiet deed) (are_quiet deeds) quiet))
     (quiet_leave c deeds (right_of (is_quiet deed) (are_quiet deeds) quiet))
 
-frees_leave : (c : ℕ) (consoles : List ℕ) → list_all (leaves c) (flat_map freeing consoles) ≡ true
+frees_leave : (c : ℕ) (consoles : List ℕ) → list_all (leaves c) (flat_map free_deeds consoles) ≡ true
 frees_leave c [] = refl
 frees_leave c (n ∷ consoles) = frees_leave c consoles
 
 disallocate_leaves : (all : Bool) (c n : ℕ) (consoles : List ℕ)
-    → list_all (leaves c) (cond all (flat_map freeing consoles) (freeing n)) ≡ true
+    → list_all (leaves c) (cond all (flat_map free_deeds consoles) (free_deeds n)) ≡ true
 disallocate_leaves true c n consoles = frees_leave c consoles
 disallocate_leaves false c n consoles = refl
 
@@ -144,7 +144,7 @@ row_leaves : (c : ℕ) (w : WorldState) (p : ℕ) (e : Event) → touches w p e 
 row_leaves c w p (event.Scan b) other =
     quiet_leave c (row w p (event.Scan b)).deeds (scan_quiet w _ w.display.front b)
 row_leaves c w p (event.OpenCon n) other =
-    both_of (not (named w n == c)) true (not_other (named w n == c) other) refl
+    both_of (not (console_by_number w n == c)) true (not_other (console_by_number w n == c) other) refl
 row_leaves c w p (event.Activate fd n) other =
     both_of (not (n == c)) true (not_other (n == c) other) refl
 row_leaves c w p (event.Write fd b) other =
@@ -171,9 +171,9 @@ row_leaves c w p (event.Kill q s) other =
     quiet_leave c (row w p (event.Kill q s)).deeds (sent_quiet (s == 9) q s)
 row_leaves c w p e other = refl
 
-pub terminals-stay : TerminalsStay
-terminals-stay w p e c other =
+pub terminals_stay : TerminalsStay
+terminals_stay w p e c other =
     by_step (λ (deeds : List Deed) (after : Outcome). Stays c w after.world) w p e
     (λ errno. inl refl)
     (λ accepted.
-    all_leave c (cleared w) (row (cleared w) p e).deeds (row_leaves c (cleared w) p e other))
+    all_leave c (without_marks w) (row (without_marks w) p e).deeds (row_leaves c (without_marks w) p e other))

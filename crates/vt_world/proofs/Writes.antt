@@ -5,102 +5,102 @@ use Rattle.std.proofs.lemmas.List.Sums.{sum_by-append, sum_by-take-le}
 use Rattle.std.specs.List.{flat_map}
 use Rattle.std.specs.Prelude.{Ok, option_map}
 use Rattle.vt_screen.specs.Asking.{RequestsAreFew, asks, requests}
-use Rattle.vt_screen.specs.Run.{AnyCut, said}
+use Rattle.vt_screen.specs.Run.{AnyCut, outs_of_run}
 use Rattle.vt_screen.specs.declared.out.Out.{Out}
 use Rattle.vt_screen.specs.declared.out.Out.TheVariants as outs
 use Rattle.vt_world.specs.Rows.{out_deeds, write_deeds}
-use Rattle.vt_world.specs.Deeds.{Asks, Deed, Lights, Own, Puts, Writes, all_done, done, requested}
+use Rattle.vt_world.specs.Deeds.{Asks, Deed, Lights, Own, Puts, Writes, apply_deeds, apply_deed, after_request}
 use Rattle.vt_switch.specs.Acts.{Request}
 use Rattle.vt_switch.specs.Moments.{core_after, marks}
 use Rattle.vt_switch.specs.declared.mark.Mark.{Mark}
-use Rattle.vt_world.specs.Heard.{heard as heard_mark, tell}
+use Rattle.vt_world.specs.Heard.{apply_mark as heard_mark, apply_marks}
 use Rattle.vt_world.specs.State.{WorldState, core}
 use Rattle.vt_world.specs.Wanted.{wanted_in}
 use Rattle.vt_base.specs.Bytes.{Text}
 use Rattle.vt_events.specs.declared.event.Event.TheVariants as event
 use Rattle.vt_events.specs.declared.reply.Reply.TheVariants as reply
 use Rattle.vt_procs.specs.Callers.{console_of}
-use Rattle.vt_world.specs.Step.{own_effect}
-use Rattle.vt_world.specs.Terminals.{TerminalState, said_of, terminal_at, written, written_on}
+use Rattle.vt_world.specs.Step.{own_row_result}
+use Rattle.vt_world.specs.Terminals.{TerminalState, said_of, terminal_at, after_write, written_on}
 use Rattle.vt_world.specs.declared.wanted.Wanted.TheVariants.{Last, Number}
-use Rattle.vt_world.proofs.Bells.{written-more}
+use Rattle.vt_world.proofs.Bells.{written_more}
 
 -- deeds, and then more of them
-pub all_done-append : (w : WorldState) (xs ys : List Deed)
-    → all_done w (xs ++ ys) ≡ all_done (all_done w xs) ys
-all_done-append w [] ys = refl
-all_done-append w (x ∷ xs) ys = all_done-append (done w x) xs ys
+pub apply_deeds-append : (w : WorldState) (xs ys : List Deed)
+    → apply_deeds w (xs ++ ys) ≡ apply_deeds (apply_deeds w xs) ys
+apply_deeds-append w [] ys = refl
+apply_deeds-append w (x ∷ xs) ys = apply_deeds-append (apply_deed w x) xs ys
 
 -- what is said, one behind another
 abbrev pub heard : ℕ → List Out → WorldState → WorldState
-heard c said w = all_done w (flat_map (out_deeds c) said)
+heard c outs_of_run w = apply_deeds w (flat_map (out_deeds c) outs_of_run)
 
 pub heard-append : (c : ℕ) (xs ys : List Out) (w : WorldState)
     → heard c ys (heard c xs w) ≡ heard c (xs ++ ys) w
 heard-append c xs ys w =
-    sym (all_done-append w (flat_map (out_deeds c) xs) (flat_map (out_deeds c) ys))
-    ∙ ap (all_done w) (sym (flat_map-append (out_deeds c) xs ys))
+    sym (apply_deeds-append w (flat_map (out_deeds c) xs) (flat_map (out_deeds c) ys))
+    ∙ ap (apply_deeds w) (sym (flat_map-append (out_deeds c) xs ys))
 
 -- one thing more is said
-pub heard-more : (c : ℕ) (xs : List Out) (x : Out) (w : WorldState)
-    → all_done (heard c xs w) (out_deeds c x) ≡ heard c (xs ++ x ∷ []) w
-heard-more c xs x w =
-    ap (all_done (heard c xs w)) (sym (append-nil (out_deeds c x)))
+pub heard_more : (c : ℕ) (xs : List Out) (x : Out) (w : WorldState)
+    → apply_deeds (heard c xs w) (out_deeds c x) ≡ heard c (xs ++ x ∷ []) w
+heard_more c xs x w =
+    ap (apply_deeds (heard c xs w)) (sym (append-nil (out_deeds c x)))
     ∙ heard-append c xs (x ∷ []) w
 
 -- what is told draws nothing
-tell-terminals : (w : WorldState) (marks : List Mark) → (tell w marks).terminals ≡ w.terminals
-tell-terminals w [] = refl
-tell-terminals w (m ∷ marks) = tell-terminals (heard_mark w m) marks
+apply_marks_terminals : (w : WorldState) (marks : List Mark) → (apply_marks w marks).terminals ≡ w.terminals
+apply_marks_terminals w [] = refl
+apply_marks_terminals w (m ∷ marks) = apply_marks_terminals (heard_mark w m) marks
 
-requested-terminals : (w : WorldState) (n : Option ℕ) → (requested w n).terminals ≡ w.terminals
-requested-terminals w None = refl
-requested-terminals w (Some n) =
-    tell-terminals (record w { display = (core_after (core w) (Request n)).display })
+after_request_terminals : (w : WorldState) (n : Option ℕ) → (after_request w n).terminals ≡ w.terminals
+after_request_terminals w None = refl
+after_request_terminals w (Some n) =
+    apply_marks_terminals (record w { display = (core_after (core w) (Request n)).display })
     (marks (core w) (Request n))
 
 -- so a text may be drawn before
-tell-writes : (c : ℕ) (bytes : List ℕ) (w : WorldState) (marks : List Mark)
-    → done (tell w marks) (Own (Writes c bytes)) ≡ tell (done w (Own (Writes c bytes))) marks
-tell-writes c bytes w [] = refl
-tell-writes c bytes w (m ∷ marks) = tell-writes c bytes (heard_mark w m) marks
+apply_marks_writes : (c : ℕ) (bytes : List ℕ) (w : WorldState) (marks : List Mark)
+    → apply_deed (apply_marks w marks) (Own (Writes c bytes)) ≡ apply_marks (apply_deed w (Own (Writes c bytes))) marks
+apply_marks_writes c bytes w [] = refl
+apply_marks_writes c bytes w (m ∷ marks) = apply_marks_writes c bytes (heard_mark w m) marks
 
-requested-writes : (c : ℕ) (bytes : List ℕ) (w : WorldState) (n : Option ℕ)
-    → done (requested w n) (Own (Writes c bytes)) ≡ requested (done w (Own (Writes c bytes))) n
-requested-writes c bytes w None = refl
-requested-writes c bytes w (Some n) =
-    tell-writes c bytes (record w { display = (core_after (core w) (Request n)).display })
+after_request_writes : (c : ℕ) (bytes : List ℕ) (w : WorldState) (n : Option ℕ)
+    → apply_deed (after_request w n) (Own (Writes c bytes)) ≡ after_request (apply_deed w (Own (Writes c bytes))) n
+after_request_writes c bytes w None = refl
+after_request_writes c bytes w (Some n) =
+    apply_marks_writes c bytes (record w { display = (core_after (core w) (Request n)).display })
     (marks (core w) (Request n))
 
 -- what is said draws nothing
-heard-terminals : (c : ℕ) (said : List Out) (w : WorldState)
-    → (heard c said w).terminals ≡ w.terminals
-heard-terminals c [] w = refl
-heard-terminals c (outs.Report text ∷ more) w = heard-terminals c more (done w (Own (Puts c text)))
-heard-terminals c (outs.SwitchTo n ∷ more) w =
-    heard-terminals c more (done w (Asks (Number n)))
-    ∙ requested-terminals w (wanted_in w.display (Number n))
-heard-terminals c (outs.SwitchLast ∷ more) w =
-    heard-terminals c more (done w (Asks Last)) ∙ requested-terminals w (wanted_in w.display Last)
-heard-terminals c (outs.Lights lights ∷ more) w =
-    heard-terminals c more (done w (Own (Lights c lights)))
-heard-terminals c (outs.Bell ∷ more) w = heard-terminals c more w
+heard_terminals : (c : ℕ) (outs_of_run : List Out) (w : WorldState)
+    → (heard c outs_of_run w).terminals ≡ w.terminals
+heard_terminals c [] w = refl
+heard_terminals c (outs.Report text ∷ more) w = heard_terminals c more (apply_deed w (Own (Puts c text)))
+heard_terminals c (outs.SwitchTo n ∷ more) w =
+    heard_terminals c more (apply_deed w (Asks (Number n)))
+    ∙ after_request_terminals w (wanted_in w.display (Number n))
+heard_terminals c (outs.SwitchLast ∷ more) w =
+    heard_terminals c more (apply_deed w (Asks Last)) ∙ after_request_terminals w (wanted_in w.display Last)
+heard_terminals c (outs.Lights lights ∷ more) w =
+    heard_terminals c more (apply_deed w (Own (Lights c lights)))
+heard_terminals c (outs.Bell ∷ more) w = heard_terminals c more w
 
 -- so a text may be drawn before it
-heard-writes : (c : ℕ) (bytes : List ℕ) (said : List Out) (w : WorldState)
-    → done (heard c said w) (Own (Writes c bytes)) ≡ heard c said (done w (Own (Writes c bytes)))
-heard-writes c bytes [] w = refl
-heard-writes c bytes (outs.Report text ∷ more) w =
-    heard-writes c bytes more (done w (Own (Puts c text)))
-heard-writes c bytes (outs.SwitchTo n ∷ more) w =
-    heard-writes c bytes more (done w (Asks (Number n)))
-    ∙ ap (heard c more) (requested-writes c bytes w (wanted_in w.display (Number n)))
-heard-writes c bytes (outs.SwitchLast ∷ more) w =
-    heard-writes c bytes more (done w (Asks Last))
-    ∙ ap (heard c more) (requested-writes c bytes w (wanted_in w.display Last))
-heard-writes c bytes (outs.Lights lights ∷ more) w =
-    heard-writes c bytes more (done w (Own (Lights c lights)))
-heard-writes c bytes (outs.Bell ∷ more) w = heard-writes c bytes more w
+heard_writes : (c : ℕ) (bytes : List ℕ) (outs_of_run : List Out) (w : WorldState)
+    → apply_deed (heard c outs_of_run w) (Own (Writes c bytes)) ≡ heard c outs_of_run (apply_deed w (Own (Writes c bytes)))
+heard_writes c bytes [] w = refl
+heard_writes c bytes (outs.Report text ∷ more) w =
+    heard_writes c bytes more (apply_deed w (Own (Puts c text)))
+heard_writes c bytes (outs.SwitchTo n ∷ more) w =
+    heard_writes c bytes more (apply_deed w (Asks (Number n)))
+    ∙ ap (heard c more) (after_request_writes c bytes w (wanted_in w.display (Number n)))
+heard_writes c bytes (outs.SwitchLast ∷ more) w =
+    heard_writes c bytes more (apply_deed w (Asks Last))
+    ∙ ap (heard c more) (after_request_writes c bytes w (wanted_in w.display Last))
+heard_writes c bytes (outs.Lights lights ∷ more) w =
+    heard_writes c bytes more (apply_deed w (Own (Lights c lights)))
+heard_writes c bytes (outs.Bell ∷ more) w = heard_writes c bytes more w
 
 -- what a place has after it changes
 at_changed : (n : ℕ) (f : TerminalState → TerminalState) (ts : List (Option TerminalState))
@@ -120,13 +120,13 @@ changed_twice (suc n) f g (t ∷ ts) o is = ap (λ more. t ∷ more) (changed_tw
 both_written : AnyCut → (a b : List ℕ) (o : Option TerminalState)
     → option_map (written_on b) (option_map (written_on a) o) ≡ option_map (written_on (a ++ b)) o
 both_written law a b None = refl
-both_written law a b (Some t) = ap Some (written-more law t a b _ _ _ refl refl refl)
+both_written law a b (Some t) = ap Some (written_more law t a b _ _ _ refl refl refl)
 
 -- two pieces draw what the whole draws
-written-append : AnyCut → (c : ℕ) (a b : List ℕ) (ts : List (Option TerminalState))
-    → written c b (written c a ts) ≡ written c (a ++ b) ts
-written-append law c a b ts =
-    ap (λ o. set (written c a ts) c (option_map (written_on b) o)) (at_changed c (written_on a) ts)
+after_write-append : AnyCut → (c : ℕ) (a b : List ℕ) (ts : List (Option TerminalState))
+    → after_write c b (after_write c a ts) ≡ after_write c (a ++ b) ts
+after_write-append law c a b ts =
+    ap (λ o. set (after_write c a ts) c (option_map (written_on b) o)) (at_changed c (written_on a) ts)
     ∙ changed_twice c (written_on a) (written_on b) ts (option_map (written_on a) (get_or ts c None))
     refl
     ∙ ap (set ts c) (both_written law a b (get_or ts c None))
@@ -137,29 +137,29 @@ both_said law a b None = refl
 both_said law a b (Some t) = sym (law t.machine a b).1
 
 -- and say what the whole says
-said-append : AnyCut → (c : ℕ) (a b : List ℕ) (ts : List (Option TerminalState))
-    → said_of (terminal_at ts c) a ++ said_of (terminal_at (written c a ts) c) b
+outs_of_run-append : AnyCut → (c : ℕ) (a b : List ℕ) (ts : List (Option TerminalState))
+    → said_of (terminal_at ts c) a ++ said_of (terminal_at (after_write c a ts) c) b
     ≡ said_of (terminal_at ts c) (a ++ b)
-said-append law c a b ts =
+outs_of_run-append law c a b ts =
     ap (λ o. said_of (terminal_at ts c) a ++ said_of o b) (at_changed c (written_on a) ts)
     ∙ both_said law a b (terminal_at ts c)
 
 abbrev pub ran : WorldState → ℕ → List ℕ → WorldState
-ran w c bytes = all_done w (write_deeds w c bytes)
+ran w c bytes = apply_deeds w (write_deeds w c bytes)
 
 -- a text that is run in two pieces is run
 pub ran-append : AnyCut → (w : WorldState) (c : ℕ) (a b : List ℕ)
     → ran (ran w c a) c b ≡ ran w c (a ++ b)
 ran-append law w c a b =
-    let drawn : WorldState = done w (Own (Writes c a)) in
+    let drawn : WorldState = apply_deed w (Own (Writes c a)) in
     let said_a : List Out = said_of (terminal_at w.terminals c) a in
     let said_b : List Out = said_of (terminal_at drawn.terminals c) b in
-    ap (λ ts. heard c (said_of (terminal_at ts c) b) (done (heard c said_a drawn) (Own (Writes c b))))
-    (heard-terminals c said_a drawn)
-    ∙ ap (heard c said_b) (heard-writes c b said_a drawn)
-    ∙ heard-append c said_a said_b (done drawn (Own (Writes c b)))
-    ∙ (λ i. heard c (said-append law c a b w.terminals i)
-    (record w { terminals = written-append law c a b w.terminals i }))
+    ap (λ ts. heard c (said_of (terminal_at ts c) b) (apply_deed (heard c said_a drawn) (Own (Writes c b))))
+    (heard_terminals c said_a drawn)
+    ∙ ap (heard c said_b) (heard_writes c b said_a drawn)
+    ∙ heard-append c said_a said_b (apply_deed drawn (Own (Writes c b)))
+    ∙ (λ i. heard c (outs_of_run-append law c a b w.terminals i)
+    (record w { terminals = after_write-append law c a b w.terminals i }))
 
 -- what two texts ask for, and no more, is asked for by both together
 requests-append : (xs ys : List Out) → requests (xs ++ ys) ≡ requests xs + requests ys
@@ -171,35 +171,35 @@ pub ran-asks : AnyCut → (w : WorldState) (c : ℕ) (a b : List ℕ)
     + requests (said_of (terminal_at (ran w c a).terminals c) b)
     ≡ requests (said_of (terminal_at w.terminals c) (a ++ b))
 ran-asks law w c a b =
-    let drawn : WorldState = done w (Own (Writes c a)) in
+    let drawn : WorldState = apply_deed w (Own (Writes c a)) in
     let said_a : List Out = said_of (terminal_at w.terminals c) a in
     ap (λ ts. requests said_a + requests (said_of (terminal_at ts c) b))
-    (heard-terminals c said_a drawn)
+    (heard_terminals c said_a drawn)
     ∙ sym (requests-append said_a (said_of (terminal_at drawn.terminals c) b))
-    ∙ ap requests (said-append law c a b w.terminals)
+    ∙ ap requests (outs_of_run-append law c a b w.terminals)
 
 -- a text asks for few consoles, where it is written to one that has a terminal or to one that hasn't
-pub asks-few : RequestsAreFew → (o : Option TerminalState) (bytes : List ℕ)
+pub asks_few : RequestsAreFew → (o : Option TerminalState) (bytes : List ℕ)
     → 4 * requests (said_of o bytes) ≤ length bytes + 3
-asks-few law None bytes = omega arith
-asks-few law (Some t) bytes = law t.machine bytes
+asks_few law None bytes = omega arith
+asks_few law (Some t) bytes = law t.machine bytes
 
 -- the first of several things that are said ask for no more than all
-pub front-asks : (i : ℕ) (all : List Out) → requests (take i all) ≤ requests all
-front-asks i all = sum_by-take-le (λ (o : Out). cond (asks o) 1 0) all i
+pub front_asks : (i : ℕ) (all : List Out) → requests (take i all) ≤ requests all
+front_asks i all = sum_by-take-le (λ (o : Out). cond (asks o) 1 0) all i
 
 -- one thing more is said
-pub one-more-asks : (xs : List Out) (x : Out)
+pub one_more_asks : (xs : List Out) (x : Out)
     → requests (xs ++ x ∷ []) ≡ requests xs + requests (x ∷ [])
-one-more-asks xs x = requests-append xs (x ∷ [])
+one_more_asks xs x = requests-append xs (x ∷ [])
 
 -- a write that isn't refused
-pub write-has : (w : WorldState) (p fd : ℕ) (b : Text) (c : ℕ) (text : List ℕ) (w' : WorldState)
+pub write_has : (w : WorldState) (p fd : ℕ) (b : Text) (c : ℕ) (text : List ℕ) (w' : WorldState)
     → console_of w.callers p fd ≡ Some c → text ≡ b.bytes → leb (length text) 4096 ≡ true
     → w' ≡ ran w c text
-    → own_effect w p (event.Write fd b)
+    → own_row_result w p (event.Write fd b)
     ≡ record { world = w'; answer = Ok (reply.Num (length text)) }
-write-has w p fd b c text w' found is short ran_is =
+write_has w p fd b c text w' found is short ran_is =
     let within : leb (length b.bytes) 4096 ≡ true =
     ap (λ (t : List ℕ). leb (length t) 4096) (sym is) ∙ short in
     rw (found, within)

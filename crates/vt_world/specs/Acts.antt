@@ -4,8 +4,8 @@ use Rattle.vt_base.specs.declared.errno.Errno.{Errno}
 use Rattle.vt_events.specs.declared.entry.Entry.{Entry}
 use Rattle.vt_events.specs.declared.event.Event.{Event}
 use Rattle.vt_switch.specs.Acts.{SwitchAct, Request}
-use Rattle.vt_world.specs.Deeds.{Deed, Asks, By, Own, done}
-use Rattle.vt_world.specs.Heard.{cleared}
+use Rattle.vt_world.specs.Deeds.{Deed, Asks, By, Own, apply_deed}
+use Rattle.vt_world.specs.Heard.{without_marks}
 use Rattle.vt_world.specs.Rows.{row}
 use Rattle.vt_world.specs.State.{WorldState}
 use Rattle.vt_world.specs.Step.{step}
@@ -25,7 +25,7 @@ acts_of w (Own deed) = []
 -- the acts of deeds, one after another
 abbrev pub all_acts : WorldState → List Deed → List SwitchAct
 all_acts w [] = []
-all_acts w (deed ∷ deeds) = acts_of w deed ++ all_acts (done w deed) deeds
+all_acts w (deed ∷ deeds) = acts_of w deed ++ all_acts (apply_deed w deed) deeds
 
 -- the deeds of an event that nothing refuses
 abbrev pub deeds_unless : Option Errno → List Deed → List Deed
@@ -41,7 +41,7 @@ abbrev pub event_deeds : WorldState → ℕ → Event → List Deed
 event_deeds w p e = deeds_after w p e (first_refusal (common_refusals w p e))
 
 abbrev pub event_acts : WorldState → ℕ → Event → List SwitchAct
-event_acts w p e = all_acts (cleared w) (event_deeds (cleared w) p e)
+event_acts w p e = all_acts (without_marks w) (event_deeds (without_marks w) p e)
 
 -- the acts of each entry of a history
 abbrev pub history_acts : WorldState → List Entry → List (List SwitchAct)

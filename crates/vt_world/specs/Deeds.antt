@@ -1,19 +1,19 @@
 -- What an event can do to the console.
 use Rattle.std.specs.Prelude.{ℕ, List, [], ◌∷◌, map, slice_set, Option, Some, None, if◌then◌else◌}
-use Rattle.key_machine.specs.Keys.{Keys, State, unplugged}
+use Rattle.key_machine.specs.Keys.{Keys, State, after_unplug}
 use Rattle.key_tables.specs.Tables.{Tables}
 use Rattle.scan_codes.specs.Scan.{Scan, with_code}
 use Rattle.vt_base.specs.Keyboards.{keyboard_of}
-use Rattle.vt_procs.specs.Callers.{opened, shut}
-use Rattle.vt_procs.specs.Tickets.{accepting, collected, filled, taken, waits}
+use Rattle.vt_procs.specs.Callers.{after_open, after_close}
+use Rattle.vt_procs.specs.Tickets.{with_accepter, after_wait_report, after_input_on, after_taking_signals, waits}
 use Rattle.vt_procs.specs.declared.ticket.Ticket.{Ticket}
 use Rattle.vt_screen.specs.Tape.{Change}
 use Rattle.vt_switch.specs.Acts.{SwitchAct, Request}
 use Rattle.vt_switch.specs.Moments.{core_after, marks, raise}
-use Rattle.vt_world.specs.Heard.{tell}
-use Rattle.vt_world.specs.Inputs.{comes, emptied, input_at, keyed, lit, queued, without_bytes}
+use Rattle.vt_world.specs.Heard.{apply_marks}
+use Rattle.vt_world.specs.Inputs.{comes, with_new_input, input_at, with_key_state, lit, with_queued, without_bytes}
 use Rattle.vt_world.specs.State.{WorldState, core}
-use Rattle.vt_world.specs.Terminals.{altered, with_start, without_terminal, written}
+use Rattle.vt_world.specs.Terminals.{after_screen_change, with_start, without_terminal, after_write}
 use Rattle.vt_world.specs.Wanted.{wanted_in}
 use Rattle.vt_world.specs.declared.wanted.Wanted.{Wanted}
 
@@ -57,63 +57,63 @@ pub data Deed : Type 0 where
 -- bytes that come to console n end the waits for them; none come where the queue has no room
 abbrev pub with_input : ℕ → List ℕ → WorldState → WorldState
 with_input n piece w = record w {
-  inputs = queued n piece w.inputs;
+  inputs = with_queued n piece w.inputs;
   callers =
-      if comes (input_at w.inputs n).queue piece then filled n w.callers else w.callers;
+      if comes (input_at w.inputs n).queue piece then after_input_on n w.callers else w.callers;
 }
 
 -- the keys down when a caller is gone
 abbrev pub keys_without : Option ℕ → Keys → Keys
 keys_without None keys = keys
-keys_without (Some k) keys = unplugged k keys
+keys_without (Some k) keys = after_unplug k keys
 
-abbrev pub own_done : WorldState → OwnDeed → WorldState
-own_done w (Starts n) = record w { terminals = with_start n w.rows w.cols w.terminals }
-own_done w (Clears n) = record w {
+abbrev pub apply_own_deed : WorldState → OwnDeed → WorldState
+apply_own_deed w (Starts n) = record w { terminals = with_start n w.rows w.cols w.terminals }
+apply_own_deed w (Clears n) = record w {
   terminals = without_terminal n w.terminals;
-  inputs = emptied n w.inputs;
+  inputs = with_new_input n w.inputs;
 }
-own_done w (Writes n bytes) = record w { terminals = written n bytes w.terminals }
-own_done w (Alters n m) = record w { terminals = altered n m w.terminals }
-own_done w (Puts n piece) = with_input n piece w
-own_done w (Takes n count) = record w { inputs = without_bytes n count w.inputs }
-own_done w (Lights n lights) = record w { inputs = lit n lights w.inputs }
-own_done w (Keyed n state) = record w { inputs = keyed n state w.inputs }
-own_done w (Scanned k scanner) =
+apply_own_deed w (Writes n bytes) = record w { terminals = after_write n bytes w.terminals }
+apply_own_deed w (Alters n m) = record w { terminals = after_screen_change n m w.terminals }
+apply_own_deed w (Puts n piece) = with_input n piece w
+apply_own_deed w (Takes n count) = record w { inputs = without_bytes n count w.inputs }
+apply_own_deed w (Lights n lights) = record w { inputs = lit n lights w.inputs }
+apply_own_deed w (Keyed n state) = record w { inputs = with_key_state n state w.inputs }
+apply_own_deed w (Scanned k scanner) =
     record w { board = record w.board { scanners = slice_set w.board.scanners k scanner } }
-own_done w (Coded scan code) = record w {
+apply_own_deed w (Coded scan code) = record w {
   board = record w.board { scanners = map (λ s. with_code s scan code) w.board.scanners };
 }
-own_done w (Mapped tables) = record w { board = record w.board { tables = tables } }
-own_done w (Types n keys state) = record w {
-  inputs = keyed n state w.inputs;
+apply_own_deed w (Mapped tables) = record w { board = record w.board { tables = tables } }
+apply_own_deed w (Types n keys state) = record w {
+  inputs = with_key_state n state w.inputs;
   board = record w.board { keyboard = keys };
 }
-own_done w (Unplugs p) = record w {
+apply_own_deed w (Unplugs p) = record w {
   board = record w.board { keyboard = keys_without (keyboard_of p) w.board.keyboard };
 }
-own_done w (Opens p c) = record w { callers = opened p c w.callers }
-own_done w (Shuts p fd) = record w { callers = shut p fd w.callers }
-own_done w (Waits p ticket) = record w { callers = waits p ticket w.callers }
-own_done w (Collects p) = record w { callers = collected p w.callers }
-own_done w (Receives p) = record w { callers = taken p w.callers }
-own_done w (Accepts p signal) = record w { callers = accepting p signal w.callers }
-own_done w (Raises p signal) = tell w (raise (core w) p signal)
+apply_own_deed w (Opens p c) = record w { callers = after_open p c w.callers }
+apply_own_deed w (Shuts p fd) = record w { callers = after_close p fd w.callers }
+apply_own_deed w (Waits p ticket) = record w { callers = waits p ticket w.callers }
+apply_own_deed w (Collects p) = record w { callers = after_wait_report p w.callers }
+apply_own_deed w (Receives p) = record w { callers = after_taking_signals p w.callers }
+apply_own_deed w (Accepts p signal) = record w { callers = with_accepter p signal w.callers }
+apply_own_deed w (Raises p signal) = apply_marks w (raise (core w) p signal)
 
 -- an act of the switch is done, and told
-abbrev pub acted : WorldState → SwitchAct → WorldState
-acted w act =
-    tell (record w { display = (core_after (core w) act).display }) (marks (core w) act)
+abbrev pub after_switch_act : WorldState → SwitchAct → WorldState
+after_switch_act w act =
+    apply_marks (record w { display = (core_after (core w) act).display }) (marks (core w) act)
 
-abbrev pub requested : WorldState → Option ℕ → WorldState
-requested w None = w
-requested w (Some n) = acted w (Request n)
+abbrev pub after_request : WorldState → Option ℕ → WorldState
+after_request w None = w
+after_request w (Some n) = after_switch_act w (Request n)
 
-abbrev pub done : WorldState → Deed → WorldState
-done w (By act) = acted w act
-done w (Asks wanted) = requested w (wanted_in w.display wanted)
-done w (Own deed) = own_done w deed
+abbrev pub apply_deed : WorldState → Deed → WorldState
+apply_deed w (By act) = after_switch_act w act
+apply_deed w (Asks wanted) = after_request w (wanted_in w.display wanted)
+apply_deed w (Own deed) = apply_own_deed w deed
 
-abbrev pub all_done : WorldState → List Deed → WorldState
-all_done w [] = w
-all_done w (deed ∷ deeds) = all_done (done w deed) deeds
+abbrev pub apply_deeds : WorldState → List Deed → WorldState
+apply_deeds w [] = w
+apply_deeds w (deed ∷ deeds) = apply_deeds (apply_deed w deed) deeds

@@ -28,8 +28,8 @@ abbrev pub with_queue : ℕ → Queue → List Input → List Input
 with_queue n queue inputs = slice_set inputs n (record (input_at inputs n) { queue = queue })
 
 -- a piece goes into the queue of console n
-abbrev pub queued : ℕ → List ℕ → List Input → List Input
-queued n piece inputs = with_queue n (with_bytes (input_at inputs n).queue piece) inputs
+abbrev pub with_queued : ℕ → List ℕ → List Input → List Input
+with_queued n piece inputs = with_queue n (with_bytes (input_at inputs n).queue piece) inputs
 
 -- the first bytes of the queue of console n are taken, so many of them
 abbrev pub without_bytes : ℕ → ℕ → List Input → List Input
@@ -37,14 +37,14 @@ without_bytes n count inputs =
     with_queue n (without_front (input_at inputs n).queue count) inputs
 
 -- console n has this key state
-abbrev pub keyed : ℕ → State → List Input → List Input
-keyed n state inputs = slice_set inputs n (record (input_at inputs n) { keys = state })
+abbrev pub with_key_state : ℕ → State → List Input → List Input
+with_key_state n state inputs = slice_set inputs n (record (input_at inputs n) { keys = state })
 
 -- console n has these lights
 abbrev pub lit : ℕ → ℕ → List Input → List Input
 lit n lights inputs =
-    keyed n (record (input_at inputs n).keys { lights = Some lights }) inputs
+    with_key_state n (record (input_at inputs n).keys { lights = Some lights }) inputs
 
 -- the place of console n is a new one's
-abbrev pub emptied : ℕ → List Input → List Input
-emptied n inputs = slice_set inputs n new_input
+abbrev pub with_new_input : ℕ → List Input → List Input
+with_new_input n inputs = slice_set inputs n new_input

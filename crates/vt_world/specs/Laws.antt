@@ -17,10 +17,10 @@ use Rattle.vt_switch.specs.declared.hop.Hop.{Hop}
 use Rattle.vt_switch.specs.declared.mark.Mark.{Mark}
 use Rattle.vt_switch.specs.declared.mark.Mark.TheVariants as mark
 use Rattle.vt_world.specs.Acts.{event_acts, event_deeds, history_acts}
-use Rattle.vt_world.specs.Deeds.{Deed, Asks, By, Own, Raises, done}
-use Rattle.vt_world.specs.Heard.{cleared}
+use Rattle.vt_world.specs.Deeds.{Deed, Asks, By, Own, Raises, apply_deed}
+use Rattle.vt_world.specs.Heard.{without_marks}
 use Rattle.vt_world.specs.History.{replay}
-use Rattle.vt_world.specs.Start.{opening}
+use Rattle.vt_world.specs.Start.{start_world}
 use Rattle.vt_world.specs.State.{WorldState, HasTerminals, core}
 use Rattle.vt_world.specs.Step.{step}
 use Rattle.vt_world.specs.Tapes.{screen_of, tape_of}
@@ -38,7 +38,7 @@ pub record IsStart (w : WorldState) : Type 0 where
   pub processes : List ProcStart
   pub tables : Tables
   pub fit : IsFitSet consoles front
-  pub opened : w ≡ opening rows cols consoles front keyboards processes tables
+  pub opened : w ≡ start_world rows cols consoles front keyboards processes tables
 
 -- the acts of a history, each at its time; the newest comes first
 abbrev pub moments : WorldState → List Entry → List Moment
@@ -117,13 +117,13 @@ marks_by w (Own deed) = []
 
 abbrev pub all_marks : WorldState → List Deed → List Mark
 all_marks w [] = []
-all_marks w (deed ∷ deeds) = marks_by w deed ++ all_marks (done w deed) deeds
+all_marks w (deed ∷ deeds) = marks_by w deed ++ all_marks (apply_deed w deed) deeds
 
 -- the trace of an event is what its deeds tell
 abbrev pub TracesTellDeeds : Type 0
 TracesTellDeeds =
     (w : WorldState) (p : ℕ) (e : Event)
-    → (step w p e).world.trace.marks ≡ all_marks (cleared w) (event_deeds (cleared w) p e)
+    → (step w p e).world.trace.marks ≡ all_marks (without_marks w) (event_deeds (without_marks w) p e)
 
 -- the hops of acts, one after another
 abbrev pub hops_of : Core → List SwitchAct → List Hop

@@ -6,8 +6,8 @@ use Rattle.vt_events.specs.declared.event.Event.{Event}
 use Rattle.vt_events.specs.declared.event.Event.TheVariants as event
 use Rattle.vt_events.specs.declared.reply.Reply.{Reply}
 use Rattle.vt_events.specs.declared.reply.Reply.TheVariants as reply
-use Rattle.vt_procs.specs.Tickets.{collected}
-use Rattle.vt_world.specs.Heard.{cleared}
+use Rattle.vt_procs.specs.Tickets.{after_wait_report}
+use Rattle.vt_world.specs.Heard.{without_marks}
 use Rattle.vt_world.specs.History.{replay}
 use Rattle.vt_world.specs.State.{WorldState}
 use Rattle.vt_world.specs.Step.{Outcome, step}
@@ -23,13 +23,13 @@ is_refusal e answer = false
 abbrev pub RefusalsChangeNothing : Type 0
 RefusalsChangeNothing =
     (w : WorldState) (p : ℕ) (e : Event) → is_refusal e (step w p e).reply ≡ true
-    → (step w p e).world ≡ cleared w
+    → (step w p e).world ≡ without_marks w
 
 -- a `waitend` that is answered EINTR takes its caller's ticket, and changes nothing else
 abbrev pub BrokenWaitsAreTaken : Type 0
 BrokenWaitsAreTaken =
     (w : WorldState) (p : ℕ) → (step w p event.WaitEnd).reply ≡ reply.Err Intr
-    → (step w p event.WaitEnd).world ≡ record (cleared w) { callers = collected p w.callers }
+    → (step w p event.WaitEnd).world ≡ record (without_marks w) { callers = after_wait_report p w.callers }
 
 -- the calls of entries, made one after another, each with the console's answer
 abbrev pub exchanges : WorldState → List Entry → List (Entry × Reply)
@@ -46,8 +46,8 @@ LaterAnswersStay =
     → exchanges (step w p e).world later ≡ exchanges w later
 
 -- those that weren't refused
-abbrev pub accepted : List (Entry × Reply) → List (Entry × Reply)
-accepted made = filter (λ one. not (is_refusal one.0.event one.1)) made
+abbrev pub accepted_entries : List (Entry × Reply) → List (Entry × Reply)
+accepted_entries made = filter (λ one. not (is_refusal one.0.event one.1)) made
 
 abbrev pub calls : List (Entry × Reply) → List Entry
 calls made = map (λ one. one.0) made
@@ -56,9 +56,9 @@ calls made = map (λ one. one.0) made
 -- same console, but for what is told of the last one
 pub record IsSameWithout (w : WorldState) (entries : List Entry) : Type 0 where
   pub answers :
-      exchanges w (calls (accepted (exchanges w entries))) ≡ accepted (exchanges w entries)
+      exchanges w (calls (accepted_entries (exchanges w entries))) ≡ accepted_entries (exchanges w entries)
   pub world :
-      cleared (replay w (calls (accepted (exchanges w entries)))) ≡ cleared (replay w entries)
+      without_marks (replay w (calls (accepted_entries (exchanges w entries)))) ≡ without_marks (replay w entries)
 
 abbrev pub RefusalsCanGo : Type 0
 RefusalsCanGo = (w : WorldState) (entries : List Entry) → IsSameWithout w entries

@@ -17,7 +17,7 @@ use Rattle.vt_procs.specs.Tickets.{is_open, waited_of}
 use Rattle.vt_procs.specs.declared.process.Process.{Process}
 use Rattle.vt_procs.specs.declared.waited.Waited.{Waited}
 use Rattle.vt_procs.specs.declared.waited.Waited.TheVariants as waited
-use Rattle.vt_switch.specs.Calls.{handling_of, is_held, released}
+use Rattle.vt_switch.specs.Calls.{handling_of, is_held, release_result}
 use Rattle.vt_switch.specs.Display.{is_allocated}
 use Rattle.vt_world.specs.Inputs.{input_at}
 use Rattle.vt_world.specs.Spare.{is_console, is_extent}
@@ -50,8 +50,8 @@ abbrev pub target : WorldState → ℕ → ℕ → ℕ
 target w p fd = unwrap_or (console_of w.callers p fd) 0
 
 -- the console that a number names: 0 is the one in front
-abbrev pub named : WorldState → ℕ → ℕ
-named w n = if n == 0 then w.display.front else n
+abbrev pub console_by_number : WorldState → ℕ → ℕ
+console_by_number w n = if n == 0 then w.display.front else n
 
 -- EBADF: the descriptor isn't open
 abbrev pub needs_open : WorldState → ℕ → ℕ → Refusal
@@ -182,7 +182,7 @@ own_refusals w p (event.SetMode fd m wait r a f) =
     sets w p fd (is_some (handling_of p (mode_of m wait r a f)))
 own_refusals w p (event.GetMode fd) = needs_open w p fd ∷ []
 own_refusals w p (event.RelDisp fd arg) =
-    sets w p fd (is_taken (released w.display (target w p fd) p arg))
+    sets w p fd (is_taken (release_result w.display (target w p fd) p arg))
 own_refusals w p (event.SetKb fd m) = sets w p fd (nat_le m 4)
 own_refusals w p (event.GetKb fd) = needs_open w p fd ∷ []
 own_refusals w p (event.SetMeta fd m) = sets w p fd (m == 3 || m == 4)
@@ -206,8 +206,8 @@ own_refusals w p (event.GetMap fd) = needs_open w p fd ∷ []
 own_refusals w p (event.SetPal fd b) = sets w p fd (is_some (colours_in b.bytes))
 own_refusals w p (event.GetPal fd) = needs_open w p fd ∷ []
 own_refusals w p (event.Dump kind n) =
-    needs_sight w p (named w n) ∷ needs_console_or_0 n
-    ∷ needs_sense (nat_le kind 2 && is_allocated w.display (named w n)) ∷ []
+    needs_sight w p (console_by_number w n) ∷ needs_console_or_0 n
+    ∷ needs_sense (nat_le kind 2 && is_allocated w.display (console_by_number w n)) ∷ []
 own_refusals w p event.TakeSignals = []
 own_refusals w p (event.Kill q s) =
     refusal (not ((caller w p).privileged || q == p)) Perm

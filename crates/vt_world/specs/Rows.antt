@@ -32,31 +32,31 @@ use Rattle.vt_world.specs.Deeds.{Deed, Accepts, Alters, Asks, By, Clears, Collec
 use Rattle.vt_world.specs.Inputs.{input_at}
 use Rattle.vt_world.specs.State.{WorldState}
 use Rattle.vt_world.specs.Terminals.{TerminalState, said_of, terminal_at}
-use Rattle.vt_world.specs.Refusals.{caller, is_empty, is_in_use, mode_of, named, target}
-use Rattle.vt_world.specs.Typing.{scan_deeds, scanner_of, sent}
+use Rattle.vt_world.specs.Refusals.{caller, is_empty, is_in_use, mode_of, console_by_number, target}
+use Rattle.vt_world.specs.Typing.{scan_deeds, scanner_of, signal_deed}
 use Rattle.vt_world.specs.declared.wanted.Wanted.TheVariants.{Last, Number}
 
 -- an answer, and what is done
-pub record Row : Type 0 where
+pub record EventRow : Type 0 where
   pub reply : Reply
   pub deeds : List Deed
 
-abbrev pub row_of : Reply → List Deed → Row
+abbrev pub row_of : Reply → List Deed → EventRow
 row_of reply deeds = record { reply = reply; deeds = deeds }
 
 -- something is done, and the answer is "ok"
-abbrev pub does : Deed → Row
+abbrev pub does : Deed → EventRow
 does deed = row_of reply.Done (deed ∷ [])
 
 -- nothing is done, and the answer tells a number, or bytes
-abbrev pub tells : ℕ → Row
+abbrev pub tells : ℕ → EventRow
 tells n = row_of (reply.Num n) []
 
-abbrev pub tells_bytes : List ℕ → Row
+abbrev pub tells_bytes : List ℕ → EventRow
 tells_bytes bytes = row_of (reply.Text (text bytes)) []
 
 -- p waits, unless what it waits for is there
-abbrev pub waits_unless : Bool → ℕ → Ticket → Row
+abbrev pub waits_unless : Bool → ℕ → Ticket → EventRow
 waits_unless is_there p ticket =
     if is_there then row_of reply.Done []
     else row_of reply.Wait (Own (Waits p ticket) ∷ [])
@@ -66,7 +66,7 @@ abbrev pub read_count : WorldState → ℕ → ℕ → ℕ
 read_count w c most = min most (length (input_at w.inputs c).queue.bytes)
 
 -- so many bytes are taken from the front of its queue, and told
-abbrev pub takes_front : WorldState → ℕ → ℕ → Row
+abbrev pub takes_front : WorldState → ℕ → ℕ → EventRow
 takes_front w c count =
     row_of (reply.Text (text (take count (input_at w.inputs c).queue.bytes)))
     (Own (Takes c count) ∷ [])
@@ -79,19 +79,19 @@ ended_reply waiting.Done = reply.Done
 ended_reply waiting.Broken = reply.Err Intr
 
 -- console n is allocated, if it isn't yet, and has a screen
-abbrev pub allocating : ℕ → List Deed → List Deed
-allocating n deeds = By (Allocate n) ∷ Own (Starts n) ∷ deeds
+abbrev pub with_allocation : ℕ → List Deed → List Deed
+with_allocation n deeds = By (Allocate n) ∷ Own (Starts n) ∷ deeds
 
 -- console n is allocated no longer
-abbrev pub freeing : ℕ → List Deed
-freeing n = By (Free n) ∷ Own (Clears n) ∷ []
+abbrev pub free_deeds : ℕ → List Deed
+free_deeds n = By (Free n) ∷ Own (Clears n) ∷ []
 
 -- one console is freed, or with 0 all that aren't in use
-abbrev pub disallocating : WorldState → ℕ → List Deed
-disallocating w n =
+abbrev pub disallocate_deeds : WorldState → ℕ → List Deed
+disallocate_deeds w n =
     if n == 0 then
-    flat_map freeing (filter (λ c. not (is_in_use w c)) (range_with_len 1 63))
-    else freeing n
+    flat_map free_deeds (filter (λ c. not (is_in_use w c)) (range_with_len 1 63))
+    else free_deeds n
 
 -- the lowest console that nobody has open, 0 where there is none
 abbrev pub lowest_unopened : WorldState → ℕ
@@ -145,17 +145,17 @@ dump_of kind s =
     else if kind == 1 then vcsa_bytes s.grid s.state.x s.state.y s.state.reverse
     else codes_bytes s.grid
 
-abbrev pub tells_screen : WorldState → ℕ → (Screen → List ℕ) → Row
+abbrev pub tells_screen : WorldState → ℕ → (Screen → List ℕ) → EventRow
 tells_screen w c bytes = tells_bytes (screen_bytes bytes (terminal_at w.terminals c))
 
 -- what an event answers and does
-abbrev pub row : WorldState → ℕ → Event → Row
+abbrev pub row : WorldState → ℕ → Event → EventRow
 row w p (event.Scan b) =
     row_of reply.Done (scan_deeds w (unwrap_or (keyboard_of p) 0) w.display.front b)
 row w p event.Exit = row_of reply.Done (By (End p) ∷ Own (Unplugs p) ∷ [])
 row w p (event.OpenCon n) =
     row_of (reply.Num (unwrap_or (free_fd w.callers p) 0))
-    (allocating (named w n) (Own (Opens p (named w n)) ∷ []))
+    (with_allocation (console_by_number w n) (Own (Opens p (console_by_number w n)) ∷ []))
 row w p (event.CloseFd fd) = does (Own (Shuts p fd))
 row w p (event.Write fd b) =
     row_of (reply.Num (length b.bytes)) (write_deeds w (target w p fd) b.bytes)
@@ -166,8 +166,8 @@ row w p (event.WaitInput fd) =
 row w p (event.WaitActive fd n) = waits_unless (n == w.display.front) p (Active n)
 row w p event.WaitSignal = row_of reply.Wait (Own (Waits p AnySignal) ∷ [])
 row w p event.WaitEnd = row_of (ended_reply (caller w p).waiting) (Own (Collects p) ∷ [])
-row w p (event.Activate fd n) = row_of reply.Done (allocating n (By (Request n) ∷ []))
-row w p (event.Disallocate fd n) = row_of reply.Done (disallocating w n)
+row w p (event.Activate fd n) = row_of reply.Done (with_allocation n (By (Request n) ∷ []))
+row w p (event.Disallocate fd n) = row_of reply.Done (disallocate_deeds w n)
 row w p (event.OpenQry fd) = tells (lowest_unopened w)
 row w p (event.GetState fd) = row_of (reply.State w.display.front (allocated_mask w.display)) []
 row w p (event.Resize fd rows cols) = does (Own (Alters (target w p fd) (resize rows cols)))
@@ -215,7 +215,7 @@ row w p (event.GetMap fd) = tells_screen w (target w p fd) (λ s. words_text s.s
 row w p (event.SetPal fd b) =
     does (Own (Alters (target w p fd) (palette (unwrap_or (colours_in b.bytes) []))))
 row w p (event.GetPal fd) = tells_screen w (target w p fd) (λ s. colours_text s.state.palette)
-row w p (event.Dump kind n) = tells_screen w (named w n) (dump_of kind)
+row w p (event.Dump kind n) = tells_screen w (console_by_number w n) (dump_of kind)
 row w p event.TakeSignals =
     row_of (reply.Sigs (caller w p).pending) (Own (Receives p) ∷ [])
-row w p (event.Kill q s) = does (sent q s)
+row w p (event.Kill q s) = does (signal_deed q s)

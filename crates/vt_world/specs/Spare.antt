@@ -5,11 +5,11 @@ use Rattle.vt_base.specs.declared.size.Size.{Size}
 use Rattle.vt_events.specs.Charge.{greatest_reply}
 use Rattle.vt_events.specs.declared.event.Event.{Event}
 use Rattle.vt_events.specs.declared.event.Event.TheVariants as event
-use Rattle.vt_grid.specs.Grid.{Sheet}
+use Rattle.vt_grid.specs.Grid.{GridView}
 
 -- a grid, and two buffers for the bytes of an answer
 pub record SpareView : Type 0 where
-  pub grid : Option Sheet
+  pub grid : Option GridView
   pub reply : Text
   pub unused : Text
 
@@ -63,12 +63,12 @@ takes_spare (event.Dump kind n) = true
 takes_spare e = false
 
 -- a grid of this size is there
-abbrev pub HasSize : Extent → Option Sheet → Type 0
+abbrev pub HasSize : Extent → Option GridView → Type 0
 HasSize size None = ⊥
 HasSize size (Some grid) = (grid.rows ≡ size.rows) × (grid.cols ≡ size.cols)
 
 -- the grid that is needed is there
-abbrev pub HasGrid : Option Extent → Option Sheet → Type 0
+abbrev pub HasGrid : Option Extent → Option GridView → Type 0
 HasGrid None grid = ⊤
 HasGrid (Some size) grid = HasSize size grid
 

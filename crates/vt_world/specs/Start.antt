@@ -12,8 +12,8 @@ use Rattle.vt_world.specs.Terminals.{new_terminal}
 use Rattle.vt_procs.specs.declared.proc_start.ProcStart.{ProcStart}
 
 -- every place for a console is new, so many keyboards live, no key is down, and the key tables are these
-abbrev pub opening : ℕ → ℕ → ℕ → ℕ → ℕ → List ProcStart → Tables → WorldState
-opening rows cols consoles front keyboards starts tables = record {
+abbrev pub start_world : ℕ → ℕ → ℕ → ℕ → ℕ → List ProcStart → Tables → WorldState
+start_world rows cols consoles front keyboards starts tables = record {
   rows = rows;
   cols = cols;
   display = first_display consoles front;

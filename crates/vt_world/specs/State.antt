@@ -7,7 +7,7 @@ use Rattle.vt_switch.specs.Law.{OwnersLive}
 use Rattle.vt_switch.specs.Moments.{Core}
 use Rattle.vt_switch.specs.declared.mark.Mark.{Mark}
 use Rattle.vt_world.specs.Terminals.{TerminalState}
-use Rattle.vt_world.specs.declared.board.Board.{Board}
+use Rattle.vt_world.specs.declared.keyboard_set.KeyboardSet.{KeyboardSet}
 use Rattle.vt_world.specs.declared.input.Input.{Input}
 
 -- what the last event told of what it did to the display and to the callers, in order, and how often
@@ -25,7 +25,7 @@ pub record WorldState : Type 0 where
   pub callers : Callers
   pub terminals : List (Option TerminalState)
   pub inputs : List Input
-  pub board : Board
+  pub board : KeyboardSet
   pub trace : Trace
 
 -- the display, and which callers live

@@ -6,31 +6,31 @@ use Rattle.vt_events.specs.Plain.{plain_reply}
 use Rattle.vt_events.specs.declared.event.Event.{Event}
 use Rattle.vt_events.specs.declared.reply.Reply.{Reply}
 use Rattle.vt_events.specs.declared.reply.Reply.TheVariants as reply
-use Rattle.vt_procs.specs.Tickets.{settled}
-use Rattle.vt_world.specs.Deeds.{all_done}
-use Rattle.vt_world.specs.Heard.{cleared}
-use Rattle.vt_world.specs.Rows.{Row, row}
+use Rattle.vt_procs.specs.Tickets.{after_idle_rule}
+use Rattle.vt_world.specs.Deeds.{apply_deeds}
+use Rattle.vt_world.specs.Heard.{without_marks}
+use Rattle.vt_world.specs.Rows.{EventRow, row}
 use Rattle.vt_world.specs.State.{WorldState}
 use Rattle.vt_world.specs.Refusals.{common_refusals, first_refusal, own_refusals}
 
 -- what a row leaves, and whether it refuses or answers
-pub record Effect : Type 0 where
+pub record RowResult : Type 0 where
   pub world : WorldState
   pub answer : Result Reply Errno
 
 -- a refused event changes nothing; else its deeds are done
-abbrev pub effect_of : WorldState → Option Errno → Row → Effect
-effect_of w (Some errno) r = record { world = w; answer = Err errno }
-effect_of w None r = record { world = all_done w r.deeds; answer = Ok r.reply }
+abbrev pub row_result : WorldState → Option Errno → EventRow → RowResult
+row_result w (Some errno) r = record { world = w; answer = Err errno }
+row_result w None r = record { world = apply_deeds w r.deeds; answer = Ok r.reply }
 
 -- the effect of a live caller's event that it may make now
-abbrev pub own_effect : WorldState → ℕ → Event → Effect
-own_effect w p e = effect_of w (first_refusal (own_refusals w p e)) (row w p e)
+abbrev pub own_row_result : WorldState → ℕ → Event → RowResult
+own_row_result w p e = row_result w (first_refusal (own_refusals w p e)) (row w p e)
 
 -- what refuses every event comes before what refuses this one
-abbrev pub effect_after : WorldState → ℕ → Event → Option Errno → Effect
-effect_after w p e (Some errno) = record { world = w; answer = Err errno }
-effect_after w p e None = own_effect w p e
+abbrev pub row_result_after : WorldState → ℕ → Event → Option Errno → RowResult
+row_result_after w p e (Some errno) = record { world = w; answer = Err errno }
+row_result_after w p e None = own_row_result w p e
 
 -- the console after an event, and its answer
 pub record Outcome : Type 0 where
@@ -39,24 +39,24 @@ pub record Outcome : Type 0 where
 
 -- the idle rule comes last
 abbrev pub with_idle_rule : WorldState → WorldState
-with_idle_rule w = record w { callers = settled w.callers }
+with_idle_rule w = record w { callers = after_idle_rule w.callers }
 
 -- a refusal is answered by its error; after every other event comes the idle rule
-abbrev pub finished : WorldState → Result Reply Errno → Outcome
-finished w (Err errno) = record { world = w; reply = reply.Err errno }
-finished w (Ok r) = record { world = with_idle_rule w; reply = r }
+abbrev pub outcome_of_result : WorldState → Result Reply Errno → Outcome
+outcome_of_result w (Err errno) = record { world = w; reply = reply.Err errno }
+outcome_of_result w (Ok r) = record { world = with_idle_rule w; reply = r }
 
-abbrev pub answered : Effect → Outcome
-answered effect = finished effect.world effect.answer
+abbrev pub outcome_of_row : RowResult → Outcome
+outcome_of_row effect = outcome_of_result effect.world effect.answer
 
 -- nothing is told of the event yet; then it has its effect, and is answered
 abbrev pub step : WorldState → ℕ → Event → Outcome
 step w p e =
-    answered (effect_after (cleared w) p e (first_refusal (common_refusals (cleared w) p e)))
+    outcome_of_row (row_result_after (without_marks w) p e (first_refusal (common_refusals (without_marks w) p e)))
 
 -- the world and the answer are those of the outcome
-abbrev pub Gives : Outcome → WorldState → Reply → Type 0
-Gives outcome w r = outcome ≡ record { world = w; reply = plain_reply r }
+abbrev pub HasOutcome : Outcome → WorldState → Reply → Type 0
+HasOutcome outcome w r = outcome ≡ record { world = w; reply = plain_reply r }
 
 -- and those of the effect
 abbrev pub plain_answer : Result Reply Errno → Result Reply Errno
@@ -68,5 +68,5 @@ abbrev pub text_of_answer : Result Reply Errno → List ℕ
 text_of_answer (Ok r) = text_of_reply r
 text_of_answer (Err errno) = []
 
-abbrev pub Has : Effect → WorldState → Result Reply Errno → Type 0
-Has effect w answer = effect ≡ record { world = w; answer = plain_answer answer }
+abbrev pub HasRowResult : RowResult → WorldState → Result Reply Errno → Type 0
+HasRowResult effect w answer = effect ≡ record { world = w; answer = plain_answer answer }

@@ -7,7 +7,7 @@ use Rattle.vt_events.specs.declared.event.Event.TheVariants as event
 use Rattle.vt_events.specs.declared.reply.Reply.TheVariants as reply
 use Rattle.vt_world.specs.History.{replay}
 use Rattle.vt_world.specs.Laws.{IsStart}
-use Rattle.vt_world.specs.Refusals.{named, target}
+use Rattle.vt_world.specs.Refusals.{console_by_number, target}
 use Rattle.vt_world.specs.State.{WorldState, is_waiting}
 use Rattle.vt_world.specs.Step.{step}
 use Rattle.vt_world.specs.Terminals.{terminal_at}
@@ -36,7 +36,7 @@ touches w p (event.Write fd b) c = target w p fd == c
 touches w p (event.Resize fd rows cols) c = target w p fd == c
 touches w p (event.SetMap fd b) c = target w p fd == c
 touches w p (event.SetPal fd b) c = target w p fd == c
-touches w p (event.OpenCon n) c = named w n == c
+touches w p (event.OpenCon n) c = console_by_number w n == c
 touches w p (event.Activate fd n) c = n == c
 touches w p e c = false
 

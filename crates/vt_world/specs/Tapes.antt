@@ -8,11 +8,11 @@ use Rattle.vt_events.specs.declared.event.Event.{Event}
 use Rattle.vt_events.specs.declared.event.Event.TheVariants as event
 use Rattle.vt_events.specs.declared.reply.Reply.{Reply}
 use Rattle.vt_events.specs.declared.reply.Reply.TheVariants as reply
-use Rattle.vt_screen.specs.Run.{Drawn, having_said, start}
+use Rattle.vt_screen.specs.Run.{ScreenAndOuts, with_outs, start}
 use Rattle.vt_screen.specs.Screen.{Screen}
 use Rattle.vt_screen.specs.Tape.{Taped, byte, change, palette, resize, run_tape, user_map}
 use Rattle.vt_switch.specs.Display.{is_allocated}
-use Rattle.vt_units.specs.Run.{Reached, reached}
+use Rattle.vt_units.specs.Run.{Reached, make_reached}
 use Rattle.vt_world.specs.State.{WorldState}
 use Rattle.vt_world.specs.Step.{step}
 use Rattle.vt_world.specs.Refusals.{target}
@@ -62,5 +62,5 @@ tape_of c w entries = tape_from c (tape_after (is_allocated w.display c) [] None
 -- the screen, with the rest of the text, that a tape gives from the start screen
 abbrev pub screen_of : ℕ → ℕ → List Taped → Reached Screen
 screen_of rows cols tape =
-    let end : Reached Drawn = run_tape tape (having_said [] (start rows cols)) in
-    reached end.state.screen end.rest
+    let end : Reached ScreenAndOuts = run_tape tape (with_outs [] (start rows cols)) in
+    make_reached end.state.screen end.rest

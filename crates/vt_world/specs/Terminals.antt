@@ -1,7 +1,7 @@
 -- What the consoles show, in a list by number: None where a console isn't allocated.
 use Rattle.std.specs.Prelude.{ℕ, Bool, true, false, ◌+◌, min, count_by, List, [], Option, Some, None, option_map, slice_index_or, slice_set}
 use Rattle.key_machine.specs.declared.key_modes.KeyModes.{KeyModes}
-use Rattle.vt_screen.specs.Run.{after, said, start}
+use Rattle.vt_screen.specs.Run.{after, outs_of_run, start}
 use Rattle.vt_screen.specs.Tape.{Change, with_change}
 use Rattle.vt_screen.specs.Screen.{Screen}
 use Rattle.vt_screen.specs.declared.out.Out.{Out}
@@ -22,14 +22,14 @@ is_bell outs.Bell = true
 is_bell out = false
 
 -- the count after these were said: each bell adds one, up to the greatest number of 32 bits
-abbrev pub rung : ℕ → List Out → ℕ
-rung bells said = min 4294967295 (bells + count_by is_bell said)
+abbrev pub bell_count_after : ℕ → List Out → ℕ
+bell_count_after bells outs_of_run = min 4294967295 (bells + count_by is_bell outs_of_run)
 
 -- bytes are run on the screen, and its bells are counted
 abbrev pub written_on : List ℕ → TerminalState → TerminalState
 written_on bytes t = record {
   machine = after t.machine bytes;
-  bells = rung t.bells (said t.machine bytes);
+  bells = bell_count_after t.bells (outs_of_run t.machine bytes);
 }
 
 abbrev pub terminal_at : List (Option TerminalState) → ℕ → Option TerminalState
@@ -56,7 +56,7 @@ with_start n rows cols terminals =
 -- what these bytes say when they are written to console n, beside what they draw
 abbrev pub said_of : Option TerminalState → List ℕ → List Out
 said_of None bytes = []
-said_of (Some t) bytes = said t.machine bytes
+said_of (Some t) bytes = outs_of_run t.machine bytes
 
 -- the modes of a screen that keys depend on; those of a start screen where there is none
 abbrev pub key_modes_of : Option TerminalState → KeyModes
@@ -69,8 +69,8 @@ key_modes_of (Some t) = record {
 }
 
 -- these bytes are written to console n, if it has a terminal
-abbrev pub written : ℕ → List ℕ → List (Option TerminalState) → List (Option TerminalState)
-written n bytes terminals =
+abbrev pub after_write : ℕ → List ℕ → List (Option TerminalState) → List (Option TerminalState)
+after_write n bytes terminals =
     slice_set terminals n (option_map (written_on bytes) (terminal_at terminals n))
 
 -- a call has changed the screen
@@ -78,8 +78,8 @@ abbrev pub altered_by : Change → TerminalState → TerminalState
 altered_by m t = record t { machine = with_change m t.machine }
 
 -- the screen of console n is changed by a call, if it has a terminal
-abbrev pub altered : ℕ → Change → List (Option TerminalState) → List (Option TerminalState)
-altered n m terminals =
+abbrev pub after_screen_change : ℕ → Change → List (Option TerminalState) → List (Option TerminalState)
+after_screen_change n m terminals =
     slice_set terminals n (option_map (altered_by m) (terminal_at terminals n))
 
 -- console n has no terminal

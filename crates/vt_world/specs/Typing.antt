@@ -16,13 +16,13 @@ use Rattle.vt_world.specs.Terminals.{key_modes_of, terminal_at}
 use Rattle.vt_world.specs.declared.wanted.Wanted.TheVariants.{Above, Below, Last, Number}
 
 -- a signal is sent: 9 ends its process (signal(7)), and any other is raised
-abbrev pub sent : ℕ → ℕ → Deed
-sent p signal = if signal == 9 then By (End p) else Own (Raises p signal)
+abbrev pub signal_deed : ℕ → ℕ → Deed
+signal_deed p signal = if signal == 9 then By (End p) else Own (Raises p signal)
 
 -- the key signal goes to who accepts it
 abbrev pub spawn_deeds : Option (ℕ × ℕ) → List Deed
 spawn_deeds None = []
-spawn_deeds (Some accepter) = sent accepter.0 accepter.1 ∷ []
+spawn_deeds (Some accepter) = signal_deed accepter.0 accepter.1 ∷ []
 
 -- p lives, and handles the switches of console n or has it open
 abbrev pub uses : WorldState → ℕ → ℕ → Bool

@@ -11,12 +11,12 @@ abbrev pub upwards : ℕ → List ℕ
 upwards front = range_with_len (front + 1) (63 - front) ++ range_with_len 1 front
 
 -- so many numbers from a high one down
-abbrev pub falling : ℕ → ℕ → List ℕ
-falling high len = map (λ k. high - k) (range_with_len 0 len)
+abbrev pub numbers_down_from : ℕ → ℕ → List ℕ
+numbers_down_from high len = map (λ k. high - k) (range_with_len 0 len)
 
 -- the consoles below the front, and then those down to it
 abbrev pub downwards : ℕ → List ℕ
-downwards front = falling (front - 1) (front - 1) ++ falling 63 (64 - front)
+downwards front = numbers_down_from (front - 1) (front - 1) ++ numbers_down_from 63 (64 - front)
 
 -- which console that is, if it is one
 abbrev pub wanted_in : Display → Wanted → Option ℕ

@@ -1,7 +1,7 @@
 ghost use Rattle.std.specs.Prelude.{◌≡◌, ◌≤◌, IfOk, OnErr, length};
 ghost use Rattle.vt_events.specs.Charge.{greatest_reply, text_of_reply};
 ghost use Rattle.vt_world.specs.Spare.{HasGrid, extent, needed_grid};
-ghost use Rattle.vt_world.specs.Step.{Gives, step};
+ghost use Rattle.vt_world.specs.Step.{HasOutcome, step};
 
 use crate::spare::needed_grid;
 use crate::world::World;
@@ -20,7 +20,7 @@ impl World {
         caller: CallerNo,
         event: &Event,
     ) -> Result<Reply, NoMemory>
-        ensures ok { IfOk result (λ reply. Gives (step self.old caller event.now) self.new reply) }
+        ensures ok { IfOk result (λ reply. HasOutcome (step self.old caller event.now) self.new reply) }
         ensures bytes { IfOk result (λ reply. length (text_of_reply reply) ≤ greatest_reply event.now) }
         ensures err { OnErr result (self.new ≡ self.old) }
     {

@@ -1,5 +1,5 @@
 ghost use Rattle.std.specs.Prelude.{◌≡◌, ◌≤◌, ◌++◌, IfOk, length, min, replicate, take};
-ghost use Rattle.vt_world.specs.Inputs.{comes, emptied, input_at, keyed, lit, new_input, queued, with_bytes, without_bytes};
+ghost use Rattle.vt_world.specs.Inputs.{comes, with_new_input, input_at, with_key_state, lit, new_input, with_queued, with_bytes, without_bytes};
 
 use crate::input::Input;
 use in_queue::InQueue;
@@ -9,7 +9,7 @@ use std::marker::Model;
 use vt_base::{Bytes, CONSOLES, ConsoleNo, NoMemory};
 
 /// The places for consoles by their numbers, of which 0 stays free.
-const PLACES: usize = CONSOLES + 1;
+const CONSOLE_PLACES: usize = CONSOLES + 1;
 
 /// What the keyboard puts into each console, by its number.
 #[derive(Drop)]
@@ -33,8 +33,8 @@ impl Inputs {
     pub(crate) fn start(alloc: Global) -> Result<Inputs, NoMemory>
         ensures { IfOk result (λ inputs. inputs ≡ replicate 64 new_input) }
     {
-        let mut places = Vec::with_capacity(alloc, PLACES)?;
-        for _n in 0..PLACES {
+        let mut places = Vec::with_capacity(alloc, CONSOLE_PLACES)?;
+        for _n in 0..CONSOLE_PLACES {
             places.push(Input {
                 queue: InQueue::new(alloc)?,
                 keys: KbState::start(),
@@ -59,7 +59,7 @@ impl Inputs {
 
     /// Puts the bytes into the console's queue, whole or not at all, and tells whether some came.
     pub(crate) fn put(&mut self, c: ConsoleNo, piece: &[u8]) -> bool
-        ensures queues { self.new ≡ queued c piece.now self.old }
+        ensures queues { self.new ≡ with_queued c piece.now self.old }
         ensures some { result ≡ comes (input_at self.old c).queue piece.now }
     {
         let input = &mut self.places[usize::from(c.get())];
@@ -80,7 +80,7 @@ impl Inputs {
 
     /// The place of the console is a new one's.
     pub(crate) fn clear(&mut self, c: ConsoleNo)
-        ensures { self.new ≡ emptied c self.old }
+        ensures { self.new ≡ with_new_input c self.old }
     {
         let input = &mut self.places[usize::from(c.get())];
         input.queue.clear();
@@ -89,7 +89,7 @@ impl Inputs {
 
     /// Gives the console this key state.
     pub(crate) fn set_keys(&mut self, c: ConsoleNo, keys: KbState)
-        ensures { self.new ≡ keyed c keys self.old }
+        ensures { self.new ≡ with_key_state c keys self.old }
     {
         let input = &mut self.places[usize::from(c.get())];
         input.keys = keys;

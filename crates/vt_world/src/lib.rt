@@ -1,11 +1,11 @@
 //! The console of one thread: it takes the calls of its callers one by one, and answers each.
 #![tactic(auto)]
 
-mod board;
 mod call;
 mod effects;
 mod input;
 mod inputs;
+mod keyboard_set;
 mod laws;
 mod rows;
 mod spare;

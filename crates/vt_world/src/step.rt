@@ -4,7 +4,7 @@ ghost use Rattle.vt_procs.specs.Callers.{caller_at, is_live};
 ghost use Rattle.vt_procs.specs.Tickets.{waited_of};
 ghost use Rattle.vt_procs.specs.declared.waited.Waited.{Waited};
 ghost use Rattle.vt_world.specs.Spare.{Fits, HasGrid, extent, needed_grid, takes_spare};
-ghost use Rattle.vt_world.specs.Step.{Gives, Has, effect_after, finished, own_effect, plain_answer, step, text_of_answer};
+ghost use Rattle.vt_world.specs.Step.{HasOutcome, HasRowResult, row_result_after, outcome_of_result, own_row_result, plain_answer, step, text_of_answer};
 ghost use Rattle.vt_world.specs.Refusals.{common_refusals, ends_wait, error_of, first_refusal, may_make};
 
 use crate::spare::Spare;
@@ -19,7 +19,7 @@ impl World {
     /// second part is the spare's second buffer, which it doesn't use.
     pub fn step(&mut self, caller: CallerNo, event: &Event, spare: Spare) -> (Reply, Bytes)
         requires fits { Fits self.old.rows self.old.cols event.now spare }
-        ensures step { Gives (step self.old caller event.now) self.new result.0 }
+        ensures step { HasOutcome (step self.old caller event.now) self.new result.0 }
         ensures bytes { length (text_of_reply result.0) ≤ greatest_reply event.now }
         ensures unused { result.1 ≡ spare.unused }
     {
@@ -44,7 +44,7 @@ impl World {
     ) -> Reply
         requires grid { HasGrid (needed_grid (extent self.old.rows self.old.cols) event.now) grid.old }
         requires reply { greatest_reply event.now ≤ reply.room }
-        ensures step { Gives (step self.old caller event.now) self.new result }
+        ensures step { HasOutcome (step self.old caller event.now) self.new result }
         ensures bytes { length (text_of_reply result) ≤ greatest_reply event.now }
     {
         self.trace.clear();
@@ -54,7 +54,7 @@ impl World {
 
     // A refusal is answered by its error. After any other event comes the idle rule.
     fn finish(&mut self, p: CallerNo, answer: Result<Reply, Errno>) -> Reply
-        ensures step { Gives (finished self.old (plain_answer answer)) self.new result }
+        ensures step { HasOutcome (outcome_of_result self.old (plain_answer answer)) self.new result }
         ensures bytes { text_of_reply result ≡ text_of_answer answer }
     {
         match answer {
@@ -77,7 +77,7 @@ impl World {
         requires clear { self.old.trace.marks ≡ [] }
         requires grid { HasGrid (needed_grid (extent self.old.rows self.old.cols) event.now) grid.old }
         requires reply { greatest_reply event.now ≤ reply.room }
-        ensures effect { Has (effect_after self.old p event.now
+        ensures effect { HasRowResult (row_result_after self.old p event.now
             (first_refusal (common_refusals self.old p event.now))) self.new result }
         ensures bytes { length (text_of_answer result) ≤ greatest_reply event.now }
     {
@@ -118,7 +118,7 @@ impl World {
             → waited_of (caller_at self.old.callers p).waiting ≡ Waited.None }
         requires grid { HasGrid (needed_grid (extent self.old.rows self.old.cols) event.now) grid.old }
         requires reply { greatest_reply event.now ≤ reply.room }
-        ensures effect { Has (own_effect self.old p event.now) self.new result }
+        ensures effect { HasRowResult (own_row_result self.old p event.now) self.new result }
         ensures bytes { length (text_of_answer result) ≤ greatest_reply event.now }
     {
         match event {
@@ -142,7 +142,7 @@ impl World {
         requires live { is_live self.old.callers p ≡ true }
         requires free { ends_wait event.now ≡ false
             → waited_of (caller_at self.old.callers p).waiting ≡ Waited.None }
-        ensures { Has (own_effect self.old p event.now) self.new result }
+        ensures { HasRowResult (own_row_result self.old p event.now) self.new result }
     {
         match event {
             Event::Scan(b) => self.scan(p, *b),

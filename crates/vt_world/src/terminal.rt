@@ -1,7 +1,7 @@
 ghost use Rattle.std.specs.Prelude.{◌≡◌, ◌≤◌, [], length};
-ghost use Rattle.vt_screen.specs.Run.{said};
+ghost use Rattle.vt_screen.specs.Run.{outs_of_run};
 ghost use Rattle.vt_screen.specs.Tape.{palette, resize, user_map};
-ghost use Rattle.vt_world.specs.Terminals.{altered_by, new_terminal, rung, written_on};
+ghost use Rattle.vt_world.specs.Terminals.{altered_by, new_terminal, bell_count_after, written_on};
 
 use std::marker::Model;
 use vt_cells::Palette;
@@ -10,7 +10,7 @@ use vt_screen::{Emu, Out, Outs};
 
 /// What a console shows: its screen, and how often its bell rang.
 #[derive(Drop)]
-pub struct Terminal {
+pub(crate) struct Terminal {
     emu: Emu,
     bells: u32,
 }
@@ -28,7 +28,7 @@ impl Model for Terminal {
 
 impl Terminal {
     /// The start screen on this grid, and a bell that never rang.
-    pub fn new(grid: Grid) -> Terminal
+    pub(crate) fn new(grid: Grid) -> Terminal
         ensures { result ≡ new_terminal grid.rows grid.cols }
     {
         Terminal {
@@ -38,47 +38,47 @@ impl Terminal {
     }
 
     /// The screen.
-    pub fn emu(&self) -> &Emu
+    pub(crate) fn emu(&self) -> &Emu
         ensures { result.now ≡ self.now.machine }
     {
         &self.emu
     }
 
     /// How often the bell rang, up to the greatest number.
-    pub fn bells(&self) -> u32
+    pub(crate) fn bells(&self) -> u32
         ensures { result ≡ self.now.bells }
     {
         self.bells
     }
 
     /// Runs at most 64 bytes on the screen, and counts their bells. All that they say is in `outs`.
-    pub fn feed(&mut self, b: &[u8], outs: &mut Outs)
+    pub(crate) fn feed(&mut self, b: &[u8], outs: &mut Outs)
         requires short { length b.now ≤ 64 }
         requires empty { outs.old ≡ [] }
         ensures terminal { self.new ≡ written_on b.now self.old }
-        ensures outs { outs.new ≡ said self.old.machine b.now }
+        ensures outs { outs.new ≡ outs_of_run self.old.machine b.now }
         ensures few { length outs.new ≤ length b.now }
     {
         self.emu.feed(b, outs);
-        self.bells = rung(self.bells, outs.as_slice());
+        self.bells = bell_count_after(self.bells, outs.as_slice());
     }
 
     /// Gives the screen the size of this grid, and gives the old grid back.
-    pub fn resize(&mut self, grid: Grid) -> Grid
+    pub(crate) fn resize(&mut self, grid: Grid) -> Grid
         ensures { self.new ≡ altered_by (resize grid.rows grid.cols) self.old }
     {
         self.emu.resize(grid)
     }
 
     /// Gives the screen this user's table.
-    pub fn set_user(&mut self, words: &[u16; 256])
+    pub(crate) fn set_user(&mut self, words: &[u16; 256])
         ensures { self.new ≡ altered_by (user_map words.now) self.old }
     {
         self.emu.set_user(words);
     }
 
     /// Gives the screen this palette.
-    pub fn set_palette(&mut self, colours: Palette)
+    pub(crate) fn set_palette(&mut self, colours: Palette)
         ensures { self.new ≡ altered_by (palette colours) self.old }
     {
         *self.emu.palette_mut() = colours;
@@ -86,8 +86,8 @@ impl Terminal {
 }
 
 // The count after these were said.
-fn rung(bells: u32, said: &[Out]) -> u32
-    ensures { result ≡ rung bells said.now }
+fn bell_count_after(bells: u32, said: &[Out]) -> u32
+    ensures { result ≡ bell_count_after bells said.now }
 {
     let mut bells = bells;
     for out in said {

@@ -1,7 +1,7 @@
 ghost use Rattle.std.specs.Prelude.{◌≡◌, ◌≤◌, [], Some, None, IfOk, length, is_some, option_copied, if◌then◌else◌};
 ghost use Rattle.vt_base.specs.ConsoleSet.{at_each};
 ghost use Rattle.vt_screen.specs.Tape.{palette, resize, user_map};
-ghost use Rattle.vt_world.specs.Terminals.{altered, new_terminal, said_of, terminal_at, with_start, without_terminal, written};
+ghost use Rattle.vt_world.specs.Terminals.{after_screen_change, new_terminal, said_of, terminal_at, with_start, without_terminal, after_write};
 
 use crate::terminal::Terminal;
 use std::alloc::Global;
@@ -12,11 +12,11 @@ use vt_grid::Grid;
 use vt_screen::{BLANK, Outs};
 
 /// The places for consoles by their numbers, of which 0 stays free.
-const PLACES: usize = CONSOLES + 1;
+const CONSOLE_PLACES: usize = CONSOLES + 1;
 
 /// What the consoles show, by their numbers, of which 0 stays free.
 #[derive(Drop)]
-pub struct Terminals {
+pub(crate) struct Terminals {
     places: Vec<Option<Terminal>>,
 }
 
@@ -33,19 +33,19 @@ impl Model for Terminals {
 
 impl Terminals {
     /// A new terminal for each console of the set.
-    pub fn start(alloc: Global, size: Size, consoles: u64) -> Result<Terminals, NoMemory>
+    pub(crate) fn start(alloc: Global, size: Size, consoles: u64) -> Result<Terminals, NoMemory>
         ensures { IfOk result (λ terminals. terminals
             ≡ at_each consoles (new_terminal size.rows size.cols)) }
     {
-        let mut places = Vec::with_capacity(alloc, PLACES)?;
-        for n in 0..PLACES {
+        let mut places = Vec::with_capacity(alloc, CONSOLE_PLACES)?;
+        for n in 0..CONSOLE_PLACES {
             places.push(first_terminal(alloc, size, is_among(consoles, n))?)?;
         }
         Ok(Terminals { places })
     }
 
     /// The terminal of the console, where it has one.
-    pub fn at(&self, c: ConsoleNo) -> Option<&Terminal>
+    pub(crate) fn at(&self, c: ConsoleNo) -> Option<&Terminal>
         ensures terminal { option_copied result ≡ terminal_at self.now c }
         ensures taken { is_some result ≡ is_some (terminal_at self.now c) }
     {
@@ -53,7 +53,7 @@ impl Terminals {
     }
 
     /// Gives the console a new terminal on this grid, where it has none.
-    pub fn begin(&mut self, c: ConsoleNo, grid: Grid)
+    pub(crate) fn begin(&mut self, c: ConsoleNo, grid: Grid)
         ensures { self.new ≡ with_start c grid.rows grid.cols self.old }
     {
         let place = &mut self.places[usize::from(c.get())];
@@ -70,10 +70,10 @@ impl Terminals {
     }
 
     /// Writes at most 64 bytes to the console, where it has a terminal. What they say is in `outs`.
-    pub fn write(&mut self, c: ConsoleNo, b: &[u8], outs: &mut Outs)
+    pub(crate) fn write(&mut self, c: ConsoleNo, b: &[u8], outs: &mut Outs)
         requires short { length b.now ≤ 64 }
         requires empty { outs.old ≡ [] }
-        ensures terminals { self.new ≡ written c b.now self.old }
+        ensures terminals { self.new ≡ after_write c b.now self.old }
         ensures outs { outs.new ≡ said_of (terminal_at self.old c) b.now }
         ensures few { length outs.new ≤ length b.now }
     {
@@ -84,8 +84,8 @@ impl Terminals {
 
     /// Gives the console's screen, if it has one, the size of this grid. The grid that it no longer
     /// needs is given back.
-    pub fn resize(&mut self, c: ConsoleNo, grid: Grid) -> Grid
-        ensures { self.new ≡ altered c (resize grid.rows grid.cols) self.old }
+    pub(crate) fn resize(&mut self, c: ConsoleNo, grid: Grid) -> Grid
+        ensures { self.new ≡ after_screen_change c (resize grid.rows grid.cols) self.old }
     {
         match &mut self.places[usize::from(c.get())] {
             Some(terminal) => terminal.resize(grid),
@@ -94,8 +94,8 @@ impl Terminals {
     }
 
     /// Gives the console's screen, if it has one, this user's table.
-    pub fn set_user(&mut self, c: ConsoleNo, words: &[u16; 256])
-        ensures { self.new ≡ altered c (user_map words.now) self.old }
+    pub(crate) fn set_user(&mut self, c: ConsoleNo, words: &[u16; 256])
+        ensures { self.new ≡ after_screen_change c (user_map words.now) self.old }
     {
         if let Some(terminal) = &mut self.places[usize::from(c.get())] {
             terminal.set_user(words);
@@ -103,8 +103,8 @@ impl Terminals {
     }
 
     /// Gives the console's screen, if it has one, this palette.
-    pub fn set_palette(&mut self, c: ConsoleNo, colours: Palette)
-        ensures { self.new ≡ altered c (palette colours) self.old }
+    pub(crate) fn set_palette(&mut self, c: ConsoleNo, colours: Palette)
+        ensures { self.new ≡ after_screen_change c (palette colours) self.old }
     {
         if let Some(terminal) = &mut self.places[usize::from(c.get())] {
             terminal.set_palette(colours);

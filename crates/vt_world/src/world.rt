@@ -4,12 +4,12 @@ ghost use Rattle.vt_switch.specs.Display.{console, is_allocated, owner_of};
 ghost use Rattle.vt_switch.specs.Law.{OwnersLive};
 ghost use Rattle.vt_base.specs.ConsoleSet.{IsFitSet};
 ghost use Rattle.vt_world.specs.Inputs.{input_at};
-ghost use Rattle.vt_world.specs.Start.{opening};
+ghost use Rattle.vt_world.specs.Start.{start_world};
 ghost use Rattle.vt_world.specs.State.{core, is_waiting};
 ghost use Rattle.vt_world.specs.Terminals.{bells_of, machine_of, terminal_at};
 
-use crate::board::Board;
 use crate::inputs::Inputs;
+use crate::keyboard_set::KeyboardSet;
 use crate::terminals::Terminals;
 use crate::trace::Trace;
 use in_queue::InQueue;
@@ -31,7 +31,7 @@ pub struct World {
     pub(crate) procs: Procs,
     pub(crate) terminals: Terminals,
     pub(crate) inputs: Inputs,
-    pub(crate) board: Board,
+    pub(crate) board: KeyboardSet,
     pub(crate) trace: Trace,
     // A grid that a call took and left, for the next one. Contracts don't see it.
     pub(crate) kept: Option<Grid>,
@@ -64,7 +64,7 @@ impl World {
     pub fn start(alloc: Global, c: &Config, t: &KeyTables) -> Result<World, NoMemory>
         requires consoles { IsFitSet c.now.consoles c.now.front }
         requires keyboards { IsFitCount c.now.keyboards }
-        ensures { IfOk result (λ w. w ≡ opening c.now.size.rows c.now.size.cols c.now.consoles
+        ensures { IfOk result (λ w. w ≡ start_world c.now.size.rows c.now.size.cols c.now.consoles
             c.now.front c.now.keyboards c.now.procs t.now) }
     {
         let terminals = Terminals::start(alloc, c.size, c.consoles)?;
@@ -77,7 +77,7 @@ impl World {
             procs: Procs::start(c.procs.as_slice(), c.keyboards),
             terminals,
             inputs,
-            board: Board::start(tables),
+            board: KeyboardSet::start(tables),
             trace,
             kept: None,
         })

@@ -37,7 +37,7 @@ const SHOWN: &[Shown] = &[
 ];
 
 /// The attributes of these colours, with italic, underline, blink and reverse as they are told.
-pub fn attr_of(fg: u8, bg: u8, intensity: Intensity, on: [bool; 4]) -> Attr {
+pub(crate) fn attr_of(fg: u8, bg: u8, intensity: Intensity, on: [bool; 4]) -> Attr {
     Attr {
         fg: fg.min(15),
         bg: bg.min(7),

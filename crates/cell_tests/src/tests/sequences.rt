@@ -1,8 +1,8 @@
 use super::UTF8;
 use super::checks::check;
 use std::process::Abort;
-use vt_units::Ahead::{Csi, Esc, Nothing};
-use vt_units::{Ahead, Mode, Params, Pending, Then};
+use vt_units::WholeSequence::{Csi, Esc, Nothing};
+use vt_units::{Mode, Params, Pending, Then, WholeSequence};
 
 const BYTES: Mode = Mode {
     utf8: false,
@@ -71,7 +71,7 @@ const NOTHINGS: &[&[u8]] = &[
 ];
 
 // Whether this is read of the text at once, and these parameters with it.
-fn is_taken(mode: Mode, text: &[u8], ahead: Ahead, numbers: &[u16]) -> bool {
+fn is_taken(mode: Mode, text: &[u8], ahead: WholeSequence, numbers: &[u16]) -> bool {
     let mut pending = Pending::new();
     let mut params = Params::new();
     params.push(7);
@@ -112,7 +112,7 @@ fn takes_whole_sequences(rt: HostRuntime) {
 }
 
 // Whether this is read at once of a sequence whose last byte stands at this place.
-fn is_taken_of_zeros(place: usize, ahead: Ahead, numbers: &[u16]) -> bool {
+fn is_taken_of_zeros(place: usize, ahead: WholeSequence, numbers: &[u16]) -> bool {
     let mut text = [b'0'; 257];
     text[0] = 0x1B;
     text[1] = b'[';

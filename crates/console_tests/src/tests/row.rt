@@ -1,6 +1,6 @@
 /// What is done to a console, or seen of it.
 #[derive(Clone, Copy)]
-pub enum Row {
+pub(crate) enum Row {
     /// A caller makes this call, and is answered so.
     Call(u16, &'static str, &'static str),
     /// The keyboard makes this call, and then this console is in front.
@@ -25,7 +25,7 @@ pub enum Row {
 
 impl Row {
     /// What a message calls the row: the words of a call, or what is seen.
-    pub fn words(self) -> &'static str {
+    pub(crate) fn words(self) -> &'static str {
         match self {
             Row::Call(_, words, _) | Row::Keyed(words, _) => words,
             Row::Marks(_) => "the marks",

@@ -4,7 +4,7 @@ use vt_base::{CallerNo, ConsoleNo};
 use vt_world::{Mark, World};
 
 /// Whether this is seen of the console; nothing is seen of a call.
-pub fn is_seen(world: &World, row: Row) -> bool {
+pub(crate) fn is_seen(world: &World, row: Row) -> bool {
     match row {
         Row::Call(..) | Row::Keyed(..) => false,
         Row::Marks(codes) => has_marks(world, codes),

@@ -10,13 +10,13 @@ use vt_journal::Limits;
 use vt_world::{World, nobody_waits_at_start};
 
 /// The most entries of the journal, and what they may count for together.
-pub const LIMITS: Limits = Limits {
+pub(crate) const LIMITS: Limits = Limits {
     events: 65_536,
     bytes: 67_108_864,
 };
 
 /// The console of the session that the text says.
-pub fn started(alloc: Global, text: &str) -> Result<World, Fail>
+pub(crate) fn started(alloc: Global, text: &str) -> Result<World, Fail>
     ensures { IfOk result (λ world. (p : ℕ) → is_waiting world p ≡ false) }
 {
     nobody_waits_at_start();
@@ -26,7 +26,7 @@ pub fn started(alloc: Global, text: &str) -> Result<World, Fail>
 }
 
 /// The run, once every pass was taken in.
-pub fn closed<J: Opening>(hub: Hub<J>, steward: Steward<J>) -> Result<Run, Fail>
+pub(crate) fn closed<J: Opening>(hub: Hub<J>, steward: Steward<J>) -> Result<Run, Fail>
     requires { steward.hub ≡ hub }
 {
     if steward.out() != 0 {

@@ -10,7 +10,7 @@ fn lines_of(alloc: Global, text: &[u8]) -> Result<Vec<Line>, KeyError> {
 }
 
 /// The tables of a keymap text that includes no other.
-pub fn tables_of(alloc: Global, text: &[u8]) -> Result<KeyTables, KeyError> {
+pub(crate) fn tables_of(alloc: Global, text: &[u8]) -> Result<KeyTables, KeyError> {
     let lines = lines_of(alloc, text)?;
     compile(alloc, lines.as_slice())
 }
@@ -23,7 +23,7 @@ fn has_listing(alloc: Global, tables: &KeyTables, wanted: &[u8]) -> bool {
 }
 
 /// Whether the tables of the text have this listing.
-pub fn is_listed(alloc: Global, text: &[u8], wanted: &[u8]) -> bool {
+pub(crate) fn is_listed(alloc: Global, text: &[u8], wanted: &[u8]) -> bool {
     match tables_of(alloc, text) {
         Ok(tables) => has_listing(alloc, &tables, wanted),
         Err(_error) => false,

@@ -9,7 +9,7 @@ use vt_screen::{Out, Outs, ScreenState};
 const SIZE: Size = Size { rows: 3, cols: 10 };
 
 #[derive(Clone, Copy)]
-pub enum Said {
+pub(crate) enum Said {
     Nothing,
     Report(&'static [u8]),
     To(u8),
@@ -96,7 +96,7 @@ const SETTINGS: &[Setting] = &[
     ),
 ];
 
-pub fn is_said(out: Option<&Out>, said: Said) -> bool {
+pub(crate) fn is_said(out: Option<&Out>, said: Said) -> bool {
     match (out, said) {
         (None, Said::Nothing) => true,
         (Some(Out::Report(text)), Said::Report(bytes)) => text.as_slice() == bytes,

@@ -10,14 +10,14 @@ const ROOM: usize = 100_000;
 
 /// What a command prints, and how it ends.
 #[derive(Drop)]
-pub struct Printed {
+pub(crate) struct Printed {
     pub status: u8,
     pub out: MemSink,
     pub err: MemSink,
 }
 
 /// The words of a command.
-pub fn words_of(alloc: Global, words: &[&str]) -> Result<Vec<String>, NoMemory> {
+pub(crate) fn words_of(alloc: Global, words: &[&str]) -> Result<Vec<String>, NoMemory> {
     let mut list = Vec::new(alloc);
     for word in words {
         list.push(String::from_str(alloc, word)?)?;
@@ -31,7 +31,7 @@ fn sink(alloc: Global) -> Result<MemSink, NoMemory> {
 }
 
 /// Nothing is printed yet, and there is room for what will be.
-pub fn blank(alloc: Global) -> Result<Printed, NoMemory> {
+pub(crate) fn blank(alloc: Global) -> Result<Printed, NoMemory> {
     let out = sink(alloc)?;
     with_out(alloc, out)
 }
@@ -48,7 +48,7 @@ fn with_out(alloc: Global, out: MemSink) -> Result<Printed, NoMemory> {
 }
 
 /// Races the session of this text by the command.
-pub fn race_text<G: Gate + Sync, R: Threads + Wait + Sync>(
+pub(crate) fn race_text<G: Gate + Sync, R: Threads + Wait + Sync>(
     rt: &R,
     alloc: Global,
     text: &[u8],
@@ -58,7 +58,7 @@ pub fn race_text<G: Gate + Sync, R: Threads + Wait + Sync>(
 }
 
 /// Runs the command of this one word on the text.
-pub fn run_text<G: Gate + Sync, R: Threads + Wait + Sync>(
+pub(crate) fn run_text<G: Gate + Sync, R: Threads + Wait + Sync>(
     rt: &R,
     alloc: Global,
     word: &str,
@@ -82,7 +82,7 @@ fn run_words<G: Gate + Sync, R: Threads + Wait + Sync>(
 }
 
 /// Runs the command of these words on what the source gives.
-pub fn run_from<G: Gate + Sync, R: Threads + Wait + Sync>(
+pub(crate) fn run_from<G: Gate + Sync, R: Threads + Wait + Sync>(
     rt: &R,
     alloc: Global,
     words: &[String],
@@ -109,7 +109,7 @@ fn run<G: Gate + Sync, R: Threads + Wait + Sync>(
 }
 
 /// Whether the text has these words one after another.
-pub fn in_order(text: &[u8], words: &[&str]) -> bool {
+pub(crate) fn in_order(text: &[u8], words: &[&str]) -> bool {
     let Ok(mut rest) = str::from_utf8(text) else {
         return false;
     };

@@ -1,5 +1,5 @@
 //! How far callers are after the answers to their calls, by hand from docs/SESSIONS.md.
-use session_order::Standing;
+use session_order::SessionProgress;
 use session_text::{Program, Session, program_of, read};
 use std::alloc::Global;
 use std::process::Abort;
@@ -26,7 +26,7 @@ fn answer(n: u32) -> Reply {
 // Whether these calls were counted of the process alone, and its program is over after the last one.
 fn is_so(
     alloc: Global,
-    standing: &Standing,
+    standing: &SessionProgress,
     program: &Program,
     calls: u32,
 ) -> Result<bool, NoMemory> {
@@ -37,7 +37,7 @@ fn is_so(
 }
 
 fn is_right(alloc: Global, program: &Program, calls: u32) -> Result<bool, NoMemory> {
-    let mut standing = Standing::start(alloc)?;
+    let mut standing = SessionProgress::start(alloc)?;
     for n in 0..calls {
         standing.took(CallerNo::numbered(1), program, &answer(n));
     }

@@ -4,11 +4,11 @@ use std::process::Abort;
 use vt_base::NoMemory;
 
 /// Ends the test unless the row comes out as it says.
-pub fn check(by: &impl Abort, is_right: bool, row: impl Debug + Drop) {
+pub(crate) fn check(by: &impl Abort, is_right: bool, row: impl Debug + Drop) {
     assert!(by; is_right, "{row:?}");
 }
 
 /// Does the same. A row for which memory ran out isn't right.
-pub fn check_made(by: &impl Abort, made: Result<bool, NoMemory>, row: impl Debug + Drop) {
+pub(crate) fn check_made(by: &impl Abort, made: Result<bool, NoMemory>, row: impl Debug + Drop) {
     check(by, matches!(made, Ok(true)), row);
 }

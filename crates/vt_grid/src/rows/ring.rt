@@ -1,6 +1,6 @@
 ghost use Rattle.std.specs.Prelude.{◌≡◌, ◌⊎◌, ◌+◌, ◌-◌, ◌<◌, ◌≤◌, ◌++◌, length, drop, take, slice_index, IfOk};
 ghost use Rattle.vt_grid.specs.Ring.{IsRising};
-ghost use Rattle.vt_grid.specs.Store.{part_turned, turned};
+ghost use Rattle.vt_grid.specs.Store.{part_turned, rotation_by};
 
 use super::Steps;
 use std::alloc::Global;
@@ -10,25 +10,25 @@ use vt_base::NoMemory;
 
 /// Numbers in a ring: the first of them stands at `head`.
 #[derive(Drop)]
-pub struct Ring {
+pub(crate) struct Ring {
     head: u8,
     numbers: Vec<u8>,
 }
 
 impl Model for Ring {
     ghost use Rattle.std.specs.Prelude.{ℕ, ◌<◌, ◌≤◌, List, length};
-    ghost use Rattle.vt_grid.specs.Store.{turned};
+    ghost use Rattle.vt_grid.specs.Store.{rotation_by};
 
     ghost Value = { List ℕ };
 
-    ghost view = { λ r. turned r.head r.numbers.items };
+    ghost view = { λ r. rotation_by r.head r.numbers.items };
 
     ghost invariant = { λ r. (r.head < length r.numbers.items) × (length r.numbers.items ≤ 255) };
 }
 
 impl Ring {
     /// The numbers from 0 on, `count` of them.
-    pub fn rising(alloc: Global, count: u8) -> Result<Ring, NoMemory>
+    pub(crate) fn rising(alloc: Global, count: u8) -> Result<Ring, NoMemory>
         requires { 1 ≤ count }
         ensures { IfOk result (λ ring. IsRising count ring) }
     {
@@ -39,7 +39,7 @@ impl Ring {
         Ok(Ring { head: 0, numbers })
     }
 
-    pub fn at(&self, y: u8) -> u8
+    pub(crate) fn at(&self, y: u8) -> u8
         requires { y < length self.now }
         ensures { result ≡ slice_index self.now y }
     {
@@ -48,7 +48,7 @@ impl Ring {
     }
 
     /// So many numbers from the one at `from` on, in two pieces.
-    pub fn pieces(&self, from: u8, count: u8) -> (&[u8], &[u8])
+    pub(crate) fn pieces(&self, from: u8, count: u8) -> (&[u8], &[u8])
         requires { from + count ≤ length self.now }
         ensures { result.0.now ++ result.1.now ≡ take count (drop from self.now) }
     {
@@ -63,16 +63,16 @@ impl Ring {
     }
 
     /// Moves all numbers up by `n` round the end.
-    pub fn turn(&mut self, n: u8)
+    pub(crate) fn turn(&mut self, n: u8)
         requires { n ≤ length self.old }
-        ensures { self.new ≡ turned n self.old }
+        ensures { self.new ≡ rotation_by n self.old }
     {
         self.head = place_of(self.head, n, self.numbers.len()) as u8;
     }
 
     /// Moves the numbers `top` to `bottom` up by `n` round their end, with a step for each.
     #[inline(never)]
-    pub fn rotate<L: Ledger>(&mut self, top: u8, bottom: u8, n: u8, steps: &mut Steps<L>)
+    pub(crate) fn rotate<L: Ledger>(&mut self, top: u8, bottom: u8, n: u8, steps: &mut Steps<L>)
         requires order { top ≤ bottom }
         requires last { bottom < length self.old }
         requires some { n ≤ bottom + 1 - top }
@@ -101,7 +101,7 @@ fn read_part(numbers: &[u8], head: u8, top: u8, part: &mut [u8])
     requires head { head < length numbers.now }
     requires within { top + length part.old ≤ length numbers.now }
     requires short { length numbers.now ≤ 255 }
-    ensures { part.new ≡ take (length part.old) (drop top (turned head numbers.now)) }
+    ensures { part.new ≡ take (length part.old) (drop top (rotation_by head numbers.now)) }
 {
     for i in 0..part.len() {
         part[i] = numbers[place_of(head, top + i as u8, numbers.len())];
@@ -114,7 +114,7 @@ fn read_turned(numbers: &[u8], head: u8, top: u8, n: u8, part: &mut [u8])
     requires within { top + length part.old ≤ length numbers.now }
     requires short { length numbers.now ≤ 255 }
     requires some { n ≤ length part.old }
-    ensures { part.new ≡ turned n (take (length part.old) (drop top (turned head numbers.now))) }
+    ensures { part.new ≡ rotation_by n (take (length part.old) (drop top (rotation_by head numbers.now))) }
 {
     let left = part.len() - usize::from(n);
     let (front, back) = part.split_at_mut(left);
@@ -126,9 +126,9 @@ fn write_part<L: Ledger>(numbers: &mut [u8], head: u8, top: u8, part: &[u8], ste
     requires head { head < length numbers.old }
     requires within { top + length part.now ≤ length numbers.old }
     requires short { length numbers.old ≤ 255 }
-    ensures numbers { turned head numbers.new
-        ≡ take top (turned head numbers.old)
-        ++ (part.now ++ drop (top + length part.now) (turned head numbers.old)) }
+    ensures numbers { rotation_by head numbers.new
+        ≡ take top (rotation_by head numbers.old)
+        ++ (part.now ++ drop (top + length part.now) (rotation_by head numbers.old)) }
     ensures steps { steps.new ≡ steps.old + length part.now }
 {
     for i in 0..part.len() {

@@ -1,8 +1,8 @@
 ghost use Rattle.std.specs.Prelude.{◌≡◌, ◌+◌, ◌-◌, ◌<◌, ◌≤◌, [], ◌∷◌, ◌++◌, drop, length, map, replicate, take, IfOk};
-ghost use Rattle.vt_grid.specs.Line.{blank_line, cell_at, cells_of, covered, cut_at, inserted_at, reached, removed_at, written};
+ghost use Rattle.vt_grid.specs.StoredRow.{blank_row, cell_at, cells_of, with_prefix_of, cut_at, with_stored_inserted, stored_up_to, with_stored_deleted, with_stored_cells};
 
 use crate::code::Code;
-use crate::kept::Kept;
+use crate::packed_cell::PackedCell;
 use crate::row_cells::RowCells;
 use std::alloc::Global;
 use std::marker::Model;
@@ -14,17 +14,17 @@ const SHORT_RUN: usize = 8;
 
 /// One row: room for its cells, of which the first `len` are stored.
 #[derive(Drop)]
-pub struct Row {
-    cells: Vec<Kept>,
-    rest: Kept,
+pub(crate) struct Row {
+    cells: Vec<PackedCell>,
+    rest: PackedCell,
     len: u8,
 }
 
 impl Model for Row {
     ghost use Rattle.std.specs.Prelude.{◌≤◌, length, take};
-    ghost use Rattle.vt_grid.specs.Ring.{Shelf};
+    ghost use Rattle.vt_grid.specs.Ring.{RowSlot};
 
-    ghost Value = { Shelf };
+    ghost Value = { RowSlot };
 
     ghost view = { λ r. record {
       room = length r.cells.items;
@@ -35,10 +35,10 @@ impl Model for Row {
 }
 
 impl Row {
-    pub fn blank(alloc: Global, cols: u8, c: Cell) -> Result<Row, NoMemory>
-        ensures { IfOk result (λ row. row ≡ record { room = cols; line = blank_line c }) }
+    pub(crate) fn blank(alloc: Global, cols: u8, c: Cell) -> Result<Row, NoMemory>
+        ensures { IfOk result (λ row. row ≡ record { room = cols; line = blank_row c }) }
     {
-        let rest = Kept::new(c);
+        let rest = PackedCell::new(c);
         let mut cells = Vec::new(alloc);
         cells.resize(usize::from(cols), rest)?;
         Ok(Row {
@@ -48,13 +48,13 @@ impl Row {
         })
     }
 
-    pub fn stored(&self) -> u8
+    pub(crate) fn stored(&self) -> u8
         ensures { result ≡ length self.now.line.stored }
     {
         self.len
     }
 
-    pub fn at(&self, x: u8) -> Cell
+    pub(crate) fn at(&self, x: u8) -> Cell
         requires { x < self.now.room }
         ensures { result ≡ cell_at self.now.line x }
     {
@@ -65,29 +65,29 @@ impl Row {
         }
     }
 
-    pub fn write(&mut self, x: u8, c: Cell)
+    pub(crate) fn write(&mut self, x: u8, c: Cell)
         requires place { x ≤ length self.old.line.stored }
         requires column { x < self.old.room }
-        ensures { self.new ≡ record self.old { line = written x (c ∷ []) self.old.line } }
+        ensures { self.new ≡ record self.old { line = with_stored_cells x (c ∷ []) self.old.line } }
     {
-        self.cells[usize::from(x)] = Kept::new(c);
+        self.cells[usize::from(x)] = PackedCell::new(c);
         if x == self.len {
             self.len += 1;
         }
     }
 
-    pub fn cut(&mut self, len: u8, c: Cell)
+    pub(crate) fn cut(&mut self, len: u8, c: Cell)
         requires { len ≤ length self.old.line.stored }
         ensures { self.new ≡ record self.old { line = cut_at len c self.old.line } }
     {
         self.len = len;
-        self.rest = Kept::new(c);
+        self.rest = PackedCell::new(c);
     }
 
     /// Stores the cells before column `x`.
-    pub fn reach(&mut self, x: u8)
+    pub(crate) fn reach(&mut self, x: u8)
         requires { x ≤ self.old.room }
-        ensures { self.new ≡ record self.old { line = reached x self.old.line } }
+        ensures { self.new ≡ record self.old { line = stored_up_to x self.old.line } }
     {
         if self.len < x {
             let rest = self.rest;
@@ -98,12 +98,12 @@ impl Row {
 
     /// Writes the cells of these codes from column `x` on.
     #[inline(always)]
-    pub fn write_run<T: Code>(&mut self, x: u8, codes: &[T], attr: u8)
+    pub(crate) fn write_run<T: Code>(&mut self, x: u8, codes: &[T], attr: u8)
         requires place { x ≤ length self.old.line.stored }
         requires columns { x + length codes.now ≤ self.old.room }
         ensures { self.new
             ≡ record self.old {
-              line = written x (map (λ c. record { code = T.code_of c; attr = attr }) codes.now) self.old.line;
+              line = with_stored_cells x (map (λ c. record { code = T.code_of c; attr = attr }) codes.now) self.old.line;
             } }
     {
         let stored = usize::from(self.len);
@@ -116,46 +116,46 @@ impl Row {
     }
 
     /// Writes the cell `c`, `count` times, from column `x` on.
-    pub fn fill(&mut self, x: u8, count: u8, c: Cell)
+    pub(crate) fn fill(&mut self, x: u8, count: u8, c: Cell)
         requires place { x ≤ length self.old.line.stored }
         requires columns { x + count ≤ self.old.room }
         ensures { self.new
-            ≡ record self.old { line = written x (replicate count c) self.old.line } }
+            ≡ record self.old { line = with_stored_cells x (replicate count c) self.old.line } }
     {
         let stored = usize::from(self.len);
         let from = usize::from(x);
         let end = from + usize::from(count);
-        fill_all(&mut self.cells[from..end], count, Kept::new(c));
+        fill_all(&mut self.cells[from..end], count, PackedCell::new(c));
         if stored < end {
             self.len = end as u8;
         }
     }
 
     /// Puts the cell `c` in at column `x`, `count` times.
-    pub fn insert(&mut self, x: u8, count: u8, c: Cell)
+    pub(crate) fn insert(&mut self, x: u8, count: u8, c: Cell)
         requires place { x ≤ length self.old.line.stored }
         requires columns { x + count ≤ self.old.room }
         ensures { self.new
-            ≡ record self.old { line = inserted_at self.old.room x count c self.old.line } }
+            ≡ record self.old { line = with_stored_inserted self.old.room x count c self.old.line } }
     {
         let room = self.cells.len();
         let end = room.min(usize::from(self.len) + usize::from(count));
         move_right(
             &mut self.cells[usize::from(x)..end],
             usize::from(count),
-            Kept::new(c),
+            PackedCell::new(c),
         );
         self.len = end as u8;
     }
 
     /// Takes `count` cells out at column `x` of a row whose cells are all stored. All further
     /// cells are `c`.
-    pub fn remove(&mut self, x: u8, count: u8, c: Cell)
+    pub(crate) fn remove(&mut self, x: u8, count: u8, c: Cell)
         requires stored { length self.old.line.stored ≡ self.old.room }
         requires columns { x + count ≤ self.old.room }
-        ensures { self.new ≡ record self.old { line = removed_at x count c self.old.line } }
+        ensures { self.new ≡ record self.old { line = with_stored_deleted x count c self.old.line } }
     {
-        let tail = Kept::new(c);
+        let tail = PackedCell::new(c);
         let room = self.cells.len();
         let from = usize::from(x);
         self.cells
@@ -165,31 +165,31 @@ impl Row {
     }
 
     /// Becomes the row `from`, of which at most the first `count` cells are stored.
-    pub fn copy(&mut self, from: &Row, count: u8)
+    pub(crate) fn copy(&mut self, from: &Row, count: u8)
         requires { count ≤ self.old.room }
         ensures { self.new ≡ record self.old { line = cut_at count from.now.line.rest from.now.line } }
     {
         let stored = from.len.min(count);
-        copy_front(&mut self.cells, first(&from.cells, stored));
+        copy_prefix(&mut self.cells, first(&from.cells, stored));
         self.len = stored;
         self.rest = from.rest;
     }
 
     /// Takes the first `count` cells of the row `from`.
-    pub fn cover(&mut self, from: &Row, count: u8)
+    pub(crate) fn cover(&mut self, from: &Row, count: u8)
         requires { count ≤ self.old.room }
-        ensures { self.new ≡ record self.old { line = covered count from.now.line self.old.line } }
+        ensures { self.new ≡ record self.old { line = with_prefix_of count from.now.line self.old.line } }
     {
         let stored = self.len;
         let front = from.len.min(count);
-        cover_front(&mut self.cells, count, first(&from.cells, front), from.rest);
+        cover_prefix(&mut self.cells, count, first(&from.cells, front), from.rest);
         if stored < count {
             self.len = count;
         }
     }
 
     /// All cells, from left to right.
-    pub fn cells(&self) -> RowCells<'_>
+    pub(crate) fn cells(&self) -> RowCells<'_>
         ensures { result ≡ cells_of self.now.room self.now.line }
     {
         let past = self.cells.len() - usize::from(self.len);
@@ -197,14 +197,14 @@ impl Row {
     }
 }
 
-fn first(cells: &[Kept], count: u8) -> &[Kept]
+fn first(cells: &[PackedCell], count: u8) -> &[PackedCell]
     requires { count ≤ length cells.now }
     ensures { result.now ≡ take count cells.now }
 {
     &cells[..usize::from(count)]
 }
 
-fn copy_front(cells: &mut [Kept], front: &[Kept])
+fn copy_prefix(cells: &mut [PackedCell], front: &[PackedCell])
     requires { length front.now ≤ length cells.old }
     ensures { cells.new ≡ front.now ++ drop (length front.now) cells.old }
 {
@@ -212,7 +212,7 @@ fn copy_front(cells: &mut [Kept], front: &[Kept])
 }
 
 // Writes the cells of `front`, and `rest` from there on up to place `end`.
-fn cover_front(cells: &mut [Kept], end: u8, front: &[Kept], rest: Kept)
+fn cover_prefix(cells: &mut [PackedCell], end: u8, front: &[PackedCell], rest: PackedCell)
     requires front { length front.now ≤ end }
     requires end { end ≤ length cells.old }
     ensures { cells.new
@@ -222,7 +222,7 @@ fn cover_front(cells: &mut [Kept], end: u8, front: &[Kept], rest: Kept)
 }
 
 // Writes the cells of `front`, and `rest` from there on.
-fn cover_all(cells: &mut [Kept], front: &[Kept], rest: Kept)
+fn cover_all(cells: &mut [PackedCell], front: &[PackedCell], rest: PackedCell)
     requires { length front.now ≤ length cells.old }
     ensures { cells.new ≡ front.now ++ replicate (length cells.old - length front.now) rest }
 {
@@ -231,7 +231,7 @@ fn cover_all(cells: &mut [Kept], front: &[Kept], rest: Kept)
     cells[count..].fill(rest);
 }
 
-fn fill_all(cells: &mut [Kept], count: u8, c: Kept)
+fn fill_all(cells: &mut [PackedCell], count: u8, c: PackedCell)
     requires { length cells.old ≡ count }
     ensures { cells.new ≡ replicate count c }
 {
@@ -239,7 +239,7 @@ fn fill_all(cells: &mut [Kept], count: u8, c: Kept)
 }
 
 // Moves the cells right by count: those that pass the end are lost, and c comes in.
-fn move_right(cells: &mut [Kept], count: usize, c: Kept)
+fn move_right(cells: &mut [PackedCell], count: usize, c: PackedCell)
     requires { count ≤ length cells.old }
     ensures { cells.new ≡ replicate count c ++ take (length cells.old - count) cells.old }
 {
@@ -249,7 +249,7 @@ fn move_right(cells: &mut [Kept], count: usize, c: Kept)
 }
 
 #[inline(always)]
-fn write_codes<T: Code>(cells: &mut [Kept], codes: &[T], attr: u8)
+fn write_codes<T: Code>(cells: &mut [PackedCell], codes: &[T], attr: u8)
     requires { length codes.now ≡ length cells.old }
     ensures { cells.new ≡ map (λ c. record { code = T.code_of c; attr = attr }) codes.now }
 {
@@ -263,7 +263,7 @@ fn write_codes<T: Code>(cells: &mut [Kept], codes: &[T], attr: u8)
 // Writes at most eight cells: without a loop, which costs more to enter than these cost.
 #[inline(always)]
 #[tactic(auto, using(crate::proofs::Parts::written_all))]
-fn write_short<T: Code>(cells: &mut [Kept], codes: &[T], attr: u8)
+fn write_short<T: Code>(cells: &mut [PackedCell], codes: &[T], attr: u8)
     requires same { length codes.now ≡ length cells.old }
     requires short { length codes.now ≤ 8 }
     ensures { cells.new ≡ map (λ c. record { code = T.code_of c; attr = attr }) codes.now }
@@ -304,7 +304,7 @@ fn write_short<T: Code>(cells: &mut [Kept], codes: &[T], attr: u8)
 
 // Writes the cell at place `i`, before which all are written.
 #[inline(always)]
-fn write_at<T: Code>(cells: &mut [Kept], codes: &[T], i: usize, attr: u8)
+fn write_at<T: Code>(cells: &mut [PackedCell], codes: &[T], i: usize, attr: u8)
     requires place { i < length codes.now }
     requires same { length codes.now ≡ length cells.old }
     requires before { take i cells.old
@@ -313,19 +313,19 @@ fn write_at<T: Code>(cells: &mut [Kept], codes: &[T], i: usize, attr: u8)
     ensures cells { take (i + 1) cells.new
         ≡ map (λ c. record { code = T.code_of c; attr = attr }) (take (i + 1) codes.now) }
 {
-    cells[i] = Kept::new(Cell {
+    cells[i] = PackedCell::new(Cell {
         code: codes[i].code(),
         attr,
     });
 }
 
 #[inline(never)]
-fn write_all<T: Code>(cells: &mut [Kept], codes: &[T], attr: u8)
+fn write_all<T: Code>(cells: &mut [PackedCell], codes: &[T], attr: u8)
     requires { length codes.now ≡ length cells.old }
     ensures { cells.new ≡ map (λ c. record { code = T.code_of c; attr = attr }) codes.now }
 {
     for i in 0..codes.len() {
-        cells[i] = Kept::new(Cell {
+        cells[i] = PackedCell::new(Cell {
             code: codes[i].code(),
             attr,
         });

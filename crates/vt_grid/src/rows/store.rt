@@ -1,8 +1,8 @@
 ghost use Rattle.std.specs.Prelude.{◌≡◌, ◌+◌, ◌-◌, ◌<◌, ◌≤◌, [], ◌∷◌, false, length, true, All, IfOk};
 ghost use Rattle.vt_cells.specs.Width.{is_half};
 ghost use Rattle.vt_grid.specs.Halves.{IsNarrow};
-ghost use Rattle.vt_grid.specs.Line.{IsNarrowLine, cell_at, cells_of, cut_at, written};
-ghost use Rattle.vt_grid.specs.Store.{IsFit, blank_store, line_at, part_turned, sheet_shown, turned, with_line};
+ghost use Rattle.vt_grid.specs.StoredRow.{IsNarrowLine, cell_at, cells_of, cut_at, with_stored_cells};
+ghost use Rattle.vt_grid.specs.Store.{IsFit, blank_store, stored_row, part_turned, grid_view, rotation_by, with_stored_row};
 
 mod edits;
 mod scrolls;
@@ -31,7 +31,7 @@ pub struct RowStore {
 
 impl Model for RowStore {
     ghost use Rattle.std.specs.Prelude.{◌≡◌, true};
-    ghost use Rattle.vt_grid.specs.Ring.{AreNarrow, IsNaming, named};
+    ghost use Rattle.vt_grid.specs.Ring.{AreNarrow, IsNaming, rows_by_number};
     ghost use Rattle.vt_grid.specs.Store.{Store};
 
     ghost Value = { Store };
@@ -39,7 +39,7 @@ impl Model for RowStore {
     ghost view = { λ s. record {
       rows = s.size.rows;
       cols = s.size.cols;
-      lines = named s.rows.items s.ring;
+      lines = rows_by_number s.rows.items s.ring;
     } };
 
     ghost invariant = { λ s.
@@ -86,7 +86,7 @@ impl RowStore {
     // Whether it is known that no cell is the right half of a character.
     pub(crate) fn is_narrow(&self) -> bool
         ensures lines { result ≡ true → All IsNarrowLine self.now.lines }
-        ensures grid { result ≡ true → IsNarrow (sheet_shown self.now) }
+        ensures grid { result ≡ true → IsNarrow (grid_view self.now) }
     {
         self.narrow
     }
@@ -95,7 +95,7 @@ impl RowStore {
     pub fn at(&self, y: u8, x: u8) -> Cell
         requires row { y < self.now.rows }
         requires column { x < self.now.cols }
-        ensures { result ≡ cell_at (line_at self.now y) x }
+        ensures { result ≡ cell_at (stored_row self.now y) x }
     {
         let number = self.ring.at(y);
         let row = &self.rows[usize::from(number)];
@@ -105,7 +105,7 @@ impl RowStore {
     /// How many cells row `y` stores.
     pub fn stored(&self, y: u8) -> u8
         requires { y < self.now.rows }
-        ensures { result ≡ length (line_at self.now y).stored }
+        ensures { result ≡ length (stored_row self.now y).stored }
     {
         let number = self.ring.at(y);
         let row = &self.rows[usize::from(number)];
@@ -115,9 +115,9 @@ impl RowStore {
     /// Sets one cell, which is stored or the first that isn't. One step.
     pub fn write<L: Ledger>(&mut self, y: u8, x: u8, c: Cell, steps: &mut Steps<L>)
         requires row { y < self.old.rows }
-        requires place { x ≤ length (line_at self.old y).stored }
+        requires place { x ≤ length (stored_row self.old y).stored }
         requires column { x < self.old.cols }
-        ensures rows { self.new ≡ with_line self.old y (written x (c ∷ []) (line_at self.old y)) }
+        ensures rows { self.new ≡ with_stored_row self.old y (with_stored_cells x (c ∷ []) (stored_row self.old y)) }
         ensures steps { steps.new ≡ steps.old + 1 }
     {
         let number = self.ring.at(y);
@@ -130,8 +130,8 @@ impl RowStore {
     /// Stores the first `len` cells of row `y` alone; all further ones are `tail`. One step.
     pub fn cut<L: Ledger>(&mut self, y: u8, len: u8, tail: Cell, steps: &mut Steps<L>)
         requires row { y < self.old.rows }
-        requires stored { len ≤ length (line_at self.old y).stored }
-        ensures rows { self.new ≡ with_line self.old y (cut_at len tail (line_at self.old y)) }
+        requires stored { len ≤ length (stored_row self.old y).stored }
+        ensures rows { self.new ≡ with_stored_row self.old y (cut_at len tail (stored_row self.old y)) }
         ensures steps { steps.new ≡ steps.old + 1 }
     {
         let number = self.ring.at(y);
@@ -144,7 +144,7 @@ impl RowStore {
     /// Moves all rows up by `n` round the end. One step.
     pub fn turn<L: Ledger>(&mut self, n: u8, steps: &mut Steps<L>)
         requires { n ≤ self.old.rows }
-        ensures rows { self.new ≡ record self.old { lines = turned n self.old.lines } }
+        ensures rows { self.new ≡ record self.old { lines = rotation_by n self.old.lines } }
         ensures steps { steps.new ≡ steps.old + 1 }
     {
         self.ring.turn(n);
@@ -166,14 +166,14 @@ impl RowStore {
     /// The cells of row `y`, from left to right.
     pub fn cells(&self, y: u8) -> RowCells<'_>
         requires { y < self.now.rows }
-        ensures { result ≡ cells_of self.now.cols (line_at self.now y) }
+        ensures { result ≡ cells_of self.now.cols (stored_row self.now y) }
     {
         self.row(y).cells()
     }
 
     fn row(&self, y: u8) -> &Row
         requires { y < self.now.rows }
-        ensures line { result.now.line ≡ line_at self.now y }
+        ensures line { result.now.line ≡ stored_row self.now y }
         ensures room { result.now.room ≡ self.now.cols }
     {
         let number = self.ring.at(y);

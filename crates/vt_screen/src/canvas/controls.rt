@@ -1,14 +1,14 @@
 ghost use Rattle.std.specs.Prelude.{◌≡◌};
 ghost use Rattle.vt_screen.specs.Effect.{control};
-ghost use Rattle.vt_screen.specs.Saying.{rung};
+ghost use Rattle.vt_screen.specs.Saying.{bell_if};
 
 use super::Canvas;
 
 impl Canvas {
     /// What a control character does. The answer is whether the bell rings.
     #[tactic(auto, unfolding(crate::specs::Effect::control))]
-    pub fn control(&mut self, code: u8) -> bool
-        ensures { control code self.old ≡ record { screen = self.new; said = rung result } }
+    pub(crate) fn control(&mut self, code: u8) -> bool
+        ensures { control code self.old ≡ record { screen = self.new; said = bell_if result } }
     {
         match code {
             0x07 => return true,

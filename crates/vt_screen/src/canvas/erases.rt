@@ -1,6 +1,6 @@
 ghost use Rattle.std.specs.Prelude.{◌≡◌, ◌<◌, ◌≤◌, ◌+◌, ◌-◌};
-ghost use Rattle.vt_screen.specs.Erasing.{above_erased, all_erased, below_erased, cells_deleted, cells_inserted, delete_characters, delete_lines, erase_characters, erase_display, erase_line, in_region, insert_characters, insert_lines, line_end_erased, line_erased, line_start_erased, rows_erased, unwrapped, with_grid};
-ghost use Rattle.vt_grid.specs.Halves.{parted_between};
+ghost use Rattle.vt_screen.specs.Erasing.{above_erased, all_erased, below_erased, cells_deleted, cells_inserted, delete_characters, delete_lines, erase_characters, erase_display, erase_line, in_region, insert_characters, insert_lines, line_end_erased, line_erased, line_start_erased, rows_erased, without_pending_wrap, with_grid};
+ghost use Rattle.vt_grid.specs.Halves.{split_wide_between};
 
 use super::Canvas;
 use vt_grid::laws::ends_are_whole;
@@ -118,7 +118,7 @@ impl Canvas {
 
     // No wrap is pending any more.
     fn unwrap(&mut self)
-        ensures { self.new ≡ unwrapped self.old }
+        ensures { self.new ≡ without_pending_wrap self.old }
     {
         self.state.wrap = false;
     }
@@ -205,7 +205,7 @@ impl Canvas {
     fn part_ends(&mut self, n: u16)
         ensures { self.new
             ≡ with_grid self.old
-            (parted_between self.old.grid self.old.state.y self.old.state.x (self.old.state.x + n)) }
+            (split_wide_between self.old.grid self.old.state.y self.old.state.x (self.old.state.x + n)) }
     {
         ends_are_whole();
         self.grid.part(self.state.y, self.state.x);
@@ -221,7 +221,7 @@ impl Canvas {
         requires column { x ≤ self.old.grid.cols }
         requires end { end ≤ self.old.grid.cols }
         ensures { self.new
-            ≡ with_grid self.old (parted_between self.old.grid self.old.state.y x end) }
+            ≡ with_grid self.old (split_wide_between self.old.grid self.old.state.y x end) }
     {
         self.grid.part(self.state.y, x);
         self.grid.part(self.state.y, end);

@@ -1,7 +1,7 @@
 ghost use Rattle.std.specs.Prelude.{◌≡◌, ◌<◌, ◌≤◌, ◌+◌, ◌++◌, ◌==◌, length, if◌then◌else◌};
 ghost use Rattle.vt_screen.specs.Effect.{escape, plain_escape};
-ghost use Rattle.vt_screen.specs.Run.{listed};
-ghost use Rattle.vt_screen.specs.Settings.{aligned};
+ghost use Rattle.vt_screen.specs.Run.{outs_of_option};
+ghost use Rattle.vt_screen.specs.Settings.{alignment_pattern};
 
 use super::Canvas;
 use crate::Outs;
@@ -10,10 +10,10 @@ impl Canvas {
     /// Does what an escape sequence does. What it says beside the screen is then last in `outs`.
     #[inline(always)]
     #[tactic(auto, unfolding(crate::specs::Effect::escape))]
-    pub fn escape(&mut self, mid: u8, last: u8, outs: &mut Outs)
+    pub(crate) fn escape(&mut self, mid: u8, last: u8, outs: &mut Outs)
         requires room { length outs.old < 64 }
         ensures screen { self.new ≡ (escape mid last self.old).screen }
-        ensures said { outs.new ≡ outs.old ++ listed (escape mid last self.old).said }
+        ensures said { outs.new ≡ outs.old ++ outs_of_option (escape mid last self.old).said }
         ensures few { length outs.new ≤ length outs.old + 1 }
     {
         match mid {
@@ -31,7 +31,7 @@ impl Canvas {
     fn plain_escape(&mut self, last: u8, outs: &mut Outs)
         requires room { length outs.old < 64 }
         ensures screen { self.new ≡ (plain_escape last self.old).screen }
-        ensures said { outs.new ≡ outs.old ++ listed (plain_escape last self.old).said }
+        ensures said { outs.new ≡ outs.old ++ outs_of_option (plain_escape last self.old).said }
         ensures few { length outs.new ≤ length outs.old + 1 }
     {
         match last {
@@ -40,7 +40,7 @@ impl Canvas {
             b'E' => self.next_line(),
             b'H' => self.set_stop(),
             b'M' => self.reverse_linefeed(),
-            b'Z' => self.say_device(0, outs),
+            b'Z' => self.report_device(0, outs),
             b'7' => self.save(),
             b'8' => self.restore(),
             b'>' => self.set_keypad(false),
@@ -50,7 +50,7 @@ impl Canvas {
     }
 
     fn test(&mut self, last: u8)
-        ensures { self.new ≡ (if last == 0x38 then aligned self.old else self.old) }
+        ensures { self.new ≡ (if last == 0x38 then alignment_pattern self.old else self.old) }
     {
         if last == b'8' {
             self.align();

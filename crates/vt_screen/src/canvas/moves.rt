@@ -1,6 +1,6 @@
 ghost use Rattle.std.specs.Prelude.{◌≡◌, ◌==◌, ◌-◌, ◌+◌, ◌<◌, ◌≤◌, max, min, not, drop, if◌then◌else◌};
 ghost use Rattle.std.specs.List.{prefix_len};
-ghost use Rattle.vt_screen.specs.Cursor.{at_column, first_row, homed, last_row, linefeed, moved, newline, newlines, placed, region_down, region_up, reverse_linefeed, tab};
+ghost use Rattle.vt_screen.specs.Cursor.{at_column, first_row, cursor_home, last_row, linefeed, cursor_to, newline, newlines, cursor_to_in_region, region_down, region_up, reverse_linefeed, tab};
 
 use super::Canvas;
 use crate::Stops;
@@ -39,14 +39,14 @@ impl Canvas {
     }
 
     /// Whether a line feed scrolls: the cursor is in the region's last row.
-    pub fn scrolls(&self) -> bool
+    pub(crate) fn scrolls(&self) -> bool
         ensures { result ≡ (self.now.state.y == self.now.state.bottom) }
     {
         self.state.y == self.state.bottom
     }
 
     /// Does line feeds at once, of which each scrolls.
-    pub fn scroll(&mut self, count: u16)
+    pub(crate) fn scroll(&mut self, count: u16)
         requires some { 0 < count }
         requires scrolls { self.old.state.y ≡ self.old.state.bottom }
         ensures { self.new ≡ newlines count self.old }
@@ -99,9 +99,9 @@ impl Canvas {
     }
 
     /// Goes to a row and a column, as far as the screen goes, or the region in origin mode.
-    #[tactic(auto, unfolding(crate::specs::Cursor::moved))]
+    #[tactic(auto, unfolding(crate::specs::Cursor::cursor_to))]
     pub(super) fn move_to(&mut self, row: u32, column: u32)
-        ensures { self.new ≡ moved row column self.old }
+        ensures { self.new ≡ cursor_to row column self.old }
     {
         let right = u32::from(self.grid.size().cols) - 1;
         self.state.y = self.reached_row(row);
@@ -110,9 +110,9 @@ impl Canvas {
     }
 
     /// Goes to a row and a column; in origin mode the row is counted from the region's first one.
-    #[tactic(auto, unfolding(crate::specs::Cursor::placed))]
+    #[tactic(auto, unfolding(crate::specs::Cursor::cursor_to_in_region))]
     pub(super) fn place(&mut self, row: u16, column: u32)
-        ensures { self.new ≡ placed row column self.old }
+        ensures { self.new ≡ cursor_to_in_region row column self.old }
     {
         let first = self.first_row();
         self.move_to(u32::from(first) + u32::from(row), column);
@@ -137,7 +137,7 @@ impl Canvas {
     }
 
     pub(super) fn home(&mut self)
-        ensures { self.new ≡ homed self.old }
+        ensures { self.new ≡ cursor_home self.old }
     {
         self.place(0, 0);
     }

@@ -1,11 +1,11 @@
 ghost use Rattle.std.specs.List.{list_all};
 ghost use Rattle.std.specs.Prelude.{◌≡◌, ◌<◌, ◌≤◌, ◌+◌, ◌-◌, false, true, length, nat_lt, take, if◌then◌else◌};
 ghost use Rattle.vt_cells.specs.Width.{is_plain};
-ghost use Rattle.vt_screen.specs.Printing.{codes_drawn, opened, print, print_character, printed, put_here, room, set_down, shown, spread, table_of, toggled, wrapped};
+ghost use Rattle.vt_screen.specs.Printing.{codes_drawn, with_gap, print, print_character, print_characters, with_cells_at_cursor, room, with_character, character_of_byte, cells_of_characters, table_of, toggle_high_bit, after_wrap};
 ghost use Rattle.vt_screen.specs.Screen.{IsWhole};
 
 use super::Canvas;
-use super::fronts::{plain_front, spread_front};
+use super::prefixes::{fitting_prefix, plain_prefix};
 use crate::ScreenState;
 use vt_cells::{HALF, columns, columns_are_few};
 use vt_grid::laws::stretches_join;
@@ -16,7 +16,7 @@ const REPLACEMENT: u32 = 0xFFFD;
 
 impl Canvas {
     /// Prints a character in the columns that it takes.
-    pub fn print(&mut self, code: u32)
+    pub(crate) fn print(&mut self, code: u32)
         ensures { self.new ≡ print_character code self.old }
     {
         self.print_cells(columns(code), code);
@@ -24,7 +24,7 @@ impl Canvas {
 
     /// Prints a character in so many columns.
     #[tactic(auto, unfolding(crate::specs::Printing::print))]
-    pub fn print_cells(&mut self, width: u8, code: u32)
+    pub(crate) fn print_cells(&mut self, width: u8, code: u32)
         requires { width ≤ 2 }
         ensures { self.new ≡ print width code self.old }
     {
@@ -41,7 +41,7 @@ impl Canvas {
 
     /// How many cells there are from the cursor to the end of its row, where no wrap is pending and
     /// insert mode is off.
-    pub fn room(&self) -> usize
+    pub(crate) fn room(&self) -> usize
         ensures room { result ≡ room self.now }
         ensures whole { IsWhole self.now }
         ensures unwrapped { 0 < result → self.now.state.wrap ≡ false }
@@ -58,9 +58,9 @@ impl Canvas {
     }
 
     /// Prints the character of a byte, or none.
-    pub fn print_first(&mut self, bytes: &[u8])
+    pub(crate) fn print_first(&mut self, bytes: &[u8])
         requires { length bytes.now ≤ 1 }
-        ensures { self.new ≡ printed bytes.now self.old }
+        ensures { self.new ≡ print_characters bytes.now self.old }
     {
         if bytes.is_empty() {
             return;
@@ -70,11 +70,11 @@ impl Canvas {
 
     /// Prints characters of one column, one for each byte, that end in the cursor's row.
     #[inline(always)]
-    pub fn print_bytes(&mut self, bytes: &[u8])
-        requires narrow { spread bytes.now ≡ bytes.now }
+    pub(crate) fn print_bytes(&mut self, bytes: &[u8])
+        requires narrow { cells_of_characters bytes.now ≡ bytes.now }
         requires some { 0 < room self.old }
         requires room { length bytes.now ≤ room self.old }
-        ensures { self.new ≡ printed bytes.now self.old }
+        ensures { self.new ≡ print_characters bytes.now self.old }
     {
         stretches_join();
         columns_are_few();
@@ -86,8 +86,8 @@ impl Canvas {
     }
 
     /// Prints characters, one after another.
-    pub fn print_codes(&mut self, codes: &[u32])
-        ensures { self.new ≡ printed codes.now self.old }
+    pub(crate) fn print_codes(&mut self, codes: &[u32])
+        ensures { self.new ≡ print_characters codes.now self.old }
     {
         let mut at = 0;
         while at < codes.len() {
@@ -100,7 +100,7 @@ impl Canvas {
         requires { 0 < length codes.now }
         ensures some { 0 < result }
         ensures within { result ≤ length codes.now }
-        ensures printed { self.new ≡ printed (take result codes.now) self.old }
+        ensures printed { self.new ≡ print_characters (take result codes.now) self.old }
     {
         let plain = self.print_plain(codes);
         if plain > 0 {
@@ -117,12 +117,12 @@ impl Canvas {
     // Prints the plain characters at the front that end in the cursor's row, and tells how many.
     fn print_plain(&mut self, codes: &[u32]) -> usize
         ensures within { result ≤ length codes.now }
-        ensures printed { self.new ≡ printed (take result codes.now) self.old }
+        ensures printed { self.new ≡ print_characters (take result codes.now) self.old }
     {
         stretches_join();
         columns_are_few();
         let front = &codes[..codes.len().min(self.room())];
-        let count = plain_front(front);
+        let count = plain_prefix(front);
         if count > 0 {
             self.put_plain(&front[..count]);
         }
@@ -133,12 +133,12 @@ impl Canvas {
     // they have no cell.
     fn print_spread(&mut self, codes: &[u32]) -> usize
         ensures within { result ≤ length codes.now }
-        ensures printed { self.new ≡ printed (take result codes.now) self.old }
+        ensures printed { self.new ≡ print_characters (take result codes.now) self.old }
     {
         stretches_join();
         columns_are_few();
         let mut cells = Codes::new();
-        let count = spread_front(codes, self.room().min(MOST_CODES), &mut cells);
+        let count = fitting_prefix(codes, self.room().min(MOST_CODES), &mut cells);
         if cells.len() == 0 {
             return 0;
         }
@@ -151,7 +151,7 @@ impl Canvas {
         requires some { 0 < width }
         requires few { width ≤ 2 }
         requires fits { width ≤ self.old.grid.cols }
-        ensures { self.new ≡ set_down width code self.old }
+        ensures { self.new ≡ with_character width code self.old }
     {
         self.wrap(width);
         self.open(width);
@@ -161,7 +161,7 @@ impl Canvas {
     // Goes to where a character of so many columns ends in the row, and does the wrap that is pending.
     fn wrap(&mut self, width: u8)
         requires { width ≤ self.old.grid.cols }
-        ensures wrapped { self.new ≡ wrapped width self.old }
+        ensures wrapped { self.new ≡ after_wrap width self.old }
         ensures fits { self.new.state.x + width ≤ self.new.grid.cols }
     {
         let cols = self.grid.size().cols;
@@ -177,7 +177,7 @@ impl Canvas {
 
     // In insert mode, makes a place at the cursor.
     fn open(&mut self, width: u8)
-        ensures { self.new ≡ opened width self.old }
+        ensures { self.new ≡ with_gap width self.old }
     {
         if self.state.insert {
             self.insert_cells(u16::from(width));
@@ -188,7 +188,7 @@ impl Canvas {
     fn put(&mut self, width: u8, code: u32)
         requires few { width ≤ 2 }
         requires fits { self.old.state.x + length (codes_drawn width code) ≤ self.old.grid.cols }
-        ensures { self.new ≡ put_here (codes_drawn width code) self.old }
+        ensures { self.new ≡ with_cells_at_cursor (codes_drawn width code) self.old }
     {
         if width == 2 {
             self.put_codes(&[code, HALF]);
@@ -201,7 +201,7 @@ impl Canvas {
     #[inline(always)]
     fn put_codes(&mut self, codes: &[u32])
         requires { self.old.state.x + length codes.now ≤ self.old.grid.cols }
-        ensures { self.new ≡ put_here codes.now self.old }
+        ensures { self.new ≡ with_cells_at_cursor codes.now self.old }
     {
         let cols = self.grid.size().cols;
         self.grid
@@ -215,7 +215,7 @@ impl Canvas {
     fn put_plain(&mut self, codes: &[u32])
         requires plain { list_all is_plain codes.now ≡ true }
         requires fits { self.old.state.x + length codes.now ≤ self.old.grid.cols }
-        ensures { self.new ≡ put_here codes.now self.old }
+        ensures { self.new ≡ with_cells_at_cursor codes.now self.old }
     {
         let cols = self.grid.size().cols;
         self.grid
@@ -229,7 +229,7 @@ impl Canvas {
     fn put_bytes(&mut self, bytes: &[u8])
         requires fits { self.old.state.x + length bytes.now ≤ self.old.grid.cols }
         requires unwrapped { self.old.state.wrap ≡ false }
-        ensures { self.new ≡ put_here bytes.now self.old }
+        ensures { self.new ≡ with_cells_at_cursor bytes.now self.old }
     {
         let cols = self.grid.size().cols;
         self.grid
@@ -239,11 +239,15 @@ impl Canvas {
     }
 
     /// The character that a byte is shown as.
-    #[tactic(auto, unfolding(crate::specs::Printing::shown))]
+    #[tactic(auto, unfolding(crate::specs::Printing::character_of_byte))]
     pub(super) fn shown(&self, b: u8) -> u32
-        ensures { result ≡ shown b self.now }
+        ensures { result ≡ character_of_byte b self.now }
     {
-        let b = if self.state.pen.toggle { toggled(b) } else { b };
+        let b = if self.state.pen.toggle {
+            toggle_high_bit(b)
+        } else {
+            b
+        };
         self.state.map.map(self.table(), b)
     }
 
@@ -305,8 +309,8 @@ fn go_on_unwrapped(state: &mut ScreenState, count: usize, cols: u8)
     }
 }
 
-fn toggled(b: u8) -> u8
-    ensures { result ≡ toggled b }
+fn toggle_high_bit(b: u8) -> u8
+    ensures { result ≡ toggle_high_bit b }
 {
     if b < 0x80 { b + 0x80 } else { b - 0x80 }
 }

@@ -1,5 +1,5 @@
 ghost use Rattle.std.specs.Prelude.{◌≡◌, ◌<◌, ◌≤◌, ◌+◌, ◌-◌, ◌∷◌, ◌++◌, length, nat_lt, if◌then◌else◌};
-ghost use Rattle.vt_screen.specs.Run.{listed};
+ghost use Rattle.vt_screen.specs.Run.{outs_of_option};
 ghost use Rattle.vt_screen.specs.Screen.{Screen};
 ghost use Rattle.vt_screen.specs.declared.out.Out.TheVariants.{Report};
 ghost use Rattle.vt_screen.specs.Saying.{console_setting, cursor_text, device_report, lights, status_report, with_default_pair, with_dim_colour, with_underline_colour};
@@ -13,10 +13,10 @@ use vt_sgr::Pen;
 impl Canvas {
     /// Says what DA asks for.
     #[inline(never)]
-    pub(super) fn say_device(&self, which: u16, outs: &mut Outs)
+    pub(super) fn report_device(&self, which: u16, outs: &mut Outs)
         requires room { length outs.old < 64 }
         ensures screen { self.now ≡ (device_report which self.now).screen }
-        ensures said { outs.new ≡ outs.old ++ listed (device_report which self.now).said }
+        ensures said { outs.new ≡ outs.old ++ outs_of_option (device_report which self.now).said }
         ensures few { length outs.new ≤ length outs.old + 1 }
     {
         outs.say(self.device_report(which));
@@ -24,10 +24,10 @@ impl Canvas {
 
     /// Says what DSR asks for.
     #[inline(never)]
-    pub(super) fn say_status(&self, which: u16, outs: &mut Outs)
+    pub(super) fn report_status(&self, which: u16, outs: &mut Outs)
         requires room { length outs.old < 64 }
         ensures screen { self.now ≡ (status_report which self.now).screen }
-        ensures said { outs.new ≡ outs.old ++ listed (status_report which self.now).said }
+        ensures said { outs.new ≡ outs.old ++ outs_of_option (status_report which self.now).said }
         ensures few { length outs.new ≤ length outs.old + 1 }
     {
         outs.say(self.status_report(which));
@@ -35,10 +35,10 @@ impl Canvas {
 
     /// Says which lights DECLL sets.
     #[inline(never)]
-    pub(super) fn say_lights(&self, which: u16, outs: &mut Outs)
+    pub(super) fn report_lights(&self, which: u16, outs: &mut Outs)
         requires room { length outs.old < 64 }
         ensures screen { self.now ≡ (lights which self.now).screen }
-        ensures said { outs.new ≡ outs.old ++ listed (lights which self.now).said }
+        ensures said { outs.new ≡ outs.old ++ outs_of_option (lights which self.now).said }
         ensures few { length outs.new ≤ length outs.old + 1 }
     {
         outs.say(lights(which));
@@ -49,7 +49,7 @@ impl Canvas {
     pub(super) fn say_setting(&mut self, which: u16, value: u16, outs: &mut Outs)
         requires room { length outs.old < 64 }
         ensures screen { self.new ≡ (console_setting which value self.old).screen }
-        ensures said { outs.new ≡ outs.old ++ listed (console_setting which value self.old).said }
+        ensures said { outs.new ≡ outs.old ++ outs_of_option (console_setting which value self.old).said }
         ensures few { length outs.new ≤ length outs.old + 1 }
     {
         outs.say(self.console_setting(which, value));

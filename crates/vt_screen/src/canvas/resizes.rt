@@ -7,7 +7,7 @@ use vt_grid::Grid;
 impl Canvas {
     /// Becomes as large as the fresh grid, and gives the old one.
     #[tactic(auto, unfolding(crate::specs::Tape::resized_to))]
-    pub fn resize(&mut self, fresh: Grid) -> Grid
+    pub(crate) fn resize(&mut self, fresh: Grid) -> Grid
         ensures screen { self.new ≡ resized_to fresh.rows fresh.cols self.old }
         ensures old { result ≡ self.old.grid }
     {

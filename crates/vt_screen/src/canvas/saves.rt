@@ -1,5 +1,5 @@
 ghost use Rattle.std.specs.Prelude.{◌≡◌};
-ghost use Rattle.vt_screen.specs.Settings.{aligned, reset, restore, save};
+ghost use Rattle.vt_screen.specs.Settings.{alignment_pattern, reset, restore, save};
 
 use super::Canvas;
 use crate::screen_state::start_attr;
@@ -58,9 +58,9 @@ impl Canvas {
     }
 
     /// DECALN: fills the screen with E.
-    #[tactic(auto, unfolding(crate::specs::Settings::aligned))]
+    #[tactic(auto, unfolding(crate::specs::Settings::alignment_pattern))]
     pub(super) fn align(&mut self)
-        ensures { self.new ≡ aligned self.old }
+        ensures { self.new ≡ alignment_pattern self.old }
     {
         let cell = Cell {
             code: u32::from(b'E'),

@@ -1,20 +1,26 @@
 ghost use Rattle.std.specs.Prelude.{◌≡◌, ◌<◌, ◌≤◌, ◌+◌, ◌++◌, false, length, max};
 ghost use Rattle.vt_screen.specs.Effect.{control_sequence, effect, number_at, private_sequence};
-ghost use Rattle.vt_screen.specs.Run.{listed};
-ghost use Rattle.vt_screen.specs.Saying.{quiet};
-ghost use Rattle.vt_units.specs.Briefs.{more_numbers, numbers_in};
+ghost use Rattle.vt_screen.specs.Run.{outs_of_option};
+ghost use Rattle.vt_screen.specs.Saying.{without_out};
+ghost use Rattle.vt_units.specs.ShortSequences.{more_numbers, numbers_in};
 ghost use Rattle.vt_units.specs.declared.unit.Unit.TheVariants.{Csi};
 
 use super::Canvas;
 use crate::Outs;
-use vt_units::Longer;
+use vt_units::LongSgr;
 
 impl Canvas {
     /// Does what a control sequence does. What it says beside the screen is then last in `outs`.
-    pub fn obey_sequence(&mut self, private: bool, params: &[u16], last: u8, outs: &mut Outs)
+    pub(crate) fn dispatch_sequence(
+        &mut self,
+        private: bool,
+        params: &[u16],
+        last: u8,
+        outs: &mut Outs,
+    )
         requires room { length outs.old < 64 }
         ensures screen { self.new ≡ (effect (Csi private params.now last) self.old).screen }
-        ensures said { outs.new ≡ outs.old ++ listed (effect (Csi private params.now last) self.old).said }
+        ensures said { outs.new ≡ outs.old ++ outs_of_option (effect (Csi private params.now last) self.old).said }
         ensures few { length outs.new ≤ length outs.old + 1 }
     {
         if private {
@@ -28,11 +34,18 @@ impl Canvas {
 
     /// Does the same for a control sequence of one parameter, or of both.
     #[inline(always)]
-    pub fn obey_brief(&mut self, first: u16, second: u16, both: bool, last: u8, outs: &mut Outs)
+    pub(crate) fn dispatch_short_csi(
+        &mut self,
+        first: u16,
+        second: u16,
+        both: bool,
+        last: u8,
+        outs: &mut Outs,
+    )
         requires room { length outs.old < 64 }
         ensures screen { self.new ≡ (control_sequence (numbers_in first second both) last self.old).screen }
         ensures said { outs.new
-            ≡ outs.old ++ listed (control_sequence (numbers_in first second both) last self.old).said }
+            ≡ outs.old ++ outs_of_option (control_sequence (numbers_in first second both) last self.old).said }
         ensures few { length outs.new ≤ length outs.old + 1 }
     {
         let params = [first, if both { second } else { 0 }];
@@ -43,11 +56,11 @@ impl Canvas {
     /// Does the same for SGR of three parameters, or of five.
     #[inline(always)]
     #[tactic(auto, unfolding(crate::specs::Effect::control_sequence))]
-    pub fn obey_longer(&mut self, longer: Longer, outs: &mut Outs)
+    pub(crate) fn dispatch_long_sgr(&mut self, longer: LongSgr, outs: &mut Outs)
         requires room { length outs.old < 64 }
         ensures screen { self.new ≡ (control_sequence (more_numbers longer) 0x6D self.old).screen }
         ensures said { outs.new
-            ≡ outs.old ++ listed (control_sequence (more_numbers longer) 0x6D self.old).said }
+            ≡ outs.old ++ outs_of_option (control_sequence (more_numbers longer) 0x6D self.old).said }
         ensures few { length outs.new ≤ length outs.old + 1 }
     {
         let _ = outs;
@@ -69,7 +82,7 @@ impl Canvas {
         requires second { second ≡ number_at params.now 1 }
         requires room { length outs.old < 64 }
         ensures screen { self.new ≡ (control_sequence params.now last self.old).screen }
-        ensures said { outs.new ≡ outs.old ++ listed (control_sequence params.now last self.old).said }
+        ensures said { outs.new ≡ outs.old ++ outs_of_option (control_sequence params.now last self.old).said }
         ensures few { length outs.new ≤ length outs.old + 1 }
     {
         match last {
@@ -94,14 +107,14 @@ impl Canvas {
             b'M' => self.delete_lines(count_of(first)),
             b'P' => self.delete_characters(count_of(first)),
             b'X' => self.erase_characters(count_of(first)),
-            b'c' => self.say_device(first, outs),
+            b'c' => self.report_device(first, outs),
             b'd' => self.place(first.saturating_sub(1), self.column()),
             b'g' => self.clear_stops(first),
             b'h' => self.set_modes(true, params),
             b'l' => self.set_modes(false, params),
             b'm' => self.render(params),
-            b'n' => self.say_status(first, outs),
-            b'q' => self.say_lights(first, outs),
+            b'n' => self.report_status(first, outs),
+            b'q' => self.report_lights(first, outs),
             b'r' => self.set_region(count_of(first), second),
             b's' => self.save(),
             b'u' => self.restore(),
@@ -113,7 +126,7 @@ impl Canvas {
     // What a control sequence that `?` begins does.
     #[tactic(auto, unfolding(crate::specs::Effect::private_sequence))]
     fn private_sequence(&mut self, params: &[u16], last: u8)
-        ensures { private_sequence params.now last self.old ≡ quiet self.new }
+        ensures { private_sequence params.now last self.old ≡ without_out self.new }
     {
         match last {
             b'h' => self.set_private_modes(true, params),

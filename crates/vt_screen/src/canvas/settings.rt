@@ -1,12 +1,12 @@
 ghost use Rattle.std.specs.Prelude.{◌≡◌, ◌<◌, ◌≤◌, ◌==◌, if◌then◌else◌};
-ghost use Rattle.vt_screen.specs.Settings.{table_named, clear_stops, each, invoking, rendered, set_stop, with_coding, with_colour, with_g0, with_g1, with_keypad, with_mode, with_pen, with_private_mode, with_region, with_start_palette};
+ghost use Rattle.vt_screen.specs.Settings.{table_named, clear_stops, each, after_shift, after_sgr, set_stop, with_coding, with_colour, with_g0, with_g1, with_keypad, with_mode, with_pen, with_private_mode, with_region, with_start_palette};
 ghost use Rattle.vt_sgr.specs.Sgr.{sgr};
-ghost use Rattle.vt_units.specs.Briefs.{more_numbers};
+ghost use Rattle.vt_units.specs.ShortSequences.{more_numbers};
 
 use super::Canvas;
 use vt_cells::{Palette, attr_byte, erase_byte};
 use vt_sgr::{Pen, apply, apply_five, apply_three};
-use vt_units::Longer;
+use vt_units::LongSgr;
 
 impl Canvas {
     /// Takes another pen, and computes the bytes that it prints and erases with.
@@ -20,10 +20,10 @@ impl Canvas {
     }
 
     /// SO and SI: whether G1 is in use, and control characters are shown.
-    #[tactic(auto, unfolding(crate::specs::Settings::invoking))]
+    #[tactic(auto, unfolding(crate::specs::Settings::after_shift))]
     pub(super) fn invoke(&mut self, shift: u8, display: bool)
         requires { shift ≤ 1 }
-        ensures { self.new ≡ invoking shift display self.old }
+        ensures { self.new ≡ after_shift shift display self.old }
     {
         self.state.shift = shift;
         self.state.pen = Pen {
@@ -126,12 +126,12 @@ impl Canvas {
     }
 
     /// SGR.
-    #[tactic(auto, unfolding(crate::specs::Settings::rendered, crate::specs::Screen::printed_byte, crate::specs::Screen::erased_byte))]
+    #[tactic(auto, unfolding(crate::specs::Settings::after_sgr, crate::specs::Screen::printed_byte, crate::specs::Screen::erased_byte))]
     pub(super) fn render(&mut self, params: &[u16])
-        ensures { self.new ≡ rendered params.now self.old }
+        ensures { self.new ≡ after_sgr params.now self.old }
     {
         if params.len() > 2 {
-            self.render_longer(params);
+            self.render_long_sgr(params);
             return;
         }
         apply(&mut self.state.pen, params);
@@ -141,9 +141,9 @@ impl Canvas {
 
     /// SGR of three parameters, or of five.
     #[inline(always)]
-    #[tactic(auto, unfolding(crate::specs::Settings::rendered, crate::specs::Screen::printed_byte, crate::specs::Screen::erased_byte))]
-    pub(super) fn render_more(&mut self, more: Longer)
-        ensures { self.new ≡ rendered (more_numbers more) self.old }
+    #[tactic(auto, unfolding(crate::specs::Settings::after_sgr, crate::specs::Screen::printed_byte, crate::specs::Screen::erased_byte))]
+    pub(super) fn render_more(&mut self, more: LongSgr)
+        ensures { self.new ≡ after_sgr (more_numbers more) self.old }
     {
         apply_more(&mut self.state.pen, more);
         self.attr = attr_byte(&self.state.pen.attr, &self.state.pen.look);
@@ -152,9 +152,9 @@ impl Canvas {
 
     // SGR of more than two parameters, out of line: then the usual ones save no registers.
     #[inline(never)]
-    #[tactic(auto, unfolding(crate::specs::Settings::rendered, crate::specs::Screen::printed_byte, crate::specs::Screen::erased_byte))]
-    fn render_longer(&mut self, params: &[u16])
-        ensures { self.new ≡ rendered params.now self.old }
+    #[tactic(auto, unfolding(crate::specs::Settings::after_sgr, crate::specs::Screen::printed_byte, crate::specs::Screen::erased_byte))]
+    fn render_long_sgr(&mut self, params: &[u16])
+        ensures { self.new ≡ after_sgr params.now self.old }
     {
         apply(&mut self.state.pen, params);
         self.attr = attr_byte(&self.state.pen.attr, &self.state.pen.look);
@@ -221,7 +221,7 @@ impl Canvas {
 }
 
 #[inline(always)]
-fn apply_more(p: &mut Pen, more: Longer)
+fn apply_more(p: &mut Pen, more: LongSgr)
     ensures { p.new ≡ sgr (more_numbers more) p.old }
 {
     if more.five {

@@ -23,17 +23,17 @@ abbrev pub BAD_ITEM : ℕ
 BAD_ITEM = 6
 
 -- what is told of so many items
-abbrev pub answered : ℕ → Judged → Outcome
-answered items judged.Yes =
+abbrev pub accept_outcome : ℕ → Judged → Outcome
+accept_outcome items judged.Yes =
     record { status = status.Fine; text = line_text (codes "accepted" ∷ decimal items ∷ []) }
-answered items (judged.No index) = no_text (status.Illegal index BAD_ITEM)
-answered items (judged.Illegal index why) = no_text (status.Illegal index why)
+accept_outcome items (judged.No index) = no_text (status.Illegal index BAD_ITEM)
+accept_outcome items (judged.Illegal index why) = no_text (status.Illegal index why)
 
 -- the items are the certificate of a legal journal, or the first that isn't good; or the verdict
 pub record IsAnswered (c : List HopWhy) (s : SessionView) (j : Journal) (outcome : Outcome) : Type 0 where
   pub judged : Judged
   pub accepts : Accepts (setup_of s) j.entries j.tail c judged
-  pub is : outcome ≡ answered (length c) judged
+  pub is : outcome ≡ accept_outcome (length c) judged
 
 -- what comes of what a text says as a certificate: the answer, or its first fault, in the first column
 abbrev pub ComesOfCert : Result (List HopWhy) ℕ → SessionView → Journal → Outcome → Type 0

@@ -2,15 +2,15 @@
 -- docs/JOURNAL.md.
 use Rattle.std.specs.Prelude.{◌≡◌, ◌⊎◌, ℕ, ◌≤◌, List, [], ◌∷◌, ◌++◌, codes, length}
 use Rattle.vt_journal.specs.Says.{HasFirst}
-use Rattle.vt_tool.specs.declared.commands.cut.Mark.{Mark}
-use Rattle.vt_tool.specs.declared.commands.cut.Mark.TheVariants as mark
+use Rattle.vt_tool.specs.declared.commands.cut.CutMark.{CutMark}
+use Rattle.vt_tool.specs.declared.commands.cut.CutMark.TheVariants as mark
 
 -- a certificate begins with this word
 abbrev pub cert_mark : List ℕ
 cert_mark = codes "%explain "
 
 -- a text begins with the mark: that of a journal is its first line, whole, of either version
-abbrev pub HasMark : Mark → List ℕ → Type 0
+abbrev pub HasMark : CutMark → List ℕ → Type 0
 HasMark mark.Journal text = (version : ℕ) × HasFirst version text
 HasMark mark.Certificate text = (rest : List ℕ) × (text ≡ cert_mark ++ rest)
 
@@ -19,22 +19,22 @@ abbrev pub BeginsLine : List ℕ → Type 0
 BeginsLine text = (text ≡ []) ⊎ ((before : List ℕ) × (text ≡ before ++ 0x0A ∷ []))
 
 -- the input is this text, and what follows, which begins a line, and that with the mark
-pub record IsMarked (what : Mark) (input text after : List ℕ) : Type 0 where
+pub record IsMarked (what : CutMark) (input text after : List ℕ) : Type 0 where
   pub parts : input ≡ text ++ after
   pub line : BeginsLine text
   pub first : HasMark what after
 
 -- the input is cut before the first such line
-pub record IsCutFirst (what : Mark) (input text after : List ℕ) : Type 0 where
+pub record IsCutFirst (what : CutMark) (input text after : List ℕ) : Type 0 where
   pub has : IsMarked what input text after
   pub first : (front back : List ℕ) → IsMarked what input front back → length text ≤ length front
 
 -- it has no such line, and so nothing after a text
-pub record IsUncut (what : Mark) (input text after : List ℕ) : Type 0 where
+pub record IsUncut (what : CutMark) (input text after : List ℕ) : Type 0 where
   pub none : (front back : List ℕ) → ¬ IsMarked what input front back
   pub all : text ≡ input
   pub nothing : after ≡ []
 
 -- the text before the first line with the mark, and what follows from there
-abbrev pub IsCut : Mark → List ℕ → List ℕ → List ℕ → Type 0
+abbrev pub IsCut : CutMark → List ℕ → List ℕ → List ℕ → Type 0
 IsCut what input text after = IsCutFirst what input text after ⊎ IsUncut what input text after

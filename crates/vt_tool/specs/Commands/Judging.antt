@@ -14,23 +14,23 @@ use Rattle.vt_tool.specs.Commands.Review.{IsEar, IsReviewed, ear_of}
 use Rattle.vt_tool.specs.Commands.Session.{GivesSessionFault}
 use Rattle.vt_tool.specs.Commands.Judged.{no_text}
 use Rattle.vt_tool.specs.Outcome.{Outcome}
-use Rattle.vt_tool.specs.declared.commands.asked.Asked.{Asked}
-use Rattle.vt_tool.specs.declared.commands.asked.Asked.TheVariants.{Verdict, Review, Explanation, Acceptance}
-use Rattle.vt_tool.specs.declared.commands.cut.Mark.TheVariants as mark
+use Rattle.vt_tool.specs.declared.commands.judge_request.JudgeRequest.{JudgeRequest}
+use Rattle.vt_tool.specs.declared.commands.judge_request.JudgeRequest.TheVariants.{Verdict, Review, Explanation, Acceptance}
+use Rattle.vt_tool.specs.declared.commands.cut.CutMark.TheVariants as mark
 use Rattle.vt_tool.specs.declared.status.Status.TheVariants as status
 
 -- the numbers that are asked with are in their ranges
-abbrev pub IsFitAsked : Asked → Type 0
+abbrev pub IsFitAsked : JudgeRequest → Type 0
 IsFitAsked (Review kinds console) = IsEar kinds console
 IsFitAsked other = ⊤
 
 -- what is after the session is the journal; and a certificate after it, where that is asked about
-abbrev pub IsParted : Asked → List ℕ → List ℕ → List ℕ → Type 0
+abbrev pub IsParted : JudgeRequest → List ℕ → List ℕ → List ℕ → Type 0
 IsParted Acceptance behind journal cert = IsCut mark.Certificate behind journal cert
 IsParted other behind journal cert = (journal ≡ behind) × (cert ≡ [])
 
 -- what is made of the journal and of a certificate's text
-abbrev pub MakesOf : Asked → List ℕ → SessionView → Journal → Outcome → Type 0
+abbrev pub MakesOf : JudgeRequest → List ℕ → SessionView → Journal → Outcome → Type 0
 MakesOf Verdict cert s j outcome = IsJudged s j outcome
 MakesOf (Review kinds console) cert s j outcome = IsReviewed (ear_of kinds console) s j outcome
 MakesOf Explanation cert s j outcome = IsExplained s j outcome
@@ -41,13 +41,13 @@ abbrev pub column_of : ℕ → ℕ
 column_of line = if line == 0 then 0 else 1
 
 -- what comes of what a text says as a journal: what is made of it, or its first fault
-abbrev pub ComesOf : Asked → List ℕ → SessionView → Result Journal JFault → Outcome → Type 0
+abbrev pub ComesOf : JudgeRequest → List ℕ → SessionView → Result Journal JFault → Outcome → Type 0
 ComesOf asked cert s (Ok j) outcome = MakesOf asked cert s j outcome
 ComesOf asked cert s (Err fault) outcome =
     outcome ≡ no_text (status.Refused fault.kind fault.line (column_of fault.line))
 
 -- what comes of the text after a session, whose journal is read first
-pub record IsReadAs (asked : Asked) (s : SessionView) (behind : List ℕ) (outcome : Outcome) : Type 0 where
+pub record IsReadAs (asked : JudgeRequest) (s : SessionView) (behind : List ℕ) (outcome : Outcome) : Type 0 where
   pub journal : List ℕ
   pub cert : List ℕ
   pub parted : IsParted asked behind journal cert
@@ -56,7 +56,7 @@ pub record IsReadAs (asked : Asked) (s : SessionView) (behind : List ℕ) (outco
   pub comes : ComesOf asked cert s read outcome
 
 -- the input has a session, and what is after it is read
-pub record GivesMade (asked : Asked) (input : List ℕ) (outcome : Outcome) : Type 0 where
+pub record GivesMade (asked : JudgeRequest) (input : List ℕ) (outcome : Outcome) : Type 0 where
   pub text : List ℕ
   pub behind : List ℕ
   pub cut : IsCut mark.Journal input text behind
@@ -74,10 +74,10 @@ pub record GivesFaultBefore (input : List ℕ) (outcome : Outcome) : Type 0 wher
   pub refused : GivesSessionFault text outcome
 
 -- what the command gives that asks this
-abbrev pub GivesAsked : Asked → List ℕ → Outcome → Type 0
+abbrev pub GivesAsked : JudgeRequest → List ℕ → Outcome → Type 0
 GivesAsked asked input outcome = GivesMade asked input outcome ⊎ GivesFaultBefore input outcome
 
 -- it gives one outcome for an input
-abbrev pub OneOutcomeOf : Asked → Type 0
+abbrev pub OneOutcomeOf : JudgeRequest → Type 0
 OneOutcomeOf asked =
     (input : List ℕ) (a b : Outcome) → GivesAsked asked input a → GivesAsked asked input b → a ≡ b

@@ -5,7 +5,7 @@ use Rattle.key_machine.specs.Keys.{Keys, State}
 use Rattle.key_tables.specs.Tables.{Tables}
 use Rattle.scan_codes.specs.Laws.{events, rest}
 use Rattle.scan_codes.specs.Scan.{Scan, scan_of, start_codes}
-use Rattle.vt_tool.specs.Commands.Typing.{TypeTable, after_typing, start_typing, typing}
+use Rattle.vt_tool.specs.Commands.Typing.{TypeTable, after_typing, start_typing, make_typing}
 use Rattle.vt_tool.specs.declared.commands.typing.type_table.TypeTable.{TypeTable as CodeTable}
 
 -- a table that was read is this one
@@ -23,5 +23,5 @@ pub record TypistView : Type 0 where
 pub record HasTyped (tables : Tables) (mode : ℕ) (before : List ℕ) (t : TypistView) : Type 0 where
   pub scanned : t.scanner ≡ scan_of (rest [] before) start_codes
   pub typed :
-      typing t.keys t.state
+      make_typing t.keys t.state
       ≡ after_typing tables (start_typing mode) (events start_codes [] before)

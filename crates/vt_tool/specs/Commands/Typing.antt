@@ -61,29 +61,29 @@ pub record Typing : Type 0 where
   pub keys : Keys
   pub state : State
 
-abbrev pub typing : Keys → State → Typing
-typing keys state = record { keys = keys; state = state }
+abbrev pub make_typing : Keys → State → Typing
+make_typing keys state = record { keys = keys; state = state }
 
 -- at first no key is down, and the state is that of a start but for the mode
 abbrev pub start_typing : ℕ → Typing
-start_typing mode = typing start_keys (record start_state { mode = mode })
+start_typing mode = make_typing start_keys (record start_state { mode = mode })
 
 -- a key event
-abbrev pub typed : Tables → Typing → KeyEvent → Step
-typed tables t e = key_step tables start_modes 0 e t.keys t.state
+abbrev pub typing_step : Tables → Typing → KeyEvent → Step
+typing_step tables t e = key_step tables start_modes 0 e t.keys t.state
 
 abbrev pub typed_on : Step → Typing
-typed_on s = typing s.keys s.state
+typed_on s = make_typing s.keys s.state
 
 -- the keyboard and the state after key events
 abbrev pub after_typing : Tables → Typing → List KeyEvent → Typing
 after_typing tables t [] = t
-after_typing tables t (e ∷ more) = after_typing tables (typed_on (typed tables t e)) more
+after_typing tables t (e ∷ more) = after_typing tables (typed_on (typing_step tables t e)) more
 
 -- what a key event says, where there is one
 abbrev pub said_by : Tables → Typing → Option KeyEvent → KeyOut
 said_by tables t None = Nothing
-said_by tables t (Some e) = (typed tables t e).out
+said_by tables t (Some e) = (typing_step tables t e).out
 
 -- what a scan byte says after the bytes before it: the keys of these are typed, and then the key
 -- that it ends, if it ends one

@@ -2,7 +2,7 @@
 ghost use Rattle.std.specs.Prelude.{◌≡◌, ◌∷◌, [], codes, decimal, IfOk, IsTrue};
 ghost use Rattle.vt_journal.specs.Journal.{line_text};
 ghost use Rattle.vt_tool.specs.Commands.Accept.{IsAccepted, IsAnswered};
-ghost use Rattle.vt_tool.specs.Status.{is_own};
+ghost use Rattle.vt_tool.specs.Status.{is_command_status};
 
 use crate::answer::Answer;
 use crate::commands::lines::add_number;
@@ -20,7 +20,7 @@ const BAD_CERT: u16 = 45;
 const BAD_ITEM: u8 = 6;
 
 /// Whether the text is the journal's certificate, or the text's first fault.
-pub fn answer(
+pub(crate) fn answer(
     alloc: Global,
     session: &Session,
     journal: &Journal,
@@ -28,7 +28,7 @@ pub fn answer(
 ) -> Result<Answer, NoMemory>
     ensures accepted { IfOk result (λ answer. IsAccepted cert.now session.now journal.now
         (record { status = answer.status; text = answer.text.bytes })) }
-    ensures own { IfOk result (λ answer. IsTrue (is_own answer.status)) }
+    ensures own { IfOk result (λ answer. IsTrue (is_command_status answer.status)) }
 {
     if cert.is_empty() {
         return Ok(Answer::refused(alloc, BAD_CERT, 0, 0));
@@ -49,7 +49,7 @@ fn answer_items(
 ) -> Result<Answer, NoMemory>
     ensures answered { IfOk result (λ answer. IsAnswered items.now session.now journal.now
         (record { status = answer.status; text = answer.text.bytes })) }
-    ensures own { IfOk result (λ answer. IsTrue (is_own answer.status)) }
+    ensures own { IfOk result (λ answer. IsTrue (is_command_status answer.status)) }
 {
     match accept(alloc, session, journal, items)? {
         Judged::Yes => answer_yes(alloc, items.len()),

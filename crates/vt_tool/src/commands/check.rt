@@ -2,7 +2,7 @@
 ghost use Rattle.std.specs.Prelude.{◌≡◌, IfOk, IsTrue};
 ghost use Rattle.vt_tool.specs.Commands.Check.{IsJudged, legal_text};
 ghost use Rattle.vt_tool.specs.Commands.Judged.{judged_text};
-ghost use Rattle.vt_tool.specs.Status.{is_own};
+ghost use Rattle.vt_tool.specs.Status.{is_command_status};
 
 use crate::answer::Answer;
 use crate::commands::lines::add_number;
@@ -15,10 +15,14 @@ use vt_journal::Journal;
 use vt_world::displays_are_lawful;
 
 /// The verdict on the journal.
-pub fn answer(alloc: Global, session: &Session, journal: &Journal) -> Result<Answer, NoMemory>
+pub(crate) fn answer(
+    alloc: Global,
+    session: &Session,
+    journal: &Journal,
+) -> Result<Answer, NoMemory>
     ensures judged { IfOk result (λ answer. IsJudged session.now journal.now
         (record { status = answer.status; text = answer.text.bytes })) }
-    ensures own { IfOk result (λ answer. IsTrue (is_own answer.status)) }
+    ensures own { IfOk result (λ answer. IsTrue (is_command_status answer.status)) }
 {
     displays_are_lawful();
     let _config = session.config();
@@ -31,7 +35,7 @@ fn answer_told(alloc: Global, verdict: Verdict, entries: usize) -> Result<Answer
     ensures told { IfOk result (λ answer.
         record { status = answer.status; text = answer.text.bytes }
         ≡ judged_text (legal_text entries) verdict) }
-    ensures own { IfOk result (λ answer. IsTrue (is_own answer.status)) }
+    ensures own { IfOk result (λ answer. IsTrue (is_command_status answer.status)) }
 {
     match verdict {
         Verdict::Legal => answer_legal(alloc, entries),

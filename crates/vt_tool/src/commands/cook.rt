@@ -3,7 +3,7 @@ ghost use Rattle.std.specs.Prelude.{◌≡◌, ◌++◌, IfOk, IsTrue, OnOk};
 ghost use Rattle.std.specs.List.{flat_map};
 ghost use Rattle.cooked.specs.Given.{items_of};
 ghost use Rattle.vt_tool.specs.Commands.Cook.{bytes_line, cook_text, item_line};
-ghost use Rattle.vt_tool.specs.Status.{is_own};
+ghost use Rattle.vt_tool.specs.Status.{is_command_status};
 
 use crate::answer::Answer;
 use crate::commands::lines::add_number;
@@ -14,10 +14,10 @@ use vt_base::{Bytes, NoMemory};
 use vt_journal::{add, add_hex};
 
 /// A line for each item that the input gives, one for what is kept, and one for the echo.
-pub fn answer(alloc: Global, input: &[u8]) -> Result<Answer, NoMemory>
+pub(crate) fn answer(alloc: Global, input: &[u8]) -> Result<Answer, NoMemory>
     ensures status { IfOk result (λ answer. answer.status ≡ Status.Fine) }
     ensures text { IfOk result (λ answer. answer.text.bytes ≡ cook_text input.now) }
-    ensures own { IfOk result (λ answer. IsTrue (is_own answer.status)) }
+    ensures own { IfOk result (λ answer. IsTrue (is_command_status answer.status)) }
 {
     Ok(Answer::fine(cook(alloc, input)?))
 }

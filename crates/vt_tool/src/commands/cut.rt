@@ -8,7 +8,7 @@ const CERT_MARK: &[u8] = b"%explain ";
 
 /// What a line begins with before which an input is cut.
 #[derive(Clone, Copy)]
-pub enum Mark {
+pub(crate) enum CutMark {
     /// The first line of a journal (docs/JOURNAL.md).
     Journal,
     /// The word of a certificate.
@@ -17,7 +17,7 @@ pub enum Mark {
 
 /// An input, cut before the first of its lines that begins with a mark.
 #[derive(Clone, Copy)]
-pub struct Parts<'a> {
+pub(crate) struct CutInput<'a> {
     /// The text before that line.
     pub text: &'a [u8],
     /// The text from there on; empty where the input has no such line.
@@ -25,25 +25,25 @@ pub struct Parts<'a> {
 }
 
 /// The input, cut before the first of its lines that begins with the mark.
-pub fn cut(mark: Mark, input: &[u8]) -> Parts<'_>
+pub(crate) fn cut(mark: CutMark, input: &[u8]) -> CutInput<'_>
     ensures { IsCut mark input.now result.text.now result.after.now }
 {
     for at in 0..input.len() {
         if has_mark_at(mark, input, at) {
-            return Parts {
+            return CutInput {
                 text: &input[..at],
                 after: &input[at..],
             };
         }
     }
-    Parts {
+    CutInput {
         text: input,
         after: &[],
     }
 }
 
 // A line that begins with the mark begins at this place.
-fn has_mark_at(mark: Mark, input: &[u8], at: usize) -> bool
+fn has_mark_at(mark: CutMark, input: &[u8], at: usize) -> bool
     requires { at ≤ length input.now }
     ensures yes { result ≡ true → IsMarked mark input.now (take at input.now) (drop at input.now) }
     ensures no { result ≡ false
@@ -60,12 +60,12 @@ fn begins_line(text: &[u8]) -> bool
     text.is_empty() || text.ends_with(b"\n".as_slice())
 }
 
-fn has_mark(mark: Mark, text: &[u8]) -> bool
+fn has_mark(mark: CutMark, text: &[u8]) -> bool
     ensures yes { result ≡ true → HasMark mark text.now }
     ensures no { result ≡ false → ¬ HasMark mark text.now }
 {
     match mark {
-        Mark::Journal => version_of(text).is_some(),
-        Mark::Certificate => text.starts_with(CERT_MARK),
+        CutMark::Journal => version_of(text).is_some(),
+        CutMark::Certificate => text.starts_with(CERT_MARK),
     }
 }

@@ -1,7 +1,7 @@
 //! `drill N SEED`: five numbers of the serial play of a session that is made from a number.
 ghost use Rattle.std.specs.Prelude.{◌≡◌, ◌≤◌, IfOk, IsTrue};
 ghost use Rattle.vt_tool.specs.Commands.Drill.{GivesDrill, drill_text, dropped_in};
-ghost use Rattle.vt_tool.specs.Status.{is_own};
+ghost use Rattle.vt_tool.specs.Status.{is_command_status};
 
 use crate::answer::Answer;
 use crate::commands::lines::add_number;
@@ -12,12 +12,12 @@ use vt_base::{Bytes, ConsoleNo, NoMemory};
 use vt_world::World;
 
 /// The numbers of the session's serial play.
-pub fn answer(alloc: Global, n: u32, seed: u64) -> Result<Answer, NoMemory>
+pub(crate) fn answer(alloc: Global, n: u32, seed: u64) -> Result<Answer, NoMemory>
     requires some { 1 ≤ n }
     requires few { n ≤ 10_000 }
     ensures gives { IfOk result (λ answer. GivesDrill n seed
         (record { status = answer.status; text = answer.text.bytes })) }
-    ensures own { IfOk result (λ answer. IsTrue (is_own answer.status)) }
+    ensures own { IfOk result (λ answer. IsTrue (is_command_status answer.status)) }
 {
     let session = drill_session(alloc, n, seed)?;
     let run = play(alloc, &session)?;

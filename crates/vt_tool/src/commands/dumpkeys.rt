@@ -5,7 +5,7 @@ ghost use Rattle.key_dump.specs.Dump.{dump_of};
 ghost use Rattle.key_dump.specs.ReadsBack.{ReadsAs};
 ghost use Rattle.vt_tool.specs.Commands.Dump.{GivesDump};
 ghost use Rattle.vt_tool.specs.Commands.Keys.{GivesKeyFault};
-ghost use Rattle.vt_tool.specs.Status.{is_own};
+ghost use Rattle.vt_tool.specs.Status.{is_command_status};
 
 use crate::answer::Answer;
 use crate::commands::keys::{answer_refused, tables_in};
@@ -17,11 +17,11 @@ use std::alloc::Global;
 use vt_base::NoMemory;
 
 /// The dump of the tables of the keymap text, or its first fault.
-pub fn answer(alloc: Global, input: &[u8]) -> Result<Answer, NoMemory>
+pub(crate) fn answer(alloc: Global, input: &[u8]) -> Result<Answer, NoMemory>
     ensures gives { IfOk result (λ answer.
         GivesDump input.now (record { status = answer.status; text = answer.text.bytes })
         ⊎ GivesKeyFault input.now (record { status = answer.status; text = answer.text.bytes })) }
-    ensures own { IfOk result (λ answer. IsTrue (is_own answer.status)) }
+    ensures own { IfOk result (λ answer. IsTrue (is_command_status answer.status)) }
 {
     match tables_in(alloc, input) {
         Ok(tables) => answer_dumped(alloc, &tables),

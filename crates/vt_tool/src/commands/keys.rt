@@ -3,7 +3,7 @@ ghost use Rattle.std.specs.Prelude.{◌≡◌, ◌⊎◌, [], IfOk, IsTrue};
 ghost use Rattle.key_compile.specs.Dumpable.{is_dumpable};
 ghost use Rattle.key_tables.specs.Listing.{listing_of};
 ghost use Rattle.vt_tool.specs.Commands.Keys.{GivesKeyFault, GivesListing, ReadsKeymap};
-ghost use Rattle.vt_tool.specs.Status.{is_own};
+ghost use Rattle.vt_tool.specs.Status.{is_command_status};
 
 use crate::answer::Answer;
 use crate::status::Status;
@@ -14,11 +14,11 @@ use std::alloc::Global;
 use vt_base::NoMemory;
 
 /// The listing of the tables of the keymap text, or its first fault.
-pub fn answer(alloc: Global, input: &[u8]) -> Result<Answer, NoMemory>
+pub(crate) fn answer(alloc: Global, input: &[u8]) -> Result<Answer, NoMemory>
     ensures gives { IfOk result (λ answer.
         GivesListing input.now (record { status = answer.status; text = answer.text.bytes })
         ⊎ GivesKeyFault input.now (record { status = answer.status; text = answer.text.bytes })) }
-    ensures own { IfOk result (λ answer. IsTrue (is_own answer.status)) }
+    ensures own { IfOk result (λ answer. IsTrue (is_command_status answer.status)) }
 {
     match tables_in(alloc, input) {
         Ok(tables) => answer_listed(alloc, &tables),
@@ -28,7 +28,7 @@ pub fn answer(alloc: Global, input: &[u8]) -> Result<Answer, NoMemory>
 }
 
 /// The tables of the keymap text, or its first fault.
-pub fn tables_in(alloc: Global, input: &[u8]) -> Result<KeyTables, KeyError>
+pub(crate) fn tables_in(alloc: Global, input: &[u8]) -> Result<KeyTables, KeyError>
     ensures read { ReadsKeymap input.now result }
     ensures dumpable { IfOk result (λ tables. IsTrue (is_dumpable tables)) }
 {
@@ -44,7 +44,7 @@ fn answer_listed(alloc: Global, tables: &KeyTables) -> Result<Answer, NoMemory>
 }
 
 /// The answer to a keymap text that is refused at this fault.
-pub fn answer_refused(alloc: Global, fault: KeyFault) -> Answer
+pub(crate) fn answer_refused(alloc: Global, fault: KeyFault) -> Answer
     ensures status { result.status ≡ Status.Refused fault.kind fault.line fault.column }
     ensures text { result.text.bytes ≡ [] }
 {

@@ -7,7 +7,12 @@ use vt_base::{Bytes, NoMemory};
 use vt_journal::{add, add_next};
 
 /// Adds a line of a name and a number.
-pub fn add_number(alloc: Global, text: &mut Bytes, name: &[u8], n: u64) -> Result<(), NoMemory>
+pub(crate) fn add_number(
+    alloc: Global,
+    text: &mut Bytes,
+    name: &[u8],
+    n: u64,
+) -> Result<(), NoMemory>
     ensures { OnOk result (text.new.bytes ≡ text.old.bytes ++ number_line name.now n) }
 {
     add(alloc, text, name)?;

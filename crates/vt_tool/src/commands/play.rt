@@ -2,7 +2,7 @@
 ghost use Rattle.std.specs.Prelude.{◌⊎◌, IfOk, IsTrue};
 ghost use Rattle.vt_tool.specs.Commands.Play.{GivesPlayed, IsPlayed};
 ghost use Rattle.vt_tool.specs.Commands.Session.{GivesSessionFault};
-ghost use Rattle.vt_tool.specs.Status.{is_own};
+ghost use Rattle.vt_tool.specs.Status.{is_command_status};
 
 use crate::answer::{Answer, refused};
 use crate::commands::session::answer_run;
@@ -13,12 +13,12 @@ use table_fields::TableError;
 use vt_base::NoMemory;
 
 /// The journal of the session's serial play, and the console after it; or the session's first fault.
-pub fn answer(alloc: Global, input: &[u8]) -> Result<Answer, NoMemory>
+pub(crate) fn answer(alloc: Global, input: &[u8]) -> Result<Answer, NoMemory>
     ensures gives { IfOk result (λ answer.
         GivesPlayed input.now (record { status = answer.status; text = answer.text.bytes })
         ⊎ GivesSessionFault input.now
         (record { status = answer.status; text = answer.text.bytes })) }
-    ensures own { IfOk result (λ answer. IsTrue (is_own answer.status)) }
+    ensures own { IfOk result (λ answer. IsTrue (is_command_status answer.status)) }
 {
     match read(alloc, input) {
         Ok(session) => answer_played(alloc, &session),
@@ -29,7 +29,7 @@ pub fn answer(alloc: Global, input: &[u8]) -> Result<Answer, NoMemory>
 
 fn answer_played(alloc: Global, session: &Session) -> Result<Answer, NoMemory>
     ensures played { IfOk result (λ answer. IsPlayed session.now answer.status answer.text.bytes) }
-    ensures own { IfOk result (λ answer. IsTrue (is_own answer.status)) }
+    ensures own { IfOk result (λ answer. IsTrue (is_command_status answer.status)) }
 {
     let run = play(alloc, session)?;
     let last = final_text(alloc, &run)?;

@@ -2,7 +2,7 @@
 ghost use Rattle.std.specs.Prelude.{◌⊎◌, IfOk, IsTrue};
 ghost use Rattle.vt_tool.specs.Commands.Race.{GivesRaced, IsRaced};
 ghost use Rattle.vt_tool.specs.Commands.Session.{GivesSessionFault};
-ghost use Rattle.vt_tool.specs.Status.{is_own};
+ghost use Rattle.vt_tool.specs.Status.{is_command_status};
 
 use crate::answer::{Answer, refused};
 use crate::commands::session::answer_run;
@@ -17,7 +17,7 @@ use vt_io::Gate;
 
 /// The journal of the run that the session's callers made, and the console after it; or the session's
 /// first fault.
-pub fn answer<G: Gate + Sync, R: Threads + Wait + Sync>(
+pub(crate) fn answer<G: Gate + Sync, R: Threads + Wait + Sync>(
     rt: &R,
     alloc: Global,
     input: &[u8],
@@ -27,7 +27,7 @@ pub fn answer<G: Gate + Sync, R: Threads + Wait + Sync>(
         GivesRaced input.now (record { status = answer.status; text = answer.text.bytes })
         ⊎ GivesSessionFault input.now
         (record { status = answer.status; text = answer.text.bytes })) }
-    ensures own { IfOk result (λ answer. IsTrue (is_own answer.status)) }
+    ensures own { IfOk result (λ answer. IsTrue (is_command_status answer.status)) }
 {
     match read(alloc, input) {
         Ok(session) => answer_raced(rt, alloc, &session, gate),
@@ -43,7 +43,7 @@ fn answer_raced<G: Gate + Sync, R: Threads + Wait + Sync>(
     gate: &G,
 ) -> Result<Answer, NoMemory>
     ensures raced { IfOk result (λ answer. IsRaced session.now answer.status answer.text.bytes) }
-    ensures own { IfOk result (λ answer. IsTrue (is_own answer.status)) }
+    ensures own { IfOk result (λ answer. IsTrue (is_command_status answer.status)) }
 {
     let run = race_tables(rt, alloc, session, gate)?;
     let last = final_text_map(rt, alloc, &run)?;

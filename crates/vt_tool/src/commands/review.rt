@@ -1,7 +1,7 @@
 //! `review K N`: what one ear is told of the journal after a session.
 ghost use Rattle.std.specs.Prelude.{◌≡◌, ◌≤◌, ◌-◌, ◌^◌, ◌==◌, [], ◌∷◌, if◌then◌else◌, IfOk, IsTrue};
 ghost use Rattle.vt_tool.specs.Commands.Review.{IsReviewed, ear_of};
-ghost use Rattle.vt_tool.specs.Status.{is_own};
+ghost use Rattle.vt_tool.specs.Status.{is_command_status};
 
 use crate::answer::Answer;
 use session_text::Session;
@@ -11,7 +11,7 @@ use vt_journal::Journal;
 use vt_review::{Ear, EarTable, Listener, Notice, Reviewed, review};
 
 /// What an ear of these kinds and this console is told of the journal.
-pub fn answer(
+pub(crate) fn answer(
     alloc: Global,
     kinds: u8,
     console: u8,
@@ -22,7 +22,7 @@ pub fn answer(
     ensures reviewed { IfOk result (λ answer.
         IsReviewed (ear_of kinds console) session.now journal.now
         (record { status = answer.status; text = answer.text.bytes })) }
-    ensures own { IfOk result (λ answer. IsTrue (is_own answer.status)) }
+    ensures own { IfOk result (λ answer. IsTrue (is_command_status answer.status)) }
 {
     let table = EarTable {
         kinds,
@@ -48,7 +48,7 @@ fn answer_by<F: Listener>(
     requires { F.hears f table }
     ensures reviewed { IfOk result (λ answer. IsReviewed table session.now journal.now
         (record { status = answer.status; text = answer.text.bytes })) }
-    ensures own { IfOk result (λ answer. IsTrue (is_own answer.status)) }
+    ensures own { IfOk result (λ answer. IsTrue (is_command_status answer.status)) }
 {
     let ears = one_ear(alloc, f, table)?;
     match review(alloc, session, journal, ears.as_slice())? {

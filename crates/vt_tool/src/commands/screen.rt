@@ -1,7 +1,7 @@
 //! `screen R C`: the rows of a screen after the input.
 ghost use Rattle.std.specs.Prelude.{◌≡◌, IfOk, IsTrue};
 ghost use Rattle.vt_dump.specs.Rows.{rows_text};
-ghost use Rattle.vt_tool.specs.Status.{is_own};
+ghost use Rattle.vt_tool.specs.Status.{is_command_status};
 ghost use Rattle.vt_tool.specs.Streaming.{GivesScreen};
 
 use crate::answer::Answer;
@@ -20,7 +20,7 @@ const PIECE_BYTES: usize = 4_096;
 
 /// Draws what the source gives on a blank screen of this size, or gives the status that comes in its
 /// place.
-pub fn draw<S: Source>(alloc: Global, size: Size, src: &mut S) -> Result<Emu, Status>
+pub(crate) fn draw<S: Source>(alloc: Global, size: Size, src: &mut S) -> Result<Emu, Status>
     ensures { GivesScreen size.rows size.cols
         (record { told = S.left src.old; faults = S.faults src.old })
         (record { told = S.left src.new; faults = S.faults src.new }) result }
@@ -38,10 +38,10 @@ pub fn draw<S: Source>(alloc: Global, size: Size, src: &mut S) -> Result<Emu, St
 }
 
 /// The rows of the screen.
-pub fn answer(alloc: Global, emu: &Emu) -> Result<Answer, NoMemory>
+pub(crate) fn answer(alloc: Global, emu: &Emu) -> Result<Answer, NoMemory>
     ensures status { IfOk result (λ answer. answer.status ≡ Status.Fine) }
     ensures text { IfOk result (λ answer. answer.text.bytes ≡ rows_text emu.now.state.grid.cells) }
-    ensures own { IfOk result (λ answer. IsTrue (is_own answer.status)) }
+    ensures own { IfOk result (λ answer. IsTrue (is_command_status answer.status)) }
 {
     Ok(Answer::fine(text_rows(alloc, emu.grid())?))
 }

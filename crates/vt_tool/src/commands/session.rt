@@ -3,7 +3,7 @@ ghost use Rattle.std.specs.Prelude.{◌≡◌, ◌++◌, IfOk, IsTrue};
 ghost use Rattle.vt_journal.specs.Journal.{journal_text};
 ghost use Rattle.vt_journal.specs.Room.{tail_at};
 ghost use Rattle.vt_tool.specs.Commands.Session.{status_of};
-ghost use Rattle.vt_tool.specs.Status.{is_own};
+ghost use Rattle.vt_tool.specs.Status.{is_command_status};
 
 use crate::answer::Answer;
 use crate::status::Status;
@@ -13,13 +13,13 @@ use vt_base::{Bytes, NoMemory};
 use vt_journal::{Tail, add, print};
 
 /// The journal of the run, and the text of the console after it.
-pub fn answer_run(alloc: Global, run: &Run, last: &[u8]) -> Result<Answer, NoMemory>
+pub(crate) fn answer_run(alloc: Global, run: &Run, last: &[u8]) -> Result<Answer, NoMemory>
     ensures status { IfOk result (λ answer. answer.status
         ≡ status_of (tail_at run.now.log.entries run.now.stop)) }
     ensures text { IfOk result (λ answer. answer.text.bytes
         ≡ journal_text 2 run.now.log.entries (tail_at run.now.log.entries run.now.stop)
         ++ last.now) }
-    ensures own { IfOk result (λ answer. IsTrue (is_own answer.status)) }
+    ensures own { IfOk result (λ answer. IsTrue (is_command_status answer.status)) }
 {
     let end = run.tail();
     let mut text = Bytes::new(alloc);
@@ -32,9 +32,9 @@ pub fn answer_run(alloc: Global, run: &Run, last: &[u8]) -> Result<Answer, NoMem
 }
 
 /// Fine where all programs are over, and JournalFull where a call found no room.
-pub fn status_of(end: &Tail) -> Status
+pub(crate) fn status_of(end: &Tail) -> Status
     ensures status { result ≡ status_of end.now }
-    ensures own { IsTrue (is_own result) }
+    ensures own { IsTrue (is_command_status result) }
 {
     match end {
         Tail::End { .. } => Status::Fine,

@@ -1,7 +1,7 @@
 //! `type`: the keys that a table types, and what they say.
 ghost use Rattle.std.specs.Prelude.{◌≡◌, ◌≤◌, ◌⊎◌, IfOk, IsTrue};
 ghost use Rattle.vt_tool.specs.Commands.Typing.{GivesTableFault, GivesTyped, typed_text};
-ghost use Rattle.vt_tool.specs.Status.{is_own};
+ghost use Rattle.vt_tool.specs.Status.{is_command_status};
 
 mod lines;
 mod type_table;
@@ -16,11 +16,11 @@ use table_fields::TableError;
 use vt_base::{Bytes, NoMemory};
 
 /// A line for each scan byte of the table, or the table's first fault.
-pub fn answer(alloc: Global, input: &[u8]) -> Result<Answer, NoMemory>
+pub(crate) fn answer(alloc: Global, input: &[u8]) -> Result<Answer, NoMemory>
     ensures gives { IfOk result (λ answer.
         GivesTyped input.now (record { status = answer.status; text = answer.text.bytes })
         ⊎ GivesTableFault input.now (record { status = answer.status; text = answer.text.bytes })) }
-    ensures own { IfOk result (λ answer. IsTrue (is_own answer.status)) }
+    ensures own { IfOk result (λ answer. IsTrue (is_command_status answer.status)) }
 {
     match read_type_table(alloc, input) {
         Ok(table) => answer_typed(alloc, &table),

@@ -3,7 +3,7 @@ ghost use Rattle.std.specs.Prelude.{◌≡◌, true, false, IfOk, IsTrue};
 ghost use Rattle.vt_journal.specs.Journal.{journal_text};
 ghost use Rattle.vt_journal.specs.Says.{HasFirst};
 ghost use Rattle.vt_tool.specs.Commands.Upgrade.{GivesUpgraded};
-ghost use Rattle.vt_tool.specs.Status.{is_own};
+ghost use Rattle.vt_tool.specs.Status.{is_command_status};
 
 use crate::answer::Answer;
 use crate::commands::judging::answer_refused;
@@ -16,10 +16,10 @@ use vt_journal::{JError, Journal, parse, print, version_of};
 const NO_FIRST: u16 = 40;
 
 /// The journal in version 2, or its first fault: a journal of version 2 has no first line here.
-pub fn answer(alloc: Global, input: &[u8]) -> Result<Answer, NoMemory>
+pub(crate) fn answer(alloc: Global, input: &[u8]) -> Result<Answer, NoMemory>
     ensures gives { IfOk result (λ answer. GivesUpgraded input.now
         (record { status = answer.status; text = answer.text.bytes })) }
-    ensures own { IfOk result (λ answer. IsTrue (is_own answer.status)) }
+    ensures own { IfOk result (λ answer. IsTrue (is_command_status answer.status)) }
 {
     if is_newer(input) {
         return Ok(Answer::refused(alloc, NO_FIRST, 0, 0));

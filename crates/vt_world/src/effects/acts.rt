@@ -2,10 +2,10 @@
 ghost use Rattle.std.specs.Prelude.{◌≡◌, ◌+◌, ◌≤◌, true, length};
 ghost use Rattle.vt_procs.specs.Callers.{is_live};
 ghost use Rattle.vt_switch.specs.Acts.{End, Lock, Release, Request, SetKd, SetMode};
-ghost use Rattle.vt_switch.specs.Calls.{handling_of, mode_answer, released};
+ghost use Rattle.vt_switch.specs.Calls.{handling_of, mode_answer, release_result};
 ghost use Rattle.vt_switch.specs.Moments.{hop_marks};
-ghost use Rattle.vt_world.specs.Deeds.{By, done};
-ghost use Rattle.vt_world.specs.Heard.{tell};
+ghost use Rattle.vt_world.specs.Deeds.{By, apply_deed};
+ghost use Rattle.vt_world.specs.Heard.{apply_marks};
 ghost use Rattle.vt_world.specs.State.{core};
 ghost use Rattle.vt_world.specs.Refusals.{is_taken};
 
@@ -18,7 +18,7 @@ impl World {
     /// Requests the display for the console, if that is allocated.
     pub(crate) fn request(&mut self, n: ConsoleNo)
         requires { length self.old.trace.marks + 3 ≤ MOST_MARKS }
-        ensures state { self.new ≡ done self.old (By (Request n)) }
+        ensures state { self.new ≡ apply_deed self.old (By (Request n)) }
         ensures room { length self.new.trace.marks ≤ length self.old.trace.marks + 3 }
     {
         each_target_was_asked_for();
@@ -38,8 +38,8 @@ impl World {
     /// The answer of `p` for the console, and whether it makes sense.
     pub(crate) fn release_console(&mut self, c: ConsoleNo, p: CallerNo, arg: u16) -> bool
         requires { length self.old.trace.marks + 2 ≤ MOST_MARKS }
-        ensures accepted { result ≡ is_taken (released self.old.display c p arg) }
-        ensures state { self.new ≡ done self.old (By (Release c p arg)) }
+        ensures accepted { result ≡ is_taken (release_result self.old.display c p arg) }
+        ensures state { self.new ≡ apply_deed self.old (By (Release c p arg)) }
     {
         each_target_was_asked_for();
         match self.switch.release(c, p, arg) {
@@ -56,7 +56,7 @@ impl World {
     pub(crate) fn handle(&mut self, c: ConsoleNo, p: CallerNo, m: VtMode) -> bool
         requires { is_live self.old.callers p ≡ true }
         ensures accepted { result ≡ is_taken (mode_answer (handling_of p m)) }
-        ensures state { self.new ≡ done self.old (By (SetMode c p m)) }
+        ensures state { self.new ≡ apply_deed self.old (By (SetMode c p m)) }
     {
         each_target_was_asked_for();
         self.switch.set_mode(c, p, m).is_ok()
@@ -64,7 +64,7 @@ impl World {
 
     /// The console shows graphics, or text.
     pub(crate) fn show(&mut self, c: ConsoleNo, graphics: bool)
-        ensures { self.new ≡ done self.old (By (SetKd c graphics)) }
+        ensures { self.new ≡ apply_deed self.old (By (SetKd c graphics)) }
     {
         each_target_was_asked_for();
         self.switch.set_kd(c, graphics);
@@ -72,7 +72,7 @@ impl World {
 
     /// Whether no request is taken from here on.
     pub(crate) fn lock(&mut self, on: bool)
-        ensures { self.new ≡ done self.old (By (Lock on)) }
+        ensures { self.new ≡ apply_deed self.old (By (Lock on)) }
     {
         each_target_was_asked_for();
         self.switch.set_lock(on);
@@ -81,7 +81,7 @@ impl World {
     /// The end of a caller.
     pub(crate) fn end(&mut self, p: CallerNo)
         requires { length self.old.trace.marks + 3 ≤ MOST_MARKS }
-        ensures state { self.new ≡ done self.old (By (End p)) }
+        ensures state { self.new ≡ apply_deed self.old (By (End p)) }
         ensures room { length self.new.trace.marks ≤ length self.old.trace.marks + 3 }
     {
         each_target_was_asked_for();
@@ -93,7 +93,7 @@ impl World {
     // The display changed hands, if it did.
     fn hopped_if(&mut self, hop: &Option<Hop>)
         requires { length self.old.trace.marks + 2 ≤ MOST_MARKS }
-        ensures state { self.new ≡ tell self.old (hop_marks (core self.old) hop.now) }
+        ensures state { self.new ≡ apply_marks self.old (hop_marks (core self.old) hop.now) }
         ensures room { length self.new.trace.marks ≤ length self.old.trace.marks + 2 }
     {
         if let Some(hop) = hop {

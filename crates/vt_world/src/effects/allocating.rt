@@ -2,8 +2,8 @@
 ghost use Rattle.std.specs.Prelude.{◌≡◌, ◌≤◌, [], false, length, if◌then◌else◌};
 ghost use Rattle.vt_switch.specs.Calls.{is_held, names};
 ghost use Rattle.vt_switch.specs.Display.{is_allocated};
-ghost use Rattle.vt_world.specs.Deeds.{all_done};
-ghost use Rattle.vt_world.specs.Rows.{allocating, disallocating, freeing};
+ghost use Rattle.vt_world.specs.Deeds.{apply_deeds};
+ghost use Rattle.vt_world.specs.Rows.{with_allocation, disallocate_deeds, free_deeds};
 ghost use Rattle.vt_world.specs.Spare.{HasSize, extent};
 ghost use Rattle.vt_world.specs.Refusals.{is_in_use};
 
@@ -17,7 +17,7 @@ impl World {
     pub(crate) fn allocate(&mut self, c: ConsoleNo, grid: &mut Option<Grid>)
         requires { is_allocated self.old.display c ≡ false
             → HasSize (extent self.old.rows self.old.cols) grid.old }
-        ensures { self.new ≡ all_done self.old (allocating c []) }
+        ensures { self.new ≡ apply_deeds self.old (with_allocation c []) }
     {
         each_target_was_asked_for();
         if self.switch.allocated(c) {
@@ -32,7 +32,7 @@ impl World {
 
     /// Frees every console that isn't in use.
     pub(crate) fn free_unused(&mut self)
-        ensures { self.new ≡ all_done self.old (disallocating self.old 0) }
+        ensures { self.new ≡ apply_deeds self.old (disallocate_deeds self.old 0) }
     {
         for n in 1..CONSOLES as u16 + 1 {
             self.free_if_unused(n);
@@ -43,7 +43,7 @@ impl World {
         requires low { 1 ≤ n }
         requires high { n ≤ 63 }
         ensures { self.new ≡ (if is_in_use self.old n then self.old
-            else all_done self.old (freeing n)) }
+            else apply_deeds self.old (free_deeds n)) }
     {
         let c = ConsoleNo::numbered(n);
         if !self.in_use(c) {
@@ -54,7 +54,7 @@ impl World {
     /// Console `c` is allocated no longer, and nothing is left of what it had.
     pub(crate) fn free(&mut self, c: ConsoleNo)
         requires { is_held self.old.display c ≡ false }
-        ensures { self.new ≡ all_done self.old (freeing c) }
+        ensures { self.new ≡ apply_deeds self.old (free_deeds c) }
     {
         each_target_was_asked_for();
         self.switch.free(c);

@@ -1,7 +1,7 @@
 //! What calls change of a console's screen.
 ghost use Rattle.std.specs.Prelude.{◌≡◌};
 ghost use Rattle.vt_screen.specs.Tape.{palette, resize, user_map};
-ghost use Rattle.vt_world.specs.Deeds.{Alters, Own, done};
+ghost use Rattle.vt_world.specs.Deeds.{Alters, Own, apply_deed};
 
 use crate::World;
 use vt_base::ConsoleNo;
@@ -12,21 +12,21 @@ impl World {
     /// The console's screen, if it has one, takes the size of this grid. The grid that it no longer
     /// needs is given back.
     pub(crate) fn resize_screen(&mut self, c: ConsoleNo, grid: Grid) -> Grid
-        ensures { self.new ≡ done self.old (Own (Alters c (resize grid.rows grid.cols))) }
+        ensures { self.new ≡ apply_deed self.old (Own (Alters c (resize grid.rows grid.cols))) }
     {
         self.terminals.resize(c, grid)
     }
 
     /// The console's screen, if it has one, gets this user's table.
     pub(crate) fn set_user(&mut self, c: ConsoleNo, words: &[u16; 256])
-        ensures { self.new ≡ done self.old (Own (Alters c (user_map words.now))) }
+        ensures { self.new ≡ apply_deed self.old (Own (Alters c (user_map words.now))) }
     {
         self.terminals.set_user(c, words);
     }
 
     /// The console's screen, if it has one, gets this palette.
     pub(crate) fn set_colours(&mut self, c: ConsoleNo, colours: Palette)
-        ensures { self.new ≡ done self.old (Own (Alters c (palette colours))) }
+        ensures { self.new ≡ apply_deed self.old (Own (Alters c (palette colours))) }
     {
         self.terminals.set_palette(c, colours);
     }

@@ -2,8 +2,8 @@
 ghost use Rattle.std.specs.Prelude.{◌≡◌, ◌+◌, ◌≤◌, Some, None, find, length, if◌then◌else◌};
 ghost use Rattle.std.specs.List.{range_with_len};
 ghost use Rattle.vt_switch.specs.Display.{is_allocated};
-ghost use Rattle.vt_world.specs.Deeds.{Asks, done};
-ghost use Rattle.vt_world.specs.Wanted.{downwards, falling, upwards, wanted_in};
+ghost use Rattle.vt_world.specs.Deeds.{Asks, apply_deed};
+ghost use Rattle.vt_world.specs.Wanted.{downwards, numbers_down_from, upwards, wanted_in};
 
 use crate::World;
 use crate::trace::MOST_MARKS;
@@ -14,7 +14,7 @@ impl World {
     /// Requests the console that is wanted, if it is one.
     pub(crate) fn ask(&mut self, wanted: Wanted)
         requires { length self.old.trace.marks + 3 ≤ MOST_MARKS }
-        ensures state { self.new ≡ done self.old (Asks wanted) }
+        ensures state { self.new ≡ apply_deed self.old (Asks wanted) }
         ensures room { length self.new.trace.marks ≤ length self.old.trace.marks + 3 }
     {
         if let Some(c) = self.wanted(wanted) {
@@ -75,7 +75,7 @@ impl World {
     fn highest(&self, high: u16, len: u16) -> Option<ConsoleNo>
         requires low { len ≤ high }
         requires high { high ≤ 63 }
-        ensures { result ≡ find (is_allocated self.now.display) (falling high len) }
+        ensures { result ≡ find (is_allocated self.now.display) (numbers_down_from high len) }
     {
         for k in 0..len {
             let c = self.allocated_at(high - k);

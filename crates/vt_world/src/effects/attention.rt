@@ -1,26 +1,26 @@
 //! Signals that are sent, and the attention key.
 ghost use Rattle.std.specs.Prelude.{◌≡◌, ℕ, ◌<◌, ◌≤◌, ◌+◌, [], false, length, slice_index_or, if◌then◌else◌};
-ghost use Rattle.vt_world.specs.Deeds.{By, all_done, done};
+ghost use Rattle.vt_world.specs.Deeds.{By, apply_deeds, apply_deed};
 ghost use Rattle.vt_switch.specs.Acts.{End};
-ghost use Rattle.vt_world.specs.Typing.{attention_deeds, sent, spawn_deeds, uses};
+ghost use Rattle.vt_world.specs.Typing.{attention_deeds, signal_deed, spawn_deeds, uses};
 
 use crate::World;
 use crate::trace::MOST_MARKS;
 use vt_base::{CallerNo, ConsoleNo, PROCESSES, Signal};
 
 /// SIGKILL, which ends its process (signal(7)).
-pub(crate) const KILL: u16 = 9;
+pub(crate) const SIGKILL: u16 = 9;
 
 /// The places for processes by their numbers.
-const PLACES: usize = PROCESSES + 1;
+const PROCESS_PLACES: usize = PROCESSES + 1;
 
 impl World {
     /// A signal is sent.
     pub(crate) fn send(&mut self, p: CallerNo, signal: Signal)
         requires { length self.old.trace.marks + 3 ≤ MOST_MARKS }
-        ensures state { self.new ≡ done self.old (sent p signal) }
+        ensures state { self.new ≡ apply_deed self.old (signal_deed p signal) }
     {
-        if signal.get() == KILL {
+        if signal.get() == SIGKILL {
             self.end(p);
         } else {
             self.raise(p, signal);
@@ -30,7 +30,7 @@ impl World {
     /// The key signal goes to who accepts it.
     pub(crate) fn send_key_signal(&mut self)
         requires { length self.old.trace.marks + 3 ≤ MOST_MARKS }
-        ensures { self.new ≡ all_done self.old (spawn_deeds self.old.callers.accepter) }
+        ensures { self.new ≡ apply_deeds self.old (spawn_deeds self.old.callers.accepter) }
     {
         if let Some((p, signal)) = self.procs.accepter() {
             self.send(p, signal);
@@ -40,10 +40,10 @@ impl World {
     /// The attention key: every process that uses the console ends, and that shows text.
     pub(crate) fn secure_attention(&mut self, n: ConsoleNo)
         requires { self.old.trace.marks ≡ [] }
-        ensures { self.new ≡ all_done self.old (attention_deeds self.old n) }
+        ensures { self.new ≡ apply_deeds self.old (attention_deeds self.old n) }
     {
         let users = self.users(n);
-        for p in 1..PLACES {
+        for p in 1..PROCESS_PLACES {
             self.end_user(p, users[p]);
         }
         self.show(n, false);
@@ -53,7 +53,7 @@ impl World {
     fn end_user(&mut self, p: usize, uses: bool)
         requires number { p ≤ 64 }
         requires room { length self.old.trace.marks + 3 ≤ MOST_MARKS }
-        ensures state { self.new ≡ (if uses then done self.old (By (End p)) else self.old) }
+        ensures state { self.new ≡ (if uses then apply_deed self.old (By (End p)) else self.old) }
         ensures room { length self.new.trace.marks ≤ length self.old.trace.marks + 3 }
     {
         let p = CallerNo::numbered(p as u16);
@@ -63,11 +63,11 @@ impl World {
     }
 
     // Which processes use the console, by their numbers. The keyboard has the first place.
-    fn users(&self, n: ConsoleNo) -> [bool; PLACES]
+    fn users(&self, n: ConsoleNo) -> [bool; PROCESS_PLACES]
         ensures { (p : ℕ) → p < 65 → slice_index_or result p false ≡ uses self.now n p }
     {
-        let mut users = [false; PLACES];
-        for p in 0..PLACES {
+        let mut users = [false; PROCESS_PLACES];
+        for p in 0..PROCESS_PLACES {
             users[p] = self.uses(p, n);
         }
         users

@@ -4,7 +4,7 @@ ghost use Rattle.std.specs.Prelude.{◌≡◌, ◌+◌, ◌<◌, ◌≤◌, leng
 ghost use Rattle.vt_switch.specs.Law.{OwnersLive};
 ghost use Rattle.vt_switch.specs.Moments.{hop_marks, raise};
 ghost use Rattle.vt_switch.specs.declared.mark.Mark.{Mark};
-ghost use Rattle.vt_world.specs.Heard.{heard, tell};
+ghost use Rattle.vt_world.specs.Heard.{apply_mark, apply_marks};
 ghost use Rattle.vt_world.specs.State.{core};
 
 use crate::World;
@@ -16,7 +16,7 @@ impl World {
     /// The display was requested for the console.
     pub(crate) fn hear_asked(&mut self, n: ConsoleNo)
         requires { length self.old.trace.marks < MOST_MARKS }
-        ensures { self.new ≡ heard self.old (Mark.Asked n) }
+        ensures { self.new ≡ apply_mark self.old (Mark.Asked n) }
     {
         self.trace.push(&Mark::Asked(n));
     }
@@ -24,8 +24,8 @@ impl World {
     /// The caller died, which handles the switches of no console.
     pub(crate) fn hear_end(&mut self, p: CallerNo)
         requires room { length self.old.trace.marks < MOST_MARKS }
-        requires owners { OwnersLive (core (heard self.old (Mark.Ended p))) }
-        ensures { self.new ≡ heard self.old (Mark.Ended p) }
+        requires owners { OwnersLive (core (apply_mark self.old (Mark.Ended p))) }
+        ensures { self.new ≡ apply_mark self.old (Mark.Ended p) }
     {
         self.procs.end(p);
         self.trace.push(&Mark::Ended(p));
@@ -34,7 +34,7 @@ impl World {
     /// The display changed hands.
     fn hear_hop(&mut self, hop: &Hop)
         requires { length self.old.trace.marks < MOST_MARKS }
-        ensures { self.new ≡ heard self.old (Mark.Hopped hop.now) }
+        ensures { self.new ≡ apply_mark self.old (Mark.Hopped hop.now) }
     {
         self.procs.shown(hop.to);
         self.trace.push(&Mark::Hopped(*hop));
@@ -43,7 +43,7 @@ impl World {
     /// A signal is raised to a caller, if it lives.
     pub(crate) fn raise(&mut self, p: CallerNo, signal: Signal)
         requires { length self.old.trace.marks < MOST_MARKS }
-        ensures state { self.new ≡ tell self.old (raise (core self.old) p signal) }
+        ensures state { self.new ≡ apply_marks self.old (raise (core self.old) p signal) }
         ensures room { length self.new.trace.marks ≤ length self.old.trace.marks + 1 }
     {
         if self.procs.live(p) {
@@ -55,7 +55,7 @@ impl World {
     /// The display changed hands, and the process that handles the new front is told by its signal.
     pub(crate) fn hopped(&mut self, hop: &Hop)
         requires { length self.old.trace.marks + 2 ≤ MOST_MARKS }
-        ensures state { self.new ≡ tell self.old (hop_marks (core self.old) (Some hop.now)) }
+        ensures state { self.new ≡ apply_marks self.old (hop_marks (core self.old) (Some hop.now)) }
         ensures room { length self.new.trace.marks ≤ length self.old.trace.marks + 2 }
     {
         self.hear_hop(hop);

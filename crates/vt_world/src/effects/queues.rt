@@ -1,6 +1,6 @@
 //! What comes into the queues of consoles.
 ghost use Rattle.std.specs.Prelude.{◌≡◌};
-ghost use Rattle.vt_world.specs.Deeds.{Lights, Own, Puts, done};
+ghost use Rattle.vt_world.specs.Deeds.{Lights, Own, Puts, apply_deed};
 
 use crate::World;
 use vt_base::ConsoleNo;
@@ -9,7 +9,7 @@ impl World {
     /// A piece goes into the console's queue, whole or not at all. Where bytes come, the waits for
     /// them end.
     pub(crate) fn put(&mut self, c: ConsoleNo, piece: &[u8])
-        ensures { self.new ≡ done self.old (Own (Puts c piece.now)) }
+        ensures { self.new ≡ apply_deed self.old (Own (Puts c piece.now)) }
     {
         if self.inputs.put(c, piece) {
             self.procs.filled(c);
@@ -18,7 +18,7 @@ impl World {
 
     /// Sets the console's lights.
     pub(crate) fn light(&mut self, c: ConsoleNo, lights: u8)
-        ensures { self.new ≡ done self.old (Own (Lights c lights)) }
+        ensures { self.new ≡ apply_deed self.old (Own (Lights c lights)) }
     {
         self.inputs.light(c, lights);
     }

@@ -1,6 +1,6 @@
 //! What a scan byte does.
 ghost use Rattle.std.specs.Prelude.{◌≡◌, ◌<◌, []};
-ghost use Rattle.vt_world.specs.Deeds.{all_done};
+ghost use Rattle.vt_world.specs.Deeds.{apply_deeds};
 ghost use Rattle.vt_world.specs.Terminals.{key_modes_of, terminal_at};
 ghost use Rattle.vt_world.specs.Typing.{key_on, key_out_deeds, read_deeds, scan_deeds, typed_deeds};
 
@@ -23,7 +23,7 @@ impl World {
     pub(crate) fn scan_on(&mut self, k: u8, n: ConsoleNo, b: u8)
         requires clear { self.old.trace.marks ≡ [] }
         requires keyboard { k < 4 }
-        ensures { self.new ≡ all_done self.old (scan_deeds self.old k n b) }
+        ensures { self.new ≡ apply_deeds self.old (scan_deeds self.old k n b) }
     {
         if self.inputs.keys(n).mode == mode::RAW {
             self.put(n, &[b]);
@@ -36,7 +36,7 @@ impl World {
     fn read(&mut self, k: u8, n: ConsoleNo, b: u8)
         requires clear { self.old.trace.marks ≡ [] }
         requires keyboard { k < 4 }
-        ensures { self.new ≡ all_done self.old (read_deeds self.old k n b) }
+        ensures { self.new ≡ apply_deeds self.old (read_deeds self.old k n b) }
     {
         if let Some(e) = self.board.read(k, b) {
             self.type_key(k, n, e);
@@ -47,7 +47,7 @@ impl World {
     fn type_key(&mut self, k: u8, n: ConsoleNo, e: KeyEvent)
         requires clear { self.old.trace.marks ≡ [] }
         requires keyboard { k < 4 }
-        ensures { self.new ≡ all_done self.old (typed_deeds self.old n (key_on self.old k n e)) }
+        ensures { self.new ≡ apply_deeds self.old (typed_deeds self.old n (key_on self.old k n e)) }
     {
         let mut keys = self.inputs.keys(n);
         let modes = self.key_modes(n);
@@ -78,7 +78,7 @@ impl World {
     // What a key says; `n` is the console that was in front.
     fn take_key(&mut self, n: ConsoleNo, out: &KeyOut)
         requires { self.old.trace.marks ≡ [] }
-        ensures { self.new ≡ all_done self.old (key_out_deeds self.old n out.now) }
+        ensures { self.new ≡ apply_deeds self.old (key_out_deeds self.old n out.now) }
     {
         match out {
             KeyOut::Bytes(bytes) => self.put(n, bytes.as_slice()),

@@ -2,7 +2,7 @@
 ghost use Rattle.std.specs.Prelude.{◌≡◌, ◌≤◌, ◌+◌, ◌*◌, [], ◌∷◌, length};
 ghost use Rattle.std.specs.List.{flat_map};
 ghost use Rattle.vt_screen.specs.Asking.{requests};
-ghost use Rattle.vt_world.specs.Deeds.{all_done};
+ghost use Rattle.vt_world.specs.Deeds.{apply_deeds};
 ghost use Rattle.vt_world.specs.Rows.{out_deeds, write_deeds};
 ghost use Rattle.vt_world.specs.Terminals.{said_of, terminal_at};
 
@@ -17,7 +17,7 @@ impl World {
     pub(crate) fn run(&mut self, c: ConsoleNo, b: &[u8])
         requires clear { self.old.trace.marks ≡ [] }
         requires short { length b.now ≤ 4096 }
-        ensures { self.new ≡ all_done self.old (write_deeds self.old c b.now) }
+        ensures { self.new ≡ apply_deeds self.old (write_deeds self.old c b.now) }
     {
         any_cut();
         requests_are_few();
@@ -36,7 +36,7 @@ impl World {
         requires short { length b.now ≤ 64 }
         requires room { length self.old.trace.marks
             + 3 * requests (said_of (terminal_at self.old.terminals c) b.now) ≤ MOST_MARKS }
-        ensures state { self.new ≡ all_done self.old (write_deeds self.old c b.now) }
+        ensures state { self.new ≡ apply_deeds self.old (write_deeds self.old c b.now) }
         ensures room { length self.new.trace.marks ≤ length self.old.trace.marks
             + 3 * requests (said_of (terminal_at self.old.terminals c) b.now) }
     {
@@ -48,7 +48,7 @@ impl World {
     // What a text says on a console, in order.
     fn take_outs(&mut self, c: ConsoleNo, outs: &[Out])
         requires { length self.old.trace.marks + 3 * requests outs.now ≤ MOST_MARKS }
-        ensures state { self.new ≡ all_done self.old (flat_map (out_deeds c) outs.now) }
+        ensures state { self.new ≡ apply_deeds self.old (flat_map (out_deeds c) outs.now) }
         ensures room { length self.new.trace.marks
             ≤ length self.old.trace.marks + 3 * requests outs.now }
     {
@@ -59,7 +59,7 @@ impl World {
 
     fn take_out(&mut self, c: ConsoleNo, out: &Out)
         requires { length self.old.trace.marks + 3 * requests (out.now ∷ []) ≤ MOST_MARKS }
-        ensures state { self.new ≡ all_done self.old (out_deeds c out.now) }
+        ensures state { self.new ≡ apply_deeds self.old (out_deeds c out.now) }
         ensures room { length self.new.trace.marks
             ≤ length self.old.trace.marks + 3 * requests (out.now ∷ []) }
     {

@@ -8,7 +8,7 @@ use vt_base::Bytes;
 use vt_events::Reply;
 
 /// The room for an answer, with no bytes in it.
-pub fn emptied(room: Bytes) -> Bytes
+pub(crate) fn emptied(room: Bytes) -> Bytes
     ensures bytes { result.bytes ≡ [] }
     ensures room { room.room ≤ result.room }
 {
@@ -18,7 +18,7 @@ pub fn emptied(room: Bytes) -> Bytes
 }
 
 /// The answer of these bytes, in the room that is given.
-pub fn text_reply(b: &[u8], room: Bytes) -> Reply
+pub(crate) fn text_reply(b: &[u8], room: Bytes) -> Reply
     requires { length b.now ≤ room.room }
     ensures reply { plain_reply result ≡ reply.Text (text b.now) }
     ensures bytes { text_of_reply result ≡ b.now }

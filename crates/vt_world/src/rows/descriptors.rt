@@ -2,7 +2,7 @@
 ghost use Rattle.std.specs.Prelude.{◌≡◌, ◌≤◌, [], length, min};
 ghost use Rattle.vt_events.specs.declared.event.Event.TheVariants as event;
 ghost use Rattle.vt_world.specs.Spare.{HasGrid, extent, needed_grid};
-ghost use Rattle.vt_world.specs.Step.{Has, own_effect, text_of_answer};
+ghost use Rattle.vt_world.specs.Step.{HasRowResult, own_row_result, text_of_answer};
 
 use crate::World;
 use crate::rows::answers::emptied;
@@ -19,7 +19,7 @@ impl World {
         grid: &mut Option<Grid>,
     ) -> Result<Reply, Errno>
         requires { HasGrid (needed_grid (extent self.old.rows self.old.cols) (event.OpenCon n)) grid.old }
-        ensures { Has (own_effect self.old p (event.OpenCon n)) self.new result }
+        ensures { HasRowResult (own_row_result self.old p (event.OpenCon n)) self.new result }
     {
         let c = self.named(n).ok_or(Errno::Nxio)?;
         let fd = self.procs.add_open(p, c).ok_or(Errno::Busy)?;
@@ -29,7 +29,7 @@ impl World {
 
     /// The descriptor is given back (close(2)).
     pub(crate) fn close(&mut self, p: CallerNo, fd: u16) -> Result<Reply, Errno>
-        ensures { Has (own_effect self.old p (event.CloseFd fd)) self.new result }
+        ensures { HasRowResult (own_row_result self.old p (event.CloseFd fd)) self.new result }
     {
         let number = self.procs.number(p, fd).ok_or(Errno::Badf)?;
         self.procs.shut(p, number);
@@ -39,10 +39,10 @@ impl World {
     /// Writes the bytes on the screen of the descriptor's console.
     pub(crate) fn write(&mut self, p: CallerNo, fd: u16, b: &Bytes) -> Result<Reply, Errno>
         requires { self.old.trace.marks ≡ [] }
-        ensures { Has (own_effect self.old p (event.Write fd b.now)) self.new result }
+        ensures { HasRowResult (own_row_result self.old p (event.Write fd b.now)) self.new result }
     {
         let text = b.as_slice();
-        let c = self.gettable(p, fd, text.len() <= PIECE_BYTES)?;
+        let c = self.console_to_read(p, fd, text.len() <= PIECE_BYTES)?;
         self.run(c, text);
         Ok(Reply::Num(text.len() as u32))
     }
@@ -56,10 +56,10 @@ impl World {
         reply: Bytes,
     ) -> Result<Reply, Errno>
         requires { min most 4096 ≤ reply.room }
-        ensures effect { Has (own_effect self.old p (event.ReadIn fd most)) self.new result }
+        ensures effect { HasRowResult (own_row_result self.old p (event.ReadIn fd most)) self.new result }
         ensures bytes { length (text_of_answer result) ≤ min most 4096 }
     {
-        let c = self.gettable(p, fd, 1 <= most && usize::from(most) <= PIECE_BYTES)?;
+        let c = self.console_to_read(p, fd, 1 <= most && usize::from(most) <= PIECE_BYTES)?;
         if self.inputs.queue(c).is_empty() {
             return Err(Errno::Again);
         }

@@ -6,8 +6,8 @@ ghost use Rattle.vt_procs.specs.Callers.{is_live, is_opened};
 ghost use Rattle.vt_switch.specs.Display.{is_allocated};
 ghost use Rattle.vt_world.specs.Rows.{allocated_mask, lowest_unopened};
 ghost use Rattle.vt_world.specs.Spare.{HasGrid, extent, is_console, needed_grid};
-ghost use Rattle.vt_world.specs.Step.{Has, own_effect};
-ghost use Rattle.vt_world.specs.Refusals.{named};
+ghost use Rattle.vt_world.specs.Step.{HasRowResult, own_row_result};
+ghost use Rattle.vt_world.specs.Refusals.{console_by_number};
 
 use crate::World;
 use vt_base::{CONSOLES, CallerNo, ConsoleNo, Errno, VtMode};
@@ -25,9 +25,9 @@ impl World {
     ) -> Result<Reply, Errno>
         requires clear { self.old.trace.marks ≡ [] }
         requires grid { HasGrid (needed_grid (extent self.old.rows self.old.cols) (event.Activate fd n)) grid.old }
-        ensures { Has (own_effect self.old p (event.Activate fd n)) self.new result }
+        ensures { HasRowResult (own_row_result self.old p (event.Activate fd n)) self.new result }
     {
-        self.handled(p, fd)?;
+        self.owned_console(p, fd)?;
         let to = ConsoleNo::new(n).ok_or(Errno::Nxio)?;
         if self.switch.locked() {
             return Err(Errno::Busy);
@@ -40,9 +40,9 @@ impl World {
     /// Frees console `n`, or all that are not in use where `n` is 0 (ioctl_console(2),
     /// VT_DISALLOCATE).
     pub(crate) fn disallocate(&mut self, p: CallerNo, fd: u16, n: u16) -> Result<Reply, Errno>
-        ensures { Has (own_effect self.old p (event.Disallocate fd n)) self.new result }
+        ensures { HasRowResult (own_row_result self.old p (event.Disallocate fd n)) self.new result }
     {
-        self.handled(p, fd)?;
+        self.owned_console(p, fd)?;
         let c = self.named(n).ok_or(Errno::Nxio)?;
         if n == 0 {
             self.free_unused();
@@ -58,7 +58,7 @@ impl World {
     /// The lowest console that nobody has open, 0 where there is none (ioctl_console(2),
     /// VT_OPENQRY).
     pub(crate) fn open_query(&mut self, p: CallerNo, fd: u16) -> Result<Reply, Errno>
-        ensures { Has (own_effect self.old p (event.OpenQry fd)) self.new result }
+        ensures { HasRowResult (own_row_result self.old p (event.OpenQry fd)) self.new result }
     {
         self.opened(p, fd)?;
         Ok(Reply::Num(u32::from(self.lowest_unopened())))
@@ -66,7 +66,7 @@ impl World {
 
     /// The console in front, and those that are allocated (ioctl_console(2), VT_GETSTATE).
     pub(crate) fn get_state(&mut self, p: CallerNo, fd: u16) -> Result<Reply, Errno>
-        ensures { Has (own_effect self.old p (event.GetState fd)) self.new result }
+        ensures { HasRowResult (own_row_result self.old p (event.GetState fd)) self.new result }
     {
         self.opened(p, fd)?;
         let front = self.switch.front().get() as u8;
@@ -76,34 +76,34 @@ impl World {
 
     /// No more switches (ioctl_console(2), VT_LOCKSWITCH).
     pub(crate) fn lock_switch(&mut self, p: CallerNo, fd: u16) -> Result<Reply, Errno>
-        ensures { Has (own_effect self.old p (event.LockSwitch fd)) self.new result }
+        ensures { HasRowResult (own_row_result self.old p (event.LockSwitch fd)) self.new result }
     {
-        self.lockable(p, fd)?;
+        self.check_lock_right(p, fd)?;
         self.lock(true);
         Ok(Reply::Done)
     }
 
     /// Switches again (ioctl_console(2), VT_UNLOCKSWITCH).
     pub(crate) fn unlock_switch(&mut self, p: CallerNo, fd: u16) -> Result<Reply, Errno>
-        ensures { Has (own_effect self.old p (event.UnlockSwitch fd)) self.new result }
+        ensures { HasRowResult (own_row_result self.old p (event.UnlockSwitch fd)) self.new result }
     {
-        self.lockable(p, fd)?;
+        self.check_lock_right(p, fd)?;
         self.lock(false);
         Ok(Reply::Done)
     }
 
     /// The console shows text, or graphics (ioctl_console(2), KDSETMODE).
     pub(crate) fn set_kd(&mut self, p: CallerNo, fd: u16, m: u16) -> Result<Reply, Errno>
-        ensures { Has (own_effect self.old p (event.SetKd fd m)) self.new result }
+        ensures { HasRowResult (own_row_result self.old p (event.SetKd fd m)) self.new result }
     {
-        let c = self.settable(p, fd, m <= 1)?;
+        let c = self.console_to_set(p, fd, m <= 1)?;
         self.show(c, m == 1);
         Ok(Reply::Done)
     }
 
     /// Which of the two it is (ioctl_console(2), KDGETMODE).
     pub(crate) fn get_kd(&mut self, p: CallerNo, fd: u16) -> Result<Reply, Errno>
-        ensures { Has (own_effect self.old p (event.GetKd fd)) self.new result }
+        ensures { HasRowResult (own_row_result self.old p (event.GetKd fd)) self.new result }
     {
         let c = self.opened(p, fd)?;
         Ok(Reply::Num(u32::from(self.switch.kd(c))))
@@ -112,10 +112,10 @@ impl World {
     /// Sets who handles the switches of the descriptor's console (ioctl_console(2), VT_SETMODE).
     pub(crate) fn set_mode(&mut self, p: CallerNo, fd: u16, m: VtMode) -> Result<Reply, Errno>
         requires { is_live self.old.callers p ≡ true }
-        ensures { Has (own_effect self.old p
+        ensures { HasRowResult (own_row_result self.old p
             (event.SetMode fd m.mode m.waitv m.relsig m.acqsig m.frsig)) self.new result }
     {
-        let c = self.handled(p, fd)?;
+        let c = self.owned_console(p, fd)?;
         if !self.handle(c, p, m) {
             return Err(Errno::Inval);
         }
@@ -124,7 +124,7 @@ impl World {
 
     /// Those words (ioctl_console(2), VT_GETMODE).
     pub(crate) fn get_mode(&mut self, p: CallerNo, fd: u16) -> Result<Reply, Errno>
-        ensures { Has (own_effect self.old p (event.GetMode fd)) self.new result }
+        ensures { HasRowResult (own_row_result self.old p (event.GetMode fd)) self.new result }
     {
         let c = self.opened(p, fd)?;
         Ok(Reply::Mode(self.switch.mode(c)))
@@ -134,9 +134,9 @@ impl World {
     /// VT_RELDISP).
     pub(crate) fn release(&mut self, p: CallerNo, fd: u16, arg: u16) -> Result<Reply, Errno>
         requires { self.old.trace.marks ≡ [] }
-        ensures { Has (own_effect self.old p (event.RelDisp fd arg)) self.new result }
+        ensures { HasRowResult (own_row_result self.old p (event.RelDisp fd arg)) self.new result }
     {
-        let c = self.handled(p, fd)?;
+        let c = self.owned_console(p, fd)?;
         if !self.release_console(c, p, arg) {
             return Err(Errno::Inval);
         }
@@ -145,7 +145,7 @@ impl World {
 
     /// The console that a number names: the one in front where it is 0.
     pub(crate) fn named(&self, n: u16) -> Option<ConsoleNo>
-        ensures console { result ≡ (if nat_lt 63 n then None else Some (named self.now n)) }
+        ensures console { result ≡ (if nat_lt 63 n then None else Some (console_by_number self.now n)) }
         ensures new { IfSome result (λ c. is_allocated self.now.display c ≡ false
             → IsTrue (is_console n)) }
     {

@@ -3,9 +3,9 @@ ghost use Rattle.std.specs.Prelude.{◌≡◌, ◌<◌, ◌≤◌, [], IsTrue, l
 ghost use Rattle.key_tables.specs.Tables.{exists_in};
 ghost use Rattle.vt_base.specs.Keyboards.{keyboard_of};
 ghost use Rattle.vt_events.specs.declared.event.Event.TheVariants as event;
-ghost use Rattle.vt_world.specs.Deeds.{Keyed, Own, done};
+ghost use Rattle.vt_world.specs.Deeds.{Keyed, Own, apply_deed};
 ghost use Rattle.vt_world.specs.Rows.{lights_of};
-ghost use Rattle.vt_world.specs.Step.{Has, own_effect, text_of_answer};
+ghost use Rattle.vt_world.specs.Step.{HasRowResult, own_row_result, text_of_answer};
 ghost use Rattle.vt_world.specs.Refusals.{is_flags, is_keycode};
 
 use crate::World;
@@ -23,7 +23,7 @@ const MOST_LIGHTS: u16 = 7;
 const NO_TABLE: Reply = Reply::Act { kind: 14, value: 0 };
 
 /// The greatest number of a table, of a function key and of a keycode.
-const MOST: u16 = 255;
+const GREATEST_NUMBER: u16 = 255;
 
 /// The most bytes of a function string.
 const MOST_BYTES: usize = 255;
@@ -32,7 +32,7 @@ impl World {
     /// A byte of a keyboard.
     pub(crate) fn scan(&mut self, p: CallerNo, b: u8) -> Result<Reply, Errno>
         requires clear { self.old.trace.marks ≡ [] }
-        ensures { Has (own_effect self.old p (event.Scan b)) self.new result }
+        ensures { HasRowResult (own_row_result self.old p (event.Scan b)) self.new result }
     {
         let front = self.switch.front();
         self.scan_on(number_of(p), front, b);
@@ -41,9 +41,9 @@ impl World {
 
     /// Sets the keyboard mode of the descriptor's console (ioctl_console(2), KDSKBMODE).
     pub(crate) fn set_keyboard_mode(&mut self, p: CallerNo, fd: u16, m: u16) -> Result<Reply, Errno>
-        ensures { Has (own_effect self.old p (event.SetKb fd m)) self.new result }
+        ensures { HasRowResult (own_row_result self.old p (event.SetKb fd m)) self.new result }
     {
-        let c = self.settable(p, fd, m <= u16::from(mode::OFF))?;
+        let c = self.console_to_set(p, fd, m <= u16::from(mode::OFF))?;
         let mut keys = self.inputs.keys(c);
         keys.mode = m as u8;
         self.set_keys(c, keys);
@@ -52,7 +52,7 @@ impl World {
 
     /// The keyboard mode of the descriptor's console (ioctl_console(2), KDGKBMODE).
     pub(crate) fn get_keyboard_mode(&mut self, p: CallerNo, fd: u16) -> Result<Reply, Errno>
-        ensures { Has (own_effect self.old p (event.GetKb fd)) self.new result }
+        ensures { HasRowResult (own_row_result self.old p (event.GetKb fd)) self.new result }
     {
         let c = self.opened(p, fd)?;
         Ok(Reply::Num(u32::from(self.inputs.keys(c).mode)))
@@ -60,10 +60,10 @@ impl World {
 
     /// Sets what Meta does on the descriptor's console (ioctl_console(2), KDSKBMETA).
     pub(crate) fn set_meta(&mut self, p: CallerNo, fd: u16, m: u16) -> Result<Reply, Errno>
-        ensures { Has (own_effect self.old p (event.SetMeta fd m)) self.new result }
+        ensures { HasRowResult (own_row_result self.old p (event.SetMeta fd m)) self.new result }
     {
         let known = m == u16::from(meta::METABIT) || m == u16::from(meta::ESCPREFIX);
-        let c = self.settable(p, fd, known)?;
+        let c = self.console_to_set(p, fd, known)?;
         let mut keys = self.inputs.keys(c);
         keys.meta = m as u8;
         self.set_keys(c, keys);
@@ -72,7 +72,7 @@ impl World {
 
     /// What Meta does on the descriptor's console (ioctl_console(2), KDGKBMETA).
     pub(crate) fn get_meta(&mut self, p: CallerNo, fd: u16) -> Result<Reply, Errno>
-        ensures { Has (own_effect self.old p (event.GetMeta fd)) self.new result }
+        ensures { HasRowResult (own_row_result self.old p (event.GetMeta fd)) self.new result }
     {
         let c = self.opened(p, fd)?;
         Ok(Reply::Num(u32::from(self.inputs.keys(c).meta)))
@@ -81,9 +81,9 @@ impl World {
     /// Sets the lights of the descriptor's console, or lets them show the flags again
     /// (ioctl_console(2), KDSETLED).
     pub(crate) fn set_lights(&mut self, p: CallerNo, fd: u16, v: u16) -> Result<Reply, Errno>
-        ensures { Has (own_effect self.old p (event.SetLed fd v)) self.new result }
+        ensures { HasRowResult (own_row_result self.old p (event.SetLed fd v)) self.new result }
     {
-        let c = self.handled(p, fd)?;
+        let c = self.owned_console(p, fd)?;
         let mut keys = self.inputs.keys(c);
         keys.lights = lights_of(v);
         self.set_keys(c, keys);
@@ -92,7 +92,7 @@ impl World {
 
     /// The lights of the descriptor's console, which may be its flags (ioctl_console(2), KDGETLED).
     pub(crate) fn get_lights(&mut self, p: CallerNo, fd: u16) -> Result<Reply, Errno>
-        ensures { Has (own_effect self.old p (event.GetLed fd)) self.new result }
+        ensures { HasRowResult (own_row_result self.old p (event.GetLed fd)) self.new result }
     {
         let c = self.opened(p, fd)?;
         let keys = self.inputs.keys(c);
@@ -102,9 +102,9 @@ impl World {
     /// Sets the keyboard flags of the descriptor's console, and those of a reset (ioctl_console(2),
     /// KDSKBLED).
     pub(crate) fn set_flags(&mut self, p: CallerNo, fd: u16, v: u16) -> Result<Reply, Errno>
-        ensures { Has (own_effect self.old p (event.SetFlags fd v)) self.new result }
+        ensures { HasRowResult (own_row_result self.old p (event.SetFlags fd v)) self.new result }
     {
-        let c = self.settable(p, fd, is_flags(v))?;
+        let c = self.console_to_set(p, fd, is_flags(v))?;
         let mut keys = self.inputs.keys(c);
         keys.flags = (v % 16) as u8;
         keys.defaults = (v / 16) as u8;
@@ -115,7 +115,7 @@ impl World {
     /// The keyboard flags of the descriptor's console, and those of a reset (ioctl_console(2),
     /// KDGKBLED).
     pub(crate) fn get_flags(&mut self, p: CallerNo, fd: u16) -> Result<Reply, Errno>
-        ensures { Has (own_effect self.old p (event.GetFlags fd)) self.new result }
+        ensures { HasRowResult (own_row_result self.old p (event.GetFlags fd)) self.new result }
     {
         let c = self.opened(p, fd)?;
         let keys = self.inputs.keys(c);
@@ -124,7 +124,7 @@ impl World {
 
     // Gives the console this key state.
     fn set_keys(&mut self, c: ConsoleNo, keys: KbState)
-        ensures { self.new ≡ done self.old (Own (Keyed c keys)) }
+        ensures { self.new ≡ apply_deed self.old (Own (Keyed c keys)) }
     {
         self.inputs.set_keys(c, keys);
     }
@@ -139,9 +139,9 @@ impl World {
         kind: u16,
         value: u16,
     ) -> Result<Reply, Errno>
-        ensures { Has (own_effect self.old p (event.SetEntry fd t code kind value)) self.new result }
+        ensures { HasRowResult (own_row_result self.old p (event.SetEntry fd t code kind value)) self.new result }
     {
-        self.settable(p, fd, self.has_table(t) && is_keycode(code))?;
+        self.console_to_set(p, fd, self.has_table(t) && is_keycode(code))?;
         let action = Action::new(kind, value).ok_or(Errno::Inval)?;
         self.board.tables.set_entry(t as u8, code as u8, action);
         Ok(Reply::Done)
@@ -153,7 +153,7 @@ impl World {
         ensures bound { IsTrue result → t ≤ 255 }
     {
         let exists = self.board.tables.exists((t % 256) as u8);
-        t <= MOST && exists
+        t <= GREATEST_NUMBER && exists
     }
 
     /// What a keycode does in a key table (ioctl_console(2), KDGKBENT).
@@ -164,9 +164,9 @@ impl World {
         t: u16,
         code: u16,
     ) -> Result<Reply, Errno>
-        ensures { Has (own_effect self.old p (event.GetEntry fd t code)) self.new result }
+        ensures { HasRowResult (own_row_result self.old p (event.GetEntry fd t code)) self.new result }
     {
-        self.gettable(p, fd, t <= MOST && is_keycode(code))?;
+        self.console_to_read(p, fd, t <= GREATEST_NUMBER && is_keycode(code))?;
         match self.board.tables.entry(t as u8, code as u8) {
             Some(a) => Ok(Reply::Act {
                 kind: a.kind,
@@ -184,10 +184,10 @@ impl World {
         i: u16,
         b: &Bytes,
     ) -> Result<Reply, Errno>
-        ensures { Has (own_effect self.old p (event.SetFunc fd i b.now)) self.new result }
+        ensures { HasRowResult (own_row_result self.old p (event.SetFunc fd i b.now)) self.new result }
     {
         let text = b.as_slice();
-        self.settable(p, fd, i <= MOST && text.len() <= MOST_BYTES)?;
+        self.console_to_set(p, fd, i <= GREATEST_NUMBER && text.len() <= MOST_BYTES)?;
         self.board.tables.set_func(i as u8, text);
         Ok(Reply::Done)
     }
@@ -201,18 +201,18 @@ impl World {
         reply: Bytes,
     ) -> Result<Reply, Errno>
         requires { 255 ≤ reply.room }
-        ensures effect { Has (own_effect self.old p (event.GetFunc fd i)) self.new result }
+        ensures effect { HasRowResult (own_row_result self.old p (event.GetFunc fd i)) self.new result }
         ensures bytes { length (text_of_answer result) ≤ 255 }
     {
-        self.gettable(p, fd, i <= MOST)?;
+        self.console_to_read(p, fd, i <= GREATEST_NUMBER)?;
         Ok(text_reply(self.board.tables.func(i as u8), reply))
     }
 
     /// Sets the pairs of compose keys (ioctl_console(2), KDSKBDIACRUC).
     pub(crate) fn set_pairs(&mut self, p: CallerNo, fd: u16, b: &Bytes) -> Result<Reply, Errno>
-        ensures { Has (own_effect self.old p (event.SetDia fd b.now)) self.new result }
+        ensures { HasRowResult (own_row_result self.old p (event.SetDia fd b.now)) self.new result }
     {
-        self.handled(p, fd)?;
+        self.owned_console(p, fd)?;
         let pairs = read_pairs(b.as_slice()).ok_or(Errno::Inval)?;
         self.board.tables.set_pairs(pairs.as_slice());
         Ok(Reply::Done)
@@ -221,7 +221,7 @@ impl World {
     /// The pairs of compose keys (ioctl_console(2), KDGKBDIACRUC).
     pub(crate) fn get_pairs(&mut self, p: CallerNo, fd: u16, reply: Bytes) -> Result<Reply, Errno>
         requires { 3072 ≤ reply.room }
-        ensures effect { Has (own_effect self.old p (event.GetDia fd)) self.new result }
+        ensures effect { HasRowResult (own_row_result self.old p (event.GetDia fd)) self.new result }
         ensures bytes { length (text_of_answer result) ≤ 3072 }
     {
         self.opened(p, fd)?;
@@ -238,10 +238,10 @@ impl World {
         scan: u16,
         code: u16,
     ) -> Result<Reply, Errno>
-        ensures { Has (own_effect self.old p (event.SetCode fd scan code)) self.new result }
+        ensures { HasRowResult (own_row_result self.old p (event.SetCode fd scan code)) self.new result }
     {
-        self.handled(p, fd)?;
-        if self.board.scanners[0].get(scan).is_err() || code > MOST {
+        self.owned_console(p, fd)?;
+        if self.board.scanners[0].get(scan).is_err() || code > GREATEST_NUMBER {
             return Err(Errno::Inval);
         }
         self.board.set_code(scan, code);
@@ -250,7 +250,7 @@ impl World {
 
     /// The keycode of a scan number (ioctl_console(2), KDGETKEYCODE).
     pub(crate) fn get_code(&mut self, p: CallerNo, fd: u16, scan: u16) -> Result<Reply, Errno>
-        ensures { Has (own_effect self.old p (event.GetCode fd scan)) self.new result }
+        ensures { HasRowResult (own_row_result self.old p (event.GetCode fd scan)) self.new result }
     {
         self.opened(p, fd)?;
         let Ok(code) = self.board.scanners[0].get(scan) else {
@@ -289,5 +289,5 @@ fn is_flags(v: u16) -> bool
 fn is_keycode(code: u16) -> bool
     ensures { result ≡ is_keycode code }
 {
-    1 <= code && code <= MOST
+    1 <= code && code <= GREATEST_NUMBER
 }

@@ -16,7 +16,7 @@ impl World {
     }
 
     /// The descriptor's console, where `p` may handle it.
-    pub(crate) fn handled(&self, p: CallerNo, fd: u16) -> Result<ConsoleNo, Errno>
+    pub(crate) fn owned_console(&self, p: CallerNo, fd: u16) -> Result<ConsoleNo, Errno>
         ensures open { IfOk result (λ c. console_of self.now.callers p fd ≡ Some c) }
         ensures refused { error_of result
             ≡ first_refusal (needs_open self.now p fd ∷ needs_right self.now p fd ∷ []) }
@@ -29,7 +29,7 @@ impl World {
     }
 
     /// The descriptor's console, where `p` may set something of it that makes sense.
-    pub(crate) fn settable(
+    pub(crate) fn console_to_set(
         &self,
         p: CallerNo,
         fd: u16,
@@ -39,13 +39,13 @@ impl World {
         ensures sense { IfOk result (λ c. makes_sense ≡ true) }
         ensures refused { error_of result ≡ first_refusal (sets self.now p fd makes_sense) }
     {
-        let c = self.handled(p, fd)?;
+        let c = self.owned_console(p, fd)?;
         check_sense(makes_sense)?;
         Ok(c)
     }
 
     /// The descriptor's console, where what `p` asks of it makes sense.
-    pub(crate) fn gettable(
+    pub(crate) fn console_to_read(
         &self,
         p: CallerNo,
         fd: u16,
@@ -61,7 +61,7 @@ impl World {
     }
 
     /// Whether `p` may lock switching, and unlock it.
-    pub(crate) fn lockable(&self, p: CallerNo, fd: u16) -> Result<(), Errno>
+    pub(crate) fn check_lock_right(&self, p: CallerNo, fd: u16) -> Result<(), Errno>
         ensures { error_of result
             ≡ first_refusal (needs_open self.now p fd ∷ needs_privilege self.now p ∷ []) }
     {

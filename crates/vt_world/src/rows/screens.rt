@@ -8,9 +8,9 @@ ghost use Rattle.vt_grid.specs.Grid.{IsFull};
 ghost use Rattle.vt_procs.specs.Callers.{has_open};
 ghost use Rattle.vt_world.specs.Rows.{dump_of, screen_bytes};
 ghost use Rattle.vt_world.specs.Spare.{HasGrid, extent, is_console, is_extent, needed_grid};
-ghost use Rattle.vt_world.specs.Step.{Has, own_effect, text_of_answer};
+ghost use Rattle.vt_world.specs.Step.{HasRowResult, own_row_result, text_of_answer};
 ghost use Rattle.vt_world.specs.Terminals.{terminal_at};
-ghost use Rattle.vt_world.specs.Refusals.{caller, named, sees};
+ghost use Rattle.vt_world.specs.Refusals.{caller, console_by_number, sees};
 
 use crate::World;
 use crate::rows::answers::emptied;
@@ -35,9 +35,9 @@ impl World {
         grid: &mut Option<Grid>,
     ) -> Result<Reply, Errno>
         requires { HasGrid (needed_grid (extent self.old.rows self.old.cols) (event.Resize fd rows cols)) grid.old }
-        ensures { Has (own_effect self.old p (event.Resize fd rows cols)) self.new result }
+        ensures { HasRowResult (own_row_result self.old p (event.Resize fd rows cols)) self.new result }
     {
-        let c = self.settable(p, fd, is_extent(rows, cols))?;
+        let c = self.console_to_set(p, fd, is_extent(rows, cols))?;
         let Some(fresh) = grid.take() else {
             unreachable!()
         };
@@ -47,9 +47,9 @@ impl World {
 
     /// Sets the user's table of the descriptor's console (ioctl_console(2), PIO_UNISCRNMAP).
     pub(crate) fn set_map(&mut self, p: CallerNo, fd: u16, b: &Bytes) -> Result<Reply, Errno>
-        ensures { Has (own_effect self.old p (event.SetMap fd b.now)) self.new result }
+        ensures { HasRowResult (own_row_result self.old p (event.SetMap fd b.now)) self.new result }
     {
-        let c = self.handled(p, fd)?;
+        let c = self.owned_console(p, fd)?;
         let words = read_words(b.as_slice()).ok_or(Errno::Inval)?;
         self.set_user(c, &words);
         Ok(Reply::Done)
@@ -58,7 +58,7 @@ impl World {
     /// The user's table of the descriptor's console (ioctl_console(2), GIO_UNISCRNMAP).
     pub(crate) fn get_map(&mut self, p: CallerNo, fd: u16, reply: Bytes) -> Result<Reply, Errno>
         requires { 512 ≤ reply.room }
-        ensures effect { Has (own_effect self.old p (event.GetMap fd)) self.new result }
+        ensures effect { HasRowResult (own_row_result self.old p (event.GetMap fd)) self.new result }
         ensures bytes { length (text_of_answer result) ≤ 512 }
     {
         let c = self.opened(p, fd)?;
@@ -69,9 +69,9 @@ impl World {
 
     /// Sets the palette of the descriptor's console (ioctl_console(2), PIO_CMAP).
     pub(crate) fn set_palette(&mut self, p: CallerNo, fd: u16, b: &Bytes) -> Result<Reply, Errno>
-        ensures { Has (own_effect self.old p (event.SetPal fd b.now)) self.new result }
+        ensures { HasRowResult (own_row_result self.old p (event.SetPal fd b.now)) self.new result }
     {
-        let c = self.handled(p, fd)?;
+        let c = self.owned_console(p, fd)?;
         let colours = read_colours(b.as_slice()).ok_or(Errno::Inval)?;
         self.set_colours(c, colours);
         Ok(Reply::Done)
@@ -80,7 +80,7 @@ impl World {
     /// The palette of the descriptor's console (ioctl_console(2), GIO_CMAP).
     pub(crate) fn get_palette(&mut self, p: CallerNo, fd: u16, reply: Bytes) -> Result<Reply, Errno>
         requires { 48 ≤ reply.room }
-        ensures effect { Has (own_effect self.old p (event.GetPal fd)) self.new result }
+        ensures effect { HasRowResult (own_row_result self.old p (event.GetPal fd)) self.new result }
         ensures bytes { length (text_of_answer result) ≤ 48 }
     {
         let c = self.opened(p, fd)?;
@@ -98,7 +98,7 @@ impl World {
         reply: Bytes,
     ) -> Result<Reply, Errno>
         requires { greatest_dump kind ≤ reply.room }
-        ensures effect { Has (own_effect self.old p (event.Dump kind n)) self.new result }
+        ensures effect { HasRowResult (own_row_result self.old p (event.Dump kind n)) self.new result }
         ensures bytes { length (text_of_answer result) ≤ greatest_dump kind }
     {
         if !self.sees(p, n) {
@@ -139,15 +139,15 @@ impl World {
 
     // Whether `p` is privileged, or has the console open that the number names.
     fn sees(&self, p: CallerNo, n: u16) -> bool
-        ensures { result ≡ sees self.now p (named self.now n) }
+        ensures { result ≡ sees self.now p (console_by_number self.now n) }
     {
         self.procs.privileged(p) || self.has_named(p, n)
     }
 
     // Whether `p` has the console open that the number names.
     fn has_named(&self, p: CallerNo, n: u16) -> bool
-        ensures { result ≡ (is_console (named self.now n)
-            && has_open (caller self.now p).opens (named self.now n)) }
+        ensures { result ≡ (is_console (console_by_number self.now n)
+            && has_open (caller self.now p).opens (console_by_number self.now n)) }
     {
         let Some(c) = self.named(n) else {
             return false;

@@ -3,10 +3,10 @@ ghost use Rattle.std.specs.Prelude.{◌≡◌, [], true};
 ghost use Rattle.vt_base.specs.Range.{in_range};
 ghost use Rattle.vt_events.specs.declared.event.Event.TheVariants as event;
 ghost use Rattle.vt_procs.specs.Callers.{is_live};
-ghost use Rattle.vt_world.specs.Step.{Has, own_effect};
+ghost use Rattle.vt_world.specs.Step.{HasRowResult, own_row_result};
 
 use crate::World;
-use crate::effects::attention::KILL;
+use crate::effects::attention::SIGKILL;
 use vt_base::{CallerNo, Errno, PROCESSES, Signal};
 use vt_events::Reply;
 
@@ -14,9 +14,9 @@ impl World {
     /// The signal comes to `p` at the key for it (ioctl_console(2), KDSIGACCEPT).
     pub(crate) fn accept(&mut self, p: CallerNo, fd: u16, s: u16) -> Result<Reply, Errno>
         requires { is_live self.old.callers p ≡ true }
-        ensures { Has (own_effect self.old p (event.Accept fd s)) self.new result }
+        ensures { HasRowResult (own_row_result self.old p (event.Accept fd s)) self.new result }
     {
-        self.settable(p, fd, s != KILL)?;
+        self.console_to_set(p, fd, s != SIGKILL)?;
         let signal = Signal::new(s).ok_or(Errno::Inval)?;
         self.procs.accept(p, signal);
         Ok(Reply::Done)
@@ -25,7 +25,7 @@ impl World {
     /// The pending signals of `p`, which are pending no more. This project's own.
     pub(crate) fn take_signals(&mut self, p: CallerNo) -> Result<Reply, Errno>
         requires { is_live self.old.callers p ≡ true }
-        ensures { Has (own_effect self.old p event.TakeSignals) self.new result }
+        ensures { HasRowResult (own_row_result self.old p event.TakeSignals) self.new result }
     {
         Ok(Reply::Sigs(self.procs.take_signals(p)))
     }
@@ -33,7 +33,7 @@ impl World {
     /// Signal `s` to process `q` (kill(2)).
     pub(crate) fn kill(&mut self, p: CallerNo, q: u16, s: u16) -> Result<Reply, Errno>
         requires { self.old.trace.marks ≡ [] }
-        ensures { Has (own_effect self.old p (event.Kill q s)) self.new result }
+        ensures { HasRowResult (own_row_result self.old p (event.Kill q s)) self.new result }
     {
         if !self.procs.privileged(p) && q != p.get() {
             return Err(Errno::Perm);
@@ -50,7 +50,7 @@ impl World {
     /// The end of the caller (exit(2)). The keys of a keyboard go with it.
     pub(crate) fn exit(&mut self, p: CallerNo) -> Result<Reply, Errno>
         requires { self.old.trace.marks ≡ [] }
-        ensures { Has (own_effect self.old p event.Exit) self.new result }
+        ensures { HasRowResult (own_row_result self.old p event.Exit) self.new result }
     {
         self.end(p);
         self.board.unplug(p);

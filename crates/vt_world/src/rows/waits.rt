@@ -8,7 +8,7 @@ ghost use Rattle.vt_procs.specs.Tickets.{waited_of};
 ghost use Rattle.vt_procs.specs.declared.waited.Waited.{Waited};
 ghost use Rattle.vt_world.specs.Deeds.{Own, Waits};
 ghost use Rattle.vt_world.specs.Rows.{row_of};
-ghost use Rattle.vt_world.specs.Step.{Has, effect_of, own_effect};
+ghost use Rattle.vt_world.specs.Step.{HasRowResult, row_result, own_row_result};
 ghost use Rattle.vt_world.specs.Refusals.{caller};
 
 use crate::World;
@@ -21,7 +21,7 @@ impl World {
     pub(crate) fn wait_input(&mut self, p: CallerNo, fd: u16) -> Result<Reply, Errno>
         requires live { is_live self.old.callers p ≡ true }
         requires free { waited_of (caller self.old p).waiting ≡ Waited.None }
-        ensures { Has (own_effect self.old p (event.WaitInput fd)) self.new result }
+        ensures { HasRowResult (own_row_result self.old p (event.WaitInput fd)) self.new result }
     {
         let c = self.opened(p, fd)?;
         if self.inputs.queue(c).is_empty() {
@@ -34,9 +34,9 @@ impl World {
     pub(crate) fn wait_active(&mut self, p: CallerNo, fd: u16, n: u16) -> Result<Reply, Errno>
         requires live { is_live self.old.callers p ≡ true }
         requires free { waited_of (caller self.old p).waiting ≡ Waited.None }
-        ensures { Has (own_effect self.old p (event.WaitActive fd n)) self.new result }
+        ensures { HasRowResult (own_row_result self.old p (event.WaitActive fd n)) self.new result }
     {
-        self.handled(p, fd)?;
+        self.owned_console(p, fd)?;
         let to = ConsoleNo::new(n).ok_or(Errno::Nxio)?;
         if n != self.switch.front().get() {
             return self.wait(p, Ticket::Active(to));
@@ -48,7 +48,7 @@ impl World {
     pub(crate) fn wait_signal(&mut self, p: CallerNo) -> Result<Reply, Errno>
         requires live { is_live self.old.callers p ≡ true }
         requires free { waited_of (caller self.old p).waiting ≡ Waited.None }
-        ensures { Has (own_effect self.old p event.WaitSignal) self.new result }
+        ensures { HasRowResult (own_row_result self.old p event.WaitSignal) self.new result }
     {
         self.wait(p, Ticket::AnySignal)
     }
@@ -56,7 +56,7 @@ impl World {
     /// How the wait of `p` ended. This project's own.
     pub(crate) fn wait_end(&mut self, p: CallerNo) -> Result<Reply, Errno>
         requires { is_live self.old.callers p ≡ true }
-        ensures { Has (own_effect self.old p event.WaitEnd) self.new result }
+        ensures { HasRowResult (own_row_result self.old p event.WaitEnd) self.new result }
     {
         let reply = match self.procs.ticket(p) {
             Waited::None => return Err(Errno::Inval),
@@ -72,7 +72,7 @@ impl World {
     fn wait(&mut self, p: CallerNo, t: Ticket) -> Result<Reply, Errno>
         requires live { is_live self.old.callers p ≡ true }
         requires free { waited_of (caller self.old p).waiting ≡ Waited.None }
-        ensures { Has (effect_of self.old
+        ensures { HasRowResult (row_result self.old
             (if not ((caller self.old p).pending == 0) then Some Intr else None)
             (row_of reply.Wait (Own (Waits p t) ∷ []))) self.new result }
     {

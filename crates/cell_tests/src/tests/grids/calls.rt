@@ -6,7 +6,7 @@ use vt_cells::Cell;
 use vt_grid::Grid;
 
 /// The cell in row `y` and column `x`, where there is one.
-pub fn cell(grid: &Grid, y: u8, x: u8) -> Option<Cell> {
+pub(crate) fn cell(grid: &Grid, y: u8, x: u8) -> Option<Cell> {
     let Size { rows, cols } = grid.size();
     if y < rows && x < cols {
         Some(grid.at(y, x))
@@ -16,7 +16,7 @@ pub fn cell(grid: &Grid, y: u8, x: u8) -> Option<Cell> {
 }
 
 /// The code of that cell.
-pub fn code(grid: &Grid, y: u8, x: u8) -> Option<u32> {
+pub(crate) fn code(grid: &Grid, y: u8, x: u8) -> Option<u32> {
     match cell(grid, y, x) {
         Some(cell) => Some(cell.code),
         None => None,
@@ -24,7 +24,7 @@ pub fn code(grid: &Grid, y: u8, x: u8) -> Option<u32> {
 }
 
 /// Makes the edit, and tells whether it stays in the grid: one that doesn't isn't made.
-pub fn make(grid: &mut Grid, edit: Edit) -> bool {
+pub(crate) fn make(grid: &mut Grid, edit: Edit) -> bool {
     let Size { rows, cols } = grid.size();
     let most = usize::from(cols);
     let fill = letter(b'-');
@@ -52,11 +52,11 @@ pub fn make(grid: &mut Grid, edit: Edit) -> bool {
     true
 }
 
-pub fn is_row_same(grid: &Grid, other: &Grid, y: u8) -> bool {
+pub(crate) fn is_row_same(grid: &Grid, other: &Grid, y: u8) -> bool {
     y < grid.size().rows && y < other.size().rows && grid.is_row_same(other, y)
 }
 
-pub fn copy_from(grid: &mut Grid, other: &Grid) -> bool {
+pub(crate) fn copy_from(grid: &mut Grid, other: &Grid) -> bool {
     let size = grid.size();
     let fresh = other.size();
     let stays = size.rows == fresh.rows && size.cols == fresh.cols;

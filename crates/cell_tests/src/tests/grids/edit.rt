@@ -1,6 +1,6 @@
 /// An edit of a grid. What it fills is `-`, and texts have the start colours.
 #[derive(Clone, Copy)]
-pub enum Edit {
+pub(crate) enum Edit {
     /// A row, a column, and the code and the attribute byte of the cell that is put there.
     Put(u8, u8, u32, u8),
     /// Every cell.

@@ -1,5 +1,5 @@
-use Rattle.cooked.proofs.Pushes.{one-more}
+use Rattle.cooked.proofs.Pushes.{one_more}
 use Rattle.cooked.proofs.laws.one_more.Goals as goal
 
 pub returns : goal.returns
-returns c = one-more
+returns c = one_more

@@ -1,5 +1,5 @@
-use Rattle.cooked.proofs.ReadingLaws.{turns-read}
+use Rattle.cooked.proofs.ReadingLaws.{turns_read}
 use Rattle.cooked.proofs.turn_laws.turns_read.Goals as goal
 
 pub returns : goal.returns
-returns c = turns-read
+returns c = turns_read

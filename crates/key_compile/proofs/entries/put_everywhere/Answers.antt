@@ -12,10 +12,10 @@ set_entry-requires-clause-exists c =
 pub loop-i-preserved : goal.loop-i-preserved
 loop-i-preserved c =
     let before = λ (t d : ℕ). cond (d == c.args.code) (everywhere (take c.loop-i.i c.args.union.now) c.args.action t) None in
-    puts_entry before (λ t d. cond (d == c.args.code) (everywhere (take (c.loop-i.i + 1) c.args.union.now) c.args.action t) None) c.args.tables.now c.loop-i.tables c.set_entry.new.self (get_or c.args.union.now c.loop-i.i 0) c.args.code c.filled.result c.loop-i.invariant
+    puts_entry before (λ t d. cond (d == c.args.code) (everywhere (take (c.loop-i.i + 1) c.args.union.now) c.args.action t) None) c.args.tables.now c.loop-i.tables c.set_entry.new.self (get_or c.args.union.now c.loop-i.i 0) c.args.code c.filled_action.result c.loop-i.invariant
     (union_exists before c.args.union.now c.args.tables.now c.loop-i.tables c.loop-i.i c.requires.exist c.loop-i.invariant c.loop-i-test.true)
     c.set_entry.ensures.entries c.set_entry.ensures.tables
-    (λ t d. ap (λ x. option_or (cond (t == get_or c.args.union.now c.loop-i.i 0 && d == c.args.code) (Some x) None) (before t d)) c.filled.ensures ∙ everywhere_next c.args.union.now c.args.action c.args.code c.loop-i.i c.loop-i-test.true t d)
+    (λ t d. ap (λ x. option_or (cond (t == get_or c.args.union.now c.loop-i.i 0 && d == c.args.code) (Some x) None) (before t d)) c.filled_action.ensures ∙ everywhere_next c.args.union.now c.args.action c.args.code c.loop-i.i c.loop-i-test.true t d)
 
 pub returns : goal.returns
 returns c =

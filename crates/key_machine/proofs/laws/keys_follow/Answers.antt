@@ -1,5 +1,5 @@
-use Rattle.key_machine.proofs.Following.{keys-follow}
+use Rattle.key_machine.proofs.Following.{keys_follow}
 use Rattle.key_machine.proofs.laws.keys_follow.Goals as goal
 
 pub returns : goal.returns
-returns c = keys-follow
+returns c = keys_follow

@@ -1,5 +1,5 @@
-use Rattle.key_machine.proofs.Histories.{locks-stay}
+use Rattle.key_machine.proofs.Histories.{locks_stay}
 use Rattle.key_machine.proofs.laws.locks_stay.Goals as goal
 
 pub returns : goal.returns
-returns c = locks-stay
+returns c = locks_stay

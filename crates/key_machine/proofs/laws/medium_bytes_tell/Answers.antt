@@ -1,5 +1,5 @@
-use Rattle.key_machine.proofs.Medium.{medium-bytes-tell}
+use Rattle.key_machine.proofs.Medium.{medium_bytes_tell}
 use Rattle.key_machine.proofs.laws.medium_bytes_tell.Goals as goal
 
 pub returns : goal.returns
-returns c = medium-bytes-tell
+returns c = medium_bytes_tell

@@ -1,5 +1,5 @@
-use Rattle.key_machine.proofs.Following.{records-stay}
+use Rattle.key_machine.proofs.Following.{records_stay}
 use Rattle.key_machine.proofs.laws.records_stay.Goals as goal
 
 pub returns : goal.returns
-returns c = records-stay
+returns c = records_stay

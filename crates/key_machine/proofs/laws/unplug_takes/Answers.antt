@@ -1,5 +1,5 @@
-use Rattle.key_machine.proofs.Following.{unplug-takes}
+use Rattle.key_machine.proofs.Following.{unplug_takes}
 use Rattle.key_machine.proofs.laws.unplug_takes.Goals as goal
 
 pub returns : goal.returns
-returns c = unplug-takes
+returns c = unplug_takes

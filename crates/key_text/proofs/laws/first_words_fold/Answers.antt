@@ -1,5 +1,5 @@
-use Rattle.key_text.proofs.FirstWords.{first-words-fold}
+use Rattle.key_text.proofs.FirstWords.{first-words_fold}
 use Rattle.key_text.proofs.laws.first_words_fold.Goals as goal
 
 pub returns : goal.returns
-returns c = first-words-fold
+returns c = first-words_fold

@@ -1,5 +1,5 @@
-use Rattle.key_text.proofs.SameSenses.{senses-decide}
+use Rattle.key_text.proofs.SameSenses.{senses_decide}
 use Rattle.key_text.proofs.laws.senses_decide.Goals as goal
 
 pub returns : goal.returns
-returns c = senses-decide
+returns c = senses_decide

@@ -1,5 +1,5 @@
-use Rattle.key_text.proofs.Spellings.{spellings-agree}
+use Rattle.key_text.proofs.Spellings.{spellings_agree}
 use Rattle.key_text.proofs.laws.spellings_agree.Goals as goal
 
 pub returns : goal.returns
-returns c = spellings-agree
+returns c = spellings_agree

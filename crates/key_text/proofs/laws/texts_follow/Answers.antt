@@ -1,12 +1,12 @@
-use Rattle.key_text.proofs.Elsewhere.{places-tell}
-use Rattle.key_text.proofs.PartsRead.{starts-there, texts-follow}
+use Rattle.key_text.proofs.Elsewhere.{places_tell}
+use Rattle.key_text.proofs.PartsRead.{starts_there, texts_follow}
 use Rattle.key_text.proofs.laws.texts_follow.Goals as goal
 
 pub returns-clause-start : goal.returns-clause-start
-returns-clause-start c = starts-there
+returns-clause-start c = starts_there
 
 pub returns-clause-follow : goal.returns-clause-follow
-returns-clause-follow c = texts-follow
+returns-clause-follow c = texts_follow
 
 pub returns-clause-places : goal.returns-clause-places
-returns-clause-places c = places-tell
+returns-clause-places c = places_tell

@@ -1,5 +1,5 @@
 use Rattle.std.proofs.Common.{◌≡◌, ℕ, ◌≤◌, length, refl, ap, ◌∙◌, subst, arith}
-use Rattle.session_order.proofs.Starts.{from-start, is-start, of-callers}
+use Rattle.session_order.proofs.Starts.{from_start, is_start, of_callers}
 use Rattle.session_order.specs.Sessions.{start_of}
 use Rattle.session_text.specs.Sessions.{ArePrograms, SessionView}
 use Rattle.vt_base.specs.ConsoleSet.{IsFitSet}
@@ -9,7 +9,7 @@ use Rattle.session_order.proofs.sessions.session_laws.Goals as goal
 
 abbrev start : (c : goal.After-programs-programs) → IsStart (start_of c.args.s.now)
 start c =
-    is-start c.args.s.now
+    is_start c.args.s.now
     (subst (λ (config : Config). IsFitSet config.consoles config.front) c.config-config.ensures.same
     c.config-config.ensures.fit)
 
@@ -23,7 +23,7 @@ pub returns-clause-start : goal.returns-clause-start
 returns-clause-start c = start c
 
 pub returns-clause-setup : goal.returns-clause-setup
-returns-clause-setup c = from-start c.args.s.now (are c)
+returns-clause-setup c = from_start c.args.s.now (are c)
 
 pub returns-clause-programs : goal.returns-clause-programs
 returns-clause-programs c =
@@ -35,7 +35,7 @@ returns-clause-programs c =
     let four : s.config.keyboards ≤ 4 =
     subst (λ (config : Config). config.keyboards ≤ 4) c.config-config.ensures.same
     c.config-config.ensures.keyboards.four in
-    of-callers c.callers_have_programs.ensures (length s.config.procs) s.config.keyboards s.programs few four
+    of_callers c.callers_have_programs.ensures (length s.config.procs) s.config.keyboards s.programs few four
     (are c)
 
 pub returns-clause-right : goal.returns-clause-right

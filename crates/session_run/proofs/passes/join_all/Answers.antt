@@ -2,7 +2,7 @@ use Rattle.std.proofs.Common.{rules, ◌≡◌, ℕ, ◌<◌, arith, [], ◌∷�
 use Rattle.std.proofs.lemmas.Iterator.Adapters.{YieldsList-from_vec}
 use Rattle.std.proofs.lemmas.Iterator.Consumers.{YieldsList-turn}
 use Rattle.session_run.specs.Racing.{AreHome, HasRun}
-use Rattle.session_run.proofs.Joins.{home-more}
+use Rattle.session_run.proofs.Joins.{home_more}
 use Rattle.session_run.proofs.passes.join_all.Goals as goal
 
 pub loop-outcome-preserved : goal.loop-outcome-preserved
@@ -22,6 +22,6 @@ loop-outcome-preserved g c =
       home =
           subst (λ k. AreHome c.args.programs.now c.args.hub.now k c.join.new.s)
           (sym (length-append c.loop-outcome.yielded (c.in-Some.outcome ∷ [])))
-          (home-more c.args.programs.now c.args.hub.now c.args.callers.now n c.loop-outcome.steward c.join.new.s c.in_ok-pass.pass c.requires.callers within
+          (home_more c.args.programs.now c.args.hub.now c.args.callers.now n c.loop-outcome.steward c.join.new.s c.in_ok-pass.pass c.requires.callers within
           c.join.ensures.hub c.join.ensures.stands c.join.ensures.joined run c.loop-outcome.invariant.home);
     }

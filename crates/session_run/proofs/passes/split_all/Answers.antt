@@ -1,13 +1,13 @@
 use Rattle.std.proofs.Common.{◌≡◌, ℕ, ◌+◌, List, [], ◌∷◌, ◌++◌, get_or, length, sym, ap, ◌∙◌, subst}
 use Rattle.std.proofs.lemmas.List.{get_or_default, length_push}
-use Rattle.session_run.proofs.Joins.{fresh-more, split-free, split-more}
+use Rattle.session_run.proofs.Joins.{fresh_more, split_free, split_more}
 use Rattle.session_run.specs.Racing.{AreFresh, IsSplit}
 use Rattle.vt_hub.specs.Views.{PassView}
 use Rattle.session_run.proofs.passes.split_all.Goals as goal
 
 pub split-requires-clause-fresh : goal.split-requires-clause-fresh
 split-requires-clause-fresh g c =
-    split-free c.args.hub.now c.args.callers.now c.loop-p.p-index c.p-item.result c.loop-p.steward c.requires.rising c.loop-p-test.true
+    split_free c.args.hub.now c.args.callers.now c.loop-p.p-index c.p-item.result c.loop-p.steward c.requires.rising c.loop-p-test.true
     (c.p-item.is ∙ get_or_default c.args.callers.now c.loop-p.p-index c.p-item.result 0 c.loop-p-test.true) c.loop-p.invariant.split
 
 pub loop-p-preserved : goal.loop-p-preserved
@@ -20,9 +20,9 @@ loop-p-preserved g c =
     record {
       split =
           subst (IsSplit c.args.hub.now callers (i + 1)) (sym c.split.ensures.steward)
-          (split-more c.args.hub.now callers i p c.loop-p.steward at c.loop-p.invariant.split);
+          (split_more c.args.hub.now callers i p c.loop-p.steward at c.loop-p.invariant.split);
       many = ap length c.in_ok-push.ensures.items ∙ length_push passes c.split.result ∙ ap (λ n. n + 1) c.loop-p.invariant.many;
       fresh =
           subst (AreFresh c.args.hub.now callers) (sym (c.in_ok-push.ensures.items ∙ ap (λ (x : PassView). passes ++ x ∷ []) c.split.ensures.pass))
-          (fresh-more c.args.hub.now callers i p c.loop-p.steward passes at c.loop-p.invariant.split c.loop-p.invariant.fresh c.loop-p.invariant.many);
+          (fresh_more c.args.hub.now callers i p c.loop-p.steward passes at c.loop-p.invariant.split c.loop-p.invariant.fresh c.loop-p.invariant.many);
     }

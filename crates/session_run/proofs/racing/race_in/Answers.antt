@@ -1,13 +1,13 @@
 use Rattle.std.proofs.Common.{length, sym, ◌∙◌, subst}
 use Rattle.std.specs.List.Sorted.{IsStrictlyIncreasing}
-use Rattle.session_run.proofs.HavePrograms.{callers-rise}
+use Rattle.session_run.proofs.HavePrograms.{callers_rise}
 use Rattle.session_run.specs.Callers.{callers_in}
 use Rattle.session_run.specs.Racing.{AreHome, IsSplit}
 use Rattle.session_run.proofs.racing.race_in.Goals as goal
 
 pub split_all-requires-clause-rising : goal.split_all-requires-clause-rising
 split_all-requires-clause-rising g c =
-    subst IsStrictlyIncreasing (sym (c.as_slice-callers.ensures.value ∙ c.in_ok-found.ensures)) (callers-rise c.args.programs.now)
+    subst IsStrictlyIncreasing (sym (c.as_slice-callers.ensures.value ∙ c.in_ok-found.ensures)) (callers_rise c.args.programs.now)
 
 pub split_all-requires-clause-fresh : goal.split_all-requires-clause-fresh
 split_all-requires-clause-fresh g c =

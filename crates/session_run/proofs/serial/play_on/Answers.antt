@@ -2,13 +2,13 @@ use Rattle.std.proofs.Common.{◌≡◌, ℕ, ◌≤◌, true, arith, List, leng
 use Rattle.std.proofs.lemmas.List.Elements.{All-weaker}
 use Rattle.session_order.specs.Ends.{Setup}
 use Rattle.session_order.specs.Serial.{IsSerial, nothing_played, turns}
-use Rattle.session_run.proofs.Ends.{IsEnd, run-serial, run-world}
+use Rattle.session_run.proofs.Ends.{IsEnd, run_serial, run_world}
 use Rattle.session_run.proofs.HavePrograms.{hooked}
-use Rattle.session_run.proofs.Sessions.{from-start}
+use Rattle.session_run.proofs.Sessions.{from_start}
 use Rattle.session_run.specs.Playing.{IsAt}
-use Rattle.session_run.specs.Runs.{HasHooks, played}
+use Rattle.session_run.specs.Runs.{HasHooks, run_result}
 use Rattle.session_order.specs.Sessions.{setup_of}
-use Rattle.session_text.proofs.Turning.{turn-low}
+use Rattle.session_text.proofs.Turning.{turn_low}
 use Rattle.session_text.specs.Sessions.{ArePrograms}
 use Rattle.session_text.specs.Turns.{is_there}
 use Rattle.vt_journal.specs.declared.limits.Limits.{Limits}
@@ -34,7 +34,7 @@ turns-requires-clause-known g c =
     ap length c.as_slice-starts.ensures.list ∙ ap (λ (config : Config). length config.procs) c.config.ensures.same in
     let few : n ≤ 64 = omega (arith, starts, c.as_slice-starts.ensures.bound) in
     let four : k ≤ 4 = subst (λ (config : Config). config.keyboards ≤ 4) c.config.ensures.same c.config.ensures.keyboards.four in
-    All-weaker (λ t. is_there n k t ≡ true) (λ t. t ≤ 67) (λ t there. turn-low n k t four there few)
+    All-weaker (λ t. is_there n k t ≡ true) (λ t. t ≤ 67) (λ t there. turn_low n k t four there few)
     c.turns-first.result.now c.turns-first.ensures.callers
 
 pub returns-clause-serial : goal.returns-clause-serial
@@ -49,9 +49,9 @@ returns-clause-serial g c =
     let turned : IsAt o (turns o first nothing_played) c.turns.new.self =
     c.in_ok-turns.ensures o nothing_played same c.in_ok-player.ensures in
     let end : IsEnd o first c.rounds.new.self =
-    c.in_ok-rounds.ensures o first (from-start c.args.s.now are) same events turned in
-    subst (λ list. IsSerial o list (played c.end.result)) c.turns-first.ensures.same
-    (run-serial o first end.0 c.rounds.new.self c.end.result end.1 end.2 c.end.ensures.log c.end.ensures.stop)
+    c.in_ok-rounds.ensures o first (from_start c.args.s.now are) same events turned in
+    subst (λ list. IsSerial o list (run_result c.end.result)) c.turns-first.ensures.same
+    (run_serial o first end.0 c.rounds.new.self c.end.result end.1 end.2 c.end.ensures.log c.end.ensures.stop)
 
 pub returns-clause-world : goal.returns-clause-world
 returns-clause-world g c =
@@ -65,5 +65,5 @@ returns-clause-world g c =
     let turned : IsAt o (turns o first nothing_played) c.turns.new.self =
     c.in_ok-turns.ensures o nothing_played same c.in_ok-player.ensures in
     let end : IsEnd o first c.rounds.new.self =
-    c.in_ok-rounds.ensures o first (from-start c.args.s.now are) same events turned in
-    run-world c.meant_laws.ensures.replay o end.0 c.rounds.new.self c.end.result end.2 c.end.ensures.world c.end.ensures.log
+    c.in_ok-rounds.ensures o first (from_start c.args.s.now are) same events turned in
+    run_world c.meant_laws.ensures.replay o end.0 c.rounds.new.self c.end.result end.2 c.end.ensures.world c.end.ensures.log

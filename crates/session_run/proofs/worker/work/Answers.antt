@@ -1,10 +1,10 @@
 use Rattle.std.proofs.Common.{sym, ◌∙◌}
-use Rattle.session_run.proofs.Working.{not-waiting, works-on}
+use Rattle.session_run.proofs.Working.{not_waiting, works-on}
 use Rattle.session_run.proofs.worker.work.Goals as goal
 
 pub ask-requires-clause-free : goal.ask-requires-clause-free
 ask-requires-clause-free g c = λ call goes.
-    not-waiting c.meant_laws.ensures.next c.waits_are_ended.ensures c.args.program.now c.loop.walk c.args.seat.now c.args.pass.number c.loop.pass c.in-Some-2.event c.loop.invariant
+    not_waiting c.meant_laws.ensures.next c.waits_are_ended.ensures c.args.program.now c.loop.walk c.args.seat.now c.args.pass.number c.loop.pass c.in-Some-2.event c.loop.invariant
     (λ made s. sym c.in-Some-2.is ∙ c.in_ok-event.ensures made s) call
 
 pub loop-preserved-in-Done : goal.loop-preserved-in-Done

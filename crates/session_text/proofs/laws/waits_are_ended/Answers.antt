@@ -1,5 +1,5 @@
-use Rattle.session_text.proofs.Waits.{waits-are-ended}
+use Rattle.session_text.proofs.Waits.{waits_are_ended}
 use Rattle.session_text.proofs.laws.waits_are_ended.Goals as goal
 
 pub returns : goal.returns
-returns c = waits-are-ended
+returns c = waits_are_ended

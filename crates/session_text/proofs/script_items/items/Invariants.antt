@@ -1,6 +1,6 @@
 use Rattle.std.proofs.Common.{◌≡◌, ◌+◌, true, List, Result, drop, length, map}
 use Rattle.std.specs.List.{All}
-use Rattle.table_fields.specs.Collecting.{behind}
+use Rattle.table_fields.specs.Collecting.{found_before}
 use Rattle.table_fields.specs.declared.fault.TableFault.{TableFault}
 use Rattle.vt_events.specs.declared.event.Event.{Event}
 use Rattle.session_text.specs.ItemTexts.{is_item, item_says}
@@ -14,4 +14,4 @@ invariant-loop-i l =
     × All (λ e. is_item e ≡ true) l.items.events
     × ((said : Result (List Event) TableFault)
     → each_says (item_says l.part) (l.i + 1) (map (λ text. text.now) (drop l.i l.texts)) said
-    → each_says (item_says l.part) 1 (map (λ text. text.now) l.texts) (behind l.items.events said))
+    → each_says (item_says l.part) 1 (map (λ text. text.now) l.texts) (found_before l.items.events said))

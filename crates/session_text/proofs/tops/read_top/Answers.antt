@@ -5,8 +5,8 @@ use Rattle.toml.specs.Data.{Members, as_table}
 use Rattle.toml.specs.View.{table_view}
 use Rattle.toml.specs.declared.value.Value.{Value}
 use Rattle.session_text.specs.Turns.{is_there}
-use Rattle.session_text.proofs.Counting.{array-count, further-count}
-use Rattle.session_text.proofs.TopReading.{top-read}
+use Rattle.session_text.proofs.Counting.{array_count, further_count}
+use Rattle.session_text.proofs.TopReading.{top_read}
 use Rattle.session_text.proofs.tops.read_top.Goals as goal
 
 abbrev Entries : Type 0
@@ -25,7 +25,7 @@ returns-clause-top c =
     length-map c.in_ok-tables.tables.items (λ (table : Entries). table_view table.now) in
     let few : length tables ≤ 64 = omega (arith, long, c.in_ok-tables.tables.ok.0) in
     let many : length tables ≡ c.count.result =
-    array-count as_table 0 11 _ tables c.in_ok-tables.ensures ∙ sym c.count.ensures in (
+    array_count as_table 0 11 _ tables c.in_ok-tables.ensures ∙ sym c.count.ensures in (
       record {
         opening = c.in_ok-opening.opening;
         typed = typed;
@@ -33,7 +33,7 @@ returns-clause-top c =
         tables = tables;
         further = further;
       },
-      top-read (table_view c.args.table.now) _ _ _ c.in_ok-opening.opening typed c.count.result c.keyboard_count-keyboards.result turns
+      top_read (table_view c.args.table.now) _ _ _ c.in_ok-opening.opening typed c.count.result c.keyboard_count-keyboards.result turns
           tables further (sym c.knows_keys.ensures ∙ c.if-not-knows_keys.false) c.in_ok-opening.ensures.opening typed_is
           c.at-list.ensures c.count.ensures c.at-more.ensures c.keyboard_count-keyboards.ensures c.at.ensures turns_are
           c.in_ok-tables.ensures few further_is,
@@ -54,10 +54,10 @@ returns-clause-fit c =
     let long : length tables ≡ length c.in_ok-tables.tables.items =
     length-map c.in_ok-tables.tables.items (λ (table : Entries). table_view table.now) in
     let many : length tables ≡ c.count.result =
-    array-count as_table 0 11 _ tables c.in_ok-tables.ensures ∙ sym c.count.ensures in
+    array_count as_table 0 11 _ tables c.in_ok-tables.ensures ∙ sym c.count.ensures in
     let same : c.count.result ≡ length c.in_ok-tables.tables.items = sym many ∙ long in
     let keyboards : c.keyboard_count-keyboards.result ≡ length c.in_ok-further.further.items + 1 =
-    c.keyboard_count-keyboards.ensures ∙ further-count _ further c.in_ok-further.further.items further_is further_are in
+    c.keyboard_count-keyboards.ensures ∙ further_count _ further c.in_ok-further.further.items further_is further_are in
     record {
       opening = c.in_ok-opening.ensures.fit;
       keys = c.in_ok-keyboard.ensures.few;

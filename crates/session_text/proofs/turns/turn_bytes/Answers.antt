@@ -6,7 +6,7 @@ use Rattle.table_fields.specs.Checked.{collect, fault}
 use Rattle.table_fields.specs.declared.fault.TableFault.{TableFault}
 use Rattle.session_text.specs.Collected.{TurnsSoFar}
 use Rattle.session_text.specs.Turns.{is_there, turn_in}
-use Rattle.session_text.proofs.Turning.{turn-low, turn-there, turns_end, turns_more}
+use Rattle.session_text.proofs.Turning.{turn_low, turn_there, turns_end, turns_more}
 use Rattle.session_text.proofs.turns.turn_bytes.Goals as goal
 
 pub loop-i-preserved : goal.loop-i-preserved
@@ -23,7 +23,7 @@ loop-i-preserved c =
       subst (All (λ t. is_there c.args.processes c.args.keyboards t ≡ true)) (sym made)
           (All-append (λ t. is_there c.args.processes c.args.keyboards t ≡ true) c.loop-i.bytes.bytes _ all
           (All-cons (λ t. is_there c.args.processes c.args.keyboards t ≡ true) (min c.in_ok-turn.turn 67) []
-          (turn-there c.args.processes c.args.keyboards c.in_ok-turn.turn c.requires.some c.in_ok-turn.ensures.there)
+          (turn_there c.args.processes c.args.keyboards c.in_ok-turn.turn c.requires.some c.in_ok-turn.ensures.there)
           (All-nil (λ t. is_there c.args.processes c.args.keyboards t ≡ true)))),
       subst
           (λ bytes.
@@ -32,7 +32,7 @@ loop-i-preserved c =
           (collect f 1 c.args.numbers.now)) (sym made)
           (turns_more c.args.processes c.loop-i.i c.loop-i.bytes.bytes f c.args.numbers.now _ (pos 0)
           c.in_ok-turn.turn c.loop-i-test.true so_far value
-          (turn-low c.args.processes c.args.keyboards c.in_ok-turn.turn c.requires.some c.in_ok-turn.ensures.there)),
+          (turn_low c.args.processes c.args.keyboards c.in_ok-turn.turn c.requires.some c.in_ok-turn.ensures.there)),
     )
 
 pub returns-clause-turns : goal.returns-clause-turns

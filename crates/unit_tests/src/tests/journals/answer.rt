@@ -4,7 +4,7 @@ use vt_events::Reply;
 
 /// An answer, with its bytes as a literal.
 #[derive(Clone, Copy)]
-pub enum Answer {
+pub(crate) enum Answer {
     Done,
     Num(u32),
     State(u8, u64),
@@ -18,7 +18,7 @@ pub enum Answer {
 
 impl Answer {
     /// The answer itself.
-    pub fn reply(self, alloc: Global) -> Result<Reply, NoMemory> {
+    pub(crate) fn reply(self, alloc: Global) -> Result<Reply, NoMemory> {
         match self {
             Answer::Text(b) => Ok(Reply::Text(Bytes::from_slice(alloc, b)?)),
             other => Ok(other.plain()),

@@ -1,5 +1,5 @@
-use Rattle.vt_chars.proofs.Cutting.{ascii-cuts}
+use Rattle.vt_chars.proofs.Cutting.{ascii_cuts}
 use Rattle.vt_chars.proofs.laws.ascii_cuts.Goals as goal
 
 pub returns : goal.returns
-returns c = ascii-cuts
+returns c = ascii_cuts

@@ -1,5 +1,5 @@
-use Rattle.vt_chars.proofs.Cutting.{characters-are-all}
+use Rattle.vt_chars.proofs.Cutting.{characters_are_all}
 use Rattle.vt_chars.proofs.laws.characters_are_all.Goals as goal
 
 pub returns : goal.returns
-returns c = characters-are-all
+returns c = characters_are_all

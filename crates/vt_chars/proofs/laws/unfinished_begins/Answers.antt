@@ -1,5 +1,5 @@
-use Rattle.vt_chars.proofs.Prefixes.{unfinished-begins}
+use Rattle.vt_chars.proofs.Prefixes.{unfinished_begins}
 use Rattle.vt_chars.proofs.laws.unfinished_begins.Goals as goal
 
 pub returns : goal.returns
-returns c = unfinished-begins
+returns c = unfinished_begins

@@ -4,7 +4,7 @@ use Rattle.session_order.specs.Sessions.{setup_of, start_of}
 use Rattle.vt_check.specs.Verdicts.{Judges}
 use Rattle.vt_explain.proofs.Certified.{certificate_is, found_is}
 use Rattle.vt_explain.specs.Certificates.{IsCertificate}
-use Rattle.vt_explain.specs.Finding.{Known, is_at, known}
+use Rattle.vt_explain.specs.Finding.{Known, is_at, known_after}
 use Rattle.vt_switch.specs.Law.{IsLawful}
 use Rattle.vt_switch.specs.Moments.{Moment}
 use Rattle.vt_world.specs.Laws.{moments}
@@ -13,7 +13,7 @@ use Rattle.vt_explain.proofs.explaining.explain.Goals as goal
 abbrev history : goal.After-into_items → List Moment
 history c = moments (start_of c.args.s.now) c.args.j.now.entries
 
-found : (c : goal.After-into_items) → c.into_items.result.items ≡ (known (history c)).items
+found : (c : goal.After-into_items) → c.into_items.result.items ≡ (known_after (history c)).items
 found c =
     c.into_items.ensures ∙ ap (λ (k : Known). k.items) (c.in_ok-verdict.ensures.saw c.in-Legal.is).known_is
 

@@ -1,5 +1,5 @@
-use Rattle.vt_grid.proofs.Paired.{edits-keep-halves}
+use Rattle.vt_grid.proofs.Paired.{edits_keep_halves}
 use Rattle.vt_grid.proofs.laws.edits_keep_halves.Goals as goal
 
 pub returns : goal.returns
-returns c = edits-keep-halves
+returns c = edits_keep_halves

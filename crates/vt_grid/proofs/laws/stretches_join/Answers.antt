@@ -1,5 +1,5 @@
-use Rattle.vt_grid.proofs.Joins.{stretches-join}
+use Rattle.vt_grid.proofs.Joins.{stretches_join}
 use Rattle.vt_grid.proofs.laws.stretches_join.Goals as goal
 
 pub returns : goal.returns
-returns c = stretches-join
+returns c = stretches_join

@@ -2,9 +2,9 @@
 ghost use Rattle.std.specs.List.{list_all};
 ghost use Rattle.std.specs.Prelude.{◌≡◌, ◌+◌, ◌-◌, ◌<◌, ◌≤◌, ◌==◌, length, map, not, replicate, take, true};
 ghost use Rattle.vt_cells.specs.Width.{half};
-ghost use Rattle.vt_grid.specs.Grid.{deleted, erased, filled, inserted, row_at, with_run};
+ghost use Rattle.vt_grid.specs.Grid.{with_deleted, with_erased, filled_grid, with_inserted, row_at, with_run};
 ghost use Rattle.vt_grid.specs.Ring.{blank_slot};
-ghost use Rattle.vt_grid.specs.Store.{sheet_shown};
+ghost use Rattle.vt_grid.specs.Store.{grid_view};
 
 use super::{RowStore, stays_narrow};
 use crate::code::Code;
@@ -14,7 +14,7 @@ use vt_cells::{Cell, HALF};
 impl RowStore {
     /// Makes every cell `c`.
     pub(crate) fn fill_all(&mut self, c: Cell)
-        ensures { sheet_shown self.new ≡ filled self.old.rows self.old.cols c }
+        ensures { grid_view self.new ≡ filled_grid self.old.rows self.old.cols c }
     {
         cut_each(&mut self.rows, c);
         self.narrow = c.code != HALF;
@@ -27,8 +27,8 @@ impl RowStore {
         requires row { y < self.old.rows }
         requires columns { x + length codes.now ≤ self.old.cols }
         requires narrow { narrow ≡ true → list_all (λ c. not (T.code_of c == half)) codes.now ≡ true }
-        ensures { sheet_shown self.new
-            ≡ with_run (sheet_shown self.old) y x
+        ensures { grid_view self.new
+            ≡ with_run (grid_view self.old) y x
             (map (λ c. record { code = T.code_of c; attr = attr }) codes.now) }
     {
         self.stays_fit();
@@ -44,7 +44,7 @@ impl RowStore {
         requires row { y < self.old.rows }
         requires order { x0 ≤ x1 }
         requires column { x1 < self.old.cols }
-        ensures { sheet_shown self.new ≡ erased (sheet_shown self.old) y x0 x1 c }
+        ensures { grid_view self.new ≡ with_erased (grid_view self.old) y x0 x1 c }
     {
         let last = self.size().cols - 1;
         if x1 == last {
@@ -58,8 +58,8 @@ impl RowStore {
     fn fill(&mut self, y: u8, x: u8, count: u8, c: Cell)
         requires row { y < self.old.rows }
         requires columns { x + count ≤ self.old.cols }
-        ensures { sheet_shown self.new
-            ≡ with_run (sheet_shown self.old) y x (replicate count c) }
+        ensures { grid_view self.new
+            ≡ with_run (grid_view self.old) y x (replicate count c) }
     {
         self.stays_fit();
         let number = self.ring.at(y);
@@ -73,7 +73,7 @@ impl RowStore {
     fn cut_from(&mut self, y: u8, x: u8, c: Cell)
         requires row { y < self.old.rows }
         requires column { x < self.old.cols }
-        ensures { sheet_shown self.new ≡ erased (sheet_shown self.old) y x (self.old.cols - 1) c }
+        ensures { grid_view self.new ≡ with_erased (grid_view self.old) y x (self.old.cols - 1) c }
     {
         self.stays_fit();
         let number = self.ring.at(y);
@@ -88,7 +88,7 @@ impl RowStore {
     pub(crate) fn insert(&mut self, y: u8, x: u8, n: u16, c: Cell)
         requires row { y < self.old.rows }
         requires column { x < self.old.cols }
-        ensures { sheet_shown self.new ≡ inserted (sheet_shown self.old) y x n c }
+        ensures { grid_view self.new ≡ with_inserted (grid_view self.old) y x n c }
     {
         self.stays_fit();
         let room = self.size.cols - x;
@@ -104,7 +104,7 @@ impl RowStore {
     pub(crate) fn delete(&mut self, y: u8, x: u8, n: u16, c: Cell)
         requires row { y < self.old.rows }
         requires column { x < self.old.cols }
-        ensures { sheet_shown self.new ≡ deleted (sheet_shown self.old) y x n c }
+        ensures { grid_view self.new ≡ with_deleted (grid_view self.old) y x n c }
     {
         self.stays_fit();
         let cols = self.size.cols;
@@ -123,8 +123,8 @@ impl RowStore {
         requires columns { cols ≤ self.old.cols }
         requires from { from < old.now.rows }
         requires old_columns { cols ≤ old.now.cols }
-        ensures { sheet_shown self.new
-            ≡ with_run (sheet_shown self.old) y 0 (take cols (row_at (sheet_shown old.now) from)) }
+        ensures { grid_view self.new
+            ≡ with_run (grid_view self.old) y 0 (take cols (row_at (grid_view old.now) from)) }
     {
         old.stays_fit();
         if cols == self.size().cols {
@@ -139,9 +139,9 @@ impl RowStore {
         requires row { y < self.old.rows }
         requires from { from < old.now.rows }
         requires columns { self.old.cols ≤ old.now.cols }
-        ensures { sheet_shown self.new
-            ≡ with_run (sheet_shown self.old) y 0
-            (take self.old.cols (row_at (sheet_shown old.now) from)) }
+        ensures { grid_view self.new
+            ≡ with_run (grid_view self.old) y 0
+            (take self.old.cols (row_at (grid_view old.now) from)) }
     {
         self.stays_fit();
         old.stays_fit();
@@ -158,8 +158,8 @@ impl RowStore {
         requires columns { count ≤ self.old.cols }
         requires from { from < old.now.rows }
         requires old_columns { count ≤ old.now.cols }
-        ensures { sheet_shown self.new
-            ≡ with_run (sheet_shown self.old) y 0 (take count (row_at (sheet_shown old.now) from)) }
+        ensures { grid_view self.new
+            ≡ with_run (grid_view self.old) y 0 (take count (row_at (grid_view old.now) from)) }
     {
         self.stays_fit();
         old.stays_fit();

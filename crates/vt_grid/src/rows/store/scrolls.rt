@@ -1,9 +1,9 @@
 //! The scrolls of a grid, as the rows take them.
 ghost use Rattle.std.specs.Prelude.{◌≡◌, ◌+◌, ◌-◌, ◌<◌, ◌≤◌, ◌==◌, ℕ, drop, if◌then◌else◌, length, slice_index, take};
 ghost use Rattle.vt_grid.specs.Grid.{scrolled_down, scrolled_up};
-ghost use Rattle.vt_grid.specs.Line.{blank_line};
+ghost use Rattle.vt_grid.specs.StoredRow.{blank_row};
 ghost use Rattle.vt_grid.specs.Ring.{cut_all};
-ghost use Rattle.vt_grid.specs.Store.{cleared, part_turned, scroll_steps, sheet_shown};
+ghost use Rattle.vt_grid.specs.Store.{with_run_of, part_turned, scroll_steps, grid_view};
 
 use super::{RowStore, stays_narrow};
 use crate::rows::Steps;
@@ -27,7 +27,7 @@ impl RowStore {
     )
         requires order { top ≤ bottom }
         requires row { bottom < self.old.rows }
-        ensures grid { sheet_shown self.new ≡ scrolled_up (sheet_shown self.old) top bottom n c }
+        ensures grid { grid_view self.new ≡ scrolled_up (grid_view self.old) top bottom n c }
         ensures steps { steps.new ≤ steps.old + scroll_steps self.old.rows top bottom n }
     {
         self.stays_fit();
@@ -40,7 +40,7 @@ impl RowStore {
     pub(crate) fn scroll_down(&mut self, top: u8, bottom: u8, n: u16, c: Cell)
         requires order { top ≤ bottom }
         requires row { bottom < self.old.rows }
-        ensures { sheet_shown self.new ≡ scrolled_down (sheet_shown self.old) top bottom n c }
+        ensures { grid_view self.new ≡ scrolled_down (grid_view self.old) top bottom n c }
     {
         self.stays_fit();
         let height = bottom - top + 1;
@@ -76,7 +76,7 @@ impl RowStore {
         requires part { from + count ≤ self.old.rows }
         ensures rows { self.new
             ≡ record self.old {
-              lines = cleared from count (blank_line c) (part_turned top bottom n self.old.lines);
+              lines = with_run_of from count (blank_row c) (part_turned top bottom n self.old.lines);
             } }
         ensures steps { steps.new
             ≤ steps.old
@@ -108,7 +108,7 @@ impl RowStore {
         requires part { from + count ≤ self.old.rows }
         ensures rows { self.new
             ≡ record self.old {
-              lines = cleared from count (blank_line c) (part_turned top bottom n self.old.lines);
+              lines = with_run_of from count (blank_row c) (part_turned top bottom n self.old.lines);
             } }
         ensures steps { steps.new
             ≤ steps.old
@@ -145,7 +145,7 @@ impl RowStore {
     fn clear<L: Ledger>(&mut self, from: u8, count: u8, c: Cell, steps: &mut Steps<L>)
         requires { from + count ≤ self.old.rows }
         ensures rows { self.new
-            ≡ record self.old { lines = cleared from count (blank_line c) self.old.lines } }
+            ≡ record self.old { lines = with_run_of from count (blank_row c) self.old.lines } }
         ensures steps { steps.new ≡ steps.old + count }
     {
         self.stays_fit();
@@ -180,7 +180,7 @@ fn scroll_alone<L: Ledger>(
     requires part { from + count ≤ store.old.rows }
     ensures { store.new
         ≡ record store.old {
-          lines = cleared from count (blank_line c) (part_turned top bottom n store.old.lines);
+          lines = with_run_of from count (blank_row c) (part_turned top bottom n store.old.lines);
         } }
 {
     let mut steps = Steps::<L>::open(blank);

@@ -1,6 +1,6 @@
 use Rattle.std.proofs.Common.{◌<◌, ◌^◌, subst, sym, arith, rules}
 use Rattle.std.specs.List.{All}
-use Rattle.vt_journal.proofs.Pairs.{no_hex, hex_more, All-more}
+use Rattle.vt_journal.proofs.Pairs.{no_hex, hex_more, All_more}
 use Rattle.vt_journal.proofs.hex.parse_pairs.Goals as goal
 
 pub returns-in_default-clause-none : goal.returns-in_default-clause-none
@@ -15,6 +15,6 @@ loop-i-preserved c =
           (hex_more c.args.word.now c.loop-i.bytes.bytes c.loop-i.i c.in-Some.b (omega arith)
           c.loop-i.invariant.0 c.in-Some.ensures.found),
       subst (All (λ x. x < 2 ^ 8)) (sym c.push.ensures.bytes)
-          (All-more c.loop-i.bytes.bytes c.in-Some.b fit c.loop-i.invariant.1),
+          (All_more c.loop-i.bytes.bytes c.in-Some.b fit c.loop-i.invariant.1),
       omega arith,
     )

@@ -5,15 +5,15 @@ use Rattle.std.proofs.lemmas.List.Elements.{All-weaker}
 use Rattle.std.proofs.lemmas.List.Sums.{AllPass-from_list_all}
 use Rattle.vt_journal.specs.Calls.{name_of}
 use Rattle.vt_journal.specs.Kinds.{blank}
-use Rattle.vt_journal.specs.declared.rows.Row.{Row}
+use Rattle.vt_journal.specs.declared.rows.CallForm.{CallForm}
 use Rattle.vt_journal.proofs.Calls.{each_kind}
 use Rattle.vt_journal.proofs.rows.rows.Goals as goal
 
 -- a row's name is that of its kind
-abbrev is_named : Row → Bool
+abbrev is_named : CallForm → Bool
 is_named row = pointwise nat_eq row.name.now (name_of (blank row.kind))
 
-all_named : (rows : List Row) → list_all is_named rows ≡ true
+all_named : (rows : List CallForm) → list_all is_named rows ≡ true
     → All (λ row. row.name.now ≡ name_of (blank row.kind)) rows
 all_named rows passes =
     All-weaker (λ row. is_named row ≡ true) (λ row. row.name.now ≡ name_of (blank row.kind))

@@ -1,6 +1,6 @@
 use Rattle.std.proofs.Common.{◌≡◌, ◌++◌, ◌∙◌, ap, codes}
 use Rattle.std.proofs.lemmas.Result.{on_ok_weaker}
-use Rattle.vt_grid.specs.Grid.{Sheet}
+use Rattle.vt_grid.specs.Grid.{GridView}
 use Rattle.vt_picture.specs.Picture.{cursor_words, description_text, size_words}
 use Rattle.vt_picture.proofs.Texts.{in_five}
 use Rattle.vt_picture.proofs.head.add_description.Goals as goal
@@ -10,7 +10,7 @@ pub returns : goal.returns
 unfolding description_text
 returns c =
     let size : c.add_size_words.new.text.bytes ≡ c.add.new.text.bytes ++ size_words c.args.emu.now.state.grid =
-    c.in_ok-add_size_words.ensures ∙ ap (λ (g : Sheet). c.add.new.text.bytes ++ size_words g) c.grid.ensures.cells in
+    c.in_ok-add_size_words.ensures ∙ ap (λ (g : GridView). c.add.new.text.bytes ++ size_words g) c.grid.ensures.cells in
     let cursor : c.add_cursor_words.new.text.bytes
     ≡ c.add-2.new.text.bytes ++ cursor_words c.args.emu.now.state.state =
     c.in_ok-add_cursor_words.ensures

@@ -1,6 +1,6 @@
 use Rattle.std.proofs.Common.{◌≡◌, ℕ, ◌++◌, List, ◌∷◌, length, sym, ap, ◌∙◌}
 use Rattle.vt_cells.specs.declared.cell.Cell.{Cell}
-use Rattle.vt_redraw.proofs.Counts.{end-here, erase-text}
+use Rattle.vt_redraw.proofs.Counts.{end_here, erase-text}
 use Rattle.vt_redraw.specs.Blanks.{end_count}
 use Rattle.vt_redraw.specs.Cells.{cells_text}
 use Rattle.vt_redraw.proofs.cells.add_cells.Goals as goal
@@ -19,6 +19,6 @@ returns-then-left-blanks c =
     ∙ ap (λ (cells : List Cell). length cells) is in
     c.in_ok-add_blanks.ensures
     ∙ ap (λ (text : List ℕ). c.loop-cell.text.bytes ++ text)
-    (sym (erase-text c.args.erases c.loop-cell.now cell more (end-here c.args.erases cell more ends))
+    (sym (erase-text c.args.erases c.loop-cell.now cell more (end_here c.args.erases cell more ends))
     ∙ ap (cells_text c.args.erases c.loop-cell.now) (sym is))
     ∙ c.loop-cell.invariant.text

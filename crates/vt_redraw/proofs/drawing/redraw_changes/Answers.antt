@@ -1,5 +1,5 @@
 use Rattle.std.proofs.Common.{List, ℕ, sym, subst, ap, ◌∙◌}
-use Rattle.vt_grid.specs.Grid.{Sheet}
+use Rattle.vt_grid.specs.Grid.{GridView}
 use Rattle.vt_redraw.specs.Redraw.{IsSameSize, Redraws, changes_of}
 use Rattle.vt_redraw.proofs.drawing.redraw_changes.Goals as goal
 
@@ -7,7 +7,7 @@ pub returns-clause-again : goal.returns-clause-again
 returns-clause-again c =
     λ other whole same.
     let size : IsSameSize other.grid c.args.emu.now.state.grid =
-    subst (λ (g : Sheet). IsSameSize g c.args.emu.now.state.grid) (sym same) c.requires.size in
+    subst (λ (g : GridView). IsSameSize g c.args.emu.now.state.grid) (sym same) c.requires.size in
     subst (λ (text : List ℕ). Redraws c.args.emu.now.state other text)
-    (ap (λ (g : Sheet). changes_of g c.args.emu.now.state) same ∙ sym c.in_ok-text.ensures)
+    (ap (λ (g : GridView). changes_of g c.args.emu.now.state) same ∙ sym c.in_ok-text.ensures)
     (c.screens_redraw.ensures.changes c.args.emu.now.state other c.stays_stored.ensures whole size c.requires.redrawable)

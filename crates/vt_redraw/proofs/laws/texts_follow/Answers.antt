@@ -1,5 +1,5 @@
-use Rattle.vt_redraw.proofs.Alike.{texts-follow}
+use Rattle.vt_redraw.proofs.Alike.{texts_follow}
 use Rattle.vt_redraw.proofs.laws.texts_follow.Goals as goal
 
 pub returns : goal.returns
-returns c = texts-follow
+returns c = texts_follow

@@ -1,5 +1,5 @@
 use Rattle.std.proofs.Common.{◌≡◌, List, ℕ, ◌++◌, ap, ◌∙◌}
-use Rattle.vt_grid.specs.Grid.{Sheet}
+use Rattle.vt_grid.specs.Grid.{GridView}
 use Rattle.vt_redraw.proofs.Joins.{joined}
 use Rattle.vt_redraw.specs.State.{cursor_text, modes_text, palette_text, pen_text, region_text, saved_text, stops_text}
 use Rattle.vt_screen.specs.Screen.{Screen}
@@ -11,7 +11,7 @@ returns c =
     let s : Screen = c.args.emu.now.state in
     let v : ScreenState = s.state in
     let state : c.state-s.result.now ≡ v = c.state-s.ensures.state in
-    let cols : c.size.result.cols ≡ s.grid.cols = c.size.ensures.cols ∙ ap (λ (g : Sheet). g.cols) c.grid-2.ensures.cells in
+    let cols : c.size.result.cols ≡ s.grid.cols = c.size.ensures.cols ∙ ap (λ (g : GridView). g.cols) c.grid-2.ensures.cells in
     let b0 : List ℕ = c.args.text.now.bytes in
     let b1 : List ℕ = c.add_stops.new.text.bytes in
     let b2 : List ℕ = c.add_saved.new.text.bytes in

@@ -1,5 +1,5 @@
-use Rattle.vt_screen.proofs.PutBack.{restore-puts-back}
+use Rattle.vt_screen.proofs.PutBack.{restore_puts_back}
 use Rattle.vt_screen.proofs.cursor_laws.restore_puts_back.Goals as goal
 
 pub returns : goal.returns
-returns c = restore-puts-back
+returns c = restore_puts_back

@@ -1,5 +1,5 @@
-use Rattle.vt_screen.proofs.TapeHalves.{halves-follow-wide}
+use Rattle.vt_screen.proofs.TapeHalves.{halves_follow_wide}
 use Rattle.vt_screen.proofs.laws.halves_follow_wide.Goals as goal
 
 pub returns : goal.returns
-returns c = halves-follow-wide c.columns_are_few.ensures.worked.right_half c.texts_spell_characters.ensures
+returns c = halves_follow_wide c.columns_are_few.ensures.worked.right_half c.texts_spell_characters.ensures

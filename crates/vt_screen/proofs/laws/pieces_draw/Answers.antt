@@ -1,14 +1,14 @@
 use Rattle.std.proofs.Common.{[]}
-use Rattle.vt_screen.specs.Run.{drawing}
-use Rattle.vt_units.proofs.Runs.{piece-acts, piece-resumes}
+use Rattle.vt_screen.specs.Run.{screen_effects}
+use Rattle.vt_units.proofs.Runs.{piece_acts, piece_resumes}
 use Rattle.vt_screen.proofs.laws.pieces_draw.Goals as goal
 
 pub returns-clause-fresh : goal.returns-clause-fresh
 returns-clause-fresh c =
     λ m bytes nothing.
-    piece-acts drawing c.unfinished_begins.ensures bytes (record { screen = m.state; outs = [] }) m.rest nothing
+    piece_acts screen_effects c.unfinished_begins.ensures bytes (record { screen = m.state; outs = [] }) m.rest nothing
 
 pub returns-clause-resumed : goal.returns-clause-resumed
 returns-clause-resumed c =
     λ m bytes begun.
-    piece-resumes drawing c.unfinished_begins.ensures bytes (record { screen = m.state; outs = [] }) m.rest begun
+    piece_resumes screen_effects c.unfinished_begins.ensures bytes (record { screen = m.state; outs = [] }) m.rest begun

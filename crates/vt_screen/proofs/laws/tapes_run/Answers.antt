@@ -1,8 +1,8 @@
-use Rattle.vt_screen.proofs.Tapes.{stretches-run, any-tape-cut}
+use Rattle.vt_screen.proofs.Tapes.{stretches_run, any_tape_cut}
 use Rattle.vt_screen.proofs.laws.tapes_run.Goals as goal
 
 pub returns-clause-stretches : goal.returns-clause-stretches
-returns-clause-stretches c = stretches-run
+returns-clause-stretches c = stretches_run
 
 pub returns-clause-cuts : goal.returns-clause-cuts
-returns-clause-cuts c = any-tape-cut
+returns-clause-cuts c = any_tape_cut

@@ -1,5 +1,5 @@
-use Rattle.vt_switch.proofs.Lawful.{display-law}
+use Rattle.vt_switch.proofs.Lawful.{display_law}
 use Rattle.vt_switch.proofs.laws.each_hop_was_allowed.Goals as goal
 
 pub returns : goal.returns
-returns c = display-law
+returns c = display_law

@@ -1,8 +1,8 @@
-use Rattle.vt_switch.proofs.Lawful.{owners-stay-live, target-law}
+use Rattle.vt_switch.proofs.Lawful.{owners_stay_live, target_law}
 use Rattle.vt_switch.proofs.laws.each_target_was_asked_for.Goals as goal
 
 pub returns-clause-asked : goal.returns-clause-asked
-returns-clause-asked c = target-law
+returns-clause-asked c = target_law
 
 pub returns-clause-owners : goal.returns-clause-owners
-returns-clause-owners c = owners-stay-live
+returns-clause-owners c = owners_stay_live

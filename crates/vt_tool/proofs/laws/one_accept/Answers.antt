@@ -1,8 +1,8 @@
-use Rattle.vt_tool.proofs.Outcomes.{one-accepted, one-outcome}
-use Rattle.vt_tool.specs.declared.commands.asked.Asked.TheVariants as asked
+use Rattle.vt_tool.proofs.Outcomes.{one_accepted, one_outcome}
+use Rattle.vt_tool.specs.declared.commands.judge_request.JudgeRequest.TheVariants as asked
 use Rattle.vt_tool.proofs.laws.one_accept.Goals as goal
 
 pub returns : goal.returns
 returns c =
-    one-outcome c.one_session.ensures c.one_value.ensures c.one_journal.ensures.one asked.Acceptance
-    (one-accepted c.one_acceptance.ensures c.one_cert.ensures.one)
+    one_outcome c.one_session.ensures c.one_value.ensures c.one_journal.ensures.one asked.Acceptance
+    (one_accepted c.one_acceptance.ensures c.one_cert.ensures.one)

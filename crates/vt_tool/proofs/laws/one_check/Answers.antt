@@ -1,8 +1,8 @@
-use Rattle.vt_tool.proofs.Outcomes.{one-judged, one-outcome}
-use Rattle.vt_tool.specs.declared.commands.asked.Asked.TheVariants as asked
+use Rattle.vt_tool.proofs.Outcomes.{one_judged, one_outcome}
+use Rattle.vt_tool.specs.declared.commands.judge_request.JudgeRequest.TheVariants as asked
 use Rattle.vt_tool.proofs.laws.one_check.Goals as goal
 
 pub returns : goal.returns
 returns c =
-    one-outcome c.one_session.ensures c.one_value.ensures c.one_journal.ensures.one asked.Verdict
-    (one-judged c.one_verdict.ensures.one)
+    one_outcome c.one_session.ensures c.one_value.ensures c.one_journal.ensures.one asked.Verdict
+    (one_judged c.one_verdict.ensures.one)

@@ -1,7 +1,7 @@
 use Rattle.std.proofs.Common.{◌≡◌, ℕ, ◌++◌, length, List, take, ap, arith, length-append}
 use Rattle.std.proofs.lemmas.List.{length-take-le}
 use Rattle.std.proofs.lemmas.Result.{err_from_is_err_and}
-use Rattle.vt_tool.proofs.Streams.{consumes-append}
+use Rattle.vt_tool.proofs.Streams.{consumes_append}
 use Rattle.vt_tool.proofs.reading.read_to_end.Goals as goal
 
 pub returns-then-count-limit : goal.returns-then-count-limit
@@ -12,7 +12,7 @@ returns-then-count-limit g c =
     length-take-le c.in_ok-count.count c.read.new.buf c.in_ok-count.ensures.bound.0 in
     let before : length c.as_slice.result.now ≡ length bytes = ap length c.as_slice.ensures in (
       bytes ++ piece,
-      consumes-append _ _ _ bytes piece c.reads.invariant.taken c.in_ok-count.ensures.bytes.0,
+      consumes_append _ _ _ bytes piece c.reads.invariant.taken c.in_ok-count.ensures.bytes.0,
       omega (
         arith,
         length-append bytes piece,
@@ -31,5 +31,5 @@ returns-in_err-grow g c =
     c.from_residual-in_err-grow.ensures.1 in
     rw (end.1, end.2) (
       bytes ++ piece,
-      consumes-append _ _ _ bytes piece c.reads.invariant.taken c.in_ok-count.ensures.bytes.0,
+      consumes_append _ _ _ bytes piece c.reads.invariant.taken c.in_ok-count.ensures.bytes.0,
     )

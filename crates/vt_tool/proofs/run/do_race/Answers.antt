@@ -3,7 +3,7 @@ use Rattle.std.specs.Prelude.{IfOk}
 use Rattle.vt_io.specs.Stream.{Stream}
 use Rattle.vt_tool.specs.Commands.{Gives}
 use Rattle.vt_tool.specs.declared.command.Command.TheVariants as command
-use Rattle.vt_tool.proofs.Statuses.{given-holds}
+use Rattle.vt_tool.proofs.Statuses.{given_holds}
 use Rattle.vt_tool.proofs.run.do_race.Goals as goal
 
 pub returns-in-Ok : goal.returns-in-Ok
@@ -17,8 +17,8 @@ returns-in-Ok g c =
     let out : Stream =
     record { told = g.O.Sink.held c.args.out.now; faults = g.O.Sink.faults c.args.out.now } in
     let out' : Stream =
-    record { told = g.O.Sink.held c.give.new.out; faults = g.O.Sink.faults c.give.new.out } in
-    given-holds command.Race src src' out out' c.in-Ok.input.bytes c.answer.result c.give.result c.in-Ok.ensures
+    record { told = g.O.Sink.held c.write_answer.new.out; faults = g.O.Sink.faults c.write_answer.new.out } in
+    given_holds command.Race src src' out out' c.in-Ok.input.bytes c.answer.result c.write_answer.result c.in-Ok.ensures
     (subst (λ (bytes : List ℕ). IfOk c.answer.result (λ a. Gives command.Race bytes (record { status = a.status; text = a.text.bytes })))
     c.as_slice.ensures c.answer.ensures.gives)
-    c.answer.ensures.own c.give.ensures
+    c.answer.ensures.own c.write_answer.ensures

@@ -3,7 +3,7 @@ use Rattle.std.specs.Prelude.{IfOk}
 use Rattle.vt_io.specs.Stream.{Stream}
 use Rattle.vt_tool.specs.Commands.{Gives}
 use Rattle.vt_tool.specs.declared.command.Command.{Command}
-use Rattle.vt_tool.proofs.Statuses.{given-holds}
+use Rattle.vt_tool.proofs.Statuses.{given_holds}
 use Rattle.vt_tool.proofs.tool.do_text.Goals as goal
 
 pub returns-in-Ok : goal.returns-in-Ok
@@ -18,9 +18,9 @@ returns-in-Ok g c =
     let out : Stream =
     record { told = g.O.Sink.held c.args.out.now; faults = g.O.Sink.faults c.args.out.now } in
     let out' : Stream =
-    record { told = g.O.Sink.held c.give.new.out; faults = g.O.Sink.faults c.give.new.out } in
-    given-holds command src src' out out' c.in-Ok.input.bytes c.answer_to.result c.give.result
+    record { told = g.O.Sink.held c.write_answer.new.out; faults = g.O.Sink.faults c.write_answer.new.out } in
+    given_holds command src src' out out' c.in-Ok.input.bytes c.answer_to.result c.write_answer.result
     c.in-Ok.ensures
     (subst (λ (bytes : List ℕ). IfOk c.answer_to.result (λ a. Gives command bytes (record { status = a.status; text = a.text.bytes })))
     c.as_slice.ensures c.answer_to.ensures.gives)
-    c.answer_to.ensures.own c.give.ensures
+    c.answer_to.ensures.own c.write_answer.ensures

@@ -1,6 +1,6 @@
 use Rattle.std.proofs.Common.{map, string_bytes}
-use Rattle.vt_tool.proofs.Complete.{run-completes}
-use Rattle.vt_tool.proofs.Journals.{tells-displays}
+use Rattle.vt_tool.proofs.Complete.{run_completes}
+use Rattle.vt_tool.proofs.Journals.{tells_displays}
 use Rattle.vt_tool.specs.Commands.{serial_forms}
 use Rattle.vt_tool.specs.Run.{Streams}
 use Rattle.vt_tool.proofs.tool.vt_command.Goals as goal
@@ -22,13 +22,13 @@ returns-clause-complete g c =
         told = g.O.Sink.held c.begin-first.new.out;
         faults = g.O.Sink.faults c.begin-first.new.out;
       };
-      err = record { told = g.E.Sink.held c.tell.new.err; faults = g.E.Sink.faults c.tell.new.err };
+      err = record { told = g.E.Sink.held c.write_status.new.err; faults = g.E.Sink.faults c.write_status.new.err };
     } in
-    run-completes serial_forms (map string_bytes c.args.words.now) old new c.tell.result
+    run_completes serial_forms (map string_bytes c.args.words.now) old new c.write_status.result
     (record {
       first = c.begin-first.result;
       begins = c.begin-first.ensures;
-      tells = c.tell.ensures;
+      tells = c.write_status.ensures;
     })
 
 pub returns-clause-displays : goal.returns-clause-displays
@@ -48,14 +48,14 @@ returns-clause-displays g c =
         told = g.O.Sink.held c.begin-first.new.out;
         faults = g.O.Sink.faults c.begin-first.new.out;
       };
-      err = record { told = g.E.Sink.held c.tell.new.err; faults = g.E.Sink.faults c.tell.new.err };
+      err = record { told = g.E.Sink.held c.write_status.new.err; faults = g.E.Sink.faults c.write_status.new.err };
     } in
-    tells-displays c.displays_are_lawful.ensures.acts c.displays_are_lawful.ensures.calls
+    tells_displays c.displays_are_lawful.ensures.acts c.displays_are_lawful.ensures.calls
     c.displays_are_lawful.ensures.told c.displays_are_lawful.ensures.hops
     c.refused_calls_change_nothing.ensures.refused serial_forms (map string_bytes c.args.words.now) old new
-    c.tell.result
+    c.write_status.result
     (record {
       first = c.begin-first.result;
       begins = c.begin-first.ensures;
-      tells = c.tell.ensures;
+      tells = c.write_status.ensures;
     })

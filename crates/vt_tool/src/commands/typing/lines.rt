@@ -1,5 +1,5 @@
 ghost use Rattle.std.specs.Prelude.{◌≡◌, ◌≤◌, ◌∷◌, ◌++◌, OnOk};
-ghost use Rattle.vt_journal.specs.Text.{spaced};
+ghost use Rattle.vt_journal.specs.Text.{blank_before_each};
 ghost use Rattle.vt_tool.specs.Commands.Typing.{is_attention, line_words, out_words, typed_line, typed_text};
 
 use crate::commands::typing::typist::Typist;
@@ -10,7 +10,7 @@ use vt_base::{Bytes, NoMemory};
 use vt_journal::{add, add_hex, add_next};
 
 /// Adds a line for each scan byte, typed in this keyboard mode.
-pub fn add_typed(
+pub(crate) fn add_typed(
     alloc: Global,
     text: &mut Bytes,
     tables: &KeyTables,
@@ -45,7 +45,7 @@ fn add_line(alloc: Global, text: &mut Bytes, mode: u8, b: u8, out: &KeyOut) -> R
 
 // The words of what a key says, each after a blank.
 fn add_out(alloc: Global, text: &mut Bytes, out: &KeyOut) -> Result<(), NoMemory>
-    ensures { OnOk result (text.new.bytes ≡ text.old.bytes ++ spaced (out_words out.now)) }
+    ensures { OnOk result (text.new.bytes ≡ text.old.bytes ++ blank_before_each (out_words out.now)) }
 {
     match out {
         KeyOut::Bytes(bytes) => {

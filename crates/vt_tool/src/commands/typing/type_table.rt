@@ -27,14 +27,14 @@ const MODES: Numbers = Numbers {
 
 /// What `type` reads: the keyboard mode, the tables of the keymap, and the scan bytes.
 #[derive(Drop)]
-pub struct TypeTable {
+pub(crate) struct TypeTable {
     pub mode: u8,
     pub tables: KeyTables,
     pub keys: Bytes,
 }
 
 /// The table that the text says, or its first fault.
-pub fn read_type_table(alloc: Global, input: &[u8]) -> Result<TypeTable, TableError>
+pub(crate) fn read_type_table(alloc: Global, input: &[u8]) -> Result<TypeTable, TableError>
     ensures table { GivesBy IsReadAs result (type_table_of input.now) }
     ensures mode { IfOk result (λ table. table.mode ≤ 4) }
 {

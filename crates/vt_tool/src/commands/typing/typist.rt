@@ -18,7 +18,7 @@ const START_MODES: KeyModes = KeyModes {
 
 /// A keyboard whose scan bytes are typed on a start screen.
 #[derive(Drop)]
-pub struct Typist {
+pub(crate) struct Typist {
     scanner: Scanner,
     keyboard: Keyboard,
     state: KbState,
@@ -34,7 +34,7 @@ impl Model for Typist {
 
 impl Typist {
     /// Nothing typed yet, in this keyboard mode.
-    pub fn start(mode: u8) -> Typist
+    pub(crate) fn start(mode: u8) -> Typist
         requires { mode ≤ 4 }
         ensures { (tables : Tables) → HasTyped tables mode [] result }
     {
@@ -48,7 +48,7 @@ impl Typist {
     }
 
     /// Types a scan byte. The answer is what it says.
-    pub fn take(&mut self, tables: &KeyTables, b: u8) -> KeyOut
+    pub(crate) fn take(&mut self, tables: &KeyTables, b: u8) -> KeyOut
         ensures typed { (mode : ℕ) (before : List ℕ) → HasTyped tables.now mode before self.old
             → HasTyped tables.now mode (before ++ b ∷ []) self.new }
         ensures said { (mode : ℕ) (before : List ℕ) → HasTyped tables.now mode before self.old

@@ -1,7 +1,7 @@
 use Rattle.std.proofs.Common.{◌≡◌, ◌+◌, ◌-◌, ◌∷◌, ◌++◌, [], ℕ, List, length, take, drop, subst, sym, ap, ◌∙◌, arith, length-drop, length-append}
 use Rattle.std.proofs.Math.Seq.{take-add}
 use Rattle.std.proofs.lemmas.List.{drop-drop, take_all}
-use Rattle.vt_units.proofs.Wholes.{texts-more}
+use Rattle.vt_units.proofs.Wholes.{texts_more}
 use Rattle.vt_units.specs.Characters.{AreTextsOf, Begins}
 use Rattle.vt_units.proofs.characters.read_characters.Goals as goal
 
@@ -22,7 +22,7 @@ loop-code-preserved c =
     ∙ sym (take-add at n text)
     ∙ ap (λ (k : ℕ). take k text) reached in
     let longer : AreTextsOf (take at text ++ take n left) (c.loop-code.codes ++ c.in-Some.code ∷ []) =
-    texts-more (take at text) c.loop-code.codes (take n left) c.in-Some.code c.loop-code.invariant.texts begins.first in
+    texts_more (take at text) c.loop-code.codes (take n left) c.in-Some.code c.loop-code.invariant.texts begins.first in
     record {
       within = omega (arith, len, c.loop-code.invariant.within);
       left =

@@ -1,5 +1,5 @@
-use Rattle.vt_units.proofs.Drops.{drops-exactly}
+use Rattle.vt_units.proofs.Drops.{drops_exactly}
 use Rattle.vt_units.proofs.laws.drops_exactly.Goals as goal
 
 pub returns : goal.returns
-returns c = drops-exactly
+returns c = drops_exactly

@@ -1,7 +1,7 @@
-use Rattle.vt_units.proofs.Cutting.{text-cut}
-use Rattle.vt_units.specs.Laws.{gathering}
+use Rattle.vt_units.proofs.Cutting.{text_cut}
+use Rattle.vt_units.specs.Laws.{event_effects}
 use Rattle.vt_units.proofs.laws.texts_are_cut.Goals as goal
 
 pub returns : goal.returns
 returns c = λ mode_of keeps at bytes rest.
-    text-cut (gathering mode_of) c.unfinished_begins.ensures keeps at bytes rest
+    text_cut (event_effects mode_of) c.unfinished_begins.ensures keeps at bytes rest

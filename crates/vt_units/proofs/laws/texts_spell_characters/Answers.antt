@@ -1,5 +1,5 @@
-use Rattle.vt_units.proofs.Prints.{texts-spell}
+use Rattle.vt_units.proofs.Prints.{texts_spell}
 use Rattle.vt_units.proofs.laws.texts_spell_characters.Goals as goal
 
 pub returns : goal.returns
-returns c = texts-spell
+returns c = texts_spell

@@ -1,5 +1,5 @@
-use Rattle.vt_units.proofs.Completes.{unfinished-is-before}
+use Rattle.vt_units.proofs.Completes.{unfinished_is_before}
 use Rattle.vt_units.proofs.laws.unfinished_is_before.Goals as goal
 
 pub returns : goal.returns
-returns c = unfinished-is-before c.unfinished_begins.ensures
+returns c = unfinished_is_before c.unfinished_begins.ensures

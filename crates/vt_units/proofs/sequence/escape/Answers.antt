@@ -1,15 +1,15 @@
 use Rattle.std.proofs.Common.{◌∙◌, sym}
-use Rattle.vt_units.proofs.Joined.{escape-csi, escape-dropped, escape-goes, escape-unit}
+use Rattle.vt_units.proofs.Joined.{escape_csi, escape_dropped, escape_goes, escape-unit}
 use Rattle.vt_units.proofs.sequence.escape.Goals as goal
 
 pub returns-then-is_mid : goal.returns-then-is_mid
 returns-then-is_mid c =
-    escape-goes c.args.mode c.args.text.now c.mids_of-mids.result.now c.mids_of-mids.ensures.text
+    escape_goes c.args.mode c.args.text.now c.mids_of-mids.result.now c.mids_of-mids.ensures.text
     c.mids_of-mids.ensures.mids c.args.b c.requires.room (sym c.is_mid.ensures ∙ c.if-is_mid.true)
 
 pub returns-then-is_first : goal.returns-then-is_first
 returns-then-is_first c =
-    escape-csi c.args.mode c.args.text.now c.mids_of-mids.result.now c.mids_of-mids.ensures.text
+    escape_csi c.args.mode c.args.text.now c.mids_of-mids.result.now c.mids_of-mids.ensures.text
     c.mids_of-mids.ensures.mids c.args.b c.requires.room (sym c.is_first.ensures ∙ c.if-is_first.true)
 
 pub returns-then-is_within : goal.returns-then-is_within
@@ -24,7 +24,7 @@ returns-then-is_within c = rw c.escape_unit.ensures
 
 pub returns-else-is_within : goal.returns-else-is_within
 returns-else-is_within c =
-    escape-dropped c.args.mode c.args.text.now c.mids_of-mids.result.now c.mids_of-mids.ensures.text
+    escape_dropped c.args.mode c.args.text.now c.mids_of-mids.result.now c.mids_of-mids.ensures.text
     c.mids_of-mids.ensures.mids c.args.b c.requires.room
     (sym c.is_mid.ensures ∙ c.if-is_mid.false)
     (sym c.opens_first.ensures ∙ c.if-opens_first.false)

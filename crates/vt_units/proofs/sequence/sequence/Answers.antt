@@ -1,6 +1,6 @@
 use Rattle.std.proofs.Common.{◌∙◌, sym, arith}
 use Rattle.std.proofs.lemmas.Bool.{eq-eqb, ne_eqb}
-use Rattle.vt_units.proofs.Joined.{sequence-acts, sequence-full, sequence-joined, sequence-vanishes}
+use Rattle.vt_units.proofs.Joined.{sequence-acts, sequence_full, sequence-outcome_of_text, sequence_vanishes}
 use Rattle.vt_units.proofs.sequence.sequence.Goals as goal
 
 pub returns-then-acts : goal.returns-then-acts
@@ -10,16 +10,16 @@ returns-then-acts c =
 
 pub returns-then-b-eq127 : goal.returns-then-b-eq127
 returns-then-b-eq127 c =
-    sequence-vanishes c.args.stage c.args.mode c.args.text.now c.requires.sequence c.requires.stands
+    sequence_vanishes c.args.stage c.args.mode c.args.text.now c.requires.sequence c.requires.stands
     c.requires.bound c.args.b (sym c.acts.ensures ∙ c.if-acts.false) (eq-eqb _ _ c.if-b-eq127.true)
 
 pub returns-then-text-eq-SEQUENCE_BYTES : goal.returns-then-text-eq-SEQUENCE_BYTES
 returns-then-text-eq-SEQUENCE_BYTES c =
-    sequence-full c.args.stage c.args.mode c.args.text.now c.requires.sequence c.requires.stands
+    sequence_full c.args.stage c.args.mode c.args.text.now c.requires.sequence c.requires.stands
     c.requires.bound c.args.b (sym c.acts.ensures ∙ c.if-acts.false) (ne_eqb _ _ c.if-b-eq127.false) (omega arith)
 
 pub returns-else-text-eq-SEQUENCE_BYTES : goal.returns-else-text-eq-SEQUENCE_BYTES
 returns-else-text-eq-SEQUENCE_BYTES c =
-    sequence-joined c.args.stage c.args.mode c.args.text.now c.requires.sequence c.requires.stands
+    sequence-outcome_of_text c.args.stage c.args.mode c.args.text.now c.requires.sequence c.requires.stands
     c.requires.bound c.args.b (sym c.acts.ensures ∙ c.if-acts.false) (ne_eqb _ _ c.if-b-eq127.false)
     c.admit.result.0 c.admit.result.1 c.admit.ensures

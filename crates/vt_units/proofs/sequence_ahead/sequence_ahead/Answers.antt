@@ -1,6 +1,6 @@
 use Rattle.std.proofs.Common.{◌≡◌, ◌∙◌, ℕ, List, take, length, min, ap, arith}
 use Rattle.std.proofs.lemmas.List.{take_min}
-use Rattle.vt_units.specs.Ahead.{opened_ahead, parameters_ahead, sequence_ahead}
+use Rattle.vt_units.specs.WholeSequence.{opened_ahead, parameters_ahead, sequence_ahead}
 use Rattle.vt_units.proofs.sequence_ahead.sequence_ahead.Goals as goal
 
 front : (n : ℕ) (text : List ℕ) → n ≡ min 256 (length text) → opened_ahead (take n text) ≡ sequence_ahead text

@@ -1,6 +1,6 @@
-use Rattle.vt_world.proofs.Displays.{displays-are-lawful-from}
+use Rattle.vt_world.proofs.Displays.{displays_are_lawful_from}
 use Rattle.vt_world.proofs.laws.displays_are_lawful_from.Goals as goal
 
 pub returns : goal.returns
 returns c =
-    displays-are-lawful-from c.each_hop_was_allowed.ensures c.args.w.now c.owners_live.ensures
+    displays_are_lawful_from c.each_hop_was_allowed.ensures c.args.w.now c.owners_live.ensures

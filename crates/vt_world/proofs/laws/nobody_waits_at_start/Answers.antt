@@ -1,5 +1,5 @@
-use Rattle.vt_world.proofs.Opening.{nobody-waits-at-start}
+use Rattle.vt_world.proofs.Opening.{nobody_waits_at_start}
 use Rattle.vt_world.proofs.laws.nobody_waits_at_start.Goals as goal
 
 pub returns : goal.returns
-returns c = nobody-waits-at-start
+returns c = nobody_waits_at_start

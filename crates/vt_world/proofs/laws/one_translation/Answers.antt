@@ -1,5 +1,5 @@
-use Rattle.vt_world.proofs.Translations.{one-translation}
+use Rattle.vt_world.proofs.Translations.{one_translation}
 use Rattle.vt_world.proofs.laws.one_translation.Goals as goal
 
 pub returns : goal.returns
-returns c = one-translation
+returns c = one_translation

@@ -1,10 +1,10 @@
-use Rattle.vt_world.proofs.Allocation.{terminals-are-allocated}
-use Rattle.vt_world.proofs.Screens.{screens-are-tapes}
+use Rattle.vt_world.proofs.Allocation.{terminals_are_allocated}
+use Rattle.vt_world.proofs.Screens.{screens_are_tapes}
 use Rattle.vt_world.proofs.laws.screens_are_tapes.Goals as goal
 
 pub returns-clause-screens : goal.returns-clause-screens
 returns-clause-screens c =
-    screens-are-tapes c.tapes_run.ensures.stretches c.tapes_run.ensures.cuts
+    screens_are_tapes c.tapes_run.ensures.stretches c.tapes_run.ensures.cuts
 
 pub returns-clause-terminals : goal.returns-clause-terminals
-returns-clause-terminals c = terminals-are-allocated
+returns-clause-terminals c = terminals_are_allocated

@@ -1,5 +1,5 @@
-use Rattle.vt_world.proofs.Sizes.{sizes-stay}
+use Rattle.vt_world.proofs.Sizes.{sizes_stay}
 use Rattle.vt_world.proofs.laws.sizes_stay.Goals as goal
 
 pub returns : goal.returns
-returns c = sizes-stay
+returns c = sizes_stay

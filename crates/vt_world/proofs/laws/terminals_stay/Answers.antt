@@ -1,5 +1,5 @@
-use Rattle.vt_world.proofs.Untouched.{terminals-stay}
+use Rattle.vt_world.proofs.Untouched.{terminals_stay}
 use Rattle.vt_world.proofs.laws.terminals_stay.Goals as goal
 
 pub returns : goal.returns
-returns c = terminals-stay
+returns c = terminals_stay

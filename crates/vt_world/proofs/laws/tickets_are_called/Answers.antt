@@ -1,5 +1,5 @@
-use Rattle.vt_world.proofs.Opening.{tickets-are-called}
+use Rattle.vt_world.proofs.Opening.{tickets_are_called}
 use Rattle.vt_world.proofs.laws.tickets_are_called.Goals as goal
 
 pub returns : goal.returns
-returns c = tickets-are-called
+returns c = tickets_are_called

@@ -1,9 +1,9 @@
-use Rattle.vt_world.proofs.Moments.{moments-grow}
-use Rattle.vt_world.proofs.Tellings.{traces-tell-news}
+use Rattle.vt_world.proofs.Moments.{moments_grow}
+use Rattle.vt_world.proofs.Tellings.{traces_tell_news}
 use Rattle.vt_world.proofs.laws.traces_tell_news.Goals as goal
 
 pub returns-clause-news : goal.returns-clause-news
-returns-clause-news c = traces-tell-news
+returns-clause-news c = traces_tell_news
 
 pub returns-clause-moments : goal.returns-clause-moments
-returns-clause-moments c = moments-grow
+returns-clause-moments c = moments_grow

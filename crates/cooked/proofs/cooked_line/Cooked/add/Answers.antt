@@ -1,19 +1,19 @@
 use Rattle.std.proofs.Common.{◌≡◌, ◌≤◌, ℕ, ◌&&◌, Bool, true, List, [], ◌∷◌, ◌++◌, length, sym, ap, ◌∙◌, subst}
 use Rattle.std.proofs.lemmas.Bool.{OnTrue_at, and_parts}
 use Rattle.vt_chars.specs.Characters.{is_part}
-use Rattle.cooked.proofs.FreshLaws.{fresh-full}
-use Rattle.cooked.proofs.StandLaws.{fresh-later, part-few, put-stands}
+use Rattle.cooked.proofs.FreshLaws.{fresh_full}
+use Rattle.cooked.proofs.StandLaws.{fresh_later, part_few, put_stands}
 use Rattle.cooked.proofs.cooked_line.Cooked.add.Goals as goal
-use Rattle.cooked.specs.Cooked.{Stands, Typing, ends_open, typing}
+use Rattle.cooked.specs.Cooked.{Stands, Typing, ends_open, make_typing}
 use Rattle.cooked.specs.Fresh.{fresh}
-use Rattle.cooked.specs.Kept.{kept, last_of}
+use Rattle.cooked.specs.KeptText.{kept_characters, last_of}
 use Rattle.cooked.specs.Kinds.{ends_line, kind}
 use Rattle.cooked.specs.declared.kind.Kind.TheVariants.{Data}
 use Rattle.cooked.specs.declared.termios.Termios.{Termios}
 
 -- a byte goes on with what is kept
 abbrev goes_on : ℕ → Typing → Bool
-goes_on b v = ends_open v.termios.erase v.fresh && is_part (last_of (kept v.termios v.fresh) ++ b ∷ [])
+goes_on b v = ends_open v.termios.erase v.fresh && is_part (last_of (kept_characters v.termios v.fresh) ++ b ∷ [])
 
 pub returns-then-is_full : goal.returns-then-is_full
 returns-then-is_full c =
@@ -24,16 +24,16 @@ returns-then-is_full c =
     let full : 4095 ≤ length f =
     subst (λ (v : Typing). 4095 ≤ length v.fresh) (sym c.self.view_is) (OnTrue_at c.if-is_full.true c.is_full.ensures.full) in
     let same : fresh t (f ++ c.args.b ∷ []) ≡ f =
-    fresh-full t f c.args.b lines c.self.invariant.stays (ap ends_line is) full in
+    fresh_full t f c.args.b lines c.self.invariant.stays (ap ends_line is) full in
     sym c.self.view_is
-    ∙ ap (λ g. typing t g c.self.inside.line.bytes) (sym same)
-    ∙ ap (λ (v : Typing). typing v.termios (fresh v.termios (v.fresh ++ c.args.b ∷ [])) v.line) c.self.view_is
+    ∙ ap (λ g. make_typing t g c.self.inside.line.bytes) (sym same)
+    ∙ ap (λ (v : Typing). make_typing v.termios (fresh v.termios (v.fresh ++ c.args.b ∷ [])) v.line) c.self.view_is
 
 pub put-requires-clause-few : goal.put-requires-clause-few
 put-requires-clause-few c joins =
-    let test : goes_on c.args.b (typing c.self.inside.termios c.self.inside.fresh.bytes c.self.inside.line.bytes) ≡ true =
+    let test : goes_on c.args.b (make_typing c.self.inside.termios c.self.inside.fresh.bytes c.self.inside.line.bytes) ≡ true =
     ap (goes_on c.args.b) c.self.view_is ∙ sym c.goes_on-joins.ensures ∙ joins in
-    part-few (last_of c.self.inside.kept) c.args.b
+    part_few (last_of c.self.inside.kept) c.args.b
     (ap (λ cs. is_part (last_of cs ++ c.args.b ∷ [])) c.self.invariant.held_are ∙ (and_parts _ _ test).1)
 
 pub invariant_of-self : goal.invariant_of-self
@@ -42,7 +42,7 @@ invariant_of-self c =
     let is : kind t c.args.b ≡ Data = ap (λ (v : Typing). kind v.termios c.args.b) c.self.view_is ∙ c.requires.kind in
     let lines : t.icanon ≡ true = ap (λ (v : Typing). v.termios.icanon) c.self.view_is ∙ c.requires.canonical in
     subst (λ held. Stands t c.push.new.self held c.self.inside.line) (sym c.put.ensures)
-    (put-stands t c.self.inside.fresh c.push.new.self c.self.inside.kept c.self.inside.line c.args.b
+    (put_stands t c.self.inside.fresh c.push.new.self c.self.inside.kept c.self.inside.line c.args.b
     c.self.invariant lines (ap ends_line is) c.push.ensures.bytes c.push.ensures.room
     c.byte_more.ensures c.ascii_cuts.ensures is c.goes_on-joins.result
     (c.goes_on-joins.ensures ∙ ap (goes_on c.args.b) (sym c.self.view_is)))
@@ -54,7 +54,7 @@ returns c =
     let is : kind t c.args.b ≡ Data = ap (λ (v : Typing). kind v.termios c.args.b) c.self.view_is ∙ c.requires.kind in
     let lines : t.icanon ≡ true = ap (λ (v : Typing). v.termios.icanon) c.self.view_is ∙ c.requires.canonical in
     let later : fresh t (f ++ c.args.b ∷ []) ≡ f ++ c.args.b ∷ [] =
-    fresh-later t c.self.inside.fresh c.push.new.self c.self.inside.kept c.self.inside.line c.args.b
+    fresh_later t c.self.inside.fresh c.push.new.self c.self.inside.kept c.self.inside.line c.args.b
     c.self.invariant lines (ap ends_line is) c.push.ensures.bytes c.push.ensures.room in
-    ap (λ g. typing t g c.self.inside.line.bytes) (c.push.ensures.bytes ∙ sym later)
-    ∙ ap (λ (v : Typing). typing v.termios (fresh v.termios (v.fresh ++ c.args.b ∷ [])) v.line) c.self.view_is
+    ap (λ g. make_typing t g c.self.inside.line.bytes) (c.push.ensures.bytes ∙ sym later)
+    ∙ ap (λ (v : Typing). make_typing v.termios (fresh v.termios (v.fresh ++ c.args.b ∷ [])) v.line) c.self.view_is

@@ -1,5 +1,5 @@
 use Rattle.std.proofs.Common.{subst}
-use Rattle.cooked.proofs.TurnLaws.{typed-turn}
+use Rattle.cooked.proofs.TurnLaws.{typed_turn}
 use Rattle.cooked.proofs.tty.Tty.turn.Goals as goal
 use Rattle.cooked.specs.Cooked.{Typing}
 use Rattle.cooked.specs.Turn.{Reads, Turns}
@@ -10,7 +10,7 @@ returns-in-Ok-clause-ok g c =
     (λ (v : Typing). Turns g.J.Opening.start c.args.fd v c.push-given.new.self
     (record { given = c.push-given.result; stop = c.write_echo-stop.result }) c.args.pass.now c.write_echo-stop.new.pass)
     c.self.view_is
-    (typed-turn g.J.Opening.start c.args.fd c.self.inside.cooked c.push-given.new.self
+    (typed_turn g.J.Opening.start c.args.fd c.self.inside.cooked c.push-given.new.self
     (record { given = c.push-given.result; stop = c.write_echo-stop.result })
     c.args.pass.now c.read_byte.new.pass c.write_echo-stop.new.pass c.in-Ok.b c.push-given.new.echo
     (subst (Reads g.J.Opening.start c.args.fd c.args.pass.now c.read_byte.new.pass) c.in-Ok.is c.in_ok-read.ensures.ok)

@@ -1,6 +1,6 @@
 use Rattle.std.proofs.Common.{length, sym, ◌∙◌, subst}
 use Rattle.std.proofs.lemmas.Bool.{false≢true}
-use Rattle.session_run.proofs.Turns.{turn-enters, turn-fills}
+use Rattle.session_run.proofs.Turns.{turn_enters, turn_fills}
 use Rattle.session_run.specs.Playing.{IsAt, PlayerView}
 use Rattle.vt_events.specs.Charge.{charge_of}
 use Rattle.vt_journal.specs.Log.{HasRoom}
@@ -17,7 +17,7 @@ returns-then-room c = λ o t is going now at.
     let here : IsAt o t before = subst (IsAt o t) (sym c.self.view_is) at in
     let room : HasRoom c.self.inside.log (charge_of c.args.event) =
     subst (HasRoom c.self.inside.log) c.charge-charge.ensures (c.room.ensures.0 c.if-room.true) in
-    turn-enters o t c.args.p c.args.event before c.enter.new.self room here going now
+    turn_enters o t c.args.p c.args.event before c.enter.new.self room here going now
     (c.in_ok-enter.ensures o t is going now at)
 
 pub returns : goal.returns
@@ -28,7 +28,7 @@ returns c = λ o t is going now at.
       standing = c.self.inside.standing;
       stop = c.self.inside.stop;
     } in
-    turn-fills o t c.args.p c.args.event before
+    turn_fills o t c.args.p c.args.event before
     (record { events = length c.entries.result.now; bytes = c.bytes.result; charge = c.charge-charge.result })
     (λ room. false≢true (sym c.if-room.false ∙ c.room.ensures.1 (subst (HasRoom c.self.inside.log) (sym c.charge-charge.ensures) room)))
     (subst (IsAt o t) (sym c.self.view_is) at) going now

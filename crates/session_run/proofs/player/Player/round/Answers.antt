@@ -1,7 +1,7 @@
 use Rattle.std.proofs.Common.{◌≡◌, sym, ap, ◌∙◌, subst}
 use Rattle.std.proofs.lemmas.List.{drop_all}
 use Rattle.session_order.specs.Serial.{round, turns}
-use Rattle.session_run.proofs.Turns.{round-is}
+use Rattle.session_run.proofs.Turns.{round_is}
 use Rattle.session_run.specs.Callers.{callers_in}
 use Rattle.session_run.specs.Playing.{IsAt}
 use Rattle.session_run.proofs.player.Player.round.Goals as goal
@@ -12,5 +12,5 @@ returns g c = λ o t same at.
     let over : made.0 ≡ turns o c.args.callers.now t =
     ap (λ rest. turns o rest made.0) (sym (drop_all c.loop-p.p-index c.args.callers.now c.loop-p-test.false)) ∙ made.2 in
     let is : turns o c.args.callers.now t ≡ round o t =
-    ap (λ callers. turns o callers t) (c.requires.callers ∙ ap callers_in (sym same)) ∙ round-is o t in
+    ap (λ callers. turns o callers t) (c.requires.callers ∙ ap callers_in (sym same)) ∙ round_is o t in
     subst (λ x. IsAt o x c.loop-p.self) (over ∙ is) made.1

@@ -1,6 +1,6 @@
 use Rattle.std.proofs.Common.{◌≡◌, ◌+◌, arith, length, refl, sym, ap, ◌∙◌, subst}
 use Rattle.session_order.specs.Serial.{Played, nothing_played, round, rounds, turns}
-use Rattle.session_run.proofs.Ends.{round-stays, round-stops}
+use Rattle.session_run.proofs.Ends.{round_stays, round_stops}
 use Rattle.session_run.specs.Playing.{IsAt, PlayerView}
 use Rattle.std.specs.Prelude.{is_some}
 use Rattle.session_run.proofs.player.Player.rounds.Goals as goal
@@ -15,7 +15,7 @@ returns-then-is_some g c = λ o first start same events at.
     let t : Played = rounds o c.loop-round._round (turns o first nothing_played) in
     let old : IsAt o t c.loop-round.self = c.loop-round.invariant o (turns o first nothing_played) same at in
     let new : IsAt o (round o t) c.round.new.self = c.in_ok-round.ensures o t same old in
-    round-stops c.serial_laws.ensures.sum o first c.loop-round._round (round o t) c.round.new.self refl new
+    round_stops c.serial_laws.ensures.sum o first c.loop-round._round (round o t) c.round.new.self refl new
     (ap (λ (v : PlayerView). is_some v.stop) (sym c.self-in-loop-round.view_is) ∙ sym c.is_some.ensures ∙ c.if-is_some.true)
 
 pub returns-then-entries-before : goal.returns-then-entries-before
@@ -23,7 +23,7 @@ returns-then-entries-before g c = λ o first start same events at.
     let t : Played = rounds o c.loop-round._round (turns o first nothing_played) in
     let old : IsAt o t c.loop-round.self = c.loop-round.invariant o (turns o first nothing_played) same at in
     let new : IsAt o (round o t) c.round.new.self = c.in_ok-round.ensures o t same old in
-    round-stays c.serial_laws.ensures.stays c.serial_laws.ensures.sum c.serial_laws.ensures.goes_on o first c.loop-round._round t (round o t)
+    round_stays c.serial_laws.ensures.stays c.serial_laws.ensures.sum c.serial_laws.ensures.goes_on o first c.loop-round._round t (round o t)
     c.loop-round.self c.round.new.self start refl refl old new
     (ap (λ (v : PlayerView). length v.log.entries) (sym c.self-in-loop-round.view_is)
     ∙ ap length (sym c.entries.ensures.same)

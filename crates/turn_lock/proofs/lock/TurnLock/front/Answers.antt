@@ -1,6 +1,6 @@
 use Rattle.std.proofs.Common.{◌∙◌, ap, length, sym, subst, rules}
 use Rattle.turn_lock.specs.History.{StartsWith, word_of}
-use Rattle.turn_lock.specs.Views.{reading}
+use Rattle.turn_lock.specs.Views.{with_known_word}
 use Rattle.turn_lock.specs.Words.{view}
 use Rattle.turn_lock.proofs.Steps.{reads_ok}
 use Rattle.turn_lock.proofs.lock.TurnLock.front.Goals as goal
@@ -17,7 +17,7 @@ pub returns-clause-view : goal.returns-clause-view
 returns-clause-view g c =
     let told = c.load.ensures.2 in
     let is = ap (λ m. m.0.read) told.1 in
-    ap (λ m. m.0) told.1 ∙ ap (λ log. reading log c.load.result (view c.args.p.now)) (sym is)
+    ap (λ m. m.0) told.1 ∙ ap (λ log. with_known_word log c.load.result (view c.args.p.now)) (sym is)
 
 pub returns-clause-word : goal.returns-clause-word
 returns-clause-word g c =

@@ -1,14 +1,14 @@
 use Rattle.std.proofs.Common.{◌≡◌, ◌<◌, ℕ, List, [], ◌++◌, length, take, drop, set, get_or, sym, ap, ◌∙◌, add-one, arith}
 use Rattle.std.proofs.lemmas.List.{take_all, drop_all, append-nil}
-use Rattle.vt_grid.proofs.Copied.{copied-more, get_or-copied, overlaid-all}
-use Rattle.vt_grid.specs.Grid.{Sheet, with_run}
+use Rattle.vt_grid.proofs.Copied.{copied_more, get_or_copied, overlaid_all}
+use Rattle.vt_grid.specs.Grid.{GridView, with_run}
 use Rattle.vt_cells.specs.declared.cell.Cell.{Cell}
 use Rattle.vt_grid.proofs.grid.Grid.copy_from.Goals as goal
 
 pub loop-y-preserved : goal.loop-y-preserved
 loop-y-preserved c =
-    let old : Sheet = c.args.self.now in
-    let new : Sheet = c.args.other.now in
+    let old : GridView = c.args.self.now in
+    let new : GridView = c.args.other.now in
     let y : ℕ = c.loop-y.y in
     let rows : List (List Cell) = take y new.cells ++ drop y old.cells in
     let row : List Cell = get_or new.cells y [] in
@@ -21,19 +21,19 @@ loop-y-preserved c =
     let whole : take c.size-size.result.cols row ≡ row =
     take_all c.size-size.result.cols row (omega (arith, wide)) in
     let under : length (get_or rows y []) ≡ length row =
-    ap length (get_or-copied new.cells old.cells y within same)
+    ap length (get_or_copied new.cells old.cells y within same)
     ∙ omega (arith, wide, wide_old) in
     c.copy_row.ensures
     ∙ (λ i. with_run (c.loop-y.invariant i) y 0 (whole i))
     ∙ ap (λ (cells : List (List Cell)). record new { cells = cells })
-    (ap (set rows y) (overlaid-all row (get_or rows y []) under)
-    ∙ copied-more new.cells old.cells y within same
+    (ap (set rows y) (overlaid_all row (get_or rows y []) under)
+    ∙ copied_more new.cells old.cells y within same
     ∙ ap (λ n. take n new.cells ++ drop n old.cells) (sym (add-one y)))
 
 pub returns : goal.returns
 returns c =
-    let old : Sheet = c.args.self.now in
-    let new : Sheet = c.args.other.now in
+    let old : GridView = c.args.self.now in
+    let new : GridView = c.args.other.now in
     let y : ℕ = c.loop-y.y in
     c.loop-y.invariant
     ∙ ap (λ (cells : List (List Cell)). record new { cells = cells })

@@ -5,7 +5,7 @@ use Rattle.atomic_table.specs.Seated.{TableId}
 use Rattle.vt_events.specs.declared.entry.Entry.{Entry}
 use Rattle.vt_hub.specs.Closed.{IsWhole}
 use Rattle.vt_hub.specs.Shared.{SharedView}
-use Rattle.vt_hub.specs.Carrying.{display_of, carried}
+use Rattle.vt_hub.specs.Carrying.{display_of, carried_entries}
 use Rattle.vt_hub.specs.Views.{StewardView}
 use Rattle.vt_hub.proofs.Whole.{KnownAt, whole}
 use Rattle.vt_journal.specs.Log.{Logged}
@@ -22,7 +22,7 @@ returns g c =
     let v : View Entry Full = view c.s.inside.place in
     let s : SharedView = c.close-shared.result in
     let l : Logged = c.parts-world.result.1 in
-    let known_at : KnownAt (display_of start) (carried start s.log.entries) s.stop v = record {
+    let known_at : KnownAt (display_of start) (carried_entries start s.log.entries) s.stop v = record {
       seen = c.close-shared.ensures.seen;
       known = c.close-shared.ensures.known;
       read = c.close-shared.ensures.read;

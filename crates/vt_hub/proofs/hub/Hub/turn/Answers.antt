@@ -1,23 +1,23 @@
 use Rattle.std.proofs.Common.{◌≡◌, arith, length, refl, sym, ap, ◌∙◌, subst}
-use Rattle.turn_lock.specs.Views.{resting}
+use Rattle.turn_lock.specs.Views.{without_turn}
 use Rattle.turn_lock.specs.Words.{AddsNext, lock_named, name, pass_of, view}
 use Rattle.turn_lock.specs.declared.view.View.{View}
 use Rattle.atomic_table.specs.Seated.{TableId}
 use Rattle.vt_events.specs.declared.entry.Entry.{Entry}
 use Rattle.vt_journal.specs.declared.full.Full.{Full}
 use Rattle.vt_hub.specs.Shared.{Enters, IsSound, SharedView}
-use Rattle.vt_hub.specs.Carrying.{carried}
-use Rattle.vt_hub.proofs.Carried.{length-carried}
+use Rattle.vt_hub.specs.Carrying.{carried_entries}
+use Rattle.vt_hub.proofs.Carried.{length-carried_entries}
 use Rattle.vt_hub.specs.Shared.{Stops, Waits}
 use Rattle.vt_hub.specs.Views.{PassView}
-use Rattle.vt_hub.proofs.Found.{Found, adds, count, counted-after, done, few-made, found-from, full, role-after, waits}
+use Rattle.vt_hub.proofs.Found.{Found, adds, count, counted_after, done, few_made, found_from, full, role_after, waits}
 use Rattle.vt_hub.proofs.hub.Hub.turn.Goals as goal
 
 pub call-answer-requires-clause-number : goal.call-answer-requires-clause-number
 call-answer-requires-clause-number g c =
     count g.J.Opening.start g.J.Opening.limits c.p.inside.number c.p.inside.seq
     (view c.p.inside.place) c.value-shared.result.now
-    (found-from g.J.Opening.start g.J.Opening.limits c.p.inside.number c.p.inside.seq
+    (found_from g.J.Opening.start g.J.Opening.limits c.p.inside.number c.p.inside.seq
     (view c.p.inside.place) c.enter-held.result.value c.value-shared.result.now
     c.value-shared.ensures.value c.sound.ensures c.p.invariant.named c.p.invariant.counted
     c.enter-held.ensures.seen c.enter-held.ensures.mine c.enter-held.ensures.known c.enter-held.ensures.read
@@ -30,12 +30,12 @@ publish-requires-clause-adds g c =
     let given : c.value-shared.result.now ≡ old = c.value-shared.ensures.value in
     let found : Found start g.J.Opening.limits c.p.inside.number c.p.inside.seq
     (view c.p.inside.place) old =
-    found-from start g.J.Opening.limits c.p.inside.number c.p.inside.seq
+    found_from start g.J.Opening.limits c.p.inside.number c.p.inside.seq
     (view c.p.inside.place) old old refl
     (subst (λ (s : SharedView). IsSound start g.J.Opening.limits s) given c.sound.ensures)
     c.p.invariant.named c.p.invariant.counted c.enter-held.ensures.seen c.enter-held.ensures.mine
     c.enter-held.ensures.known c.enter-held.ensures.read c.enter-held.ensures.stands c.enter-held.ensures.named in
-    subst (AddsNext (carried start c.call-answer.new.self.log.entries))
+    subst (AddsNext (carried_entries start c.call-answer.new.self.log.entries))
     (sym c.enter-held.ensures.view.1)
     (adds start g.J.Opening.limits c.p.inside.number c.p.inside.seq (view c.p.inside.place) old
     found c.enter-held.ensures.view.0 c.call-answer.new.self c.args.event c.in-Done.at
@@ -52,14 +52,14 @@ publish-requires-clause-few g c =
     let few = c.in-Done.ensures.few in
     let same = ap (λ (s : SharedView). length s.log.entries) given in
     let seen = ap (λ v. length v.seen) c.enter-held.ensures.view.1 in
-    omega (arith, few, same, seen, length-carried start old.log.entries)
+    omega (arith, few, same, seen, length-carried_entries start old.log.entries)
 
 pub overflow_add-p : goal.overflow_add-p
 overflow_add-p g c =
     let few = c.in-Done.ensures.few in
     let counted = count g.J.Opening.start g.J.Opening.limits c.p.inside.number c.p.inside.seq
     (view c.p.inside.place) c.value-shared.result.now
-    (found-from g.J.Opening.start g.J.Opening.limits c.p.inside.number c.p.inside.seq
+    (found_from g.J.Opening.start g.J.Opening.limits c.p.inside.number c.p.inside.seq
     (view c.p.inside.place) c.enter-held.result.value c.value-shared.result.now
     c.value-shared.ensures.value c.sound.ensures c.p.invariant.named c.p.invariant.counted
     c.enter-held.ensures.seen c.enter-held.ensures.mine c.enter-held.ensures.known c.enter-held.ensures.read
@@ -68,7 +68,7 @@ overflow_add-p g c =
       arith,
       few,
       counted,
-      few-made c.p.inside.number c.value-shared.result.now.log.entries,
+      few_made c.p.inside.number c.value-shared.result.now.log.entries,
     )
 
 pub invariant_of-p : goal.invariant_of-p
@@ -79,7 +79,7 @@ invariant_of-p g c =
     let given : c.value-shared.result.now ≡ old = c.value-shared.ensures.value in
     let before : View Entry Full = view c.p.inside.place in
     let found : Found start most c.p.inside.number c.p.inside.seq before old =
-    found-from start most c.p.inside.number c.p.inside.seq before old old refl
+    found_from start most c.p.inside.number c.p.inside.seq before old old refl
     (subst (λ (s : SharedView). IsSound start most s) given c.sound.ensures)
     c.p.invariant.named c.p.invariant.counted c.enter-held.ensures.seen c.enter-held.ensures.mine
     c.enter-held.ensures.known c.enter-held.ensures.read c.enter-held.ensures.stands c.enter-held.ensures.named in
@@ -88,8 +88,8 @@ invariant_of-p g c =
     c.self.view_is ∙ (sym c.requires.own ∙ sym (ap (λ (q : PassView). q.hub) c.p.view_is)) in
     let after : SharedView = c.call-answer.new.self in
     let shown : View Entry Full = view (pass_of c.publish.new.self) in
-    let left : view c.leave.new.self.1.0 ≡ resting after.stop shown =
-    c.leave.ensures.view ∙ ap (λ (x : SharedView). resting x.stop shown) c.publish.ensures.value in
+    let left : view c.leave.new.self.1.0 ≡ without_turn after.stop shown =
+    c.leave.ensures.view ∙ ap (λ (x : SharedView). without_turn x.stop shown) c.publish.ensures.value in
     let home : lock_named c.leave.new.self.1.0 ≡ hub =
     c.leave.ensures.own.0
     ∙ (ap name c.publish.ensures.lock ∙ (c.enter-held.ensures.lock ∙ own)) in
@@ -99,12 +99,12 @@ invariant_of-p g c =
     c.in-Done.at c.in-Done.reply) given c.in-Done.ensures in
     record {
       rests = c.leave.ensures.own.1;
-      named = role-after start most c.p.inside.number c.p.inside.seq before old found hub c.args.p.now
+      named = role_after start most c.p.inside.number c.p.inside.seq before old found hub c.args.p.now
           c.p.view_is (lock_named c.leave.new.self.1.0) home c.enter-held.ensures.view.0 after
           (view (pass_of c.enter-held.result)) (view c.leave.new.self.1.0) c.enter-held.ensures.view.1
           c.args.event c.in-Done.at c.in-Done.reply enters shown c.publish.ensures.view
           c.publish.ensures.mine left;
-      counted = counted-after start most c.p.inside.number c.p.inside.seq before old found hub c.args.p.now
+      counted = counted_after start most c.p.inside.number c.p.inside.seq before old found hub c.args.p.now
           c.p.view_is (lock_named c.leave.new.self.1.0) home c.enter-held.ensures.view.0 after
           (view (pass_of c.enter-held.result)) (view c.leave.new.self.1.0) c.enter-held.ensures.view.1
           c.args.event c.in-Done.at c.in-Done.reply enters shown c.publish.ensures.view
@@ -119,7 +119,7 @@ returns-in-Done g c =
     let given : c.value-shared.result.now ≡ old = c.value-shared.ensures.value in
     let before : View Entry Full = view c.p.inside.place in
     let found : Found start most c.p.inside.number c.p.inside.seq before old =
-    found-from start most c.p.inside.number c.p.inside.seq before old old refl
+    found_from start most c.p.inside.number c.p.inside.seq before old old refl
     (subst (λ (s : SharedView). IsSound start most s) given c.sound.ensures)
     c.p.invariant.named c.p.invariant.counted c.enter-held.ensures.seen c.enter-held.ensures.mine
     c.enter-held.ensures.known c.enter-held.ensures.read c.enter-held.ensures.stands c.enter-held.ensures.named in
@@ -128,8 +128,8 @@ returns-in-Done g c =
     c.self.view_is ∙ (sym c.requires.own ∙ sym (ap (λ (q : PassView). q.hub) c.p.view_is)) in
     let after : SharedView = c.call-answer.new.self in
     let shown : View Entry Full = view (pass_of c.publish.new.self) in
-    let left : view c.leave.new.self.1.0 ≡ resting after.stop shown =
-    c.leave.ensures.view ∙ ap (λ (x : SharedView). resting x.stop shown) c.publish.ensures.value in
+    let left : view c.leave.new.self.1.0 ≡ without_turn after.stop shown =
+    c.leave.ensures.view ∙ ap (λ (x : SharedView). without_turn x.stop shown) c.publish.ensures.value in
     let home : lock_named c.leave.new.self.1.0 ≡ hub =
     c.leave.ensures.own.0
     ∙ (ap name c.publish.ensures.lock ∙ (c.enter-held.ensures.lock ∙ own)) in
@@ -151,7 +151,7 @@ returns-in-Full g c =
     let given : c.value-shared.result.now ≡ old = c.value-shared.ensures.value in
     let before : View Entry Full = view c.p.inside.place in
     let found : Found start most c.p.inside.number c.p.inside.seq before old =
-    found-from start most c.p.inside.number c.p.inside.seq before old old refl
+    found_from start most c.p.inside.number c.p.inside.seq before old old refl
     (subst (λ (s : SharedView). IsSound start most s) given c.sound.ensures)
     c.p.invariant.named c.p.invariant.counted c.enter-held.ensures.seen c.enter-held.ensures.mine
     c.enter-held.ensures.known c.enter-held.ensures.read c.enter-held.ensures.stands c.enter-held.ensures.named in
@@ -160,7 +160,7 @@ returns-in-Full g c =
     c.self.view_is ∙ (sym c.requires.own ∙ sym (ap (λ (q : PassView). q.hub) c.p.view_is)) in
     let after : SharedView = c.call-answer.new.self in
     let held : View Entry Full = view (pass_of c.enter-held.result) in
-    let left : view c.leave-in-Full.new.self.1.0 ≡ resting after.stop held = c.leave-in-Full.ensures.view in
+    let left : view c.leave-in-Full.new.self.1.0 ≡ without_turn after.stop held = c.leave-in-Full.ensures.view in
     let home : lock_named c.leave-in-Full.new.self.1.0 ≡ hub =
     c.leave-in-Full.ensures.own.0 ∙ (c.enter-held.ensures.lock ∙ own) in
     full start most c.p.inside.number c.p.inside.seq before old found hub c.args.p.now
@@ -177,7 +177,7 @@ returns-in-Waits g c =
     let given : c.value-shared.result.now ≡ old = c.value-shared.ensures.value in
     let before : View Entry Full = view c.p.inside.place in
     let found : Found start most c.p.inside.number c.p.inside.seq before old =
-    found-from start most c.p.inside.number c.p.inside.seq before old old refl
+    found_from start most c.p.inside.number c.p.inside.seq before old old refl
     (subst (λ (s : SharedView). IsSound start most s) given c.sound.ensures)
     c.p.invariant.named c.p.invariant.counted c.enter-held.ensures.seen c.enter-held.ensures.mine
     c.enter-held.ensures.known c.enter-held.ensures.read c.enter-held.ensures.stands c.enter-held.ensures.named in
@@ -186,7 +186,7 @@ returns-in-Waits g c =
     c.self.view_is ∙ (sym c.requires.own ∙ sym (ap (λ (q : PassView). q.hub) c.p.view_is)) in
     let after : SharedView = c.call-answer.new.self in
     let held : View Entry Full = view (pass_of c.enter-held.result) in
-    let left : view c.leave-in-Waits.new.self.1.0 ≡ resting after.stop held = c.leave-in-Waits.ensures.view in
+    let left : view c.leave-in-Waits.new.self.1.0 ≡ without_turn after.stop held = c.leave-in-Waits.ensures.view in
     let home : lock_named c.leave-in-Waits.new.self.1.0 ≡ hub =
     c.leave-in-Waits.ensures.own.0 ∙ (c.enter-held.ensures.lock ∙ own) in
     waits start most c.p.inside.number c.p.inside.seq before old found hub c.args.p.now

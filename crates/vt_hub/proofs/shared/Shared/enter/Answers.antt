@@ -3,7 +3,7 @@ use Rattle.vt_events.specs.declared.entry.Entry.{Entry}
 use Rattle.vt_hub.specs.Histories.{made_by}
 use Rattle.vt_hub.specs.Shared.{SharedView}
 use Rattle.vt_world.specs.State.{WorldState, is_waiting}
-use Rattle.vt_world.specs.Step.{Gives, step}
+use Rattle.vt_world.specs.Step.{HasOutcome, step}
 use Rattle.vt_hub.proofs.Sounds.{IsEntryOf, enters}
 use Rattle.std.proofs.Common.{length}
 use Rattle.vt_hub.proofs.shared.Shared.enter.Goals as goal
@@ -28,8 +28,8 @@ invariant_of-self g c =
     } in
     let of : IsEntryOf c.args.caller c.args.seq c.args.event c.step-reply.result.0 entry =
     record { caller = refl; number = refl; event = refl; reply = c.copy_into.ensures } in
-    let stepped : Gives (step v.world c.args.caller c.args.event) w.world c.step-reply.result.0 =
-    subst (λ (x : WorldState). Gives (step x c.args.caller c.args.event) w.world c.step-reply.result.0)
+    let stepped : HasOutcome (step v.world c.args.caller c.args.event) w.world c.step-reply.result.0 =
+    subst (λ (x : WorldState). HasOutcome (step x c.args.caller c.args.event) w.world c.step-reply.result.0)
     c.deref_mut.ensures.value c.step-reply.ensures.step in
     let shown = ap (λ (x : WorldState). x.display.front) c.deref.ensures in
     enters g.J.Opening.start g.J.Opening.limits v w c.args.caller c.args.seq c.args.event

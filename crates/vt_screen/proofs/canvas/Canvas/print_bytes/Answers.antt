@@ -1,6 +1,6 @@
 use Rattle.std.proofs.Common.{◌<◌, ℕ, List, length, ◌∙◌, arith}
 use Rattle.std.proofs.lemmas.Bool.Decides.{nat_tests}
-use Rattle.vt_screen.proofs.Spread.{put-narrow}
+use Rattle.vt_screen.proofs.Spread.{put_narrow}
 use Rattle.vt_screen.specs.Screen.{Screen}
 use Rattle.vt_screen.proofs.canvas.Canvas.print_bytes.Goals as goal
 
@@ -12,6 +12,6 @@ returns c =
     let room_is = c.room.ensures.room in
     let more : 0 < c.room.result = omega (arith, c.requires.some, room_is) in
     c.put_bytes.ensures
-    ∙ put-narrow c.stretches_join.ensures c.columns_are_few.ensures.most bytes s c.requires.narrow c.room.ensures.whole some
+    ∙ put_narrow c.stretches_join.ensures c.columns_are_few.ensures.most bytes s c.requires.narrow c.room.ensures.whole some
     (c.room.ensures.unwrapped more) (c.room.ensures.closed more)
     (omega (arith, c.requires.room, room_is, c.room.ensures.fits))

@@ -1,7 +1,7 @@
 use Rattle.std.proofs.Common.{◌≡◌, ◌-◌, ℕ, suc, false, arith, cond, sym, ap, ◌∙◌}
 use Rattle.vt_cells.specs.declared.cell.Cell.{Cell}
 use Rattle.vt_grid.specs.Grid.{scrolled_up}
-use Rattle.vt_screen.proofs.Scrolled.{all-at-once}
+use Rattle.vt_screen.proofs.Scrolled.{all_at_once}
 use Rattle.vt_screen.specs.Cursor.{newlines}
 use Rattle.vt_screen.specs.Screen.{IsWhole, Screen, blank_of}
 use Rattle.vt_screen.proofs.canvas.Canvas.scroll.Goals as goal
@@ -26,6 +26,6 @@ returns c =
     c.line_start-self-inside.ensures.column
     ∙ ap (λ (s : Screen). cond s.state.newline 0 s.state.x) (sym seen) in
     (λ i. record { grid = rows i; state = record v.state { x = column i; wrap = false } })
-    ∙ sym (all-at-once k v last whole.full.tall whole.order whole.region)
+    ∙ sym (all_at_once k v last whole.full.tall whole.order whole.region)
     ∙ ap (λ (n : ℕ). newlines n v) full
     ∙ ap (newlines c.args.count) seen

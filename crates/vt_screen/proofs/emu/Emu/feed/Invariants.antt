@@ -1,5 +1,5 @@
 use Rattle.std.proofs.Common.{◌≡◌, ◌≤◌, ◌-◌, [], length, drop}
-use Rattle.vt_screen.specs.Run.{drawing, having_said}
+use Rattle.vt_screen.specs.Run.{screen_effects, with_outs}
 use Rattle.vt_units.specs.Run.{run}
 use Rattle.vt_screen.proofs.emu.Emu.feed.Given as goal
 
@@ -7,7 +7,7 @@ abbrev pub invariant-loop-at : goal.invariant-loop-at
 invariant-loop-at l = record {
   within : l.at ≤ length l.b;
   outs : length l.outs ≤ l.at;
-  run : run drawing (drop l.at l.b) (having_said l.outs l.self) ≡ run drawing l.b (having_said [] l.fn.self);
+  run : run screen_effects (drop l.at l.b) (with_outs l.outs l.self) ≡ run screen_effects l.b (with_outs [] l.fn.self);
 }
 
 abbrev pub decreases-loop-at : goal.decreases-loop-at

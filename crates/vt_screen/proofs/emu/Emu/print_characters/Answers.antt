@@ -2,12 +2,12 @@ use Rattle.std.proofs.Common.{◌≡◌, ◌<◌, false, ℕ, List, take, length
 use Rattle.std.proofs.lemmas.Bool.{cond-false}
 use Rattle.std.proofs.lemmas.Bool.Decides.{nat_tests}
 use Rattle.std.proofs.lemmas.List.{length-take-le}
-use Rattle.vt_screen.proofs.Shown.{codes-run}
-use Rattle.vt_screen.specs.Printing.{printed}
-use Rattle.vt_screen.specs.Run.{drawing, having_said}
+use Rattle.vt_screen.proofs.Shown.{codes_run}
+use Rattle.vt_screen.specs.Printing.{print_characters}
+use Rattle.vt_screen.specs.Run.{screen_effects, with_outs}
 use Rattle.vt_screen.specs.Screen.{Screen}
 use Rattle.vt_units.specs.Rest.{Rest, fresh}
-use Rattle.vt_units.specs.Run.{Reached, reached, run}
+use Rattle.vt_units.specs.Run.{Reached, make_reached, run}
 use Rattle.vt_screen.proofs.emu.Emu.print_characters.Goals as goal
 
 pub returns-then-count-gt0-clause-run : goal.returns-then-count-gt0-clause-run
@@ -25,9 +25,9 @@ returns-then-count-gt0-clause-run c = λ outs.
     let not_none : (count == 0) ≡ false = grind (arith, nat_tests, some) in
     let left : c.take_characters-count.new.self ≡ fresh c.mode.result =
     c.take_characters-count.ensures.rest ∙ cond-false (count == 0) rest (fresh c.mode.result) not_none in
-    let shown : c.print_codes.new.self ≡ printed codes s =
-    c.print_codes.ensures ∙ ap (λ (cs : List ℕ). printed cs s) c.as_slice.ensures.codes in
-    ap (λ (m : Reached Screen). run drawing front (having_said outs m)) (sym c.self.view_is)
-    ∙ codes-run c.printables_are_characters.ensures front codes outs s rest c.mode.result c.mode.ensures
+    let shown : c.print_codes.new.self ≡ print_characters codes s =
+    c.print_codes.ensures ∙ ap (λ (cs : List ℕ). print_characters cs s) c.as_slice.ensures.codes in
+    ap (λ (m : Reached Screen). run screen_effects front (with_outs outs m)) (sym c.self.view_is)
+    ∙ codes_run c.printables_are_characters.ensures front codes outs s rest c.mode.result c.mode.ensures
     c.take_characters-count.ensures.texts long begun.0 begun.1
-    ∙ (λ i. having_said outs (reached (sym shown i) (sym left i)))
+    ∙ (λ i. with_outs outs (make_reached (sym shown i) (sym left i)))

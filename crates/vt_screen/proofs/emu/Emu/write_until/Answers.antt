@@ -1,6 +1,6 @@
 use Rattle.std.proofs.Common.{◌≡◌, ℕ, ◌<◌, List, [], ap, sym, ◌∙◌, arith, length}
-use Rattle.vt_screen.proofs.Feeds.{run-to}
-use Rattle.vt_screen.specs.Run.{Drawn, having_said}
+use Rattle.vt_screen.proofs.Feeds.{run_to}
+use Rattle.vt_screen.specs.Run.{ScreenAndOuts, with_outs}
 use Rattle.vt_units.specs.Run.{Reached, reached}
 use Rattle.vt_screen.proofs.emu.Emu.write_until.Goals as goal
 
@@ -10,15 +10,15 @@ loop-at-preserved c =
       within = omega arith;
       one = omega (arith, c.take_front-at.ensures.one);
       run =
-          run-to c.args.b.now c.loop-at.at c.take_front-at.result (having_said [] c.args.self.now)
-          (having_said c.loop-at.outs c.loop-at.self)
-          (having_said c.take_front-at.new.outs c.take_front-at.new.self)
+          run_to c.args.b.now c.loop-at.at c.take_front-at.result (with_outs [] c.args.self.now)
+          (with_outs c.loop-at.outs c.loop-at.self)
+          (with_outs c.take_front-at.new.outs c.take_front-at.new.self)
           c.loop-at.invariant.run c.take_front-at.ensures.run;
     }
 
 pub returns-clause-screen : goal.returns-clause-screen
 returns-clause-screen c =
-    sym (ap (λ (end : Reached Drawn). reached end.state.screen end.rest) c.loop-at.invariant.run)
+    sym (ap (λ (end : Reached ScreenAndOuts). reached end.state.screen end.rest) c.loop-at.invariant.run)
 
 pub returns-clause-outs : goal.returns-clause-outs
-returns-clause-outs c = sym (ap (λ (end : Reached Drawn). end.state.outs) c.loop-at.invariant.run)
+returns-clause-outs c = sym (ap (λ (end : Reached ScreenAndOuts). end.state.outs) c.loop-at.invariant.run)

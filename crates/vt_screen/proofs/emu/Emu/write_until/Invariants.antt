@@ -1,5 +1,5 @@
 use Rattle.std.proofs.Common.{◌≡◌, ◌≤◌, ◌-◌, [], length, take}
-use Rattle.vt_screen.specs.Run.{drawing, having_said}
+use Rattle.vt_screen.specs.Run.{screen_effects, with_outs}
 use Rattle.vt_units.specs.Run.{run}
 use Rattle.vt_screen.proofs.emu.Emu.write_until.Given as goal
 
@@ -7,7 +7,7 @@ abbrev pub invariant-loop-at : goal.invariant-loop-at
 invariant-loop-at l = record {
   within : l.at ≤ length l.b;
   one : length l.outs ≤ 1;
-  run : run drawing (take l.at l.b) (having_said [] l.fn.self) ≡ having_said l.outs l.self;
+  run : run screen_effects (take l.at l.b) (with_outs [] l.fn.self) ≡ with_outs l.outs l.self;
 }
 
 abbrev pub decreases-loop-at : goal.decreases-loop-at

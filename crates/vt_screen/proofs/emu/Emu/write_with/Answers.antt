@@ -1,9 +1,9 @@
 use Rattle.std.proofs.Common.{ℕ, ◌≡◌, ◌-◌, ◌+◌, ◌++◌, List, length, take, drop, sym, ap, ◌∙◌, subst, arith, length-drop}
 use Rattle.std.proofs.Math.Seq.{take-add}
 use Rattle.std.proofs.lemmas.List.{take_all}
-use Rattle.vt_screen.proofs.Hearing.{hears-both}
+use Rattle.vt_screen.proofs.Hearing.{hears_both}
 use Rattle.vt_screen.specs.Hearing.{HearsAll}
-use Rattle.vt_screen.specs.Run.{after, said}
+use Rattle.vt_screen.specs.Run.{after, outs_of_run}
 use Rattle.vt_screen.specs.Screen.{Screen}
 use Rattle.vt_screen.specs.declared.out.Out.{Out}
 use Rattle.vt_units.specs.Run.{Reached}
@@ -23,11 +23,11 @@ loop-at-preserved g c =
     let joined : take at text ++ take n left ≡ take (at + n) text = sym (take-add at n text) in
     let screen : c.take_told-at.new.self ≡ after before (take n left) =
     c.take_told-at.ensures.screen ∙ ap (λ (bytes : List ℕ). after before (take n bytes)) whole in
-    let outs : said before (take n (take (length text - at) left)) ≡ said (after start (take at text)) (take n left) =
-    ap (λ (bytes : List ℕ). said before (take n bytes)) whole
-    ∙ ap (λ (m : Reached Screen). said m (take n left)) done in
-    let all : said start (take at text) ++ said (after start (take at text)) (take n left) ≡ said start (take (at + n) text) =
-    sym (c.any_cut.ensures start (take at text) (take n left)).1 ∙ ap (said start) joined in
+    let outs : outs_of_run before (take n (take (length text - at) left)) ≡ outs_of_run (after start (take at text)) (take n left) =
+    ap (λ (bytes : List ℕ). outs_of_run before (take n bytes)) whole
+    ∙ ap (λ (m : Reached Screen). outs_of_run m (take n left)) done in
+    let all : outs_of_run start (take at text) ++ outs_of_run (after start (take at text)) (take n left) ≡ outs_of_run start (take (at + n) text) =
+    sym (c.any_cut.ensures start (take at text) (take n left)).1 ∙ ap (outs_of_run start) joined in
     record {
       within = omega (arith, c.take_told-at.ensures.within, length-drop at text);
       empty = c.take_told-at.ensures.empty;
@@ -37,10 +37,10 @@ loop-at-preserved g c =
           ∙ sym (c.any_cut.ensures start (take at text) (take n left)).0
           ∙ ap (after start) joined;
       heard =
-          subst (λ (said : List Out). HearsAll g.L.Listener.hears c.args.listener.now said c.take_told-at.new.listener) all
-          (hears-both g.L.Listener.hears c.args.listener.now c.loop-at.listener c.take_told-at.new.listener
-          (said start (take at text)) (said (after start (take at text)) (take n left))
+          subst (λ (outs_of_run : List Out). HearsAll g.L.Listener.hears c.args.listener.now outs_of_run c.take_told-at.new.listener) all
+          (hears_both g.L.Listener.hears c.args.listener.now c.loop-at.listener c.take_told-at.new.listener
+          (outs_of_run start (take at text)) (outs_of_run (after start (take at text)) (take n left))
           c.loop-at.invariant.heard
-          (subst (λ (said : List Out). HearsAll g.L.Listener.hears c.loop-at.listener said c.take_told-at.new.listener) outs
+          (subst (λ (outs_of_run : List Out). HearsAll g.L.Listener.hears c.loop-at.listener outs_of_run c.take_told-at.new.listener) outs
           c.take_told-at.ensures.heard));
     }

@@ -1,6 +1,6 @@
 use Rattle.std.proofs.Common.{◌≡◌, ◌≤◌, ◌-◌, [], length, take}
 use Rattle.vt_screen.specs.Hearing.{HearsAll}
-use Rattle.vt_screen.specs.Run.{after, said}
+use Rattle.vt_screen.specs.Run.{after, outs_of_run}
 use Rattle.vt_screen.proofs.emu.Emu.write_with.Given as goal
 
 abbrev pub invariant-loop-at : goal.invariant-loop-at
@@ -8,7 +8,7 @@ invariant-loop-at g l = record {
   within : l.at ≤ length l.b;
   empty : l.outs ≡ [];
   done : l.self ≡ after l.fn.self (take l.at l.b);
-  heard : HearsAll g.L.Listener.hears l.fn.listener (said l.fn.self (take l.at l.b)) l.listener;
+  heard : HearsAll g.L.Listener.hears l.fn.listener (outs_of_run l.fn.self (take l.at l.b)) l.listener;
 }
 
 abbrev pub decreases-loop-at : goal.decreases-loop-at

@@ -4,7 +4,7 @@ use Rattle.vt_base.specs.ConsoleSet.{IsFitSet}
 use Rattle.vt_events.specs.declared.entry.Entry.{Entry}
 use Rattle.vt_journal.specs.declared.tail.Tail.{Tail}
 use Rattle.vt_procs.specs.declared.config.Config.{Config}
-use Rattle.vt_tool.proofs.Checks.{right-if-legal}
+use Rattle.vt_tool.proofs.Checks.{right_if_legal}
 use Rattle.vt_tool.proofs.Oks.{ok_more}
 use Rattle.vt_tool.specs.Commands.Check.{legal_text}
 use Rattle.vt_tool.specs.Commands.Judged.{judged_text}
@@ -21,7 +21,7 @@ returns-clause-judged c =
       verdict = c.in_ok-verdict.verdict;
       judged = facts.judges;
       right =
-          right-if-legal s entries end c.in_ok-verdict.verdict c.displays_are_lawful.ensures.waiting
+          right_if_legal s entries end c.in_ok-verdict.verdict c.displays_are_lawful.ensures.waiting
           (subst (λ (config : Config). IsFitSet config.consoles config.front) c.config-config.ensures.same
           c.config-config.ensures.fit)
           facts.legal facts.lawful facts.screens;

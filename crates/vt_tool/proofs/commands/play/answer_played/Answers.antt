@@ -4,7 +4,7 @@ use Rattle.vt_events.specs.declared.entry.Entry.{Entry}
 use Rattle.vt_journal.specs.Journal.{journal_text}
 use Rattle.vt_journal.specs.Room.{tail_at}
 use Rattle.vt_journal.specs.declared.full.Full.{Full}
-use Rattle.vt_tool.proofs.Sessions.{right-run, run-printed}
+use Rattle.vt_tool.proofs.Sessions.{right_run, run_printed}
 use Rattle.vt_world.specs.State.{WorldState}
 use Rattle.vt_tool.proofs.commands.play.answer_played.Goals as goal
 
@@ -21,10 +21,10 @@ returns-clause-played c =
       stop = stop;
       serial = facts.serial;
       right =
-          right-run s world entries stop facts.world facts.legal facts.follows facts.ends facts.lawful
+          right_run s world entries stop facts.world facts.legal facts.follows facts.ends facts.lawful
           facts.explained facts.screens;
       printed =
-          run-printed s world entries stop facts.world c.in_ok-answer.answer.status
+          run_printed s world entries stop facts.world c.in_ok-answer.answer.status
           c.in_ok-answer.answer.text.bytes printed.status
           (printed.text
           ∙ ap (λ (last : List ℕ). journal_text 2 entries (tail_at entries stop) ++ last)

@@ -1,5 +1,5 @@
 use Rattle.std.proofs.Common.{inl, inr}
-use Rattle.vt_tool.proofs.Checks.{same-outcome}
+use Rattle.vt_tool.proofs.Checks.{same_outcome}
 use Rattle.vt_tool.proofs.Oks.{ok_both}
 use Rattle.vt_tool.proofs.Upgrades.{is_old}
 use Rattle.vt_tool.proofs.commands.upgrade.answer.Goals as goal
@@ -13,5 +13,5 @@ returns-in-Ok-clause-gives c =
       says =
           is_old c.args.input.now c.in-Ok.journal (c.is_newer.ensures.no c.if-is_newer.false)
           c.in-Ok.ensures.says;
-      is = same-outcome _ _ _ _ status text;
+      is = same_outcome _ _ _ _ status text;
     })) c.answer_printed.ensures.status c.answer_printed.ensures.text

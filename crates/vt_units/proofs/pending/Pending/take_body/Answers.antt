@@ -1,6 +1,6 @@
 use Rattle.std.proofs.Common.{◌≡◌, ℕ, List, [], ◌∷◌, ◌++◌, sym, ap, ◌∙◌, subst}
 use Rattle.vt_units.specs.Rest.{Rest}
-use Rattle.vt_units.specs.Stage.{Quiet, rest_of}
+use Rattle.vt_units.specs.ParserState.{Quiet, rest_of}
 use Rattle.vt_units.specs.declared.mode.Mode.{Mode}
 use Rattle.vt_units.proofs.pending.Pending.take_body.Goals as goal
 

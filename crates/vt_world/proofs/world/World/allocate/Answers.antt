@@ -3,9 +3,9 @@ use Rattle.std.specs.Prelude.{is_some}
 use Rattle.vt_world.proofs.Places.{allocated_alike, allocating_same}
 use Rattle.vt_switch.specs.Acts.{Allocate}
 use Rattle.vt_switch.specs.Display.{Display}
-use Rattle.vt_world.proofs.Owners.{after-act}
-use Rattle.vt_world.specs.Rows.{allocating}
-use Rattle.vt_world.specs.Deeds.{all_done}
+use Rattle.vt_world.proofs.Owners.{after_act}
+use Rattle.vt_world.specs.Rows.{with_allocation}
+use Rattle.vt_world.specs.Deeds.{apply_deeds}
 use Rattle.vt_world.specs.State.{WorldState, core_of}
 use Rattle.vt_world.proofs.world.World.allocate.Goals as goal
 
@@ -22,7 +22,7 @@ returns-then-allocated c =
       board = inside.board;
       trace = inside.trace;
     } in
-    subst (λ (v : WorldState). v ≡ all_done v (allocating c.args.c [])) c.self.view_is
+    subst (λ (v : WorldState). v ≡ apply_deeds v (with_allocation c.args.c [])) c.self.view_is
     (allocating_same w c.args.c c.self.invariant.alike (sym c.allocated.ensures ∙ c.if-allocated.true))
 
 pub invariant_of-self : goal.invariant_of-self
@@ -33,7 +33,7 @@ invariant_of-self c = record {
       c.self.inside.switch.consoles c.self.inside.terminals c.self.invariant.alike
       ∙ sym (ap (λ (d : Display). map is_some d.consoles) c.allocate.ensures);
   owners =
-      after-act c.each_target_was_asked_for.ensures.owners
+      after_act c.each_target_was_asked_for.ensures.owners
       (core_of c.self.inside.switch c.self.inside.procs) (core_of c.allocate.new.self c.self.inside.procs)
       (Allocate c.args.c)
       (ap (λ (d : Display). core_of d c.self.inside.procs) (sym c.allocate.ensures))

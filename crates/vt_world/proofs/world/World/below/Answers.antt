@@ -1,9 +1,9 @@
 use Rattle.std.proofs.Common.{◌≡◌, ℕ, ◌-◌, sym, ap, ◌∙◌}
 use Rattle.std.specs.List.{find}
-use Rattle.vt_world.specs.Wanted.{falling}
+use Rattle.vt_world.specs.Wanted.{numbers_down_from}
 use Rattle.vt_switch.specs.Display.{is_allocated}
 use Rattle.vt_world.specs.State.{WorldState}
-use Rattle.vt_world.proofs.Requests.{found-first, found-second}
+use Rattle.vt_world.proofs.Requests.{found_first, found_second}
 use Rattle.vt_world.proofs.world.World.below.Goals as goal
 
 pub returns-in-Some : goal.returns-in-Some
@@ -12,8 +12,8 @@ returns-in-Some c =
     let front : c.get-front.result ≡ c.args.self.now.display.front =
     c.get-front.ensures.same ∙ c.front.ensures.front
     ∙ ap (λ (w : WorldState). w.display.front) c.self.view_is in
-    found-first p _ _ c.in-Some.c
-    (ap (λ (f : ℕ). find p (falling (f - 1) (f - 1))) (sym front) ∙ sym c.in-Some.ensures)
+    found_first p _ _ c.in-Some.c
+    (ap (λ (f : ℕ). find p (numbers_down_from (f - 1) (f - 1))) (sym front) ∙ sym c.in-Some.ensures)
 
 pub returns-in-None : goal.returns-in-None
 returns-in-None c =
@@ -21,6 +21,6 @@ returns-in-None c =
     let front : c.get-front.result ≡ c.args.self.now.display.front =
     c.get-front.ensures.same ∙ c.front.ensures.front
     ∙ ap (λ (w : WorldState). w.display.front) c.self.view_is in
-    found-second p _ _ c.highest-in-None.result
-    (ap (λ (f : ℕ). find p (falling (f - 1) (f - 1))) (sym front) ∙ sym c.in-None.ensures)
-    (c.highest-in-None.ensures ∙ ap (λ (f : ℕ). find p (falling 63 (64 - f))) front)
+    found_second p _ _ c.highest-in-None.result
+    (ap (λ (f : ℕ). find p (numbers_down_from (f - 1) (f - 1))) (sym front) ∙ sym c.in-None.ensures)
+    (c.highest-in-None.ensures ∙ ap (λ (f : ℕ). find p (numbers_down_from 63 (64 - f))) front)

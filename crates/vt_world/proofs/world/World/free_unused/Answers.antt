@@ -1,6 +1,6 @@
 use Rattle.std.proofs.Common.{◌∙◌, arith}
 use Rattle.vt_world.specs.State.{WorldState}
-use Rattle.vt_world.proofs.Freed.{frees-next, rest-kept}
+use Rattle.vt_world.proofs.Freed.{frees_next, rest_kept}
 use Rattle.vt_world.proofs.world.World.free_unused.Goals as goal
 
 pub loop-n-preserved : goal.loop-n-preserved
@@ -10,8 +10,8 @@ loop-n-preserved c =
     let v : WorldState = c.free_if_unused.new.self in
     record {
       done =
-          frees-next w u v c.loop-n.n c.loop-n-test.true
+          frees_next w u v c.loop-n.n c.loop-n-test.true
           (c.loop-n.invariant.rest c.loop-n.n (omega arith)) c.free_if_unused.ensures
           ∙ c.loop-n.invariant.done;
-      rest = rest-kept w u v c.loop-n.n c.loop-n.invariant.rest c.free_if_unused.ensures;
+      rest = rest_kept w u v c.loop-n.n c.loop-n.invariant.rest c.free_if_unused.ensures;
     }

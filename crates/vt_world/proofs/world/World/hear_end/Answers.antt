@@ -1,5 +1,5 @@
 use Rattle.std.proofs.Common.{sym, subst}
-use Rattle.vt_procs.specs.Callers.{Callers, ended}
+use Rattle.vt_procs.specs.Callers.{Callers, after_exit}
 use Rattle.vt_switch.specs.Law.{OwnersLive}
 use Rattle.vt_world.specs.State.{WorldState, core_of}
 use Rattle.vt_world.proofs.world.World.hear_end.Goals as goal
@@ -10,6 +10,6 @@ invariant_of-self c =
       alike = c.self.invariant.alike;
       owners =
           subst (λ (callers : Callers). OwnersLive (core_of c.self.inside.switch callers)) (sym c.end.ensures)
-          (subst (λ (w : WorldState). OwnersLive (core_of w.display (ended c.args.p w.callers)))
+          (subst (λ (w : WorldState). OwnersLive (core_of w.display (after_exit c.args.p w.callers)))
           (sym c.self.view_is) c.requires.owners);
     }

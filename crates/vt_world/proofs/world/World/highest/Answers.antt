@@ -1,7 +1,7 @@
 use Rattle.std.proofs.Common.{◌-◌, ℕ, map, sym, ap, ◌∙◌}
 use Rattle.std.specs.List.{find}
 use Rattle.vt_switch.specs.Display.{is_allocated}
-use Rattle.vt_world.proofs.Requests.{found-here, found-later, range-first}
+use Rattle.vt_world.proofs.Requests.{found_here, found_later, range_first}
 use Rattle.vt_world.proofs.world.World.highest.Goals as goal
 
 pub returns-then-is_some : goal.returns-then-is_some
@@ -9,10 +9,10 @@ returns-then-is_some c =
     let p = is_allocated c.args.self.now.display in
     let k : ℕ = c.loop-k.k in
     let high : ℕ = c.args.high in
-    found-here p (high - k) _ c.allocated_at-c.result c.allocated_at-c.ensures
+    found_here p (high - k) _ c.allocated_at-c.result c.allocated_at-c.ensures
     (sym c.is_some.ensures ∙ c.if-is_some.true)
     ∙ ap (λ ns. find p (map (λ j. high - j) ns))
-    (sym (range-first k k c.args.len c.loop-k-test.true))
+    (sym (range_first k k c.args.len c.loop-k-test.true))
     ∙ c.loop-k.invariant
 
 pub loop-k-preserved : goal.loop-k-preserved
@@ -20,8 +20,8 @@ loop-k-preserved c =
     let p = is_allocated c.args.self.now.display in
     let k : ℕ = c.loop-k.k in
     let high : ℕ = c.args.high in
-    sym (found-later p (high - k) _ c.allocated_at-c.result c.allocated_at-c.ensures
+    sym (found_later p (high - k) _ c.allocated_at-c.result c.allocated_at-c.ensures
     (sym c.is_some.ensures ∙ c.if-is_some.false))
     ∙ ap (λ ns. find p (map (λ j. high - j) ns))
-    (sym (range-first k k c.args.len c.loop-k-test.true))
+    (sym (range_first k k c.args.len c.loop-k-test.true))
     ∙ c.loop-k.invariant

@@ -2,11 +2,11 @@ use Rattle.std.proofs.Common.{ap, map, ◌∙◌}
 use Rattle.std.specs.Prelude.{is_some}
 use Rattle.vt_screen.specs.Tape.{resize}
 use Rattle.vt_world.proofs.Alters.{altered_alike}
-use Rattle.vt_world.proofs.Owners.{alike-world}
+use Rattle.vt_world.proofs.Owners.{alike_world}
 use Rattle.vt_world.proofs.world.World.resize_screen.Goals as goal
 
 pub invariant_of-self : goal.invariant_of-self
 invariant_of-self c =
-    alike-world c.self.inside.terminals c.resize.new.self c.self.inside.switch c.self.inside.procs
+    alike_world c.self.inside.terminals c.resize.new.self c.self.inside.switch c.self.inside.procs
     (ap (map is_some) c.resize.ensures ∙ altered_alike c.args.c (resize c.args.grid.rows c.args.grid.cols) c.self.inside.terminals)
     c.self.invariant

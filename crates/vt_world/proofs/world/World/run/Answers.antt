@@ -5,7 +5,7 @@ use Rattle.vt_screen.specs.Asking.{requests}
 use Rattle.vt_screen.specs.declared.out.Out.{Out}
 use Rattle.vt_world.specs.State.{WorldState}
 use Rattle.vt_world.specs.Terminals.{said_of, terminal_at}
-use Rattle.vt_world.proofs.Writes.{asks-few, ran, ran-append, ran-asks}
+use Rattle.vt_world.proofs.Writes.{asks_few, ran, ran-append, ran-asks}
 use Rattle.vt_world.proofs.world.World.run.Goals as goal
 
 -- what a text says when it is written to the console
@@ -27,7 +27,7 @@ run_piece-requires-in-loop-at-clause-room c =
     c.loop-at.invariant.done
     ∙ ran-asks c.any_cut.ensures start c.args.c (take at text) piece
     ∙ ap (λ (bytes : List ℕ). requests (up_to start c.args.c bytes)) (sym fed) in
-    let few = asks-few c.requests_are_few.ensures (terminal_at start.terminals c.args.c) (take end text) in
+    let few = asks_few c.requests_are_few.ensures (terminal_at start.terminals c.args.c) (take end text) in
     let short : length (take end text) ≤ 4096 = omega (arith, length-take end text, c.requires.short) in
     omega (arith, asked, few, short, c.loop-at.invariant.room)
 

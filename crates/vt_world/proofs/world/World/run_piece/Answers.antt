@@ -1,11 +1,11 @@
 use Rattle.std.proofs.Common.{ap, map, ◌∙◌}
 use Rattle.std.specs.Prelude.{is_some}
-use Rattle.vt_world.proofs.Owners.{alike-world}
+use Rattle.vt_world.proofs.Owners.{alike_world}
 use Rattle.vt_world.proofs.Places.{written_alike}
 use Rattle.vt_world.proofs.world.World.run_piece.Goals as goal
 
 pub invariant_of-self : goal.invariant_of-self
 invariant_of-self c =
-    alike-world c.self.inside.terminals c.write.new.self c.self.inside.switch c.self.inside.procs
+    alike_world c.self.inside.terminals c.write.new.self c.self.inside.switch c.self.inside.procs
     (ap (map is_some) c.write.ensures.terminals ∙ written_alike c.args.c c.args.b.now c.self.inside.terminals)
     c.self.invariant

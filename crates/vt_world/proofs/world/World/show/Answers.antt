@@ -1,10 +1,10 @@
 use Rattle.std.proofs.Common.{refl}
 use Rattle.vt_switch.specs.Acts.{SetKd}
-use Rattle.vt_world.proofs.Owners.{still-world}
+use Rattle.vt_world.proofs.Owners.{still_world}
 use Rattle.vt_world.proofs.world.World.show.Goals as goal
 
 pub invariant_of-self : goal.invariant_of-self
 invariant_of-self c =
-    still-world c.each_target_was_asked_for.ensures.owners c.self.inside.terminals c.self.inside.switch
+    still_world c.each_target_was_asked_for.ensures.owners c.self.inside.terminals c.self.inside.switch
     c.set_kd.new.self c.self.inside.procs (SetKd c.args.c c.args.graphics) refl refl c.set_kd.ensures
     c.self.invariant

@@ -2,7 +2,7 @@ use Rattle.std.proofs.Common.{List, Option, ap, map, subst, sym, ◌∙◌}
 use Rattle.std.specs.Prelude.{is_some}
 use Rattle.vt_world.specs.Terminals.{TerminalState, new_terminal}
 use Rattle.vt_world.proofs.Places.{each_alike}
-use Rattle.vt_world.proofs.Owners.{first-owners}
+use Rattle.vt_world.proofs.Owners.{first_owners}
 use Rattle.vt_switch.specs.Display.{Display, fresh}
 use Rattle.vt_switch.specs.Law.{OwnersLive}
 use Rattle.vt_world.specs.State.{core_of}
@@ -17,5 +17,5 @@ invariant_of-result c = record {
       ∙ sym (ap (λ (d : Display). map is_some d.consoles) c.start-4.ensures);
   owners =
       subst (λ (d : Display). OwnersLive (core_of d c.start-5.result)) (sym c.start-4.ensures)
-      (first-owners c.args.c.now.consoles c.args.c.now.front c.start-5.result);
+      (first_owners c.args.c.now.consoles c.args.c.now.front c.start-5.result);
 }

@@ -2,10 +2,10 @@ use Rattle.std.proofs.Common.{◌≡◌, ℕ, ◌+◌, List, [], ◌∷◌, ◌+
 use Rattle.std.proofs.lemmas.List.{take_more}
 use Rattle.vt_screen.specs.Asking.{requests}
 use Rattle.vt_screen.specs.declared.out.Out.{Out}
-use Rattle.vt_world.specs.Deeds.{all_done}
+use Rattle.vt_world.specs.Deeds.{apply_deeds}
 use Rattle.vt_world.specs.Rows.{out_deeds}
 use Rattle.vt_world.specs.State.{WorldState}
-use Rattle.vt_world.proofs.Writes.{front-asks, heard, heard-more, one-more-asks}
+use Rattle.vt_world.proofs.Writes.{front_asks, heard, heard_more, one_more_asks}
 use Rattle.vt_world.proofs.world.World.take_outs.Goals as goal
 
 pub take_out-requires : goal.take_out-requires
@@ -18,8 +18,8 @@ take_out-requires c =
     omega (
       arith,
       ap requests more,
-      one-more-asks (take i all) out,
-      front-asks (i + 1) all,
+      one_more_asks (take i all) out,
+      front_asks (i + 1) all,
       c.requires,
       c.loop-out.invariant.room,
     )
@@ -34,14 +34,14 @@ loop-out-preserved c =
     record {
       done =
           c.take_out.ensures.state
-          ∙ ap (λ (w : WorldState). all_done w (out_deeds c.args.c out)) c.loop-out.invariant.done
-          ∙ heard-more c.args.c (take i all) out c.args.self.now
+          ∙ ap (λ (w : WorldState). apply_deeds w (out_deeds c.args.c out)) c.loop-out.invariant.done
+          ∙ heard_more c.args.c (take i all) out c.args.self.now
           ∙ ap (λ said. heard c.args.c said c.args.self.now) (sym more);
       room =
           omega (
             arith,
             ap requests more,
-            one-more-asks (take i all) out,
+            one_more_asks (take i all) out,
             c.take_out.ensures.room,
             c.loop-out.invariant.room,
           );

@@ -1,6 +1,6 @@
 use Rattle.std.proofs.Common.{◌≡◌, ◌+◌, ◌-◌, ◌≤◌, List, length, replicate, ap, ◌∙◌, sym, arith}
 use Rattle.std.proofs.lemmas.List.{length-replicate, with_items_is}
-use Rattle.vt_grid.proofs.Parts.{length-overlaid, put_mid-overlaid, rewritten, shelf-overlaid, shelf_of}
+use Rattle.vt_grid.proofs.Parts.{length-overlaid, put_mid-overlaid, rewritten, shelf_overlaid, shelf_of}
 use Rattle.vt_cells.specs.declared.cell.Cell.{Cell}
 use borrow.Rule.Slice.PartMut.{put_mid}
 use Rattle.vt_grid.proofs.rows.row.Row.fill.Goals as goal
@@ -22,7 +22,7 @@ returns-else-stored-end c =
     ∙ length-overlaid c.args.x new cells (omega (arith, c.self.invariant.0)) in
     ap (λ (items : List Cell). shelf_of items c.self.inside.len c.self.inside.rest)
     (with_items_is c.self.inside.cells _ (fits ∙ omega arith) ∙ now)
-    ∙ shelf-overlaid c.args.x c.self.inside.len c.self.inside.rest new cells c.args.self.now within
+    ∙ shelf_overlaid c.args.x c.self.inside.len c.self.inside.rest new cells c.args.self.now within
     c.self.invariant.0 c.self.view_is
     ∙ (λ i. rewritten c.args.x
     ((c.fill_all.ensures ∙ ap (replicate c.args.count) c.new.ensures) i) c.args.self.now)

@@ -1,8 +1,8 @@
 use Rattle.std.proofs.Common.{◌≡◌, ◌+◌, ◌-◌, ◌++◌, min, List, length, replicate, take, drop, ap, ◌∙◌, arith}
 use Rattle.std.proofs.lemmas.List.{with_items_is}
-use Rattle.vt_grid.proofs.Parts.{shelf-inserted, shelf_of}
+use Rattle.vt_grid.proofs.Parts.{shelf_inserted, shelf_of}
 use Rattle.vt_cells.specs.declared.cell.Cell.{Cell}
-use Rattle.vt_grid.specs.Ring.{Shelf}
+use Rattle.vt_grid.specs.Ring.{RowSlot}
 use borrow.Rule.Slice.PartMut.{put_mid}
 use Rattle.vt_grid.proofs.rows.row.Row.insert.Goals as goal
 
@@ -21,9 +21,9 @@ returns c =
     ++ take (length (take (end - c.from-3.ensures i)
     (drop (c.from-3.ensures i) (c.deref_mut.ensures.value i))) - c.from-4.ensures i)
     (take (end - c.from-3.ensures i) (drop (c.from-3.ensures i) (c.deref_mut.ensures.value i)))) in
-    let room = ap (λ (s : Shelf). s.room) c.self.view_is in
+    let room = ap (λ (s : RowSlot). s.room) c.self.view_is in
     let done =
-    shelf-inserted c.args.x c.self.inside.len c.args.count end c.args.c c.self.inside.rest new cells
+    shelf_inserted c.args.x c.self.inside.len c.args.count end c.args.c c.self.inside.rest new cells
     c.args.self.now c.requires.place (omega (arith, room)) c.self.invariant.0 end_is new_is c.self.view_is in
     let now : put_mid c.from-3.result (end - c.from-3.result) c.deref_mut.result.now new
     ≡ put_mid c.args.x (end - c.args.x) cells new =

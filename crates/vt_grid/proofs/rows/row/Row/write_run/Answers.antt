@@ -1,6 +1,6 @@
 use Rattle.std.proofs.Common.{◌≡◌, ◌+◌, ◌-◌, ◌≤◌, List, length, ap, ◌∙◌, sym, arith}
 use Rattle.std.proofs.lemmas.List.{length-map, with_items_is}
-use Rattle.vt_grid.proofs.Parts.{length-overlaid, put_mid-overlaid, shelf-overlaid, shelf_of, rewritten}
+use Rattle.vt_grid.proofs.Parts.{length-overlaid, put_mid-overlaid, shelf_overlaid, shelf_of, rewritten}
 use Rattle.vt_cells.specs.declared.cell.Cell.{Cell}
 use borrow.Rule.Slice.PartMut.{put_mid}
 use Rattle.vt_grid.proofs.rows.row.Row.write_run.Goals as goal
@@ -21,6 +21,6 @@ returns-else-stored-end g c =
     ∙ length-overlaid c.args.x c.write_codes.new.cells cells (omega (arith, c.self.invariant.0)) in
     ap (λ (items : List Cell). shelf_of items c.self.inside.len c.self.inside.rest)
     (with_items_is c.self.inside.cells _ (fits ∙ omega arith) ∙ now)
-    ∙ shelf-overlaid c.args.x c.self.inside.len c.self.inside.rest c.write_codes.new.cells cells
+    ∙ shelf_overlaid c.args.x c.self.inside.len c.self.inside.rest c.write_codes.new.cells cells
     c.args.self.now within c.self.invariant.0 c.self.view_is
     ∙ ap (λ (new : List Cell). rewritten c.args.x new c.args.self.now) c.write_codes.ensures

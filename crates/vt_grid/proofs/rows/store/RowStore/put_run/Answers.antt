@@ -3,12 +3,12 @@ use Rattle.std.proofs.lemmas.Grind.{common_steps}
 use Rattle.std.proofs.lemmas.Bool.{and_parts}
 use Rattle.std.proofs.lemmas.List.{length-map}
 use Rattle.vt_cells.specs.declared.cell.Cell.{Cell}
-use Rattle.vt_grid.proofs.Edited.{shown-put_run}
-use Rattle.vt_grid.proofs.Naming.{changed-is}
-use Rattle.vt_grid.proofs.Narrow.{changed-narrow, cells-narrow, reached-narrow, written-narrow}
-use Rattle.vt_grid.specs.Store.{sheet_shown}
-use Rattle.vt_grid.specs.Line.{reached, written}
-use Rattle.vt_grid.specs.Ring.{Shelf}
+use Rattle.vt_grid.proofs.Edited.{shown_put_run}
+use Rattle.vt_grid.proofs.Naming.{changed_is}
+use Rattle.vt_grid.proofs.Narrow.{changed_narrow, cells_narrow, stored_up_to_narrow, with_stored_cells_narrow}
+use Rattle.vt_grid.specs.Store.{grid_view}
+use Rattle.vt_grid.specs.StoredRow.{stored_up_to, with_stored_cells}
+use Rattle.vt_grid.specs.Ring.{RowSlot}
 use Rattle.vt_grid.proofs.rows.store.RowStore.put_run.Goals as goal
 use Rattle.vt_grid.proofs.rows.store.RowStore.put_run.Given.{Over}
 
@@ -22,24 +22,24 @@ invariant_of-self g c = (
   grind (arith, common_steps),
   λ is.
       let flags = and_parts c.self.inside.narrow c.args.narrow is in
-      changed-narrow c.self.inside.rows.items c.from.result c.index_mut-row.result.now c.write_run.new.self
-      (λ line. written c.args.x (cells g c) (reached c.args.x line)) c.index_mut-row.ensures.value
-      (ap (λ (r : Shelf). r.line) c.write_run.ensures
-      ∙ ap (λ (r : Shelf). written c.args.x (cells g c) r.line) c.reach.ensures)
-      (λ line h. written-narrow c.args.x (cells g c) (reached c.args.x line)
-      (cells-narrow g.T.Code.code_of c.args.codes.now c.args.attr (c.requires.narrow flags.1))
-      (reached-narrow c.args.x line h)) (c.self.invariant.1 flags.0),
+      changed_narrow c.self.inside.rows.items c.from.result c.index_mut-row.result.now c.write_run.new.self
+      (λ line. with_stored_cells c.args.x (cells g c) (stored_up_to c.args.x line)) c.index_mut-row.ensures.value
+      (ap (λ (r : RowSlot). r.line) c.write_run.ensures
+      ∙ ap (λ (r : RowSlot). with_stored_cells c.args.x (cells g c) r.line) c.reach.ensures)
+      (λ line h. with_stored_cells_narrow c.args.x (cells g c) (stored_up_to c.args.x line)
+      (cells_narrow g.T.Code.code_of c.args.codes.now c.args.attr (c.requires.narrow flags.1))
+      (stored_up_to_narrow c.args.x line h)) (c.self.invariant.1 flags.0),
 )
 
 pub returns : goal.returns
 unfolding cells
 returns g c =
     let len : length (cells g c) ≡ length c.args.codes.now = length-map c.args.codes.now _ in
-    ap sheet_shown
-    (changed-is _ _ c.self.inside.ring c.self.inside.rows.items c.self.invariant.0 c.args.self.now
+    ap grid_view
+    (changed_is _ _ c.self.inside.ring c.self.inside.rows.items c.self.invariant.0 c.args.self.now
     c.args.y c.from.result c.index_mut-row.result.now c.write_run.new.self
-    (λ line. written c.args.x (cells g c) (reached c.args.x line)) c.self.view_is c.requires.row (c.from.ensures ∙ c.at-number.ensures)
-    c.index_mut-row.ensures.value (ap (λ (r : Shelf). r.line) c.write_run.ensures
-    ∙ ap (λ (r : Shelf). written c.args.x (cells g c) r.line) c.reach.ensures))
-    ∙ shown-put_run c.args.self.now c.args.y c.args.x (cells g c) c.requires.row
+    (λ line. with_stored_cells c.args.x (cells g c) (stored_up_to c.args.x line)) c.self.view_is c.requires.row (c.from.ensures ∙ c.at-number.ensures)
+    c.index_mut-row.ensures.value (ap (λ (r : RowSlot). r.line) c.write_run.ensures
+    ∙ ap (λ (r : RowSlot). with_stored_cells c.args.x (cells g c) r.line) c.reach.ensures))
+    ∙ shown_put_run c.args.self.now c.args.y c.args.x (cells g c) c.requires.row
     c.stays_fit.ensures.fit (omega arith)

@@ -1,15 +1,15 @@
 use Rattle.std.proofs.Common.{arith, ℕ, map, ap, subst, ◌∙◌, sym}
 use Rattle.std.specs.List.Sorted.{IsPermutation}
-use Rattle.vt_grid.proofs.Naming.{IsNaming-moved}
+use Rattle.vt_grid.proofs.Naming.{IsNaming_moved}
 use Rattle.vt_grid.proofs.Turns.{IsPermutation-part_turned, map-part_turned}
-use Rattle.vt_grid.specs.Line.{Line}
-use Rattle.vt_grid.specs.Ring.{shelf_at}
+use Rattle.vt_grid.specs.StoredRow.{StoredRow}
+use Rattle.vt_grid.specs.Ring.{slot_at}
 use Rattle.vt_grid.specs.Store.{Store, part_turned}
 use Rattle.vt_grid.proofs.rows.store.RowStore.rotate.Goals as goal
 
 pub invariant_of-self : goal.invariant_of-self
 invariant_of-self g c = (
-  IsNaming-moved _ _ c.self.inside.ring c.self.inside.rows.items c.self.invariant.0 c.rotate.new.self
+  IsNaming_moved _ _ c.self.inside.ring c.self.inside.rows.items c.self.invariant.0 c.rotate.new.self
       (subst (IsPermutation c.self.inside.ring) (sym c.rotate.ensures.numbers)
       (IsPermutation-part_turned c.args.top c.args.bottom c.args.n c.self.inside.ring (omega arith) (omega (arith, c.self.invariant.0.numbers, ap (λ (s : Store). s.rows) c.self.view_is)))),
   c.self.invariant.1,
@@ -17,7 +17,7 @@ invariant_of-self g c = (
 
 pub returns-clause-rows : goal.returns-clause-rows
 returns-clause-rows g c =
-    let line : ℕ → Line = λ p. (shelf_at c.self.inside.rows.items p).line in
+    let line : ℕ → StoredRow = λ p. (slot_at c.self.inside.rows.items p).line in
     (λ i. record {
       rows = c.self.inside.size.rows;
       cols = c.self.inside.size.cols;

@@ -1,7 +1,7 @@
 use Rattle.std.proofs.Common.{◌≡◌, ◌+◌, ◌-◌, min, ap, ◌∙◌, arith}
-use Rattle.vt_grid.proofs.Scrolls.{shown-scrolled_down}
-use Rattle.vt_grid.specs.Line.{blank_line}
-use Rattle.vt_grid.specs.Store.{cleared, part_turned, sheet_shown}
+use Rattle.vt_grid.proofs.Scrolls.{shown_scrolled_down}
+use Rattle.vt_grid.specs.StoredRow.{blank_row}
+use Rattle.vt_grid.specs.Store.{with_run_of, part_turned, grid_view}
 use Rattle.vt_grid.proofs.rows.store.RowStore.scroll_down.Goals as goal
 
 pub returns : goal.returns
@@ -11,11 +11,11 @@ returns c =
     let count = c.min-count.result in
     let count_is : count ≡ min c.args.n height = omega arith in
     let up : c.args.bottom - c.args.top + 1 - count ≡ height - count = omega arith in
-    ap sheet_shown
+    ap grid_view
     (c.scroll_alone.ensures
     ∙ ap (λ n. record store {
-      lines = cleared c.args.top count (blank_line c.args.c)
+      lines = with_run_of c.args.top count (blank_row c.args.c)
           (part_turned c.args.top c.args.bottom n store.lines);
     }) up)
-    ∙ shown-scrolled_down store c.args.top c.args.bottom c.args.n count c.args.c c.requires.order
+    ∙ shown_scrolled_down store c.args.top c.args.bottom c.args.n count c.args.c c.requires.order
     c.requires.row c.stays_fit.ensures.fit count_is

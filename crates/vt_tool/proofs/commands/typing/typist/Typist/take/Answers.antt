@@ -3,14 +3,14 @@ use Rattle.key_machine.specs.Step.{key_step}
 use Rattle.scan_codes.specs.Scan.{bytes_after, event_after}
 use Rattle.vt_tool.specs.Commands.Typed.{TypistView}
 use Rattle.vt_tool.specs.Commands.Typing.{start_modes}
-use Rattle.vt_tool.proofs.Typed.{typed-none, typed-some}
+use Rattle.vt_tool.proofs.Typed.{typing_step_none, typing_step_some}
 use Rattle.vt_tool.proofs.commands.typing.typist.Typist.take.Goals as goal
 
 pub returns-in-Some-clause-typed : goal.returns-in-Some-clause-typed
 returns-in-Some-clause-typed c =
     λ mode before has.
     let b = c.args.b in
-    typed-some c.args.tables.now mode before b c.args.self.now _ c.in-Some.e has
+    typing_step_some c.args.tables.now mode before b c.args.self.now _ c.in-Some.e has
     (ap (λ (t : TypistView). event_after t.scanner.codes t.scanner.bytes b) (sym c.self.view_is)
     ∙ sym c.push.ensures.event
     ∙ c.in-Some.is)
@@ -28,7 +28,7 @@ pub returns-in-None-clause-typed : goal.returns-in-None-clause-typed
 returns-in-None-clause-typed c =
     λ mode before has.
     let b = c.args.b in
-    typed-none c.args.tables.now mode before b c.args.self.now _ has
+    typing_step_none c.args.tables.now mode before b c.args.self.now _ has
     (ap (λ (t : TypistView). event_after t.scanner.codes t.scanner.bytes b) (sym c.self.view_is)
     ∙ sym c.push.ensures.event
     ∙ c.in-None.is)

@@ -1,0 +1,151 @@
+ghost use Rattle.std.specs.Prelude.{◌≡◌, ◌<◌, ◌+◌, [], ◌∷◌, ◌++◌, true, length, IfOk, IfSome, IfNone};
+ghost use Rattle.std.specs.List.{concat};
+ghost use Rattle.cooked.specs.KeptText.{but_last, last_of};
+ghost use Rattle.cooked.specs.Sizes.{IsLastSize, with_joined, with_put};
+ghost use Rattle.vt_chars.specs.Characters.{is_part};
+
+use std::alloc::Global;
+use std::marker::Model;
+use vt_base::{Bytes, NoMemory};
+use vt_chars::{Decoded, decode};
+
+/// The bytes of a full line with its end.
+pub(crate) const LINE_BYTES: usize = 4_096;
+
+/// The characters that erases left: their bytes, and the size of each. An erase takes the last size,
+/// and so never cuts the bytes anew.
+#[derive(Drop)]
+pub(crate) struct KeptText {
+    bytes: Bytes,
+    sizes: Bytes,
+}
+
+impl Model for KeptText {
+    ghost use Rattle.std.specs.Prelude.{ℕ, List};
+    ghost use Rattle.cooked.specs.Sizes.{AreSizes, parts};
+
+    ghost Value = { List (List ℕ) };
+
+    ghost view = { λ k. parts k.sizes.bytes k.bytes.bytes };
+
+    ghost invariant = { λ k. AreSizes k.sizes k.bytes };
+}
+
+impl KeptText {
+    /// No characters, and room for a full line.
+    pub(crate) fn new(alloc: Global) -> Result<KeptText, NoMemory>
+        ensures { IfOk result (λ k. k ≡ []) }
+    {
+        let bytes = Bytes::with_room(alloc, LINE_BYTES)?;
+        let sizes = Bytes::with_room(alloc, LINE_BYTES)?;
+        Ok(KeptText { bytes, sizes })
+    }
+
+    /// The bytes in order.
+    pub(crate) fn as_slice(&self) -> &[u8]
+        ensures { result.now ≡ concat self.now }
+    {
+        self.bytes.as_slice()
+    }
+
+    /// The last character: no byte, where there is none.
+    pub(crate) fn last(&self) -> &[u8]
+        ensures { result.now ≡ last_of self.now }
+    {
+        let bytes = self.bytes.as_slice();
+        match last_size(self.sizes.as_slice()) {
+            Some((size, _)) => &bytes[bytes.len() - usize::from(size)..],
+            None => &[],
+        }
+    }
+
+    /// Whether `b` goes on with the last character.
+    pub(crate) fn joins(&self, b: u8) -> bool
+        ensures { result ≡ is_part (last_of self.now ++ b ∷ []) }
+    {
+        match decode(self.last(), b) {
+            Decoded::Character(_) => true,
+            Decoded::Unfinished => true,
+            Decoded::Malformed => false,
+        }
+    }
+
+    /// Adds a byte: to the last character, or as one of its own.
+    pub(crate) fn put(&mut self, joins: bool, b: u8)
+        requires bytes { length (concat self.old) < 4096 }
+        requires characters { length self.old < 4096 }
+        requires few { joins ≡ true → length (last_of self.old) < 4 }
+        ensures { self.new ≡ with_put joins self.old b }
+    {
+        if joins {
+            self.join(b);
+        } else {
+            self.add(b);
+        }
+    }
+
+    fn add(&mut self, b: u8)
+        requires bytes { length (concat self.old) < 4096 }
+        requires characters { length self.old < 4096 }
+        ensures { self.new ≡ self.old ++ (b ∷ []) ∷ [] }
+    {
+        self.bytes.push(b);
+        self.sizes.push(1);
+    }
+
+    fn join(&mut self, b: u8)
+        requires bytes { length (concat self.old) < 4096 }
+        requires characters { length self.old < 4096 }
+        requires few { length (last_of self.old) < 4 }
+        ensures { self.new ≡ with_joined self.old b }
+    {
+        self.bytes.push(b);
+        match last_size(self.sizes.as_slice()) {
+            Some((size, before)) => {
+                self.sizes.truncate(before);
+                self.sizes.push(size + 1);
+            }
+            None => self.sizes.push(1),
+        }
+    }
+
+    /// Drops the last character, if there is one.
+    pub(crate) fn drop_last(&mut self)
+        ensures { self.new ≡ but_last self.old }
+    {
+        if let Some((size, before)) = last_size(self.sizes.as_slice()) {
+            let len = self.bytes.as_slice().len();
+            self.sizes.truncate(before);
+            self.bytes.truncate(len - usize::from(size));
+        }
+    }
+
+    /// Drops all characters.
+    pub(crate) fn clear(&mut self)
+        ensures { self.new ≡ [] }
+    {
+        self.sizes.truncate(0);
+        self.bytes.truncate(0);
+    }
+
+    /// Gives the bytes to `line`, in place of what it holds. Nothing is copied.
+    pub(crate) fn give(&mut self, line: &mut Bytes)
+        requires { length line.old.bytes + line.old.room ≡ 4096 }
+        ensures kept { self.new ≡ [] }
+        ensures line { line.new.bytes ≡ concat self.old }
+        ensures room { length line.new.bytes + line.new.room ≡ 4096 }
+    {
+        line.truncate(0);
+        self.sizes.truncate(0);
+        std::mem::swap(&mut self.bytes, line);
+    }
+}
+
+// The last size, and how many sizes are before it.
+fn last_size(sizes: &[u8]) -> Option<(u8, usize)>
+    ensures some { IfSome result (λ p. IsLastSize sizes.now p.0 p.1) }
+    ensures none { IfNone result (sizes.now ≡ []) }
+{
+    let (size, before) = sizes.split_last()?;
+    Some((*size, before.len()))
+}

@@ -1,8 +1,0 @@
-use Rattle.session_order.proofs.Standings.{first-after}
-use Rattle.session_order.specs.Standing.{StandingView}
-use Rattle.session_order.proofs.standing.Standing.start.Goals as goal
-
-pub returns : goal.returns
-returns c = λ programs.
-    let view : StandingView = record { walks = c.in_ok-walks.walks.items; counts = c.new.result } in
-    first-after programs view c.in_ok-walks.ensures.many c.in_ok-walks.ensures.stand c.new.ensures

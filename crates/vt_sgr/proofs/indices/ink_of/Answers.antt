@@ -1,9 +1,0 @@
-use Rattle.std.proofs.Common.{◌<◌, ap, ◌∙◌, arith}
-use Rattle.vt_sgr.proofs.Tables.{ink-bold, ink-hue}
-use Rattle.vt_sgr.specs.Sgr.{ink_of}
-use Rattle.vt_sgr.proofs.indices.ink_of.Goals as goal
-
-pub returns-clause-folded : goal.returns-clause-folded
-returns-clause-folded c =
-    let below : c.from.result < 256 = omega (arith, c.from.ensures) in
-    (λ i. (ink-hue c.from.result below i, ink-bold c.from.result below i)) ∙ ap ink_of c.from.ensures

@@ -1,0 +1,7 @@
+/// The commands whose words have two numbers after the name.
+#[derive(Clone, Copy)]
+pub(crate) enum NumberedForm {
+    Screen,
+    Drill,
+    Review,
+}

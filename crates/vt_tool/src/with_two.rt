@@ -1,7 +1,0 @@
-/// The commands whose words have two numbers after the name.
-#[derive(Clone, Copy)]
-pub enum WithTwo {
-    Screen,
-    Drill,
-    Review,
-}
