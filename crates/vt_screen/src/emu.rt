@@ -178,7 +178,7 @@ impl Emu {
         self.take_other(b, outs)
     }
 
-    // Does what `take_front` does. What the front of the text says is then alone in `outs`, where it
+    // Does what `take_prefix` does. What the front of the text says is then alone in `outs`, where it
     // isn't printed.
     #[inline(always)]
     pub(crate) fn take_next(&mut self, b: &[u8], outs: &mut Outs) -> usize

@@ -31,7 +31,7 @@ impl Emu {
         outs.clear();
         let mut at = 0;
         while at < b.len() && outs.as_slice().len() == 0 {
-            at += self.take_front(&b[at..], outs);
+            at += self.take_prefix(&b[at..], outs);
         }
         at
     }

@@ -8,12 +8,12 @@ pub loop-at-preserved : goal.loop-at-preserved
 loop-at-preserved c =
     record {
       within = omega arith;
-      one = omega (arith, c.take_front-at.ensures.one);
+      one = omega (arith, c.take_prefix-at.ensures.one);
       run =
-          run_to c.args.b.now c.loop-at.at c.take_front-at.result (with_outs [] c.args.self.now)
+          run_to c.args.b.now c.loop-at.at c.take_prefix-at.result (with_outs [] c.args.self.now)
           (with_outs c.loop-at.outs c.loop-at.self)
-          (with_outs c.take_front-at.new.outs c.take_front-at.new.self)
-          c.loop-at.invariant.run c.take_front-at.ensures.run;
+          (with_outs c.take_prefix-at.new.outs c.take_prefix-at.new.self)
+          c.loop-at.invariant.run c.take_prefix-at.ensures.run;
     }
 
 pub returns-clause-screen : goal.returns-clause-screen
