@@ -90,7 +90,7 @@ def lists(calls):
     events, journal = CRATES / "vt_events", CRATES / "vt_journal"
     each = lambda told: [told(it) for it in calls]
     yield events / "src/event.rt", "        Ok(match self {\n", "        })\n", 12, each(Call.copy)
-    yield journal / "src/kind.rt", "pub enum Kind {\n", "}\n", 4, [f"{it.name}," for it in calls]
+    yield journal / "src/kind.rt", "pub(crate) enum Kind {\n", "}\n", 4, [f"{it.name}," for it in calls]
     call = "        ensures { result ≡ call_of self n.now b.bytes }\n    {\n        match self {\n"
     yield journal / "src/kind.rt", call, "        }\n", 12, each(Call.made)
     yield journal / "src/call_words.rt", "        match e {\n", "        }\n    }\n}\n", 12, each(Call.taken)

@@ -31,8 +31,8 @@ WORDS = {
     "with_before": lambda text, names: [text + name for name in names],
     "with_after": lambda text, names: [name + text for name in names],
     "own_names": lambda first, count: [chr(first + i) for i in range(count)],
-    "numbered": lambda text, first, count: [f"{text}{first + i}" for i in range(count)],
-    "lowered": lambda names: [name.lower() for name in names],
+    "names_with_numbers": lambda text, first, count: [f"{text}{first + i}" for i in range(count)],
+    "lower_case_names": lambda names: [name.lower() for name in names],
     "run_of": lambda kind, first, names: [Symbol(name, kind, first + i) for i, name in enumerate(names)],
 }
 
@@ -177,10 +177,10 @@ def table(found):
     size = sum(len(symbol.name) + 1 for symbol in found)
     return (
         "//! The names of the symbol table. Written by tools/key_index.py, and proved to be those of the definition.\n"
-        f"\n/// How many names there are.\npub const NAME_COUNT: usize = {len(found)};\n"
-        f"\n/// How many bytes the text of the names has.\npub const NAMES_SIZE: usize = {size};\n"
+        f"\n/// How many names there are.\npub(crate) const NAME_COUNT: usize = {len(found)};\n"
+        f"\n/// How many bytes the text of the names has.\npub(crate) const NAMES_SIZE: usize = {size};\n"
         "\n/// The names in order, with a blank behind each.\n#[rattlefmt::skip]\n"
-        f'pub static NAMES: [u8; NAMES_SIZE] = *b"\\\n{rows} ";\n'
+        f'pub(crate) static NAMES: [u8; NAMES_SIZE] = *b"\\\n{rows} ";\n'
     )
 
 
@@ -193,7 +193,7 @@ def static(doc, name, element, numbers):
             lines.append("   ")
         lines[-1] += word
     rows = "\n".join(lines)
-    return f"\n/// {doc}\n#[rattlefmt::skip]\npub static {name}: [{element}; NAME_COUNT] = [\n{rows}\n];\n"
+    return f"\n/// {doc}\n#[rattlefmt::skip]\npub(crate) static {name}: [{element}; NAME_COUNT] = [\n{rows}\n];\n"
 
 
 def index(found):

@@ -17,8 +17,8 @@ is_erase erase _ = false
 
 -- a character that isn't an erase is dropped where there is a debt, and else kept
 abbrev pub read_data : List ℕ → List (List ℕ) → ℕ → Reading
-read_data c kept_characters zero = record { kept = c ∷ kept_characters; debt = 0 }
-read_data c kept_characters (suc debt) = record { kept = kept_characters; debt = debt }
+read_data c kept zero = record { kept = c ∷ kept; debt = 0 }
+read_data c kept (suc debt) = record { kept = kept; debt = debt }
 
 -- a character, after those to its right were read: an erase adds one to the debt
 abbrev pub read_character : ℕ → List ℕ → Reading → Reading

@@ -140,11 +140,11 @@ scan_exit_moves bytes w moved r over waiting next_is is =
     over waiting (ap scans next_is) refl refl (λ t. absurd (true≢false t)))
 
 -- what is left of a script whose acts are to be made
-script_acting : (table : List Act) (items : Listed) (w : Place) (rest_of_calls : List Event) → w.taking ≡ false
-    → calls_from table w.given w.signal ≡ rest_of_calls
+script_acting : (table : List Act) (items : Listed) (w : Place) (left : List Event) → w.taking ≡ false
+    → calls_from table w.given w.signal ≡ left
     → ahead (program.Script items table) w
-    ≡ all_calls rest_of_calls (script table (drop w.item items.events))
-script_acting table items w rest_of_calls taking is =
+    ≡ all_calls left (script table (drop w.item items.events))
+script_acting table items w left taking is =
     (λ i. cond (taking i) (takes table) (all_calls (is i)) (script table (drop w.item items.events)))
 
 -- an item was called

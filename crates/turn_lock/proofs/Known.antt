@@ -99,9 +99,9 @@ module _ {K W Z : Type 0} (before : ℕ) (Right : List (Entry W) → Type 0)
       → HasNumber w.role
       → PartD before Right (joined_view v w ∷ joined) log
       (state words homes (set (set views id (both v w)) other joined_away))
-  joins_D d at first other w at_w as_caller =
+  joins_D d at first other w at_w has_number =
       let own = d.known id v at (first_live v.role first) in
-      let theirs = d.known other w at_w (number_live w.role as_caller) in record {
+      let theirs = d.known other w at_w (number_live w.role has_number) in record {
         right = d.right;
         shown = d.shown;
         known = each_join (λ (j : ℕ) (u : View W Z). IsLive u.role → IsWordIn before log u.known)

@@ -189,7 +189,7 @@ module _ {K W Z : Type 0} (before : ℕ) (entries : K → List (Entry W)) (joine
         → IsFirst v.role
         → (other : ℕ) (w : View W Z) → get_elem? views other ≡ some w → HasNumber w.role
         → PartB before entries log (state words homes (set (set views id (both v w)) other joined_away))
-    joins_B b at first other w at_w as_caller =
+    joins_B b at first other w at_w has_number =
         let owns = owns_first log v.mine v.role first (b.owned id v at) in
         let x = joined_view v w in let js = joined_of v.role in record {
           front_is = b.front_is;
@@ -205,7 +205,7 @@ module _ {K W Z : Type 0} (before : ℕ) (entries : K → List (Entry W)) (joine
               (record {
                 unmade = owns.unmade;
                 mine = each_front (λ (i : ℕ) (y : Joined W Z). y.mine ≡ entries_by y.number log) js
-                    x (owns_number log w.mine w.role as_caller (b.owned other w at_w)) owns.mine;
+                    x (owns_number log w.mine w.role has_number (b.owned other w at_w)) owns.mine;
                 seen = each_front (λ (i : ℕ) (y : Joined W Z). StartsWith log y.seen) js x
                     (b.seen other w at_w) owns.seen;
                 beside = each_front (λ (i : ℕ) (y : Joined W Z). StartsWith log y.beside) js x

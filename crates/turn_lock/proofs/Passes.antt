@@ -225,12 +225,12 @@ module _ {K W Z : Type 0} (joined : List (Joined W Z)) (words : List ℕ)
       → (other : ℕ) (w : View W Z) → ¬ (other ≡ id) → get_elem? views other ≡ some w
       → HasNumber w.role → w.stage ≡ Idle
       → PartA (joined_view v w ∷ joined) (state words homes (set (set views id (both v w)) other joined_away))
-  joins_A a at first other w apart at_w as_caller idle =
+  joins_A a at first other w apart at_w has_number idle =
       let n = number_of w.role in let x = joined_view v w in let left = both v w in
       let views' = set (set views id left) other joined_away in
       let seat_of : ℕ → Option ℕ = put a.seat_of n None in
       let is = first_named a.seat_of a.made joined id v.role first (a.named id v at) in
-      let has = number_named a.seat_of a.made joined other w.role as_caller (a.named other w at_w) in
+      let has = number_named a.seat_of a.made joined other w.role has_number (a.named other w at_w) in
       let at_w' : get_elem? (set views id left) other ≡ some w = set_else views id other left apart
       ∙ at_w in
       let keeps : (P : Stage W → Type 0) → (j : ℕ) → (u : View W Z) × (get_elem? views j ≡ some u)
@@ -267,7 +267,7 @@ module _ {K W Z : Type 0} (joined : List (Joined W Z)) (words : List ℕ)
             (λ e. subst (Placed views' (x ∷ joined) k)
             (sym (ap seat_of e ∙ put_here a.seat_of n None)) (0, x, refl, sym e))
             (λ ne. subst (Placed views' (x ∷ joined) k) (sym (put_else a.seat_of n None k ne))
-            (join_placed views joined x id other v w left at first at_w as_caller k ne (a.seat_of k)
+            (join_placed views joined x id other v w left at first at_w has_number k ne (a.seat_of k)
             (a.each_made k m)));
         each_joined = each_front (λ (i : ℕ) (y : Joined W Z). (among y.number a.made ≡ true)
             × (seat_of y.number ≡ None)) joined x

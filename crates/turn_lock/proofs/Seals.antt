@@ -241,7 +241,7 @@ module _ {K W Z : Type 0} (entries : K → List (Entry W)) (before : ℕ) (seal 
       → (other : ℕ) (w : View W Z) → get_elem? views other ≡ some w → HasNumber w.role
       → PartC seal (joined_view v w ∷ joined) log
       (state words homes (set (set views id (both v w)) other joined_away))
-  joins_C b c at first idle other w at_w as_caller = record {
+  joins_C b c at first idle other w at_w has_number = record {
     stop = c.stop;
     at_home = c.at_home;
     in_turn = each_join (λ (j : ℕ) (u : View W Z). HasTurn u.stage → u.seal ≡ c.stop) views id other
@@ -253,7 +253,7 @@ module _ {K W Z : Type 0} (entries : K → List (Entry W)) (before : ℕ) (seal 
         (c.met id v at) (c.met other w at_w)) (inl refl) (λ j u ne nor q. c.met j u q);
     joined_met = each_front (λ (i : ℕ) (y : Joined W Z). Met c.stop log y.seal y.seen) joined
         (joined_view v w) (c.met other w at_w) c.joined_met;
-    namer = λ z e. named_join views joined id other v w (both v w) z at first at_w as_caller
+    namer = λ z e. named_join views joined id other v w (both v w) z at first at_w has_number
         (c.namer z e);
   }
 

@@ -268,20 +268,20 @@ module _ {K W Z : Type 0} (before : ℕ) (entries : K → List (Entry W)) (seal 
   pub joins_ok : (id : ℕ) (v : View W Z) (other : ℕ) (w : View W Z) → IsFirst v.role
       → v.stage ≡ Idle → HasNumber w.role → w.stage ≡ Idle
       → Joins (Rule before entries seal Right) id v other w (both v w) joined_away
-  joins_ok id v other w first idle as_caller idle_w s rule at apart at_w =
+  joins_ok id v other w first idle has_number idle_w s rule at apart at_w =
       let joined = rule.0 in let log = rule.1 in
       let there : get_elem? s.views other ≡ some w = sym
       (set_else s.views id other (both v w) apart) ∙ at_w in (
         joined_view v w ∷ joined,
         log,
-        joins_A joined s.words s.homes s.views id v rule.2 at first other w apart there as_caller
+        joins_A joined s.words s.homes s.views id v rule.2 at first other w apart there has_number
             idle_w,
         joins_B before entries joined log s.words s.homes s.views id v rule.3 at first other w there
-            as_caller,
+            has_number,
         joins_C entries before seal joined log s.words s.homes s.views id v rule.3 rule.4 at first
-            idle other w there as_caller,
+            idle other w there has_number,
         joins_D before Right joined log s.words s.homes s.views id v rule.5 at first other w there
-            as_caller,
+            has_number,
       )
 
   pub opens_ok : Right [] → IsDisplay before → (k : K) (word : ℕ) (slots : List (Option K))

@@ -87,6 +87,6 @@ module _ {K W Z : Type 0} where
       → (among x.number (made_of m.0.role) ≡ true) × (has_joined x.number xs ≡ false))
 
   -- the pass read the word
-  abbrev pub read : ℕ → (List (Entry W) → Type 0) → At K → Sat K W Z → ℕ → Sat K W Z → Type 0
-  read before Right st m n m' =
+  abbrev pub LoadsFront : ℕ → (List (Entry W) → Type 0) → At K → Sat K W Z → ℕ → Sat K W Z → Type 0
+  LoadsFront before Right st m n m' =
       (log : List (Entry W)) × (m' ≡ (with_known_word log n m.0, m.1)) × Reads before Right log n m.0

@@ -143,9 +143,9 @@ some_line words u same = some (joined_by_blanks words) (sym (line_parts words u)
 pub cut_is : (text line behind : List ℕ) (words : List (List ℕ)) (rest : List ℕ)
     → IsCutAt text line behind → IsLine (joined_by_blanks words) → text ≡ line_text words ++ rest
     → joined_by_blanks words ≡ line
-cut_is text line behind words rest words_of_text is same =
-    (line_once (joined_by_blanks words) line rest behind is words_of_text.no_end
-    (sym (line_parts words rest) ∙ sym same ∙ words_of_text.parts)).0
+cut_is text line behind words rest cut is same =
+    (line_once (joined_by_blanks words) line rest behind is cut.no_end
+    (sym (line_parts words rest) ∙ sym same ∙ cut.parts)).0
 
 -- a text without line ends has no line
 pub no_line : (text : List ℕ) (words : List (List ℕ)) (rest : List ℕ) → IsLine text

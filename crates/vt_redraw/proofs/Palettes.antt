@@ -148,14 +148,14 @@ module _ (law : PiecesAct) where
       ∙ (λ i. whole (Colour ((digit n h).1 i) (pair r is.0 i, pair g is.1 i, pair b is.2 i))))
       (λ m. no_controls m ds [] refl hex (omega arith)) s _ refl
 
-  colour-set : (longest_prefix starts : List Rgb) (start rgb : Rgb) (s : Screen) → s.state.palette ≡ longest_prefix ++ start ∷ starts
-      → length longest_prefix < 16
-      → with_colour (length longest_prefix) rgb s ≡ with_state s (record s.state { palette = longest_prefix ++ rgb ∷ starts })
+  colour-set : (front starts : List Rgb) (start rgb : Rgb) (s : Screen) → s.state.palette ≡ front ++ start ∷ starts
+      → length front < 16
+      → with_colour (length front) rgb s ≡ with_state s (record s.state { palette = front ++ rgb ∷ starts })
   unfolding with_colour
-  colour-set longest_prefix starts start rgb s now few =
-      cond-true _ _ _ (lt-ltb (length longest_prefix) 16 few)
-      ∙ (λ i. with_state s (record s.state { palette = slice_set (now i) (length longest_prefix) rgb }))
-      ∙ ap (λ (p : List Rgb). with_state s (record s.state { palette = p })) (set_at longest_prefix start starts rgb (length longest_prefix) refl)
+  colour-set front starts start rgb s now few =
+      cond-true _ _ _ (lt-ltb (length front) 16 few)
+      ∙ (λ i. with_state s (record s.state { palette = slice_set (now i) (length front) rgb }))
+      ∙ ap (λ (p : List Rgb). with_state s (record s.state { palette = p })) (set_at front start starts rgb (length front) refl)
 
   -- colours from a number on
   Coloured : List Rgb → List Rgb → Type 0

@@ -117,8 +117,8 @@ first_without_out x h = by (x == 0x3B) (λ e. digit_without_out x (parameter_sma
   where
     by : (test : Bool) → (test ≡ false → is_request (number_of (x ∷ [])) ≡ false)
         → is_request (number_of (split_at test x).first) ≡ false
-    by true without_out = refl
-    by false without_out = without_out refl
+    by true quiet = refl
+    by false quiet = quiet refl
 
 body_tame : (body : List ℕ) (last : ℕ) → length body ≤ 1 → asking (control_unit body last) ≡ false
 body_tame [] last short = without_out_body false (params_of []) last refl

@@ -186,10 +186,10 @@ starts_keeps w n has =
 both_cleared : (w : WorldState) (n : ℕ) (d : Display)
     → taken d.consoles ≡ set (taken w.display.consoles) n false → HasTerminals w
     → HasTerminals (apply_deed (record w { display = d }) (Own (Clears n)))
-both_cleared w n d without_console has =
+both_cleared w n d freed has =
     map-set is_some w.terminals n None
     ∙ ap (λ (list : List Bool). set list n false) has
-    ∙ sym without_console
+    ∙ sym freed
 
 free_if : (held : Bool) (d : Display) (n : ℕ) → held ≡ false
     → cond held d (without_console d n) ≡ without_console d n
@@ -247,8 +247,8 @@ free_unless : (v w : WorldState) (n : ℕ) (used : Bool) (rest : List ℕ) → i
     → HasTerminals (apply_deeds w (flat_map free_deeds rest))
     → (is_in_use v n ≡ false → HasTerminals (apply_deeds (without w n) (flat_map free_deeds rest)))
     → HasTerminals (apply_deeds w (flat_map free_deeds (cond (not used) (n ∷ rest) rest)))
-free_unless v w n true rest is skipped without_console = skipped
-free_unless v w n false rest is skipped without_console = without_console is
+free_unless v w n true rest is skipped freed = skipped
+free_unless v w n false rest is skipped freed = freed is
 
 all_frees_keep : (v w : WorldState) (numbers : List ℕ) → Looser v w → HasTerminals w
     → HasTerminals (apply_deeds w (flat_map free_deeds (unused v numbers)))

@@ -33,7 +33,7 @@ apply_deeds-append w (x ∷ xs) ys = apply_deeds-append (apply_deed w x) xs ys
 
 -- what is said, one behind another
 abbrev pub heard : ℕ → List Out → WorldState → WorldState
-heard c outs_of_run w = apply_deeds w (flat_map (out_deeds c) outs_of_run)
+heard c said w = apply_deeds w (flat_map (out_deeds c) said)
 
 pub heard-append : (c : ℕ) (xs ys : List Out) (w : WorldState)
     → heard c ys (heard c xs w) ≡ heard c (xs ++ ys) w
@@ -73,8 +73,8 @@ after_request_writes c bytes w (Some n) =
     (marks (core w) (Request n))
 
 -- what is said draws nothing
-heard_terminals : (c : ℕ) (outs_of_run : List Out) (w : WorldState)
-    → (heard c outs_of_run w).terminals ≡ w.terminals
+heard_terminals : (c : ℕ) (said : List Out) (w : WorldState)
+    → (heard c said w).terminals ≡ w.terminals
 heard_terminals c [] w = refl
 heard_terminals c (outs.Report text ∷ more) w = heard_terminals c more (apply_deed w (Own (Puts c text)))
 heard_terminals c (outs.SwitchTo n ∷ more) w =
@@ -87,8 +87,8 @@ heard_terminals c (outs.Lights lights ∷ more) w =
 heard_terminals c (outs.Bell ∷ more) w = heard_terminals c more w
 
 -- so a text may be drawn before it
-heard_writes : (c : ℕ) (bytes : List ℕ) (outs_of_run : List Out) (w : WorldState)
-    → apply_deed (heard c outs_of_run w) (Own (Writes c bytes)) ≡ heard c outs_of_run (apply_deed w (Own (Writes c bytes)))
+heard_writes : (c : ℕ) (bytes : List ℕ) (said : List Out) (w : WorldState)
+    → apply_deed (heard c said w) (Own (Writes c bytes)) ≡ heard c said (apply_deed w (Own (Writes c bytes)))
 heard_writes c bytes [] w = refl
 heard_writes c bytes (outs.Report text ∷ more) w =
     heard_writes c bytes more (apply_deed w (Own (Puts c text)))

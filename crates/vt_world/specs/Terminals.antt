@@ -23,7 +23,7 @@ is_bell out = false
 
 -- the count after these were said: each bell adds one, up to the greatest number of 32 bits
 abbrev pub bell_count_after : ℕ → List Out → ℕ
-bell_count_after bells outs_of_run = min 4294967295 (bells + count_by is_bell outs_of_run)
+bell_count_after bells said = min 4294967295 (bells + count_by is_bell said)
 
 -- bytes are run on the screen, and its bells are counted
 abbrev pub written_on : List ℕ → TerminalState → TerminalState

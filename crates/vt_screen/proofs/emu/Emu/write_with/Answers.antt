@@ -37,10 +37,10 @@ loop-at-preserved g c =
           ∙ sym (c.any_cut.ensures start (take at text) (take n left)).0
           ∙ ap (after start) joined;
       heard =
-          subst (λ (outs_of_run : List Out). HearsAll g.L.Listener.hears c.args.listener.now outs_of_run c.take_told-at.new.listener) all
+          subst (λ (said : List Out). HearsAll g.L.Listener.hears c.args.listener.now said c.take_told-at.new.listener) all
           (hears_both g.L.Listener.hears c.args.listener.now c.loop-at.listener c.take_told-at.new.listener
           (outs_of_run start (take at text)) (outs_of_run (after start (take at text)) (take n left))
           c.loop-at.invariant.heard
-          (subst (λ (outs_of_run : List Out). HearsAll g.L.Listener.hears c.loop-at.listener outs_of_run c.take_told-at.new.listener) outs
+          (subst (λ (said : List Out). HearsAll g.L.Listener.hears c.loop-at.listener said c.take_told-at.new.listener) outs
           c.take_told-at.ensures.heard));
     }
