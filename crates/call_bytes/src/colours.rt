@@ -10,7 +10,7 @@ const COLOURS: u8 = 16;
 /// The bytes of a palette.
 const COLOURS_BYTES: usize = 48;
 
-/// Appends the colours of a palette, in the room that is there.
+/// Appends the colours of a palette. They must fit the room.
 pub fn add_colours(p: &Palette, out: &mut Bytes)
     requires { 48 ≤ out.old.room }
     ensures bytes { out.new.bytes ≡ out.old.bytes ++ colours_text p.now }
@@ -22,7 +22,7 @@ pub fn add_colours(p: &Palette, out: &mut Bytes)
     }
 }
 
-/// The palette whose bytes these are, if they are those of 16 colours.
+/// The palette of these bytes, if they are 16 colours.
 pub fn read_colours(b: &[u8]) -> Option<Palette>
     ensures { result ≡ colours_in b.now }
 {

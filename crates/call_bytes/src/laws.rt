@@ -1,14 +1,14 @@
 ghost use Rattle.call_bytes.specs.Kept.{ColoursAreKept, PairsAreKept, WordsAreKept};
 ghost use Rattle.call_bytes.specs.Laws.{ColoursComeBack, PairsComeBack, WordsComeBack};
 
-/// What is read of the bytes of a table is the table.
+/// Reading the bytes of a table gives the table.
 pub fn reads_what_was_added()
     ensures pairs { PairsComeBack }
     ensures words { WordsComeBack }
     ensures colours { ColoursComeBack }
 {}
 
-/// What is added of a table that was read is the bytes that it was read of.
+/// Adding a table that was read gives the bytes that it was read from.
 pub fn adds_what_was_read()
     ensures pairs { PairsAreKept }
     ensures words { WordsAreKept }

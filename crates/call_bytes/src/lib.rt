@@ -1,5 +1,4 @@
-//! Tables of calls as the bytes that calls and answers hold: pairs of compose keys, a user's table
-//! and a palette.
+//! Tables as the bytes of calls and answers: pairs of compose keys, a user's table and a palette.
 #![tactic(auto)]
 
 mod colours;

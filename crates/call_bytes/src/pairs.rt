@@ -13,7 +13,7 @@ const PAIR_BYTES: usize = 12;
 /// The bytes of the most pairs.
 const MOST_BYTES: usize = 3_072;
 
-/// Appends the pairs, in the room that is there.
+/// Appends the pairs. They must fit the room.
 pub fn add_pairs(pairs: &[Pair], out: &mut Bytes)
     requires { 12 * length pairs.now ≤ out.old.room }
     ensures bytes { out.new.bytes ≡ out.old.bytes ++ pairs_text pairs.now }
@@ -43,7 +43,7 @@ fn add_number(n: u16, out: &mut Bytes)
     out.append(&u32::from(n).to_le_bytes());
 }
 
-/// The pairs whose bytes these are, if they are those of pairs.
+/// The pairs of these bytes, if they are pairs.
 pub fn read_pairs(b: &[u8]) -> Option<PairList>
     ensures { result ≡ pairs_in b.now }
 {

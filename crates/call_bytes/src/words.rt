@@ -7,7 +7,7 @@ use vt_base::Bytes;
 /// The code points of a user's table.
 const WORDS: usize = 256;
 
-/// Appends the code points of a user's table, in the room that is there.
+/// Appends the code points of a user's table. They must fit the room.
 pub fn add_words(words: &[u16; 256], out: &mut Bytes)
     requires { 512 ≤ out.old.room }
     ensures bytes { out.new.bytes ≡ out.old.bytes ++ words_text words.now }
@@ -19,7 +19,7 @@ pub fn add_words(words: &[u16; 256], out: &mut Bytes)
     }
 }
 
-/// The code points whose bytes these are, if they are those of 256.
+/// The code points of these bytes, if they are 256.
 pub fn read_words(b: &[u8]) -> Option<[u16; 256]>
     ensures { result ≡ words_in b.now }
 {

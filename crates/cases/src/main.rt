@@ -1,5 +1,5 @@
-//! Runs worked cases: prints each line of its input as it stands, and with it what comes of it. The head of the
-//! file `stdin` beside `src/` tells what the lines say.
+//! Runs worked cases: prints each line of its input with its result. The head of the file `stdin` beside `src/`
+//! describes the lines.
 #![tactic(auto)]
 
 mod answers;

@@ -25,8 +25,8 @@ use vt_chars::{ascii_cuts, byte_more};
 /// How many bytes may be fresh.
 const MOST_FRESH: usize = 4_095;
 
-/// A line discipline: bytes as they are typed become lines, signals and an echo. Contracts see the
-/// settings, the bytes that are fresh and the line that was given last.
+/// A line discipline: typed bytes become lines, signals and an echo. Contracts see the settings, the
+/// bytes that are fresh, and the line that was delivered last.
 #[derive(Drop)]
 pub struct Cooked {
     termios: Termios,
@@ -46,7 +46,7 @@ impl Model for Cooked {
 }
 
 impl Cooked {
-    /// Nothing typed yet. All its memory is taken here.
+    /// A line discipline without input. All its memory is taken here.
     pub fn start(alloc: Global, t: Termios) -> Result<Cooked, NoMemory>
         requires { IsValid t }
         ensures { IfOk result (λ c. c ≡ make_typing t [] []) }
@@ -62,7 +62,7 @@ impl Cooked {
         })
     }
 
-    /// Types a byte, and puts what is echoed of it into `echo`.
+    /// Takes a typed byte, and puts its echo into `echo`.
     pub fn push(&mut self, b: u8, echo: &mut EchoBytes) -> Given
         requires { echo.old ≡ [] }
         ensures termios { self.new.termios ≡ self.old.termios }
@@ -85,14 +85,14 @@ impl Cooked {
         }
     }
 
-    /// The line that the last push gave: empty, where it gave none.
+    /// The line that the last push delivered, or an empty one if it delivered none.
     pub fn line(&self) -> &[u8]
         ensures { result.now ≡ self.now.line }
     {
         self.line.as_slice()
     }
 
-    /// What is kept of the bytes that are fresh.
+    /// The bytes that were typed since the last delivery and not erased.
     pub fn rest(&self) -> &[u8]
         ensures { result.now ≡ kept_bytes self.now.termios self.now.fresh }
     {

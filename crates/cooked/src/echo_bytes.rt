@@ -1,4 +1,4 @@
 use vt_base::ShortList;
 
-/// What is echoed of one byte: at most 8 bytes.
+/// The echo of one byte: at most 8 bytes.
 pub type EchoBytes = ShortList<u8, 8>;

@@ -1,6 +1,6 @@
 use vt_base::Signal;
 
-/// What a byte gives to who reads.
+/// The result of one pushed byte for the reader.
 #[derive(Clone, Copy, Debug, PartialEq, Eq)]
 pub enum Given {
     Nothing,

@@ -5,12 +5,12 @@ ghost use Rattle.cooked.specs.Rows.{ErasesOne, ErasesWide, Interrupts, KeepsPart
 use vt_cells::columns_are_few;
 use vt_chars::ascii_cuts;
 
-/// What a byte more at the end of a list changes.
+/// The effect of one more byte at the end of a list.
 pub fn one_more()
     ensures { OneMore }
 {}
 
-/// What a whole list gives and echoes is what its pushes do, in order.
+/// The lines and the echo of a whole list are those of its pushes, in order.
 pub fn list_is_its_pushes()
     ensures { ListIsItsPushes }
 {}
@@ -22,7 +22,7 @@ pub fn erase_drops_last()
     ascii_cuts();
 }
 
-/// Some lists, with what they give, keep and echo.
+/// Worked examples: lists of bytes with their lines, the bytes that are kept, and the echo.
 pub fn worked_rows()
     ensures erase { ErasesOne }
     ensures interrupt { Interrupts }

@@ -4,7 +4,7 @@ use vt_journal::Full;
 /// Why a turn stopped.
 #[derive(Clone, Copy, Debug, PartialEq, Eq)]
 pub enum Stop {
-    /// Its read or its write was refused.
+    /// The read or the write was refused.
     Err(Errno),
     /// The hub has stopped.
     Full(Full),

@@ -1,4 +1,4 @@
-//! Why a turn stopped, as a text.
+//! The text of why a turn stopped.
 ghost use Rattle.std.specs.Prelude.{Some};
 ghost use Rattle.cooked.specs.StopText.{stop_text};
 

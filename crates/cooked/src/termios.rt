@@ -8,10 +8,10 @@ use crate::kind::Kind;
 /// Settings of a line discipline, by their names in termios(3).
 #[derive(Clone, Copy, Debug, PartialEq, Eq)]
 pub struct Termios {
-    /// Whether lines are edited and given whole.
+    /// ICANON: whether lines are edited and delivered whole.
     pub icanon: bool,
     pub echo: bool,
-    /// Whether two bytes are signals.
+    /// ISIG: whether VINTR and VQUIT send signals.
     pub isig: bool,
     /// Whether 0D is read as 0A.
     pub icrnl: bool,
@@ -23,14 +23,14 @@ pub struct Termios {
     pub quit: u8,
     /// VERASE: drops the last character.
     pub erase: u8,
-    /// VKILL: drops what was typed of the line.
+    /// VKILL: drops the line.
     pub kill: u8,
-    /// VEOF: gives what was typed of the line.
+    /// VEOF: delivers the line as it stands.
     pub eof: u8,
 }
 
 impl Termios {
-    /// What a terminal usually starts with.
+    /// The usual settings of a terminal.
     pub fn usual() -> Termios
         ensures { result ≡ usual }
     {

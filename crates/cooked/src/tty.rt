@@ -21,7 +21,7 @@ use vt_world::Spare;
 /// The most bytes that one byte echoes.
 const ECHO_BYTES: usize = 8;
 
-/// A line discipline of a process, over a descriptor of its. Contracts see what [`Cooked`] sees.
+/// A line discipline of a process on one of its descriptors. Contracts see it as a [`Cooked`].
 #[derive(Drop)]
 pub struct Tty {
     cooked: Cooked,
@@ -36,7 +36,7 @@ impl Model for Tty {
 }
 
 impl Tty {
-    /// Nothing typed yet. All its memory is taken here.
+    /// A line discipline without input. All its memory is taken here.
     pub fn start(alloc: Global, t: Termios) -> Result<Tty, NoMemory>
         requires { IsValid t }
         ensures { IfOk result (λ tty. tty ≡ make_typing t [] []) }
@@ -45,14 +45,14 @@ impl Tty {
         Ok(Tty { cooked })
     }
 
-    /// What was typed.
+    /// The line discipline.
     pub fn cooked(&self) -> &Cooked
         ensures { result.now ≡ self.now }
     {
         &self.cooked
     }
 
-    /// Reads one byte, types it, and writes its echo. The memory is taken before any call.
+    /// Reads one byte, pushes it, and writes its echo. The memory is taken before the first call.
     pub fn turn<J: Opening, R: Wait>(
         &mut self,
         rt: &R,

@@ -1,7 +1,7 @@
 use crate::given::Given;
 use crate::stop::Stop;
 
-/// What a turn gave, and what stopped it, if anything did.
+/// The result of a turn: the item, and why the turn stopped, if it did.
 #[derive(Clone, Copy, Debug, PartialEq, Eq)]
 pub struct Turn {
     pub given: Given,

@@ -1,7 +1,7 @@
-//! The law of turns.
+//! A law of turns.
 ghost use Rattle.cooked.specs.Reading.{TurnsRead};
 
-/// Over turns from the start the bytes that were pushed are those that their reads were answered.
+/// The bytes that turns from the start pushed are the bytes of their reads.
 pub fn turns_read()
     ensures { TurnsRead }
 {}

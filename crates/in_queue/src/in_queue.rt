@@ -8,8 +8,8 @@ use std::alloc::Global;
 use std::marker::Model;
 use vt_base::{Bytes, NoMemory, PIECE_BYTES};
 
-/// What a console's readers have still to read: at most [`PIECE_BYTES`] bytes. A piece that doesn't
-/// fit is dropped whole and counted.
+/// The input of a console that nobody has read yet: at most [`PIECE_BYTES`] bytes. A piece that
+/// doesn't fit is dropped whole and counted.
 #[derive(Debug, Drop)]
 pub struct InQueue {
     bytes: HeapCircularBuffer<u8>,
@@ -29,7 +29,7 @@ impl Model for InQueue {
 }
 
 impl InQueue {
-    /// An empty queue. It takes the memory of all that it will ever hold.
+    /// An empty queue. All memory is taken here.
     pub fn new(alloc: Global) -> Result<InQueue, NoMemory>
         ensures { IfOk result (λ q. q ≡ empty) }
     {
@@ -37,7 +37,7 @@ impl InQueue {
         Ok(InQueue { bytes, dropped: 0 })
     }
 
-    /// Puts all of `b` at the back, or drops it where it doesn't fit.
+    /// Adds all of `b` at the end, or drops it if it doesn't fit.
     pub fn put(&mut self, b: &[u8]) -> bool
         ensures fits { IsTrue result ↔ (length self.old.bytes + length b.now ≤ piece_bytes) }
         ensures put { OnTrue result (self.new ≡ with_piece self.old b.now) }
@@ -51,7 +51,7 @@ impl InQueue {
         true
     }
 
-    /// Moves bytes from the front to the end of `out`, at most `max`, and says how many.
+    /// Moves at most `max` bytes from the beginning to the end of `out`, and returns their number.
     pub fn take(&mut self, out: &mut Bytes, max: usize) -> usize
         requires { max ≤ out.old.room }
         ensures count { result ≡ min max (length self.old.bytes) }
@@ -69,7 +69,7 @@ impl InQueue {
         count
     }
 
-    /// How many bytes there are.
+    /// The number of bytes.
     pub fn len(&self) -> usize
         ensures count { result ≡ length self.now.bytes }
         ensures within { result ≤ piece_bytes }
@@ -84,7 +84,7 @@ impl InQueue {
         self.bytes.is_empty()
     }
 
-    /// Byte `i` from the front, counted from 0.
+    /// Byte `i`, counted from 0.
     pub fn at(&self, i: usize) -> u8
         requires { i < length self.now.bytes }
         ensures { slice_get self.now.bytes i ≡ Some result }
@@ -92,14 +92,14 @@ impl InQueue {
         self.bytes.get(i).copied().unwrap()
     }
 
-    /// How many pieces were dropped; the count saturates at 4,294,967,295.
+    /// The number of pieces that were dropped, at most 4,294,967,295.
     pub fn dropped(&self) -> u32
         ensures { result ≡ self.now.dropped }
     {
         self.dropped
     }
 
-    /// Takes all bytes away, and counts no drops any more.
+    /// Removes all bytes and sets the count of drops to 0.
     pub fn clear(&mut self)
         ensures { self.new ≡ empty }
     {

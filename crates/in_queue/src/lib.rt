@@ -1,4 +1,5 @@
-//! The input queue of a console: bytes go in whole or not at all, and come out in their order.
+//! The input queue of a console: a piece of bytes goes in whole or not at all, and bytes come out in
+//! order.
 #![tactic(auto)]
 
 mod in_queue;

@@ -1,4 +1,4 @@
-//! The lines of a keymap, compiled into key tables (keymaps(5), loadkeys(1)).
+//! Compiles the lines of a keymap into key tables (keymaps(5), loadkeys(1)).
 #![tactic(auto)]
 
 mod compiling;

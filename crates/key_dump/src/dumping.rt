@@ -26,8 +26,8 @@ pub fn dumpable(tables: &KeyTables) -> bool
     has_table(tables) && are_real(tables.pairs())
 }
 
-/// The tables as a keymap text: a line of the tables, a line for each entry that isn't a hole, for
-/// each string that isn't empty and for each pair.
+/// The tables as a keymap text: a line with the numbers of the tables, then a line for each entry
+/// that isn't a hole, for each string that isn't empty, and for each pair.
 pub fn dump(alloc: Global, tables: &KeyTables) -> Result<Bytes, NoMemory>
     requires { IsTrue (is_dumpable tables.now) }
     ensures text { IfOk result (λ text. text.bytes ≡ dump_of tables.now) }

@@ -1,9 +1,9 @@
-//! The law of dumps.
+//! A law of dumps.
 ghost use Rattle.key_dump.specs.ReadsBack.{DumpReadsBack};
 
 use key_syms::names_are_their_own;
 
-/// The dump of tables is read as these tables.
+/// Reading the dump of tables gives these tables.
 pub fn dump_reads_back()
     ensures { DumpReadsBack }
 {

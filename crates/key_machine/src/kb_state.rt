@@ -13,13 +13,13 @@ pub struct KbState {
     pub meta: u8,
     /// The flags of [`crate::flag`] that are on.
     pub flags: u8,
-    /// The flags that a reset gives.
+    /// The flags after a reset.
     pub defaults: u8,
-    /// What the lights show, where that isn't the flags.
+    /// The lights, if they don't show the flags.
     pub lights: Option<u8>,
-    /// The modifiers that are locked, by their weights.
+    /// The sum of the weights of the locked modifiers.
     pub locks: u8,
-    /// The modifiers for the next key, by their weights.
+    /// The sum of the weights of the sticky modifiers, which count for the next key.
     pub sticky: u8,
 }
 
@@ -45,7 +45,7 @@ impl Model for KbState {
 }
 
 impl KbState {
-    /// K_UNICODE and K_ESCPREFIX, and nothing else is set. This project's own.
+    /// The start: K_UNICODE, K_ESCPREFIX, and nothing else is set. This project's own.
     pub fn start() -> KbState
         ensures { result ≡ start_state }
     {

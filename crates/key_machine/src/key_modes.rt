@@ -1,4 +1,4 @@
-/// The modes of a console's screen that keys depend on (console_codes(4)).
+/// The modes of a console's screen on which keys depend (console_codes(4)).
 #[derive(Clone, Copy, Debug, PartialEq, Eq)]
 pub struct KeyModes {
     /// DECCKM: cursor keys send ESC O.

@@ -1,6 +1,6 @@
 use crate::KeyBytes;
 
-/// What a key event comes to.
+/// The result of a key event.
 #[derive(Debug, Drop)]
 pub enum KeyOut {
     /// Input for the console in front.
@@ -11,12 +11,12 @@ pub enum KeyOut {
     Last,
     /// A switch to the next console that is allocated.
     Next,
-    /// A switch to the console that is allocated before this one.
+    /// A switch to the previous console that is allocated.
     Prev,
     /// KeyboardSignal: a signal to the process that accepts it (ioctl_console(2), KDSIGACCEPT).
     Spawn,
     /// SAK: the secure attention key.
     Attention,
-    /// Neither.
+    /// No bytes and no request.
     Nothing,
 }

@@ -18,8 +18,9 @@ use key_tables::KeyTables;
 use scan_codes::KeyEvent;
 use std::marker::Model;
 
-/// Up to four keyboards, which type together: the keys that are down, each with the action of its
-/// press, and what waits for the next key. A key takes no memory, and the same time whatever is down.
+/// Up to four keyboards that type together: the keys that are down, each with the action of its
+/// press, and the accent, Compose or number that waits for the next key. A key event takes no
+/// memory, and its time does not depend on the keys that are down.
 #[derive(Debug, Drop)]
 pub struct Keyboard {
     held: HeldKeys,
@@ -36,7 +37,7 @@ impl Model for Keyboard {
 }
 
 impl Keyboard {
-    /// No key is down, and nothing waits.
+    /// No key is down and nothing waits.
     pub fn start() -> Keyboard
         ensures { result ≡ start_keys }
     {
@@ -47,7 +48,7 @@ impl Keyboard {
         }
     }
 
-    /// A key of the keyboard `from` goes down, again where it repeats, or up.
+    /// A key of the keyboard `from` goes down, repeats or goes up.
     pub fn key(
         &mut self,
         from: u8,
@@ -68,8 +69,8 @@ impl Keyboard {
         }
     }
 
-    /// The keyboard `from` goes: none of its keys is down any more, nothing goes out, and what waits,
-    /// the number and the other keyboards' keys stay. It looks at every keycode.
+    /// The keyboard `from` is unplugged: its keys are released and send nothing. The accent or Compose
+    /// that waits, the number and the keys of other keyboards stay. It looks at every keycode.
     pub fn unplug(&mut self, from: u8)
         requires { from < 4 }
         ensures { self.new ≡ after_unplug from self.old }

@@ -13,7 +13,7 @@ ghost use Rattle.key_machine.specs.declared.function.TheConstants as function;
 ghost use Rattle.key_machine.specs.declared.cursor.TheConstants as cursor;
 ghost use Rattle.key_machine.specs.declared.pad.TheConstants as pad;
 
-/// The keys that are down are those whose last event says so.
+/// A key is down exactly if its last event was that it goes down.
 pub fn keys_follow()
     ensures { KeysFollow }
 {}
@@ -23,20 +23,20 @@ pub fn records_stay()
     ensures { RecordsStay }
 {}
 
-/// A keyboard that goes takes its own keys from those that are down, and changes nothing else.
+/// Unplugging a keyboard releases its own keys and changes nothing else.
 pub fn unplug_takes()
     ensures { UnplugTakes }
 {}
 
-/// After a history the keys that are down are those whose last event says so, and where every key
-/// that went down came up again, or its keyboard went, none is down and no modifier weighs.
+/// After a history a key is down exactly if its last event was that it goes down. If every key that
+/// went down came up again, or its keyboard was unplugged, no key is down and the weight is 0.
 pub fn keys_come_up()
     ensures last { DownsAreLast }
     ensures none { AllComeUp }
 {}
 
-/// A fresh press records the action that is looked up at it, and the release of that key on
-/// the same keyboard takes this record and no other.
+/// The first press of a key records the action that is looked up then. The release of that key on
+/// the same keyboard uses this record.
 pub fn presses_record()
     ensures presses { PressesRecord }
     ensures releases { ReleasesTake }
@@ -47,12 +47,12 @@ pub fn locks_stay()
     ensures { LocksStay }
 {}
 
-/// The bytes of key events in K_MEDIUMRAW give the events back.
+/// In K_MEDIUMRAW different key events have different bytes.
 pub fn medium_bytes_tell()
     ensures { MediumBytesTell }
 {}
 
-/// The numbers in the code are those of the definitions, and so are the modes of a start screen.
+/// The numbers in the code and the modes of a start screen equal those of the definitions.
 pub fn numbers_are_kept()
     ensures modes { (mode.RAW ≡ number.RAW)
         × (mode.XLATE ≡ number.XLATE)

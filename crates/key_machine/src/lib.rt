@@ -1,5 +1,5 @@
-//! Up to four keyboards: keys that go down and up become bytes and requests, by the tables of a keymap
-//! and a console's key state.
+//! Up to four keyboards: a key event gives bytes or a request, by the tables of a keymap and a
+//! console's key state.
 #![tactic(auto)]
 
 mod accents;

@@ -1,4 +1,4 @@
-//! What Meta does, by its numbers (ioctl_console(2), KDSKBMETA).
+//! The uses of Meta, by their numbers (ioctl_console(2), KDSKBMETA).
 
 /// K_METABIT: the character with the high bit.
 pub const METABIT: u8 = 3;

@@ -18,7 +18,7 @@ pub(crate) const LAST_CONSOLE: u16 = 5;
 /// A switch to the next console.
 pub(crate) const INCR_CONSOLE: u16 = 6;
 
-/// A switch to the console before.
+/// A switch to the previous console.
 pub(crate) const DECR_CONSOLE: u16 = 7;
 
 /// A signal to the process that accepts it.
@@ -27,7 +27,7 @@ pub(crate) const KEYBOARD_SIGNAL: u16 = 8;
 /// The secure attention key.
 pub(crate) const SAK: u16 = 9;
 
-/// The next character waits as accent.
+/// The next character waits as an accent.
 pub(crate) const COMPOSE: u16 = 10;
 
 /// The flag Num changes.

@@ -4,7 +4,7 @@ ghost use Rattle.key_syms.specs.Act.{act, is_action, is_character};
 use crate::kind;
 use std::marker::Model;
 
-/// What a key does: a kind of [`crate::kind`] and a value of it. Each action is one of the table in
+/// An action of a key: a kind of [`crate::kind`] and a value. Each action is in the table of
 /// docs/KEYS.md.
 #[derive(Clone, Copy, Debug, PartialEq, Eq)]
 pub struct Action {
@@ -26,7 +26,7 @@ impl Model for Action {
 }
 
 impl Action {
-    /// The action of a kind and a value.
+    /// The action of a kind and a value, if the table has it.
     pub fn new(kind: u16, value: u16) -> Option<Action>
         ensures known { IsSome result ↔ IsTrue (is_action kind value) }
         ensures action { IfSome result (λ a. a ≡ act kind value) }

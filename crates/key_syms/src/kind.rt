@@ -1,6 +1,6 @@
-//! The kinds of actions, by the numbers of docs/KEYS.md.
+//! The kinds of actions, by their numbers in docs/KEYS.md.
 
-/// Nothing.
+/// No action.
 pub const HOLE: u8 = 0;
 
 /// A character, by its code.
@@ -12,7 +12,7 @@ pub const LETTER: u8 = 2;
 /// An ASCII character with Meta.
 pub const META: u8 = 3;
 
-/// A function key: its string goes out.
+/// A function key: it sends its string.
 pub const FUNCTION: u8 = 4;
 
 /// A key of the numeric pad.
@@ -24,7 +24,7 @@ pub const CURSOR: u8 = 6;
 /// A dead key: an accent that waits for a character.
 pub const DEAD: u8 = 7;
 
-/// A modifier; its weight is 2 to the value.
+/// A modifier. Its weight is 2 to the power of the value.
 pub const MODIFIER: u8 = 8;
 
 /// A modifier that stays on until the key is pressed again.

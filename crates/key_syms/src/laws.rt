@@ -5,19 +5,19 @@ ghost use Rattle.key_syms.specs.Laws.{CodePointsAreTheirOwn, NamesAreTheirOwn};
 ghost use Rattle.key_syms.specs.Packed.{ActsArePacked, NamesArePacked};
 ghost use Rattle.key_syms.specs.declared.kind.TheConstants as kind;
 
-/// The name of an action stands for that action, and a code point for its character.
+/// Looking up an action's name gives that action, and looking up a code point its character.
 pub fn names_are_their_own()
     ensures names { NamesAreTheirOwn }
     ensures code_points { CodePointsAreTheirOwn }
 {}
 
-/// The tables of the code have the names and the actions of the symbol table, in its order.
+/// The tables in the code have the names and the actions of the symbol table, in its order.
 pub fn tables_are_packed()
     ensures names { NamesArePacked }
     ensures acts { ActsArePacked }
 {}
 
-/// The kinds in the code are those of the definitions.
+/// The kinds in the code equal those of the definitions.
 pub fn numbers_are_kept()
     ensures { (kind.HOLE ≡ number.HOLE)
         × (kind.CHARACTER ≡ number.CHARACTER)

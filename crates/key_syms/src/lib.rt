@@ -1,4 +1,4 @@
-//! What a key does, and the names of it: the symbols of a keymap, both ways.
+//! Actions of keys and their names: the symbols of a keymap, in both directions.
 #![tactic(auto)]
 
 mod action;

@@ -2,8 +2,8 @@ ghost use Rattle.std.specs.Prelude.{◌≡◌, ◌<◌, ◌≤◌, min, IfSome};
 ghost use Rattle.std.specs.Option.{option_map};
 ghost use Rattle.key_syms.specs.Numbers.{digit_in, number_of, number_in_base};
 
-/// The number that a text spells: hexadecimal after `0x`, octal after `0`, else decimal
-/// (keymaps(5)). A number past 65,535 is given as 65,536.
+/// The number of a text: hexadecimal after `0x`, octal after `0`, otherwise decimal (keymaps(5)).
+/// A number above 65,535 is returned as 65,536.
 pub fn number(text: &[u8]) -> Option<u32>
     ensures { result ≡ option_map (min 65536) (number_of text.now) }
 {

@@ -19,7 +19,7 @@ pub fn by_name(name: &str) -> Option<Action>
     by_bytes(name.as_bytes())
 }
 
-/// The same for the bytes of a name.
+/// The action of a name that is given as bytes.
 pub fn by_bytes(name: &[u8]) -> Option<Action>
     ensures { result ≡ symbol name.now }
 {

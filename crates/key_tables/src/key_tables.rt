@@ -13,8 +13,8 @@ use vt_base::{Bytes, NoMemory};
 // How many function keys and pairs there may be.
 const STRING_COUNT: usize = 256;
 
-/// Which tables exist and what each keycode does in them, the strings of the function keys, and the
-/// pairs. All memory is taken at the start, of the tables for the declared ones alone.
+/// The tables that exist with the action of each keycode, the strings of the function keys, and the
+/// pairs. All memory is taken when a value is made, and only for the tables that exist.
 #[derive(Debug, Drop)]
 pub struct KeyTables {
     maps: Maps,
@@ -35,7 +35,7 @@ impl Model for KeyTables {
 }
 
 impl KeyTables {
-    /// Tables of holes for these numbers, with no strings and no pairs.
+    /// Tables with these numbers, whose entries are holes, with no strings and no pairs.
     pub fn empty(alloc: Global, declared: &[u8]) -> Result<KeyTables, NoMemory>
         ensures { IfOk result (IsEmpty declared.now) }
     {
@@ -46,7 +46,7 @@ impl KeyTables {
         })
     }
 
-    /// The same tables, strings and pairs.
+    /// A copy.
     pub fn copy(&self, alloc: Global) -> Result<KeyTables, NoMemory>
         ensures { IfOk result (λ copy. copy ≡ self.now) }
     {
@@ -59,7 +59,7 @@ impl KeyTables {
         })
     }
 
-    /// Whether there is a table.
+    /// Whether the table exists.
     pub fn exists(&self, t: u8) -> bool
         ensures value { result ≡ exists_in self.now t }
         ensures whole { IsWhole self.now }
@@ -67,21 +67,21 @@ impl KeyTables {
         self.maps.exists(t)
     }
 
-    /// Does nothing: it is called for its clause. Tables are whole, whatever was set.
+    /// Does nothing. It is called for its clause: tables are whole after every change.
     pub fn stays_whole(&self)
         ensures { IsWhole self.now }
     {
         let _ = self.exists(0);
     }
 
-    /// What a keycode does in a table.
+    /// The action of a keycode in a table.
     pub fn entry(&self, t: u8, c: u8) -> Option<Action>
         ensures { result ≡ entry_of self.now t c }
     {
         self.maps.at(t, c)
     }
 
-    /// Sets what a keycode does in a table.
+    /// Sets the action of a keycode in a table.
     pub fn set_entry(&mut self, t: u8, c: u8, a: Action)
         requires exists { IsTrue (exists_in self.old t) }
         requires key { c ≢ 0 }
@@ -111,7 +111,7 @@ impl KeyTables {
         self.funcs[usize::from(i)] = FuncText::of(text);
     }
 
-    /// What an accent and a base make: the result of the first such pair.
+    /// The result of the first pair of an accent and a base.
     pub fn find(&self, a: u16, b: u16) -> Option<u16>
         ensures { result ≡ found_in self.now.pairs a b }
     {
@@ -121,7 +121,7 @@ impl KeyTables {
             .map(|pair| pair.result)
     }
 
-    /// Sets the pairs. Equal ones are kept.
+    /// Sets the pairs. Equal pairs are all kept.
     pub fn set_pairs(&mut self, pairs: &[Pair])
         requires { length pairs.now ≤ 256 }
         ensures { self.new ≡ with_pairs self.old pairs.now }
@@ -140,8 +140,9 @@ impl KeyTables {
         self.pairs.as_slice()
     }
 
-    /// The tables as text: the line `maps` with the tables that exist, `map T C K V` for each entry
-    /// that isn't a hole, `func I B` for each string that isn't empty, and `pair A B C`.
+    /// The tables as text: a line `maps` with the numbers of the tables that exist, a line
+    /// `map T C K V` for each entry that isn't a hole, a line `func I B` for each string that isn't
+    /// empty, and a line `pair A B C` for each pair.
     pub fn listing(&self, alloc: Global) -> Result<Bytes, NoMemory>
         ensures { IfOk result (λ text. text.bytes ≡ listing_of self.now) }
     {

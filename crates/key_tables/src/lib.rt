@@ -1,4 +1,4 @@
-//! Key tables: the actions of keycodes by table, the function strings and the pairs.
+//! Key tables: the action of each keycode in each table, the function strings and the pairs.
 #![tactic(auto)]
 
 mod func_text;

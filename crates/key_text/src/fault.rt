@@ -18,7 +18,7 @@ pub struct KeyFault {
 /// Why a keymap wasn't read or compiled.
 #[derive(Clone, Copy, Debug, PartialEq, Eq)]
 pub enum KeyError {
-    /// The text isn't in the grammar.
+    /// The text has a fault.
     Fault(KeyFault),
     /// Memory ran out.
     NoMemory,

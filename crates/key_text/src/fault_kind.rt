@@ -1,9 +1,9 @@
-//! The kinds of faults in a keymap, by the numbers of docs/KEYS.md.
+//! The kinds of faults in a keymap, by their numbers in docs/KEYS.md.
 
-/// A word that isn't the one that must stand there.
+/// A word that isn't allowed there.
 pub const UNKNOWN_WORD: u16 = 1;
 
-/// A symbol that isn't known there.
+/// A symbol that isn't known or isn't allowed there.
 pub const UNKNOWN_SYMBOL: u16 = 2;
 
 /// A number out of its range, or a range in reverse.
@@ -12,19 +12,19 @@ pub const OUT_OF_RANGE: u16 = 3;
 /// No symbols, or more than there are tables.
 pub const WRONG_COUNT: u16 = 4;
 
-/// A keymaps line behind a key line.
+/// A keymaps line after a key line.
 pub const LATE_KEYMAPS: u16 = 5;
 
 /// A bad quoted text, or bytes that aren't UTF-8.
 pub const BAD_TEXT: u16 = 6;
 
-/// An include text that isn't given.
+/// An include of a text that wasn't given.
 pub const NOT_GIVEN: u16 = 7;
 
-/// Include texts that include each other too deep.
+/// Includes that are nested too deep.
 pub const TOO_DEEP: u16 = 8;
 
-/// Something behind the line's end.
+/// Further words after the end of the line's grammar.
 pub const LEFT_OVER: u16 = 9;
 
 /// Too many pairs.

@@ -1,4 +1,4 @@
-//! A fault as a text, as the program `vt` tells it on err.
+//! The text of a fault, as the program `vt` prints it on standard error.
 ghost use Rattle.std.specs.Prelude.{Some};
 ghost use Rattle.key_text.specs.ErrorText.{fault_text};
 

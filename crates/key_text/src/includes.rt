@@ -30,7 +30,7 @@ impl Model for Includes {
 }
 
 impl Includes {
-    /// No texts.
+    /// An empty list of texts.
     pub fn none(alloc: Global) -> Includes
         ensures { result ≡ [] }
     {
@@ -40,7 +40,7 @@ impl Includes {
         }
     }
 
-    /// Adds a text. Where the name is there already, the first text stays.
+    /// Adds a text. If the name is there already, the first text stays.
     pub fn add(&mut self, alloc: Global, name: &[u8], text: &[u8]) -> Result<(), NoMemory>
         ensures ok { OnOk result (self.new ≡ with_text name.now text.now self.old) }
         ensures err { OnErr result (self.new ≡ self.old) }

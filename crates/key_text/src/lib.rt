@@ -1,4 +1,4 @@
-//! Keymap text (keymaps(5)): its lines, or the first fault of its grammar with its place.
+//! Keymap text (keymaps(5)): its lines, or its first fault with the place.
 #![tactic(auto)]
 
 mod fault;

@@ -1,8 +1,8 @@
 use crate::line_kind::LineKind;
 use std::marker::Model;
 
-/// A line of a keymap, with the place of its first word. For a line of an included text it is that
-/// of the first word of the outermost include line.
+/// A line of a keymap with the place of its first word. A line of an included text has the place of
+/// the first word of the outermost include line.
 #[derive(Drop)]
 pub struct Line {
     pub kind: LineKind,

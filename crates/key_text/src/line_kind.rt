@@ -3,14 +3,14 @@ use crate::table_set::TableSet;
 use key_syms::{Action, Pair};
 use vt_base::Bytes;
 
-/// What a line of a keymap tells (keymaps(5)).
+/// A line of a keymap (keymaps(5)).
 #[derive(Drop)]
 pub enum LineKind {
-    /// `keymaps`: the tables that there are.
+    /// `keymaps`: the tables that exist.
     Keymaps(TableSet),
     /// `keycode N =`: the actions of a code in the tables.
     Keys { code: u8, syms: Syms },
-    /// The same behind modifier words: the action of a code in one table.
+    /// `keycode N =` after modifier words: the action of a code in one table.
     One { table: u8, code: u8, action: Action },
     /// `string NAME =`: the string of a function key.
     Text { func: u8, text: Bytes },

@@ -1,8 +1,8 @@
 ghost use Rattle.std.specs.Prelude.{◌≡◌};
 ghost use Rattle.key_text.specs.Rows.{after, more, next_line};
 
-/// A place in a text: a line and a column of bytes, both from 1. A number past the greatest u32 is
-/// given as that number.
+/// A place in a text: a line and a column in bytes, both from 1. A number above the greatest u32 is
+/// replaced by it.
 #[derive(Clone, Copy)]
 pub struct Place {
     pub line: u32,

@@ -42,8 +42,8 @@ struct IncludeAt {
     bad_end: Option<KeyFault>,
 }
 
-/// The lines of a keymap, with those of the texts that it includes, or the first fault in the order
-/// of reading.
+/// The lines of a keymap, with those of the texts that it includes, or the first fault in reading
+/// order.
 #[tactic(auto, unfolding(crate::specs::Reading::lines_of))]
 pub fn parse(alloc: Global, text: &[u8], inc: &Includes) -> Result<Vec<Line>, KeyError>
     ensures { Gives (λ lines. lines.items) result (lines_of inc.now text.now) }

@@ -3,7 +3,7 @@ ghost use Rattle.std.specs.Prelude.{◌≡◌, ◌<◌, length};
 use key_syms::Action;
 use std::marker::Model;
 
-/// The symbols of a key line, of which there is at least one.
+/// The symbols of a key line: at least one.
 #[derive(Drop)]
 pub struct Syms {
     actions: Vec<Action>,
@@ -21,7 +21,7 @@ impl Model for Syms {
 }
 
 impl Syms {
-    /// These symbols.
+    /// A list of these symbols.
     pub(crate) fn of(actions: Vec<Action>) -> Syms
         requires { 0 < length actions.items }
         ensures { result ≡ actions.items }

@@ -1,4 +1,4 @@
-/// A key goes down or up. A keyboard repeats a key that is held by telling again that it goes down.
+/// A key goes down or up. A key that is held gives further events that it goes down.
 #[derive(Clone, Copy, Debug, PartialEq, Eq)]
 pub struct KeyEvent {
     /// The keycode, from 1.

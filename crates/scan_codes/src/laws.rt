@@ -1,12 +1,12 @@
-//! Laws of the definitions: nothing of the scanner is in them.
+//! Laws of the definitions. They don't depend on the scanner.
 ghost use Rattle.scan_codes.specs.Laws.{AnyCut, GroupsAreRead};
 
-/// Groups, one after another, have the events that each of them has.
+/// The events of a list of groups are those of each group, in order.
 pub fn groups_are_read()
     ensures { GroupsAreRead }
 {}
 
-/// No cut of the bytes can matter.
+/// Bytes have the same events however they are cut.
 pub fn any_cut()
     ensures { AnyCut }
 {}

@@ -1,4 +1,4 @@
-//! Scan codes: the bytes of a keyboard read as keys that go down and up.
+//! Scan codes: from the bytes of a keyboard to key events.
 #![tactic(auto)]
 
 mod key_event;

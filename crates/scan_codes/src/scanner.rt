@@ -39,7 +39,7 @@ impl Model for Scanner {
 }
 
 impl Scanner {
-    /// Nothing read yet, and the keycodes of the start.
+    /// A scanner that has read nothing, with the keycodes of the start.
     pub fn start() -> Scanner
         ensures { result ≡ start_scan }
     {
@@ -53,7 +53,7 @@ impl Scanner {
         }
     }
 
-    /// Reads a byte. The event is that of the group that it ends.
+    /// Reads a byte. If it ends a group, the event is the group's.
     pub fn push(&mut self, b: u8) -> Option<KeyEvent>
         ensures event { result ≡ event_after self.old.codes self.old.bytes b }
         ensures none { let all = self.old.bytes ++ b ∷ [] in
@@ -66,7 +66,7 @@ impl Scanner {
         event
     }
 
-    /// Gives a scan number another keycode; 0 is none.
+    /// Sets the keycode of a scan number; 0 is none.
     pub fn set(&mut self, scan: u16, code: u16) -> Result<(), Inval>
         ensures taken { IsOk result ↔ (IsTrue (is_scan scan) × (code ≤ 255)) }
         ensures ok { OnOk result (self.new ≡ with_code self.old scan code) }

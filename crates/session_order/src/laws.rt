@@ -1,4 +1,4 @@
-//! The laws of a session's calls: of the serial schedule, and of a race.
+//! Laws of a session's calls: of the serial schedule, and of a race.
 ghost use Rattle.session_order.specs.Laws.{FinishedStays, RoundsAddUp, RoundsGoOn, SerialEnds, SerialIsOne, SerialIsRight};
 ghost use Rattle.session_order.specs.Meant.{EndsIsMeant, FollowsIsMeant, LegalIsMeant, NextIsMeant, NextIsPlain, ReplayIsMeant};
 ghost use Rattle.session_order.specs.Races.{RaceIsRight, RunsGrow};

@@ -1,5 +1,5 @@
-//! The order of a session's calls: whose call is next, how far each caller is, how a history ends, and
-//! the schedule that plays a session on one thread, and what every session keeps to.
+//! The order of a session's calls: which caller is next, how far each caller is, how a history ends, and
+//! the schedule of the play on one thread.
 #![tactic(auto)]
 
 mod counts;

@@ -1,4 +1,4 @@
-//! The console that a session begins with, and what every session keeps to.
+//! The machine of a session's start, and laws of every session.
 ghost use Rattle.std.specs.Prelude.{◌≡◌, IfOk};
 ghost use Rattle.session_order.specs.Laws.{IsFromStart};
 ghost use Rattle.session_order.specs.Sessions.{AreOfCallers, LegalAreRight, setup_of, start_of};
@@ -9,15 +9,15 @@ use std::alloc::Global;
 use vt_base::NoMemory;
 use vt_world::{World, displays_are_lawful, screens_are_tapes};
 
-/// The console that the session begins with.
+/// The machine of the session's start.
 pub fn start_of(alloc: Global, s: &Session) -> Result<World, NoMemory>
     ensures { IfOk result (λ world. world ≡ start_of s.now) }
 {
     World::start(alloc, s.config(), s.key_tables())
 }
 
-/// What every session keeps to: it begins at a start of the console, nobody but a caller has a program,
-/// and each history that is legal, follows the programs and ends so is right.
+/// Laws of every session: it begins at a start of the machine, only callers have a program, and each
+/// history that is legal, follows the programs and ends rightly is a right history.
 pub fn session_laws(s: &Session)
     ensures start { IsStart (start_of s.now) }
     ensures setup { IsFromStart (setup_of s.now) }

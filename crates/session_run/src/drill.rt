@@ -1,4 +1,4 @@
-//! A large session made from a number.
+//! A large session that is made from a number.
 ghost use Rattle.std.specs.Prelude.{◌≡◌, ◌<◌, ◌≤◌, ℕ, ◌∷◌, ◌++◌, true, length, map, IfOk, OnOk};
 ghost use Rattle.std.specs.List.{All, range_with_len};
 ghost use Rattle.session_run.specs.Drill.{HasDrillKeymap, IsDrill, drill_hooks, each, item, keys, opening_calls, script};

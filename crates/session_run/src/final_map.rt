@@ -13,8 +13,8 @@ use vt_world::World;
 /// How many consoles there are.
 const PLACES: usize = 63;
 
-/// The final text of a run, as `final_text` gives it. The texts of the consoles are made by as many
-/// threads, or one after another where no thread can be made, and then joined in rising order.
+/// The final text of a run, the same as that of `final_text`. The text of each console is made by a thread
+/// of its own, or one after another if no thread can be made; then the texts are joined in rising order.
 pub fn final_text_map<R: Threads + Sync>(rt: &R, alloc: Global, r: &Run) -> Result<Bytes, NoMemory>
     ensures { IfOk result (λ text. text.bytes ≡ final_text r.now.world) }
 {

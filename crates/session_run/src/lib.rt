@@ -1,5 +1,4 @@
-//! The play of a session, whose callers make their calls on a console one after another, and its race,
-//! in which each caller has a thread of its own.
+//! The play of a session, on one thread, and its race, in which each caller has a thread of its own.
 #![tactic(auto)]
 
 mod callers;

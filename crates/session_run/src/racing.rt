@@ -1,4 +1,4 @@
-//! The race of a session: its callers' calls on one console, each caller in a thread of its own.
+//! The race of a session: each caller makes its calls on one machine in a thread of its own.
 ghost use Rattle.std.specs.Prelude.{◌≡◌, ℕ, ◌<◌, [], length, IfOk, OnOk, slice_index_or, vec_len};
 ghost use Rattle.session_order.specs.Ends.{Ends};
 ghost use Rattle.session_order.specs.Follows.{Follows};
@@ -27,9 +27,9 @@ use vt_hub::{Hub, Opening, Run, Seat, Steward};
 use vt_io::Gate;
 use vt_world::{World, displays_are_lawful, nobody_waits_at_start, screens_are_tapes};
 
-/// Races the session: one worker for each caller, in a thread of its own, on one shared console.
-/// There is a hook for each process, with that process's table; the gate is asked before each call.
-/// Where no thread can be made the workers run one after another, and it may then not return.
+/// Races the session: one worker for each caller, in a thread of its own, on one shared machine. There is
+/// a hook for each process, with that process's table. Each worker asks the gate before each call. If no
+/// thread can be made, the workers run one after another, and the call may then not return.
 pub fn race<H: Handler + Send + Sync, G: Gate + Sync, R: Threads + Wait + Sync>(
     rt: &R,
     alloc: Global,

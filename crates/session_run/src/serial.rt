@@ -22,8 +22,8 @@ use vt_base::{CallerNo, NoMemory, Signal};
 use vt_hub::Run;
 use vt_world::{displays_are_lawful, screens_are_tapes};
 
-/// Plays the session on one thread: the turns that it gives, and then rounds of rising callers, until
-/// every program is over or a call finds no room.
+/// Plays the session on one thread: its turns, and then rounds of the callers in rising order, until every
+/// program is over or a call finds no room.
 pub fn play(alloc: Global, s: &Session) -> Result<Run, NoMemory>
     ensures serial { IfOk result (λ run. IsSerial (setup_of s.now) s.now.turns (run_result run)) }
     ensures world { IfOk result (λ run. run.world ≡ replay (start_of s.now) run.log.entries) }

@@ -4,7 +4,7 @@ ghost use Rattle.sig_hooks.specs.Hooks.{act_of};
 use sig_hooks::{Act, Handler, Hook, HookTable};
 use vt_base::Signal;
 
-/// What can be asked for the act of a signal: a table, and a hook that answers by one.
+/// A source of acts for signals: a table, or a hook that answers by one.
 pub(crate) trait Asks {
     ghost use Rattle.std.specs.Prelude.{List};
     ghost use Rattle.sig_hooks.specs.declared.act.Act.{Act};

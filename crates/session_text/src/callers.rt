@@ -1,11 +1,11 @@
-//! Whose program is which.
+//! The program of each caller.
 ghost use Rattle.std.specs.Prelude.{◌≡◌, filter, option_map, slice_get};
 ghost use Rattle.session_text.specs.Programs.{is_keys, program_of, script_in};
 
 use crate::Program;
 use vt_base::CallerNo;
 
-/// The program of caller `p` among those of a session, where it has one.
+/// The program of caller `p` among those of a session, if it has one.
 pub fn program_of(programs: &[Program], p: CallerNo) -> Option<&Program>
     ensures { option_map (λ program. program.now) result ≡ program_of programs.now p }
 {

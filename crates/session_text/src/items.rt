@@ -5,7 +5,7 @@ use std::marker::Model;
 use vt_base::NoMemory;
 use vt_events::Event;
 
-/// The calls of a script, with room for more: adding one within the room takes no memory.
+/// The calls of a script, with spare room: adding one within the room takes no memory.
 #[derive(Drop)]
 pub struct Items {
     events: Vec<Event>,
@@ -33,14 +33,14 @@ impl Items {
         Ok(Items { events, room: n })
     }
 
-    /// How many more calls fit.
+    /// The number of further calls that fit.
     pub fn room(&self) -> usize
         ensures { result ≡ self.now.room }
     {
         self.room
     }
 
-    /// Adds a call, in the room that is there.
+    /// Adds a call. There must be room for it.
     pub fn push(&mut self, e: Event)
         requires { 0 < self.old.room }
         ensures events { self.new.events ≡ self.old.events ++ e ∷ [] }

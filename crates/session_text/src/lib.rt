@@ -1,4 +1,4 @@
-//! Sessions: the programs of a console's callers, and the text that says them.
+//! Sessions: the programs of a machine's callers, and the text that defines them.
 #![tactic(auto)]
 
 mod acting;

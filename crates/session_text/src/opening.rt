@@ -1,6 +1,6 @@
 use vt_base::ConsoleNo;
 
-/// The numbers that a session begins with.
+/// The numbers at the start of a session.
 #[derive(Drop)]
 pub(crate) struct SessionHeader {
     pub rows: u8,

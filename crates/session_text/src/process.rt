@@ -2,7 +2,7 @@ use crate::Items;
 use sig_hooks::HookTable;
 use vt_procs::ProcStart;
 
-/// A process of a session: what it has at the start, and its program.
+/// A process of a session: its start and its program.
 #[derive(Drop)]
 pub(crate) struct Process {
     pub start: ProcStart,

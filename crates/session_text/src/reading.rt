@@ -1,4 +1,4 @@
-//! Sessions read from their texts.
+//! Reading a session from its text.
 ghost use Rattle.std.specs.Prelude.{IfOk};
 ghost use Rattle.toml.specs.View.{table_view};
 ghost use Rattle.session_text.specs.Parts.{AreFit, AreOf};
@@ -14,7 +14,7 @@ use std::alloc::Global;
 use table_fields::{TableError, document};
 use toml::Table;
 
-/// The session that the text says, or its first fault.
+/// The session of the text, or the text's first fault.
 pub fn read(alloc: Global, text: &[u8]) -> Result<Session, TableError>
     ensures { ReadsBy IsSessionOf result (session_says text.now) }
 {

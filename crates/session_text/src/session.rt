@@ -13,7 +13,7 @@ use vt_base::{Bytes, CallerNo};
 use vt_journal::Limits;
 use vt_procs::Config;
 
-/// What the callers of a console have and do, and how they take turns.
+/// A session: the start of a machine, the programs of its callers, and their turns.
 #[derive(Drop)]
 pub struct Session {
     config: Config,
@@ -79,7 +79,7 @@ impl Session {
         }
     }
 
-    /// What the console begins with.
+    /// The start of the machine.
     pub fn config(&self) -> &Config
         ensures same { result.now ≡ self.now.config }
         ensures fit { IsFitSet result.now.consoles result.now.front }
@@ -95,7 +95,7 @@ impl Session {
         &self.tables
     }
 
-    /// How much the journal may hold.
+    /// The limits of the journal.
     pub fn limits(&self) -> Limits
         ensures same { result ≡ self.now.limits }
         ensures events { result.events ≤ 1_000_000 }
@@ -104,7 +104,7 @@ impl Session {
         self.limits
     }
 
-    /// Who makes the first calls, one after another: each number is that of a caller.
+    /// The turns: the callers, by number, that make the first calls one after another.
     pub fn turns(&self) -> &[u8]
         ensures same { result.now ≡ self.now.turns }
         ensures callers { All
@@ -123,7 +123,7 @@ impl Session {
         self.programs.as_slice()
     }
 
-    /// What process `p` does at signals.
+    /// The acts of process `p` at signals.
     pub fn table(&self, p: CallerNo) -> &HookTable
         requires low { 1 ≤ p }
         requires high { p ≤ length self.now.config.procs }

@@ -17,7 +17,7 @@ use std::marker::Model;
 use vt_base::{Bytes, NoMemory, SigSet};
 use vt_events::{Event, Reply};
 
-/// A walk through a program, one call after another. It stands for the calls that were made.
+/// A walk through a program, one call after another. It stands for the calls that were made so far.
 #[derive(Drop)]
 pub struct Walk {
     item: usize,
@@ -47,7 +47,7 @@ impl Model for Walk {
 }
 
 impl Walk {
-    /// Nothing was called yet.
+    /// No call was made yet.
     pub fn start() -> Walk
         ensures { (p : Program) → Stands p result [] }
     {
@@ -61,7 +61,7 @@ impl Walk {
         }
     }
 
-    /// The next call, where the program isn't over.
+    /// The next call, if the program isn't over.
     pub fn next(&self, alloc: Global, p: &Program) -> Result<Option<Event>, NoMemory>
         ensures { IfOk result (λ e. (made : List Call) → Stands p.now self.now made
             → e ≡ next p.now made) }
@@ -102,7 +102,7 @@ impl Walk {
         }
     }
 
-    /// The next call was made, and got this answer.
+    /// Records that the next call was made with this answer.
     pub fn took(&mut self, p: &Program, r: &Reply)
         ensures { (made : List Call) (e : Event) → Stands p.now self.old made
             → next p.now made ≡ Some e → Stands p.now self.new (made ++ call e r.now ∷ []) }

@@ -1,4 +1,4 @@
-/// What a process does at a signal. Descriptors are given by number, open or not.
+/// An act of a process at a signal. Descriptors are numbers and need not be open.
 #[derive(Clone, Copy, Debug, PartialEq, Eq)]
 pub enum Act {
     Nothing,

@@ -4,7 +4,7 @@ ghost use Rattle.sig_hooks.specs.Hooks.{Answers, act_of};
 use crate::{Act, HookTable};
 use vt_base::Signal;
 
-/// What can be a hook: every closure from a signal to an act is one.
+/// A hook: every closure from a signal to an act is one.
 pub trait Handler: Drop {
     ghost use Rattle.std.specs.Prelude.{List};
     ghost use Rattle.sig_hooks.specs.declared.act.Act.{Act};

@@ -5,8 +5,7 @@ use crate::{Act, Handler, HookTable};
 use std::marker::Model;
 use vt_base::Signal;
 
-/// A stored closure, beside the table by which it answers on each of the 64 signals. Contracts see
-/// the table.
+/// A stored closure with the table of its answers for each of the 64 signals. Contracts see the table.
 #[derive(Drop)]
 pub struct Hook<F: Handler> {
     f: F,
@@ -25,7 +24,7 @@ impl<F: Handler> Model for Hook<F> {
 }
 
 impl<F: Handler> Hook<F> {
-    /// The closure may be called on each signal, and answers the table's act.
+    /// A hook from a closure that may be called on each signal and answers the table's act.
     pub fn new(f: F, table: HookTable) -> Hook<F>
         requires { F.answers f table }
         ensures { result ≡ table }

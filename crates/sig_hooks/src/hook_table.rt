@@ -6,7 +6,7 @@ use crate::Act;
 use std::marker::Model;
 use vt_base::{SIGNALS, Signal};
 
-/// An act for each signal. Contracts see the list of acts, of which the first is that of signal 1.
+/// An act for each signal. Contracts see the list of acts, which begins with that of signal 1.
 #[derive(Clone, Copy, Debug, PartialEq, Eq)]
 pub struct HookTable {
     places: [Act; SIGNALS],
@@ -24,7 +24,7 @@ impl Model for HookTable {
 }
 
 impl HookTable {
-    /// Nothing on every signal.
+    /// The act `Nothing` for every signal.
     pub fn empty() -> HookTable
         ensures table { result ≡ replicate 64 Act.Nothing }
         ensures each { (n : ℕ) → 1 ≤ n → n ≤ 64 → act_of result n ≡ Act.Nothing }

@@ -1,4 +1,4 @@
-//! What processes do at signals: a table of acts, and stored closures that answer by a table.
+//! Acts of processes at signals: a table of acts, and stored closures that answer by a table.
 #![tactic(auto)]
 
 mod act;

@@ -9,7 +9,7 @@ use crate::fault_code::WRONG_KIND;
 use std::alloc::Global;
 use toml::{Table, Value};
 
-/// How many values an array has; none where the value is no array.
+/// The number of values of an array, or None if the value is no array.
 #[tactic(auto, using(crate::proofs::Values::values_length))]
 pub fn count(value: Option<&Value>) -> usize
     ensures { result ≡ count_of (option_map (λ v. view v.now) value.entry) }
@@ -21,7 +21,7 @@ pub fn count(value: Option<&Value>) -> usize
     }
 }
 
-/// An array of integers, the empty one where it isn't given: 22 where the value is no such array.
+/// An array of integers (default: empty). Fault 22 if the value is no such array.
 #[tactic(auto, using(crate::proofs::Values::values_view))]
 pub fn integers(
     alloc: Global,
@@ -41,7 +41,7 @@ pub fn integers(
     }
 }
 
-/// An array of texts, the empty one where it isn't given: 22 where the value is no such array.
+/// An array of texts (default: empty). Fault 22 if the value is no such array.
 #[tactic(auto, using(crate::proofs::Values::values_view))]
 pub fn strings<'a>(
     alloc: Global,
@@ -61,7 +61,7 @@ pub fn strings<'a>(
     }
 }
 
-/// An array of tables, the empty one where it isn't given: 22 where the value is no such array.
+/// An array of tables (default: empty). Fault 22 if the value is no such array.
 #[tactic(auto, using(crate::proofs::Values::values_view))]
 pub fn tables<'a>(
     alloc: Global,

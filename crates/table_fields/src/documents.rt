@@ -7,7 +7,7 @@ use crate::fault_code::NO_DOCUMENT;
 use std::alloc::Global;
 use toml::Table;
 
-/// The table of a TOML document: 20 at 0:0 where the text is none.
+/// The table of a TOML document. Fault 20 at 0:0 if the text is none.
 pub fn document(alloc: Global, text: &[u8]) -> Result<Table, TableError>
     ensures { Gives table_view result (document_of text.now) }
 {

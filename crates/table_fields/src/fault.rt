@@ -1,9 +1,9 @@
 ghost use Rattle.std.specs.Prelude.{◌≡◌};
 ghost use Rattle.table_fields.specs.Checked.{fault};
 
-/// The first fault of a TOML table, or of a text in it: its kind, and its place. Of a table the place
-/// is the part, 0 for the table itself, and the number of a key or of an item, from 1; of a keymap it
-/// is line and column.
+/// The first fault of a TOML table, or of a text in it: its kind and its place. The place in a table
+/// is the part (0 for the table itself) and the number of a key or an item, from 1. The place in a
+/// keymap is a line and a column.
 #[derive(Clone, Copy, Debug, PartialEq, Eq)]
 pub struct TableFault {
     pub kind: u16,
@@ -14,7 +14,7 @@ pub struct TableFault {
 /// Why a table wasn't read.
 #[derive(Clone, Copy, Debug, PartialEq, Eq)]
 pub enum TableError {
-    /// It doesn't pass its checks.
+    /// It has a fault.
     Fault(TableFault),
     /// Memory ran out.
     NoMemory,

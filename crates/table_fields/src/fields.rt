@@ -9,7 +9,7 @@ use crate::fault::{TableFault, fault};
 use crate::fault_code::{OUT_OF_RANGE, WRONG_KIND};
 use toml::{Table, Value};
 
-/// The numbers that a field may have, and the one that stands for it where it isn't given.
+/// The range of a number, and its default.
 #[derive(Clone, Copy)]
 pub struct Numbers {
     pub default: u64,
@@ -24,7 +24,7 @@ pub fn at<'a>(table: &'a Table, key: &str) -> Option<&'a Value>
     table.get(key)
 }
 
-/// A number: 22 where the value is no integer, 23 where it is out of the range.
+/// A number. Fault 22 if the value is no integer, 23 if it is out of the range.
 pub fn number(
     value: Option<&Value>,
     part: u32,
@@ -45,7 +45,7 @@ pub fn number(
     }
 }
 
-/// The number, where it is from `low` to `high`: else this fault.
+/// The number if it is from `low` to `high`, or this fault.
 pub fn within(
     n: i64,
     low: u64,
@@ -68,7 +68,7 @@ pub fn within(
     Ok(n)
 }
 
-/// A text, the empty one where it isn't given: 22 where the value is no text.
+/// A text (default: empty). Fault 22 if the value is no text.
 pub fn text<'a>(value: Option<&'a Value>, part: u32, key: u32) -> Result<&'a str, TableFault>
     ensures { Returns (λ text. text.now) result
         (text_of part key (option_map (λ v. view v.now) value.entry)) }
@@ -82,7 +82,7 @@ pub fn text<'a>(value: Option<&'a Value>, part: u32, key: u32) -> Result<&'a str
     }
 }
 
-/// Whether a key is set, false where it isn't given: 22 where the value is no truth value.
+/// A flag (default: false). Fault 22 if the value is no truth value.
 pub fn flag(value: Option<&Value>, part: u32, key: u32) -> Result<bool, TableFault>
     ensures { Returns (λ b. b) result (flag_of part key (option_map (λ v. view v.now) value.entry)) }
 {

@@ -9,7 +9,7 @@ use key_text::Includes;
 use std::alloc::Global;
 use toml::{Table, Value};
 
-/// The texts that a keymap may include, by their names: 22 where the value is no table of texts.
+/// The texts that a keymap may include, by their names. Fault 22 if the value is no table of texts.
 pub fn texts(
     alloc: Global,
     value: Option<&Value>,

@@ -10,7 +10,7 @@ use key_tables::KeyTables;
 use key_text::{Includes, KeyError, KeyFault, parse};
 use std::alloc::Global;
 
-/// The tables of a keymap that may include these texts: 24 at the line and column of its first fault.
+/// The tables of a keymap that may include these texts. Fault 24 at the line and column of its first fault.
 pub fn keymap(alloc: Global, texts: &Includes, text: &str) -> Result<KeyTables, TableError>
     ensures { GivesBy (λ tables lines. AreTablesOf lines tables) result
         (keymap_of texts.now text.now) }

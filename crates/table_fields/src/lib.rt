@@ -1,5 +1,5 @@
-//! The fields of TOML tables: numbers, flags, texts, arrays, keymaps and scan bytes, each with the
-//! fault that it has where it isn't as it has to be.
+//! The fields of TOML tables: numbers, flags, texts, arrays, keymaps and scan bytes, each with its
+//! fault.
 #![tactic(auto)]
 
 mod arrays;

@@ -10,8 +10,8 @@ use vt_base::{Bytes, hex_value};
 // The most scan bytes of a table. This project's own.
 const MOST_SCAN_BYTES: usize = 100_000;
 
-/// The scan bytes of a text, each two hexadecimal digits, with one blank between: 29 where there are
-/// more than 100,000, 27 at the first item that is none.
+/// The scan bytes of a text: two hexadecimal digits each, with one blank between them. Fault 29 if
+/// there are more than 100,000, 27 at the first item that is none.
 pub fn scan_bytes(alloc: Global, text: &str, part: u32, key: u32) -> Result<Bytes, TableError>
     ensures bytes { Gives (λ b. b.bytes) result (scan_bytes_of part key text.now) }
     ensures room { IfOk result (λ b. b.room ≡ 0) }
@@ -21,8 +21,8 @@ pub fn scan_bytes(alloc: Global, text: &str, part: u32, key: u32) -> Result<Byte
     item_bytes(alloc, SCAN_BYTE, part, items.as_slice())
 }
 
-/// The items of a text of scan bytes, the parts between its single blanks: 29 where there are more than
-/// 100,000.
+/// The items of a text of scan bytes: the parts between its single blanks. Fault 29 if there are more
+/// than 100,000.
 pub fn scan_items(alloc: Global, text: &str, part: u32, key: u32) -> Result<Vec<&str>, TableError>
     ensures items { Gives (λ items. map (λ item. item.now) items.items) result
         (few_items_of part key text.now) }
@@ -45,7 +45,7 @@ fn cut_items(alloc: Global, text: &str) -> Result<Vec<&str>, AllocError>
     Ok(text.split(' ').collect(alloc)?)
 }
 
-/// The bytes of items, each two hexadecimal digits: a fault of this kind at the first that is none.
+/// The bytes of items of two hexadecimal digits each. A fault of this kind at the first that is none.
 pub fn item_bytes(alloc: Global, kind: u16, part: u32, items: &[&str]) -> Result<Bytes, TableError>
     requires { length items.now ≤ most_scan_bytes }
     ensures bytes { Gives (λ b. b.bytes) result

@@ -1,5 +1,5 @@
-//! The door, where callers wait that found the lock taken, before they draw a ticket. It stands in no
-//! clause: docs/library/lock.md has the argument that nobody sleeps there for ever.
+//! The door: a caller that finds the lock taken waits here before it draws a ticket. No clause covers
+//! it: docs/library/lock.md has the argument that no caller sleeps there for ever.
 use crate::bells::Bells;
 use std::alloc::Global;
 use std::sync::Wait;

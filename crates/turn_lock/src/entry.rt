@@ -1,8 +1,8 @@
-/// An entry of the history, of which the lock knows all but `what`. No value of it is made.
+/// An entry of the history. The lock knows all of it except `what`. No value of this type is made.
 pub struct Entry<W> {
     /// The number of the caller that published it.
     pub by: u32,
-    /// How many entries of this caller stand before it.
+    /// The number of this caller's entries before it.
     pub seq: u32,
     /// The display after it, from 1 to 63.
     pub display: u64,

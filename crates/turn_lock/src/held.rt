@@ -12,7 +12,7 @@ use crate::lock::TurnLock;
 use crate::pass::Pass;
 use std::marker::Brand;
 
-/// The value, while a pass has its turn. It has to be spent by `leave`.
+/// The value, while a pass has its turn. `leave` has to be called.
 pub struct Held<'a, K: Kept> {
     pub(crate) lock: &'a TurnLock<K>,
     pub(crate) pass: &'a mut Pass<K>,
@@ -20,7 +20,7 @@ pub struct Held<'a, K: Kept> {
 }
 
 impl<'a, K: Kept> Held<'a, K> {
-    /// Publishes the entry that the value tells beyond the history.
+    /// Publishes the entry that the value has after those of the history.
     pub fn publish(&mut self)
         requires own { HasTurnIn (lock_of self.old) (pass_of self.old) }
         requires adds { AddsNext (K.entries (value_of self.old)) (view (pass_of self.old)) }

@@ -1,15 +1,15 @@
 ghost use Rattle.std.specs.Prelude.{◌≡◌, ℕ, ◌<◌, ◌≤◌, ◌^◌, List, Option, length};
 
-/// The value under the lock. It tells a history: a list of entries.
+/// The value under the lock. It determines a history: a list of entries.
 pub trait Kept {
     ghost use Rattle.turn_lock.specs.declared.entry.Entry.{Entry};
     ghost use Rattle.turn_lock.specs.declared.seal.Seal.{Seal};
     ghost use Rattle.turn_lock.specs.History.{word_of};
 
-    /// What an entry says beside what the lock knows of it.
+    /// The content of an entry beyond the fields that the lock knows.
     type What;
 
-    /// What a seal says beside the caller's number.
+    /// The content of a seal beyond the caller's number.
     type Stop;
 
     // The display before the first entry.
@@ -22,8 +22,8 @@ pub trait Kept {
 
     ghost seal: { Self → Option (Seal Self.Stop) };
 
-    /// The word of the history: 64 times the number of entries, plus the display after the last
-    /// one, or the display before the first where there is none.
+    /// The word of the history: 64 times the number of entries, plus the display after the last one, or
+    /// the display at the start if there is none.
     fn front(&self) -> u64
         requires { length (entries self.now) ≤ 2 ^ 57 }
         ensures word { result ≡ word_of before (entries self.now) }

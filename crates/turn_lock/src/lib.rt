@@ -1,4 +1,4 @@
-//! A ticket lock that carries one history: who enters finds all that was published, and adds to it.
+//! A ticket lock with one history: a caller that enters sees all entries that were published, and adds one.
 #![tactic(auto)]
 
 mod atomic_steps;

@@ -95,7 +95,7 @@ impl<K: Kept> TurnLock<K> {
         Pass { place }
     }
 
-    /// Takes in another pass: the first pass then knows the longer history of both.
+    /// Joins another pass: the first pass then knows the longer history of both.
     pub fn join(&self, p: &mut Pass<K>, q: Pass<K>)
         requires own { RestsIn self.now p.old }
         requires first { IsFirst (view p.old).role }
@@ -151,7 +151,7 @@ impl<K: Kept> TurnLock<K> {
         self.board.shared.load::<CompareJoined>(&mut p.place, NEXT);
     }
 
-    /// Waits for this pass's turn, and gives it the value.
+    /// Waits for this pass's turn and returns the value.
     pub fn enter<'a, R: Wait>(&'a self, rt: &R, p: &'a mut Pass<K>) -> Held<'a, K>
         requires { RestsIn self.now p.old }
         ensures lock { name (lock_of result) ≡ name self.now }
@@ -256,7 +256,7 @@ impl<K: Kept> TurnLock<K> {
         self.bells.announced(ticket)
     }
 
-    /// The word of the history, which the pass has read then: it doesn't wait.
+    /// Reads the word of the history without waiting.
     pub fn front(&self, p: &mut Pass<K>) -> u64
         requires { RestsIn self.now p.old }
         ensures own { RestsIn self.now p.new }
@@ -274,7 +274,7 @@ impl<K: Kept> TurnLock<K> {
         self.board.shared.load::<LoadFront>(&mut p.place, FRONT)
     }
 
-    /// The value, once all other passes were taken in.
+    /// Closes the lock and returns the value, when all other passes have been joined.
     pub fn close(self, p: Pass<K>) -> K
         requires own { RestsIn self p }
         requires first { IsFirst (view p).role }

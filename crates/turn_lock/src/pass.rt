@@ -1,7 +1,7 @@
 use crate::board::Place;
 use crate::kept::Kept;
 
-/// What a caller brings to the lock: a token of no bytes, which tells what the caller knows.
+/// The pass of a caller: a token without bytes, for what the caller knows of the history.
 #[derive(Drop)]
 pub struct Pass<K: Kept> {
     pub(crate) place: Place<K>,

@@ -1,4 +1,4 @@
-/// The mark that the history has stopped, which the value under the lock may tell.
+/// The mark that the history has stopped. The value under the lock may have one.
 #[derive(Drop)]
 pub struct Seal<Z> {
     /// The number of the caller that stopped it.

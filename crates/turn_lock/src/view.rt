@@ -1,10 +1,10 @@
-//! What the passes of a lock know. No value of these types is made: in the definitions a number here
-//! has no greatest value.
+//! The knowledge of the passes of a lock, for proofs. No value of these types is made; in the
+//! definitions the numbers have no greatest value.
 use crate::entry::Entry;
 use crate::seal::Seal;
 use std::collections::LinkedList;
 
-/// What a pass knew when the first pass took it in.
+/// The knowledge of a pass when the first pass joined it.
 pub struct Joined<W, Z> {
     pub number: u32,
     pub seen: LinkedList<Entry<W>>,
@@ -17,17 +17,17 @@ pub struct Joined<W, Z> {
     pub beside_read: LinkedList<Entry<W>>,
 }
 
-/// Whose pass it is.
+/// The kind of a pass.
 pub enum Role<W, Z> {
     /// The first pass: the numbers that it made, and the passes that it took in, newest first.
     First(LinkedList<u32>, LinkedList<Joined<W, Z>>),
     /// A pass with a number.
     Caller(u32),
-    /// A pass that was taken in.
+    /// A pass that was joined.
     Spent,
 }
 
-/// How far a pass is on its way through the lock. Tickets are counted without end.
+/// The place of a pass in the lock. Tickets are counted without end.
 pub(crate) enum Stage<W> {
     Idle,
     /// It has this ticket.
@@ -36,7 +36,7 @@ pub(crate) enum Stage<W> {
     Has(u64, LinkedList<Entry<W>>),
 }
 
-/// What a pass knows.
+/// The knowledge of a pass.
 pub struct View<W, Z> {
     pub role: Role<W, Z>,
     pub stage: Stage<W>,

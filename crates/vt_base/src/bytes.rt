@@ -4,7 +4,7 @@ use crate::NoMemory;
 use std::alloc::Global;
 use std::marker::Model;
 
-/// A list of bytes with room for more: appending within the room takes no memory.
+/// A list of bytes with spare room: appending within the room takes no memory.
 #[derive(Debug, Drop)]
 pub struct Bytes {
     items: Vec<u8>,
@@ -41,7 +41,7 @@ impl Bytes {
         Ok(Bytes { items, room: n })
     }
 
-    /// No bytes, and no room. It takes no memory.
+    /// No bytes and no room. This call takes no memory.
     pub fn new(alloc: Global) -> Bytes
         ensures bytes { result.bytes ≡ [] }
         ensures room { result.room ≡ 0 }
@@ -64,7 +64,7 @@ impl Bytes {
         self.room
     }
 
-    /// Adds the bytes of `b` at the end, in the room that is there.
+    /// Adds the bytes of `b` at the end. They must fit the room.
     pub fn append(&mut self, b: &[u8])
         requires { length b.now ≤ self.old.room }
         ensures bytes { self.new.bytes ≡ self.old.bytes ++ b.now }
@@ -76,7 +76,7 @@ impl Bytes {
         self.room -= b.len();
     }
 
-    /// Adds a byte at the end, in the room that is there.
+    /// Adds a byte at the end. There must be room for it.
     pub fn push(&mut self, b: u8)
         requires { 0 < self.old.room }
         ensures bytes { self.new.bytes ≡ self.old.bytes ++ b ∷ [] }
@@ -88,7 +88,7 @@ impl Bytes {
         self.room -= 1;
     }
 
-    /// Takes away all bytes after the first `n`; they leave their room.
+    /// Removes all bytes after the first `n`. The room grows by their number.
     pub fn truncate(&mut self, n: usize)
         ensures bytes { self.new.bytes ≡ take n self.old.bytes }
         ensures room { self.new.room + length self.new.bytes ≡ self.old.room + length self.old.bytes }
@@ -99,7 +99,7 @@ impl Bytes {
         }
     }
 
-    /// Makes room for at least `n` more bytes. Where they fit already it takes no memory.
+    /// Makes room for at least `n` more bytes. If they fit already, it takes no memory.
     pub fn grow(&mut self, alloc: Global, n: usize) -> Result<(), NoMemory>
         ensures bytes { self.new.bytes ≡ self.old.bytes }
         ensures ok { OnOk result (self.new.room ≡ max self.old.room n) }

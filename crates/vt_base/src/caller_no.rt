@@ -30,7 +30,7 @@ impl CallerNo {
     /// The first keyboard.
     pub const KEYBOARD: CallerNo = CallerNo { n: 0 };
 
-    /// The caller of this number, where there is one.
+    /// The caller of this number, if there is one.
     pub fn new(n: u16) -> Option<CallerNo>
         ensures { result ≡ in_range 0 greatest_caller n }
     {
@@ -40,7 +40,7 @@ impl CallerNo {
         Some(CallerNo { n: n as u8 })
     }
 
-    /// The caller of a number that is known to be one's.
+    /// The caller of a number that is known to be in the range.
     pub fn numbered(n: u16) -> CallerNo
         requires { n ≤ 67 }
         ensures { result ≡ n }
@@ -48,7 +48,7 @@ impl CallerNo {
         CallerNo { n: n as u8 }
     }
 
-    /// Nothing is done: the range of the number is known from here on.
+    /// Does nothing. It is called for its clause: the number is in its range.
     pub fn stays_in_range(self)
         ensures { self ≤ 67 }
     {}
@@ -78,7 +78,7 @@ impl CallerNo {
         }
     }
 
-    /// Which keyboard this is, where it is one.
+    /// The number of this keyboard, or None if the caller is a process.
     pub fn keyboard_no(self) -> Option<u8>
         ensures number { result ≡ keyboard_of self }
         ensures high { IfSome result (λ k. k < keyboards) }
@@ -93,7 +93,7 @@ impl CallerNo {
         }
     }
 
-    /// All callers, rising: the first keyboard, the processes, and the further keyboards.
+    /// All callers in rising order: the first keyboard, the processes, and the other keyboards.
     pub fn all() -> [CallerNo; CALLERS]
         ensures { result ≡ range_with_len 0 callers }
     {
@@ -104,7 +104,7 @@ impl CallerNo {
         all
     }
 
-    /// All keyboards, rising.
+    /// All keyboards in rising order.
     pub fn keyboards() -> [CallerNo; KEYBOARDS]
         ensures { result ≡ map keyboard_caller (range_with_len 0 keyboards) }
     {
@@ -116,7 +116,7 @@ impl CallerNo {
         ]
     }
 
-    /// All processes, rising.
+    /// All processes in rising order.
     pub fn processes() -> [CallerNo; PROCESSES]
         ensures { result ≡ range_with_len 1 processes }
     {

@@ -25,7 +25,7 @@ impl Model for ConsoleNo {
 }
 
 impl ConsoleNo {
-    /// The console of this number, where there is one.
+    /// The console of this number, if there is one.
     pub fn new(n: u16) -> Option<ConsoleNo>
         ensures { result ≡ in_range 1 consoles n }
     {
@@ -35,7 +35,7 @@ impl ConsoleNo {
         Some(ConsoleNo { n: n as u8 })
     }
 
-    /// The console of a number that is known to be one's.
+    /// The console of a number that is known to be in the range.
     pub fn numbered(n: u16) -> ConsoleNo
         requires low { 1 ≤ n }
         requires high { n ≤ 63 }
@@ -44,7 +44,7 @@ impl ConsoleNo {
         ConsoleNo { n: n as u8 }
     }
 
-    /// Nothing is done: the range of the number is known from here on.
+    /// Does nothing. It is called for its clause: the number is in its range.
     pub fn stays_in_range(self)
         ensures low { 1 ≤ self }
         ensures high { self ≤ 63 }
@@ -59,7 +59,7 @@ impl ConsoleNo {
         u16::from(self.n)
     }
 
-    /// All consoles, rising.
+    /// All consoles in rising order.
     pub fn all() -> [ConsoleNo; CONSOLES]
         ensures { result ≡ range_with_len 1 consoles }
     {

@@ -1,10 +1,10 @@
-//! Numbers as words spell them.
+//! Decimal numbers in words.
 ghost use Rattle.std.specs.Prelude.{◌≡◌, ◌≤◌, decimal, IfSome, IfNone};
 ghost use Rattle.std.specs.Bool.{OnFalse, OnTrue};
 ghost use Rattle.vt_base.specs.Decimal.{IsNoNumber, IsPlain, IsNoNumberTo};
 
-/// The number, at most `most`, that the word spells in digits, without sign and without leading
-/// zeros.
+/// The number of at most `most` that the word is in decimal digits, without a sign and without
+/// leading zeros; None if it isn't one.
 pub fn parse_decimal(word: &[u8], most: u64) -> Option<u64>
     ensures found { IfSome result (λ n. (n ≤ most) × (decimal n ≡ word.now)) }
     ensures none { IfNone result (IsNoNumberTo most word.now) }

@@ -16,7 +16,7 @@ pub enum Errno {
     Nxio,
     /// EBADF: the descriptor isn't open.
     Badf,
-    /// EAGAIN: nothing is there.
+    /// EAGAIN: there is nothing to take.
     Again,
     /// EBUSY: in use.
     Busy,
@@ -48,7 +48,7 @@ impl Errno {
         }
     }
 
-    /// The number that Linux gives it.
+    /// Its number in Linux.
     pub fn number(self) -> u16
         ensures { result ≡ number_of self }
     {

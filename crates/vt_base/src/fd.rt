@@ -24,7 +24,7 @@ impl Model for Fd {
 }
 
 impl Fd {
-    /// The descriptor of this number, where there is one.
+    /// The descriptor of this number, if there is one.
     pub fn new(n: u16) -> Option<Fd>
         ensures { result ≡ in_range 0 (descriptors - 1) n }
     {
@@ -34,7 +34,7 @@ impl Fd {
         Some(Fd { n: n as u8 })
     }
 
-    /// The descriptor of a number that is known to be one's.
+    /// The descriptor of a number that is known to be in the range.
     pub fn numbered(n: u16) -> Fd
         requires { n ≤ 15 }
         ensures { result ≡ n }
@@ -42,7 +42,7 @@ impl Fd {
         Fd { n: n as u8 }
     }
 
-    /// Nothing is done: the range of the number is known from here on.
+    /// Does nothing. It is called for its clause: the number is in its range.
     pub fn stays_in_range(self)
         ensures { self ≤ 15 }
     {}

@@ -6,7 +6,7 @@ use crate::Errno;
 use std::error::Error;
 use std::fmt;
 
-/// A number or a state isn't one that the call takes; nothing was changed.
+/// The call does not take this number or this state; nothing was changed.
 #[derive(Clone, Copy, Debug, PartialEq, Eq)]
 pub struct Inval;
 

@@ -4,12 +4,12 @@ ghost use Rattle.vt_base.specs.Limits.{callers, consoles, descriptors, keyboards
 ghost use Rattle.vt_base.specs.Signals.{WithAddsOne};
 ghost use Rattle.vt_base.specs.declared.limits.TheConstants.{CALLERS, CONSOLES, DESCRIPTORS, KEYBOARDS, PIECE_BYTES, PROCESSES, SIGNALS};
 
-/// A set with a signal has it, and else what it had.
+/// A set with a signal added has that signal and its earlier ones, and no other.
 pub fn with_adds_one()
     ensures { WithAddsOne }
 {}
 
-/// The limits in the code are those of the definitions.
+/// The limits in the code equal those of the definitions.
 pub fn limits_are_kept()
     ensures consoles { CONSOLES ≡ consoles }
     ensures signals { SIGNALS ≡ signals }

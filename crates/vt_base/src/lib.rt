@@ -1,5 +1,5 @@
-//! What every layer of the console shares: numbers and their limits, errors, byte texts, sizes, and
-//! the answer where memory ran out.
+//! Types that every layer shares: numbers and their limits, errors, byte strings, sizes, and the
+//! error for memory that ran out.
 #![tactic(auto)]
 
 mod bytes;

@@ -1,24 +1,24 @@
-//! How many there are of each thing, and the longest piece of bytes. The numbers stand in
-//! `specs/Limits.antt` too, and contracts tell them from there.
+//! How many there are of each thing, and the longest piece of bytes. Contracts use the same numbers
+//! from `specs/Limits.antt`.
 
-/// Consoles, whose numbers are from 1 to this one.
+/// The number of consoles. Their numbers begin with 1.
 pub const CONSOLES: usize = 63;
 
-/// Signals, whose numbers are from 1 to this one.
+/// The number of signals. Their numbers begin with 1.
 pub const SIGNALS: usize = 64;
 
-/// Processes, whose numbers as callers are from 1 to this one.
+/// The number of processes. Their numbers as callers begin with 1.
 pub const PROCESSES: usize = 64;
 
-/// Keyboards, which are numbered from 0 on: the first is the caller 0, and keyboard k the caller
-/// 64 + k.
+/// The number of keyboards, which are numbered from 0: keyboard 0 is caller 0, and every other
+/// keyboard k is caller 64 + k.
 pub const KEYBOARDS: usize = 4;
 
-/// Callers: the keyboards and the processes.
+/// The number of callers: keyboards and processes.
 pub const CALLERS: usize = 68;
 
-/// Descriptors of a process, whose numbers are from 0 on.
+/// The number of descriptors of a process. Their numbers begin with 0.
 pub const DESCRIPTORS: usize = 16;
 
-/// The bytes of the longest write, of the longest read and of a full input queue.
+/// The most bytes of a write, of a read, and of an input queue.
 pub const PIECE_BYTES: usize = 4_096;

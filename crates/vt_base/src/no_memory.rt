@@ -7,7 +7,7 @@ use std::error::Error;
 use std::io::ErrorKind;
 use std::{fmt, io};
 
-/// Memory ran out. Only a call that takes the allocator answers so.
+/// Memory ran out. Only a call that takes the allocator returns this.
 #[derive(Clone, Copy, Debug, PartialEq, Eq)]
 pub struct NoMemory;
 

@@ -3,7 +3,7 @@ ghost use Rattle.std.specs.Prelude.{◌≡◌, ◌<◌, ◌≤◌, ◌+◌, [], 
 use arrayvec::ArrayVec;
 use std::marker::Model;
 
-/// A list of at most `MOST` items, which lie in the value itself: no call takes memory.
+/// A list of at most `MOST` items, stored in the value itself: no call takes memory.
 #[derive(Debug, Drop)]
 pub struct ShortList<T, const MOST: usize> {
     items: ArrayVec<T, MOST>,
@@ -18,7 +18,7 @@ impl<T, const MOST: usize> Model for ShortList<T, MOST> {
 }
 
 impl<T: Default + Drop, const MOST: usize> ShortList<T, MOST> {
-    /// No items yet.
+    /// An empty list.
     pub fn new() -> ShortList<T, MOST>
         ensures { result ≡ [] }
     {
@@ -27,7 +27,7 @@ impl<T: Default + Drop, const MOST: usize> ShortList<T, MOST> {
         }
     }
 
-    /// Takes all items away.
+    /// Removes all items.
     pub fn clear(&mut self)
         ensures { self.new ≡ [] }
     {
@@ -67,7 +67,7 @@ impl<T: Copy, const MOST: usize> ShortList<T, MOST> {
 }
 
 impl<T: Copy + Default + Drop, const MOST: usize> ShortList<T, MOST> {
-    /// These items.
+    /// A list of these items.
     pub fn of(items: &[T]) -> ShortList<T, MOST>
         requires { length items.now ≤ MOST }
         ensures { result ≡ items.now }

@@ -5,7 +5,7 @@ use crate::{SIGNALS, Signal};
 use bitflags::{Flag, Flags};
 use std::marker::Model;
 
-/// A set of signals, of which contracts see the number whose bit s - 1 stands for signal s.
+/// A set of signals. Contracts see it as a number: bit s - 1 is 1 if signal s is in the set.
 #[derive(Clone, Copy, Debug, PartialEq, Eq)]
 pub struct SigSet {
     bits: u64,
@@ -47,14 +47,14 @@ impl Flags for SigSet {
 }
 
 impl SigSet {
-    /// No signal.
+    /// The empty set.
     pub fn empty() -> SigSet
         ensures { result ≡ 0 }
     {
         SigSet { bits: 0 }
     }
 
-    /// The set with the signal.
+    /// The set with the signal added.
     pub fn with(self, s: Signal) -> SigSet
         ensures { result ≡ with_signal self s }
     {
@@ -77,7 +77,7 @@ impl SigSet {
         self.bits
     }
 
-    /// The set that is this number.
+    /// The set of a number.
     pub fn from_bits(bits: u64) -> SigSet
         ensures { result ≡ bits }
     {

@@ -24,7 +24,7 @@ impl Model for Signal {
 }
 
 impl Signal {
-    /// The signal of this number, where there is one.
+    /// The signal of this number, if there is one.
     pub fn new(n: u16) -> Option<Signal>
         ensures { result ≡ in_range 1 signals n }
     {
@@ -34,7 +34,7 @@ impl Signal {
         Some(Signal { n: n as u8 })
     }
 
-    /// The signal of a number that is known to be one's.
+    /// The signal of a number that is known to be in the range.
     pub fn numbered(n: u16) -> Signal
         requires low { 1 ≤ n }
         requires high { n ≤ 64 }
@@ -43,7 +43,7 @@ impl Signal {
         Signal { n: n as u8 }
     }
 
-    /// Nothing is done: the range of the number is known from here on.
+    /// Does nothing. It is called for its clause: the number is in its range.
     pub fn stays_in_range(self)
         ensures low { 1 ≤ self }
         ensures high { self ≤ 64 }

@@ -7,7 +7,7 @@ use std::marker::Model;
 pub struct Attr {
     /// The colour of the character, below 16.
     pub fg: u8,
-    /// The colour of the ground, below 8.
+    /// The colour of the background, below 8.
     pub bg: u8,
     pub intensity: Intensity,
     pub italic: bool,

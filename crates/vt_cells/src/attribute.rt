@@ -30,7 +30,7 @@ pub fn erase_byte(a: &Attr) -> u8
     byte_of(vga(a.bg), vga(a.fg))
 }
 
-/// The attribute byte with the colours of character and ground exchanged.
+/// The attribute byte with the colours of character and background exchanged.
 #[tactic(auto, using(crate::proofs::Bits::bits))]
 pub fn swapped(b: u8) -> u8
     ensures { result ≡ with_colours_swapped b }

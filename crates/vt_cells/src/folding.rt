@@ -1,8 +1,8 @@
 ghost use Rattle.std.specs.Prelude.{◌≡◌, ◌<◌, if◌then◌else◌};
 ghost use Rattle.vt_cells.specs.Colours.{fold_bg, fold_fg, parts_above};
 
-/// The colour of a character that comes nearest to red `r`, green `g` and blue `b`, and whether it
-/// is bold. This project's own.
+/// The text colour nearest to red `r`, green `g` and blue `b`, and whether it is bold. This
+/// project's own.
 pub fn fold_fg(r: u8, g: u8, b: u8) -> (u8, bool)
     ensures folded { result ≡ fold_fg r g b }
     ensures colour { result.0 < 8 }
@@ -15,7 +15,7 @@ pub fn fold_fg(r: u8, g: u8, b: u8) -> (u8, bool)
     (hue, largest > 0xAA)
 }
 
-/// The colour of a ground that comes nearest. This project's own.
+/// The background colour nearest to red `r`, green `g` and blue `b`. This project's own.
 pub fn fold_bg(r: u8, g: u8, b: u8) -> u8
     ensures folded { result ≡ fold_bg r g b }
     ensures colour { result < 8 }

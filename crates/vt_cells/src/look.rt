@@ -1,7 +1,8 @@
 use std::marker::Model;
 
-/// The colours that stand for what a text cell can't show (console_codes(4), "Linux Console Private
-/// CSI Sequences"), counted as those of [`crate::Attr`] and below 16.
+/// The colours that show underline and half-bright, which a text cell can't show otherwise
+/// (console_codes(4), "Linux Console Private CSI Sequences"). They are below 16, counted as those
+/// of [`crate::Attr`].
 #[derive(Clone, Copy, Debug, PartialEq, Eq)]
 pub struct Look {
     /// The colour of underlined characters.

@@ -24,8 +24,8 @@ static PLAIN: [bool; 160] = [
     Y, Y, Y, Y, Y, Y, Y, N, N, N, N, N, N, N, N, N, // 2400
 ];
 
-/// Whether a code is of a block whose codes all take one column: most of what text has but Han
-/// characters. It asks less than [`crate::columns`].
+/// Whether the code's block has only codes that take one column. Most text except Han characters
+/// is such. It is faster than [`crate::columns`].
 #[inline(always)]
 pub fn is_plain(code: u32) -> bool
     ensures { result ≡ is_plain code }

@@ -11,7 +11,7 @@ pub const HALF: u32 = 0x11_0000;
 const SOFT_HYPHEN: u32 = 0xAD;
 
 /// How many columns of a screen a character takes, by the kit's table of widths (Unicode Standard
-/// Annex 11): one with a context of its own takes what it takes alone.
+/// Annex 11). The characters next to it make no difference.
 #[inline(always)]
 #[tactic(auto, using(crate::proofs::Widths::widths))]
 pub fn columns(code: u32) -> u8

@@ -4,7 +4,7 @@ ghost use Rattle.vt_chars.specs.CharMap.{char_of, font_place};
 use crate::graphics::graphic;
 use std::marker::Model;
 
-/// The four tables that give a byte its character (console_codes(4), "Character sets"): 0 is
+/// The four tables that map a byte to a character (console_codes(4), "Character sets"): 0 is
 /// Latin-1, 1 the VT100 graphics, 2 the null mapping to the font, and 3 the user's own.
 #[derive(Debug, Drop)]
 pub struct CharMap {
@@ -23,7 +23,7 @@ impl Model for CharMap {
 }
 
 impl CharMap {
-    /// The user's table starts as the null mapping.
+    /// The tables of a start: the user's table is the null mapping.
     pub fn start() -> CharMap
         ensures bytes { length result ≡ 256 }
         ensures null { EachIndex result (λ b. slice_index result b ≡ font_place b) }

@@ -1,18 +1,18 @@
 ghost use Rattle.std.specs.Prelude.{◌≡◌, ◌≤◌, [], ◌∷◌, ◌++◌, length, ◌&&◌};
 ghost use Rattle.vt_chars.specs.Utf8.{decoding_of, is_second, is_tail, within};
 
-/// What bytes are in UTF-8.
+/// What a string of bytes is in UTF-8.
 #[derive(Debug, Clone, Copy, PartialEq, Eq)]
 pub enum Decoded {
     /// A character, by its code point.
     Character(u32),
-    /// The beginning of a character.
+    /// A proper prefix of a character.
     Unfinished,
     /// Neither.
     Malformed,
 }
 
-/// What `text` with one byte more is. The answer takes the same time for each text.
+/// What `text` with one byte more is, in the same time for each text.
 pub fn decode(text: &[u8], b: u8) -> Decoded
     ensures { result ≡ decoding_of (text.now ++ b ∷ []) }
 {
@@ -25,7 +25,7 @@ pub fn decode(text: &[u8], b: u8) -> Decoded
     }
 }
 
-/// What `text` is. The answer takes the same time for each text.
+/// What `text` is, in the same time for each text.
 pub fn decode_all(text: &[u8]) -> Decoded
     ensures { result ≡ decoding_of text.now }
 {

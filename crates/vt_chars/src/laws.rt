@@ -6,17 +6,18 @@ pub fn unfinished_begins()
     ensures { UnfinishedBegins }
 {}
 
-/// How a byte at its end changes the characters of a text.
+/// How one more byte at the end of a text changes its characters.
 pub fn byte_more()
     ensures { ByteMore }
 {}
 
-/// A byte below 80 parts a text into characters before it and after it.
+/// A byte below 80 is a character of its own: a text's characters are those before it, it, and those
+/// after it.
 pub fn ascii_cuts()
     ensures { AsciiCuts }
 {}
 
-/// No byte of a text is in two characters, and none is in none.
+/// Each byte of a text is in exactly one of its characters.
 pub fn characters_are_all()
     ensures { CharactersAreAll }
 {}

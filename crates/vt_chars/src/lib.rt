@@ -1,4 +1,4 @@
-//! Characters: UTF-8 read byte by byte, and the tables that give each byte its character.
+//! Characters: UTF-8 read byte by byte, and the tables that map each byte to a character.
 #![tactic(auto)]
 
 mod char_map;

@@ -32,7 +32,7 @@ impl Model for Utf8 {
 }
 
 impl Utf8 {
-    /// Nothing read yet.
+    /// A reader that has read nothing.
     pub fn new() -> Utf8
         ensures { result ≡ [] }
     {

@@ -1,4 +1,4 @@
-//! The check of a journal, and a replay of it that a witness sees.
+//! The check of a journal, and a replay of it for a witness.
 ghost use Rattle.std.specs.Prelude.{◌≡◌, ◌↔◌, ◌≤◌, List, [], length, IfOk};
 ghost use Rattle.session_order.specs.Ends.{Setup};
 ghost use Rattle.session_order.specs.Sessions.{ShowsTapes, setup_of, start_of};
@@ -23,7 +23,7 @@ use vt_events::Entry;
 use vt_journal::{Journal, Limits};
 use vt_world::legal_grows;
 
-/// Whether the journal is one that the session can have: the verdict on it.
+/// The verdict on the journal.
 pub fn check(alloc: Global, s: &Session, j: &Journal) -> Result<Verdict, NoMemory>
     ensures judges { IfOk result (Judges (setup_of s.now) j.now.entries j.now.tail) }
     ensures one { IfOk result (λ v. (other : Verdict)
@@ -45,8 +45,8 @@ pub fn check(alloc: Global, s: &Session, j: &Journal) -> Result<Verdict, NoMemor
     Ok(verdict)
 }
 
-/// The verdict on the journal, as `check` has it. The witness, which has seen nothing yet, sees each entry
-/// up to the first that fails.
+/// The verdict on the journal, the same as that of `check`. The witness, which has seen nothing yet, is shown
+/// each entry before the first that fails.
 pub fn watch<W: Witness>(
     alloc: Global,
     s: &Session,

@@ -1,7 +1,7 @@
-//! The laws of verdicts.
+//! A law of verdicts.
 ghost use Rattle.vt_check.specs.Verdicts.{LegalIsRight, OneVerdict, VerdictIsRight};
 
-/// There is one verdict on a journal; it is legal exactly where the journal is right.
+/// There is one verdict on a journal; it is legal exactly if the journal is right.
 pub fn one_verdict()
     ensures one { OneVerdict }
     ensures legal { LegalIsRight }

@@ -1,4 +1,4 @@
-//! The verdict on a journal: it is a legal history of a session, or where it fails first and why.
+//! The verdict on a journal: it is a legal history of a session, or the first entry that fails and why.
 #![tactic(auto)]
 
 mod checking;

@@ -8,18 +8,18 @@ use vt_base::NoMemory;
 use vt_events::Entry;
 use vt_world::World;
 
-/// Who sees the entries of a journal while they are judged, each with the console that it leaves: for
-/// [`watch`](crate::watch).
+/// A witness for [`watch`](crate::watch): it is shown each entry of a journal while it is judged, with the
+/// machine after it.
 pub trait Witness {
     ghost use Rattle.std.specs.Prelude.{List};
     ghost use Rattle.vt_events.specs.declared.entry.Entry.{Entry};
     ghost use Rattle.vt_world.specs.State.{WorldState};
 
-    /// What seeing these entries, from this console on, may make of it. An implementation says here what
-    /// its own callers learn of it.
+    /// The relation of the witness before and after it sees these entries, from this machine on. An
+    /// implementation states here what its callers may use.
     ghost saw: { Self → WorldState → List Entry → Self → Type 0 };
 
-    /// Sees the entry at this place, and the console behind it.
+    /// Takes the entry at this place, and the machine after it.
     fn see(
         &mut self,
         alloc: Global,

@@ -6,7 +6,7 @@ use crate::form::Form;
 use vt_base::Bytes;
 use vt_grid::Grid;
 
-/// Appends a byte for each cell: its character, or `?` where it has none of one byte (vcs(4)).
+/// Appends a byte for each cell: its character, or `?` if that is more than one byte (vcs(4)).
 pub fn vcs(g: &Grid, out: &mut Bytes)
     requires { cell_count g.now ≤ out.old.room }
     ensures bytes { out.new.bytes ≡ out.old.bytes ++ vcs_bytes g.now }

@@ -6,7 +6,7 @@ ghost use Rattle.vt_dump.specs.Rows.{cell_text, is_shown};
 use vt_base::Bytes;
 use vt_cells::{Cell, HALF, swapped};
 
-/// What a dump says of a cell.
+/// How a dump writes a cell.
 #[derive(Clone, Copy)]
 pub(crate) enum Form {
     /// Its character in one byte.
@@ -19,7 +19,7 @@ pub(crate) enum Form {
     Text,
 }
 
-/// Appends a cell's bytes, in the room that is there.
+/// Appends a cell's bytes. They must fit the room.
 pub(crate) fn add_cell(form: Form, cell: Cell, out: &mut Bytes)
     requires { most_bytes form ≤ out.old.room }
     ensures bytes { out.new.bytes ≡ out.old.bytes ++ cell_bytes form cell }

@@ -14,8 +14,8 @@ const CELL_BYTES: usize = 4;
 /// The bytes of a row's text beside its cells.
 const FRAME_BYTES: usize = 3;
 
-/// The rows as text: each is `|`, its cells' characters in UTF-8, `|` and LF. A code that is a
-/// control's, or no character's, is shown as `?`, and a right half as nothing. This project's own.
+/// The rows as text: each is `|`, the characters of its cells in UTF-8, `|` and LF. A code of a control
+/// character or of no character is shown as `?`, and a right half as nothing. This project's own.
 pub fn text_rows(alloc: Global, g: &Grid) -> Result<Bytes, NoMemory>
     ensures { IfOk result (λ text. text.bytes ≡ rows_text g.now.cells) }
 {

@@ -3,11 +3,11 @@ ghost use Rattle.vt_events.specs.Charge.{charge_of, greatest_dump, greatest_repl
 
 use crate::Event;
 
-/// The bytes that every entry of a journal counts for. This project's own.
+/// The part of the charge that every entry of a journal has. This project's own.
 const ENTRY_BYTES: usize = 64;
 
-/// What the call counts for in a journal, in bytes: 64, the bytes that it holds, and the most bytes
-/// that its answer can have; at most the greatest u32. This project's own.
+/// The charge of the call in a journal, in bytes: 64, plus the bytes of the call, plus the most
+/// bytes that its answer can have; at most the greatest u32. This project's own.
 pub fn charge(e: &Event) -> u32
     ensures { result ≡ charge_of e.now }
 {

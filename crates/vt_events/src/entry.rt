@@ -5,7 +5,7 @@ use vt_base::CallerNo;
 #[derive(Debug, Drop)]
 pub struct Entry {
     pub caller: CallerNo,
-    /// How many calls this caller made before.
+    /// The number of calls that this caller made before.
     pub seq: u32,
     pub event: Event,
     pub reply: Reply,

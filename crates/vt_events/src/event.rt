@@ -4,8 +4,8 @@ ghost use Rattle.vt_events.specs.Plain.{plain_event, text};
 use std::alloc::Global;
 use vt_base::{Bytes, NoMemory};
 
-/// A call of a caller: each variant holds the words behind its name, in order. HH is a byte, B is
-/// bytes, and every other word is a number. FD is one of the caller's descriptors, which names the
+/// A call of a caller: each variant has the words after its name, in order. HH is a byte, B is
+/// bytes, and every other word is a number. FD is one of the caller's descriptors; it names the
 /// console that it was opened on.
 #[derive(Debug, Drop)]
 pub enum Event {
@@ -13,14 +13,13 @@ pub enum Event {
     Scan(u8),
     /// `exit`: the end of the caller.
     Exit,
-    /// `open N`: a descriptor for console N, or for the one in front where N is 0.
+    /// `open N`: a descriptor for console N, or for the console in front if N is 0.
     OpenCon(u16),
     /// `close FD`: the descriptor is given back (close(2)).
     CloseFd(u16),
     /// `write FD B`: the bytes B to the descriptor's console.
     Write(u16, Bytes),
-    /// `read FD M`: the first M bytes of the console's input, or all where there are fewer
-    /// (read(2)).
+    /// `read FD M`: the first M bytes of the console's input, or all if there are fewer (read(2)).
     ReadIn(u16, u16),
     /// `waitinput FD`: waits until the console has input. This project's own.
     WaitInput(u16),
@@ -32,7 +31,7 @@ pub enum Event {
     WaitEnd,
     /// `activate FD N`: a request to bring console N to the front (ioctl_console(2), VT_ACTIVATE).
     Activate(u16, u16),
-    /// `disallocate FD N`: frees console N, or all that are not in use where N is 0
+    /// `disallocate FD N`: frees console N, or all that are not in use if N is 0
     /// (ioctl_console(2), VT_DISALLOCATE).
     Disallocate(u16, u16),
     /// `openqry FD`: the lowest console that nobody has open (ioctl_console(2), VT_OPENQRY).
@@ -42,38 +41,38 @@ pub enum Event {
     GetState(u16),
     /// `resize FD R C`: R rows and C columns for the console (ioctl_console(2), VT_RESIZE).
     Resize(u16, u16, u16),
-    /// `lock FD`: no more switches (ioctl_console(2), VT_LOCKSWITCH).
+    /// `lock FD`: requests are ignored from now on (ioctl_console(2), VT_LOCKSWITCH).
     LockSwitch(u16),
-    /// `unlock FD`: switches again (ioctl_console(2), VT_UNLOCKSWITCH).
+    /// `unlock FD`: requests are taken again (ioctl_console(2), VT_UNLOCKSWITCH).
     UnlockSwitch(u16),
     /// `setkd FD M`: 0 shows text, 1 leaves the display to graphics (ioctl_console(2), KDSETMODE).
     SetKd(u16, u16),
-    /// `getkd FD`: which of the two it is (ioctl_console(2), KDGETMODE).
+    /// `getkd FD`: 0 or 1, as `setkd` set it (ioctl_console(2), KDGETMODE).
     GetKd(u16),
-    /// `setmode FD M W R A F`: who handles the switches of the descriptor's console, by the words of
-    /// a [`vt_base::VtMode`] (ioctl_console(2), VT_SETMODE).
+    /// `setmode FD M W R A F`: sets the mode of the descriptor's console to these words of a
+    /// [`vt_base::VtMode`] (ioctl_console(2), VT_SETMODE).
     SetMode(u16, u16, u16, u16, u16, u16),
     /// `getmode FD`: those words (ioctl_console(2), VT_GETMODE).
     GetMode(u16),
     /// `reldisp FD A`: 1 lets the display go, 0 keeps it, 2 acknowledges having got it
     /// (ioctl_console(2), VT_RELDISP).
     RelDisp(u16, u16),
-    /// `setkb FD M`: what the console's keys give, from 0 for scan bytes to 4 for nothing
+    /// `setkb FD M`: the keyboard mode of the console, from 0 for scan bytes to 4 for nothing
     /// (ioctl_console(2), KDSKBMODE).
     SetKb(u16, u16),
     /// `getkb FD`: that mode (ioctl_console(2), KDGKBMODE).
     GetKb(u16),
-    /// `setmeta FD M`: the meta key sets the high bit by 3, and puts ESC before by 4
+    /// `setmeta FD M`: Meta sets the high bit if M is 3, and puts ESC before the byte if M is 4
     /// (ioctl_console(2), KDSKBMETA).
     SetMeta(u16, u16),
-    /// `getmeta FD`: which of the two it is (ioctl_console(2), KDGKBMETA).
+    /// `getmeta FD`: 3 or 4, as `setmeta` set it (ioctl_console(2), KDGKBMETA).
     GetMeta(u16),
-    /// `setled FD V`: the lights, which show the flags again by a V above 7 (ioctl_console(2),
-    /// KDSETLED).
+    /// `setled FD V`: sets the lights; if V is above 7, they show the flags again
+    /// (ioctl_console(2), KDSETLED).
     SetLed(u16, u16),
     /// `getled FD`: the lights (ioctl_console(2), KDGETLED).
     GetLed(u16),
-    /// `setflags FD V`: the keyboard flags, and 16 times those that a reset gives
+    /// `setflags FD V`: the keyboard flags, plus 16 times the flags after a reset
     /// (ioctl_console(2), KDSKBLED).
     SetFlags(u16, u16),
     /// `getflags FD`: both (ioctl_console(2), KDGKBLED).
@@ -96,8 +95,8 @@ pub enum Event {
     SetCode(u16, u16, u16),
     /// `getcode FD S`: that keycode (ioctl_console(2), KDGETKEYCODE).
     GetCode(u16, u16),
-    /// `accept FD S`: signal S comes to the caller at the key for it (ioctl_console(2),
-    /// KDSIGACCEPT).
+    /// `accept FD S`: KeyboardSignal sends signal S to the caller from now on
+    /// (ioctl_console(2), KDSIGACCEPT).
     Accept(u16, u16),
     /// `setmap FD B`: the console's own table of characters, two bytes for each of 256
     /// (ioctl_console(2), PIO_UNISCRNMAP).
@@ -108,17 +107,17 @@ pub enum Event {
     SetPal(u16, Bytes),
     /// `getpal FD`: the palette (ioctl_console(2), GIO_CMAP).
     GetPal(u16),
-    /// `dump K N`: the screen of console N, or of the one in front where N is 0: by 0 its bytes, by
-    /// 1 those with attributes (vcs(4)), by 2 its characters.
+    /// `dump K N`: the screen of console N, or of the console in front if N is 0: its bytes if K is 0,
+    /// bytes and attributes if K is 1 (vcs(4)), its code points if K is 2.
     Dump(u16, u16),
-    /// `signals`: the caller's pending signals, which are pending no more. This project's own.
+    /// `signals`: takes the caller's pending signals. This project's own.
     TakeSignals,
     /// `kill P S`: signal S to caller P (kill(2)).
     Kill(u16, u16),
 }
 
 impl Event {
-    /// The same call, with no room in its bytes.
+    /// A copy of the call, whose bytes have no spare room.
     pub fn copy(&self, alloc: Global) -> Result<Event, NoMemory>
         ensures { IfOk result (λ copy. copy ≡ plain_event self.now) }
     {

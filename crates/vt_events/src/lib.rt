@@ -1,5 +1,4 @@
-//! The calls that callers make on the console, the answers that they get, and the entries of a
-//! journal.
+//! The calls of callers on a machine, the answers, and the entries of a journal.
 #![tactic(auto)]
 
 mod charges;

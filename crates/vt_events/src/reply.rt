@@ -4,7 +4,7 @@ ghost use Rattle.vt_events.specs.Plain.{plain_reply};
 
 use vt_base::{Bytes, Errno, SigSet, VtMode};
 
-/// The answer that a call gets.
+/// The answer to a call.
 #[derive(Debug, Drop)]
 pub enum Reply {
     /// `ok`: the call is done.
@@ -20,25 +20,25 @@ pub enum Reply {
     },
     /// `bytes B`: bytes.
     Text(Bytes),
-    /// `mode M W R A F`: who handles the switches of a console (ioctl_console(2), VT_GETMODE).
+    /// `mode M W R A F`: the mode of a console (ioctl_console(2), VT_GETMODE).
     Mode(VtMode),
-    /// `act K V`: what a key does (ioctl_console(2), KDGKBENT).
+    /// `act K V`: the action of a key (ioctl_console(2), KDGKBENT).
     Act {
         /// The kind of its action.
         kind: u8,
         /// The action among those of its kind.
         value: u16,
     },
-    /// `wait`: the caller waits, and `waitend` tells how that ended.
+    /// `wait`: the caller waits. `waitend` returns how the wait ended.
     Wait,
-    /// `sigs N`: a set of signals, as the number whose bit s - 1 stands for signal s.
+    /// `sigs N`: a set of signals as a number: bit s - 1 is 1 if signal s is in the set.
     Sigs(SigSet),
     /// `err N`: why the call is refused.
     Err(Errno),
 }
 
 impl Reply {
-    /// The same answer, with its bytes in the room that is given; what that had is dropped.
+    /// A copy of the answer. Its bytes go into the room that is given, whose own bytes are dropped.
     pub fn copy_into(&self, room: Bytes) -> Reply
         requires { length (text_of_reply self.now) ≤ room.room }
         ensures { plain_reply result ≡ plain_reply self.now }

@@ -3,13 +3,13 @@ ghost use Rattle.vt_explain.specs.declared.cert_error.CertError.TheVariants as e
 
 use vt_base::NoMemory;
 
-/// Why a certificate's text wasn't read.
+/// The error of reading a certificate's text.
 #[derive(Clone, Copy, Debug, PartialEq, Eq)]
 pub enum CertError {
-    /// It isn't the text of a certificate.
+    /// The text is not a certificate.
     Fault {
-        /// The first line that isn't of the form, counted from 1; the last line, where lines are
-        /// missing or too many.
+        /// The first line that isn't well formed, counted from 1, or the last line if there are too few or
+        /// too many lines.
         line: u32,
     },
     /// Memory ran out.

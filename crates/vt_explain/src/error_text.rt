@@ -1,4 +1,4 @@
-//! The error as a text, as the program `vt` tells it on err.
+//! The text of the error, as the program `vt` prints it on standard error.
 ghost use Rattle.std.specs.Prelude.{Some};
 ghost use Rattle.vt_explain.specs.ErrorTexts.{error_text};
 

@@ -5,9 +5,9 @@ use crate::HopWhy;
 pub enum Explained {
     /// The journal is legal: the certificate of its hops.
     Cert(Vec<HopWhy>),
-    /// It isn't.
+    /// The journal is not legal.
     Illegal {
-        /// The first entry that fails, as the verdict says it.
+        /// The first entry that fails, as in the verdict.
         index: u32,
         /// The number of the first reason there.
         why: u8,

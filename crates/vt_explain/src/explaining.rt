@@ -23,8 +23,7 @@ use vt_check::{Verdict, one_verdict, watch};
 use vt_journal::Journal;
 use vt_switch::acts_tell_one_thing;
 
-/// Why the display changed hands in the journal, hop by hop, where it is legal: the one certificate of
-/// its hops.
+/// The certificate of the journal's hops if the journal is legal, or its verdict.
 pub fn explain(alloc: Global, s: &Session, j: &Journal) -> Result<Explained, NoMemory>
     ensures judges { IfOk result
         (λ x. Judges (setup_of s.now) j.now.entries j.now.tail (verdict_of x)) }
@@ -47,8 +46,8 @@ pub fn explain(alloc: Global, s: &Session, j: &Journal) -> Result<Explained, NoM
     }
 }
 
-/// Whether the items are the certificate of the journal, where that is legal. It finds the certificate
-/// anew, and trusts no item.
+/// Whether the items are the certificate of the journal, if that is legal. It finds the certificate itself and
+/// trusts no item.
 pub fn accept(alloc: Global, s: &Session, j: &Journal, c: &[HopWhy]) -> Result<Judged, NoMemory>
     ensures accepts { IfOk result
         (Accepts (setup_of s.now) j.now.entries j.now.tail c.now) }

@@ -6,7 +6,7 @@ use vt_base::ConsoleNo;
 pub struct HopWhy {
     /// The index of the entry that made the hop.
     pub at: u32,
-    /// How many hops that entry made before.
+    /// The number of hops of that entry before this one.
     pub nth: u32,
     pub from: ConsoleNo,
     pub to: ConsoleNo,

@@ -1,4 +1,4 @@
-//! The laws of certificates.
+//! Laws of certificates.
 ghost use Rattle.vt_explain.specs.Accepting.{OneAcceptance};
 ghost use Rattle.vt_explain.specs.CertText.{OneCert, PrintedIsRead, ReadIsPrinted};
 ghost use Rattle.vt_explain.specs.Certificates.{CertificatesAreGood, CertificatesExplain, OneCertificate, OneFirstBad};
@@ -16,14 +16,15 @@ pub fn certificates_explain()
     acts_tell_one_thing();
 }
 
-/// There is one answer on a list of items.
+/// A list of items has one judgement.
 pub fn one_acceptance()
     ensures { OneAcceptance }
 {
     one_verdict();
 }
 
-/// A text says one thing as a certificate; what is printed is read again, and nothing else is.
+/// A text is one certificate or has one fault. Reading a printed certificate gives it again, and no other text is
+/// read as one.
 pub fn one_cert()
     ensures one { OneCert }
     ensures printed { PrintedIsRead }

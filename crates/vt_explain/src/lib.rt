@@ -1,5 +1,5 @@
-//! Why the display changed hands: a certificate for the hops of a journal, found and judged, and its
-//! text.
+//! Certificates: why the display changed hands in a journal, hop by hop. Finding, judging, printing and reading
+//! them.
 #![tactic(auto)]
 
 mod cert_error;

@@ -15,8 +15,8 @@ use vt_journal::cut_line;
 /// The greatest number of a line that a fault can name.
 const GREATEST_LINE: usize = 4_294_967_295;
 
-/// What the text says as a certificate, which is the one spelling of its items; or the number of its
-/// first line that isn't of the form, which is 4,294,967,295 for each line past that one.
+/// The items of the text, which have one spelling, or the number of the first line that isn't well formed, at most
+/// 4,294,967,295.
 pub fn read_cert(alloc: Global, text: &[u8]) -> Result<Vec<HopWhy>, CertError>
     ensures says { Reads result (CertSays text.now) }
     ensures one { (said : Result (List HopWhy) ℕ) → CertSays text.now said

@@ -11,7 +11,7 @@ use std::alloc::Global;
 use vt_base::{Bytes, CallerNo, NoMemory, Signal};
 use vt_journal::{add, add_next};
 
-/// The certificate's text (docs/EXPLAIN.md). What is printed is fit to be read again.
+/// The certificate's text (docs/EXPLAIN.md). It can be read again.
 pub fn print_cert(alloc: Global, c: &[HopWhy]) -> Result<Bytes, NoMemory>
     ensures text { IfOk result (λ text. text.bytes ≡ cert_text c.now) }
     ensures fit { OnOk result (All IsFit c.now) }

@@ -1,5 +1,5 @@
-//! What differs between two grids of one size, for whoever draws: the rows to draw anew, and the copy of
-//! what was drawn.
+//! Differences between two grids of one size, for a program that draws: the rows that have to be drawn
+//! again, and the copy of the grid that was drawn.
 ghost use Rattle.std.specs.Prelude.{◌≡◌, ◌<◌, ◌↔◌, IsTrue};
 ghost use Rattle.vt_grid.specs.Grid.{row_at};
 

@@ -93,8 +93,8 @@ impl Grid {
         self.store.fill_all(c);
     }
 
-    /// Moves the rows `top` to `bottom`, both included, up by `n`, or by their number where `n` is
-    /// more. The rows that come in are filled with `c`.
+    /// Moves the rows `top` to `bottom`, both included, up by `n`, or by their number if `n` is more. The
+    /// new rows are filled with `c`.
     pub fn scroll_up(&mut self, top: u8, bottom: u8, n: u16, c: Cell)
         requires order { top ≤ bottom }
         requires row { bottom < self.old.rows }
@@ -103,7 +103,7 @@ impl Grid {
         scroll_up_alone::<Brand>(self, top, bottom, n, c, Blank::new(1));
     }
 
-    /// Does what [`Grid::scroll_up`] does, and counts its steps, of which none is told for a cell.
+    /// [`Grid::scroll_up`] with a count of its steps.
     #[inline(always)]
     pub fn scroll_up_counted<L: Ledger>(
         &mut self,
@@ -121,7 +121,7 @@ impl Grid {
         self.store.scroll_up(top, bottom, n, c, steps);
     }
 
-    /// Does what [`Grid::scroll_up`] does, but down.
+    /// [`Grid::scroll_up`] in the other direction.
     pub fn scroll_down(&mut self, top: u8, bottom: u8, n: u16, c: Cell)
         requires order { top ≤ bottom }
         requires row { bottom < self.old.rows }
@@ -140,8 +140,8 @@ impl Grid {
         self.store.erase(y, x0, x1, c);
     }
 
-    /// Puts `n` cells `c` in at column `x`. The row's rest moves right, and what passes the end is
-    /// lost.
+    /// Inserts `n` cells `c` at column `x`. The rest of the row moves right, and the cells that pass the
+    /// end are lost.
     pub fn insert(&mut self, y: u8, x: u8, n: u16, c: Cell)
         requires row { y < self.old.rows }
         requires column { x < self.old.cols }
@@ -150,8 +150,7 @@ impl Grid {
         self.store.insert(y, x, n, c);
     }
 
-    /// Takes `n` cells out at column `x`. The row's rest moves left, and the end is filled with
-    /// `c`.
+    /// Deletes `n` cells at column `x`. The rest of the row moves left, and its end is filled with `c`.
     pub fn delete(&mut self, y: u8, x: u8, n: u16, c: Cell)
         requires row { y < self.old.rows }
         requires column { x < self.old.cols }
@@ -160,8 +159,8 @@ impl Grid {
         self.store.delete(y, x, n, c);
     }
 
-    /// Becomes `fresh`, with the old cell of row `y + skip` copied to row `y` where both are, and
-    /// gives the old grid.
+    /// Takes the size of `fresh`: cells of the old row `y + skip` are copied to row `y` if both have them.
+    /// Returns the old grid.
     pub fn resized_into(&mut self, fresh: Grid, skip: u8) -> Grid
         ensures grid { self.new ≡ resized_grid self.old fresh skip }
         ensures old { result ≡ self.old }
@@ -172,8 +171,8 @@ impl Grid {
         mem::replace(self, fresh)
     }
 
-    /// Does what [`Grid::resized_into`] does, but a character that the last column of `fresh` cuts
-    /// becomes a space.
+    /// [`Grid::resized_into`], except that a character that the last column of `fresh` cuts becomes a
+    /// space.
     pub fn resized_parted_into(&mut self, fresh: Grid, skip: u8) -> Grid
         ensures grid { self.new ≡ resized_grid (split_wide_rows fresh.cols self.old) fresh skip }
         ensures old { result ≡ self.old }

@@ -9,8 +9,8 @@ use crate::Grid;
 use vt_cells::{Cell, HALF};
 
 impl Grid {
-    /// Parts row `y` before column `x`: a character that stands on both sides of that border becomes
-    /// two spaces in its colours.
+    /// Splits row `y` before column `x`: a character with a half on each side becomes two spaces in its
+    /// colours.
     #[tactic(auto, using(crate::proofs::Narrow::parted_same))]
     pub fn part(&mut self, y: u8, x: u8)
         requires row { y < self.old.rows }
@@ -25,7 +25,7 @@ impl Grid {
         }
     }
 
-    /// Sets the cells from column `x` on, one for each byte, and parts what stood there in part.
+    /// Sets the cells from column `x` on, one for each byte. A character that is covered in part is split.
     #[inline(always)]
     pub fn draw_bytes(&mut self, y: u8, x: u8, bytes: &[u8], attr: u8)
         requires row { y < self.old.rows }
@@ -37,7 +37,8 @@ impl Grid {
         self.store.put_run(y, x, bytes, attr, true);
     }
 
-    /// Sets the cells from column `x` on, one for each plain code, and parts what stood there in part.
+    /// Sets the cells from column `x` on, one for each plain code. A character that is covered in part is
+    /// split.
     #[inline(always)]
     pub fn draw_plain(&mut self, y: u8, x: u8, codes: &[u32], attr: u8)
         requires plain { list_all is_plain codes.now ≡ true }
@@ -50,7 +51,7 @@ impl Grid {
         self.store.put_run(y, x, codes, attr, true);
     }
 
-    /// Sets the cells from column `x` on, one for each code, and parts what stood there in part.
+    /// Sets the cells from column `x` on, one for each code. A character that is covered in part is split.
     #[inline(always)]
     pub fn draw_codes(&mut self, y: u8, x: u8, codes: &[u32], attr: u8)
         requires row { y < self.old.rows }

@@ -1,4 +1,4 @@
-//! The laws of runs of cells and of characters of two columns, which hold of every grid.
+//! Laws of runs of cells and of characters of two columns, in every grid.
 ghost use Rattle.vt_grid.specs.Laws.{CellKeepsWidth, EditsKeepHalves, EndsAreWhole, RunOfMore, RunOfNone, StretchesJoin};
 
 /// A run is its cells, set one after another from left to right.
@@ -8,18 +8,18 @@ pub fn run_is_its_cells()
     ensures width { CellKeepsWidth }
 {}
 
-/// Two stretches of cells, drawn one after the other, are the whole stretch, drawn at once.
+/// Drawing two stretches of cells one after the other is drawing both at once.
 pub fn stretches_join()
     ensures { StretchesJoin }
 {}
 
-/// At a row's end and past it no character is parted.
+/// A split at a row's end or after it changes nothing.
 pub fn ends_are_whole()
     ensures { EndsAreWhole }
 {}
 
-/// The edits of rows that are parted at their borders keep each half right of its character: none
-/// stands in column 0 or right of a half.
+/// Edits of rows that are split at their borders keep each half next to its character: no right half
+/// stands in column 0 or right of another.
 pub fn edits_keep_halves()
     ensures { EditsKeepHalves }
 {}

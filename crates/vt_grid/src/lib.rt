@@ -1,4 +1,4 @@
-//! The cells of a screen, and the edits that text makes to them.
+//! The cells of a screen and their edits.
 #![tactic(auto)]
 
 mod changes;

@@ -6,8 +6,8 @@ use std::iter::FusedIterator;
 use std::marker::Model;
 use vt_cells::Cell;
 
-/// The cells of a row from left to right, seen as the list of those that are left. From
-/// [`Grid::row`](crate::Grid::row). A blank end of a row is stored nowhere, so there is no slice.
+/// The cells of a row from left to right, an iterator from [`Grid::row`](crate::Grid::row). Contracts
+/// see the list of the cells that are left. The blank end of a row isn't stored, so there is no slice.
 #[derive(Drop)]
 pub struct RowCells<'a> {
     stored: &'a [PackedCell],

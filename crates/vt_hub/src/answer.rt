@@ -4,7 +4,7 @@ ghost use Rattle.vt_hub.specs.Ready.{is_told_to_wait};
 use vt_events::Reply;
 use vt_journal::Full;
 
-/// What a call of the hub comes to.
+/// The answer to a call of the hub.
 #[derive(Drop)]
 pub enum Answer {
     /// The call was entered.

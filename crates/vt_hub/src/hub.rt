@@ -29,7 +29,7 @@ use vt_events::Event;
 use vt_journal::{Limits, Log};
 use vt_world::{Spare, World, screens_are_tapes};
 
-/// One console for callers in several threads. Contracts see which hub it is.
+/// One machine for callers in several threads. Contracts see which hub it is.
 #[derive(Drop)]
 pub struct Hub<J: Opening> {
     lock: TurnLock<Shared<J>>,
@@ -52,7 +52,7 @@ impl<J: Opening> Model for Hub<J> {
 }
 
 impl<J: Opening> Hub<J> {
-    /// A hub over this world, and its steward. The journal's room is reserved whole.
+    /// A hub over this machine, and its steward. All room of the journal is reserved here.
     pub fn open(alloc: Global, w: World, limits: Limits) -> Result<(Hub<J>, Steward<J>), NoMemory>
         requires start { w ≡ J.start }
         requires limits { limits ≡ J.limits }
@@ -108,8 +108,8 @@ impl<J: Opening> Hub<J> {
         }
     }
 
-    /// Takes in a pass. The steward has then seen the longer history of both, and read the longer, so
-    /// that passes which are made later begin there.
+    /// Joins a pass. The steward has then seen the longer history of both and read the longer one of
+    /// both; passes that are made later begin there.
     pub fn join(&self, s: &mut Steward<J>, p: Pass<J>)
         requires own { s.old.hub ≡ self.now }
         requires other { p.hub ≡ self.now }
@@ -132,8 +132,8 @@ impl<J: Opening> Hub<J> {
         s.out -= 1;
     }
 
-    /// Enters a call. It waits for its turn. Where there is no room for it, the hub stops: from then
-    /// on every call of every pass is answered so.
+    /// Enters a call, after waiting for its turn. If there is no room for it, the hub stops: from then on
+    /// every call of every pass gets that answer.
     pub fn call<R: Wait>(&self, rt: &R, p: &mut Pass<J>, event: Event, spare: Spare) -> Answer
         requires own { p.old.hub ≡ self.now }
         requires call { ends_wait event ≡ false }
@@ -149,8 +149,8 @@ impl<J: Opening> Hub<J> {
         }
     }
 
-    /// Waits until the caller has no open ticket, or the hub has stopped, and enters the WaitEnd. A
-    /// look that finds the ticket open enters nothing.
+    /// Sleeps until the caller's wait in the machine has ended or the hub has stopped, and then enters
+    /// the WaitEnd. While the wait is open, nothing is entered.
     pub fn wait_end<R: Wait>(&self, rt: &R, p: &mut Pass<J>) -> Answer
         requires own { p.old.hub ≡ self.now }
         ensures { Answers J.start J.limits event.WaitEnd p.old p.new result }
@@ -206,9 +206,9 @@ impl<J: Opening> Hub<J> {
         }
     }
 
-    /// The display after all of the history that was entered by now, without waiting. What the pass has
-    /// seen and what it had read begin that history, and every history that the pass sees later begins
-    /// with it.
+    /// The display after all calls that were entered by now, without waiting. The history that the pass
+    /// has seen, and the one that it had read, are prefixes of this history, and this one is a prefix of
+    /// every history that the pass sees later.
     pub fn display_now(&self, p: &mut Pass<J>) -> ConsoleNo
         requires own { p.old.hub ≡ self.now }
         ensures legal { IsLegal J.start p.new.read }
@@ -227,7 +227,7 @@ impl<J: Opening> Hub<J> {
         ConsoleNo::new((word % 64) as u16).unwrap()
     }
 
-    /// Ends the hub, once all passes were taken in.
+    /// Ends the hub, when all passes have been joined.
     pub fn close(self, s: Steward<J>) -> Run
         requires own { s.hub ≡ self }
         requires all { count_by is_out s.stands ≡ 0 }

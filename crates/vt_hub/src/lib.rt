@@ -1,4 +1,4 @@
-//! One console for callers in several threads: their calls make one legal history.
+//! One machine for callers in several threads: their calls make one legal history.
 #![tactic(auto)]
 
 mod answer;

@@ -1,7 +1,7 @@
 use std::marker::Brand;
 
-/// The world that a hub takes over, and the limits of its journal, for the proofs alone: a caller of
-/// `Hub::open` picks both.
+/// The machine of a hub and the limits of its journal, for proofs alone: a caller of `Hub::open`
+/// states both.
 pub trait Opening {
     ghost use Rattle.vt_world.specs.State.{WorldState};
     ghost use Rattle.vt_journal.specs.declared.limits.Limits.{Limits};

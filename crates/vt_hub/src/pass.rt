@@ -6,7 +6,7 @@ use std::marker::Model;
 use turn_lock::Pass as Place;
 use vt_base::CallerNo;
 
-/// What a caller brings to its calls. It may go to another thread. Contracts see what it knows.
+/// The pass of a caller. It may go to another thread. Contracts see what it knows of the history.
 #[derive(Drop)]
 pub struct Pass<J: Opening> {
     pub(crate) place: Place<Shared<J>>,

@@ -1,10 +1,10 @@
-/// Where the pass of a number is.
+/// The state of the pass of a number.
 #[derive(Clone, Copy)]
 pub enum PassPlace {
     /// No pass of this number was made.
     Unmade,
-    /// It was made, and wasn't taken in yet.
+    /// It was made, and is not joined yet.
     Out,
-    /// It was taken in.
+    /// It was joined.
     Home,
 }

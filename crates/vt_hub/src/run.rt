@@ -4,12 +4,12 @@ ghost use Rattle.vt_journal.specs.Room.{tail_at};
 use vt_journal::{Full, Log, Tail};
 use vt_world::World;
 
-/// A console after calls, and their journal.
+/// A machine after calls, and their journal.
 #[derive(Drop)]
 pub struct Run {
     pub world: World,
     pub log: Log,
-    /// Where a call found no room, if one did.
+    /// The call that found no room, if there was one.
     pub stop: Option<Full>,
 }
 

@@ -15,8 +15,8 @@ use vt_base::NoMemory;
 use vt_events::Event;
 use vt_world::spare_for;
 
-/// What the calls of every caller take beside its pass: the handle by which a thread waits, the
-/// allocator, and the hub. Threads may share it. Contracts see which hub it is.
+/// Everything that a call needs except the pass: the handle for waiting, the allocator, and the hub.
+/// Threads may share it. Contracts see which hub it is.
 #[derive(Drop)]
 pub struct Seat<'a, J: Opening, R: Wait> {
     pub rt: &'a R,
@@ -33,8 +33,8 @@ impl<'a, J: Opening, R: Wait> Model for Seat<'a, J, R> {
 }
 
 impl<J: Opening, R: Wait> Seat<'_, J, R> {
-    /// Takes what memory the call may need, and makes it. `WaitEnd` needs none: it is made as
-    /// [`Hub::wait_end`] makes it.
+    /// Takes the memory that the call may need, and makes the call. `WaitEnd` needs none and is made by
+    /// [`Hub::wait_end`].
     #[tactic(auto, using(crate::proofs::Ready::ready_after, crate::proofs::Ready::end_tells))]
     pub fn ask(&self, pass: &mut Pass<J>, event: Event) -> Result<Answer, NoMemory>
         requires own { pass.old.hub ≡ self.now }

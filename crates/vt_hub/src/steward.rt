@@ -8,7 +8,7 @@ use std::marker::Model;
 use turn_lock::Pass as Place;
 use vt_base::CallerNo;
 
-/// Who makes passes and takes them in: it knows which were made, and which are out.
+/// The steward makes passes and joins them. It knows which passes were made, and which are out.
 #[derive(Drop)]
 pub struct Steward<J: Opening> {
     pub(crate) place: Place<Shared<J>>,
@@ -35,7 +35,7 @@ impl<J: Opening> Steward<J> {
         !matches!(self.stands[usize::from(c.get())], PassPlace::Unmade)
     }
 
-    /// How many passes are out.
+    /// The number of passes that are out.
     pub fn out(&self) -> u32
         ensures { result ≡ count_by is_out self.now.stands }
     {

@@ -1,9 +1,9 @@
 use std::sync::Wait;
 use vt_base::CallerNo;
 
-/// What a caller passes before each of its calls on the console of threads, where it may be held up.
-/// No answer depends on it.
+/// Code that a caller runs before each of its calls on a shared machine, and that may hold the
+/// caller up. No answer depends on it.
 pub trait Gate {
-    /// The caller is about to make its call number `seq`, from 0.
+    /// Called before the caller makes its call number `seq`, counted from 0.
     fn before<R: Wait>(&self, rt: &R, caller: CallerNo, seq: u32);
 }

@@ -1,5 +1,4 @@
-//! Where bytes come from and go to: sources and sinks, in memory and over the real streams; and the
-//! gate before calls.
+//! Sources and sinks of bytes, in memory and over real streams, and the gate before each call.
 #![tactic(auto)]
 
 mod cursor;

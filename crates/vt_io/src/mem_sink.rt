@@ -10,8 +10,8 @@ use crate::{Failed, Sink};
 use std::marker::Model;
 use vt_base::Bytes;
 
-/// A sink in memory: it keeps what fits its room, and has a fault at each call that is named for
-/// one and where a piece finds no room.
+/// A sink in memory: it keeps the bytes that fit its room. A call fails if it is among the calls
+/// that were named at the start, or if there is no room for any byte of a piece.
 #[derive(Drop)]
 pub struct MemSink {
     bytes: Bytes,
@@ -33,8 +33,8 @@ impl Model for MemSink {
 }
 
 impl MemSink {
-    /// A sink that keeps at most the bytes that `room` has room for, after those that `room` has
-    /// already. Of its calls, from 0, call k fails where byte k of `fails` is there and isn't 0.
+    /// A sink that begins with the bytes of `room` and keeps as many more as it has room for. Call k,
+    /// counted from 0, fails if `fails` has a byte k that isn't 0.
     pub fn new(room: Bytes, fails: Bytes) -> MemSink
         ensures held { result.held ≡ room.bytes }
         ensures room { result.room ≡ room.room }
@@ -48,7 +48,7 @@ impl MemSink {
         }
     }
 
-    /// The bytes that it holds, in order.
+    /// The bytes that the sink holds, in order.
     pub fn held(&self) -> &[u8]
         ensures { result.now ≡ self.now.held }
     {

@@ -10,7 +10,8 @@ use crate::{Failed, Source};
 use std::marker::Model;
 use vt_base::Bytes;
 
-/// A source in memory: its bytes in order, and a fault at each call that is named for one.
+/// A source in memory: it gives its bytes in order, and fails at the calls that were named at the
+/// start.
 #[derive(Drop)]
 pub struct MemSource {
     left: Cursor,
@@ -27,8 +28,7 @@ impl Model for MemSource {
 }
 
 impl MemSource {
-    /// A source of `bytes`, of whose calls, from 0, call k fails exactly where byte k of `fails` is
-    /// there and isn't 0.
+    /// A source of `bytes`. Call k, counted from 0, fails exactly if `fails` has a byte k that isn't 0.
     pub fn new(bytes: Bytes, fails: Bytes) -> MemSource
         ensures left { result.left ≡ bytes.bytes }
         ensures fails { result.fails ≡ fails.bytes }

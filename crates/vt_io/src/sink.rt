@@ -6,15 +6,15 @@ ghost use Rattle.vt_io.specs.Stream.{MovesOn};
 
 use crate::Failed;
 
-/// Where bytes go to.
+/// A sink of bytes.
 pub trait Sink {
     // The bytes held, where they are known.
     ghost held: { Self → Option (List ℕ) };
 
     ghost faults: { Self → ℕ };
 
-    /// Takes bytes from the front of `buf` and gives their number, at least 1 where `buf` isn't
-    /// empty. A write that fails takes nothing.
+    /// Takes bytes from the beginning of `buf` and returns their number, which is at least 1 if `buf`
+    /// isn't empty. A write that fails takes none.
     fn write(&mut self, buf: &[u8]) -> Result<usize, Failed>
         ensures bound { WritesAtMost result buf.now }
         ensures bytes { WriteAppends (held self.old) (held self.new) result buf.now }

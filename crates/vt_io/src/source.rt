@@ -6,16 +6,16 @@ ghost use Rattle.vt_io.specs.Stream.{FillsFront};
 
 use crate::Failed;
 
-/// Where bytes come from.
+/// A source of bytes.
 pub trait Source {
     // The bytes left, where they are known.
     ghost left: { Self → Option (List ℕ) };
 
     ghost faults: { Self → ℕ };
 
-    /// Moves the next bytes into the front of `buf` and gives their number. 0 bytes into a buffer
-    /// that isn't empty is the end of the input. A read that fails takes no byte of those left. A read
-    /// that doesn't fail leaves the count of faults.
+    /// Moves the next bytes to the beginning of `buf` and returns their number. 0 is the end of the
+    /// input if `buf` isn't empty. A read that fails takes none of the bytes that are left. A read
+    /// that doesn't fail leaves the count of faults unchanged.
     fn read(&mut self, buf: &mut [u8]) -> Result<usize, Failed>
         ensures bound { ReadsAtMost result buf.new }
         ensures bytes { ReadConsumes (left self.old) (left self.new) result buf.new }

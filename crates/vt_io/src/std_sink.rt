@@ -9,8 +9,8 @@ use crate::{Failed, Sink};
 use std::io::{ErrorKind, Write};
 use std::marker::Model;
 
-/// A sink over a writer of std, which tells nothing of its bytes. A write that was interrupted is
-/// tried again as a source's read is. A write that takes no byte of a piece that has some is a
+/// A sink over a writer of std. Its contract does not describe the bytes. An interrupted write is
+/// tried again as a source's read is. A write that takes no byte of a piece that isn't empty is a
 /// fault.
 #[derive(Drop)]
 pub struct StdSink<W> {

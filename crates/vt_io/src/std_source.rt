@@ -13,10 +13,10 @@ use std::marker::Model;
 /// The most bytes that one read gives.
 const PIECE_BYTES: usize = 4_096;
 
-/// A source over a reader of std, which tells nothing of its bytes. A read that was interrupted is
-/// tried again, at most [`RETRIES`] times in a call; one more interruption, and every other error,
-/// is a fault. The reader fills a piece of the source's own, since nothing tells what it leaves in one
-/// where it fails.
+/// A source over a reader of std. Its contract does not describe the bytes. An interrupted read is
+/// tried again, at most [`RETRIES`] times in a call; one more interruption is a fault, as is every
+/// other error. The reader fills a buffer of the source's own, since std doesn't describe what a
+/// read that fails leaves in its buffer.
 #[derive(Drop)]
 pub struct StdSource<R> {
     reader: R,

@@ -77,7 +77,7 @@ pub(crate) fn add_end(alloc: Global, text: &mut Bytes) -> Result<(), NoMemory>
     add(alloc, text, b"\n")
 }
 
-/// Adds a blank and the number.
+/// Adds a blank and the number in decimal.
 pub fn add_next(alloc: Global, text: &mut Bytes, n: u64) -> Result<(), NoMemory>
     ensures ok { OnOk result (text.new.bytes ≡ text.old.bytes ++ 0x20 ∷ decimal n) }
     ensures err { OnErr result (text.new.bytes ≡ text.old.bytes) }

@@ -18,7 +18,7 @@ const PROCESSES: u16 = 64;
 /// The most that a keyboard's number can be.
 const LAST_KEYBOARD: u64 = 3;
 
-/// Whether version 1 has a word for the caller of each entry: none is a keyboard after the first.
+/// Whether version 1 has a word for the caller of each entry: no caller is a keyboard after the first.
 pub fn are_numbered(entries: &[Entry]) -> bool
     ensures yes { OnTrue result (All (λ entry. entry.caller ≤ processes) entries.now) }
     ensures no { OnFalse result (¬ All (λ entry. entry.caller ≤ processes) entries.now) }

@@ -4,13 +4,13 @@ ghost use Rattle.vt_journal.specs.Lines.{IsCutAt, IsLine};
 /// A text cut at its first LF.
 #[derive(Clone, Copy)]
 pub struct CutLine<'a> {
-    /// What is before the LF.
+    /// The text before the LF.
     pub line: &'a [u8],
-    /// What is behind it.
+    /// The text after it.
     pub behind: &'a [u8],
 }
 
-/// The text cut at its first LF, where it has one.
+/// The text cut at its first LF, if it has one.
 pub fn cut_line(text: &[u8]) -> Option<CutLine<'_>>
     ensures found { IfSome result (λ cut. IsCutAt text.now cut.line.now cut.behind.now) }
     ensures none { IfNone result (IsLine text.now) }

@@ -21,7 +21,7 @@ impl Model for Entries {
 }
 
 impl Entries {
-    /// These entries.
+    /// A list of these entries.
     pub fn new(items: Vec<Entry>) -> Entries
         requires { vec_len items ≤ 1_000_000 }
         ensures { result ≡ items.items }

@@ -1,4 +1,4 @@
-//! The codes of faults in a journal text, by the numbers of docs/JOURNAL.md.
+//! The codes of faults in a journal text, by their numbers in docs/JOURNAL.md.
 
 /// No first line.
 pub(crate) const NO_FIRST: u16 = 40;
@@ -9,7 +9,7 @@ pub(crate) const BAD_LINE: u16 = 41;
 /// No last line.
 pub(crate) const NO_LAST: u16 = 42;
 
-/// Something behind the last line.
+/// Text after the last line.
 pub(crate) const MORE: u16 = 43;
 
 /// More entries than there may be.

@@ -8,11 +8,11 @@ ghost use Rattle.vt_journal.specs.Says.{HasFirst, IsNoFirst};
 pub(crate) struct First<'a> {
     /// The version that it names, 1 or 2.
     pub version: u8,
-    /// What is behind it.
+    /// The text after it.
     pub behind: &'a [u8],
 }
 
-/// The version that the text's first line names, where that is the first line of a journal.
+/// The version in the text's first line, if that is the first line of a journal.
 pub fn version_of(text: &[u8]) -> Option<u8>
     ensures found { IfSome result (λ version. HasFirst version text.now) }
     ensures none { IfNone result (IsNoFirst text.now) }

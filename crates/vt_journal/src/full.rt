@@ -1,10 +1,10 @@
 /// A journal that had no room for a call.
 #[derive(Clone, Copy, Debug, PartialEq, Eq)]
 pub struct Full {
-    /// How many entries stand.
+    /// The number of entries.
     pub events: u32,
-    /// The bytes that they count for.
+    /// The sum of their charges, in bytes.
     pub bytes: u64,
-    /// The bytes that the call would have counted for.
+    /// The charge that the call would have had, in bytes.
     pub charge: u32,
 }

@@ -8,7 +8,7 @@ use vt_base::NoMemory;
 /// Why a journal wasn't read.
 #[derive(Clone, Copy, Debug, PartialEq, Eq)]
 pub enum JError {
-    /// It isn't the text of a journal.
+    /// The text is not a journal.
     Fault(JFault),
     /// Memory ran out.
     NoMemory,

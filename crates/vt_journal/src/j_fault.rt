@@ -1,4 +1,4 @@
-/// The first fault of a journal text: its kind, and the last line that was read, from 1; 0 where there
+/// The first fault of a journal text: its kind, and the last line that was read, from 1, or 0 if there
 /// is no first line.
 #[derive(Clone, Copy, Debug, PartialEq, Eq)]
 pub struct JFault {

@@ -1,6 +1,6 @@
 use crate::{Entries, Tail};
 
-/// What the text of a journal says.
+/// A journal that was read from a text.
 #[derive(Debug, Drop)]
 pub struct Journal {
     /// The version of the text, 1 or 2.

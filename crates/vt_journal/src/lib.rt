@@ -1,5 +1,5 @@
-//! The journal of a console's calls: a log of entries within limits, its text in two versions, and what a text
-//! says.
+//! The journal of a machine's calls: a log of entries within limits, its text in two versions, and the reading of
+//! such a text.
 #![tactic(auto)]
 
 mod adding;

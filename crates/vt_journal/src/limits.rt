@@ -1,8 +1,8 @@
-/// How much a journal may hold. This project's own.
+/// The limits of a journal. This project's own.
 #[derive(Clone, Copy, Debug, PartialEq, Eq)]
 pub struct Limits {
     /// The most entries.
     pub events: u32,
-    /// The most bytes that the entries may count for together.
+    /// The greatest sum of the charges of the entries, in bytes.
     pub bytes: u64,
 }

@@ -8,7 +8,7 @@ use std::marker::Model;
 use vt_base::NoMemory;
 use vt_events::{Entry, charge};
 
-/// The entries of a journal. The room of all that its limits allow is reserved when it is made.
+/// The entries of a journal. The room for all entries within the limits is reserved when it is made.
 #[derive(Debug, Drop)]
 pub struct Log {
     entries: Vec<Entry>,
@@ -30,7 +30,7 @@ impl Model for Log {
 }
 
 impl Log {
-    /// No entries yet, and room for all that the limits allow.
+    /// No entries, and room for all entries within the limits.
     pub fn with_room(alloc: Global, events: u32, bytes: u64) -> Result<Log, NoMemory>
         requires events { events ≤ 1_000_000 }
         requires bytes { bytes ≤ 1_073_741_824 }
@@ -47,7 +47,7 @@ impl Log {
         })
     }
 
-    /// One more entry of this charge is within the limits.
+    /// Whether one more entry with this charge is within the limits.
     pub fn room(&self, charge: u32) -> bool
         ensures { IsTrue result ↔ HasRoom self.now charge }
     {
@@ -55,7 +55,7 @@ impl Log {
             && self.bytes + u64::from(charge) <= self.limits.bytes
     }
 
-    /// Adds an entry, in the room that is there.
+    /// Adds an entry. There must be room for it.
     pub fn push(&mut self, e: Entry)
         requires { HasRoom self.old (charge_of e.event) }
         ensures { self.new ≡ record self.old { entries = self.old.entries ++ e ∷ [] } }
@@ -75,7 +75,7 @@ impl Log {
         self.entries.as_slice()
     }
 
-    /// The bytes that the entries count for.
+    /// The sum of the charges of the entries, in bytes.
     pub fn bytes(&self) -> u64
         ensures sum { result ≡ charge_of_all self.now.entries }
         ensures within { result ≤ self.now.limits.bytes }

@@ -55,7 +55,7 @@ pub(crate) fn take_numbers(
     Some(numbers)
 }
 
-/// The next word as a number up to the most.
+/// Takes the next word as a number of at most `most`.
 pub fn take_number(words: &mut Words, most: u64) -> Option<u64>
     ensures found { IfSome result (λ n. words.old ≡ decimal n ∷ words.new) }
     ensures fit { IfSome result (λ n. n ≤ most) }

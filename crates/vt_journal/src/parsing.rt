@@ -24,8 +24,8 @@ use vt_events::Entry;
 /// The most entries of a journal.
 const MOST_ENTRIES: u32 = 1_000_000;
 
-/// What the text says as a journal of either version, which is the one spelling in it of the entries
-/// and of how they end; or its first fault.
+/// The journal of the text, in either version, or the text's first fault. A journal has one spelling in
+/// each version.
 pub fn parse(alloc: Global, text: &[u8]) -> Result<Journal, JError>
     ensures says { Reads result (JournalSays text.now) }
     ensures one { (said : Result Journal JFault) → JournalSays text.now said

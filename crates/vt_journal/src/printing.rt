@@ -18,8 +18,8 @@ use std::alloc::Global;
 use vt_base::{Bytes, NoMemory};
 use vt_events::{Entry, Event, Reply};
 
-/// Adds the journal text, in that version, of the entries and of how they end. What is printed is fit to
-/// be read again. It is made as a text of its own, so that without memory the lent one is unchanged, its room too.
+/// Adds the journal text of the entries and of how they end, in this version. The text can be read again. It is
+/// made as a text of its own first, so that `text` and its room are unchanged if memory runs out.
 pub fn print(
     alloc: Global,
     entries: &[Entry],

@@ -16,7 +16,7 @@ use std::alloc::Global;
 use vt_base::{Bytes, NoMemory};
 use vt_events::Event;
 
-/// The call that the words spell.
+/// The call of these words, if they are one.
 pub fn read_event(alloc: Global, words: &[u8]) -> Result<Option<Event>, NoMemory>
     ensures found { IfOk result (λ found. IfSome found (Spells words.now)) }
     ensures none { IfOk result (λ found. IfNone found ((e : Event) → ¬ Spells words.now e)) }

@@ -7,7 +7,7 @@ use crate::call_words::CallWords;
 use crate::kind::Kind;
 use vt_events::{Event, Reply};
 
-/// Whether the calls are the same as they are meant: the room of their bytes is nothing of theirs.
+/// Whether the calls are the same. The spare room of their bytes does not count.
 pub fn same_event(d: &Event, e: &Event) -> bool
     ensures { IsTrue result ↔ (plain_event d.now ≡ plain_event e.now) }
 {
@@ -42,7 +42,7 @@ fn same_held(a: Option<&[u8]>, b: Option<&[u8]>) -> bool
     }
 }
 
-/// Whether the answers are the same as they are meant.
+/// Whether the answers are the same. The spare room of their bytes does not count.
 pub fn same_reply(r: &Reply, s: &Reply) -> bool
     ensures { IsTrue result ↔ (plain_reply r.now ≡ plain_reply s.now) }
 {

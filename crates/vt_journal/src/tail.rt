@@ -3,11 +3,11 @@ use crate::Full;
 /// How a journal ends.
 #[derive(Clone, Copy, Debug, PartialEq, Eq)]
 pub enum Tail {
-    /// All calls stand.
+    /// Every call was entered.
     End {
-        /// How many entries stand.
+        /// The number of entries.
         events: u32,
-        /// The bytes that they count for.
+        /// The sum of their charges, in bytes.
         bytes: u64,
     },
     /// A call found no room.

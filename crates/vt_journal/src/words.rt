@@ -4,7 +4,7 @@ ghost use Rattle.vt_journal.specs.Cut.{words_of_text};
 
 use std::marker::Model;
 
-/// The words of a text that are still to be read: it is cut at each blank.
+/// The words of a text that are still to be read. The text is cut at each blank.
 #[derive(Drop)]
 pub struct Words<'a> {
     rest: Option<&'a [u8]>,
@@ -27,7 +27,7 @@ impl<'a> Words<'a> {
         Words { rest: Some(text) }
     }
 
-    /// The next word, where there is one.
+    /// Takes the next word, if there is one.
     pub fn next(&mut self) -> Option<&'a [u8]>
         ensures { MatchOption result ((self.old ≡ []) × (self.new ≡ []))
             (λ word. self.old ≡ word.now ∷ self.new) }

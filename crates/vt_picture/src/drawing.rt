@@ -11,8 +11,8 @@ use vt_base::{Bytes, NoMemory};
 use vt_screen::Emu;
 
 /// The screen as a picture in SVG 1.1, a text in UTF-8. A cell is 8 units wide and 16 units high. Each run of
-/// cells is a rectangle and a text in the colours of the screen's palette, and the cursor is a line at the foot
-/// of its cell. The error is that memory ran out. This project's own.
+/// cells is a rectangle and a text in the colours of the screen's palette, and the cursor is a line at the bottom
+/// of its cell. This project's own.
 pub fn picture(alloc: Global, emu: &Emu) -> Result<Bytes, NoMemory>
     ensures { IfOk result (λ text. text.bytes ≡ picture_text emu.now.state) }
 {

@@ -1,7 +1,7 @@
 use crate::ProcList;
 use vt_base::{ConsoleNo, Size};
 
-/// What a world begins with.
+/// The start of a machine.
 #[derive(Debug, Drop)]
 pub struct Config {
     /// The rows and columns of every screen.

@@ -1,5 +1,5 @@
-//! The callers of the console: the keyboards and the processes, with what each of them has open, the
-//! signals that are pending for it, and what it waits for.
+//! The callers of a machine: the keyboards and the processes, with the descriptors of each, its
+//! pending signals, and its wait.
 #![tactic(auto)]
 
 mod config;

@@ -26,7 +26,7 @@ pub(crate) const NO_OPENS: Opens = Opens {
 };
 
 impl Opens {
-    /// The console of the descriptor, where that is open.
+    /// The console of the descriptor, if that is open.
     pub fn at(&self, fd: u16) -> Option<ConsoleNo>
         ensures { result ≡ slice_index_or self.now fd None }
     {
@@ -35,14 +35,14 @@ impl Opens {
         if fd < places.len() { places[fd] } else { None }
     }
 
-    /// The descriptor of the number, where that is open.
+    /// The descriptor of this number, if it is open.
     pub fn number(&self, fd: u16) -> Option<Fd>
         ensures { result ≡ (if is_some (slice_index_or self.now fd None) then Some fd else None) }
     {
         number_in(&self.places, fd)
     }
 
-    /// Shuts the descriptor.
+    /// Closes the descriptor.
     pub fn shut(&mut self, fd: Fd)
         ensures { self.new ≡ slice_set self.old fd None }
     {
@@ -56,7 +56,7 @@ impl Opens {
         self.places.iter().any(|place| is_console(c, place))
     }
 
-    /// Opens the console at the lowest free descriptor, where there is one.
+    /// Opens the console at the lowest free descriptor, if there is one.
     pub fn add(&mut self, c: ConsoleNo) -> Option<Fd>
         ensures answer { result ≡ lowest_free self.old }
         ensures state { self.new ≡ with_open self.old c (lowest_free self.old) }

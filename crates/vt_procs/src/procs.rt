@@ -27,7 +27,7 @@ impl Model for Procs {
 }
 
 impl Procs {
-    /// So many keyboards, and these processes. A keyboard lives until it ends.
+    /// The start: this number of keyboards, and these processes. A keyboard is alive until it ends.
     pub fn start(list: &[ProcStart], keyboards: u8) -> Procs
         requires processes { length list.now ≤ 64 }
         requires keyboards { IsFitCount keyboards }
@@ -64,7 +64,7 @@ impl Procs {
         self.callers[usize::from(p.get())].privileged
     }
 
-    /// The console of the descriptor, where that is open.
+    /// The console of the descriptor, if that is open.
     pub fn console_of(&self, p: CallerNo, fd: u16) -> Option<ConsoleNo>
         ensures { result ≡ console_of self.now p fd }
     {
@@ -72,7 +72,7 @@ impl Procs {
         process.opens.at(fd)
     }
 
-    /// The descriptor of the number, where that is open.
+    /// The descriptor of this number, if it is open.
     pub fn number(&self, p: CallerNo, fd: u16) -> Option<Fd>
         ensures { result ≡ (if is_some (console_of self.now p fd) then Some fd else None) }
     {
@@ -80,7 +80,7 @@ impl Procs {
         process.opens.number(fd)
     }
 
-    /// Opens the console at the lowest free descriptor, where there is one.
+    /// Opens the console at the lowest free descriptor, if there is one.
     pub fn add_open(&mut self, p: CallerNo, c: ConsoleNo) -> Option<Fd>
         ensures answer { result ≡ free_fd self.old p }
         ensures state { self.new ≡ after_open p c self.old }
@@ -89,7 +89,7 @@ impl Procs {
         process.opens.add(c)
     }
 
-    /// Shuts the descriptor.
+    /// Closes the descriptor.
     pub fn shut(&mut self, p: CallerNo, fd: Fd)
         requires { is_some (console_of self.old p fd) ≡ true }
         ensures { self.new ≡ after_close p fd self.old }
@@ -106,14 +106,14 @@ impl Procs {
         process.opens.has(c)
     }
 
-    /// Whether somebody has the console open. It looks at every descriptor.
+    /// Whether any caller has the console open. It looks at every descriptor.
     pub fn opened(&self, c: ConsoleNo) -> bool
         ensures { result ≡ is_opened self.now c }
     {
         self.callers.iter().any(|caller| caller.opens.has(c))
     }
 
-    /// `p` is the accepter of the key signal from here on, and gets this signal.
+    /// From now on KeyboardSignal sends this signal to `p`.
     pub fn accept(&mut self, p: CallerNo, s: Signal)
         requires { is_live self.old p ≡ true }
         ensures { self.new ≡ with_accepter p s self.old }
@@ -121,7 +121,7 @@ impl Procs {
         self.accepter = Some((p, s));
     }
 
-    /// Who accepts the key signal, and which signal it gets.
+    /// The process that accepts KeyboardSignal, and the signal that it gets.
     pub fn accepter(&self) -> Option<(CallerNo, Signal)>
         ensures accepter { result ≡ self.now.accepter }
         ensures live { IsFit self.now }
@@ -129,8 +129,8 @@ impl Procs {
         self.accepter
     }
 
-    /// The end of a caller: its descriptors, its ticket and its pending signals are gone, and it
-    /// accepts no key signal.
+    /// The end of a caller: it loses its descriptors, its wait and its pending signals, and no longer
+    /// accepts KeyboardSignal.
     pub fn end(&mut self, p: CallerNo)
         ensures { self.new ≡ after_exit p self.old }
     {

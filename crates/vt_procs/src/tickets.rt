@@ -1,4 +1,4 @@
-//! Signals, and waits for them, for the display and for input.
+//! Signals, and waits for a signal, for the display and for input.
 ghost use Rattle.std.specs.List.{list_any};
 ghost use Rattle.std.specs.Prelude.{◌≡◌, ◌==◌, true, not, if◌then◌else◌};
 ghost use Rattle.vt_procs.specs.Callers.{caller_at, is_live};
@@ -11,7 +11,7 @@ use crate::{Process, Procs, Ticket, Waited, Waiting};
 use vt_base::{CALLERS, CallerNo, ConsoleNo, SigSet, Signal};
 
 impl Procs {
-    /// A signal is pending for `p`, and its open ticket ends. Signal 9 isn't for this: it ends its
+    /// Makes the signal pending for `p` and ends its open wait. Signal 9 is not taken: it ends its
     /// process (signal(7)), by [`Procs::end`].
     pub fn raise(&mut self, p: CallerNo, s: Signal)
         requires { is_live self.old p ≡ true }
@@ -50,14 +50,14 @@ impl Procs {
         self.callers[usize::from(p.get())].waiting = Waiting::Open(t);
     }
 
-    /// What [`Procs::collect`] would answer.
+    /// The answer that [`Procs::collect`] would give.
     pub fn ticket(&self, p: CallerNo) -> Waited
         ensures { result ≡ waited_of (caller_at self.now p).waiting }
     {
         waited_of(&self.callers[usize::from(p.get())].waiting)
     }
 
-    /// What stands of the wait of `p`: none, open and for what, or how it ended.
+    /// The wait of `p`: none, open with what it waits for, or how it ended.
     pub fn wait_of(&self, p: CallerNo) -> Waiting
         ensures { result ≡ (caller_at self.now p).waiting }
     {
@@ -65,7 +65,7 @@ impl Procs {
         caller.waiting
     }
 
-    /// Tells `p` of its ticket, which is gone then unless it is open.
+    /// Returns how the wait of `p` ended and removes the wait, unless it is still open.
     pub fn collect(&mut self, p: CallerNo) -> Waited
         requires { is_live self.old p ≡ true }
         ensures answer { result ≡ waited_of (caller_at self.old p).waiting }
@@ -77,23 +77,22 @@ impl Procs {
         waited
     }
 
-    /// The console has the display: each open ticket that waits for that ends with success. It goes
-    /// once over the callers, as the next two do.
+    /// The console got the display: each open wait for that ends with success. This call goes over the
+    /// callers once, as the next two do.
     pub fn shown(&mut self, c: ConsoleNo)
         ensures { self.new ≡ after_display_of c self.old }
     {
         end_tickets(&mut self.callers, &Ending::Shown(c));
     }
 
-    /// Bytes came to the console: each open ticket that waits for them ends with success.
+    /// Bytes came to the console: each open wait for them ends with success.
     pub fn filled(&mut self, c: ConsoleNo)
         ensures { self.new ≡ after_input_on c self.old }
     {
         end_tickets(&mut self.callers, &Ending::Filled(c));
     }
 
-    /// The idle rule: where no live caller is without an open ticket, every open ticket ends as by a
-    /// signal.
+    /// The idle rule: if every live caller waits, every open wait ends as by a signal.
     pub fn settle(&mut self)
         ensures { self.new ≡ after_idle_rule self.old }
     {

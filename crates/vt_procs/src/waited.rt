@@ -1,4 +1,4 @@
-/// What a process is told of its ticket.
+/// The result of asking for the end of a wait.
 #[derive(Clone, Copy, Debug, PartialEq, Eq)]
 pub enum Waited {
     /// There is none.

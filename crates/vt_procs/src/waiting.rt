@@ -1,9 +1,9 @@
 use crate::Ticket;
 
-/// What stands of a process's wait.
+/// The state of a process's wait.
 #[derive(Clone, Copy, Debug)]
 pub enum Waiting {
-    /// It holds no ticket.
+    /// The process does not wait.
     Nothing,
     Open(Ticket),
     /// What it waited for came.

@@ -8,9 +8,9 @@ use vt_cells::{Attr, HALF, columns};
 use vt_grid::Grid;
 use vt_screen::{Emu, ScreenState};
 
-/// Whether a text can draw the screen. Each cell has to have a character that prints itself, 20 to 7E or
-/// A0 to 10FFFF of one column or two, or to be the right half of such a one. Of the state, what is saved has
-/// to stand on the screen, which another size alone can change. This project's own.
+/// Whether a text can draw the screen. Each cell must have a character that prints itself (20 to 7E, or A0 to
+/// 10FFFF, of one or two columns), or be the right half of one. The saved cursor must be on the screen; only a change
+/// of size can move it off. This project's own.
 #[tactic(auto, unfolding(crate::specs::Drawable::is_redrawable))]
 pub fn redrawable(emu: &Emu) -> bool
     ensures { result ≡ is_redrawable emu.now.state }

@@ -15,10 +15,10 @@ use vt_base::{Bytes, NoMemory};
 use vt_grid::Grid;
 use vt_screen::{BLANK, Emu};
 
-/// The text that draws the screen again on any screen of its size on which no text is pending, whatever that one
-/// shows and whatever state it is in: its cells, cursor, pen, modes, region, tab stops, tables, palette and what is
-/// saved. The tab stops past the last column and the user's table don't come back. Every byte belongs to a control
-/// sequence, a control character or a character of the screen. This project's own.
+/// The text that draws the screen again on any screen of its size on which no text is pending, whatever it shows and
+/// whatever its state: cells, cursor, pen, modes, region, tab stops, tables, palette and the saved cursor. The tab
+/// stops past the last column and the user's table are not restored. Every byte belongs to a control sequence, a
+/// control character or a character of the screen. This project's own.
 pub fn redraw(alloc: Global, emu: &Emu) -> Result<Bytes, NoMemory>
     requires { IsTrue (is_redrawable emu.now.state) }
     ensures text { IfOk result (λ text. text.bytes ≡ redraw_of emu.now.state) }
@@ -32,8 +32,8 @@ pub fn redraw(alloc: Global, emu: &Emu) -> Result<Bytes, NoMemory>
     Ok(text)
 }
 
-/// The text that draws the screen again on any screen of these cells on which no text is pending: the rows that differ
-/// ([`Grid::is_row_same`]), and the state. What comes back is what comes back by [`redraw`]. This project's own.
+/// The text that draws the screen again on any screen with these cells on which no text is pending: the rows that
+/// differ ([`Grid::is_row_same`]), and the state. It restores what [`redraw`] restores. This project's own.
 pub fn redraw_changes(alloc: Global, old: &Grid, emu: &Emu) -> Result<Bytes, NoMemory>
     requires size { IsSameSize old.now emu.now.state.grid }
     requires redrawable { IsTrue (is_redrawable emu.now.state) }

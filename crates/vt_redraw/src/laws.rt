@@ -1,4 +1,4 @@
-//! The laws of redrawing, which hold of every screen.
+//! Laws of redrawing, for every screen.
 ghost use Rattle.vt_redraw.specs.Behind.{TextsFollow};
 ghost use Rattle.vt_redraw.specs.Redraw.{ChangesRedraw, ScreensRedraw};
 
@@ -6,8 +6,8 @@ use vt_cells::columns_are_few;
 use vt_screen::pieces_draw;
 use vt_units::{controls_are_units, printables_are_characters, sequences_are_units};
 
-/// Each redrawable screen is drawn again by its text, on every screen of its size, and by the text of what differs
-/// on every screen of the cells that it differs from.
+/// The text of a redrawable screen draws it again on every screen of its size, and the text of the rows that differ
+/// draws it on every screen with the cells that it differs from.
 pub fn screens_redraw()
     ensures screens { ScreensRedraw }
     ensures changes { ChangesRedraw }
@@ -19,8 +19,8 @@ pub fn screens_redraw()
     sequences_are_units();
 }
 
-/// What doesn't come back shows nowhere: if both screens have the same user's table, every further text makes the
-/// same cells and reports of a screen and of the one that was drawn again.
+/// If both screens have the same user's table, every later text gives the same cells and reports on a screen and on
+/// the one that was drawn again.
 pub fn texts_follow()
     ensures { TextsFollow }
 {}

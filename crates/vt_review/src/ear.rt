@@ -4,7 +4,7 @@ ghost use Rattle.vt_review.specs.Ears.{says};
 use crate::{EarTable, Listener, Notice};
 use std::marker::Model;
 
-/// A stored closure, beside the table of the notices that it hears. Contracts see the table.
+/// A stored closure with the table of the notices that it hears. Contracts see the table.
 #[derive(Drop)]
 pub struct Ear<F: Listener> {
     f: F,
@@ -22,7 +22,7 @@ impl<F: Listener> Model for Ear<F> {
 }
 
 impl<F: Listener> Ear<F> {
-    /// The closure may be called on each notice, and hears those of the table.
+    /// An ear from a closure that may be called on each notice and hears those of the table.
     pub fn new(f: F, table: EarTable) -> Ear<F>
         requires { F.hears f table }
         ensures { result ≡ table }

@@ -4,7 +4,7 @@ ghost use Rattle.vt_review.specs.Ears.{is_kind, says};
 use crate::Notice;
 use vt_base::is_among;
 
-/// Which notices a listener hears: those of some kinds, of some consoles.
+/// The notices that a listener hears: those of some kinds, of some consoles.
 #[derive(Clone, Copy, Debug, PartialEq, Eq)]
 pub struct EarTable {
     /// Bit k stands for the notices of kind k.

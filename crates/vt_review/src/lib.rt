@@ -1,4 +1,4 @@
-//! The review of a journal: what stored listeners are told of its switches, bells and new rows.
+//! The review of a journal: stored listeners get a line for each switch, bell and new row that they hear.
 #![tactic(auto)]
 
 mod ear;

@@ -3,7 +3,7 @@ ghost use Rattle.vt_review.specs.Ears.{Answers, says};
 
 use crate::{EarTable, Notice};
 
-/// What can be an ear: every closure from a notice to whether it is heard is one.
+/// An ear: every closure from a notice to whether it is heard is one.
 pub trait Listener: Drop {
     ghost use Rattle.vt_review.specs.declared.ear_table.EarTable.{EarTable};
 

@@ -1,6 +1,6 @@
 use vt_base::ConsoleNo;
 
-/// Something that a listener may want to hear of a console. This project's own.
+/// A notice about a console. This project's own.
 #[derive(Clone, Copy, Debug, PartialEq, Eq)]
 pub struct Notice {
     /// What it is: 0 the display came to the console, 1 its bell rang, 2 one of its rows is new.

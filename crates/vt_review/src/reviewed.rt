@@ -1,10 +1,10 @@
 use vt_base::Bytes;
 
-/// What a review of a journal gives.
+/// The result of a review of a journal.
 #[derive(Drop)]
 pub enum Reviewed {
-    /// The journal is legal, and this is what its ears were told, a line each.
+    /// The journal is legal: the lines of its ears.
     Text(Bytes),
-    /// It isn't, and where it fails first and why (`vt_check::Verdict`).
+    /// The journal is not legal: the first entry that fails, and why (`vt_check::Verdict`).
     Illegal { index: u32, why: u8 },
 }

@@ -15,8 +15,8 @@ use vt_base::NoMemory;
 use vt_check::{Verdict, one_verdict, watch};
 use vt_journal::Journal;
 
-/// What these ears are told of the journal, where it is a legal one of the session; else its verdict.
-/// Each ear is asked once of each notice.
+/// The lines of these ears over the journal if it is legal, or its verdict. Each ear is asked once for each
+/// notice.
 pub fn review<F: Listener>(
     alloc: Global,
     s: &Session,

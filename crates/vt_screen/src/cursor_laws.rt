@@ -1,4 +1,4 @@
-//! The laws of the cursor, which hold of every screen that bytes and changes make.
+//! Laws of the cursor, for every screen that bytes and changes make.
 ghost use Rattle.vt_screen.specs.Inside.{TapesKeepCursor};
 ghost use Rattle.vt_screen.specs.SavedCursor.{RestorePutsBack};
 

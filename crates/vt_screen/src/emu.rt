@@ -18,7 +18,7 @@ use vt_cells::{Cell, Palette, columns_are_few};
 use vt_grid::Grid;
 use vt_units::{Codes, MOST_CODES, Pending, Then, controls_are_units, printables_are_characters};
 
-/// What an empty place holds: a space, white on black. This project's own.
+/// A blank cell: a space, white on black. This project's own.
 pub const BLANK: Cell = Cell {
     code: 0x20,
     attr: 0x07,
@@ -27,8 +27,8 @@ pub const BLANK: Cell = Cell {
 /// The most bytes that one call of [`Emu::feed`] takes.
 pub const FEED_BYTES: usize = 64;
 
-/// A screen and the machine that writes on it. Contracts see the screen, and the rest of its text
-/// that isn't a whole unit yet.
+/// A screen and the reader of its text. Contracts see the screen, and the end of its text that isn't a
+/// whole unit yet.
 #[derive(Drop)]
 pub struct Emu {
     canvas: Canvas,
@@ -45,8 +45,8 @@ impl Model for Emu {
 }
 
 impl Emu {
-    /// The start screen of this grid's size: all blank, whatever the grid has, the cursor at home,
-    /// and no text pending.
+    /// The start screen of this grid's size: every cell is blank, the cursor is at home, and no text is
+    /// pending. The cells of the grid don't matter.
     pub fn new(grid: Grid) -> Emu
         ensures { result ≡ start grid.rows grid.cols }
     {
@@ -56,8 +56,8 @@ impl Emu {
         }
     }
 
-    /// Runs the bytes on the screen, in order. What they say beside it is then in `outs`, in order:
-    /// a byte says at most one thing.
+    /// Runs the bytes on the screen, in order. `outs` then has their side effects, in order: each byte has
+    /// at most one.
     pub fn feed(&mut self, b: &[u8], outs: &mut Outs)
         requires short { length b.now ≤ 64 }
         requires empty { outs.old ≡ [] }
@@ -71,7 +71,7 @@ impl Emu {
         }
     }
 
-    /// Does what [`Emu::feed`] does in the plainest way, byte by byte: to compare with.
+    /// [`Emu::feed`], byte by byte and without any faster way: to compare with.
     pub fn feed_plainly(&mut self, b: &[u8], outs: &mut Outs)
         requires short { length b.now ≤ 64 }
         requires empty { outs.old ≡ [] }
@@ -92,7 +92,7 @@ impl Emu {
         self.canvas.grid()
     }
 
-    /// The state of the screen beside its cells.
+    /// The state of the screen, without its cells.
     pub fn state(&self) -> &ScreenState
         ensures state { result.now ≡ self.now.state.state }
         ensures whole { IsWhole self.now.state }
@@ -116,9 +116,9 @@ impl Emu {
         self.canvas.palette_mut()
     }
 
-    /// Takes the fresh grid's size: what both have stays, and what is new is blank. The cursor's row
-    /// stays on the screen, if need be at the cost of those at the top. The text that is pending
-    /// stays. The answer is the old grid.
+    /// Takes the fresh grid's size: cells that both sizes have stay, and new ones are blank. The cursor's
+    /// row stays on the screen; if there is no room, rows at the top are lost. The text that is pending
+    /// stays. Returns the old grid.
     pub fn resize(&mut self, fresh: Grid) -> Grid
         ensures screen { self.new ≡ with_change (resize fresh.rows fresh.cols) self.old }
         ensures old { result ≡ self.old.state.grid }

@@ -1,4 +1,4 @@
-//! The laws of a run, which hold of every screen and every text.
+//! Laws of a run, for every screen and every text.
 ghost use Rattle.vt_screen.specs.Asking.{RequestsAreFew};
 ghost use Rattle.vt_screen.specs.Halves.{HalvesFollowWide, TapesKeepHalves};
 ghost use Rattle.vt_screen.specs.Run.{AnyCut, PiecesAct, PiecesResume, TextsAreCut};
@@ -9,7 +9,7 @@ use vt_chars::unfinished_begins;
 use vt_grid::laws::edits_keep_halves;
 use vt_units::texts_spell_characters;
 
-/// However a text is cut into parts, running the parts in turn is running the whole.
+/// Running the parts of a text in order is running the whole text, however it is cut.
 pub fn any_cut()
     ensures { AnyCut }
 {}
@@ -23,13 +23,13 @@ pub fn pieces_draw()
     unfinished_begins();
 }
 
-/// The bytes of a tape are run as bytes, and no cut of a tape matters.
+/// The bytes of a tape are run as bytes, and the result is the same however a tape is cut.
 pub fn tapes_run()
     ensures stretches { StretchesRun }
     ensures cuts { AnyTapeCut }
 {}
 
-/// In every screen that bytes and changes make of a start, no right half of a character stands in
+/// In every screen that bytes and changes make from a start, no right half of a character stands in
 /// column 0 or right of another.
 pub fn tapes_keep_halves()
     ensures { TapesKeepHalves }
@@ -38,7 +38,7 @@ pub fn tapes_keep_halves()
     texts_spell_characters();
 }
 
-/// In every screen that bytes and changes make of a start, a character of two columns stands left of
+/// In every screen that bytes and changes make from a start, a character of two columns stands left of
 /// each right half.
 pub fn halves_follow_wide()
     ensures { HalvesFollowWide }
@@ -47,13 +47,13 @@ pub fn halves_follow_wide()
     texts_spell_characters();
 }
 
-/// A text asks for another console at most once in four bytes, of which three may have come before.
+/// A text asks for another console at most once in four bytes; three of them may have come before it.
 pub fn requests_are_few()
     ensures { RequestsAreFew }
 {}
 
-/// Every text is pieces and one last rest. What the text makes of a screen, and what it says, is what
-/// they come to, in order.
+/// Every text is pieces and one last rest. Its effect on a screen, and its side effects, are those of
+/// the pieces, in order.
 pub fn texts_are_cut()
     ensures { TextsAreCut }
 {

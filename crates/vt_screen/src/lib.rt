@@ -1,4 +1,4 @@
-//! The escape machine: it reads text byte by byte and keeps the screen that the text makes.
+//! The escape machine: it reads text byte by byte and keeps the screen.
 #![tactic(auto)]
 
 mod canvas;

@@ -1,13 +1,14 @@
 use crate::Out;
 
-/// Who hears what a text says beside the screen, one thing after another: for [`Emu::write_with`](crate::Emu::write_with).
+/// A listener for the side effects of a text, for [`Emu::write_with`](crate::Emu::write_with).
 pub trait Listener {
     ghost use Rattle.vt_screen.specs.declared.out.Out.{Out};
 
-    /// What hearing this may make of it. An implementation says here what its own callers learn of it.
+    /// The relation of the listener before and after it hears a side effect. An implementation states here
+    /// what its callers may use.
     ghost hears: { Self → Out → Self → Type 0 };
 
-    /// Hears one thing.
+    /// Takes one side effect.
     fn hear(&mut self, out: Out)
         ensures { hears self.old out self.new };
 }

@@ -3,7 +3,7 @@ ghost use Rattle.vt_screen.specs.Saying.{bell_if};
 
 use crate::ReportText;
 
-/// What the machine says beside the screen that it draws.
+/// A side effect of a text.
 #[derive(Debug, Default, Drop)]
 pub enum Out {
     /// An answer to a request in the text, for the console's input.
@@ -14,7 +14,7 @@ pub enum Out {
     SwitchLast,
     /// DECLL: the keyboard's lights, Scroll Lock 1, Num Lock 2, Caps Lock 4.
     Lights(u8),
-    /// BEL. (The default is only what an unused place of [`crate::Outs`] holds.)
+    /// BEL. It is the default, which fills the unused places of [`crate::Outs`].
     #[default]
     Bell,
 }

@@ -5,7 +5,7 @@ use crate::Out;
 use arrayvec::ArrayVec;
 use std::marker::Model;
 
-/// What a run of bytes said, in order: a byte says at most one thing, so 64 bytes say at most 64.
+/// The side effects of at most 64 bytes, in order. Each byte has at most one.
 #[derive(Drop)]
 pub struct Outs {
     items: ArrayVec<Out, 64>,
@@ -21,7 +21,7 @@ impl Model for Outs {
 }
 
 impl Outs {
-    /// Nothing said yet.
+    /// An empty list.
     pub fn new() -> Outs
         ensures { result ≡ [] }
     {
@@ -30,14 +30,14 @@ impl Outs {
         }
     }
 
-    /// Forgets what was said.
+    /// Removes all side effects.
     pub fn clear(&mut self)
         ensures { self.new ≡ [] }
     {
         self.items.clear();
     }
 
-    /// Adds what was said last.
+    /// Adds a side effect at the end.
     pub fn push(&mut self, out: Out)
         requires { length self.old < 64 }
         ensures { self.new ≡ self.old ++ out ∷ [] }
@@ -45,7 +45,7 @@ impl Outs {
         self.items.push(out);
     }
 
-    /// Adds what was said last, if anything was.
+    /// Adds a side effect at the end, if there is one.
     pub(crate) fn say(&mut self, said: Option<Out>)
         requires { length self.old < 64 }
         ensures said { self.new ≡ self.old ++ outs_of_option said }
@@ -68,7 +68,7 @@ impl Outs {
         Some(self.items.remove(0))
     }
 
-    /// What was said, in order.
+    /// The side effects in order.
     pub fn as_slice(&self) -> &[Out]
         ensures items { result.now ≡ self.now }
         ensures bound { length self.now ≤ 64 }

@@ -1,6 +1,6 @@
 use vt_cells::Attr;
 
-/// The cursor as DECSC saves it, with what belongs to it (console_codes(4), "ESC 7").
+/// The cursor as DECSC saves it, with its pen and its modes (console_codes(4), "ESC 7").
 #[derive(Clone, Copy, Debug)]
 pub struct Saved {
     pub x: u8,

@@ -6,20 +6,20 @@ use vt_cells::{Attr, Intensity, Look, Palette};
 use vt_chars::CharMap;
 use vt_sgr::Pen;
 
-/// The state of a screen beside its cells (console_codes(4)).
+/// The state of a screen, without its cells (console_codes(4)).
 #[derive(Drop)]
 pub struct ScreenState {
     /// The cursor's column, from 0.
     pub x: u8,
     /// The cursor's row, from 0.
     pub y: u8,
-    /// A wrap is pending: the last column was printed, and the next character goes to the row below.
+    /// Whether a wrap is pending: the last column was printed, and the next character goes to the row below.
     pub wrap: bool,
     /// The first row of the scrolling region.
     pub top: u8,
     /// The last row of the scrolling region.
     pub bottom: u8,
-    /// How text is written, with the flags of the byte tables.
+    /// The pen, with the flags of the byte tables.
     pub pen: Pen,
     /// The table that is G0, by its number in [`CharMap`].
     pub g0: u8,
@@ -27,7 +27,7 @@ pub struct ScreenState {
     pub g1: u8,
     /// Which of the two is in use, 0 or 1.
     pub shift: u8,
-    /// Text is UTF-8.
+    /// Whether text is UTF-8.
     pub utf8: bool,
     pub stops: Stops,
     /// IRM: a printed character moves the rest of its row to the right.
@@ -55,7 +55,7 @@ pub struct ScreenState {
 }
 
 impl ScreenState {
-    /// The state of a new screen of so many rows. This project's own.
+    /// The state of a new screen with this number of rows. This project's own.
     pub(crate) fn start(rows: u8) -> ScreenState
         requires { 0 < rows }
         ensures { result ≡ start_state rows }
@@ -87,7 +87,7 @@ impl ScreenState {
         }
     }
 
-    /// Becomes the state of a new screen of so many rows, but for the pen, the palette and the
+    /// Becomes the state of a new screen with this number of rows, except the pen, the palette and the
     /// user's table.
     pub(crate) fn restart(&mut self, rows: u8)
         requires { 0 < rows }

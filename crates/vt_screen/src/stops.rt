@@ -23,7 +23,7 @@ impl Model for Stops {
 }
 
 impl Stops {
-    /// A stop in every eighth column but the first.
+    /// A stop in every eighth column except the first.
     pub fn start() -> Stops
         ensures { result ≡ start_stops }
     {

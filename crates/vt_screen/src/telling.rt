@@ -6,8 +6,8 @@ ghost use Rattle.vt_screen.specs.Run.{after, outs_of_run};
 use crate::{Emu, Listener, Outs, any_cut};
 
 impl Emu {
-    /// Runs a text of any length on the screen, as [`Emu::write`] does. The listener hears the reports,
-    /// requests, lights and bells of the text, one after another and in their order.
+    /// Runs a text of any length on the screen, as [`Emu::write`] does. The listener gets the reports,
+    /// requests, lights and bells of the text one by one, in order.
     pub fn write_with<L: Listener>(&mut self, b: &[u8], listener: &mut L)
         ensures screen { self.new ≡ after self.old b.now }
         ensures heard { HearsAll L.hears listener.old (outs_of_run self.old b.now) listener.new }

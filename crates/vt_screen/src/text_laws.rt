@@ -1,4 +1,4 @@
-//! The laws of printed text.
+//! A law of printed text.
 ghost use Rattle.vt_screen.specs.TextRows.{TextFillsRows, TextScrolls};
 
 use vt_cells::columns_are_few;

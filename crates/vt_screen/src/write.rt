@@ -5,8 +5,8 @@ ghost use Rattle.vt_screen.specs.Run.{after, outs_of_run};
 use crate::{Emu, Outs, any_cut};
 
 impl Emu {
-    /// Runs a text of any length on the screen, as [`Emu::feed`] runs its pieces. What it says
-    /// beside the screen is dropped.
+    /// Runs a text of any length on the screen, as [`Emu::feed`] runs its pieces. The side effects are
+    /// dropped.
     pub fn write(&mut self, b: &[u8])
         ensures { self.new ≡ after self.old b.now }
     {
@@ -19,8 +19,8 @@ impl Emu {
         }
     }
 
-    /// Runs a text of any length on the screen until it says something beside the screen, or to its
-    /// end. The answer is how many bytes were run; what they say is then alone in `outs`.
+    /// Runs a text of any length on the screen up to its first side effect, or to its end. Returns the
+    /// number of bytes that were run; `outs` then has their side effects alone.
     pub fn write_until(&mut self, b: &[u8], outs: &mut Outs) -> usize
         ensures within { result ≤ length b.now }
         ensures screen { self.new ≡ after self.old (take result b.now) }

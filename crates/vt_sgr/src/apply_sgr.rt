@@ -13,7 +13,7 @@ use crate::indices::{background_of, foreground_of};
 use vt_cells::{Intensity, fold_bg, fold_fg};
 
 /// SGR: changes the pen by the parameters of the sequence (console_codes(4), "ECMA-48 Select Graphic
-/// Rendition"). Each parameter acts on what those before it made.
+/// Rendition"), one after another.
 pub fn apply(p: &mut Pen, params: &[u16])
     ensures { p.new ≡ sgr params.now p.old }
 {
@@ -41,7 +41,7 @@ fn apply_longer(p: &mut Pen, params: &[u16])
     apply_all(p, params);
 }
 
-/// Does the same by three parameters: a colour by its index needs no list.
+/// [`apply`] of three parameters, without a list: enough for a colour by its index.
 pub fn apply_three(p: &mut Pen, first: u16, second: u16, third: u16)
     ensures { p.new ≡ sgr (first ∷ second ∷ third ∷ []) p.old }
 {
@@ -52,7 +52,7 @@ pub fn apply_three(p: &mut Pen, first: u16, second: u16, third: u16)
     }
 }
 
-/// Does the same by five parameters: a colour by its parts needs no list.
+/// [`apply`] of five parameters, without a list: enough for a colour by its parts.
 pub fn apply_five(p: &mut Pen, first: u16, second: u16, third: u16, fourth: u16, fifth: u16)
     ensures { p.new ≡ sgr (first ∷ second ∷ third ∷ fourth ∷ fifth ∷ []) p.old }
 {

@@ -9,13 +9,13 @@ pub struct Pen {
     pub look: Look,
     /// The default colour of characters, below 16.
     pub def_fg: u8,
-    /// The default colour of the ground, below 8.
+    /// The default background colour, below 8.
     pub def_bg: u8,
-    /// The null mapping is selected.
+    /// Whether the null mapping is selected.
     pub alt: bool,
-    /// Control characters are displayed.
+    /// Whether control characters are displayed.
     pub display: bool,
-    /// The high bit of a byte is toggled before it is mapped.
+    /// Whether the high bit of a byte is toggled before it is mapped.
     pub toggle: bool,
 }
 

@@ -9,7 +9,7 @@ use crate::{Cause, Console, Handling, Hop, Switch};
 use vt_base::{CallerNo, ConsoleNo};
 
 impl Switch {
-    /// Gives back one console whose switches `p` handled, as `p` dies.
+    /// Resets one console whose switches `p` handled, when `p` dies.
     pub fn reset(&mut self, c: ConsoleNo, p: CallerNo) -> Option<Hop>
         requires { owns self.old p c ≡ true }
         ensures answer { result ≡ reset_hop self.old c p }
@@ -21,7 +21,7 @@ impl Switch {
         hop
     }
 
-    /// Gives back every console whose switches `p` handled, as `p` dies.
+    /// Resets every console whose switches `p` handled, when `p` dies.
     pub fn leave(&mut self, p: CallerNo) -> Option<Hop>
         ensures answer { result ≡ ended_hop self.old p }
         ensures state { self.new ≡ after_process_end self.old p }

@@ -1,10 +1,10 @@
 use crate::{Handshake, Words};
 
-/// Who handles the switches of a console.
+/// How a console handles its switches.
 #[derive(Clone, Copy, Debug)]
 pub enum Handling {
     /// VT_AUTO: the console itself, at once.
     Auto(Words),
-    /// VT_PROCESS: a process, which is asked.
+    /// VT_PROCESS: a process is asked first.
     Process(Handshake),
 }

@@ -5,9 +5,9 @@ use vt_base::{CallerNo, Signal};
 pub struct Handshake {
     pub owner: CallerNo,
     pub waitv: u16,
-    /// Asks the owner to let the display go.
+    /// The signal that asks the owner to let the display go.
     pub relsig: Signal,
-    /// Tells the owner that it has the display.
+    /// The signal for the owner when it gets the display.
     pub acqsig: Signal,
     pub frsig: u16,
 }

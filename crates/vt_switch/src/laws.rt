@@ -1,27 +1,28 @@
-//! The laws of the switch.
+//! Laws of the switch.
 ghost use Rattle.vt_switch.specs.Acts.{OnlyHopsSwitch};
 ghost use Rattle.vt_switch.specs.Law.{DisplayLaw, HopsAreDue, OwnersStayLive, TargetLaw};
 ghost use Rattle.vt_switch.specs.News.{OneHopIsTold, OneNewsIsTold};
 
-/// Each act of the switch changes the console in front by its hop alone.
+/// An act changes the console in front exactly by its hop.
 pub fn only_hops_switch()
     ensures { OnlyHopsSwitch }
 {}
 
-/// Each hop of each history was allowed: the front handled its switches itself, showed text and
-/// wasn't locked; or its owner let the display go, or died, after it had been asked to.
+/// Each hop of each history was allowed. Either the console in front handled its switches itself and
+/// showed text, and switching wasn't locked; or its owner let the display go, or died, after it had
+/// been asked to.
 pub fn each_hop_was_allowed()
     ensures { DisplayLaw }
 {}
 
-/// What waits for the display was asked for: the owner of the console in front got its release
-/// signal, and neither refused nor set a mode since. Owners of consoles live.
+/// If a console waits for the display, the owner of the console in front got its release signal, and
+/// has neither refused nor set a mode since. Owners of consoles are alive.
 pub fn each_target_was_asked_for()
     ensures asked { TargetLaw }
     ensures owners { OwnersStayLive }
 {}
 
-/// What one act tells of the display, and to what its hop is due, whatever came before.
+/// The marks of one act on the display, and the cause of its hop, after any history.
 pub fn acts_tell_one_thing()
     ensures due { HopsAreDue }
     ensures hop { OneHopIsTold }

@@ -1,5 +1,5 @@
-//! Which console has the display, who handles its switches, and how the display changes hands
-//! (ioctl_console(2)).
+//! The display: which console has it, which process handles the switches of each console, and how
+//! the display changes hands (ioctl_console(2)).
 #![tactic(auto)]
 
 mod asked;

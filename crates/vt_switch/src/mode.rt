@@ -9,7 +9,7 @@ use vt_base::{CallerNo, ConsoleNo, Inval, Signal, VtMode};
 const SIGKILL: u16 = 9;
 
 impl Switch {
-    /// Sets who handles the switches of console `c`, as `p` asks for (ioctl_console(2), VT_SETMODE).
+    /// Sets the mode of console `c` for process `p` (ioctl_console(2), VT_SETMODE).
     pub fn set_mode(&mut self, c: ConsoleNo, p: CallerNo, m: VtMode) -> Result<(), Inval>
         ensures answer { result ≡ mode_answer (handling_of p m) }
         ensures state { self.new ≡ set_mode self.old c p m }

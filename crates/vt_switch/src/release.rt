@@ -7,8 +7,8 @@ use crate::{Cause, Handling, Hop, Switch};
 use vt_base::{CallerNo, ConsoleNo, Inval};
 
 impl Switch {
-    /// The answer of `p` for console `c`: 1 lets a pending switch away from it go on, 0 drops it, 2
-    /// acknowledges that `c` got the display (ioctl_console(2), VT_RELDISP).
+    /// The answer of process `p` for console `c`: 1 lets a pending switch away from `c` happen, 0 drops
+    /// it, 2 acknowledges that `c` got the display (ioctl_console(2), VT_RELDISP).
     pub fn release(&mut self, c: ConsoleNo, p: CallerNo, arg: u16) -> Result<Option<Hop>, Inval>
         ensures answer { result ≡ release_result self.old c p arg }
         ensures state { self.new ≡ release self.old c p arg }
@@ -24,7 +24,7 @@ impl Switch {
         }
     }
 
-    /// Whether `p` handles the switches of `c`.
+    /// Whether process `p` handles the switches of console `c`.
     pub fn owns(&self, p: CallerNo, c: ConsoleNo) -> bool
         ensures { result ≡ owns self.now p c }
     {

@@ -8,14 +8,14 @@ use crate::{Handling, Switch};
 use vt_base::{CallerNo, ConsoleNo, VtMode};
 
 impl Switch {
-    /// Whether no request is taken from here on (ioctl_console(2), VT_LOCKSWITCH, VT_UNLOCKSWITCH).
+    /// Sets whether requests are ignored (ioctl_console(2), VT_LOCKSWITCH, VT_UNLOCKSWITCH).
     pub fn set_lock(&mut self, on: bool)
         ensures { self.new ≡ with_lock self.old on }
     {
         self.locked = on;
     }
 
-    /// The console shows graphics, or text (ioctl_console(2), KDSETMODE), if it is allocated.
+    /// Sets whether the console shows graphics, if it is allocated (ioctl_console(2), KDSETMODE).
     pub fn set_kd(&mut self, c: ConsoleNo, graphics: bool)
         ensures { self.new ≡ with_kd self.old c graphics }
     {
@@ -34,8 +34,7 @@ impl Switch {
         }
     }
 
-    /// The five words that say who handles the switches of the console (ioctl_console(2),
-    /// VT_GETMODE).
+    /// The five words of the console's mode (ioctl_console(2), VT_GETMODE).
     pub fn mode(&self, c: ConsoleNo) -> VtMode
         ensures { result ≡ words_of (console self.now c).handling }
     {
@@ -51,7 +50,7 @@ impl Switch {
         }
     }
 
-    /// Who handles the switches of the console: itself, where it isn't allocated.
+    /// How the console handles its switches: VT_AUTO if it isn't allocated.
     pub fn handling(&self, c: ConsoleNo) -> Handling
         ensures { result ≡ (console self.now c).handling }
     {
@@ -61,7 +60,7 @@ impl Switch {
         }
     }
 
-    /// The process that handles the switches of the console, where one does.
+    /// The process that handles the switches of the console, if there is one.
     pub fn owner(&self, c: ConsoleNo) -> Option<CallerNo>
         ensures { result ≡ owner_of (console self.now c).handling }
     {

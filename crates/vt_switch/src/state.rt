@@ -21,7 +21,8 @@ pub(crate) const FRESH: Console = Console {
     }),
 };
 
-/// Which console has the display, which one waits for it, and who handles the switches of each.
+/// The state of the display: the console in front, the console that waits for the display, and how
+/// each console handles its switches.
 #[derive(Debug, Drop)]
 pub struct Switch {
     pub(crate) front: ConsoleNo,
@@ -44,7 +45,7 @@ impl Model for Switch {
 }
 
 impl Switch {
-    /// These consoles are allocated and new, and one of them is in front.
+    /// The start: these consoles are allocated and new, and one of them is in front.
     pub fn start(front: ConsoleNo, allocated: u64) -> Switch
         requires { IsFitSet allocated front }
         ensures { result ≡ first_display allocated front }
@@ -84,7 +85,7 @@ impl Switch {
         self.pending
     }
 
-    /// Whether no request is taken.
+    /// Whether requests are ignored.
     pub fn locked(&self) -> bool
         ensures { result ≡ self.now.locked }
     {

@@ -1,4 +1,4 @@
-/// The words of a mode beside its first, as they were given.
+/// The words of a mode after the first, unchanged.
 #[derive(Clone, Copy, Debug)]
 pub struct Words {
     pub waitv: u16,

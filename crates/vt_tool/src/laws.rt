@@ -1,4 +1,4 @@
-//! The laws of what commands give.
+//! Laws of the outcomes of commands.
 ghost use Rattle.std.specs.Prelude.{ℕ};
 ghost use Rattle.vt_tool.specs.Commands.Judging.{OneOutcomeOf};
 ghost use Rattle.vt_tool.specs.Laws.{OneOutcome, RaceMayPlay, RunDecides};

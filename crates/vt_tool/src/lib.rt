@@ -1,4 +1,4 @@
-//! The program's commands: words, input and output, and what each command makes of them.
+//! The commands of the program: words, input and output.
 #![tactic(auto)]
 
 mod answer;

@@ -9,7 +9,7 @@ use vt_io::Failed;
 pub(crate) enum ReadEnd {
     /// The source failed.
     Fault,
-    /// The source gives more bytes than are read.
+    /// The source has more bytes than the limit.
     TooLong,
     /// Memory ran out.
     NoMemory,

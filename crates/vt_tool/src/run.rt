@@ -17,8 +17,8 @@ use std::thread::Threads;
 use vt_io::{Gate, Sink, Source};
 use vt_world::{displays_are_lawful, refused_calls_change_nothing};
 
-/// Runs the command that the words spell, over the source and the sinks, `race` too: its callers have
-/// a thread each, and pass the gate before each call. Any other words are given to `vt_command`.
+/// Runs the command of the words over the source and the sinks. `race` gives each caller a thread, and asks the
+/// gate before each call. Every other command is that of `vt_command`.
 pub fn vt_run<S: Source, O: Sink, E: Sink, G: Gate + Sync, R: Threads + Wait + Sync>(
     rt: &R,
     alloc: Global,

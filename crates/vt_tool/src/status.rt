@@ -6,23 +6,23 @@ use vt_journal::Full;
 /// How a run of the program ended.
 #[derive(Clone, Copy, PartialEq, Eq)]
 pub enum Status {
-    /// The defined text is written whole.
+    /// The whole text is written.
     Fine,
-    /// The words are none of the forms.
+    /// The words are no command.
     Usage,
     /// The source failed.
     ReadFault,
-    /// Out or err failed.
+    /// A write to standard output or standard error failed.
     WriteFault,
     /// Memory ran out.
     NoMemory,
-    /// The input isn't in the command's grammar: the kind of the first fault, and its place.
+    /// The input has a fault: the kind of the first one, and its place.
     Refused { code: u16, a: u32, b: u32 },
-    /// The source gives more bytes than the command reads.
+    /// The source has more bytes than the command reads.
     TooLong,
     /// A call found no room in the journal.
     JournalFull(Full),
-    /// The journal is none of the session: its first entry that fails, and the reason's number.
+    /// The journal is not legal: the first entry that fails, and the reason's number.
     Illegal { index: u32, why: u8 },
 }
 

@@ -1,10 +1,10 @@
-/// How the drawing of a source ends.
+/// How drawing a source ended.
 #[derive(Clone, Copy, Debug, PartialEq, Eq)]
 pub enum Streamed {
     /// The source was read to its end.
     End,
     /// The source failed.
     Fault,
-    /// The source gives more bytes than are read.
+    /// The source has more bytes than the limit.
     TooLong,
 }

@@ -6,8 +6,7 @@ use crate::streamed::Streamed;
 use vt_io::Source;
 use vt_screen::{Emu, any_cut};
 
-/// Draws what the source gives on the screen, piece by piece through `buf`. What the bytes say beside
-/// the screen is dropped.
+/// Draws the bytes of the source on the screen, piece by piece through `buf`. Their side effects are dropped.
 pub fn screen_stream<S: Source>(src: &mut S, emu: &mut Emu, buf: &mut [u8]) -> Streamed
     requires some { 1 ≤ length buf.old }
     requires few { length buf.old ≤ 4_096 }

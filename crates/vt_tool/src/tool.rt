@@ -15,9 +15,8 @@ use vt_base::Size;
 use vt_io::{Sink, Source};
 use vt_world::{displays_are_lawful, refused_calls_change_nothing};
 
-/// Runs the command that the words spell, over the source and the sinks: its text goes to `out`,
-/// and the line of a status other than Fine to `err`. It knows each command but `race`, which needs
-/// threads.
+/// Runs the command of the words over the source and the sinks: its text goes to `out`, and the line of a status
+/// other than Fine to `err`. It has every command except `race`, which needs threads.
 pub fn vt_command<S: Source, O: Sink, E: Sink>(
     alloc: Global,
     words: &[String],

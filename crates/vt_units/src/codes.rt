@@ -23,7 +23,7 @@ impl Model for Codes {
 }
 
 impl Codes {
-    /// No characters yet.
+    /// An empty list.
     pub fn new() -> Codes
         ensures { result ≡ [] }
     {
@@ -42,14 +42,14 @@ impl Codes {
         self.len += 1;
     }
 
-    /// No characters are left.
+    /// Removes all characters.
     pub fn clear(&mut self)
         ensures { self.new ≡ [] }
     {
         self.len = 0;
     }
 
-    /// How many there are.
+    /// The number of characters.
     pub fn len(&self) -> usize
         ensures count { result ≡ length self.now }
         ensures bound { result ≤ 64 }

@@ -1,4 +1,4 @@
-//! Text cut into units: characters, control characters and control sequences, read byte by byte.
+//! Units of a text: characters, control characters and sequences, read byte by byte.
 #![tactic(auto)]
 
 mod bytes;

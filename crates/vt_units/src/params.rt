@@ -23,7 +23,7 @@ impl Model for Params {
 }
 
 impl Params {
-    /// No parameters yet.
+    /// An empty list.
     pub fn new() -> Params
         ensures { result ≡ [] }
     {
@@ -42,7 +42,7 @@ impl Params {
         self.len += 1;
     }
 
-    /// No parameters are left.
+    /// Removes all parameters.
     pub fn clear(&mut self)
         ensures { self.new ≡ [] }
     {

@@ -32,8 +32,8 @@ use crate::{Mode, Params, Read, ShortCsi, Then, WholeSequence};
 use std::marker::Model;
 use vt_chars::{Decoded, decode};
 
-/// The text that isn't finished: contracts see its bytes and the mode at the first of them. What a
-/// string swallows isn't kept, so it takes the same memory however much is read.
+/// The text that isn't finished. Contracts see its bytes and the mode at its first byte. The
+/// content of a string isn't kept, so the size does not depend on how much was read.
 #[derive(Debug, Drop)]
 pub struct Pending {
     mode: Mode,
@@ -53,7 +53,7 @@ impl Model for Pending {
 }
 
 impl Pending {
-    /// No text yet.
+    /// No text is pending.
     pub fn new() -> Pending
         ensures { result ≡ fresh start_mode }
     {
@@ -67,7 +67,7 @@ impl Pending {
         }
     }
 
-    /// Whether no text is pending. A text that is pending is unfinished.
+    /// Whether no text is pending. A pending text is always unfinished.
     pub fn is_empty(&self) -> bool
         ensures empty { result ≡ is_empty self.now.text }
         ensures unfinished { result ≡ false → IsUnfinished self.now.mode self.now.text }
@@ -75,7 +75,7 @@ impl Pending {
         is_none(self.stage, self.mode, self.text.as_slice())
     }
 
-    /// Reads a byte. The mode counts where it is the first byte of a text.
+    /// Reads a byte. The mode counts only for the first byte of a text.
     pub fn take(&mut self, mode: Mode, b: u8) -> Read
         ensures answer { result ≡ answer self.old mode b }
         ensures rest { self.new ≡ rest_after self.old mode b }
@@ -93,9 +93,9 @@ impl Pending {
         }
     }
 
-    /// Reads the printable characters of ASCII at the front of the text, where each is one by
-    /// itself, and tells how many they are: none unless no text is pending and the mode decodes
-    /// UTF-8. It answers for them at once what [`Pending::take`] answers one by one.
+    /// Reads the printable ASCII characters that the text begins with, and returns their number. It
+    /// is 0 unless no text is pending and the mode is UTF-8. The result is that of
+    /// [`Pending::take`] for each of the bytes.
     pub fn take_printable(&mut self, mode: Mode, b: &[u8]) -> usize
         ensures count { result ≡ (if is_empty self.old.text && decodes mode
             then prefix_len is_printable b.now
@@ -113,10 +113,10 @@ impl Pending {
         count
     }
 
-    /// Reads whole characters at the front of the text that are shown, all of them up to as many as
-    /// are wanted, and tells how many bytes they are: none unless no text is pending and the mode
-    /// decodes UTF-8. The characters are then in `codes`, and what was there before is gone. It
-    /// answers for them at once what [`Pending::take`] answers byte by byte.
+    /// Reads whole printable characters that the text begins with, up to as many as are wanted, and
+    /// returns the number of their bytes. It is 0 unless no text is pending and the mode is UTF-8.
+    /// `codes` is replaced by the characters. The result is that of [`Pending::take`] for each of the
+    /// bytes.
     pub fn take_characters(&mut self, mode: Mode, b: &[u8], most: usize, codes: &mut Codes) -> usize
         requires room { most ≤ 64 }
         ensures texts { AreTextsOf (take result b.now) codes.new }
@@ -138,10 +138,10 @@ impl Pending {
         count
     }
 
-    /// Reads a sequence that stands whole at the front of the text, where no text is pending: a
-    /// control sequence of parameters alone, or an escape sequence with at most one intermediate
-    /// byte. The parameters are then in `params`, and what was there before is gone. It answers at
-    /// once what [`Pending::take`] answers byte by byte, in which there is nothing but that unit.
+    /// Reads a whole sequence that the text begins with, if no text is pending: a control sequence
+    /// with parameters alone, or an escape sequence with at most one intermediate byte. `params` is
+    /// replaced by the parameters. The result is that of [`Pending::take`] for each of the bytes: one
+    /// unit, and nothing before it.
     pub fn take_sequence(&mut self, mode: Mode, b: &[u8], params: &mut Params) -> WholeSequence
         ensures sequence { sequence_of result params.new ≡ taken_ahead self.old b.now }
         ensures parameters { params.new ≡ parameters_ahead (taken_ahead self.old b.now) }
@@ -158,9 +158,8 @@ impl Pending {
         ahead
     }
 
-    /// Reads what [`Pending::take_sequence`] reads, where it is a control sequence of one or two
-    /// short parameters, which no `?` begins. Where there is no answer, that call says what is
-    /// there.
+    /// Reads what [`Pending::take_sequence`] reads, if it is a control sequence of one or two short
+    /// parameters that doesn't begin with `?`. After None that call has the result.
     #[inline(always)]
     pub fn take_short_csi(&mut self, mode: Mode, b: &[u8]) -> Option<ShortCsi>
         ensures sequence { IfSome result (λ brief. taken_ahead self.old b.now ≡ Some (csi_in brief)) }
@@ -178,8 +177,8 @@ impl Pending {
         Some(brief)
     }
 
-    /// Reads what [`Pending::take_sequence`] reads, where it is an escape sequence of two bytes, and
-    /// gives its last byte, where that is one from `0` to `O`.
+    /// Reads what [`Pending::take_sequence`] reads, if it is an escape sequence of two bytes with a
+    /// final byte from `0` to `O`, and returns that byte.
     #[inline(always)]
     pub fn take_escape(&mut self, mode: Mode, b: &[u8]) -> Option<u8>
         ensures sequence { IfSome result (λ last. taken_ahead self.old b.now
@@ -198,8 +197,8 @@ impl Pending {
         Some(last)
     }
 
-    /// Takes a control character where no text is pending, and tells whether the byte was one. It
-    /// answers at once what [`Pending::take`] answers.
+    /// Takes a control character if no text is pending, and returns whether the byte was one. The
+    /// result is that of [`Pending::take`].
     pub fn take_control(&mut self, mode: Mode, b: u8) -> bool
         ensures control { result ≡ (is_empty self.old.text && is_control mode b && not (b == 0x1B)) }
         ensures rest { self.new ≡ (if result then fresh mode else self.old) }

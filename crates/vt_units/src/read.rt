@@ -1,10 +1,10 @@
 use crate::Then;
 
-/// The answer to a byte.
+/// The answer for one byte.
 #[derive(Debug, Drop)]
 pub struct Read {
-    /// The bytes before this one are malformed: U+FFFD comes before what `got` says.
+    /// Whether the bytes before this one are malformed: then U+FFFD comes before the result `got`.
     pub bad: bool,
-    /// What this byte comes to.
+    /// The result of this byte.
     pub got: Then,
 }

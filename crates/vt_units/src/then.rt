@@ -1,14 +1,14 @@
 use crate::Unit;
 
-/// What a byte comes to.
+/// The result of a byte.
 #[derive(Debug, Drop)]
 pub enum Then {
     /// It ends a unit.
     Unit(Unit),
-    /// It is a control character inside a sequence, and acts at once. The sequence goes on.
+    /// It is a control character inside a sequence and acts at once. The sequence continues.
     Act(u8),
-    /// It is part of a text that goes on.
+    /// It is part of a text that continues.
     More,
-    /// It ends a sequence that comes to nothing.
+    /// It ends a sequence that is dropped.
     Dropped,
 }

@@ -1,32 +1,32 @@
 use crate::Params;
 
-/// What a text spells (console_codes(4)).
+/// A unit: what a text means (console_codes(4)).
 #[derive(Debug, Drop)]
 pub enum Unit {
     /// A character, by its code point. U+FFFD stands for malformed bytes.
     Char(u32),
-    /// A byte that the byte tables give its character.
+    /// A byte whose character is that of a byte table.
     Byte(u8),
     /// A control character.
     Control(u8),
-    /// An escape sequence: its intermediate byte, or 0 where there is none, and its last byte.
+    /// An escape sequence: its intermediate byte, or 0 if there is none, and its final byte.
     Esc {
         mid: u8,
         last: u8,
     },
-    /// A control sequence (CSI): whether `?` begins it, its parameters and its last byte.
+    /// A control sequence (CSI): whether it begins with `?`, its parameters and its final byte.
     Csi {
         private: bool,
         params: Params,
         last: u8,
     },
-    /// ESC ] P: colour `n` of the palette, as red, green and blue.
+    /// ESC ] P: colour `n` of the palette is set to red, green and blue.
     Colour {
         n: u8,
         rgb: (u8, u8, u8),
     },
-    /// ESC ] R: the palette as at the start.
+    /// ESC ] R: the palette becomes the one of the start.
     ColourReset,
-    /// A text without effect: a string, or a sequence that no other unit stands for.
+    /// A text without effect: a string, or a sequence that is no other unit.
     Ignored,
 }

@@ -3,7 +3,7 @@
 pub enum WholeSequence {
     /// None that is read at once.
     Nothing,
-    /// An escape sequence: its intermediate byte, or 0 where there is none, and its last byte.
+    /// An escape sequence: its intermediate byte, or 0 if there is none, and its final byte.
     Esc {
         mid: u8,
         last: u8,

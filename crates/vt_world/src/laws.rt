@@ -1,4 +1,4 @@
-//! The laws of histories.
+//! Laws of histories.
 ghost use Rattle.vt_world.specs.History.{LegalGrows, NothingIsLegal, ReplayGrows};
 ghost use Rattle.vt_world.specs.Laws.{ActsAreCalls, ActsMakeCores, DisplaysAreLawful, DisplaysAreLawfulFrom, MomentsGrow, OwnersAreLive, ScreensAreTapes, TargetsAreExplained, TerminalsAreAllocated, TracesTellActs, TracesTellDeeds, TracesTellHops, TracesTellNews};
 ghost use Rattle.vt_world.specs.RefusalLaws.{BrokenWaitsAreTaken, LaterAnswersStay, RefusalsCanGo, RefusalsChangeNothing};
@@ -15,7 +15,7 @@ pub fn legal_grows()
     ensures replay { ReplayGrows }
 {}
 
-/// Why the display changed hands in every history from a start, and what the traces tell of it.
+/// Why the display changed hands in every history from a start, and the marks of the traces.
 pub fn displays_are_lawful()
     ensures lawful { DisplaysAreLawful }
     ensures waiting { TargetsAreExplained }
@@ -30,8 +30,8 @@ pub fn displays_are_lawful()
     each_target_was_asked_for();
 }
 
-/// Why the display changed hands in every history from a console that needs not be a start, if nothing
-/// waits for the display there.
+/// Why the display changed hands in every history from any machine in which no console waits for the
+/// display.
 pub fn displays_are_lawful_from(w: &World)
     ensures { DisplaysAreLawfulFrom w.now }
 {
@@ -39,8 +39,8 @@ pub fn displays_are_lawful_from(w: &World)
     w.owners_live();
 }
 
-/// What the traces of a history tell of the display, who is asked and where it goes, and how the
-/// moments of a history grow, entry by entry.
+/// The marks of a history's traces about the display: which owner is asked, and where the display
+/// goes; and how the moments of a history grow, entry by entry.
 pub fn traces_tell_news()
     ensures news { TracesTellNews }
     ensures moments { MomentsGrow }
@@ -51,18 +51,18 @@ pub fn sizes_stay()
     ensures { SizesStay }
 {}
 
-/// What an event leaves of each console that it doesn't touch.
+/// An event leaves the screen and the bells of a console that it doesn't touch, or frees it.
 pub fn terminals_stay()
     ensures { TerminalsStay }
 {}
 
-/// Whose ticket an event opens: its caller's, by a wait.
+/// An event opens no wait except its caller's.
 pub fn tickets_are_called()
     ensures { TicketsAreCalled }
 {}
 
-/// What a refused call changes: nothing, neither the console nor any later answer. So a list of calls
-/// may go without those of it that are refused.
+/// A refused call changes nothing, neither the machine nor any later answer. So the refused calls of
+/// a list can be left out.
 pub fn refused_calls_change_nothing()
     ensures refused { RefusalsChangeNothing }
     ensures later { LaterAnswersStay }
@@ -80,7 +80,7 @@ pub fn nobody_waits_at_start()
     ensures { NobodyWaitsAtStart }
 {}
 
-/// What each screen shows after every history from a start: its console's tape.
+/// After every history from a start each screen is its console's tape, run from the start screen.
 pub fn screens_are_tapes()
     ensures screens { ScreensAreTapes }
     ensures terminals { TerminalsAreAllocated }

@@ -1,4 +1,4 @@
-//! The console of one thread: it takes the calls of its callers one by one, and answers each.
+//! The machine for one thread: it takes the calls of its callers one by one, and answers each.
 #![tactic(auto)]
 
 mod call;

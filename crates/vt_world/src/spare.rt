@@ -9,7 +9,7 @@ use vt_events::{Event, reply_bytes};
 use vt_grid::Grid;
 use vt_screen::BLANK;
 
-/// What a call may need beside the world: it is taken before, so that the call takes no memory.
+/// The memory that a call may need. It is taken before the call, so that the call takes none.
 #[derive(Drop)]
 pub struct Spare {
     pub(crate) grid: Option<Grid>,
@@ -26,8 +26,7 @@ impl Model for Spare {
 }
 
 impl Spare {
-    /// No grid and no room. It serves every call that allocates nothing and whose answer has no
-    /// bytes.
+    /// No grid and no room: enough for every call that allocates nothing and whose answer has no bytes.
     pub fn none(alloc: Global) -> Spare
         ensures { result ≡ no_spare }
     {
@@ -39,7 +38,7 @@ impl Spare {
     }
 }
 
-/// What the call may need in a world of this size.
+/// The memory that the call may need in a machine of this size.
 pub fn spare_for(alloc: Global, e: &Event, size: Size) -> Result<Spare, NoMemory>
     ensures fits { IfOk result (λ spare. Fits size.rows size.cols e.now spare) }
     ensures grid { IfOk result (λ spare. is_some spare.grid

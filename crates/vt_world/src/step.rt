@@ -15,8 +15,8 @@ use vt_grid::Grid;
 use vt_procs::Waited;
 
 impl World {
-    /// Takes the event of the caller, and answers it. It always answers, and takes no memory; the
-    /// second part is the spare's second buffer, which it doesn't use.
+    /// Takes a call of the caller and returns the answer, and the spare's second buffer, which it doesn't
+    /// use. It always returns, and takes no memory.
     pub fn step(&mut self, caller: CallerNo, event: &Event, spare: Spare) -> (Reply, Bytes)
         requires fits { Fits self.old.rows self.old.cols event.now spare }
         ensures step { HasOutcome (step self.old caller event.now) self.new result.0 }

@@ -22,8 +22,8 @@ use vt_procs::{Config, Procs, Waited, Waiting};
 use vt_screen::Emu;
 use vt_switch::{Mark, Switch};
 
-/// All consoles with what they show and what was typed into them, the display, the callers, the
-/// keyboards, and what the last event told.
+/// The machine: all consoles with their screens and their input, the display, the callers, the
+/// keyboards, and the marks of the last event.
 #[derive(Drop)]
 pub struct World {
     pub(crate) size: Size,
@@ -59,8 +59,9 @@ impl Model for World {
 }
 
 impl World {
-    /// All consoles of the set are new, every keyboard and every process lives and has nothing open,
-    /// no key is down, and the key tables are these. All memory for what is typed is taken here.
+    /// The start: all consoles of the set are new, every keyboard and every process is alive and has
+    /// nothing open, no key is down, and the key tables are these. All memory for typed input is taken
+    /// here.
     pub fn start(alloc: Global, c: &Config, t: &KeyTables) -> Result<World, NoMemory>
         requires consoles { IsFitSet c.now.consoles c.now.front }
         requires keyboards { IsFitCount c.now.keyboards }
@@ -83,7 +84,8 @@ impl World {
         })
     }
 
-    /// Whoever handles the switches of a console lives, at the start and after every call.
+    /// Does nothing. It is called for its clause: every process that handles the switches of a console is
+    /// alive.
     pub fn owners_live(&self)
         ensures { OwnersLive (core self.now) }
     {
@@ -97,7 +99,7 @@ impl World {
         self.switch.front()
     }
 
-    /// The screen of the console, where it is allocated.
+    /// The screen of the console, if it is allocated.
     pub fn screen(&self, c: ConsoleNo) -> Option<&Emu>
         ensures screen { option_copied result ≡ machine_of (terminal_at self.now.terminals c) }
         ensures allocated { is_some result ≡ is_allocated self.now.display c }
@@ -108,7 +110,7 @@ impl World {
         }
     }
 
-    /// How often the console's bell rang: 0 where it isn't allocated.
+    /// How often the console's bell rang: 0 if the console isn't allocated.
     pub fn bells(&self, c: ConsoleNo) -> u32
         ensures { result ≡ bells_of (terminal_at self.now.terminals c) }
     {
@@ -118,7 +120,7 @@ impl World {
         }
     }
 
-    /// The bytes that a console's input has.
+    /// The bytes of a console's input.
     pub fn queue(&self, c: ConsoleNo) -> &InQueue
         ensures { result.now ≡ (input_at self.now.inputs c).queue }
     {
@@ -133,8 +135,8 @@ impl World {
         self.size
     }
 
-    /// What the last event told of what it did to the display and to the callers, in order: nothing
-    /// before the first one, or where it was refused.
+    /// The marks of the last event, in order: what it did to the display and to the callers. There are
+    /// none before the first event, and none if the event was refused.
     pub fn trace(&self) -> &[Mark]
         ensures marks { result.now ≡ self.now.trace.marks }
         ensures few { length result.now ≤ 3072 }
@@ -142,7 +144,7 @@ impl World {
         self.trace.marks()
     }
 
-    /// How often the display switched since the start, up to the greatest number.
+    /// How often the display changed hands since the start, at most the greatest u64.
     pub fn hops(&self) -> u64
         ensures { result ≡ self.now.trace.hops }
     {
@@ -156,14 +158,14 @@ impl World {
         self.procs.console_of(p, fd)
     }
 
-    /// Whether the caller has an open ticket.
+    /// Whether the caller waits.
     pub fn waiting(&self, p: CallerNo) -> bool
         ensures { result ≡ is_waiting self.now p }
     {
         self.procs.ticket(p) == Waited::Still
     }
 
-    /// What stands of the caller's wait: none, open and for what, or how it ended.
+    /// The caller's wait: none, open with what it waits for, or how it ended.
     pub fn wait_of(&self, p: CallerNo) -> Waiting
         ensures { result ≡ (caller_at self.now.callers p).waiting }
     {

@@ -3,10 +3,9 @@ ghost use Rattle.std.specs.Prelude.{◌≡◌, ◌+◌, ◌<◌};
 use std::marker::Model;
 use std::sync::ledger::{Blank, Book, Ledger, Share};
 
-/// How many steps the calls of a [`RowStore`](super::RowStore) took, as each told the ledger: a call
-/// that did more than it told of would be proved too, so that a cut row costs one step is read in
-/// [`RowStore::cut`](super::RowStore::cut) and said by no clause. It is there for proofs alone, and
-/// has no bytes when a program runs.
+/// Counts the steps that calls of a [`RowStore`](super::RowStore) report. The count is self-reported:
+/// no clause stops a call from doing more than it reports. It exists for proofs alone, and has no
+/// bytes when a program runs.
 #[derive(Drop)]
 pub struct Steps<L: Ledger> {
     book: Book<L>,
@@ -24,7 +23,7 @@ impl<L: Ledger> Model for Steps<L> {
 }
 
 impl<L: Ledger> Steps<L> {
-    /// A counter that stands at 0, over a ledger of its own.
+    /// A counter of 0, over a ledger of its own.
     pub fn open(blank: Blank) -> Steps<L>
         requires name { blank.name ≡ L.name }
         requires parts { blank.parts ≡ L.parts }

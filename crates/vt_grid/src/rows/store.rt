@@ -17,8 +17,7 @@ use std::sync::ledger::Ledger;
 use vt_base::{NoMemory, Size};
 use vt_cells::{Cell, HALF};
 
-/// The rows of a grid. Each stores its first cells, and one cell that stands for all further
-/// ones.
+/// The rows of a grid. Each stores its first cells, and one cell for all cells after them.
 #[derive(Drop)]
 pub struct RowStore {
     size: Size,
@@ -112,7 +111,7 @@ impl RowStore {
         row.stored()
     }
 
-    /// Sets one cell, which is stored or the first that isn't. One step.
+    /// Sets a cell that is stored, or the first that isn't. One step.
     pub fn write<L: Ledger>(&mut self, y: u8, x: u8, c: Cell, steps: &mut Steps<L>)
         requires row { y < self.old.rows }
         requires place { x ≤ length (stored_row self.old y).stored }
@@ -127,7 +126,7 @@ impl RowStore {
         steps.add(1);
     }
 
-    /// Stores the first `len` cells of row `y` alone; all further ones are `tail`. One step.
+    /// Keeps only the first `len` cells of row `y`; all cells after them are `tail`. One step.
     pub fn cut<L: Ledger>(&mut self, y: u8, len: u8, tail: Cell, steps: &mut Steps<L>)
         requires row { y < self.old.rows }
         requires stored { len ≤ length (stored_row self.old y).stored }
@@ -141,7 +140,7 @@ impl RowStore {
         steps.add(1);
     }
 
-    /// Moves all rows up by `n` round the end. One step.
+    /// Moves all rows up by `n`, from the top to the bottom. One step.
     pub fn turn<L: Ledger>(&mut self, n: u8, steps: &mut Steps<L>)
         requires { n ≤ self.old.rows }
         ensures rows { self.new ≡ record self.old { lines = rotation_by n self.old.lines } }
@@ -151,8 +150,8 @@ impl RowStore {
         steps.add(1);
     }
 
-    /// Moves the rows `top` to `bottom`, both included, up by `n` round their end. As many steps
-    /// as these rows; no other row's number is touched.
+    /// Moves the rows `top` to `bottom`, both included, up by `n`, from their top to their bottom. One
+    /// step for each of these rows; no other row's number is touched.
     pub fn rotate<L: Ledger>(&mut self, top: u8, bottom: u8, n: u8, steps: &mut Steps<L>)
         requires order { top ≤ bottom }
         requires row { bottom < self.old.rows }
