@@ -7,21 +7,21 @@ The sessions of examples/switches and the tour, a generated one of 64 processes,
 drawn. In each page the marks, signals, waits and arrows are counted against the JSON; no attribute or style refers to
 the outside, every element is closed, and each entry's text has its line, the name of its error, and the reason of its
 switches. Chromium opens each page without a window and counts the same; its keys go through the entries, and
-aria-valuetext is the text of the entry. A page of 64 processes and 10,000 entries has to be there within SECONDS (2, and
-0 for no limit), by the browser's own clock. If Chromium isn't installed, a line names these checks as skipped. No picture
-is kept. Inputs that aren't of the form have to be refused by name.
+aria-valuetext is the text of the entry. A page of 64 processes and 10,000 entries has to be there within SECONDS by the
+browser's own clock, if SECONDS is given; otherwise the time is printed. If Chromium isn't installed, a line names these
+checks as skipped. No picture is kept. Inputs that aren't of the form have to be refused by name, and damaged ones
+refused or drawn.
 
-Prints a line for each fault and last 'N passed, M failed'. Ends with status 1 if one fails, 2 if a program is missing or
-can't be run.
+Prints a line for each fault and last 'N passed, M failed'. Ends with status 1 if one fails, 2 if a program is missing
+or can't be run.
 """
 import argparse
 import collections
 import html.parser
 import json
-import os
 import pathlib
+import random
 import re
-import shutil
 import subprocess
 import sys
 import tempfile
@@ -29,18 +29,22 @@ import time
 
 sys.dont_write_bytecode = True
 
-from tool_files import Stop  # noqa: E402: after the line that keeps tools/ clean
+from browser import Browser, installed  # noqa: E402: after the line that keeps tools/ clean
+from check_hostile import mutated  # noqa: E402
+from timeline_page import page  # noqa: E402
+from tool_files import Stop  # noqa: E402
 from watch_json import read_watch  # noqa: E402
 
 ROOT = pathlib.Path(__file__).resolve().parent.parent
 TOOL = ROOT / "tools/timeline.py"
-BROWSERS = ["chromium", "chromium-browser", "google-chrome"]
-SECONDS, BROWSER_SECONDS = 120, 120
+SECONDS = 120
 VOID = {"meta", "br", "hr", "img", "input", "link"}
+REFERENCES = {"src", "href", "srcset", "action", "data", "poster", "background", "formaction", "ping", "cite"}
 KINDS = ["mark", "raised", "bar", "arrow"]
 LINE = '{"entry":0,"caller":"k0","count":0,"call":"exit","answer":"ok","error":null,"did":[],"front":1,"owners":[],'
 LINE += '"pending":null,"waits":[]}\n'
 END = '{"entries":1,"final":""}\n'
+DIED = '{"what":"switch","from":1,"to":2,"cause":"died","owner":"p1","asked":0,"signal":10}'
 # Inputs that are refused, and the message.
 REFUSED = [
     ("", "line 1: wanted an object of `watch json`, found nothing"),
@@ -60,9 +64,8 @@ REFUSED = [
     (LINE.replace('"did":[]', '"did":[{"what":"end"}]') + END, "line 1: did[0].caller: it isn't there"),
     (LINE.replace('"did":[]', '"did":[{"what":"ends"}]') + END,
      "line 1: did[0].what: wanted request or signal or switch or end or wait, found 'ends'"),
-    (LINE.replace('"did":[]', '"did":[{"what":"switch","from":1,"to":2,"cause":"died","owner":"p1","asked":0,"signal":10}]')
-     + END, "line 1: did[0].asked: entry 0 isn't before this one"),
-    (LINE.replace("null,", '{"console":2,"since":1},').replace('{"console":2,"since":1},', "null,", 1) + END,
+    (LINE.replace('"did":[]', f'"did":[{DIED}]') + END, "line 1: did[0].asked: entry 0 isn't before this one"),
+    (LINE.replace('"pending":null', '"pending":{"console":2,"since":1}') + END,
      "line 1: pending.since: entry 1 isn't before this one"),
     (LINE.replace("exit", "exit\\u0007") + END, "line 1: call: wanted the words of a call, found 'exit\\x07'"),
     ("[" * 100000 + "\n", "line 1: no object of JSON"),
@@ -106,7 +109,7 @@ class Page(html.parser.HTMLParser):
             if "mark" in words:
                 self.marked.append(int(given["data-entry"]))
         for name, value in attrs:
-            refers = name in ("src", "href", "srcset", "action", "data", "poster", "background") or name.startswith("on")
+            refers = name in REFERENCES or name.startswith("on")
             if (refers and not re.fullmatch(r"#\w+", value or "")) or re.search(r"url\((?!#)", value or ""):
                 self.outside.append(f"{tag} {name}={value}")
 
@@ -130,8 +133,8 @@ class Page(html.parser.HTMLParser):
 
 
 def wanted_counts(entries):
-    """How many marks, signals, waits and arrows a session has. An arrow leads to each signal and to each switch, and one
-    more to the release or death after a signal."""
+    """How many marks, signals, waits and arrows a session has. An arrow leads to each signal and to each switch, and
+    one more to the release or death after a signal."""
     dids = [did for entry in entries for did in entry["did"]]
     signals = sum(did["what"] == "signal" for did in dids)
     switches = [did for did in dids if did["what"] == "switch"]
@@ -187,83 +190,11 @@ def check_refused(check):
         ran = run([TOOL], given.encode(errors="surrogatepass"))
         found = ran.returncode, ran.stdout, ran.stderr.decode()
         check.holds(found == (1, b"", f"timeline.py: {wanted}\n"), f"{given[:60]!r}: wanted {wanted!r}, found {found}")
-    for words, status in [(["--no"], 1), (["/no/such/file"], 3), (["-o", "/no/such/file"], 3), (["-o", "/dev/full"], 3)]:
-        ran = run([TOOL, *words], (LINE + END).encode())
-        is_line = re.fullmatch(r"timeline\.py: [^\n]+\n", ran.stderr.decode()) is not None
-        check.holds((ran.returncode, is_line) == (status, True), f"{words}: status {ran.returncode}, {ran.stderr[:200]!r}")
-
-
-class Browser:
-    """Chromium without a window, spoken to through a pair of pipes (the protocol of its developers' tools)."""
-
-    def __init__(self, program, folder):
-        to_read, self.out = os.pipe()
-        self.into, to_write = os.pipe()
-
-        def streams():
-            os.dup2(to_read, 63)
-            os.dup2(to_write, 64)
-            os.dup2(63, 3)
-            os.dup2(64, 4)
-
-        options = ["--headless", "--no-sandbox", "--disable-gpu", "--disable-extensions", "--remote-debugging-pipe"]
-        options += [f"--user-data-dir={folder}/profile", "--window-size=1400,1000", "about:blank"]
-        self.process = subprocess.Popen(
-            [program, *options], preexec_fn=streams, pass_fds=(3, 4), stdout=subprocess.DEVNULL, stderr=subprocess.DEVNULL
-        )
-        os.close(to_read)
-        os.close(to_write)
-        self.number, self.rest, self.session = 0, b"", None
-        target = next(t for t in self.ask("Target.getTargets")["targetInfos"] if t["type"] == "page")
-        self.session = self.ask("Target.attachToTarget", targetId=target["targetId"], flatten=True)["sessionId"]
-
-    def message(self):
-        while b"\0" not in self.rest:
-            part = os.read(self.into, 1 << 20)
-            if not part:
-                raise Stop(2, "the browser ended")
-            self.rest += part
-        text, self.rest = self.rest.split(b"\0", 1)
-        return json.loads(text)
-
-    def ask(self, method, **params):
-        """The answer to a request."""
-        self.number += 1
-        request = {"id": self.number, "method": method, "params": params}
-        if self.session:
-            request["sessionId"] = self.session
-        os.write(self.out, json.dumps(request).encode() + b"\0")
-        while (answer := self.message()).get("id") != self.number:
-            pass
-        if "error" in answer:
-            raise Stop(2, f"the browser refuses {method}: {answer['error'].get('message')}")
-        return answer["result"]
-
-    def value(self, script):
-        """The value of a script."""
-        found = self.ask("Runtime.evaluate", expression=script, returnByValue=True)
-        if "exceptionDetails" in found:
-            raise Stop(2, f"a script fails: {found['exceptionDetails'].get('text')}: {script}")
-        return found["result"].get("value")
-
-    def open(self, address):
-        """Opens a page, and waits until it was drawn."""
-        self.ask("Page.navigate", url=address)
-        end = time.monotonic() + BROWSER_SECONDS
-        while not self.value(f"location.href === {json.dumps(address)} && document.readyState === 'complete'"):
-            if time.monotonic() > end:
-                raise Stop(2, f"the browser doesn't open a page within {BROWSER_SECONDS} s")
-            time.sleep(0.02)
-
-    def key(self, name):
-        for kind in ("keyDown", "keyUp"):
-            self.ask("Input.dispatchKeyEvent", type=kind, key=name, code=name)
-
-    def close(self):
-        self.process.terminate()
-        self.process.wait(timeout=BROWSER_SECONDS)
-        os.close(self.out)
-        os.close(self.into)
+    for words, status in [("--no", 1), ("/no/such/file", 3), ("-o /no/such/file", 3), ("-o /dev/full", 3)]:
+        ran = run([TOOL, *words.split()], (LINE + END).encode())
+        is_line = re.fullmatch(rb"timeline\.py: [^\n]+\n", ran.stderr) is not None
+        is_so = ran.returncode == status and is_line
+        check.holds(is_so, f"{words}: status {ran.returncode}, {ran.stderr[:200]!r}")
 
 
 PAINTED = "performance.getEntriesByType('paint').map((paint) => paint.startTime).concat(0).sort((a, b) => b - a)[0]"
@@ -296,7 +227,34 @@ def check_drawn(check, browser, name, entries, parts, path):
     return there
 
 
-def sessions(folder):
+def changed(chance, given):
+    """JSON with one to six callers, numbers or words in place of others: most of it is of the form, and not true."""
+    parts = re.split(rb'("[kp]\d+"|"ok"|"EINTR"|"gone"|"wait"|null|(?<=:)\d+)', given)
+    for _ in range(chance.randrange(1, 7)):
+        place = chance.randrange(len(parts) // 2) * 2 + 1
+        kind = re.sub(rb"\d+", b"", parts[place])
+        parts[place] = chance.choice([part for part in parts[1::2] if re.sub(rb"\d+", b"", part) == kind])
+        if chance.randrange(4) == 0:
+            parts[place] = chance.choice([b'"p64"', b'"k3"', b'"wait"', b"0", b"1", b"63", b'"ok"', b"null"])
+    return b"".join(parts)
+
+
+def check_damaged(check, name, given, count):
+    """Damaged JSON is refused by name, or drawn."""
+    for number in range(count):
+        chance = random.Random(f"{name} {number}")
+        damaged = mutated(chance, given) if number % 2 else changed(chance, given)
+        try:
+            Page(page(name, *read_watch(damaged)))
+        except Stop as stop:
+            check.holds(re.match(r"line \d+: ", str(stop)), f"{name}, damaged {number}: {stop}")
+        except Exception as fault:  # noqa: BLE001: whatever it is, a user would see it
+            check.holds(False, f"{name}, damaged {number}: {type(fault).__name__}: {fault}")
+        else:
+            check.holds(True, "")
+
+
+def sessions():
     """The sessions that are drawn: names, and their texts."""
     for path in sorted((ROOT / "examples/switches").glob("*.toml")):
         yield path.stem, path.read_bytes()
@@ -322,8 +280,8 @@ def large():
 def main():
     parser = argparse.ArgumentParser(description="Checks the page that tools/timeline.py writes.")
     parser.add_argument("--watch", default=str(ROOT / "crates/example_watch/out/example_watch"))
-    parser.add_argument("--browser", default=next(filter(None, map(shutil.which, BROWSERS)), None))
-    parser.add_argument("--time", type=float, default=2)
+    parser.add_argument("--browser", default=installed())
+    parser.add_argument("--time", type=float)
     args = parser.parse_args()
     if not pathlib.Path(args.watch).is_file():
         raise Stop(2, f"{args.watch}: no program is there")
@@ -331,20 +289,21 @@ def main():
     check_refused(check)
     with tempfile.TemporaryDirectory() as folder:
         browser = Browser(args.browser, folder) if args.browser else None
-        for name, session in sessions(folder):
+        for name, session in sessions():
             watched = run([args.watch, "json"], session)
             check.holds(watched.returncode == 0, f"{name}: watch ends with status {watched.returncode}")
             entries, final = read_watch(watched.stdout)
             drawn = run([TOOL, "--title", name], watched.stdout)
             check.holds(drawn.returncode == 0 and not drawn.stderr, f"{name}: timeline.py: {drawn.stderr[-300:]!r}")
             parts = check_page(check, name, entries, final, drawn.stdout.decode())
+            if len(entries) < 100:
+                check_damaged(check, name, watched.stdout, 100)
             if browser:
                 path = pathlib.Path(folder, f"{name.replace(' ', '-')}.html")
                 path.write_bytes(drawn.stdout)
                 there = check_drawn(check, browser, name, entries, parts, path)
-                is_soon = not args.time or there <= args.time
-                check.holds(is_soon, f"{name}: {len(entries)} entries are there after {there:.2f} s")
         if browser:
+            check.holds(args.time is None or there <= args.time, f"{name}: there after {there:.2f} s")
             print(f"{len(entries)} entries are there after {there:.2f} s")
             browser.close()
         else:

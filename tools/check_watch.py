@@ -8,7 +8,8 @@ every fifth is raced by `vt race` as well. The second reader goes through the jo
 and every object of `watch json` has to be the one that it expects: what the entry did, and who is in front, who owns
 which console, what is pending since when, and who waits after it. The sessions of examples/switches are read too. In
 the form for a person each entry has to have the same facts. Damaged inputs have to end with a status of `vt check`, its
-line, and no trace of another end.
+line, and no trace of another end. The lines of `watch` that docs/guide/display-server.md quotes have to stand below
+their entry, in the session named before them, and its commands have to print what it shows.
 
 Prints a line for each difference and last 'N passed, M failed'. Ends with status 1 if one fails, 2 if a program is
 missing or the words are wrong.
@@ -24,12 +25,14 @@ import sys
 sys.dont_write_bytecode = True
 
 from check_hostile import mutated  # noqa: E402: after the line that keeps tools/ clean
+from check_pages import differences, examples  # noqa: E402
 from second_reader import Disagrees, Reader, Unread, entries_of  # noqa: E402
 from switch_sessions import session  # noqa: E402
 from tool_files import Stop  # noqa: E402
 from watch_json import read_watch  # noqa: E402
 
 ROOT = pathlib.Path(__file__).resolve().parent.parent
+GUIDE = ROOT / "docs/guide/display-server.md"
 SECONDS = 60
 ERRORS = {
     "err 1": "EPERM", "err 3": "ESRCH", "err 4": "EINTR", "err 6": "ENXIO", "err 9": "EBADF", "err 11": "EAGAIN",
@@ -206,6 +209,35 @@ def hostile(watch, vt, count):
             yield None
 
 
+def quote_faults(watch):
+    """Lines that the guide quotes below an entry, and that `watch` doesn't print there in this order."""
+    names = {path.stem for path in (ROOT / "examples/switches").glob("*.toml")}
+    entries, below = [], None
+    for number, line in enumerate(GUIDE.read_text(encoding="utf-8").split("\n"), 1):
+        place = f"{GUIDE.name}:{number}"
+        if re.fullmatch(r"    [kp]\d+ \d+ .* = .*", line):
+            while entries and entries[0][0] != line.strip():
+                entries.pop(0)
+            below = entries.pop(0)[1:] if entries else []
+        elif re.fullmatch(r"        [a-z].*", line) and below is not None:
+            if line.strip() not in below:
+                yield f"{place}: `watch` doesn't print this below the entry: {line.strip()}"
+                continue
+            below = below[below.index(line.strip()) + 1 :]
+        else:
+            below = None
+            for name in [found for found in re.findall(r"`([a-z-]+)`", line) if found in names]:
+                shown = run([watch], (ROOT / f"examples/switches/{name}.toml").read_bytes()).stdout.decode()
+                entries = [[part.strip() for part in text.split("\n")] for text in re.split(r"\n(?! )", shown)]
+
+
+def guide_faults(watch):
+    """What the guide has of `watch` and isn't so."""
+    yield from quote_faults(watch)
+    commands = [(line, shown) for line, shown in examples(GUIDE.read_text(encoding="utf-8")) if "mine." not in line]
+    yield from differences(GUIDE, commands)
+
+
 def is_whole(printed):
     try:
         read_watch(printed)
@@ -229,8 +261,11 @@ def main():
     for path in sorted((ROOT / "examples/switches").glob("*.toml")):
         given.append((path.name, path.read_text(encoding="utf-8"), False))
     seen, passed, failed = [], 0, 0
-    results = [why for name, text, is_raced in given for why in compare(args.watch, args.vt, name, text, is_raced, seen)]
+    results = []
+    for name, text, is_raced in given:
+        results += compare(args.watch, args.vt, name, text, is_raced, seen)
     results += hostile(args.watch, args.vt, args.count)
+    results += guide_faults(args.watch)
     for why in results:
         passed, failed = passed + (why is None), failed + (why is not None)
         if why:

@@ -9,13 +9,13 @@ import collections
 import re
 import tomllib
 
-CONSOLES, FDS, KILL = 63, 16, 9
+from second_keymap import Keymap, Unread
+
+KILL = 9
 EINTR, ESRCH, EINVAL = "err 4", "err 3", "err 22"
 RAW, MEDIUM_RAW, UNICODE, OFF = 0, 2, 3, 4
-WEIGHTS = {"plain": 0, "shift": 1, "altgr": 2, "control": 4, "alt": 8}
 MODIFIERS = {"Shift": 1, "AltGr": 2, "Control": 4, "Alt": 8}
 REQUESTS = {"Last_Console", "Incr_Console", "Decr_Console"}
-DEFAULT_TABLES = {0, 1, 2, 4, 5, 8, 12}
 # Calls that touch neither the display nor a wait.
 OTHERS = set(
     "read openqry getstate resize getkd getmode getkb setmeta getmeta setled getled setflags getflags getent getfunc "
@@ -25,10 +25,6 @@ UNREAD = set("setent setfunc setdia setcode".split())
 
 Wait = collections.namedtuple("Wait", "kind console")
 Done = collections.namedtuple("Done", "kind words")
-
-
-class Unread(Exception):
-    """Something that this reader doesn't read."""
 
 
 class Disagrees(Exception):
@@ -44,47 +40,6 @@ class Console:
         self.graphics = False
         self.keys = UNICODE
         self.rest = b""
-
-
-def ranges(text):
-    """The numbers of a line `keymaps`."""
-    found = set()
-    for part in text.split(","):
-        first, _, last = part.partition("-")
-        found.update(range(int(first), int(last or first) + 1))
-    return found
-
-
-class Keymap:
-    """The actions of a keymap, as names of symbols, by table and keycode."""
-
-    def __init__(self, text):
-        lines = [line.split("#")[0].split() for line in text.splitlines()]
-        union = [ranges(words[1]) for words in lines if words[:1] == ["keymaps"]]
-        self.tables = set().union(*union) if union else set(DEFAULT_TABLES)
-        union = sorted(self.tables)
-        self.actions = {}
-        for words in lines:
-            if not words or words[0] == "keymaps" or words == ["compose", "as", "usual"]:
-                continue
-            if "keycode" not in words or "=" not in words:
-                raise Unread(f"the line of a keymap: {' '.join(words)}")
-            at, names = words.index("keycode"), words[words.index("=") + 1 :]
-            table = sum({WEIGHTS[word] for word in words[:at]}) if set(words[:at]) <= set(WEIGHTS) else None
-            if table is None or (len(names) != 1 and (at or len(names) > len(union))):
-                raise Unread(f"the line of a keymap: {' '.join(words)}")
-            if any(re.search(r"Lock|^S[A-Z]|^Compose$|Caps_On|Ascii", name) and name != "SAK" for name in names):
-                raise Unread(f"the symbols of a keymap: {' '.join(names)}")
-            code = int(words[at + 1])
-            if at:
-                self.tables.add(table)
-                self.actions[table, code] = names[0]
-            else:
-                for table, name in zip(union, names if len(names) > 1 else names * len(union)):
-                    self.actions[table, code] = name
-
-    def action(self, table, code):
-        return self.actions.get((table, code)) if table in self.tables else None
 
 
 class Reader:

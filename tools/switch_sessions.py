@@ -43,8 +43,8 @@ def strokes(chance, count):
 def sequence(chance):
     """The bytes of a write: a text, a request for a console, or a query that is answered."""
     number = chance.randrange(8)
-    text = chance.choice([b"a", b"\x1b[12;%d]" % number, b"\x1b[15]", b"\x1b[6n", b"\x1b[5n", b"x\x1b[12;%d]y" % number])
-    return text.hex()
+    request = b"\x1b[12;%d]" % number
+    return chance.choice([b"a", request, b"\x1b[15]", b"\x1b[6n", b"\x1b[5n", b"x" + request + b"y"]).hex()
 
 
 def call(chance, processes):

@@ -7,8 +7,8 @@
 Time goes to the right, an entry a column. A band at the top has the console in front with its owner's colour, and below
 it the console that is pending. Each keyboard and process has a lane: its calls as marks, its waits as bars, the signals
 that it gets, and arrows from requests to signals, from these to releases, and from these to the display. Pointing at a
-column, or the keys, show the entry with its answer in words and the reason of a switch. Below are the screens at the end
-and all entries as text. The page needs no other file, and no network.
+column, or the keys, show the entry with its answer in words and the reason of a switch. Below are the screens at the
+end and all entries as text. The page needs no other file, and no network.
 
 Exit status: 0 written, 1 the words or the JSON are refused, 3 a file can't be read or written.
 """

@@ -151,7 +151,9 @@ ENTRY = record({
         "display": wait({"console": a_console}), "input": wait({"console": a_console}), "signal": wait({}),
     })),
 })  # fmt: skip
-END = record({"entries": number(0, MOST_ENTRIES, "a number of entries"), "final": text(re.compile(r"(?s).*"), "a text")})
+END = record({
+    "entries": number(0, MOST_ENTRIES, "a number of entries"), "final": text(re.compile(r"(?s).*"), "a text"),
+})  # fmt: skip
 
 
 def in_order(entry, place):
