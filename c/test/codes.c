@@ -1,0 +1,393 @@
+/* Each code of each call, by the rules of vt.h. What the handle has is compared before and after each refusal. */
+#include "want.h"
+
+/* Texts, the screens of console_codes(4) and ECMA-48 that they must leave, and what they must ask for. */
+static const uint8_t TEXT[] = "ab\033[31mc\033[2;3H\xC3\xA9\xE4\xB8\xAD";
+enum { ROWS = 3, COLS = 6 };
+
+/* What a screen has, all of it that the calls show. */
+struct picture {
+    struct vt_state state;
+    struct vt_cell cells[255][255];
+    struct vt_colour colours[16];
+};
+
+static void take(struct vt_screen *s, struct picture *p)
+{
+    memset(p, 0, sizeof *p);
+    WANT(vt_screen_state(s, &p->state) == VT_OK);
+    for (uint32_t y = 0; y < p->state.rows; y++)
+        WANT(vt_screen_row(s, y, p->cells[y], 255) == VT_OK);
+    for (uint32_t i = 0; i < 16; i++)
+        WANT(vt_screen_colour(s, i, &p->colours[i]) == VT_OK);
+}
+
+static bool is_same_cell(struct vt_cell a, struct vt_cell b)
+{
+    return a.code == b.code && a.attr == b.attr;
+}
+
+static bool is_same(const struct picture *a, const struct picture *b)
+{
+    bool is_so = memcmp(&a->state, &b->state, sizeof a->state) == 0 &&
+                 memcmp(a->colours, b->colours, sizeof a->colours) == 0;
+    for (int y = 0; is_so && y < a->state.rows; y++)
+        for (int x = 0; is_so && x < a->state.cols; x++)
+            is_so = is_same_cell(a->cells[y][x], b->cells[y][x]);
+    return is_so;
+}
+
+static struct picture before, after;
+
+/* A call that must leave the screen as it is. */
+#define LEAVES(s, call, code)                                                                                          \
+    do {                                                                                                               \
+        take((s), &before);                                                                                            \
+        WANT((call) == (code));                                                                                        \
+        take((s), &after);                                                                                             \
+        WANT(is_same(&before, &after));                                                                                \
+    } while (0)
+
+static void try_nothing(struct vt_screen *s)
+{
+    struct vt_fed fed = { 7, 7 };
+    struct vt_out out = { .kind = 9 };
+    struct vt_state state = { .rows = 9 };
+    struct vt_cell cell = { 9, 9 };
+    struct vt_colour colour = { 9, 9, 9 };
+    uint8_t text[4] = { 9, 9, 9, 9 };
+    size_t length = 9;
+    bool changed = true;
+    static const uint16_t words[256];
+    WANT(vt_screen_feed(s, TEXT, sizeof TEXT, &out, 1, &fed) == VT_NOTHING);
+    WANT(fed.taken == 7 && fed.said == 7 && out.kind == 9);
+    WANT(vt_screen_write(s, TEXT, sizeof TEXT) == VT_NOTHING);
+    WANT(vt_screen_state(s, &state) == VT_NOTHING && state.rows == 9);
+    WANT(vt_screen_cell(s, 0, 0, &cell) == VT_NOTHING && cell.code == 9 && cell.attr == 9);
+    WANT(vt_screen_row(s, 0, &cell, 1) == VT_NOTHING && cell.code == 9);
+    WANT(vt_screen_row_text(s, 0, text, 4, &length) == VT_NOTHING && length == 9 && text[0] == 9);
+    WANT(vt_screen_mark(s) == VT_NOTHING);
+    WANT(vt_screen_changed(s, &changed, 1) == VT_NOTHING && changed);
+    WANT(vt_screen_resize(s, 4, 4) == VT_NOTHING);
+    WANT(vt_screen_colour(s, 0, &colour) == VT_NOTHING && colour.red == 9);
+    WANT(vt_screen_set_colour(s, 0, 1, 2, 3) == VT_NOTHING);
+    WANT(vt_screen_set_user(s, words) == VT_NOTHING);
+    WANT(vt_screen_redraw(s, text, 4, &length) == VT_NOTHING && length == 9);
+    vt_screen_free(s);
+    WANT(s->at == NULL);
+}
+
+static void try_making(void)
+{
+    static const uint32_t bad[] = { 0, 256, 257, 65536, 65537, UINT32_MAX, 1u << 31 };
+    struct vt_screen s = { 0 };
+    try_nothing(&s);
+    for (size_t i = 0; i < sizeof bad / sizeof *bad; i++) {
+        WANT(vt_screen_new(&s, bad[i], 80) == VT_RANGE && s.at == NULL);
+        WANT(vt_screen_new(&s, 25, bad[i]) == VT_RANGE && s.at == NULL);
+    }
+    for (uint32_t rows = 1; rows < 256; rows += 127)
+        for (uint32_t cols = 1; cols < 256; cols += 127) {
+            struct vt_state state;
+            WANT(vt_screen_new(&s, rows, cols) == VT_OK);
+            WANT(vt_screen_state(&s, &state) == VT_OK && state.rows == rows && state.cols == cols);
+            WANT(state.y == 0 && state.x == 0 && state.visible && state.repeat);
+            WANT(!state.reverse && !state.cursor_keys && !state.keypad && !state.newline);
+            vt_screen_free(&s);
+        }
+    try_nothing(&s); /* a freed handle is one that was never made */
+}
+
+static void try_screen(void)
+{
+    static const uint8_t row_0[] = "abc   ", row_1[] = "  \xC3\xA9\xE4\xB8\xAD ";
+    struct vt_screen s = { 0 };
+    struct vt_cell cell, cells[8] = { [6] = { 9, 9 }, [7] = { 9, 9 } };
+    struct vt_state state;
+    uint8_t text[24];
+    size_t length;
+    WANT(vt_screen_new(&s, ROWS, COLS) == VT_OK);
+    LEAVES(&s, vt_screen_new(&s, ROWS, COLS), VT_MADE);
+    LEAVES(&s, vt_screen_new(&s, 0, 0), VT_MADE);
+    WANT(vt_screen_write(&s, TEXT, sizeof TEXT - 1) == VT_OK);
+    WANT(vt_screen_state(&s, &state) == VT_OK && state.y == 1 && state.x == 5);
+    WANT(vt_screen_cell(&s, 0, 0, &cell) == VT_OK && cell.code == 'a' && cell.attr == 7);
+    WANT(vt_screen_cell(&s, 0, 2, &cell) == VT_OK && cell.code == 'c' && cell.attr == 4); /* red is VGA's 4 */
+    WANT(vt_screen_cell(&s, 1, 2, &cell) == VT_OK && cell.code == 0xE9);
+    WANT(vt_screen_cell(&s, 1, 3, &cell) == VT_OK && cell.code == 0x4E2D);
+    WANT(vt_screen_cell(&s, 1, 4, &cell) == VT_OK && cell.code == VT_HALF);
+    LEAVES(&s, vt_screen_cell(&s, ROWS, 0, &cell), VT_RANGE);
+    LEAVES(&s, vt_screen_cell(&s, 0, COLS, &cell), VT_RANGE);
+    LEAVES(&s, vt_screen_cell(&s, UINT32_MAX, UINT32_MAX, &cell), VT_RANGE);
+    WANT(vt_screen_cell(&s, 256, 0, &cell) == VT_RANGE && vt_screen_cell(&s, 0, 256, &cell) == VT_RANGE);
+    WANT(vt_screen_row(&s, 0, cells, 8) == VT_OK && cells[1].code == 'b' && cells[5].code == ' ');
+    WANT(cells[6].code == 9 && cells[7].code == 9);
+    cells[2].code = 9;
+    WANT(vt_screen_row(&s, 0, cells, 2) == VT_OK && cells[1].code == 'b' && cells[2].code == 9);
+    WANT(vt_screen_row(&s, 0, cells, 0) == VT_OK && cells[0].code == 'a');
+    LEAVES(&s, vt_screen_row(&s, ROWS, cells, 8), VT_RANGE);
+    WANT(vt_screen_row(&s, 256, cells, 8) == VT_RANGE);
+    WANT(vt_screen_row_text(&s, 0, text, sizeof text, &length) == VT_OK);
+    WANT(length == sizeof row_0 - 1 && memcmp(text, row_0, length) == 0);
+    WANT(vt_screen_row_text(&s, 1, text, sizeof row_1 - 1, &length) == VT_OK);
+    WANT(length == sizeof row_1 - 1 && memcmp(text, row_1, length) == 0);
+    memset(text, 9, sizeof text);
+    LEAVES(&s, vt_screen_row_text(&s, 1, text, sizeof row_1 - 2, &length), VT_NO_ROOM);
+    WANT(length == sizeof row_1 - 1 && text[0] == 9);
+    WANT(vt_screen_row_text(&s, 1, text, 0, &length) == VT_NO_ROOM && length == sizeof row_1 - 1 && text[0] == 9);
+    length = 9;
+    LEAVES(&s, vt_screen_row_text(&s, ROWS, text, sizeof text, &length), VT_RANGE);
+    WANT(length == 9);
+    vt_screen_free(&s);
+    vt_screen_free(&s);
+    WANT(s.at == NULL);
+}
+
+static void try_feeding(void)
+{
+    /* A BEL, a report of the status (DSR 5), of the cursor (DSR 6), of the terminal (DA), lights and two switches. */
+    static const uint8_t asking[] = "x\a\033[5n\033[6n\033[c\033[2q\033[12;7]\033[15]y";
+    struct vt_screen s = { 0 };
+    struct vt_out outs[9];
+    struct vt_fed fed;
+    memset(outs, 9, sizeof outs);
+    WANT(vt_screen_new(&s, 2, 9) == VT_OK);
+    WANT(vt_screen_feed(&s, asking, sizeof asking - 1, outs, 9, &fed) == VT_OK);
+    WANT(fed.taken == sizeof asking - 1 && fed.said == 7);
+    WANT(outs[0].kind == VT_BELL);
+    WANT(outs[1].kind == VT_REPORT && outs[1].length == 4 && memcmp(outs[1].text, "\033[0n", 4) == 0);
+    WANT(outs[2].kind == VT_REPORT && outs[2].length == 6 && memcmp(outs[2].text, "\033[1;2R", 6) == 0);
+    WANT(outs[3].kind == VT_REPORT && outs[3].length == 5 && memcmp(outs[3].text, "\033[?6c", 5) == 0);
+    WANT(outs[4].kind == VT_LIGHTS && outs[4].number == 2);
+    WANT(outs[5].kind == VT_SWITCH_TO && outs[5].number == 7);
+    WANT(outs[6].kind == VT_SWITCH_LAST);
+    WANT(outs[7].kind == 9 && outs[8].kind == 9);
+    /* One place at a time: each call ends right behind the byte that asks. */
+    static const size_t ends[] = { 2, 4, 4, 3, 4, 7, 5 };
+    size_t at = 0;
+    for (size_t i = 0; i < 7; i++) {
+        WANT(vt_screen_feed(&s, asking + at, sizeof asking - 1 - at, outs, 1, &fed) == VT_OK);
+        WANT(fed.taken == ends[i] && fed.said == 1);
+        at += fed.taken;
+    }
+    WANT(vt_screen_feed(&s, asking + at, 1, outs, 1, &fed) == VT_OK && fed.taken == 1 && fed.said == 0);
+    LEAVES(&s, vt_screen_feed(&s, asking, sizeof asking - 1, outs, 0, &fed), VT_OK);
+    WANT(fed.taken == 0 && fed.said == 0);
+    LEAVES(&s, vt_screen_feed(&s, asking, 0, outs, 9, &fed), VT_OK);
+    WANT(fed.taken == 0 && fed.said == 0);
+    LEAVES(&s, vt_screen_write(&s, asking, 0), VT_OK);
+    vt_screen_free(&s);
+}
+
+static void try_settings(void)
+{
+    struct vt_screen s = { 0 };
+    struct vt_colour colour;
+    struct vt_state state;
+    struct vt_cell cell;
+    uint16_t words[256];
+    WANT(vt_screen_new(&s, 2, 4) == VT_OK);
+    /* The colours of the VGA: 170 for a part, bright ones 85 more. */
+    WANT(vt_screen_colour(&s, 1, &colour) == VT_OK && colour.red == 170 && colour.green == 0 && colour.blue == 0);
+    WANT(vt_screen_colour(&s, 12, &colour) == VT_OK && colour.red == 85 && colour.green == 85 && colour.blue == 255);
+    WANT(vt_screen_set_colour(&s, 12, 1, 2, 3) == VT_OK);
+    WANT(vt_screen_colour(&s, 12, &colour) == VT_OK && colour.red == 1 && colour.green == 2 && colour.blue == 3);
+    WANT(vt_screen_write(&s, (const uint8_t *)"\033]P5102030", 10) == VT_OK);
+    WANT(vt_screen_colour(&s, 5, &colour) == VT_OK && colour.red == 16 && colour.green == 32 && colour.blue == 48);
+    LEAVES(&s, vt_screen_colour(&s, 16, &colour), VT_RANGE);
+    LEAVES(&s, vt_screen_colour(&s, 256, &colour), VT_RANGE);
+    LEAVES(&s, vt_screen_set_colour(&s, 16, 1, 1, 1), VT_RANGE);
+    LEAVES(&s, vt_screen_set_colour(&s, UINT32_MAX, 1, 1, 1), VT_RANGE);
+    for (unsigned i = 0; i < 256; i++)
+        words[i] = (uint16_t)(0x3B1 + i);
+    WANT(vt_screen_set_user(&s, words) == VT_OK);
+    WANT(vt_screen_write(&s, (const uint8_t *)"\033%@\033(Ka\033(B\033%G", 13) == VT_OK);
+    WANT(vt_screen_cell(&s, 0, 0, &cell) == VT_OK && cell.code == 0x3B1 + 'a');
+    WANT(vt_screen_write(&s, (const uint8_t *)"\033[?1h\033=\033[20h\033[?8l\033[?25l\033[?5h", 29) == VT_OK);
+    WANT(vt_screen_state(&s, &state) == VT_OK && state.cursor_keys && state.keypad && state.newline);
+    WANT(!state.repeat && !state.visible && state.reverse);
+    LEAVES(&s, vt_screen_resize(&s, 0, 4), VT_RANGE);
+    LEAVES(&s, vt_screen_resize(&s, 2, 256), VT_RANGE);
+    LEAVES(&s, vt_screen_resize(&s, UINT32_MAX, UINT32_MAX), VT_RANGE);
+    WANT(vt_screen_resize(&s, 255, 255) == VT_OK);
+    WANT(vt_screen_state(&s, &state) == VT_OK && state.rows == 255 && state.cols == 255);
+    WANT(vt_screen_cell(&s, 0, 0, &cell) == VT_OK && cell.code == 0x3B1 + 'a');
+    WANT(vt_screen_resize(&s, 1, 1) == VT_OK);
+    vt_screen_free(&s);
+}
+
+static void try_changes(void)
+{
+    struct vt_screen s = { 0 };
+    bool changed[4] = { false, false, false, true };
+    WANT(vt_screen_new(&s, 3, 4) == VT_OK);
+    WANT(vt_screen_changed(&s, changed, 4) == VT_OK && changed[0] && changed[1] && changed[2] && changed[3]);
+    LEAVES(&s, vt_screen_mark(&s), VT_OK);
+    changed[3] = false;
+    WANT(vt_screen_changed(&s, changed, 4) == VT_OK && !changed[0] && !changed[1] && !changed[2] && !changed[3]);
+    WANT(vt_screen_write(&s, (const uint8_t *)"\033[2;1Hx", 7) == VT_OK);
+    LEAVES(&s, vt_screen_changed(&s, changed, 3), VT_OK);
+    WANT(!changed[0] && changed[1] && !changed[2]);
+    changed[1] = false;
+    WANT(vt_screen_changed(&s, changed, 1) == VT_OK && !changed[0] && !changed[1]);
+    WANT(vt_screen_changed(&s, changed, 0) == VT_OK && !changed[0]);
+    WANT(vt_screen_write(&s, (const uint8_t *)"\b \033[3;4H\033[31m ", 15) == VT_OK);
+    WANT(vt_screen_changed(&s, changed, 3) == VT_OK && !changed[0] && !changed[1]);
+    WANT(changed[2]); /* a space in another colour */
+    WANT(vt_screen_mark(&s) == VT_OK);
+    WANT(vt_screen_resize(&s, 2, 4) == VT_OK);
+    changed[2] = false;
+    WANT(vt_screen_changed(&s, changed, 4) == VT_OK && changed[0] && changed[1] && !changed[2]);
+    vt_screen_free(&s);
+}
+
+static void try_redraw(void)
+{
+    struct vt_screen s = { 0 }, other = { 0 };
+    uint8_t text[4096];
+    size_t length, again;
+    WANT(vt_screen_new(&s, ROWS, COLS) == VT_OK && vt_screen_new(&other, ROWS, COLS) == VT_OK);
+    WANT(vt_screen_write(&s, TEXT, sizeof TEXT - 1) == VT_OK);
+    WANT(vt_screen_write(&other, (const uint8_t *)"\033[7mQQQQ\033[2;3r\033[?6hZZZ", 23) == VT_OK);
+    LEAVES(&s, vt_screen_redraw(&s, text, sizeof text, &length), VT_OK);
+    WANT(length > 0 && length <= sizeof text);
+    WANT(vt_screen_write(&other, text, length) == VT_OK);
+    take(&s, &before);
+    take(&other, &after);
+    WANT(is_same(&before, &after));
+    memset(text, 9, sizeof text);
+    LEAVES(&s, vt_screen_redraw(&s, text, length - 1, &again), VT_NO_ROOM);
+    WANT(again == length && text[0] == 9);
+    WANT(vt_screen_redraw(&s, text, 0, &again) == VT_NO_ROOM && again == length);
+    WANT(vt_screen_redraw(&s, text, length, &again) == VT_OK && again == length);
+    WANT(vt_screen_write(&s, (const uint8_t *)"\033%@\033[3h\001\033[3l\033%G", 15) == VT_OK); /* a cell of 01 */
+    again = 9;
+    LEAVES(&s, vt_screen_redraw(&s, text, sizeof text, &again), VT_NOT_DRAWABLE);
+    WANT(again == 9);
+    vt_screen_free(&s);
+    vt_screen_free(&other);
+}
+
+static const uint8_t KEYMAP[] = "keymaps 0-1\nkeycode 30 = a A\nkeycode 42 = Shift\nkeycode 59 = F1\n"
+                                "keycode 58 = Caps_Lock\nkeycode 103 = Up\nstring F1 = \"one\"\n";
+
+static void try_no_keys(struct vt_keys *k)
+{
+    static const struct vt_modes modes = { .repeat = true };
+    struct vt_key key = { .kind = 9 };
+    struct vt_key_state state = { .mode = 9 };
+    uint8_t text[4] = { 9 };
+    size_t length = 9;
+    WANT(vt_keys_scan(k, 30, &modes, &key) == VT_NOTHING && key.kind == 9);
+    WANT(vt_keys_release(k) == VT_NOTHING);
+    WANT(vt_keys_state(k, &state) == VT_NOTHING && state.mode == 9);
+    WANT(vt_keys_set_mode(k, 1) == VT_NOTHING && vt_keys_set_meta(k, 3) == VT_NOTHING);
+    WANT(vt_keys_set_flags(k, 1, 1) == VT_NOTHING && vt_keys_set_lights(k, 1) == VT_NOTHING);
+    WANT(vt_keys_set_locks(k, 1, 1) == VT_NOTHING && vt_keys_set_string(k, 1, text, 1) == VT_NOTHING);
+    WANT(vt_keys_string(k, 0, text, 4, &length) == VT_NOTHING && length == 9 && text[0] == 9);
+    vt_keys_free(k);
+    WANT(k->at == NULL);
+}
+
+static struct vt_key scanned(struct vt_keys *k, uint8_t byte)
+{
+    static const struct vt_modes modes = { .repeat = true };
+    struct vt_key key = { .kind = 99 };
+    WANT(vt_keys_scan(k, byte, &modes, &key) == VT_OK);
+    return key;
+}
+
+static bool types(struct vt_keys *k, uint8_t byte, const char *text)
+{
+    struct vt_key key = scanned(k, byte);
+    return key.kind == VT_KEY_BYTES && key.length == strlen(text) && memcmp(key.bytes, text, key.length) == 0;
+}
+
+static void try_making_keys(void)
+{
+    static const uint8_t bad[] = "keymaps 0-1\nkeycode 30 = aogonek\n", includes[] = "include \"one\"\n";
+    static const uint8_t one[] = "keycode 30 = b\n", other[] = "keycode 30 = c\n", name[] = "one";
+    const struct vt_text texts[] = { { name, 3, one, sizeof one - 1 }, { name, 3, other, sizeof other - 1 } };
+    struct vt_keys k = { 0 };
+    struct vt_fault fault = { 9, 9, 9 };
+    try_no_keys(&k);
+    WANT(vt_keys_new(&k, bad, sizeof bad - 1, texts, 0, &fault) == VT_FAULT && k.at == NULL);
+    WANT(fault.kind == 2 && fault.line == 2 && fault.column == 14);
+    WANT(vt_keys_new(&k, includes, sizeof includes - 1, texts, 0, &fault) == VT_FAULT && k.at == NULL);
+    WANT(fault.kind == 7 && fault.line == 1 && fault.column == 9);
+    fault = (struct vt_fault){ 9, 9, 9 };
+    WANT(vt_keys_new(&k, includes, sizeof includes - 1, texts, 2, &fault) == VT_OK && fault.kind == 9);
+    WANT(types(&k, 30, "b"));
+    WANT(vt_keys_new(&k, bad, sizeof bad - 1, texts, 0, &fault) == VT_MADE && fault.kind == 9);
+    WANT(scanned(&k, 30 | 0x80).kind == VT_KEY_NOTHING);
+    WANT(types(&k, 30, "b"));
+    vt_keys_free(&k);
+    vt_keys_free(&k);
+    try_no_keys(&k);
+    WANT(vt_keys_new(&k, bad, 0, texts, 0, &fault) == VT_OK); /* a keymap without lines */
+    WANT(scanned(&k, 30).kind == VT_KEY_NOTHING);
+    vt_keys_free(&k);
+}
+
+static void try_keys(void)
+{
+    struct vt_keys k = { 0 };
+    struct vt_fault fault;
+    struct vt_key_state state;
+    static const struct vt_modes application = { .cursor_keys = true };
+    static const struct vt_text texts[1];
+    struct vt_key key;
+    uint8_t text[256];
+    size_t length;
+    WANT(vt_keys_new(&k, KEYMAP, sizeof KEYMAP - 1, texts, 0, &fault) == VT_OK);
+    WANT(vt_keys_state(&k, &state) == VT_OK && state.mode == VT_UNICODE && state.meta == VT_ESCPREFIX);
+    WANT(state.flags == 0 && state.defaults == 0 && state.lights == 0 && state.locks == 0 && state.sticky == 0);
+    WANT(types(&k, 30, "a") && scanned(&k, 30 | 0x80).kind == VT_KEY_NOTHING);
+    WANT(scanned(&k, 42).kind == VT_KEY_NOTHING && types(&k, 30, "A"));
+    WANT(vt_keys_release(&k) == VT_OK && types(&k, 30, "a"));
+    WANT(vt_keys_set_locks(&k, 1, 0) == VT_OK && types(&k, 30, "A"));
+    WANT(vt_keys_set_locks(&k, 256, 0) == VT_RANGE && vt_keys_set_locks(&k, 0, 256) == VT_RANGE);
+    WANT(vt_keys_state(&k, &state) == VT_OK && state.locks == 1);
+    WANT(vt_keys_set_locks(&k, 0, 1) == VT_OK && types(&k, 30, "A") && types(&k, 30, "a")); /* for one key */
+    WANT(types(&k, 59, "one"));
+    WANT(vt_keys_string(&k, 0, text, 3, &length) == VT_OK && length == 3 && memcmp(text, "one", 3) == 0);
+    WANT(vt_keys_string(&k, 0, text, 2, &length) == VT_NO_ROOM && length == 3);
+    WANT(vt_keys_string(&k, 256, text, sizeof text, &length) == VT_RANGE);
+    memset(text, 'x', sizeof text);
+    WANT(vt_keys_set_string(&k, 0, text, 256) == VT_RANGE && vt_keys_set_string(&k, 256, text, 1) == VT_RANGE);
+    WANT(types(&k, 59, "one"));
+    WANT(vt_keys_set_string(&k, 0, text, 255) == VT_OK);
+    key = scanned(&k, 59);
+    WANT(key.kind == VT_KEY_BYTES && key.length == 255 && memcmp(key.bytes, text, 255) == 0);
+    WANT(vt_keys_set_string(&k, 0, text, 0) == VT_OK && scanned(&k, 59).kind == VT_KEY_NOTHING);
+    WANT(vt_keys_set_flags(&k, 4, 2) == VT_OK && types(&k, 30, "A")); /* Caps */
+    WANT(vt_keys_state(&k, &state) == VT_OK && state.flags == 4 && state.defaults == 2 && state.lights == 4);
+    WANT(vt_keys_set_flags(&k, 8, 0) == VT_RANGE && vt_keys_set_flags(&k, 0, 8) == VT_RANGE);
+    WANT(vt_keys_set_lights(&k, 1) == VT_OK);
+    WANT(vt_keys_state(&k, &state) == VT_OK && state.flags == 4 && state.lights == 1);
+    WANT(vt_keys_set_lights(&k, UINT32_MAX) == VT_OK);
+    WANT(vt_keys_state(&k, &state) == VT_OK && state.lights == 4);
+    WANT(vt_keys_set_meta(&k, 2) == VT_RANGE && vt_keys_set_meta(&k, 5) == VT_RANGE);
+    WANT(vt_keys_set_meta(&k, VT_METABIT) == VT_OK);
+    WANT(vt_keys_set_mode(&k, 5) == VT_RANGE && vt_keys_set_mode(&k, UINT32_MAX) == VT_RANGE);
+    WANT(vt_keys_set_mode(&k, VT_MEDIUMRAW) == VT_OK && types(&k, 30, "\x1E"));
+    WANT(vt_keys_state(&k, &state) == VT_OK && state.mode == VT_MEDIUMRAW && state.meta == VT_METABIT);
+    WANT(vt_keys_set_mode(&k, VT_UNICODE) == VT_OK);
+    WANT(scanned(&k, 0xE0).kind == VT_KEY_NOTHING && types(&k, 0x48, "\033[A"));
+    WANT(vt_keys_release(&k) == VT_OK && scanned(&k, 0xE0).kind == VT_KEY_NOTHING);
+    WANT(vt_keys_scan(&k, 0x48, &application, &key) == VT_OK && key.length == 3 && memcmp(key.bytes, "\033OA", 3) == 0);
+    vt_keys_free(&k);
+}
+
+int main(void)
+{
+    try_making();
+    try_screen();
+    try_feeding();
+    try_settings();
+    try_changes();
+    try_redraw();
+    try_making_keys();
+    try_keys();
+    return ended();
+}
