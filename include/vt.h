@@ -14,7 +14,6 @@
 #ifndef VT_H
 #define VT_H
 
-#include <stdbool.h>
 #include <stddef.h>
 #include <stdint.h>
 
@@ -68,15 +67,16 @@ struct vt_cell {
     uint8_t attr;
 };
 
+/* Modes are 1 for on and 0 for off. */
 struct vt_state {
     uint8_t rows, cols;   /* the size */
     uint8_t y, x;         /* the row and column of the cursor */
-    bool visible;         /* DECTECM: the cursor is shown */
-    bool reverse;         /* DECSCNM: the screen is shown reversed */
-    bool cursor_keys;     /* DECCKM */
-    bool keypad;          /* DECPAM */
-    bool newline;         /* LNM */
-    bool repeat;          /* DECARM */
+    uint8_t visible;      /* DECTECM: the cursor is shown */
+    uint8_t reverse;      /* DECSCNM: the screen is shown reversed */
+    uint8_t cursor_keys;  /* DECCKM */
+    uint8_t keypad;       /* DECPAM */
+    uint8_t newline;      /* LNM */
+    uint8_t repeat;       /* DECARM */
 };
 
 struct vt_colour {
@@ -116,10 +116,10 @@ uint8_t vt_screen_row_text(struct vt_screen *s, uint32_t row, uint8_t *text, siz
 /* Remembers the cells as they are, in place of those that it remembered before. VT_NO_MEMORY, VT_NOTHING. */
 uint8_t vt_screen_mark(struct vt_screen *s);
 
-/* Whether each row differs from the cells that vt_screen_mark remembered, from the top: as many rows as the screen has
- * and as there is room for; the other places stay. If nothing was remembered, or the screen had another size then, every
- * row differs. VT_NOTHING. */
-uint8_t vt_screen_changed(struct vt_screen *s, bool *rows, size_t room);
+/* For each row, from the top, 1 if it differs from the cells that vt_screen_mark remembered, and 0 if it doesn't: as many
+ * rows as the screen has and as there is room for; the other places stay. If nothing was remembered, or the screen had
+ * another size then, every row differs. VT_NOTHING. */
+uint8_t vt_screen_changed(struct vt_screen *s, uint8_t *rows, size_t room);
 
 /* Gives the screen another size, 1 to 255 rows and columns. VT_RANGE, VT_NO_MEMORY, VT_NOTHING. */
 uint8_t vt_screen_resize(struct vt_screen *s, uint32_t rows, uint32_t cols);
@@ -127,6 +127,9 @@ uint8_t vt_screen_resize(struct vt_screen *s, uint32_t rows, uint32_t cols);
 /* The colour of a number, 0 to 15, in the order of SGR: the sum of red 1, green 2, blue 4, bright 8. VT_RANGE,
  * VT_NOTHING. */
 uint8_t vt_screen_colour(struct vt_screen *s, uint32_t number, struct vt_colour *colour);
+
+/* The colours from 0 on: as many of the 16 as there is room for; the other places stay. VT_NOTHING. */
+uint8_t vt_screen_palette(struct vt_screen *s, struct vt_colour *colours, size_t room);
 
 /* Sets the colour of a number. VT_RANGE, VT_NOTHING. */
 uint8_t vt_screen_set_colour(struct vt_screen *s, uint32_t number, uint8_t red, uint8_t green, uint8_t blue);
@@ -137,6 +140,10 @@ uint8_t vt_screen_set_user(struct vt_screen *s, const uint16_t words[256]);
 /* The text that draws this screen on any terminal of its size that runs the sequences of console_codes(4). *length is
  * how long it is, at VT_OK and VT_NO_ROOM. VT_NOT_DRAWABLE, VT_NO_MEMORY, VT_NOTHING, VT_NO_ROOM. */
 uint8_t vt_screen_redraw(struct vt_screen *s, uint8_t *text, size_t room, size_t *length);
+
+/* The same for a terminal that shows the cells that vt_screen_mark remembered: only rows that differ are in the text. If
+ * nothing was remembered, or the screen had another size then, it is the text of vt_screen_redraw. */
+uint8_t vt_screen_redraw_changes(struct vt_screen *s, uint8_t *text, size_t room, size_t *length);
 
 /* ---- A keymap, and a keyboard that types by it (keymaps(5), ioctl_console(2)) ---- */
 
@@ -173,9 +180,9 @@ struct vt_key_state {
     uint8_t sticky;       /* the modifiers for the next key */
 };
 
-/* The modes of a screen that keys depend on. Those of a new screen are {false, false, true, false}. */
+/* The modes of a screen that keys depend on, 0 for off. Those of a new screen are {0, 0, 1, 0}. */
 struct vt_modes {
-    bool cursor_keys, keypad, repeat, newline;
+    uint8_t cursor_keys, keypad, repeat, newline;
 };
 
 enum vt_key_kind {

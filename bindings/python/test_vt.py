@@ -90,6 +90,9 @@ class Screens(unittest.TestCase):
         self.assertEqual(screen.changed_rows(), [])
         screen.write(b"\x1b[2;1Hx")
         self.assertEqual(screen.changed_rows(), [1])
+        other = vt.Screen(3, 4)
+        other.write(screen.redraw_changes())
+        self.assertEqual(other.rows(), screen.rows())
         screen.resize(2, 4)
         self.assertEqual(screen.changed_rows(), [0, 1])
 
@@ -99,6 +102,9 @@ class Screens(unittest.TestCase):
         self.assertEqual(screen.palette[15], (255, 255, 255))
         screen.set_colour(15, 1, 2, 3)
         self.assertEqual(screen.palette[15], (1, 2, 3))
+        self.assertEqual(screen.colour(15), (1, 2, 3))
+        with self.assertRaises(vt.OutOfRange):
+            screen.colour(16)
         for number, part in ((16, 0), (-1, 0), (0, 256), (0, -1)):
             with self.assertRaises(vt.OutOfRange):
                 screen.set_colour(number, part, 0, 0)

@@ -19,6 +19,7 @@ from typing import NamedTuple
 
 OUTS = 64
 ROW = 255
+COLOURS = 16
 KEYMODES = RAW, XLATE, MEDIUMRAW, UNICODE, OFF = range(5)
 METABIT, ESCPREFIX = 3, 4
 HALF = 0x110000
@@ -185,8 +186,9 @@ class _Cell(ctypes.Structure):
 
 
 class _State(ctypes.Structure):
-    _fields_ = [(name, ctypes.c_uint8) for name in ("rows", "cols", "y", "x")] + [
-        (name, ctypes.c_bool) for name in ("visible", "reverse", "cursor_keys", "keypad", "newline", "repeat")]
+    _fields_ = [
+        (name, ctypes.c_uint8)
+        for name in ("rows", "cols", "y", "x", "visible", "reverse", "cursor_keys", "keypad", "newline", "repeat")]
 
 
 class _Colour(ctypes.Structure):
@@ -209,7 +211,7 @@ class _KeyState(ctypes.Structure):
 
 
 class _Modes(ctypes.Structure):
-    _fields_ = [(name, ctypes.c_bool) for name in ("cursor_keys", "keypad", "repeat", "newline")]
+    _fields_ = [(name, ctypes.c_uint8) for name in ("cursor_keys", "keypad", "repeat", "newline")]
 
 
 class _Key(ctypes.Structure):
@@ -230,12 +232,14 @@ _CALLS = {
     "vt_screen_row": (_number, _to(_Cell), _size),
     "vt_screen_row_text": (_number, _room, _size, _to(_size)),
     "vt_screen_mark": (),
-    "vt_screen_changed": (_to(ctypes.c_bool), _size),
+    "vt_screen_changed": (_room, _size),
     "vt_screen_resize": (_number, _number),
     "vt_screen_colour": (_number, _to(_Colour)),
+    "vt_screen_palette": (_to(_Colour), _size),
     "vt_screen_set_colour": (_number, _byte, _byte, _byte),
     "vt_screen_set_user": (_to(ctypes.c_uint16),),
     "vt_screen_redraw": (_room, _size, _to(_size)),
+    "vt_screen_redraw_changes": (_room, _size, _to(_size)),
     "vt_keys_new": (_bytes, _size, _to(_Text), _size, _to(_Fault)),
     "vt_keys_scan": (_byte, _to(_Modes), _to(_Key)),
     "vt_keys_release": (),
@@ -368,18 +372,18 @@ class Screen(_Object):
     def cursor(self):
         """Where the cursor is, and whether it is shown."""
         state = self._state()
-        return Cursor(state.y, state.x, state.visible)
+        return Cursor(state.y, state.x, bool(state.visible))
 
     @property
     def modes(self):
         """The modes that keys depend on, for Keyboard.scan."""
         state = self._state()
-        return Modes(state.cursor_keys, state.keypad, state.repeat, state.newline)
+        return Modes(*(bool(mode) for mode in (state.cursor_keys, state.keypad, state.repeat, state.newline)))
 
     @property
     def reverse(self):
         """Whether the screen is shown reversed (DECSCNM)."""
-        return self._state().reverse
+        return bool(self._state().reverse)
 
     def row(self, row):
         """The characters of a row."""
@@ -410,7 +414,7 @@ class Screen(_Object):
 
     def changed_rows(self):
         """The numbers of the rows that differ from the cells that mark remembered; all of them, if there are none."""
-        rows = (ctypes.c_bool * ROW)()
+        rows = (ctypes.c_uint8 * ROW)()
         with self._lock:
             self._call("changed", rows, ROW)
             return [row for row in range(self.size[0]) if rows[row]]
@@ -423,12 +427,15 @@ class Screen(_Object):
     @property
     def palette(self):
         """Red, green and blue of the colours 0 to 15, in the order of SGR."""
-        colour, found = _Colour(), []
-        with self._lock:
-            for number in range(16):
-                self._call("colour", number, colour)
-                found.append((colour.red, colour.green, colour.blue))
-        return found
+        colours = (_Colour * COLOURS)()
+        self._call("palette", colours, COLOURS)
+        return [_parts(colour) for colour in colours]
+
+    def colour(self, number):
+        """Red, green and blue of a colour, 0 to 15 in the order of SGR."""
+        colour, what = _Colour(), f"colour {number}"
+        self._call("colour", _unsigned(number, what), colour, what=what)
+        return _parts(colour)
 
     def set_colour(self, number, red, green, blue):
         """Sets red, green and blue of a colour, 0 to 15 in the order of SGR."""
@@ -447,6 +454,10 @@ class Screen(_Object):
     def redraw(self):
         """The text that draws this screen on a terminal of its size. NotDrawable, if there is none."""
         return self._text("redraw", room=4096)
+
+    def redraw_changes(self):
+        """The same for a terminal that shows the cells that mark remembered: only rows that differ are in the text."""
+        return self._text("redraw_changes", room=4096)
 
 
 class Keyboard(_Object):
@@ -472,7 +483,7 @@ class Keyboard(_Object):
         if not 0 <= byte < 256:
             raise OutOfRange(f"scan byte {byte}")
         with self._lock:
-            self._call("scan", byte, _Modes(*modes), self._key)
+            self._call("scan", byte, _Modes(*map(bool, modes)), self._key)
             return _key_event(self._key)
 
     def type(self, scans, modes=Modes()):
@@ -527,6 +538,10 @@ class Keyboard(_Object):
 
 def _encoded(text):
     return text.encode() if isinstance(text, str) else bytes(text)
+
+
+def _parts(colour):
+    return colour.red, colour.green, colour.blue
 
 
 def _cell(cell):

@@ -152,6 +152,9 @@ static void set(struct pair *p)
     must(vt_screen_set_colour(&p->fed, n, red, green, blue) == wanted);
     must(vt_screen_set_colour(&p->written, n, red, green, blue) == wanted);
     must(vt_screen_colour(&p->fed, n, &colour) == wanted);
+    struct vt_colour all[16];
+    must(vt_screen_palette(&p->fed, all, 16) == (p->is_made ? VT_OK : VT_NOTHING));
+    must(wanted != VT_OK || (all[n].red == red && all[n].green == green && all[n].blue == blue));
     must(wanted != VT_OK || (colour.red == red && colour.green == green && colour.blue == blue));
     for (int i = 0; i < 256; i++)
         words[i] = (uint16_t)(n * (uint32_t)i);
@@ -161,11 +164,35 @@ static void set(struct pair *p)
 
 static void mark(struct pair *p)
 {
-    bool changed[255];
+    uint8_t changed[255];
     must(vt_screen_mark(&p->fed) == (p->is_made ? VT_OK : VT_NOTHING));
     must(vt_screen_changed(&p->fed, changed, 255) == (p->is_made ? VT_OK : VT_NOTHING));
     for (uint32_t y = 0; p->is_made && y < p->rows; y++)
         must(!changed[y]);
+}
+
+/* The text of the changes makes the cells too, on a screen that shows the ones that were marked. */
+static void redraw_changes(struct pair *p)
+{
+    struct vt_screen other = { 0 };
+    struct vt_cell cells[255], others[255];
+    size_t length, room = 1u << 20;
+    uint8_t *text = malloc(room);
+    must(text != NULL && vt_screen_new(&other, p->rows, p->cols) == VT_OK);
+    if (vt_screen_mark(&p->fed) == VT_OK && vt_screen_redraw(&p->fed, text, room, &length) == VT_OK) {
+        must(vt_screen_write(&other, text, length) == VT_OK);
+        feed(p);
+        if (vt_screen_redraw_changes(&p->fed, text, room, &length) == VT_OK) {
+            must(vt_screen_write(&other, text, length) == VT_OK);
+            for (uint32_t y = 0; y < p->rows; y++) {
+                must(vt_screen_row(&p->fed, y, cells, 255) == VT_OK && vt_screen_row(&other, y, others, 255) == VT_OK);
+                for (uint32_t x = 0; x < p->cols; x++)
+                    must(cells[x].code == others[x].code && cells[x].attr == others[x].attr);
+            }
+        }
+    }
+    vt_screen_free(&other);
+    free(text);
 }
 
 /* The text of a redraw makes the same cells on another screen, and needs as much room as it names. */
@@ -188,6 +215,7 @@ static void redraw(struct pair *p)
     }
     vt_screen_free(&other);
     free(text);
+    redraw_changes(p);
 }
 
 static void make_keys(struct vt_keys *k)

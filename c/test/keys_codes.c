@@ -6,7 +6,7 @@ static const uint8_t KEYMAP[] = "keymaps 0-1\nkeycode 30 = a A\nkeycode 42 = Shi
 
 static void try_no_keys(struct vt_keys *k)
 {
-    static const struct vt_modes modes = { .repeat = true };
+    static const struct vt_modes modes = { .repeat = 1 };
     struct vt_key key = { .kind = 9 };
     struct vt_key_state state = { .mode = 9 };
     uint8_t text[4] = { 9 };
@@ -24,7 +24,7 @@ static void try_no_keys(struct vt_keys *k)
 
 static struct vt_key scanned(struct vt_keys *k, uint8_t byte)
 {
-    static const struct vt_modes modes = { .repeat = true };
+    static const struct vt_modes modes = { .repeat = 1 };
     struct vt_key key = { .kind = 99 };
     WANT(vt_keys_scan(k, byte, &modes, &key) == VT_OK);
     return key;
@@ -67,7 +67,7 @@ static void try_keys(void)
     struct vt_keys k = { 0 };
     struct vt_fault fault;
     struct vt_key_state state;
-    static const struct vt_modes application = { .cursor_keys = true };
+    static const struct vt_modes application = { .cursor_keys = 1 };
     static const struct vt_text texts[1];
     struct vt_key key;
     uint8_t text[256];

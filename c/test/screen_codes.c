@@ -12,6 +12,12 @@ struct picture {
     struct vt_colour colours[16];
 };
 
+/* Whether a text of C, without null bytes, is drawn. */
+static bool drawn(struct vt_screen *s, const char *text)
+{
+    return vt_screen_write(s, (const uint8_t *)text, strlen(text)) == VT_OK;
+}
+
 static void take(struct vt_screen *s, struct picture *p)
 {
     memset(p, 0, sizeof *p);
@@ -57,7 +63,7 @@ static void try_nothing(struct vt_screen *s)
     struct vt_colour colour = { 9, 9, 9 };
     uint8_t text[4] = { 9, 9, 9, 9 };
     size_t length = 9;
-    bool changed = true;
+    uint8_t changed = 9;
     static const uint16_t words[256];
     WANT(vt_screen_feed(s, TEXT, sizeof TEXT, &out, 1, &fed) == VT_NOTHING);
     WANT(fed.taken == 7 && fed.said == 7 && out.kind == 9);
@@ -67,12 +73,14 @@ static void try_nothing(struct vt_screen *s)
     WANT(vt_screen_row(s, 0, &cell, 1) == VT_NOTHING && cell.code == 9);
     WANT(vt_screen_row_text(s, 0, text, 4, &length) == VT_NOTHING && length == 9 && text[0] == 9);
     WANT(vt_screen_mark(s) == VT_NOTHING);
-    WANT(vt_screen_changed(s, &changed, 1) == VT_NOTHING && changed);
+    WANT(vt_screen_changed(s, &changed, 1) == VT_NOTHING && changed == 9);
     WANT(vt_screen_resize(s, 4, 4) == VT_NOTHING);
     WANT(vt_screen_colour(s, 0, &colour) == VT_NOTHING && colour.red == 9);
+    WANT(vt_screen_palette(s, &colour, 1) == VT_NOTHING && colour.red == 9);
     WANT(vt_screen_set_colour(s, 0, 1, 2, 3) == VT_NOTHING);
     WANT(vt_screen_set_user(s, words) == VT_NOTHING);
     WANT(vt_screen_redraw(s, text, 4, &length) == VT_NOTHING && length == 9);
+    WANT(vt_screen_redraw_changes(s, text, 4, &length) == VT_NOTHING && length == 9);
     vt_screen_free(s);
     WANT(s->at == NULL);
 }
@@ -190,9 +198,13 @@ static void try_settings(void)
     /* The colours of the VGA: 170 for a part, bright ones 85 more. */
     WANT(vt_screen_colour(&s, 1, &colour) == VT_OK && colour.red == 170 && colour.green == 0 && colour.blue == 0);
     WANT(vt_screen_colour(&s, 12, &colour) == VT_OK && colour.red == 85 && colour.green == 85 && colour.blue == 255);
+    struct vt_colour palette[17] = { [8] = { 9, 9, 9 }, [16] = { 9, 9, 9 } };
+    WANT(vt_screen_palette(&s, palette, 8) == VT_OK && palette[7].blue == 170 && palette[8].blue == 9);
+    WANT(vt_screen_palette(&s, palette, 17) == VT_OK && palette[15].red == 255 && palette[16].red == 9);
+    WANT(vt_screen_palette(&s, palette, 0) == VT_OK && palette[0].red == 0);
     WANT(vt_screen_set_colour(&s, 12, 1, 2, 3) == VT_OK);
     WANT(vt_screen_colour(&s, 12, &colour) == VT_OK && colour.red == 1 && colour.green == 2 && colour.blue == 3);
-    WANT(vt_screen_write(&s, (const uint8_t *)"\033]P5102030", 10) == VT_OK);
+    WANT(drawn(&s, "\033]P5102030"));
     WANT(vt_screen_colour(&s, 5, &colour) == VT_OK && colour.red == 16 && colour.green == 32 && colour.blue == 48);
     LEAVES(&s, vt_screen_colour(&s, 16, &colour), VT_RANGE);
     LEAVES(&s, vt_screen_colour(&s, 256, &colour), VT_RANGE);
@@ -201,9 +213,9 @@ static void try_settings(void)
     for (unsigned i = 0; i < 256; i++)
         words[i] = (uint16_t)(0x3B1 + i);
     WANT(vt_screen_set_user(&s, words) == VT_OK);
-    WANT(vt_screen_write(&s, (const uint8_t *)"\033%@\033(Ka\033(B\033%G", 13) == VT_OK);
+    WANT(drawn(&s, "\033%@\033(Ka\033(B\033%G"));
     WANT(vt_screen_cell(&s, 0, 0, &cell) == VT_OK && cell.code == 0x3B1 + 'a');
-    WANT(vt_screen_write(&s, (const uint8_t *)"\033[?1h\033=\033[20h\033[?8l\033[?25l\033[?5h", 29) == VT_OK);
+    WANT(drawn(&s, "\033[?1h\033=\033[20h\033[?8l\033[?25l\033[?5h"));
     WANT(vt_screen_state(&s, &state) == VT_OK && state.cursor_keys && state.keypad && state.newline);
     WANT(!state.repeat && !state.visible && state.reverse);
     LEAVES(&s, vt_screen_resize(&s, 0, 4), VT_RANGE);
@@ -219,25 +231,27 @@ static void try_settings(void)
 static void try_changes(void)
 {
     struct vt_screen s = { 0 };
-    bool changed[4] = { false, false, false, true };
+    uint8_t changed[4] = { 0, 0, 0, 9 };
     WANT(vt_screen_new(&s, 3, 4) == VT_OK);
-    WANT(vt_screen_changed(&s, changed, 4) == VT_OK && changed[0] && changed[1] && changed[2] && changed[3]);
+    WANT(vt_screen_changed(&s, changed, 4) == VT_OK && changed[0] == 1 && changed[1] == 1 && changed[2] == 1);
+    WANT(changed[3] == 9);
     LEAVES(&s, vt_screen_mark(&s), VT_OK);
-    changed[3] = false;
-    WANT(vt_screen_changed(&s, changed, 4) == VT_OK && !changed[0] && !changed[1] && !changed[2] && !changed[3]);
-    WANT(vt_screen_write(&s, (const uint8_t *)"\033[2;1Hx", 7) == VT_OK);
+    WANT(vt_screen_changed(&s, changed, 4) == VT_OK && changed[0] == 0 && changed[1] == 0 && changed[2] == 0);
+    WANT(changed[3] == 9);
+    WANT(drawn(&s, "\033[2;1Hx"));
     LEAVES(&s, vt_screen_changed(&s, changed, 3), VT_OK);
-    WANT(!changed[0] && changed[1] && !changed[2]);
-    changed[1] = false;
-    WANT(vt_screen_changed(&s, changed, 1) == VT_OK && !changed[0] && !changed[1]);
-    WANT(vt_screen_changed(&s, changed, 0) == VT_OK && !changed[0]);
-    WANT(vt_screen_write(&s, (const uint8_t *)"\b \033[3;4H\033[31m ", 15) == VT_OK);
-    WANT(vt_screen_changed(&s, changed, 3) == VT_OK && !changed[0] && !changed[1]);
-    WANT(changed[2]); /* a space in another colour */
+    WANT(changed[0] == 0 && changed[1] == 1 && changed[2] == 0);
+    changed[1] = 9;
+    WANT(vt_screen_changed(&s, changed, 1) == VT_OK && changed[0] == 0 && changed[1] == 9);
+    changed[0] = 9;
+    WANT(vt_screen_changed(&s, changed, 0) == VT_OK && changed[0] == 9);
+    WANT(drawn(&s, "\b \033[3;4H\033[31m "));
+    WANT(vt_screen_changed(&s, changed, 3) == VT_OK && changed[0] == 0 && changed[1] == 0);
+    WANT(changed[2] == 1); /* a space in another colour */
     WANT(vt_screen_mark(&s) == VT_OK);
     WANT(vt_screen_resize(&s, 2, 4) == VT_OK);
-    changed[2] = false;
-    WANT(vt_screen_changed(&s, changed, 4) == VT_OK && changed[0] && changed[1] && !changed[2]);
+    changed[2] = 9;
+    WANT(vt_screen_changed(&s, changed, 4) == VT_OK && changed[0] == 1 && changed[1] == 1 && changed[2] == 9);
     vt_screen_free(&s);
 }
 
@@ -248,7 +262,7 @@ static void try_redraw(void)
     size_t length, again;
     WANT(vt_screen_new(&s, ROWS, COLS) == VT_OK && vt_screen_new(&other, ROWS, COLS) == VT_OK);
     WANT(vt_screen_write(&s, TEXT, sizeof TEXT - 1) == VT_OK);
-    WANT(vt_screen_write(&other, (const uint8_t *)"\033[7mQQQQ\033[2;3r\033[?6hZZZ", 23) == VT_OK);
+    WANT(drawn(&other, "\033[7mQQQQ\033[2;3r\033[?6hZZZ"));
     LEAVES(&s, vt_screen_redraw(&s, text, sizeof text, &length), VT_OK);
     WANT(length > 0 && length <= sizeof text);
     WANT(vt_screen_write(&other, text, length) == VT_OK);
@@ -260,10 +274,41 @@ static void try_redraw(void)
     WANT(again == length && text[0] == 9);
     WANT(vt_screen_redraw(&s, text, 0, &again) == VT_NO_ROOM && again == length);
     WANT(vt_screen_redraw(&s, text, length, &again) == VT_OK && again == length);
-    WANT(vt_screen_write(&s, (const uint8_t *)"\033%@\033[3h\001\033[3l\033%G", 15) == VT_OK); /* a cell of 01 */
+    WANT(drawn(&s, "\033%@\033[3h\001\033[3l\033%G")); /* a cell of 01 */
     again = 9;
     LEAVES(&s, vt_screen_redraw(&s, text, sizeof text, &again), VT_NOT_DRAWABLE);
     WANT(again == 9);
+    vt_screen_free(&s);
+    vt_screen_free(&other);
+}
+
+static void try_redraw_of_changes(void)
+{
+    struct vt_screen s = { 0 }, other = { 0 };
+    uint8_t whole[4096], text[4096];
+    size_t length, again;
+    WANT(vt_screen_new(&s, ROWS, COLS) == VT_OK && vt_screen_new(&other, ROWS, COLS) == VT_OK);
+    WANT(vt_screen_write(&s, TEXT, sizeof TEXT - 1) == VT_OK && vt_screen_write(&other, TEXT, sizeof TEXT - 1) == VT_OK);
+    /* Nothing was remembered: the text of vt_screen_redraw. */
+    WANT(vt_screen_redraw(&s, whole, sizeof whole, &length) == VT_OK);
+    LEAVES(&s, vt_screen_redraw_changes(&s, text, sizeof text, &again), VT_OK);
+    WANT(again == length && memcmp(whole, text, length) == 0);
+    WANT(vt_screen_mark(&s) == VT_OK);
+    WANT(drawn(&s, "\033[3;1HZZ\033[2;3r"));
+    WANT(vt_screen_redraw(&s, whole, sizeof whole, &length) == VT_OK);
+    LEAVES(&s, vt_screen_redraw_changes(&s, text, sizeof text, &again), VT_OK);
+    WANT(again < length);
+    LEAVES(&s, vt_screen_redraw_changes(&s, text, again - 1, &length), VT_NO_ROOM);
+    WANT(length == again);
+    WANT(vt_screen_write(&other, text, again) == VT_OK);
+    take(&s, &before);
+    take(&other, &after);
+    WANT(is_same(&before, &after));
+    /* Another size than that of the mark: the whole text. */
+    WANT(vt_screen_resize(&s, 2, 2) == VT_OK);
+    WANT(vt_screen_redraw(&s, whole, sizeof whole, &length) == VT_OK);
+    WANT(vt_screen_redraw_changes(&s, text, sizeof text, &again) == VT_OK);
+    WANT(again == length && memcmp(whole, text, length) == 0);
     vt_screen_free(&s);
     vt_screen_free(&other);
 }
@@ -276,5 +321,6 @@ int main(void)
     try_settings();
     try_changes();
     try_redraw();
+    try_redraw_of_changes();
     return ended();
 }

@@ -22,7 +22,7 @@ static void *make(void *unused)
 
 static void *use(void *unused)
 {
-    static const struct vt_modes modes = { .repeat = true };
+    static const struct vt_modes modes = { .repeat = 1 };
     struct vt_screen own = { 0 };
     (void)unused;
     bool is_fine = vt_screen_new(&own, 4, 4) == VT_OK;

@@ -10,13 +10,6 @@ enum { COLOURS = 16 };
 static struct vt_colour start_colours[COLOURS], colours[COLOURS];
 static bool was_reversed;
 
-static struct vt_colour colour_at(struct vt_screen *screen, unsigned number)
-{
-    struct vt_colour found = { 0, 0, 0 };
-    vt_screen_colour(screen, number, &found);
-    return found;
-}
-
 static bool is_same(struct vt_colour a, struct vt_colour b)
 {
     return a.red == b.red && a.green == b.green && a.blue == b.blue;
@@ -26,14 +19,14 @@ static bool is_same(struct vt_colour a, struct vt_colour b)
 static bool read_colours(struct vt_screen *screen)
 {
     static bool is_started;
+    struct vt_colour old[COLOURS];
     bool is_changed = false;
-    for (unsigned i = 0; i < COLOURS; i++) {
-        struct vt_colour found = colour_at(screen, i);
-        if (!is_started)
-            start_colours[i] = colours[i] = found;
-        is_changed = is_changed || !is_same(found, colours[i]);
-        colours[i] = found;
-    }
+    memcpy(old, colours, sizeof old);
+    vt_screen_palette(screen, colours, COLOURS);
+    if (!is_started)
+        memcpy(start_colours, colours, sizeof start_colours);
+    for (unsigned i = 0; is_started && i < COLOURS; i++)
+        is_changed = is_changed || !is_same(old[i], colours[i]);
     is_started = true;
     return is_changed;
 }
@@ -89,7 +82,7 @@ void end_drawing(void)
 bool draw_screen(struct vt_screen *screen, bool is_whole)
 {
     struct vt_state state;
-    bool changed[MOST_ROWS];
+    uint8_t changed[MOST_ROWS];
     if (vt_screen_state(screen, &state) != VT_OK || vt_screen_changed(screen, changed, MOST_ROWS) != VT_OK)
         return false;
     bool is_recoloured = read_colours(screen);

@@ -121,7 +121,7 @@ int main(int count, char **words)
     default: fail(4, "no memory", NULL);
     }
     vt_keys_set_mode(&keys, mode);
-    const struct vt_modes modes = { .repeat = true };
+    const struct vt_modes modes = { .repeat = 1 };
     struct vt_key key;
     for (int scan; (scan = next_scan()) >= 0;)
         if (vt_keys_scan(&keys, (uint8_t)scan, &modes, &key) == VT_OK)

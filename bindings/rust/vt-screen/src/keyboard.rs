@@ -96,7 +96,12 @@ impl Keyboard {
     /// Types one scan byte.
     pub fn scan(&mut self, byte: u8, modes: KeyModes) -> Option<KeyEvent> {
         let KeyModes { cursor_keys, keypad, repeat, newline } = modes;
-        let modes = vt_sys::vt_modes { cursor_keys, keypad, repeat, newline };
+        let modes = vt_sys::vt_modes {
+            cursor_keys: cursor_keys.into(),
+            keypad: keypad.into(),
+            repeat: repeat.into(),
+            newline: newline.into(),
+        };
         let mut key = vt_sys::vt_key { kind: 0, number: 0, length: 0, bytes: [0; 512] };
         unsafe { vt_sys::vt_keys_scan(self.handle.get(), byte, &modes, &mut key) };
         match key.kind {

@@ -112,23 +112,23 @@ impl Screen {
 
     pub fn cursor(&self) -> Cursor {
         let state = self.state();
-        Cursor { row: state.y, column: state.x, visible: state.visible }
+        Cursor { row: state.y, column: state.x, visible: state.visible != 0 }
     }
 
     /// The modes that keys depend on.
     pub fn key_modes(&self) -> KeyModes {
         let state = self.state();
         KeyModes {
-            cursor_keys: state.cursor_keys,
-            keypad: state.keypad,
-            repeat: state.repeat,
-            newline: state.newline,
+            cursor_keys: state.cursor_keys != 0,
+            keypad: state.keypad != 0,
+            repeat: state.repeat != 0,
+            newline: state.newline != 0,
         }
     }
 
     /// Whether the screen is shown reversed (DECSCNM).
     pub fn is_reversed(&self) -> bool {
-        self.state().reverse
+        self.state().reverse != 0
     }
 
     pub fn cell(&self, row: u32, col: u32) -> Result<Cell, Error> {
@@ -159,9 +159,9 @@ impl Screen {
 
     /// Whether each row differs from the cells that `mark` remembered; all of them do, if there are none.
     pub fn changed_rows(&self) -> Vec<bool> {
-        let mut rows = vec![true; usize::from(self.size().0)];
+        let mut rows = vec![1; usize::from(self.size().0)];
         unsafe { vt_sys::vt_screen_changed(self.handle.get(), rows.as_mut_ptr(), rows.len()) };
-        rows
+        rows.into_iter().map(|row| row != 0).collect()
     }
 
     /// Gives the screen another size.
@@ -173,7 +173,14 @@ impl Screen {
     pub fn colour(&self, number: u32) -> Result<Colour, Error> {
         let mut colour = vt_sys::vt_colour::default();
         checked(unsafe { vt_sys::vt_screen_colour(self.handle.get(), number, &mut colour) })?;
-        Ok(Colour { red: colour.red, green: colour.green, blue: colour.blue })
+        Ok(parts(colour))
+    }
+
+    /// The colours 0 to 15, in the order of SGR.
+    pub fn palette(&self) -> [Colour; 16] {
+        let mut colours = [vt_sys::vt_colour::default(); 16];
+        unsafe { vt_sys::vt_screen_palette(self.handle.get(), colours.as_mut_ptr(), colours.len()) };
+        colours.map(parts)
     }
 
     pub fn set_colour(&mut self, number: u32, colour: Colour) -> Result<(), Error> {
@@ -192,12 +199,23 @@ impl Screen {
             vt_sys::vt_screen_redraw(self.handle.get(), at, room, length)
         })
     }
+
+    /// The same for a terminal that shows the cells that `mark` remembered: only rows that differ are in the text.
+    pub fn redraw_changes(&self) -> Result<Vec<u8>, Error> {
+        text_of(4096, |at, room, length| unsafe {
+            vt_sys::vt_screen_redraw_changes(self.handle.get(), at, room, length)
+        })
+    }
 }
 
 impl Drop for Screen {
     fn drop(&mut self) {
         unsafe { vt_sys::vt_screen_free(self.handle.get()) }
     }
+}
+
+fn parts(colour: vt_sys::vt_colour) -> Colour {
+    Colour { red: colour.red, green: colour.green, blue: colour.blue }
 }
 
 fn event(out: &vt_sys::vt_out) -> Option<Event> {

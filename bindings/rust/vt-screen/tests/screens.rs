@@ -78,6 +78,9 @@ fn changes() {
     assert_eq!(s.changed_rows(), [false, false, false]);
     s.write(b"\x1b[2;1Hx").expect("a text is drawn");
     assert_eq!(s.changed_rows(), [false, true, false]);
+    let mut other = screen(3, 4);
+    other.write(&s.redraw_changes().expect("a text")).expect("a text is drawn");
+    assert_eq!(other.row_text(1).as_deref(), Ok("x   "));
 }
 
 #[test]
@@ -87,6 +90,7 @@ fn colours() {
     let other = Colour { red: 1, green: 2, blue: 3 };
     assert_eq!(s.set_colour(1, other), Ok(()));
     assert_eq!(s.colour(1), Ok(other));
+    assert_eq!(s.palette()[..2], [Colour { red: 0, green: 0, blue: 0 }, other]);
     assert_eq!(s.colour(16), Err(Error::Range));
     assert_eq!(s.set_colour(16, other), Err(Error::Range));
     s.set_user(&[0x3B1; 256]).expect("a table");

@@ -74,12 +74,12 @@ pub struct vt_state {
     pub cols: u8,
     pub y: u8,
     pub x: u8,
-    pub visible: bool,
-    pub reverse: bool,
-    pub cursor_keys: bool,
-    pub keypad: bool,
-    pub newline: bool,
-    pub repeat: bool,
+    pub visible: u8,
+    pub reverse: u8,
+    pub cursor_keys: u8,
+    pub keypad: u8,
+    pub newline: u8,
+    pub repeat: u8,
 }
 
 #[repr(C)]
@@ -127,10 +127,10 @@ pub struct vt_key_state {
 #[repr(C)]
 #[derive(Clone, Copy)]
 pub struct vt_modes {
-    pub cursor_keys: bool,
-    pub keypad: bool,
-    pub repeat: bool,
-    pub newline: bool,
+    pub cursor_keys: u8,
+    pub keypad: u8,
+    pub repeat: u8,
+    pub newline: u8,
 }
 
 #[repr(C)]
@@ -154,12 +154,14 @@ extern "C" {
     pub fn vt_screen_row(s: *mut vt_screen, row: u32, cells: *mut vt_cell, room: usize) -> u8;
     pub fn vt_screen_row_text(s: *mut vt_screen, row: u32, text: *mut u8, room: usize, length: *mut usize) -> u8;
     pub fn vt_screen_mark(s: *mut vt_screen) -> u8;
-    pub fn vt_screen_changed(s: *mut vt_screen, rows: *mut bool, room: usize) -> u8;
+    pub fn vt_screen_changed(s: *mut vt_screen, rows: *mut u8, room: usize) -> u8;
     pub fn vt_screen_resize(s: *mut vt_screen, rows: u32, cols: u32) -> u8;
     pub fn vt_screen_colour(s: *mut vt_screen, number: u32, colour: *mut vt_colour) -> u8;
+    pub fn vt_screen_palette(s: *mut vt_screen, colours: *mut vt_colour, room: usize) -> u8;
     pub fn vt_screen_set_colour(s: *mut vt_screen, number: u32, red: u8, green: u8, blue: u8) -> u8;
     pub fn vt_screen_set_user(s: *mut vt_screen, words: *const u16) -> u8;
     pub fn vt_screen_redraw(s: *mut vt_screen, text: *mut u8, room: usize, length: *mut usize) -> u8;
+    pub fn vt_screen_redraw_changes(s: *mut vt_screen, text: *mut u8, room: usize, length: *mut usize) -> u8;
 
     pub fn vt_keys_new(
         k: *mut vt_keys, text: *const u8, n: usize, texts: *const vt_text, count: usize, fault: *mut vt_fault,
