@@ -12,7 +12,8 @@ usage: check_c.py [--library OUT] [--vt PROGRAM] [--only CHECK,..] [--runs N]
 - `keys`, `faults`: N random runs of keys (1,000) are typed as `vt type` does; faults of keymaps are those of `vt keys`.
 - `terminal`: examples/c/term.c on a pseudo-terminal.
 - `python`, `rust`: the tests of the bindings. `fuzz`: the fuzzer's corpus (tools/fuzz_c.sh looks for more).
-- `install`: tools/install.sh into a folder; programs are compiled by pkg-config there, as docs/library/c.md does it.
+- `install`: tools/install.sh into a folder, and programs that are compiled by pkg-config there.
+- `guide`: the files and commands of docs/library/c.md, in an empty folder.
 
 OUT is a folder that tools/build_c.sh filled; without it the library is built first. The program is crates/vt/out/vt. If a
 tool isn't there, a line names the check that is skipped. Prints a line for each thing that isn't so and last 'N passed, M
@@ -31,7 +32,7 @@ import tempfile
 
 sys.dont_write_bytecode = True
 
-from c_library import drawn, terminal, typed  # noqa: E402: after the line that keeps tools/ clean
+from c_library import drawn, guide, terminal, typed  # noqa: E402: after the line that keeps tools/ clean
 from c_library.bench import EXAMPLES, SANITIZERS, TESTS, TOP, VALGRIND, Bench, Missing  # noqa: E402
 from tool_files import Stop, number  # noqa: E402
 
@@ -195,6 +196,7 @@ CHECKS = {
     "rust": check_rust,
     "fuzz": check_fuzz,
     "install": check_install,
+    "guide": guide.check_guide,
 }
 
 

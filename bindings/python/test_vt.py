@@ -12,7 +12,7 @@ sys.path.insert(0, os.path.dirname(os.path.abspath(__file__)))
 import vt  # noqa: E402: after its folder
 
 KEYMAP = """keymaps 0-1
-keycode 30 = a A
+keycode 30 = +a +A
 keycode 42 = Shift
 keycode 58 = Caps_Lock
 keycode 59 = F1

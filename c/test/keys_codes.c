@@ -1,7 +1,7 @@
 /* Each code of each call on a keyboard, by the rules of vt.h. */
 #include "want.h"
 
-static const uint8_t KEYMAP[] = "keymaps 0-1\nkeycode 30 = a A\nkeycode 42 = Shift\nkeycode 59 = F1\n"
+static const uint8_t KEYMAP[] = "keymaps 0-1\nkeycode 30 = +a +A\nkeycode 42 = Shift\nkeycode 59 = F1\n"
                                 "keycode 58 = Caps_Lock\nkeycode 103 = Up\nstring F1 = \"one\"\n";
 
 static void try_no_keys(struct vt_keys *k)

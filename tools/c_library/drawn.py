@@ -12,7 +12,6 @@ import inputs  # noqa: E402: after its folder
 RECORDINGS = ["listing", "pager", "editor", "monitor", "dialog", "progress"]
 PIECES = [1, 7, 64, 4096, 0]
 ROOMS = [0, 1, 2, 64, 5000]
-KINDS = ["ascii", "long", "scroll", "sgr", "cursor", "utf8", "wide", "edit", "erase", "lines"]
 WORKLOAD_BYTES = 1 << 16
 ITEMS = 20_000
 CUTS = [(1, 1), (7, 1), (64, 2), (64, 64), (4096, 1), (4096, 5000), (0, 3), (0, 20_000)]
@@ -29,10 +28,7 @@ def recorded():
 
 def workload(kind, length=WORKLOAD_BYTES):
     """The beginning of a workload of bench/inputs.py."""
-    writer, text = inputs.Writer(kind, 1), ""
-    while len(text.encode()) < length:
-        text += writer.piece()
-    return text.encode()
+    return inputs.make(kind, length, "1")
 
 
 def asking(seed):
@@ -110,7 +106,7 @@ def check_outs(bench):
 def check_workloads(bench):
     """The ten workloads, in the program's pieces and in bad ones, by the test and by examples/c/screen.c."""
     screen = bench.compiled("screen", [EXAMPLES / "screen.c"])
-    for kind in KINDS:
+    for kind in inputs.KINDS:
         text = workload(kind)
         wanted = bench.run([bench.vt, "screen", 25, 80], text).stdout
         bench.holds(len(wanted) > 25 * 80, f"vt screen draws {kind}")
