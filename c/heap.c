@@ -1,8 +1,8 @@
 /* The heap of the C library: what the proved code calls for memory, over malloc, realloc and free.
  *
  * The proved code asks for an alignment of 1, 2, 4, 8 or 16, which malloc and realloc have for every block on the
- * platforms that the library is built for. A block of no bytes is a block all the same, so that it has an address of its
- * own and is freed like any other. A request that can't be met leaves the old block as it was. */
+ * platforms that the library is built for. A block of no bytes is a block all the same, so that it has an address of
+ * its own and is freed like any other. A request that can't be met leaves the old block as it was. */
 #include <stdbool.h>
 #include <stddef.h>
 #include <stdlib.h>

@@ -4,10 +4,10 @@
  *
  * - A handle is a struct of one pointer. It begins as {0}, and only the calls of this header change it. A copy of the
  *   struct is no second handle: don't use it. A handle that is {0} again may be made again.
- * - One call at a time uses a handle. Different handles are independent: any threads may use them at once. A handle may
- *   go to another thread if a lock, the start of a thread or its join is between the calls.
- * - No pointer is null, even if the length beside it is 0. The places that a call writes overlap neither each other, nor
- *   the handle, nor what the call reads.
+ * - One call at a time uses a handle. Different handles are independent: any threads may use them at once. A handle
+ *   may go to another thread if a lock, the start of a thread or its join is between the calls.
+ * - No pointer is null, even if the length beside it is 0. The places that a call writes overlap neither each other,
+ *   nor the handle, nor what the call reads.
  * - No call is made from a signal handler, nor in the child of a fork of a process with threads.
  * - A call that returns another code than VT_OK has changed nothing, except what its comment names.
  * - Rows and columns are counted from 0, from the top left. Text is UTF-8, without a null byte at its end. */
@@ -91,8 +91,8 @@ void vt_screen_free(struct vt_screen *s);
 
 /* Draws a text, however it is cut into calls, until `outs` is full or the text is at its end. fed->taken is how many
  * bytes were drawn. What they ask for is in the first fed->said places of `outs`, in order; the other places stay.
- * Nothing is lost: feed the rest of the text again. With room for one or more, each call takes a byte or more, if there
- * is one. VT_NOTHING. */
+ * Nothing is lost: feed the rest of the text again. With room for one or more, each call takes a byte or more, if
+ * there is one. VT_NOTHING. */
 uint8_t vt_screen_feed(struct vt_screen *s, const uint8_t *bytes, size_t n, struct vt_out *outs, size_t room,
                        struct vt_fed *fed);
 
@@ -109,16 +109,16 @@ uint8_t vt_screen_cell(struct vt_screen *s, uint32_t row, uint32_t col, struct v
  * VT_NOTHING. */
 uint8_t vt_screen_row(struct vt_screen *s, uint32_t row, struct vt_cell *cells, size_t room);
 
-/* The characters of a row in UTF-8, at most 4 bytes for a column. *length is how long that is, at VT_OK and VT_NO_ROOM.
- * VT_RANGE, VT_NO_MEMORY, VT_NOTHING, VT_NO_ROOM. */
+/* The characters of a row in UTF-8, at most 4 bytes for a column. *length is how long that is, at VT_OK and
+ * VT_NO_ROOM. VT_RANGE, VT_NO_MEMORY, VT_NOTHING, VT_NO_ROOM. */
 uint8_t vt_screen_row_text(struct vt_screen *s, uint32_t row, uint8_t *text, size_t room, size_t *length);
 
 /* Remembers the cells as they are, in place of those that it remembered before. VT_NO_MEMORY, VT_NOTHING. */
 uint8_t vt_screen_mark(struct vt_screen *s);
 
-/* For each row, from the top, 1 if it differs from the cells that vt_screen_mark remembered, and 0 if it doesn't: as many
- * rows as the screen has and as there is room for; the other places stay. If nothing was remembered, or the screen had
- * another size then, every row differs. VT_NOTHING. */
+/* For each row, from the top, 1 if it differs from the cells that vt_screen_mark remembered, and 0 if it doesn't: as
+ * many rows as the screen has and as there is room for; the other places stay. If nothing was remembered, or the
+ * screen had another size then, every row differs. VT_NOTHING. */
 uint8_t vt_screen_changed(struct vt_screen *s, uint8_t *rows, size_t room);
 
 /* Gives the screen another size, 1 to 255 rows and columns. VT_RANGE, VT_NO_MEMORY, VT_NOTHING. */
@@ -141,8 +141,8 @@ uint8_t vt_screen_set_user(struct vt_screen *s, const uint16_t words[256]);
  * how long it is, at VT_OK and VT_NO_ROOM. VT_NOT_DRAWABLE, VT_NO_MEMORY, VT_NOTHING, VT_NO_ROOM. */
 uint8_t vt_screen_redraw(struct vt_screen *s, uint8_t *text, size_t room, size_t *length);
 
-/* The same for a terminal that shows the cells that vt_screen_mark remembered: only rows that differ are in the text. If
- * nothing was remembered, or the screen had another size then, it is the text of vt_screen_redraw. */
+/* The same for a terminal that shows the cells that vt_screen_mark remembered: only rows that differ are in the text.
+ * If nothing was remembered, or the screen had another size then, it is the text of vt_screen_redraw. */
 uint8_t vt_screen_redraw_changes(struct vt_screen *s, uint8_t *text, size_t room, size_t *length);
 
 /* ---- A keymap, and a keyboard that types by it (keymaps(5), ioctl_console(2)) ---- */
@@ -168,8 +168,8 @@ struct vt_text {
 enum vt_key_mode { VT_RAW, VT_XLATE, VT_MEDIUMRAW, VT_UNICODE, VT_OFF };
 enum vt_key_meta { VT_METABIT = 3, VT_ESCPREFIX = 4 };
 
-/* The key state of a console. Flags and lights are sums of Scroll Lock 1, Num Lock 2, Caps Lock 4; modifiers are sums of
- * the weights of keymaps(5): Shift 1, AltGr 2, Control 4, Alt 8 and so on. */
+/* The key state of a console. Flags and lights are sums of Scroll Lock 1, Num Lock 2, Caps Lock 4; modifiers are sums
+ * of the weights of keymaps(5): Shift 1, AltGr 2, Control 4, Alt 8 and so on. */
 struct vt_key_state {
     uint8_t mode;         /* enum vt_key_mode; VT_UNICODE at the start */
     uint8_t meta;         /* enum vt_key_meta; VT_ESCPREFIX at the start */
@@ -202,8 +202,8 @@ struct vt_key {
     uint8_t bytes[512];   /* those past the length stay */
 };
 
-/* Compiles a keymap text, which may include the other texts, for a keyboard with no key down. If two texts have one name,
- * the first counts. VT_FAULT: the first fault is in *fault. VT_MADE, VT_NO_MEMORY. */
+/* Compiles a keymap text, which may include the other texts, for a keyboard with no key down. If two texts have one
+ * name, the first counts. VT_FAULT: the first fault is in *fault. VT_MADE, VT_NO_MEMORY. */
 uint8_t vt_keys_new(struct vt_keys *k, const uint8_t *text, size_t n, const struct vt_text *texts, size_t count,
                     struct vt_fault *fault);
 
@@ -232,8 +232,8 @@ uint8_t vt_keys_set_lights(struct vt_keys *k, uint32_t lights);
 /* Sets the locked modifiers and those for the next key. VT_RANGE, VT_NOTHING. */
 uint8_t vt_keys_set_locks(struct vt_keys *k, uint32_t locks, uint32_t sticky);
 
-/* The string of a function key (KDGKBSENT), number 0 to 255. *length is how long it is, at VT_OK and VT_NO_ROOM; 255 at
- * most. VT_RANGE, VT_NOTHING, VT_NO_ROOM. */
+/* The string of a function key (KDGKBSENT), number 0 to 255. *length is how long it is, at VT_OK and VT_NO_ROOM; 255
+ * at most. VT_RANGE, VT_NOTHING, VT_NO_ROOM. */
 uint8_t vt_keys_string(struct vt_keys *k, uint32_t number, uint8_t *text, size_t room, size_t *length);
 
 /* Sets the string of a function key (KDSKBSENT) to at most 255 bytes. VT_RANGE, VT_NOTHING. */

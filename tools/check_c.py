@@ -3,11 +3,11 @@
 
 usage: check_c.py [--library OUT] [--vt PROGRAM] [--only CHECK,..] [--runs N]
 
-- `header`: vt.h is C11 and C++17; the library has the calls of vt.h and no other symbol; vt.py has the layout of vt.h.
+- `header`: vt.h is C11 and C++17; the library has the calls of vt.h and no other symbol; vt.py has its layout.
 - `codes`: each code of each call, plainly, with sanitizers, and under valgrind without a leak.
-- `cuts`, `outs`, `workloads`: the recordings of examples/ in pieces of 1, 7, 64, 4,096 bytes and whole, with room for 0,
-  1, 2, 64 and 5,000 outs; a text that asks for thousands of things in eight cuts; the ten workloads of bench/inputs.py.
-  The rows are those that `vt screen` prints.
+- `cuts`, `outs`, `workloads`: the recordings of examples/ in pieces of 1, 7, 64, 4,096 bytes and whole, with room for
+  0, 1, 2, 64 and 5,000 outs; a text that asks for thousands of things in eight cuts; the ten workloads of
+  bench/inputs.py. The rows are those that `vt screen` prints.
 - `memory`: each request for memory refused once. `threads`: handles that go between threads, under helgrind.
 - `keys`, `faults`: N random runs of keys (1,000) are typed as `vt type` does; faults of keymaps are those of `vt keys`.
 - `terminal`: examples/c/term.c on a pseudo-terminal.
@@ -15,9 +15,9 @@ usage: check_c.py [--library OUT] [--vt PROGRAM] [--only CHECK,..] [--runs N]
 - `install`: tools/install.sh into a folder, and programs that are compiled by pkg-config there.
 - `guide`: the files and commands of docs/library/c.md, in an empty folder.
 
-OUT is a folder that tools/build_c.sh filled; without it the library is built first. The program is crates/vt/out/vt. If a
-tool isn't there, a line names the check that is skipped. Prints a line for each thing that isn't so and last 'N passed, M
-failed'; ends with status 1 if one fails, and with 2 if the library isn't built or a file is missing.
+OUT is a folder that tools/build_c.sh filled; without it the library is built first. The program is crates/vt/out/vt.
+If a tool isn't there, a line names the check that is skipped. Prints a line for each thing that isn't so and last 'N
+passed, M failed'; ends with status 1 if one fails, and with 2 if the library isn't built or a file is missing.
 """
 import argparse
 import ctypes
@@ -33,7 +33,8 @@ import tempfile
 sys.dont_write_bytecode = True
 
 from c_library import drawn, guide, terminal, typed  # noqa: E402: after the line that keeps tools/ clean
-from c_library.bench import EXAMPLES, SANITIZERS, TESTS, TOP, VALGRIND, Bench, Missing  # noqa: E402
+from c_library.bench import (  # noqa: E402
+    EXAMPLES, SANITIZERS, TESTS, TOP, VALGRIND, WARNINGS, Bench, Missing)
 from tool_files import Stop, number  # noqa: E402
 
 HEADER = TOP / "include/vt.h"
@@ -58,7 +59,7 @@ def check_header(bench):
         if not shutil.which(compiler):
             bench.skip(f"vt.h as {standard}", f"{compiler} isn't there")
             continue
-        words = [compiler, "-x", language, f"-std={standard}", "-Wall", "-Wextra", "-Werror", "-pedantic", "-fsyntax-only", HEADER]
+        words = [compiler, "-x", language, f"-std={standard}", *WARNINGS, "-pedantic", "-fsyntax-only", HEADER]
         bench.ends_well(words, f"vt.h as {standard}")
     calls = calls_of_header()
     for name, option in (("libvt.a", "-g"), ("libvt.so.1", "-D")):
@@ -67,7 +68,8 @@ def check_header(bench):
         bench.holds(symbols == calls, f"the symbols of {name} are the calls of vt.h: {sorted(symbols ^ calls)}")
     said = bench.run(["readelf", "-d", bench.library / "lib/libvt.so.1"]).stdout.decode()
     needed = re.findall(r"NEEDED.*\[(.*)\]", said)
-    bench.holds("soname: [libvt.so.1]" in said and needed == ["libc.so.6"], f"libvt.so.1 needs the C library alone: {needed}")
+    is_so = "soname: [libvt.so.1]" in said and needed == ["libc.so.6"]
+    bench.holds(is_so, f"libvt.so.1 needs the C library alone: {needed}")
     bench.holds("TEXTREL" not in said, "libvt.so.1 has no relocations in its text")
     layout = bench.compiled("layout", [TESTS / "layout.c"])
     if layout:
@@ -114,7 +116,8 @@ def check_threads(bench):
     if program:
         bench.ends_well([program], "threads.c")
         bench.needs("valgrind")
-        bench.ends_well(["valgrind", "-q", "--tool=helgrind", "--error-exitcode=99", program], "threads.c under helgrind")
+        words = ["valgrind", "-q", "--tool=helgrind", "--error-exitcode=99", program]
+        bench.ends_well(words, "threads.c under helgrind")
 
 
 def check_python(bench):
@@ -132,10 +135,10 @@ def check_rust(bench):
     was_there = lock.exists()
     bench.ends_well(["cargo", "test", "--offline", "-q"], "cargo test", env=environment, **more)
     text = drawn.workload("sgr")
-    ran = bench.ends_well(
-        ["cargo", "run", "--offline", "-q", "-p", "vt-screen", "--example", "screen", "25", "80"], "the example of Rust", text,
-        env=environment, **more)
-    bench.holds(ran.stdout == bench.run([bench.vt, "screen", 25, 80], text).stdout, "the example of Rust draws as vt screen does")
+    words = ["cargo", "run", "--offline", "-q", "-p", "vt-screen", "--example", "screen", "25", "80"]
+    ran = bench.ends_well(words, "the example of Rust", text, env=environment, **more)
+    wanted = bench.run([bench.vt, "screen", 25, 80], text).stdout
+    bench.holds(ran.stdout == wanted, "the example of Rust draws as vt screen does")
     if not was_there:
         lock.unlink(missing_ok=True)
 
@@ -157,9 +160,10 @@ def check_install(bench):
     built = TOP / "out/c/lib/libvt.a"
     if not built.exists():
         raise Missing("out/c isn't built; tools/build_c.sh makes it")
-    ran = bench.ends_well([TOP / "tools/install.sh", "/opt/vt"], "install.sh", env={**os.environ, "DESTDIR": str(below)})
-    wanted = ["include/vt.h", "lib/libvt.a", "lib/libvt.so", "lib/libvt.so.1", "lib/pkgconfig/vt.pc", "share/man/man3/vt.3"]
-    for name in wanted:
+    environment = {**os.environ, "DESTDIR": str(below)}
+    ran = bench.ends_well([TOP / "tools/install.sh", "/opt/vt"], "install.sh", env=environment)
+    library = ["include/vt.h", "lib/libvt.a", "lib/libvt.so", "lib/libvt.so.1", "lib/pkgconfig/vt.pc"]
+    for name in [*library, "share/man/man3/vt.3", "share/man/man1/vt.1"]:
         bench.holds((below / "opt/vt" / name).exists() and name in ran.stdout.decode(), f"install.sh installs {name}")
     prefix = (below / "opt/vt/lib/pkgconfig/vt.pc").read_text().splitlines()[0]
     bench.holds(prefix == "prefix=/opt/vt", f"vt.pc has the prefix: {prefix}")
@@ -174,7 +178,8 @@ def check_install(bench):
     bad = [([], 1), (["-x"], 1), (["a", "b"], 1), (["/dev/null/x"], 1)]
     for words, status in bad:
         ran = bench.run([TOP / "tools/install.sh", *words], env={**os.environ, "DESTDIR": ""})
-        bench.holds(ran.returncode == status and b"install.sh: " in ran.stderr, f"install.sh {words} ends with {status}")
+        is_so = ran.returncode == status and b"install.sh: " in ran.stderr
+        bench.holds(is_so, f"install.sh {words} ends with {status}")
     for words in (["-x"], ["a", "b"]):
         ran = bench.run([TOP / "tools/build_c.sh", *words])
         bench.holds(ran.returncode == 1 and b"usage" in ran.stderr, f"build_c.sh {words} ends with 1")
@@ -239,7 +244,8 @@ def main():
                 bench.skip(name, missing)
             except subprocess.TimeoutExpired as late:
                 bench.holds(False, f"{name} ends: {late}")
-    print(f"{bench.passed} passed, {bench.failed} failed" + (f", {len(bench.skipped)} skipped" if bench.skipped else ""))
+    skipped = f", {len(bench.skipped)} skipped" if bench.skipped else ""
+    print(f"{bench.passed} passed, {bench.failed} failed{skipped}")
     return 1 if bench.failed or not bench.passed else 0
 
 

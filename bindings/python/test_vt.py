@@ -48,7 +48,8 @@ class Screens(unittest.TestCase):
 
     def test_events(self):
         asking = b"\a\x1b[6n\x1b[c\x1b[2q\x1b[12;7]\x1b[15]"
-        wanted = [vt.Bell(), vt.Report(b"\x1b[1;1R"), vt.Report(b"\x1b[?6c"), vt.Lights(2), vt.SwitchTo(7), vt.SwitchLast()]
+        reports = [vt.Report(b"\x1b[1;1R"), vt.Report(b"\x1b[?6c")]
+        wanted = [vt.Bell(), *reports, vt.Lights(2), vt.SwitchTo(7), vt.SwitchLast()]
         screen = vt.Screen(25, 80)
         self.assertEqual(screen.feed(asking), wanted)
         self.assertEqual(screen.feed(asking * 1000), wanted * 1000)
@@ -133,7 +134,7 @@ class Screens(unittest.TestCase):
         with vt.Screen(2, 2) as screen:
             screen.write(b"a")
         screen.close()
-        for call in (lambda: screen.feed(b"a"), lambda: screen.rows(), lambda: screen.size, screen.mark, screen.redraw):
+        for call in (lambda: screen.feed(b"a"), screen.rows, lambda: screen.size, screen.mark, screen.redraw):
             with self.assertRaises(vt.Closed):
                 call()
         for _ in range(200):
@@ -153,25 +154,30 @@ class Screens(unittest.TestCase):
 class Keyboards(unittest.TestCase):
     def test_typing(self):
         keyboard = vt.Keyboard(KEYMAP)
-        self.assertEqual(keyboard.type([30, 158, 42, 30, 158, 170, 59]), [vt.Typed(b"a"), vt.Typed(b"A"), vt.Typed(b"one")])
+        typed = [vt.Typed(b"a"), vt.Typed(b"A"), vt.Typed(b"one")]
+        self.assertEqual(keyboard.type([30, 158, 42, 30, 158, 170, 59]), typed)
         self.assertEqual(keyboard.scan(0xE0), None)
         self.assertEqual(keyboard.scan(0x48), vt.Typed(b"\x1b[A"))
         keyboard.scan(0xE0)
         self.assertEqual(keyboard.scan(0x48, vt.Modes(cursor_keys=True)), vt.Typed(b"\x1bOA"))
-        asked = [vt.SwitchTo(2), vt.SwitchLast(), vt.SwitchNext(), vt.SwitchPrevious(), vt.Spawn(), vt.Attention()]
+        asked = [vt.SwitchTo(2), vt.SwitchLast(), vt.SwitchNext(), vt.SwitchPrevious()]
+        asked += [vt.Spawn(), vt.Attention()]
         self.assertEqual(keyboard.type([60, 61, 62, 63, 64, 65]), asked)
         for byte in (-1, 256):
             with self.assertRaises(vt.OutOfRange):
                 keyboard.scan(byte)
 
     def test_faults(self):
-        for text, fault in (("keycode 30 = aogonek\n", (2, 1, 14)), ('\ninclude "x"\n', (7, 2, 9)), ("keycode 30\n", (1, 1, 11))):
+        rows = [("keycode 30 = aogonek\n", (2, 1, 14)), ('\ninclude "x"\n', (7, 2, 9)), ("keycode 30\n", (1, 1, 11))]
+        for text, wanted in rows:
             with self.assertRaises(vt.KeymapFault) as caught:
                 vt.Keyboard(text)
-            self.assertEqual((caught.exception.kind, caught.exception.line, caught.exception.column), fault)
+            fault = caught.exception
+            self.assertEqual((fault.kind, fault.line, fault.column), wanted)
 
     def test_includes(self):
-        keyboard = vt.Keyboard('include "x"\ninclude "y"\n', {"x": "keycode 30 = a\n", "y": b"keycode 31 = b\n", "": ""})
+        texts = {"x": "keycode 30 = a\n", "y": b"keycode 31 = b\n", "": ""}
+        keyboard = vt.Keyboard('include "x"\ninclude "y"\n', texts)
         self.assertEqual(keyboard.type([30, 31]), [vt.Typed(b"a"), vt.Typed(b"b")])
 
     def test_state(self):
@@ -193,7 +199,8 @@ class Keyboards(unittest.TestCase):
         for call in (
             lambda: keyboard.set_mode(5), lambda: keyboard.set_meta(5), lambda: keyboard.set_flags(8),
             lambda: keyboard.set_flags(0, 8), lambda: keyboard.set_locks(256), lambda: keyboard.set_locks(0, -1),
-            lambda: vt.Keyboard(KEYMAP, mode=5), lambda: keyboard.string(256), lambda: keyboard.set_string(0, bytes(256)),
+            lambda: vt.Keyboard(KEYMAP, mode=5), lambda: keyboard.string(256),
+            lambda: keyboard.set_string(0, bytes(256)),
         ):
             with self.assertRaises(vt.OutOfRange):
                 call()
@@ -218,7 +225,8 @@ class Library(unittest.TestCase):
         words = [sys.executable, "-c", "import vt"]
         folder = os.path.dirname(os.path.abspath(__file__))
         for name in ("/nowhere/libvt.so.1", "/dev/null", "libc.so.6"):
-            ran = subprocess.run(words, env={**os.environ, "VT_LIBRARY": name, "PYTHONPATH": folder}, capture_output=True, text=True)
+            environment = {**os.environ, "VT_LIBRARY": name, "PYTHONPATH": folder, "PYTHONDONTWRITEBYTECODE": "1"}
+            ran = subprocess.run(words, env=environment, capture_output=True, text=True, check=False)
             self.assertIn("vt.LibraryError: " + name, ran.stderr)
 
 

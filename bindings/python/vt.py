@@ -156,8 +156,8 @@ class Modes(NamedTuple):
 
 
 class KeyState(NamedTuple):
-    """The key state of a console. Flags and lights are sums of Scroll Lock 1, Num Lock 2, Caps Lock 4; modifiers are sums
-    of the weights of keymaps(5)."""
+    """The key state of a console. Flags and lights are sums of Scroll Lock 1, Num Lock 2, Caps Lock 4; modifiers are
+    sums of the weights of keymaps(5)."""
 
     mode: int
     meta: int
@@ -174,7 +174,8 @@ class _Handle(ctypes.Structure):
 
 class _Out(ctypes.Structure):
     _fields_ = [
-        ("kind", ctypes.c_uint8), ("number", ctypes.c_uint8), ("length", ctypes.c_uint8), ("text", ctypes.c_uint8 * 16)]
+        ("kind", ctypes.c_uint8), ("number", ctypes.c_uint8), ("length", ctypes.c_uint8),
+        ("text", ctypes.c_uint8 * 16)]
 
 
 class _Fed(ctypes.Structure):
@@ -216,7 +217,8 @@ class _Modes(ctypes.Structure):
 
 class _Key(ctypes.Structure):
     _fields_ = [
-        ("kind", ctypes.c_uint8), ("number", ctypes.c_uint8), ("length", ctypes.c_uint16), ("bytes", ctypes.c_uint8 * 512)]
+        ("kind", ctypes.c_uint8), ("number", ctypes.c_uint8), ("length", ctypes.c_uint16),
+        ("bytes", ctypes.c_uint8 * 512)]
 
 
 _to = ctypes.POINTER

@@ -2,8 +2,9 @@
  *
  * usage: cuts ROWS COLUMNS PIECE ROOM FILE
  *
- * Each feed has PIECE bytes of the input at most, 0 for all of them, and room for ROOM outs. With room 0 vt_screen_write
- * draws, and FILE is empty. A line of FILE is the kind, the number and the text in hexadecimal digits. */
+ * Each feed has PIECE bytes of the input at most, 0 for all of them, and room for ROOM outs. With room 0
+ * vt_screen_write draws, and FILE is empty. A line of FILE is the kind, the number and the text in hexadecimal
+ * digits. */
 #include "want.h"
 
 static uint8_t *input;

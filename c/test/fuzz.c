@@ -1,6 +1,7 @@
-/* The whole interface for libFuzzer: an input is a list of calls on two screens and two keyboards, with their numbers,
- * lengths, rooms and texts. Beside what the sanitizers see, each call is compared with vt.h: its codes, what it writes and
- * what it leaves, and a feed in pieces with a write of the whole text on another screen. tools/fuzz_c.sh builds it. */
+/* The whole interface for libFuzzer: an input is a list of calls on two screens and two keyboards, with their
+ * numbers, lengths, rooms and texts. Beside what the sanitizers see, each call is compared with vt.h: its codes, what
+ * it writes and what it leaves, and a feed in pieces with a write of the whole text on another screen.
+ * tools/fuzz_c.sh builds it. */
 #include <stdbool.h>
 #include <stdint.h>
 #include <stdlib.h>

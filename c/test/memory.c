@@ -1,7 +1,7 @@
 /* Each request for memory refused in turn. Linked with -Wl,--wrap=malloc,--wrap=realloc,--wrap=free.
  *
- * A call that is refused memory returns VT_NO_MEMORY, what the handle has stays, and what it asked for is given back. The
- * last line has how many requests each call makes. */
+ * A call that is refused memory returns VT_NO_MEMORY, what the handle has stays, and what it asked for is given back.
+ * The last line has how many requests each call makes. */
 #include "want.h"
 
 void *__real_malloc(size_t);

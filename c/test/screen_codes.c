@@ -1,4 +1,5 @@
-/* Each code of each call on a screen, by the rules of vt.h. What the handle has is compared before and after a refusal. */
+/* Each code of each call on a screen, by the rules of vt.h. What the handle has is compared before and after a
+ * refusal. */
 #include "want.h"
 
 /* Texts, the screens of console_codes(4) and ECMA-48 that they must leave, and what they must ask for. */
@@ -288,7 +289,8 @@ static void try_redraw_of_changes(void)
     uint8_t whole[4096], text[4096];
     size_t length, again;
     WANT(vt_screen_new(&s, ROWS, COLS) == VT_OK && vt_screen_new(&other, ROWS, COLS) == VT_OK);
-    WANT(vt_screen_write(&s, TEXT, sizeof TEXT - 1) == VT_OK && vt_screen_write(&other, TEXT, sizeof TEXT - 1) == VT_OK);
+    WANT(vt_screen_write(&s, TEXT, sizeof TEXT - 1) == VT_OK);
+    WANT(vt_screen_write(&other, TEXT, sizeof TEXT - 1) == VT_OK);
     /* Nothing was remembered: the text of vt_screen_redraw. */
     WANT(vt_screen_redraw(&s, whole, sizeof whole, &length) == VT_OK);
     LEAVES(&s, vt_screen_redraw_changes(&s, text, sizeof text, &again), VT_OK);

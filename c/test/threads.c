@@ -1,5 +1,5 @@
-/* Handles that go from thread to thread: made on one, used on seven others behind a lock, freed on the main one. Other
- * handles are used at the same time, one on each thread. For valgrind's helgrind, which must find nothing. */
+/* Handles that go from thread to thread: made on one, used on seven others behind a lock, freed on the main one.
+ * Other handles are used at the same time, one on each thread. For valgrind's helgrind, which must find nothing. */
 #include "want.h"
 #include <pthread.h>
 

@@ -3,11 +3,11 @@
  *     cc -o keys keys.c $(pkg-config --cflags --libs vt)
  *     echo '2a 1e aa 9e' | ./keys 3 ../keymaps/german.map pc.inc=../keymaps/pc.inc
  *
- * The words are the keyboard mode, 0 K_RAW to 4 K_OFF, the keymap's file, and a NAME=FILE for each text that the keymap
- * may include. Standard input has the scan bytes, two hexadecimal digits each.
+ * The words are the keyboard mode, 0 K_RAW to 4 K_OFF, the keymap's file, and a NAME=FILE for each text that the
+ * keymap may include. Standard input has the scan bytes, two hexadecimal digits each.
  *
- * Status 1: other words; 2: a file can't be read; 3: a write failed; 4: memory ran out; 5: the keymap has a fault, which
- * is printed with its line and column, or the input isn't scan bytes. */
+ * Status 1: other words; 2: a file can't be read; 3: a write failed; 4: memory ran out; 5: the keymap has a fault,
+ * which is printed with its line and column, or the input isn't scan bytes. */
 #include <ctype.h>
 #include <stdio.h>
 #include <stdlib.h>

@@ -73,8 +73,9 @@ void write_picture(FILE *file, struct vt_screen *screen)
         return;
     fprintf(file,
             "<svg xmlns='http://www.w3.org/2000/svg' xml:space='preserve' font-family='monospace' font-size='13'"
-            " shape-rendering='crispEdges' width='%d' height='%d'>\n<title>A screen of %d rows and %d columns</title>\n",
-            WIDTH * state.cols, HEIGHT * state.rows, state.rows, state.cols);
+            " shape-rendering='crispEdges' width='%d' height='%d'>\n",
+            WIDTH * state.cols, HEIGHT * state.rows);
+    fprintf(file, "<title>A screen of %d rows and %d columns</title>\n", state.rows, state.cols);
     fprintf(file, "<desc>A text console of %d rows and %d columns. ", state.rows, state.cols);
     if (state.visible)
         fprintf(file, "The cursor is in row %d and column %d.", state.y + 1, state.x + 1);

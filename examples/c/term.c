@@ -1,14 +1,14 @@
-/* A terminal: runs a command on a pseudo-terminal with TERM=linux, draws what it writes into the terminal that one sits
- * at, and hands keys on.
+/* A terminal: runs a command on a pseudo-terminal with TERM=linux, draws what it writes into the terminal that one
+ * sits at, and hands keys on.
  *
  *     cc -o term term.c draw.c picture.c $(pkg-config --cflags --libs vt)
  *     ./term [--record FILE] [--picture FILE] [COMMAND ..]
  *
- * Without a command it runs $SHELL. It ends with the command, and with its status. --record keeps what the command wrote,
- * as `vt screen` reads it; --picture writes the last screen in SVG.
+ * Without a command it runs $SHELL. It ends with the command, and with its status. --record keeps what the command
+ * wrote, as `vt screen` reads it; --picture writes the last screen in SVG.
  *
- * Status 1: other words, or no terminal on standard input and output; 2: a file can't be written; 3: the terminal can't
- * be written; 4: memory ran out; 126, 127: the command can't be run; 128 and a signal: that signal ended it. */
+ * Status 1: other words, or no terminal on standard input and output; 2: a file can't be written; 3: the terminal
+ * can't be written; 4: memory ran out; 126, 127: the command can't be run; 128 and a signal: that signal ended it. */
 #define _GNU_SOURCE
 #include "cells.h"
 #include "draw.h"

@@ -12,12 +12,13 @@ SCANS = 150
 KEYCODES = [*range(1, 89), 96, 97, 98, 99, 100, *range(102, 112), 119, 125, 126, 127]
 # Symbols of keymaps(5), several of each kind.
 SYMBOLS = (
-    "a b c e A E one two space exclam U+00E9 U+20AC U+4E2D U+1F600 +a +e +U+00E9 Meta_a Meta_U+0041 F1 F2 F20 Find Insert"
-    " Remove Prior Next Macro KP_0 KP_5 KP_Add KP_Enter KP_Period KP_Comma Up Down Left Right dead_grave dead_acute"
-    " dead_circumflex dead_tilde dead_diaeresis dead_cedilla Shift AltGr Control Alt ShiftL ShiftR CtrlL CtrlR Shift_Lock"
-    " AltGr_Lock Control_Lock SShift SControl SAltGr Console_1 Console_12 Console_63 Return Caps_Lock Num_Lock Scroll_Lock"
-    " Last_Console Incr_Console Decr_Console KeyboardSignal SAK Compose Bare_Num_Lock Caps_On Show_Memory Break"
-    " Ascii_0 Ascii_1 Ascii_6 Ascii_9 VoidSymbol Escape Delete Tab BackSpace").split()
+    "a b c e A E one two space exclam U+00E9 U+20AC U+4E2D U+1F600 +a +e +U+00E9 Meta_a Meta_U+0041 F1 F2 F20 "
+    "Find Insert Remove Prior Next Macro KP_0 KP_5 KP_Add KP_Enter KP_Period KP_Comma Up Down Left Right "
+    "dead_grave dead_acute dead_circumflex dead_tilde dead_diaeresis dead_cedilla Shift AltGr Control Alt ShiftL "
+    "ShiftR CtrlL CtrlR Shift_Lock AltGr_Lock Control_Lock SShift SControl SAltGr Console_1 Console_12 Console_63 "
+    "Return Caps_Lock Num_Lock Scroll_Lock Last_Console Incr_Console Decr_Console KeyboardSignal SAK Compose "
+    "Bare_Num_Lock Caps_On Show_Memory Break Ascii_0 Ascii_1 Ascii_6 Ascii_9 VoidSymbol Escape Delete Tab "
+    "BackSpace").split()
 WEIGHTS = ["", "shift", "altgr", "control", "shift altgr", "alt", "shift control"]
 TABLES = "keymaps 0-5,8"
 
@@ -107,7 +108,8 @@ def check_faults(bench):
         text = keymap_text(draw)[0].replace('include "more"\n', "").encode()
         for _ in range(draw.randrange(1, 3)):
             at = draw.randrange(len(text))
-            text = text[:at] + draw.choice([b"", b"x", b'"', b"\xff", b" ", b"\n", b"= ", b"999"]) + text[at + draw.randrange(3):]
+            damage = draw.choice([b"", b"x", b'"', b"\xff", b" ", b"\n", b"= ", b"999"])
+            text = text[:at] + damage + text[at + draw.randrange(3):]
         name = bench.folder / "map"
         name.write_bytes(text)
         wanted = bench.run([bench.vt, "keys"], text)
@@ -115,5 +117,6 @@ def check_faults(bench):
         fault = re.search(rb"refused (\d+) at (\d+:\d+)", wanted.stderr)
         line = b"keys: the keymap has fault: %s at %s\n" % fault.groups() if fault else b""
         seen.add(fault and fault[1])
-        bench.holds(ran.stderr == line and ran.returncode == (5 if fault else 0), f"keymap {number}: {wanted.stderr}, {ran.stderr}")
+        is_same = ran.stderr == line and ran.returncode == (5 if fault else 0)
+        bench.holds(is_same, f"keymap {number}: {wanted.stderr}, {ran.stderr}")
     bench.holds(len(seen) > 4, f"several kinds of faults were tried, and not {seen}")

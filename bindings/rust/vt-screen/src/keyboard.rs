@@ -20,8 +20,8 @@ pub enum Mode {
     Off,
 }
 
-/// The key state of a console. Flags and lights are sums of Scroll Lock 1, Num Lock 2, Caps Lock 4; modifiers are sums of
-/// the weights of keymaps(5).
+/// The key state of a console. Flags and lights are sums of Scroll Lock 1, Num Lock 2, Caps Lock 4; modifiers are sums
+/// of the weights of keymaps(5).
 #[derive(Clone, Copy, Debug, PartialEq, Eq)]
 pub struct KeyState {
     pub mode: Mode,
