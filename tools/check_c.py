@@ -64,7 +64,7 @@ def check_header(bench):
     calls = calls_of_header()
     for name, option in (("libvt.a", "-g"), ("libvt.so.1", "-D")):
         ran = bench.run(["nm", option, "--defined-only", bench.library / "lib" / name])
-        symbols = {line.split()[-1] for line in ran.stdout.decode().splitlines() if re.search(r" [TDBRVW] ", line)}
+        symbols = {line.split()[-1].partition("@")[0] for line in ran.stdout.decode().splitlines() if re.search(r" [TDBRVW] ", line)}
         bench.holds(symbols == calls, f"the symbols of {name} are the calls of vt.h: {sorted(symbols ^ calls)}")
     said = bench.run(["readelf", "-d", bench.library / "lib/libvt.so.1"]).stdout.decode()
     needed = re.findall(r"NEEDED.*\[(.*)\]", said)

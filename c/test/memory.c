@@ -1,7 +1,8 @@
 /* Each request for memory refused in turn. Linked with -Wl,--wrap=malloc,--wrap=realloc,--wrap=free.
  *
- * A call that is refused memory returns VT_NO_MEMORY, what the handle has stays, and what it asked for is given back.
- * The last line has how many requests each call makes. */
+ * A call that is refused memory returns VT_NO_MEMORY, what the handle has stays, and what it asked for is given back; or
+ * it asks for less and does its work, as a list does that wanted room for twice as many items. The first line has how
+ * many requests each call makes. */
 #include "want.h"
 
 void *__real_malloc(size_t);
@@ -76,9 +77,19 @@ static uint8_t redraw(void) { return vt_screen_redraw(&screen, room, sizeof room
 static uint8_t changes(void) { return vt_screen_redraw_changes(&screen, room, sizeof room, &length); }
 static uint8_t make_keys(void) { return vt_keys_new(&keys, KEYMAP, sizeof KEYMAP - 1, TEXTS, 1, &fault); }
 
+/* Frees what the call has made, so that it can make it again. */
+static void undo(uint8_t (*call)(void))
+{
+    if (call == make)
+        vt_screen_free(&screen);
+    if (call == make_keys)
+        vt_keys_free(&keys);
+}
+
 /* Refuses the call its requests in turn, until it needs no more; how many it makes. */
 static unsigned long try_each(uint8_t (*call)(void), bool is_there)
 {
+    unsigned long refusals = 0;
     for (unsigned long n = 1; n < 10000; n++) {
         uint64_t before = is_there ? shown(&screen) : 0;
         long blocks_before = blocks;
@@ -87,12 +98,18 @@ static unsigned long try_each(uint8_t (*call)(void), bool is_there)
         unsigned long made = asked;
         refused = 0;
         if (made < n) {
-            WANT(code == VT_OK);
+            WANT(code == VT_OK && refusals > 0);
             return made;
         }
+        if (code == VT_OK) {
+            WANT(made > n);
+            undo(call);
+            continue;
+        }
+        refusals++;
         WANT(code == VT_NO_MEMORY);
         WANT(blocks == blocks_before);
-        WANT(is_there ? shown(&screen) == before : screen.at == NULL || keys.at == NULL);
+        WANT(is_there ? shown(&screen) == before : screen.at == NULL && keys.at == NULL);
     }
     WANT(false);
     return 0;

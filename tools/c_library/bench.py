@@ -53,6 +53,8 @@ class Bench:
     def compiled(self, name, sources, options=(), compiler=None):
         """A program of these sources and the archive, and None if it isn't compiled without a warning."""
         program = self.folder / name
+        if program.exists():
+            return program
         compiler = compiler or os.environ.get("CC", "cc")
         words = [compiler, "-std=gnu11", "-O1", *WARNINGS, f"-I{self.library}/include", "-o", program, *sources]
         ran = self.run([*words, *options, self.library / "lib/libvt.a"])

@@ -57,9 +57,14 @@ def asking(seed):
     return text, wanted
 
 
+def cuts(bench):
+    """The program that draws in cuts."""
+    return bench.compiled("cuts", [TESTS / "cuts.c"])
+
+
 def check_cuts(bench):
     """The recordings in all cuts and rooms."""
-    program = bench.compiled("cuts", [TESTS / "cuts.c"])
+    program = cuts(bench)
     if not program:
         return
     tries = [(*it, piece, room) for it in recorded() for piece in PIECES for room in ROOMS]
@@ -83,7 +88,9 @@ def check_cuts(bench):
 def check_cuts_by_valgrind(bench):
     """The recordings once more under valgrind."""
     bench.needs("valgrind")
-    program = bench.folder / "cuts"
+    program = cuts(bench)
+    if not program:
+        return
     for name, rows, cols, text, wanted in recorded():
         for piece in (1, 7, 4096):
             words = [*VALGRIND, program, rows, cols, piece, 2, "/dev/null"]
@@ -93,19 +100,24 @@ def check_cuts_by_valgrind(bench):
 
 def check_outs(bench):
     """A text that asks for thousands of things, in eight cuts."""
+    program = cuts(bench)
+    if not program:
+        return
     text, wanted = asking(1)
     lines = "".join(f"{kind} {number} {out.hex()}\n" for kind, number, out in wanted).encode()
     rows = bench.run([bench.vt, "screen", 25, 80], text).stdout
     for piece, room in CUTS:
         file = bench.folder / "outs"
-        ran = bench.ends_well([bench.folder / "cuts", 25, 80, piece, room, file], "cuts", text)
+        ran = bench.ends_well([program, 25, 80, piece, room, file], "cuts", text)
         bench.holds(file.read_bytes() == lines, f"{len(wanted)} outs in order, in pieces of {piece} with room {room}")
         bench.holds(ran.stdout == rows, f"the text of the outs in pieces of {piece} is drawn as vt screen draws it")
 
 
 def check_workloads(bench):
     """The ten workloads, in the program's pieces and in bad ones, by the test and by examples/c/screen.c."""
-    screen = bench.compiled("screen", [EXAMPLES / "screen.c"])
+    program, screen = cuts(bench), bench.compiled("screen", [EXAMPLES / "screen.c"])
+    if not program or not screen:
+        return
     for kind in inputs.KINDS:
         text = workload(kind)
         wanted = bench.run([bench.vt, "screen", 25, 80], text).stdout
@@ -113,7 +125,7 @@ def check_workloads(bench):
         ran = bench.ends_well([screen, 25, 80], f"screen.c on {kind}", text)
         bench.holds(ran.stdout == wanted, f"screen.c draws {kind} as vt screen does")
         for piece, room in ((1, 1), (63, 1), (4096, 64), (0, 5000), (1000, 0)):
-            ran = bench.run([bench.folder / "cuts", 25, 80, piece, room, "/dev/null"], text)
+            ran = bench.run([program, 25, 80, piece, room, "/dev/null"], text)
             bench.holds(ran.stdout == wanted, f"{kind} in pieces of {piece} with room {room} is drawn")
     for words, status in ((["0", "5"], 1), (["25"], 1), (["25", "256"], 1), (["25", "x"], 1), (["25", "80", "1"], 1)):
         bench.holds(bench.run([screen, *words]).returncode == status, f"screen.c ends with {status} for {words}")

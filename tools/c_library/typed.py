@@ -103,6 +103,9 @@ def check_keys(bench):
 
 def check_faults(bench):
     """Damaged keymaps: the kind, line and column of the first fault are those of `vt keys`."""
+    program = bench.compiled("keys", [EXAMPLES / "keys.c"])
+    if not program:
+        return
     draw, seen = random.Random("faults"), set()
     for number in range(400):
         text = keymap_text(draw)[0].replace('include "more"\n', "").encode()
@@ -113,7 +116,7 @@ def check_faults(bench):
         name = bench.folder / "map"
         name.write_bytes(text)
         wanted = bench.run([bench.vt, "keys"], text)
-        ran = bench.run([bench.folder / "keys", 3, name])
+        ran = bench.run([program, 3, name])
         fault = re.search(rb"refused (\d+) at (\d+:\d+)", wanted.stderr)
         line = b"keys: the keymap has fault: %s at %s\n" % fault.groups() if fault else b""
         seen.add(fault and fault[1])
