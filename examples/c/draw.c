@@ -18,16 +18,12 @@ static bool is_same(struct vt_colour a, struct vt_colour b)
 /* Reads the colours; whether one changed. */
 static bool read_colours(struct vt_screen *screen)
 {
-    static bool is_started;
     struct vt_colour old[COLOURS];
     bool is_changed = false;
     memcpy(old, colours, sizeof old);
     vt_screen_palette(screen, colours, COLOURS);
-    if (!is_started)
-        memcpy(start_colours, colours, sizeof start_colours);
-    for (unsigned i = 0; is_started && i < COLOURS; i++)
+    for (unsigned i = 0; i < COLOURS; i++)
         is_changed = is_changed || !is_same(old[i], colours[i]);
-    is_started = true;
     return is_changed;
 }
 
@@ -67,8 +63,12 @@ static void draw_row(struct vt_screen *screen, const struct vt_state *state, int
     }
 }
 
-void begin_drawing(void)
+void begin_drawing(struct vt_screen *screen)
 {
+    static bool is_started;
+    if (!is_started)
+        vt_screen_palette(screen, start_colours, COLOURS);
+    is_started = true;
     /* The other screen, blank; no wrap at the end of a row. */
     fputs("\033[?1049h\033[0m\033[2J\033[?7l", stdout);
 }

@@ -4,8 +4,9 @@
 #include <stdbool.h>
 #include <vt.h>
 
-/* Takes the terminal on standard output for drawing, and gives it back as it was. */
-void begin_drawing(void);
+/* Takes the terminal on standard output for drawing; the colours of the screen at the first time are the terminal's own.
+ * The other call gives the terminal back as it was. */
+void begin_drawing(struct vt_screen *screen);
 void end_drawing(void);
 
 /* Draws the rows that changed since the last time, or all of them, and the cursor. False: a write failed. */

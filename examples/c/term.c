@@ -64,7 +64,7 @@ static void take_terminal(void)
     if (tcsetattr(STDIN_FILENO, TCSADRAIN, &raw))
         fail(1, "the terminal can't be set");
     is_taken = true;
-    begin_drawing();
+    begin_drawing(&screen);
 }
 
 static struct winsize size_of_terminal(void)
@@ -300,6 +300,7 @@ static int serve(void)
     }
     while (is_open && read_output() > 0)
         ;
+    draw_screen(&screen, is_whole);
     return status;
 }
 
