@@ -8,8 +8,9 @@ drawn. In each page the marks, signals, waits and arrows are counted against the
 the outside, every element is closed, and each entry's text has its line, the name of its error, and the reason of its
 switches. Chromium opens each page without a window and counts the same; its keys go through the entries, and
 aria-valuetext is the text of the entry. A page of 64 processes and 10,000 entries has to be there within SECONDS by the
-browser's own clock, if SECONDS is given; otherwise the time is printed. If Chromium isn't installed, a line names these
-checks as skipped. No picture is kept. Inputs that aren't of the form have to be refused by name, and damaged ones
+browser's own clock, if SECONDS is given; otherwise the time is printed. Whatever else the machine does, the browser's
+thread has to need less than two seconds of a processor for it. If Chromium isn't installed, a line names these checks
+as skipped. No picture is kept. Inputs that aren't of the form have to be refused by name, and damaged ones
 refused or drawn.
 
 Prints a line for each fault and last 'N passed, M failed'. Ends with status 1 if one fails, 2 if a program is missing
@@ -37,7 +38,7 @@ from watch_json import read_watch  # noqa: E402
 
 ROOT = pathlib.Path(__file__).resolve().parent.parent
 TOOL = ROOT / "tools/timeline.py"
-SECONDS = 120
+SECONDS, MOST_WORK = 120, 2
 VOID = {"meta", "br", "hr", "img", "input", "link"}
 REFERENCES = {"src", "href", "srcset", "action", "data", "poster", "background", "formaction", "ping", "cite"}
 KINDS = ["mark", "raised", "bar", "arrow"]
@@ -202,16 +203,20 @@ LOADED = "performance.getEntriesByType('navigation')[0].loadEventEnd"
 
 
 def check_drawn(check, browser, name, entries, parts, path):
-    """A page in the browser; gives the seconds until it was there."""
+    """A page in the browser; gives the processor's seconds for it, and those until it was there."""
+    browser.ask("Performance.enable", timeDomain="threadTicks")
     browser.open(path.as_uri())
     while not (painted := browser.value(PAINTED)):
         time.sleep(0.02)
     there = max(painted, browser.value(LOADED)) / 1000
+    metrics = {metric["name"]: metric["value"] for metric in browser.ask("Performance.getMetrics")["metrics"]}
+    work = metrics["TaskDuration"]
+    check.holds(work < MOST_WORK, f"{name}: the browser needs {work:.2f} s of a processor")
     for kind, wanted in wanted_counts(entries).items():
         found = browser.value(f"document.querySelectorAll('.{kind}[data-entry]').length")
         check.holds(found == wanted, f"{name}: the browser has {found} elements {kind}, not {wanted}")
     if not entries:
-        return there
+        return work, there
     browser.value("document.getElementById('view').focus()")
     switches = [entry["entry"] for entry in entries if any(did["what"] == "switch" for did in entry["did"])]
     mine = [entry["entry"] for entry in entries if entry["caller"] == entries[0]["caller"]]
@@ -224,7 +229,7 @@ def check_drawn(check, browser, name, entries, parts, path):
         lines = [line.strip() for line in parts[wanted].split("\n")]
         is_read = words is not None and words.startswith(". ".join(lines))
         check.holds(found == str(wanted) and is_read, f"{name}: after {key} it is entry {found}, not {wanted}: {words}")
-    return there
+    return work, there
 
 
 def changed(chance, given):
@@ -301,10 +306,10 @@ def main():
             if browser:
                 path = pathlib.Path(folder, f"{name.replace(' ', '-')}.html")
                 path.write_bytes(drawn.stdout)
-                there = check_drawn(check, browser, name, entries, parts, path)
+                work, there = check_drawn(check, browser, name, entries, parts, path)
         if browser:
             check.holds(args.time is None or there <= args.time, f"{name}: there after {there:.2f} s")
-            print(f"{len(entries)} entries are there after {there:.2f} s")
+            print(f"{len(entries)} entries are there after {there:.2f} s, {work:.2f} s of a processor")
             browser.close()
         else:
             print("skipped: the pages in a browser, since Chromium isn't installed")

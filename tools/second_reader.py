@@ -108,11 +108,12 @@ class Reader:
     def signal(self, caller, number):
         if caller not in self.alive:
             return
-        self.did.append(Done("signal", (caller, number)))
         if number == KILL:
+            # (it is never pending: it ends the process)
             self.end(caller)
-        else:
-            self.end_waits(lambda wait: True, EINTR, {caller})
+            return
+        self.did.append(Done("signal", (caller, number)))
+        self.end_waits(lambda wait: True, EINTR, {caller})
 
     def end(self, caller):
         """A caller's life ends."""

@@ -123,9 +123,9 @@ def owner_words(before, now):
             yield f"{now[console]} owns console {console}." if console in now else f"Console {console} has no owner."
 
 
-def display_words(entry):
+def display_words(entry, owners):
     """Which console is in front after an entry, and which one is pending."""
-    owner = owners_of(entry).get(entry["front"], "nobody")
+    owner = owners.get(entry["front"], "nobody")
     words = f"In front: console {entry['front']}, owned by {owner}."
     if entry["pending"]:
         words += f" Pending: console {entry['pending']['console']}, since entry {entry['pending']['since']}."
@@ -139,13 +139,15 @@ def entry_line(entry):
 
 def texts(entries):
     """For each entry its line and the sentences below it; owners and display only if they changed."""
-    owners, display = {}, None
+    owners, owned, display = {}, [], None
     for entry in entries:
         lines = [f"{call_words(entry['call'])}. Answer: {answer_words(entry['answer'], entry['error'])}."]
         lines += did_words(entry["did"])
-        lines += owner_words(owners, owners_of(entry))
-        owners = owners_of(entry)
-        if display_words(entry) != display:
-            display = display_words(entry)
-            lines.append(display)
+        if entry["owners"] != owned:
+            lines += owner_words(owners, owners_of(entry))
+            owners, owned = owners_of(entry), entry["owners"]
+        words = display_words(entry, owners)
+        if words != display:
+            lines.append(words)
+        display = words
         yield entry_line(entry), lines

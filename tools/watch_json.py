@@ -136,7 +136,13 @@ DID = one_of("what", {
     "end": record({"what": a_kind, "caller": a_caller}),
     "wait": record({"what": a_kind, "caller": a_process, "how": word("ok", "EINTR", "gone")}),
 })  # fmt: skip
-ENTRY = record({
+STATE = {
+    "owners": each(record({"console": a_console, "owner": a_process})),
+    "waits": each(one_of("for", {
+        "display": wait({"console": a_console}), "input": wait({"console": a_console}), "signal": wait({}),
+    })),
+}  # fmt: skip
+ENTRY = {
     "entry": an_entry,
     "caller": a_caller,
     "count": number(0, 2**32 - 1, "a count"),
@@ -145,15 +151,31 @@ ENTRY = record({
     "error": or_null(word(*ERRORS)),
     "did": each(DID),
     "front": a_console,
-    "owners": each(record({"console": a_console, "owner": a_process})),
+    "owners": STATE["owners"],
     "pending": or_null(record({"console": a_console, "since": an_entry})),
-    "waits": each(one_of("for", {
-        "display": wait({"console": a_console}), "input": wait({"console": a_console}), "signal": wait({}),
-    })),
-})  # fmt: skip
+    "waits": STATE["waits"],
+}
+AS_BEFORE = record({**ENTRY, "owners": lambda value: None, "waits": lambda value: None})
+ENTRY = record(ENTRY)
+# Other spellings of numbers, which Python takes for equal: then nothing is as before.
+UNEQUAL = re.compile(r"true|false|-0|:[0-9]+[.eE]")
 END = record({
     "entries": number(0, MOST_ENTRIES, "a number of entries"), "final": text(re.compile(r"(?s).*"), "a text"),
 })  # fmt: skip
+
+
+def form_of(line, value, before):
+    """The form of an entry. The many owners and waits that are those of the entry before aren't looked at again."""
+    if before is None or not isinstance(value, dict) or UNEQUAL.search(line):
+        return ENTRY
+    return AS_BEFORE if all(name in value and value[name] == before[name] for name in STATE) else ENTRY
+
+
+def keep_once(value, before):
+    """The owners and waits that are those of the entry before are kept once."""
+    for name in STATE if before else []:
+        if value[name] == before[name]:
+            value[name] = before[name]
 
 
 def in_order(entry, place):
@@ -179,19 +201,21 @@ def read_watch(given, most=MOST_ENTRIES):
         raise Stop(1, "line 1: wanted an object of `watch json`, found nothing")
     if len(lines) - 2 > most:
         raise Stop(1, f"line {most + 2}: more than {most} entries")
-    entries = []
+    entries, before = [], None
     for place, line in enumerate(lines[:-1]):
         is_last = place == len(lines) - 2
         try:
             value = json.loads(line)
-            (END if is_last else ENTRY)(value)
+            (END if is_last else form_of(line, value, before))(value)
             if not is_last:
                 in_order(value, place)
+                keep_once(value, before)
         except Wrong as fault:
             raise Stop(1, f"line {place + 1}: {str(fault).lstrip('.:').strip()}") from None
         except (ValueError, RecursionError):
             raise Stop(1, f"line {place + 1}: no object of JSON") from None
         entries.append(value)
+        before = value
     end = entries.pop()
     if end["entries"] != len(entries):
         raise Stop(1, f"line {len(lines) - 1}: entries: wanted {len(entries)}, found {end['entries']}")
