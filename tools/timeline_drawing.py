@@ -30,6 +30,11 @@ def hue_of(caller):
     return round(int(caller[1:]) * 137.508) % 360
 
 
+def is_refused(entry):
+    """An error that isn't that of a wait which ended (docs/SWITCHING.md, "The law of refusals")."""
+    return entry["error"] is not None and (entry["call"], entry["error"]) != ("waitend", "EINTR")
+
+
 def x_of(place):
     return LEFT + place * STEP
 
@@ -159,14 +164,13 @@ class Drawing:
         """The mark of an entry: a letter in a circle, a dot, or a cross if it was refused."""
         x, y = x_of(place), self.y_of(entry["caller"])
         name = entry["call"].split(" ")[0]
-        is_refused = entry["error"] is not None and not (name == "waitend" and entry["error"] == "EINTR")
-        kind = "refused" if is_refused else "wait" if entry["answer"] == "wait" else "done"
+        kind = "refused" if is_refused(entry) else "wait" if entry["answer"] == "wait" else "done"
         given = f'class="mark {kind}" data-entry="{place}"'
         letter = LETTERS.get(name)
         if letter:
-            cross = f"M{x - 8} {y + 8}l16-16" if is_refused else ""
+            cross = f"M{x - 8} {y + 8}l16-16" if kind == "refused" else ""
             self.marks.append(f'<path {given} d="M{x - 8} {y}{CIRCLE}{letter}{cross}"/>')
-        elif is_refused:
+        elif kind == "refused":
             self.marks.append(f'<path {given} d="M{x - 4} {y - 4}l8 8m0-8l-8 8"/>')
         else:
             self.marks.append(f'<circle {given} cx="{x}" cy="{y}" r="{4 if kind == "wait" else 3}"/>')

@@ -3,8 +3,8 @@ import html
 import pathlib
 import re
 
-from timeline_drawing import CIRCLE, LANE, LANES, LEFT, LETTERS, NAMES, STEP, Drawing
-from timeline_words import ERRORS, texts
+from timeline_drawing import CIRCLE, LANE, LANES, LEFT, LETTERS, NAMES, STEP, Drawing, is_refused
+from timeline_words import texts
 
 HERE = pathlib.Path(__file__).resolve().parent
 DEFINITIONS = """<svg width="0" height="0" aria-hidden="true" class="definitions"><defs>
@@ -68,7 +68,7 @@ def entries_text(entries):
 def counts(entries, drawing):
     """What the session has, in a sentence."""
     switches = sum(did["what"] == "switch" for entry in entries for did in entry["did"])
-    refused = sum(entry["error"] in ERRORS and entry["call"] != "waitend" for entry in entries)
+    refused = sum(map(is_refused, entries))
     return f"{len(entries)} entries of {len(drawing.callers)} callers; switches: {switches}; refused calls: {refused}."
 
 

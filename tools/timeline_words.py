@@ -33,6 +33,10 @@ def listed(numbers):
     return ", ".join(map(str, numbers)) or "none"
 
 
+def counted(number, what):
+    return f"{number} {what}{'' if number == 1 else 's'}"
+
+
 def mode_words(words):
     """The words of a console's mode."""
     if words[0] != "1":
@@ -54,7 +58,7 @@ def call_words(call):
             "setkd": lambda: {"0": "KD_TEXT", "1": "KD_GRAPHICS"}.get(words[1], words[1]),
             "kill": lambda: f"signal {words[1]} for p{words[0]}",
             "open": lambda: "the console in front" if words[0] == "0" else f"console {words[0]}",
-            "write": lambda: f"{0 if words[1] == '-' else len(words[1]) // 2} bytes",
+            "write": lambda: counted(0 if words[1] == "-" else len(words[1]) // 2, "byte"),
             "waitinput": lambda: "to wait for input",
             "waitsignal": lambda: "to wait for a signal",
             "waitend": lambda: "the result of the wait",
@@ -66,14 +70,21 @@ def call_words(call):
     return f"{known}: {meant}" if known else f"{name}: {meant}"
 
 
-def answer_words(answer, error):
-    """An answer in words."""
+def number_words(call, number):
+    """The number that a call is answered, in words."""
+    known = {"open": f"descriptor {number}", "write": counted(int(number), "byte"), "openqry": f"console {number}"}
+    return known.get(call, f"the number {number}")
+
+
+def answer_words(call, answer, error):
+    """The answer of a call in words."""
     name, *words = answer.split(" ")
     if error:
         return f"{error}: {ERRORS[error]}"
     try:
         return {
-            "sigs": lambda: f"signals {listed(bit + 1 for bit in bits(words[0]))}",
+            "num": lambda: number_words(call, words[0]),
+            "sigs": lambda: f"signals {listed(bit + 1 for bit in bits(words[0]))}" if words[0] != "0" else "no signal",
             "state": lambda: f"console {words[0]} is in front, allocated are {listed(bits(words[1]))}",
             "mode": lambda: mode_words(words),
             "wait": lambda: "it waits",
@@ -141,7 +152,8 @@ def texts(entries):
     """For each entry its line and the sentences below it; owners and display only if they changed."""
     owners, owned, display = {}, [], None
     for entry in entries:
-        lines = [f"{call_words(entry['call'])}. Answer: {answer_words(entry['answer'], entry['error'])}."]
+        answer = answer_words(entry["call"].split(" ")[0], entry["answer"], entry["error"])
+        lines = [f"{call_words(entry['call'])}. Answer: {answer}."]
         lines += did_words(entry["did"])
         if entry["owners"] != owned:
             lines += owner_words(owners, owners_of(entry))
