@@ -2,9 +2,9 @@
 """Checks examples/switches, tools/turns.py and what docs/guide/display-server.md quotes.
 
 Each session is played and has to print its journal, and that has to be a legal one. Each `.words` file has to become
-its session by tools/turns.py, which has to refuse words that no play reaches, with the item's number. The lines of a
-journal that the guide quotes have to stand in the journal of the session named before them, in the same order. Prints
-a line for each fault, and ends with status 1 if there is one.
+its session by tools/turns.py, which has to refuse words that no play reaches, with the item's number, and a Python that
+has no reader of TOML. The lines of a journal that the guide quotes have to stand in the journal of the session named
+before them, in the same order. Prints a line for each fault, and ends with status 1 if there is one.
 """
 import pathlib
 import re
@@ -77,6 +77,15 @@ def turns_faults():
             yield f"turns = {words} gives {(printed or message).split(chr(10) + '[[')[0].strip()}, not {wanted}"
 
 
+def old_python_faults():
+    """A Python under 3.11 has no module tomllib."""
+    script = f"import runpy, sys; sys.path.insert(0, {str(TOP / 'tools')!r}); sys.modules['tomllib'] = None; "
+    script += f"sys.argv = ['turns.py', '-']; runpy.run_path({str(TOP / 'tools/turns.py')!r}, run_name='__main__')"
+    status, printed, message = run([sys.executable, "-c", script], b"turns = []\n")
+    if (status, printed) != (2, "") or not re.fullmatch(r"turns\.py: wanted Python 3\.11 [^\n]*\n", message):
+        yield f"without tomllib turns.py ends with status {status}: {message.strip()}"
+
+
 def quote_faults():
     """Lines that are quoted below the name of a session, and aren't in its journal."""
     names = {path.stem for path in FOLDER.glob("*.toml")}
@@ -96,7 +105,7 @@ def quote_faults():
 
 def main():
     faults = [fault for path in sorted(FOLDER.glob("*.toml")) for fault in session_faults(path)]
-    faults += [*turns_faults(), *quote_faults()]
+    faults += [*turns_faults(), *old_python_faults(), *quote_faults()]
     for fault in faults:
         print(fault)
     return 1 if faults else 0

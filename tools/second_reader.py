@@ -7,7 +7,12 @@ by name (`Unread`). What it predicts of an answer has to be the answer that the 
 """
 import collections
 import re
-import tomllib
+import sys
+
+try:
+    import tomllib
+except ImportError:
+    sys.exit("second_reader.py: needs Python 3.11 or later, which has tomllib")
 
 from second_keymap import Keymap, Unread
 

@@ -57,7 +57,9 @@ view.addEventListener("keydown", (event) => {
   go(keys[event.key]());
 });
 view.addEventListener("focus", () => go(Math.max(current, 0)));
-drawing.addEventListener("pointermove", (event) => {
-  show(Math.round((event.clientX - drawing.getBoundingClientRect().left - left) / step));
-});
+for (const kind of ["pointermove", "pointerdown"]) {
+  drawing.addEventListener(kind, (event) => {
+    show(Math.round((event.clientX - drawing.getBoundingClientRect().left - left) / step));
+  });
+}
 if (/^#\d+$/.test(location.hash)) go(+location.hash.slice(1));
