@@ -4,12 +4,13 @@
 usage: check_watch.py [COUNT] [--from SEED] [--watch PATH] [--vt PATH]
 
 COUNT sessions (200) are made by tools/switch_sessions.py from the seeds SEED (0) on. Each is played by `vt play`, and
-every fifth is raced by `vt race` as well. The second reader goes through the journal by the rules of docs/SWITCHING.md,
-and every object of `watch json` has to be the one that it expects: what the entry did, and who is in front, who owns
-which console, what is pending since when, and who waits after it. The sessions of examples/switches are read too. In
-the form for a person each entry has to have the same facts. Damaged inputs have to end with a status of `vt check`, its
-line, and no trace of another end. The lines of `watch` that docs/guide/display-server.md quotes have to stand below
-their entry, in the session named before them, and its commands have to print what it shows.
+every fifth is raced by `vt race` as well; the journals are also given to `watch` behind the session without its turns,
+whose schedule is another. The second reader goes through the journal by the rules of docs/SWITCHING.md, and every
+object of `watch json` has to be the one that it expects: what the entry did, and who is in front, who owns which
+console, what is pending since when, and who waits after it. The sessions of examples/switches are read too. In the form
+for a person each entry has to have the same facts. Damaged inputs have to end with a status of `vt check` and its line.
+The lines of `watch` that docs/guide/display-server.md quotes have to stand below their entry, in the session named
+before them, and its commands have to print what it shows.
 
 Prints a line for each difference and last 'N passed, M failed'. Ends with status 1 if one fails, 2 if a program is
 missing or the words are wrong.
@@ -159,12 +160,13 @@ def faults_of(watch, given, text, printed, seen):
     if final != printed[printed.index("\n%display ") + 1 :]:
         return "another final text"
     shown = run([watch], given).stdout.decode().split("\n")
-    before, lines = shown[0], shown[:1]
+    before = f"now: front {Reader(text).front}; owners none; pending none; waits none"
+    lines = [before]
     for entry in wanted:
         lines += lines_of(entry, before)
         before = now_line(entry)
     lines.append("")
-    if not shown[0].startswith("now: front ") or shown != lines:
+    if shown != lines:
         place = next((n for n, pair in enumerate(zip(shown, lines)) if pair[0] != pair[1]), min(len(shown), len(lines)))
         return f"line {place + 1} of the form for a person: {(shown + ['nothing'])[place]!r}"
     seen.append((len(entries), sum(did["what"] == "switch" for entry in entries for did in entry["did"])))
@@ -187,7 +189,9 @@ def compare(watch, vt, name, text, is_raced, seen):
         if how == "play":
             why = faults_of(watch, text.encode(), text, printed, seen)
             yield f"{name}: {why}" if why else None
-        why = faults_of(watch, (text + journal_part(printed)).encode(), text, printed, [])
+        # (without its turns the session has another schedule, and the journal is one that a race could make)
+        given = re.sub(r"(?m)^turns = \[.*\]\n", "", text) + journal_part(printed)
+        why = faults_of(watch, given.encode(), text, printed, [])
         yield f"{name}, with the journal of vt {how}: {why}" if why else None
 
 
