@@ -83,6 +83,9 @@ class Browser:
         for kind in ("keyDown", "keyUp"):
             self.ask("Input.dispatchKeyEvent", type=kind, key=name, code=name)
 
+    def point(self, x, y):
+        self.ask("Input.dispatchMouseEvent", type="mouseMoved", x=x, y=y)
+
     def close(self):
         self.process.terminate()
         self.process.wait(timeout=SECONDS)

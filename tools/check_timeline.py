@@ -7,11 +7,11 @@ The sessions of examples/switches and the tour, a generated one of 64 processes,
 drawn. In each page the marks, signals, waits and arrows are counted against the JSON; no attribute or style refers to
 the outside, every element is closed, and each entry's text has its line, the name of its error, and the reason of its
 switches. Chromium opens each page without a window and counts the same; its keys go through the entries, and
-aria-valuetext is the text of the entry. A page of 64 processes and 10,000 entries has to be there within SECONDS by the
-browser's own clock, if SECONDS is given; otherwise the time is printed. Whatever else the machine does, the browser's
-thread has to need less than two seconds of a processor for it. If Chromium isn't installed, a line names these checks
-as skipped. No picture is kept. Inputs that aren't of the form have to be refused by name, and damaged ones
-refused or drawn.
+aria-valuetext is the text of the entry; pointing at a mark shows its entry. A page of 64 processes and 10,000 entries
+has to be there within SECONDS by the browser's own clock, if SECONDS is given; otherwise the time is printed. Whatever
+else the machine does, the browser's thread has to need less than two seconds of a processor for it. If Chromium isn't
+installed, a line names these checks as skipped. No picture is kept. Inputs that aren't of the form have to be refused
+by name, and damaged ones refused or drawn.
 
 Prints a line for each fault and last 'N passed, M failed'. Ends with status 1 if one fails, 2 if a program is missing
 or can't be run.
@@ -198,6 +198,8 @@ def check_refused(check):
         check.holds(is_so, f"{words}: status {ran.returncode}, {ran.stderr[:200]!r}")
 
 
+MARK = """(() => { const box = document.querySelector('.mark[data-entry="%d"]').getBoundingClientRect();
+ return [box.x + box.width / 2, box.y + box.height / 2]; })()"""
 PAINTED = "performance.getEntriesByType('paint').map((paint) => paint.startTime).concat(0).sort((a, b) => b - a)[0]"
 LOADED = "performance.getEntriesByType('navigation')[0].loadEventEnd"
 
@@ -229,6 +231,12 @@ def check_drawn(check, browser, name, entries, parts, path):
         lines = [line.strip() for line in parts[wanted].split("\n")]
         is_read = words is not None and words.startswith(". ".join(lines))
         check.holds(found == str(wanted) and is_read, f"{name}: after {key} it is entry {found}, not {wanted}: {words}")
+    browser.key("Home")
+    wanted = min(4, len(entries) - 1)
+    browser.point(*browser.value(MARK % wanted))
+    shown = browser.value("document.getElementById('panel').textContent").split("\n")
+    lines = [line.strip() for line in parts[wanted].split("\n")]
+    check.holds(shown[: len(lines)] == lines, f"{name}: pointing at the mark of entry {wanted} shows {shown}")
     return work, there
 
 
