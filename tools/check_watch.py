@@ -7,10 +7,10 @@ COUNT sessions (200) are made by tools/switch_sessions.py from the seeds SEED (0
 every fifth is raced by `vt race` as well; the journals are also given to `watch` behind the session without its turns,
 whose schedule is another. The second reader goes through the journal by the rules of docs/SWITCHING.md, and every
 object of `watch json` has to be the one that it expects: what the entry did, and who is in front, who owns which
-console, what is pending since when, and who waits after it. The sessions of examples/switches and the tour are read too. In
-the form for a person each entry has to have the same facts. Damaged inputs have to end with a status of `vt check` and its line.
-The lines of `watch` that docs/guide/display-server.md quotes have to stand below their entry, in the session named
-before them, and its commands have to print what it shows.
+console, what is pending since when, and who waits after it. The sessions of examples/switches and the tour are read
+too. In the form for a person each entry has to have the same facts. Damaged inputs have to end with a status of `vt
+check` and its line. The lines of `watch` that docs/guide/display-server.md quotes have to stand below their entry, in
+the session named before them, and its commands have to print what it shows.
 
 Prints a line for each difference and last 'N passed, M failed'. Ends with status 1 if one fails, 2 if a program is
 missing or the words are wrong.
