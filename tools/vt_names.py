@@ -10,14 +10,15 @@ SOURCE = pathlib.Path(__file__).resolve().parent.parent / "crates/key_syms/src"
 
 def numbers(index, name):
     """Returns the numbers of an array of the index."""
-    return [int(word) for word in re.search(rf"pub static {name}: [^=]*= \[(.*?)\];", index, re.S)[1].split(",") if word.strip()]
+    array = re.search(rf"pub(?:\(crate\))? static {name}: [^=]*= \[(.*?)\];", index, re.S)[1]
+    return [int(word) for word in array.split(",") if word.strip()]
 
 
 def read():
     """Returns the kind and the value of each name, in the table's order."""
     table = (SOURCE / "table.rt").read_text(encoding="utf-8")
     index = (SOURCE / "index.rt").read_text(encoding="utf-8")
-    text = re.search(r'pub static NAMES.*?\*b"(.*?)";', table, re.S)[1]
+    text = re.search(r'pub(?:\(crate\))? static NAMES.*?\*b"(.*?)";', table, re.S)[1]
     names = re.sub(r"\\\n *", "", text).split()
     return dict(zip(names, zip(numbers(index, "KINDS"), numbers(index, "VALUES"), strict=True), strict=True))
 
