@@ -1,12 +1,12 @@
 #!/usr/bin/env python3
 """Checks that the examples of the pages print what the pages show.
 
-In README.md and the pages of docs/ each indented line `$ COMMAND` is run from the top of the
-repository, and the indented lines after it have to be what it prints; a line `..` stands for any lines. So is each
-line `$ COMMAND` of an example in man/, where `vt` is crates/vt/out/vt; the examples of a session and of a keymap there
-have to be accepted, and each command of vt(1) has an example. docs/codes.md has a row for each code of tools/why.py.
-The adapter of docs/guide/write-a-terminal.md answers a case. The lines of a journal that docs/guide/tour.md quotes have to
-stand in examples/tour.journal, in the same order. docs/guide/test-a-terminal-program.md is run by
+In README.md and the pages of docs/ each indented line `$ COMMAND` is run from the top of the repository, and the
+indented lines after it have to be what it prints; a line `..` stands for any lines. So is each line `$ COMMAND` of an
+example in man/, where `vt` is crates/vt/out/vt; the examples of a session and of a keymap there have to be accepted,
+and each command of vt(1) has an example. docs/codes.md has a row for each code of tools/why.py. The adapter of
+docs/guide/write-a-terminal.md answers a case. The lines of a journal that docs/guide/tour.md quotes have to stand in
+examples/tour.journal, in the same order. docs/guide/test-a-terminal-program.md is run by
 tools/check_expect.py, the programs of docs/guide/embed-a-crate.md by tools/check_snippets.py, and docs/library/c.md by
 tools/check_c.py. Prints a line for each difference. The status is 1 if there is one, and 2 if the program isn't built.
 """
