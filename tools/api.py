@@ -24,7 +24,7 @@ from copy_crates import lines_of, needs  # noqa: E402
 PAGES = TOP / "docs/library/api"
 WIDTH = 120
 CLAUSE = re.compile(r"\s*(?:requires|ensures)\b")
-ITEM = re.compile(r"pub (?:const )?(struct|enum|trait|type|fn|const|static) (\w+)")
+ITEM = re.compile(r'pub (?:const )?(extern "C" )?(struct|enum|trait|type|fn|const|static) (\w+)')
 METHOD = re.compile(r"    (?:pub )?(?:const )?fn \w+")
 PUBLIC_METHOD = re.compile(r"    pub (?:const )?fn \w+")
 
@@ -97,8 +97,8 @@ def parts_of(crate):
             item = ITEM.match(line)
             if line.startswith("}"):
                 owner = None
-            if item and item[2] in exports:
-                kind, name = item[1], item[2]
+            if item and (item[3] in exports or item[1]):
+                kind, name = item[2], item[3]
                 found.setdefault(name, []).insert(0, [*comment_before(lines, at), *item_at(lines, at, kind)])
                 owner, is_trait = (name, True) if kind == "trait" else (owner, False)
             of = re.match(r"impl(?:<.*?>)? (?:(\w+)(?:<.*?>)? for )?(\w+)", line)

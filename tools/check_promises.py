@@ -1,8 +1,8 @@
 #!/usr/bin/env python3
 """Checks docs/proofs/ against the public calls of the libraries that crates.txt lists.
 
-A public call is a `pub fn` that a user of the crate can name, one of a public trait of this repository, or such a
-trait's at a public type. A section `## CRATE` has a line `Laws: ..`, a table whose first column is headed "call", or
+A public call is a `pub fn` that a user of the crate can name, a `pub extern "C" fn`, one of a public trait of this
+repository, or such a trait's at a public type. A section `## CRATE` has a line `Laws: ..`, a table whose first column is headed "call", or
 both, and each call is once in them. A law returns nothing and changes nothing. A row has five cells:
 
 - calls;
@@ -24,7 +24,7 @@ import sys
 sys.dont_write_bytecode = True
 
 # After the line that keeps tools/ clean.
-from check_proved import NAMES, PROOFS, TOP, UNNAMED, owners, tables_of  # noqa: E402
+from check_proved import CALL, NAMES, PROOFS, TOP, UNNAMED, owners, tables_of  # noqa: E402
 
 HOLES_PAGE = PROOFS / "unproved.md"
 HOLES = "## What no clause states"
@@ -102,9 +102,10 @@ def public_calls(crate, known):
                 owner, head = owners(line), line
                 of_trait = re.search(r"(\w+)(?:<.*>)? for ", line)
                 is_open = line.startswith("pub trait") or bool(of_trait and of_trait[1] in known)
-            call = re.match(r"\s*(pub )?(?:const )?fn (\w+)", line)
-            if call and (call[1] or is_open) and (owner[0] if owner else call[2]) in exports:
-                name = f"{owner[0]}::{call[2]}" if owner else call[2]
+            call = CALL.match(line)
+            shown = call and ((owner[0] if owner else call[3]) in exports or call[2])
+            if shown and (call[1] or is_open):
+                name = f"{owner[0]}::{call[3]}" if owner else call[3]
                 found[name] = (f"{head} {signature_at(lines[number:])}", promised_at(lines[number:]))
     return found
 

@@ -26,6 +26,8 @@ CRATES = TOP / "docs/library/crates.md"
 HELD = "what holds"
 NAMES = re.compile(r"`([^`]+)`")
 UNNAMED = "its clause"
+# A call's first line: whether it is public, whether C calls it, and its name.
+CALL = re.compile(r'\s*(pub )?(?:const )?(extern "C" )?fn (\w+)')
 DEFINES = "(?:abbrev|record|data|pub|inductive|opaque|unfoldable)"
 WRONG_BODIES = (
     "Switch without release", "Death leaves the switch pending", "Wait that only polls", "Write that forgets the rest",
@@ -62,9 +64,9 @@ def calls_of(crate):
             ghost = re.match(r"\s*ghost (output|from_gives) = \{", line)
             if ghost and owner:
                 found.setdefault(f"{owner[0]}::{ghost[1]}", set()).add(UNNAMED)
-            call = re.match(r"\s*(?:pub )?(?:const )?fn (\w+)", line)
+            call = CALL.match(line)
             if call:
-                name = f"{owner[0]}::{call[1]}" if owner else call[1]
+                name = f"{owner[0]}::{call[3]}" if owner else call[3]
                 clauses = found.setdefault(name, set())
             clause = re.match(r"\s*(ensures|requires)\*? *(\w*) *\{", line)
             if clause and clauses is not None and (clause[2] or clause[1] == "ensures"):
