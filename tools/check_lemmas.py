@@ -1,13 +1,13 @@
 #!/usr/bin/env python3
 """Checks the list of lemmas that proofs cite across crates.
 
-usage: tools/check_lemmas.py [--list]
+usage: tools/check_lemmas.py [--write]
 
 A proof of one crate names a module of another crate's proofs by a line `use Rattle.CRATE.proofs.MODULE`, and a function
 by `CRATE::proofs::MODULE::LEMMA` in its `tactic`. The list is the table under "Lemmas that are cited across crates" in
-docs/contributing/architecture.md: a row has the crate that cites, the crate that is cited, and the modules of its proofs. The
-modules of std aren't listed. Prints a line for each row that is missing, for each that no file needs, and for each that
-isn't of this form; then the status is 1. `--list` prints the rows as they have to be.
+docs/contributing/architecture.md: a row has the crate that cites, the crate that is cited, and the modules of its
+proofs. The modules of std aren't listed. Prints a line for each row that is missing, for each that no file needs, and
+for each that isn't of this form; then the status is 1. `--write` writes the rows as they have to be.
 """
 import pathlib
 import re
@@ -63,12 +63,15 @@ def listed():
     return rows, faults
 
 
-def print_rows(rows):
+def write_rows(rows):
+    """Writes the rows into the page's table."""
     modules = {}
     for citing, crate, module in sorted(rows):
         modules.setdefault((citing, crate), []).append(f"`{module}`")
-    for (citing, crate), names in modules.items():
-        print(f"| `{citing}` | `{crate}` | {', '.join(names)} |")
+    lines = [f"| `{citing}` | `{crate}` | {', '.join(names)} |\n" for (citing, crate), names in modules.items()]
+    before, heading, after = PAGE.read_text(encoding="utf-8").partition(f"{HEADING}\n")
+    table = re.sub(r"(\|---\|---\|---\|\n)(?:\|.*\n)*", lambda head: head[1] + "".join(lines), after, count=1)
+    PAGE.write_text(before + heading + table, encoding="utf-8")
 
 
 def main():
@@ -76,8 +79,8 @@ def main():
         print(f"no page {PAGE.relative_to(TOP)}")
         return 1
     needed = cited()
-    if "--list" in sys.argv[1:]:
-        print_rows(needed)
+    if "--write" in sys.argv[1:]:
+        write_rows(needed)
         return 0
     rows, faults = listed()
     faults += [
