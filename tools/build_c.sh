@@ -46,6 +46,7 @@ objects=
 for crate in screen_c keys_c; do
     archive=$top/crates/$crate/out/lib$crate.a
     if [ -z "$built" ]; then
+        echo "build_c.sh: rt lib in crates/$crate; the first proof of the crates below takes minutes" >&2
         (cd "$top/crates/$crate" && rt lib) > "$work/log" 2>&1 ||
             { tail -n 20 "$work/log" >&2; stop "rt lib failed in crates/$crate"; }
     fi
