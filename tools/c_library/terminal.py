@@ -8,7 +8,7 @@ import struct
 import termios
 import time
 
-from .bench import EXAMPLES, TOP
+from .bench import EXAMPLES, SANITIZERS, TOP
 
 PICTURE = TOP / "crates/example_picture/out/example_picture"
 LIMIT = 20
@@ -183,7 +183,7 @@ def check_ends(bench, program):
 
 def check_terminal(bench, vt):
     """examples/c/term.c."""
-    program = bench.compiled("term", [EXAMPLES / name for name in ("term.c", "draw.c", "picture.c")])
+    program = bench.compiled("term.san", [EXAMPLES / name for name in ("term.c", "draw.c", "picture.c")], SANITIZERS)
     if program:
         check_drawing(bench, vt, program)
         check_picture(bench, program)
