@@ -35,8 +35,8 @@ case $("$cc" -dumpmachine) in
     *) stop "$cc compiles for $("$cc" -dumpmachine); the library is for Linux on x86-64" ;;
 esac
 
-version=$(sed -n 's/.*Version \([0-9][0-9.]*[0-9]\)\..*/\1/p' "$top/README.md" | head -n 1)
-[ -n "$version" ] || stop "README.md names no version"
+version=$(sed -n 's/^\.Os "vt \([0-9.]*\)"$/\1/p' "$top/man/vt.3")
+[ -n "$version" ] || stop "man/vt.3 names no version"
 
 work=$(mktemp -d)
 trap 'rm -rf "$work"' EXIT
