@@ -210,7 +210,7 @@ uint8_t vt_keys_new(struct vt_keys *k, const uint8_t *text, size_t n, const stru
 /* Frees what the handle has; the handle is {0} again. A handle that is {0} stays it. */
 void vt_keys_free(struct vt_keys *k);
 
-/* Types one scan byte. VT_NOTHING. */
+/* Types one scan byte. In VT_RAW it sends that byte itself, unless the attention key acts. VT_NOTHING. */
 uint8_t vt_keys_scan(struct vt_keys *k, uint8_t byte, const struct vt_modes *modes, struct vt_key *key);
 
 /* Releases all keys that are down; none of them sends anything. VT_NOTHING. */

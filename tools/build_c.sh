@@ -35,8 +35,8 @@ case $("$cc" -dumpmachine) in
     *) stop "$cc compiles for $("$cc" -dumpmachine); the library is for Linux on x86-64" ;;
 esac
 
-version=$(sed -n 's/.*Version \([0-9][0-9.]*[0-9]\)\..*/\1/p' "$top/README.md" | head -n 1)
-[ -n "$version" ] || stop "README.md names no version"
+version=$(sed -n 's/^\.Os "vt \([0-9.]*\)"$/\1/p' "$top/man/vt.3")
+[ -n "$version" ] || stop "man/vt.3 names no version"
 
 work=$(mktemp -d)
 trap 'rm -rf "$work"' EXIT
@@ -46,6 +46,7 @@ objects=
 for crate in screen_c keys_c; do
     archive=$top/crates/$crate/out/lib$crate.a
     if [ -z "$built" ]; then
+        echo "build_c.sh: rt lib in crates/$crate; the first proof of the crates below takes minutes" >&2
         (cd "$top/crates/$crate" && rt lib) > "$work/log" 2>&1 ||
             { tail -n 20 "$work/log" >&2; stop "rt lib failed in crates/$crate"; }
     fi

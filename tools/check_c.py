@@ -10,7 +10,7 @@ usage: check_c.py [--library OUT] [--vt PROGRAM] [--only CHECK,..] [--runs N]
   bench/inputs.py. The rows are those that `vt screen` prints.
 - `memory`: each request for memory refused once. `threads`: handles that go between threads, under helgrind.
 - `keys`, `faults`: N random runs of keys (1,000) are typed as `vt type` does; faults of keymaps are those of `vt keys`.
-- `terminal`: examples/c/term.c on a pseudo-terminal.
+- `terminal`: examples/c/term.c on a pseudo-terminal. `programs`: vim, less, htop, dialog and mc in it, in tmux.
 - `python`, `rust`: the tests of the bindings. `fuzz`: the fuzzer's corpus (tools/fuzz_c.sh looks for more).
 - `install`: tools/install.sh into a folder, and programs that are compiled by pkg-config there.
 - `guide`: the files and commands of docs/library/c.md, in an empty folder.
@@ -32,7 +32,7 @@ import tempfile
 
 sys.dont_write_bytecode = True
 
-from c_library import drawn, guide, terminal, typed  # noqa: E402: after the line that keeps tools/ clean
+from c_library import drawn, guide, programs, terminal, typed  # noqa: E402: after the line that keeps tools/ clean
 from c_library.bench import (  # noqa: E402
     EXAMPLES, SANITIZERS, TESTS, TOP, VALGRIND, WARNINGS, Bench, Missing)
 from tool_files import Stop, number  # noqa: E402
@@ -197,6 +197,7 @@ CHECKS = {
     "keys": typed.check_keys,
     "faults": typed.check_faults,
     "terminal": lambda bench: terminal.check_terminal(bench, binding(bench)),
+    "programs": programs.check_programs,
     "python": check_python,
     "rust": check_rust,
     "fuzz": check_fuzz,

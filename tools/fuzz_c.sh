@@ -3,10 +3,11 @@
 #
 # usage: tools/fuzz_c.sh [--library OUT] [--keep] [SECONDS]
 #
-# OUT is a folder that tools/build_c.sh filled (out/c in the clone, if there is none). Runs so many seconds (60), or with 0
-# only the corpus of c/test/corpus. New inputs go to a folder of their own, which is deleted at the end; with --keep those
-# that reach more of the test's own code are added to the corpus. It wants clang with libFuzzer. Status 1: a fault was
-# found, and the input is written to the folder fault- of the time; 2: something is missing; 77: clang has no libFuzzer.
+# OUT is a folder that tools/build_c.sh filled (out/c in the clone, if there is none). Runs so many seconds (60), or with
+# 0 only the inputs of c/test/corpus.hex, a line in hexadecimal digits each. New inputs are deleted at the end; with --keep
+# those that reach more of the test's own code are added to that file. c/test/fuzz.dict has the sequences that inputs are
+# made of. It wants clang with libFuzzer, and Python. Status 1: a fault was found, and the input is written to the folder
+# fault- and the time; 2: something is missing; 77: clang has no libFuzzer.
 set -eu
 
 stop() {
@@ -40,22 +41,33 @@ clang -std=c11 -O1 -g -Wall -Wextra -Werror -fsanitize=fuzzer,address,undefined 
     grep -q 'fuzzer' "$work/why" && exit 77
     stop "c/test/fuzz.c isn't compiled"
 }
-corpus=$top/c/test/corpus
-mkdir -p "$corpus" "$work/new"
+corpus=$work/corpus
+mkdir "$corpus" "$work/new"
+python3 - "$top/c/test/corpus.hex" "$corpus" << 'END' || stop "c/test/corpus.hex can't be read"
+import pathlib, sys
+for number, line in enumerate(open(sys.argv[1], encoding="ascii")):
+    pathlib.Path(sys.argv[2], str(number)).write_bytes(bytes.fromhex(line))
+END
 status=0
 if [ "$seconds" -eq 0 ]; then
     "$work/fuzz" -runs=0 -artifact_prefix="$work/fault-" "$corpus" > "$work/log" 2>&1 || status=1
 else
-    "$work/fuzz" -max_total_time="$seconds" -max_len=4096 -artifact_prefix="$work/fault-" "$work/new" "$corpus" > "$work/log" 2>&1 ||
-        status=1
+    "$work/fuzz" -max_total_time="$seconds" -max_len=4096 -dict="$top/c/test/fuzz.dict" \
+        -artifact_prefix="$work/fault-" "$work/new" "$corpus" > "$work/log" 2>&1 || status=1
 fi
-tail -n 3 "$work/log"
+grep -E '^(Done|stat::number_of_executed|#.*DONE)' "$work/log" || true
 if [ "$status" -ne 0 ]; then
     tail -n 40 "$work/log" >&2
     folder=fault-$(date +%Y%m%d%H%M%S)
     mkdir "$folder" && cp "$work"/fault-* "$folder/" && echo "fuzz_c.sh: the input is in $folder" >&2
 elif [ -n "$keep" ]; then
-    "$work/fuzz" -merge=1 "$corpus" "$work/new" > "$work/log" 2>&1
-    echo "$(ls "$corpus" | wc -l) inputs, $(cat "$corpus"/* | wc -c) bytes in c/test/corpus"
+    mkdir "$work/least"
+    "$work/fuzz" -merge=1 "$work/least" "$corpus" "$work/new" > "$work/log" 2>&1
+    python3 - "$work/least" > "$top/c/test/corpus.hex" << 'END'
+import pathlib, sys
+inputs = sorted((file.read_bytes() for file in pathlib.Path(sys.argv[1]).iterdir()), key=lambda it: (len(it), it))
+print("\n".join(it.hex() for it in inputs))
+END
+    echo "$(wc -l < "$top/c/test/corpus.hex") inputs in c/test/corpus.hex"
 fi
 exit $status

@@ -56,6 +56,9 @@ class Screens(unittest.TestCase):
         self.assertEqual(sum((screen.feed(bytes([byte])) for byte in asking), []), wanted)
         self.assertEqual(screen.feed(bytearray(asking)), wanted)
         self.assertEqual(screen.feed(b""), [])
+        text = b"\x1b[2;3H" + b"x" * 5000 + b"\x1b[6n" + b"\x1b[9;7H\x1b[6n" * 300
+        wanted = [vt.Report(b"\x1b[25;43R")] + [vt.Report(b"\x1b[9;7R")] * 300
+        self.assertEqual(vt.Screen(25, 80).feed(text), wanted)
 
     def test_modes(self):
         screen = vt.Screen(3, 3)

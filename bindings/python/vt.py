@@ -18,6 +18,7 @@ from dataclasses import dataclass
 from typing import NamedTuple
 
 OUTS = 64
+PIECE = 4096
 ROW = 255
 COLOURS = 16
 KEYMODES = RAW, XLATE, MEDIUMRAW, UNICODE, OFF = range(5)
@@ -345,14 +346,17 @@ class Screen(_Object):
     def feed(self, text):
         """Draws the bytes, however they are cut into calls. Returns a list of what they ask for, in order: Report,
         SwitchTo, SwitchLast, Lights, Bell."""
-        text, events = bytes(text), []
+        text, events = memoryview(bytes(text)), []
         with self._lock:
-            while True:
-                self._call("feed", text, len(text), self._outs, OUTS, self._fed)
-                events += map(_event, self._outs[:self._fed.said])
-                if self._fed.taken == len(text):
-                    return events
-                text = text[self._fed.taken:]
+            for at in range(0, max(1, len(text)), PIECE):
+                piece = bytes(text[at:at + PIECE])
+                while True:
+                    self._call("feed", piece, len(piece), self._outs, OUTS, self._fed)
+                    events += map(_event, self._outs[:self._fed.said])
+                    if self._fed.taken == len(piece):
+                        break
+                    piece = piece[self._fed.taken:]
+        return events
 
     def write(self, text):
         """Draws the bytes, and drops what they ask for."""

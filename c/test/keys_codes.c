@@ -105,6 +105,8 @@ static void try_keys(void)
     WANT(vt_keys_set_mode(&k, 5) == VT_RANGE && vt_keys_set_mode(&k, UINT32_MAX) == VT_RANGE);
     WANT(vt_keys_set_mode(&k, VT_MEDIUMRAW) == VT_OK && types(&k, 30, "\x1E"));
     WANT(vt_keys_state(&k, &state) == VT_OK && state.mode == VT_MEDIUMRAW && state.meta == VT_METABIT);
+    WANT(vt_keys_set_mode(&k, VT_RAW) == VT_OK && types(&k, 30, "\x1E") && types(&k, 30 | 0x80, "\x9E"));
+    WANT(vt_keys_set_mode(&k, VT_OFF) == VT_OK && scanned(&k, 30).kind == VT_KEY_NOTHING);
     WANT(vt_keys_set_mode(&k, VT_UNICODE) == VT_OK);
     WANT(scanned(&k, 0xE0).kind == VT_KEY_NOTHING && types(&k, 0x48, "\033[A"));
     WANT(vt_keys_release(&k) == VT_OK && scanned(&k, 0xE0).kind == VT_KEY_NOTHING);

@@ -129,7 +129,7 @@ int main(void)
     struct vt_out outs[8];
     struct vt_fed fed;
     asked = 0;
-    for (int i = 0; i < 1000; i++) {
+    for (int i = 0; i < 100; i++) {
         WANT(vt_screen_feed(&screen, TEXT, sizeof TEXT - 1, outs, 8, &fed) == VT_OK);
         WANT(vt_screen_write(&screen, TEXT, sizeof TEXT - 1) == VT_OK);
         shown(&screen);

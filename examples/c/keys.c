@@ -71,14 +71,11 @@ static int next_scan(void)
     return (int)strtol(digits, NULL, 16);
 }
 
-/* In K_RAW a program gets the scan bytes themselves, and the keyboard finds the attention key alone. */
-static void print(int scan, const struct vt_key *key, uint32_t mode)
+static void print(int scan, const struct vt_key *key)
 {
     static const char *const requests[] = { "-", NULL, NULL, "last", "next", "prev", "spawn", "attention" };
     printf("%02x ", (unsigned)scan);
-    if (mode == VT_RAW && key->kind != VT_KEY_ATTENTION) {
-        printf("bytes %02x\n", (unsigned)scan);
-    } else if (key->kind == VT_KEY_BYTES) {
+    if (key->kind == VT_KEY_BYTES) {
         printf("bytes ");
         for (unsigned i = 0; i < key->length; i++)
             printf("%02x", key->bytes[i]);
@@ -125,7 +122,7 @@ int main(int count, char **words)
     struct vt_key key;
     for (int scan; (scan = next_scan()) >= 0;)
         if (vt_keys_scan(&keys, (uint8_t)scan, &modes, &key) == VT_OK)
-            print(scan, &key, mode);
+            print(scan, &key);
     vt_keys_free(&keys);
     free(text.at);
     while (found > 0)

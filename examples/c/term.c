@@ -27,7 +27,7 @@
 #include <time.h>
 #include <unistd.h>
 
-enum { PIECE = 65536, OUTS = 64, INPUT = 65536, QUIET_MS = 4, FRAME_MS = 30 };
+enum { PIECE = 65536, OUTS = 64, INPUT = 65536, QUIET_MS = 4, FRAME_MS = 30, REST = 64 };
 
 static struct termios before;
 static bool is_taken;
@@ -298,7 +298,7 @@ static int serve(void)
             is_whole = is_stale = false;
         }
     }
-    while (is_open && read_output() > 0)
+    for (int i = 0; i < REST && is_open && read_output() > 0; i++)
         ;
     draw_screen(&screen, is_whole);
     return status;

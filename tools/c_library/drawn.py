@@ -13,7 +13,8 @@ RECORDINGS = ["listing", "pager", "editor", "monitor", "dialog", "progress"]
 PIECES = [1, 7, 64, 4096, 0]
 ROOMS = [0, 1, 2, 64, 5000]
 WORKLOAD_BYTES = 1 << 16
-ITEMS = 20_000
+ITEMS = 41_000
+LEAST_OUTS = 20_000
 CUTS = [(1, 1), (7, 1), (64, 2), (64, 64), (4096, 1), (4096, 5000), (0, 3), (0, 20_000)]
 
 
@@ -104,6 +105,7 @@ def check_outs(bench):
     if not program:
         return
     text, wanted = asking(1)
+    bench.holds(len(wanted) >= LEAST_OUTS, f"the text asks for {len(wanted)} things")
     lines = "".join(f"{kind} {number} {out.hex()}\n" for kind, number, out in wanted).encode()
     rows = bench.run([bench.vt, "screen", 25, 80], text).stdout
     for piece, room in CUTS:

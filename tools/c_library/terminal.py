@@ -8,7 +8,7 @@ import struct
 import termios
 import time
 
-from .bench import EXAMPLES, TOP
+from .bench import EXAMPLES, SANITIZERS, TOP
 
 PICTURE = TOP / "crates/example_picture/out/example_picture"
 LIMIT = 20
@@ -108,6 +108,15 @@ def check_drawing(bench, vt, program):
             bench.holds(picture.read_bytes().startswith(b"<svg "), "the picture is written")
 
 
+def check_picture(bench, program):
+    """The picture of a recording is the stored one, which crates/example_picture drew."""
+    picture, recording = bench.folder / "monitor.svg", TOP / "examples/recordings/monitor"
+    terminal = Terminal([program, "--picture", picture, "sh", "-c", f"stty -opost; cat {recording}"], 25, 80)
+    bench.holds(terminal.end() == 0, "term.c draws a recording")
+    stored = (TOP / "docs/monitor.svg").read_bytes()
+    bench.holds(picture.read_bytes() == stored, "the picture of the recording is docs/monitor.svg")
+
+
 def turned(attribute):
     """The attribute byte with its colours exchanged."""
     return attribute & 0x88 | (attribute & 7) << 4 | attribute >> 4 & 7
@@ -174,8 +183,9 @@ def check_ends(bench, program):
 
 def check_terminal(bench, vt):
     """examples/c/term.c."""
-    program = bench.compiled("term", [EXAMPLES / name for name in ("term.c", "draw.c", "picture.c")])
+    program = bench.compiled("term.san", [EXAMPLES / name for name in ("term.c", "draw.c", "picture.c")], SANITIZERS)
     if program:
         check_drawing(bench, vt, program)
+        check_picture(bench, program)
         check_hands(bench, program)
         check_ends(bench, program)

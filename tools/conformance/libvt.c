@@ -21,6 +21,16 @@ static void write_piece(const char *bytes, size_t length)
     }
 }
 
+/* The cells of a row as the screen shows them: on a reversed one the colours are exchanged, blink and bold stay. */
+static void take_row(int row, const struct vt_state *state, struct vt_cell *cells)
+{
+    vt_screen_row(&screen, (uint32_t)row, cells, 255);
+    for (int column = 0; state->reverse && column < state->cols; column++) {
+        unsigned attr = cells[column].attr;
+        cells[column].attr = (uint8_t)((attr & 0x88) | (attr & 7) << 4 | (attr >> 4 & 7));
+    }
+}
+
 static void print_row(const struct vt_cell *cells, int columns)
 {
     putchar('"');
@@ -53,13 +63,13 @@ static void answer(const char *line, int rows, int columns)
     vt_screen_state(&screen, &state);
     printf("\"text\": [");
     for (int row = 0; row < rows; row++) {
-        vt_screen_row(&screen, (uint32_t)row, cells, 255);
+        take_row(row, &state, cells);
         printf(row ? ", " : "");
         print_row(cells, columns);
     }
     printf("], \"cursor\": [%d, %d], \"attributes\": [", state.y, state.x);
     for (int row = 0; row < rows; row++) {
-        vt_screen_row(&screen, (uint32_t)row, cells, 255);
+        take_row(row, &state, cells);
         print_runs(cells, row, columns, &runs);
     }
     printf("]");

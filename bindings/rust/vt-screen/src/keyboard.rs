@@ -163,9 +163,7 @@ impl Keyboard {
 
     /// The string of a function key, 0 to 255.
     pub fn string(&self, number: u32) -> Result<Vec<u8>, Error> {
-        text_of(255, |at, room, length| unsafe {
-            vt_sys::vt_keys_string(self.handle.get(), number, at, room, length)
-        })
+        text_of(255, |at, room, length| unsafe { vt_sys::vt_keys_string(self.handle.get(), number, at, room, length) })
     }
 
     /// Sets the string of a function key to at most 255 bytes.

@@ -83,9 +83,7 @@ impl Screen {
         while !text.is_empty() {
             let mut fed = vt_sys::vt_fed::default();
             checked(unsafe {
-                vt_sys::vt_screen_feed(
-                    self.handle.get(), text.as_ptr(), text.len(), outs.as_mut_ptr(), OUTS, &mut fed,
-                )
+                vt_sys::vt_screen_feed(self.handle.get(), text.as_ptr(), text.len(), outs.as_mut_ptr(), OUTS, &mut fed)
             })?;
             outs[..fed.said].iter().filter_map(event).for_each(&mut hear);
             text = &text[fed.taken..];
@@ -195,9 +193,7 @@ impl Screen {
 
     /// The text that draws this screen on a terminal of its size.
     pub fn redraw(&self) -> Result<Vec<u8>, Error> {
-        text_of(4096, |at, room, length| unsafe {
-            vt_sys::vt_screen_redraw(self.handle.get(), at, room, length)
-        })
+        text_of(4096, |at, room, length| unsafe { vt_sys::vt_screen_redraw(self.handle.get(), at, room, length) })
     }
 
     /// The same for a terminal that shows the cells that `mark` remembered: only rows that differ are in the text.

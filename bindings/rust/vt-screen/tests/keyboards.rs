@@ -21,9 +21,8 @@ fn bytes(text: &[u8]) -> KeyEvent {
 fn typing() {
     let mut k = keyboard();
     assert_eq!(typed(&mut k, &[30, 158, 42, 30, 158, 170, 59]), [bytes(b"a"), bytes(b"A"), bytes(b"one")]);
-    let asked = [
-        KeyEvent::Switch(2), KeyEvent::Last, KeyEvent::Next, KeyEvent::Previous, KeyEvent::Spawn, KeyEvent::Attention,
-    ];
+    let asked =
+        [KeyEvent::Switch(2), KeyEvent::Last, KeyEvent::Next, KeyEvent::Previous, KeyEvent::Spawn, KeyEvent::Attention];
     assert_eq!(typed(&mut k, &[60, 61, 62, 63, 64, 65]), asked);
     assert_eq!(typed(&mut k, &[0xE0, 0x48]), [bytes(b"\x1b[A")]);
     k.scan(0xE0, KeyModes::default());
@@ -48,9 +47,8 @@ fn faults_and_includes() {
 #[test]
 fn state() {
     let mut k = keyboard();
-    let start = KeyState {
-        mode: Mode::Unicode, is_escape_prefix: true, flags: 0, defaults: 0, lights: 0, locks: 0, sticky: 0,
-    };
+    let start =
+        KeyState { mode: Mode::Unicode, is_escape_prefix: true, flags: 0, defaults: 0, lights: 0, locks: 0, sticky: 0 };
     assert_eq!(k.state(), start);
     k.set_mode(Mode::MediumRaw);
     k.set_escape_prefix(false);
@@ -58,7 +56,13 @@ fn state() {
     k.set_lights(Some(1));
     assert_eq!(k.set_locks(8, 16), Ok(()));
     let set = KeyState {
-        mode: Mode::MediumRaw, is_escape_prefix: false, flags: 4, defaults: 2, lights: 1, locks: 8, sticky: 16,
+        mode: Mode::MediumRaw,
+        is_escape_prefix: false,
+        flags: 4,
+        defaults: 2,
+        lights: 1,
+        locks: 8,
+        sticky: 16,
     };
     assert_eq!(k.state(), set);
     assert_eq!(typed(&mut k, &[30]), [bytes(b"\x1e")]);

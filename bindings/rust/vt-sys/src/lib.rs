@@ -146,7 +146,12 @@ extern "C" {
     pub fn vt_screen_new(s: *mut vt_screen, rows: u32, cols: u32) -> u8;
     pub fn vt_screen_free(s: *mut vt_screen);
     pub fn vt_screen_feed(
-        s: *mut vt_screen, bytes: *const u8, n: usize, outs: *mut vt_out, room: usize, fed: *mut vt_fed,
+        s: *mut vt_screen,
+        bytes: *const u8,
+        n: usize,
+        outs: *mut vt_out,
+        room: usize,
+        fed: *mut vt_fed,
     ) -> u8;
     pub fn vt_screen_write(s: *mut vt_screen, bytes: *const u8, n: usize) -> u8;
     pub fn vt_screen_state(s: *mut vt_screen, state: *mut vt_state) -> u8;
@@ -164,7 +169,12 @@ extern "C" {
     pub fn vt_screen_redraw_changes(s: *mut vt_screen, text: *mut u8, room: usize, length: *mut usize) -> u8;
 
     pub fn vt_keys_new(
-        k: *mut vt_keys, text: *const u8, n: usize, texts: *const vt_text, count: usize, fault: *mut vt_fault,
+        k: *mut vt_keys,
+        text: *const u8,
+        n: usize,
+        texts: *const vt_text,
+        count: usize,
+        fault: *mut vt_fault,
     ) -> u8;
     pub fn vt_keys_free(k: *mut vt_keys);
     pub fn vt_keys_scan(k: *mut vt_keys, byte: u8, modes: *const vt_modes, key: *mut vt_key) -> u8;
