@@ -1,5 +1,4 @@
 mod Alike
-mod Counts
 mod Does
 mod Glyphs
 mod Joins
@@ -9,6 +8,7 @@ mod Numbers
 mod Overlays
 mod Paints
 mod Palettes
+mod Pendings
 mod Pens
 mod Prints
 mod Redrawing

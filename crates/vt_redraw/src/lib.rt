@@ -8,6 +8,7 @@ mod laws;
 mod modes;
 mod palette;
 mod pen;
+mod pending;
 mod sequences;
 mod state;
 mod stored;
