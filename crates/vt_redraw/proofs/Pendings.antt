@@ -10,190 +10,190 @@ use Rattle.vt_redraw.specs.Pending.{pending_text, space_with}
 use Rattle.vt_redraw.specs.Sequences.{erase_text}
 use Rattle.vt_redraw.specs.declared.pending.Pending.{Pending}
 
-and-none : (t : Bool) → (t && false) ≡ false
-and-none true = refl
-and-none false = refl
+and_none : (t : Bool) → (t && false) ≡ false
+and_none true = refl
+and_none false = refl
 
 -- no change of the pen's byte
-pub no-change : (b : ℕ) → byte_change b b ≡ []
-no-change b = cond-true (b == b) _ _ (eq-eqb b b refl)
+pub no_change : (b : ℕ) → byte_change b b ≡ []
+no_change b = cond-true (b == b) _ _ (eq-eqb b b refl)
 
 -- the text of a cell that no blank end begins at
-pub other-text : (erases : Bool) (now : ℕ) (c : Cell) (more : List Cell) → (erases && is_blank_end (c ∷ more)) ≡ false → is_half c ≡ false
+pub other_text : (erases : Bool) (now : ℕ) (c : Cell) (more : List Cell) → (erases && is_blank_end (c ∷ more)) ≡ false → is_half c ≡ false
     → cells_text erases now (c ∷ more) ≡ byte_change now c.attr ++ (glyph_text c.code ++ cells_text erases c.attr more)
-other-text erases now c more other is = cond-false _ _ _ other ∙ cond-false (is_half c) _ _ is
+other_text erases now c more other is = cond-false _ _ _ other ∙ cond-false (is_half c) _ _ is
 
 -- ASCII is written as it is
-pub ascii-text : (b : ℕ) → b < 128 → glyph_text b ≡ b ∷ []
+pub ascii_text : (b : ℕ) → b < 128 → glyph_text b ≡ b ∷ []
 unfolding glyph_text encode_utf8
-ascii-text b low =
+ascii_text b low =
     cond-true (is_character b) _ _ (grind (arith, nat_tests, low)) ∙ cond-true (ltb b 128) _ _ (lt-ltb b 128 low)
 
 -- no blank end begins before a cell that is no blank of this byte
-spaces-stop : (now n : ℕ) (c : Cell) (more : List Cell) → (c.code == 0x20 && c.attr == now) ≡ false
+spaces_stop : (now n : ℕ) (c : Cell) (more : List Cell) → (c.code == 0x20 && c.attr == now) ≡ false
     → are_spaces now (replicate n (space_with now) ++ c ∷ more) ≡ false
-spaces-stop now zero c more other = ap (λ (t : Bool). t && are_spaces now more) other
-spaces-stop now (suc n) c more other =
-    ap (λ (t : Bool). (0x20 == 0x20 && now == now) && t) (spaces-stop now n c more other) ∙ and-none (0x20 == 0x20 && now == now)
+spaces_stop now zero c more other = ap (λ (t : Bool). t && are_spaces now more) other
+spaces_stop now (suc n) c more other =
+    ap (λ (t : Bool). (0x20 == 0x20 && now == now) && t) (spaces_stop now n c more other) ∙ and_none (0x20 == 0x20 && now == now)
 
 -- spaces before a cell that is no blank of their byte
-pub spaces-before : (erases : Bool) (now n : ℕ) (c : Cell) (more : List Cell) → (c.code == 0x20 && c.attr == now) ≡ false
+pub spaces_before : (erases : Bool) (now n : ℕ) (c : Cell) (more : List Cell) → (c.code == 0x20 && c.attr == now) ≡ false
     → cells_text erases now (replicate n (space_with now) ++ c ∷ more) ≡ replicate n 0x20 ++ cells_text erases now (c ∷ more)
-spaces-before erases now zero c more other = refl
-spaces-before erases now (suc n) c more other =
+spaces_before erases now zero c more other = refl
+spaces_before erases now (suc n) c more other =
     let rest : List Cell = replicate n (space_with now) ++ c ∷ more in
-    other-text erases now (space_with now) rest
-    (ap (λ (t : Bool). erases && (is_ground now && t)) (spaces-stop now (suc n) c more other)
-    ∙ ap (λ (t : Bool). erases && t) (and-none (is_ground now)) ∙ and-none erases) refl
-    ∙ (λ i. no-change now i ++ (ascii-text 0x20 (omega arith) i ++ spaces-before erases now n c more other i))
+    other_text erases now (space_with now) rest
+    (ap (λ (t : Bool). erases && (is_ground now && t)) (spaces_stop now (suc n) c more other)
+    ∙ ap (λ (t : Bool). erases && t) (and_none (is_ground now)) ∙ and_none erases) refl
+    ∙ (λ i. no_change now i ++ (ascii_text 0x20 (omega arith) i ++ spaces_before erases now n c more other i))
 
-all-spaces : (now n : ℕ) → are_spaces now (replicate n (space_with now)) ≡ true
-all-spaces now zero = refl
-all-spaces now (suc n) = λ i. eq-eqb now now refl i && all-spaces now n i
+all_spaces : (now n : ℕ) → are_spaces now (replicate n (space_with now)) ≡ true
+all_spaces now zero = refl
+all_spaces now (suc n) = λ i. eq-eqb now now refl i && all_spaces now n i
 
 -- spaces at the end of a row
-pub spaces-erased : (erases : Bool) (now n : ℕ) → erases ≡ true → is_ground now ≡ true → 0 < n
+pub spaces_erased : (erases : Bool) (now n : ℕ) → erases ≡ true → is_ground now ≡ true → 0 < n
     → cells_text erases now (replicate n (space_with now)) ≡ erase_text
-spaces-erased erases now zero wanted ground some = absurd (let e : ⊥ = omega (arith, some) in e)
-spaces-erased erases now (suc n) wanted ground some =
+spaces_erased erases now zero wanted ground some = absurd (let e : ⊥ = omega (arith, some) in e)
+spaces_erased erases now (suc n) wanted ground some =
     cond-true (erases && is_blank_end (space_with now ∷ replicate n (space_with now))) _ _
-    (λ i. wanted i && (ground i && all-spaces now (suc n) i))
-    ∙ ap (λ (text : List ℕ). text ++ erase_text) (no-change now)
+    (λ i. wanted i && (ground i && all_spaces now (suc n) i))
+    ∙ ap (λ (text : List ℕ). text ++ erase_text) (no_change now)
 
-pub spaces-drawn : (erases : Bool) (now n : ℕ) → (erases && is_ground now) ≡ false
+pub spaces_drawn : (erases : Bool) (now n : ℕ) → (erases && is_ground now) ≡ false
     → cells_text erases now (replicate n (space_with now)) ≡ replicate n 0x20
-spaces-drawn erases now zero other = refl
-spaces-drawn erases now (suc n) other =
-    other-text erases now (space_with now) (replicate n (space_with now)) (none erases (is_ground now) other) refl
-    ∙ (λ i. no-change now i ++ (ascii-text 0x20 (omega arith) i ++ spaces-drawn erases now n other i))
+spaces_drawn erases now zero other = refl
+spaces_drawn erases now (suc n) other =
+    other_text erases now (space_with now) (replicate n (space_with now)) (none erases (is_ground now) other) refl
+    ∙ (λ i. no_change now i ++ (ascii_text 0x20 (omega arith) i ++ spaces_drawn erases now n other i))
   where
     none : (e g : Bool) → (e && g) ≡ false → (e && (g && are_spaces now (replicate (suc n) (space_with now)))) ≡ false
     none true g is = ap (λ (t : Bool). t && are_spaces now (replicate (suc n) (space_with now))) is
     none false g is = refl
 
 -- the pen's byte is set before a character
-pub byte-before : (erases : Bool) (now : ℕ) (c : Cell) (more : List Cell) → is_half c ≡ false
+pub byte_before : (erases : Bool) (now : ℕ) (c : Cell) (more : List Cell) → is_half c ≡ false
     → cells_text erases now (c ∷ more) ≡ byte_change now c.attr ++ cells_text erases c.attr (c ∷ more)
-byte-before erases now c more is = by (erases && is_blank_end (c ∷ more)) refl
+byte_before erases now c more is = by (erases && is_blank_end (c ∷ more)) refl
   where
     by : (t : Bool) → (erases && is_blank_end (c ∷ more)) ≡ t
         → cells_text erases now (c ∷ more) ≡ byte_change now c.attr ++ cells_text erases c.attr (c ∷ more)
     by true test =
         cond-true _ _ _ test
         ∙ ap (λ (text : List ℕ). byte_change now c.attr ++ text)
-        (sym (cond-true _ _ _ test ∙ ap (λ (text : List ℕ). text ++ erase_text) (no-change c.attr)))
+        (sym (cond-true _ _ _ test ∙ ap (λ (text : List ℕ). text ++ erase_text) (no_change c.attr)))
     by false test =
-        other-text erases now c more test is
+        other_text erases now c more test is
         ∙ ap (λ (text : List ℕ). byte_change now c.attr ++ text)
-        (sym (other-text erases c.attr c more test is
-        ∙ ap (λ (text : List ℕ). text ++ (glyph_text c.code ++ cells_text erases c.attr more)) (no-change c.attr)))
+        (sym (other_text erases c.attr c more test is
+        ∙ ap (λ (text : List ℕ). text ++ (glyph_text c.code ++ cells_text erases c.attr more)) (no_change c.attr)))
 
-no-end : (erases : Bool) (c : Cell) (more : List Cell) → (c.code == 0x20) ≡ false → (erases && is_blank_end (c ∷ more)) ≡ false
-no-end erases c more other =
+no_end : (erases : Bool) (c : Cell) (more : List Cell) → (c.code == 0x20) ≡ false → (erases && is_blank_end (c ∷ more)) ≡ false
+no_end erases c more other =
     ap (λ (t : Bool). erases && (is_ground c.attr && (t && c.attr == c.attr && are_spaces c.attr more))) other
-    ∙ ap (λ (t : Bool). erases && t) (and-none (is_ground c.attr)) ∙ and-none erases
+    ∙ ap (λ (t : Bool). erases && t) (and_none (is_ground c.attr)) ∙ and_none erases
 
 -- a character but the space, in the pen's byte
-pub glyph-before : (erases : Bool) (c : Cell) (more : List Cell) → (c.code == 0x20) ≡ false → is_half c ≡ false
+pub glyph_before : (erases : Bool) (c : Cell) (more : List Cell) → (c.code == 0x20) ≡ false → is_half c ≡ false
     → cells_text erases c.attr (c ∷ more) ≡ glyph_text c.code ++ cells_text erases c.attr more
-glyph-before erases c more other is =
-    other-text erases c.attr c more (no-end erases c more other) is
-    ∙ ap (λ (text : List ℕ). text ++ (glyph_text c.code ++ cells_text erases c.attr more)) (no-change c.attr)
+glyph_before erases c more other is =
+    other_text erases c.attr c more (no_end erases c more other) is
+    ∙ ap (λ (text : List ℕ). text ++ (glyph_text c.code ++ cells_text erases c.attr more)) (no_change c.attr)
 
 -- a half has no text
-pub half-passed : (erases : Bool) (now : ℕ) (c : Cell) (more : List Cell) → (c.code == 0x20) ≡ false → is_half c ≡ true
+pub half_passed : (erases : Bool) (now : ℕ) (c : Cell) (more : List Cell) → (c.code == 0x20) ≡ false → is_half c ≡ true
     → cells_text erases now (c ∷ more) ≡ cells_text erases now more
-half-passed erases now c more other is = cond-false _ _ _ (no-end erases c more other) ∙ cond-true (is_half c) _ _ is
+half_passed erases now c more other is = cond-false _ _ _ (no_end erases c more other) ∙ cond-true (is_half c) _ _ is
 
 -- a character but the space, or a half, in the pen's byte
-pub code-before : (erases : Bool) (now code : ℕ) (more : List Cell) → (code == 0x20) ≡ false
+pub code_before : (erases : Bool) (now code : ℕ) (more : List Cell) → (code == 0x20) ≡ false
     → cells_text erases now (record { code = code; attr = now } ∷ more) ≡ glyph_text code ++ cells_text erases now more
 unfolding glyph_text
-code-before erases now code more other = by (is_half cell) refl
+code_before erases now code more other = by (is_half cell) refl
   where
     cell : Cell
     cell = record { code = code; attr = now }
 
     by : (t : Bool) → is_half cell ≡ t
         → cells_text erases now (cell ∷ more) ≡ glyph_text code ++ cells_text erases now more
-    by false is = glyph-before erases cell more other is
+    by false is = glyph_before erases cell more other is
     by true is =
-        half-passed erases now cell more other is
+        half_passed erases now cell more other is
         ∙ ap (λ (text : List ℕ). text ++ cells_text erases now more)
         (sym (cond-false (is_character code) _ _ (ap is_character (eqb-true code half is))))
 
 -- a character that follows no spaces
-pub pushed-text : (erases : Bool) (old new : Pending) (code : ℕ) (more : List Cell) → (code == 0x20) ≡ false → old.blanks ≡ 0
+pub pushed_text : (erases : Bool) (old new : Pending) (code : ℕ) (more : List Cell) → (code == 0x20) ≡ false → old.blanks ≡ 0
     → new.front ≡ old.front ++ glyph_text code → new.blanks ≡ old.blanks → new.attr ≡ old.attr
     → pending_text erases new more ≡ pending_text erases old (record { code = code; attr = old.attr } ∷ more)
-pushed-text erases old new code more other none front blanks attr =
+pushed_text erases old new code more other none front blanks attr =
     (λ i. front i ++ cells_text erases (attr i) (replicate ((blanks ∙ none) i) (space_with (attr i)) ++ more))
     ∙ append_assoc old.front (glyph_text code) (cells_text erases old.attr more)
-    ∙ ap (λ (text : List ℕ). old.front ++ text) (sym (code-before erases old.attr code more other))
+    ∙ ap (λ (text : List ℕ). old.front ++ text) (sym (code_before erases old.attr code more other))
     ∙ (λ i. old.front ++ cells_text erases old.attr (replicate (sym none i) (space_with old.attr) ++ record { code = code; attr = old.attr } ∷ more))
 
 -- a character of ASCII but the space, behind spaces
-pub settled-text : (erases : Bool) (old new : Pending) (code : ℕ) (more : List Cell) → (code == 0x20) ≡ false → code < 128
+pub settled_text : (erases : Bool) (old new : Pending) (code : ℕ) (more : List Cell) → (code == 0x20) ≡ false → code < 128
     → new.front ≡ (old.front ++ replicate old.blanks 0x20) ++ code ∷ [] → new.blanks ≡ 0 → new.attr ≡ old.attr
     → pending_text erases new more ≡ pending_text erases old (record { code = code; attr = old.attr } ∷ more)
-settled-text erases old new code more other low front blanks attr =
+settled_text erases old new code more other low front blanks attr =
     let cell : Cell = record { code = code; attr = old.attr } in
     (λ i. front i ++ cells_text erases (attr i) (replicate (blanks i) (space_with (attr i)) ++ more))
     ∙ append_assoc (old.front ++ replicate old.blanks 0x20) (code ∷ []) (cells_text erases old.attr more)
     ∙ append_assoc old.front (replicate old.blanks 0x20) (code ∷ cells_text erases old.attr more)
     ∙ ap (λ (text : List ℕ). old.front ++ (replicate old.blanks 0x20 ++ text))
-    (sym (code-before erases old.attr code more other
-    ∙ ap (λ (text : List ℕ). text ++ cells_text erases old.attr more) (ascii-text code low)))
+    (sym (code_before erases old.attr code more other
+    ∙ ap (λ (text : List ℕ). text ++ cells_text erases old.attr more) (ascii_text code low)))
     ∙ ap (λ (text : List ℕ). old.front ++ text)
-    (sym (spaces-before erases old.attr old.blanks cell more
+    (sym (spaces_before erases old.attr old.blanks cell more
     (ap (λ (t : Bool). t && old.attr == old.attr) other)))
 
-spaces-then : (now n : ℕ) (more : List Cell) → replicate (suc n) (space_with now) ++ more ≡ replicate n (space_with now) ++ space_with now ∷ more
-spaces-then now zero more = refl
-spaces-then now (suc n) more = ap (λ (cells : List Cell). space_with now ∷ cells) (spaces-then now n more)
+spaces_then : (now n : ℕ) (more : List Cell) → replicate (suc n) (space_with now) ++ more ≡ replicate n (space_with now) ++ space_with now ∷ more
+spaces_then now zero more = refl
+spaces_then now (suc n) more = ap (λ (cells : List Cell). space_with now ∷ cells) (spaces_then now n more)
 
 -- one more space
-pub space-text : (erases : Bool) (old new : Pending) (code : ℕ) (more : List Cell) → code ≡ 0x20
+pub space_text : (erases : Bool) (old new : Pending) (code : ℕ) (more : List Cell) → code ≡ 0x20
     → new.front ≡ old.front → new.blanks ≡ old.blanks + 1 → new.attr ≡ old.attr
     → pending_text erases new more ≡ pending_text erases old (record { code = code; attr = old.attr } ∷ more)
-space-text erases old new code more space front blanks attr =
-    let one-more : old.blanks + 1 ≡ suc old.blanks = omega arith in
-    (λ i. front i ++ cells_text erases (attr i) (replicate ((blanks ∙ one-more) i) (space_with (attr i)) ++ more))
-    ∙ ap (λ (cells : List Cell). old.front ++ cells_text erases old.attr cells) (spaces-then old.attr old.blanks more)
+space_text erases old new code more space front blanks attr =
+    let one_more : old.blanks + 1 ≡ suc old.blanks = omega arith in
+    (λ i. front i ++ cells_text erases (attr i) (replicate ((blanks ∙ one_more) i) (space_with (attr i)) ++ more))
+    ∙ ap (λ (cells : List Cell). old.front ++ cells_text erases old.attr cells) (spaces_then old.attr old.blanks more)
     ∙ (λ i. old.front ++ cells_text erases old.attr (replicate old.blanks (space_with old.attr) ++ record { code = sym space i; attr = old.attr } ∷ more))
 
 -- a half has no text, and the spaces before it are no blank end
-pub half-text : (erases : Bool) (old new : Pending) (c : Cell) (more : List Cell) → c.code ≡ half
+pub half_text : (erases : Bool) (old new : Pending) (c : Cell) (more : List Cell) → c.code ≡ half
     → new.front ≡ old.front ++ replicate old.blanks 0x20 → new.blanks ≡ 0 → new.attr ≡ old.attr
     → pending_text erases new more ≡ pending_text erases old (c ∷ more)
-half-text erases old new c more is front blanks attr =
+half_text erases old new c more is front blanks attr =
     let other : (c.code == 0x20) ≡ false = ap (λ (code : ℕ). code == 0x20) is in
     (λ i. front i ++ cells_text erases (attr i) (replicate (blanks i) (space_with (attr i)) ++ more))
     ∙ append_assoc old.front (replicate old.blanks 0x20) (cells_text erases old.attr more)
     ∙ ap (λ (text : List ℕ). old.front ++ (replicate old.blanks 0x20 ++ text))
-    (sym (half-passed erases old.attr c more other (eq-eqb c.code half is)))
+    (sym (half_passed erases old.attr c more other (eq-eqb c.code half is)))
     ∙ ap (λ (text : List ℕ). old.front ++ text)
-    (sym (spaces-before erases old.attr old.blanks c more (ap (λ (t : Bool). t && c.attr == old.attr) other)))
+    (sym (spaces_before erases old.attr old.blanks c more (ap (λ (t : Bool). t && c.attr == old.attr) other)))
 
 -- what is no ASCII in the pen's byte is no blank of it
-no-blank : (attr : ℕ) (c : Cell) → (attr ≡ c.attr → 128 ≤ c.code) → (c.code == 0x20 && c.attr == attr) ≡ false
-no-blank attr c other = by (c.attr == attr) refl
+no_blank : (attr : ℕ) (c : Cell) → (attr ≡ c.attr → 128 ≤ c.code) → (c.code == 0x20 && c.attr == attr) ≡ false
+no_blank attr c other = by (c.attr == attr) refl
   where
     by : (t : Bool) → (c.attr == attr) ≡ t → (c.code == 0x20 && c.attr == attr) ≡ false
-    by false is = ap (λ (t : Bool). c.code == 0x20 && t) is ∙ and-none (c.code == 0x20)
+    by false is = ap (λ (t : Bool). c.code == 0x20 && t) is ∙ and_none (c.code == 0x20)
     by true is =
         let high : 128 ≤ c.code = other (sym (eqb-true c.attr attr is)) in
         ap (λ (t : Bool). t && c.attr == attr) (ne_eqb c.code 0x20 (λ e. let none : ⊥ = omega (arith, high, e) in none))
 
 -- a cell that is no ASCII in the pen's byte, behind spaces: the pen's byte is set before it
-pub changed-text : (erases : Bool) (old settled new : Pending) (c : Cell) (more : List Cell) (before after : List ℕ)
+pub changed_text : (erases : Bool) (old settled new : Pending) (c : Cell) (more : List Cell) (before after : List ℕ)
     → (old.attr ≡ c.attr → 128 ≤ c.code) → (c.code ≡ half → ⊥)
     → settled.front ≡ old.front ++ replicate old.blanks 0x20 → settled.blanks ≡ 0 → settled.attr ≡ old.attr
     → after ++ new.front ≡ before ++ (settled.front ++ byte_change settled.attr c.attr)
     → new.attr ≡ c.attr → new.blanks ≡ settled.blanks
     → after ++ pending_text erases new (record { code = c.code; attr = new.attr } ∷ more)
     ≡ before ++ pending_text erases old (c ∷ more)
-changed-text erases old settled new c more before after other whole front blanks attr text set same =
+changed_text erases old settled new c more before after other whole front blanks attr text set same =
     let here : List ℕ = cells_text erases c.attr (c ∷ more) in
     let change : List ℕ = byte_change old.attr c.attr in
     let spaces : List ℕ = replicate old.blanks 0x20 in
@@ -205,21 +205,21 @@ changed-text erases old settled new c more before after other whole front blanks
     ∙ ap (λ (t : List ℕ). before ++ t)
     (append_assoc (old.front ++ spaces) change here
     ∙ append_assoc old.front spaces (change ++ here)
-    ∙ ap (λ (t : List ℕ). old.front ++ (spaces ++ t)) (sym (byte-before erases old.attr c more (ne_eqb c.code half whole)))
-    ∙ ap (λ (t : List ℕ). old.front ++ t) (sym (spaces-before erases old.attr old.blanks c more (no-blank old.attr c other))))
+    ∙ ap (λ (t : List ℕ). old.front ++ (spaces ++ t)) (sym (byte_before erases old.attr c more (ne_eqb c.code half whole)))
+    ∙ ap (λ (t : List ℕ). old.front ++ t) (sym (spaces_before erases old.attr old.blanks c more (no_blank old.attr c other))))
 
 -- what is pending at the end of a row
-pub last-erased : (erases : Bool) (p : Pending) → (erases && (is_ground p.attr && nat_lt 0 p.blanks)) ≡ true
+pub last_erased : (erases : Bool) (p : Pending) → (erases && (is_ground p.attr && nat_lt 0 p.blanks)) ≡ true
     → pending_text erases p [] ≡ p.front ++ erase_text
-last-erased erases p is =
+last_erased erases p is =
     let whole = and_parts erases (is_ground p.attr && nat_lt 0 p.blanks) is in
     let parts = and_parts (is_ground p.attr) (nat_lt 0 p.blanks) whole.1 in
     ap (λ (cells : List Cell). p.front ++ cells_text erases p.attr cells) (append-nil (replicate p.blanks (space_with p.attr)))
-    ∙ ap (λ (text : List ℕ). p.front ++ text) (spaces-erased erases p.attr p.blanks whole.0 parts.0 (ltb-true 0 p.blanks parts.1))
+    ∙ ap (λ (text : List ℕ). p.front ++ text) (spaces_erased erases p.attr p.blanks whole.0 parts.0 (ltb-true 0 p.blanks parts.1))
 
-pub last-drawn : (erases : Bool) (p : Pending) → (erases && (is_ground p.attr && nat_lt 0 p.blanks)) ≡ false
+pub last_drawn : (erases : Bool) (p : Pending) → (erases && (is_ground p.attr && nat_lt 0 p.blanks)) ≡ false
     → pending_text erases p [] ≡ p.front ++ replicate p.blanks 0x20
-last-drawn erases p other =
+last_drawn erases p other =
     ap (λ (cells : List Cell). p.front ++ cells_text erases p.attr cells) (append-nil (replicate p.blanks (space_with p.attr)))
     ∙ ap (λ (text : List ℕ). p.front ++ text) (by p.blanks other)
   where
@@ -232,5 +232,5 @@ last-drawn erases p other =
         → cells_text erases p.attr (replicate n (space_with p.attr)) ≡ replicate n 0x20
     by zero is = refl
     by (suc n) is =
-        spaces-drawn erases p.attr (suc n)
+        spaces_drawn erases p.attr (suc n)
         (none erases (is_ground p.attr) (nat_lt 0 (suc n)) (lt-ltb 0 (suc n) (omega arith)) is)

@@ -4,6 +4,7 @@
 mod cells;
 mod drawable;
 mod drawing;
+mod filled_rows;
 mod laws;
 mod modes;
 mod palette;

@@ -1,5 +1,5 @@
 use Rattle.std.proofs.Common.{ℕ, List, ◌++◌, sym, ap, ◌∙◌, append_assoc}
-use Rattle.vt_redraw.proofs.Pendings.{last-drawn, last-erased}
+use Rattle.vt_redraw.proofs.Pendings.{last_drawn, last_erased}
 use Rattle.vt_redraw.specs.Sequences.{erase_text}
 use Rattle.vt_redraw.proofs.cells.add_last.Goals as goal
 
@@ -12,7 +12,7 @@ returns-then-ends_with_erase c =
     (c.in_ok-add.ensures ∙ ap (λ (text : List ℕ). before ++ text) c.as_slice.ensures.list)
     ∙ append_assoc before front erase_text
     ∙ ap (λ (text : List ℕ). before ++ text)
-    (sym (last-erased c.args.erases c.args.pending.now (sym c.ends_with_erase.ensures ∙ c.if-ends_with_erase.true)))
+    (sym (last_erased c.args.erases c.args.pending.now (sym c.ends_with_erase.ensures ∙ c.if-ends_with_erase.true)))
 
 pub returns : goal.returns
 returns c =
@@ -20,4 +20,4 @@ returns c =
     ∙ ap (λ (text : List ℕ). c.args.text.now.bytes ++ text)
     (c.as_slice-2.ensures.list
     ∙ c.settle.ensures.front
-    ∙ sym (last-drawn c.args.erases c.args.pending.now (sym c.ends_with_erase.ensures ∙ c.if-ends_with_erase.false)))
+    ∙ sym (last_drawn c.args.erases c.args.pending.now (sym c.ends_with_erase.ensures ∙ c.if-ends_with_erase.false)))
