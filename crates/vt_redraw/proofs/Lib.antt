@@ -1,4 +1,5 @@
 mod Alike
+mod Digits
 mod Does
 mod Glyphs
 mod Joins

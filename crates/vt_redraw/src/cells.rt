@@ -1,14 +1,14 @@
 //! Rows of cells, added to a text.
 ghost use Rattle.std.specs.Prelude.{◌≡◌, ◌<◌, ◌≤◌, ◌+◌, ◌++◌, ◌∷◌, ◌&&◌, [], Bool, List, length, nat_lt, OnOk};
 ghost use Rattle.vt_redraw.specs.Cells.{byte_change, cells_text, is_ground, row_text};
-ghost use Rattle.vt_redraw.specs.Pending.{pending_text};
+ghost use Rattle.vt_redraw.specs.Pending.{pending_text, start_of_byte};
 ghost use Rattle.vt_redraw.specs.Sequences.{byte_text};
 ghost use Rattle.vt_cells.specs.AttrByte.{vga};
 ghost use Rattle.vt_cells.specs.declared.cell.Cell.{Cell};
 ghost use Rattle.vt_grid.specs.Grid.{row_at};
 
 use crate::pending::Pending;
-use crate::sequences::{add, add_erase, add_place, add_sequence};
+use crate::sequences::{add, add_erase, add_place};
 use std::alloc::Global;
 use vt_base::{Bytes, NoMemory};
 use vt_cells::{Cell, HALF};
@@ -134,17 +134,25 @@ fn is_ground(b: u16) -> bool
 }
 
 // Adds SGR for an attribute byte.
-#[tactic(auto, unfolding(crate::specs::Sequences::byte_text))]
 fn add_byte(alloc: Global, text: &mut Bytes, b: u8) -> Result<(), NoMemory>
     ensures { OnOk result (text.new.bytes ≡ text.old.bytes ++ byte_text b) }
 {
-    let fg = 30 + vga(b % 8);
-    let bg = 40 + vga(b / 16 % 8);
+    let fg = b'0' + vga(b % 8);
+    let bg = b'0' + vga(b / 16 % 8);
+    add(alloc, text, start_of_byte(b))?;
+    add(alloc, text, &[fg, b';', b'4', bg, b'm'])?;
+    Ok(())
+}
+
+// SGR for an attribute byte up to the digit of its first colour.
+fn start_of_byte<'a>(b: u8) -> &'a [u8]
+    ensures { result.now ≡ start_of_byte b }
+{
     match (b / 8 % 2 == 1, b / 128 == 1) {
-        (true, true) => add_sequence(alloc, text, 0, &[1, 5, fg, bg], b'm'),
-        (true, false) => add_sequence(alloc, text, 0, &[1, fg, bg], b'm'),
-        (false, true) => add_sequence(alloc, text, 0, &[5, fg, bg], b'm'),
-        (false, false) => add_sequence(alloc, text, 0, &[fg, bg], b'm'),
+        (true, true) => b"\x1b[0;1;5;3",
+        (true, false) => b"\x1b[0;1;3",
+        (false, true) => b"\x1b[0;5;3",
+        (false, false) => b"\x1b[0;3",
     }
 }
 

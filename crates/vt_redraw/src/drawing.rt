@@ -54,7 +54,7 @@ fn whole_text(alloc: Global, emu: &Emu) -> Result<Bytes, NoMemory>
     requires { IsTrue (is_redrawable emu.now.state) }
     ensures { IfOk result (λ text. text.bytes ≡ redraw_of emu.now.state) }
 {
-    let mut text = Bytes::new(alloc);
+    let mut text = Bytes::with_room(alloc, 4_096)?;
     add_setting(alloc, &mut text)?;
     add_clearing(alloc, &mut text)?;
     add_rows_but(alloc, &mut text, emu.grid(), BLANK)?;
