@@ -1,5 +1,5 @@
 -- The digits of the colours of an attribute byte.
-use Rattle.std.proofs.Common.{◌≡◌, ℕ, zero, suc, ◌+◌, ◌/◌, ◌%◌, ◌<◌, ◌==◌, Bool, true, false, List, [], ◌∷◌, ◌++◌, refl, ◌∙◌, arith}
+use Rattle.std.proofs.Common.{◌≡◌, ℕ, zero, suc, ◌+◌, ◌/◌, ◌%◌, ◌<◌, ◌==◌, Bool, true, false, [], ◌∷◌, ◌++◌, refl, arith}
 use Rattle.std.specs.Fmt.{decimal, digits}
 use Rattle.std.specs.Prelude.{if◌then◌else◌}
 use Rattle.vt_cells.specs.AttrByte.{vga}

@@ -1,4 +1,4 @@
-use Rattle.std.proofs.Common.{ℕ, ◌≡◌, ◌+◌, List, ◌++◌, drop, get_or, replicate, [], length, sym, ap, ◌∙◌, append_assoc, arith}
+use Rattle.std.proofs.Common.{ℕ, ◌≡◌, ◌+◌, List, ◌++◌, drop, get_or, replicate, [], sym, ap, ◌∙◌, append_assoc, arith}
 use Rattle.std.proofs.lemmas.List.{get_or-replicate, length-replicate}
 use Rattle.vt_cells.specs.declared.cell.Cell.{Cell}
 use Rattle.vt_redraw.proofs.Joins.{row_differs, row_stays, rows_more}
