@@ -1,5 +1,5 @@
 mod Alike
-mod Counts
+mod Digits
 mod Does
 mod Glyphs
 mod Joins
@@ -9,6 +9,7 @@ mod Numbers
 mod Overlays
 mod Paints
 mod Palettes
+mod Pendings
 mod Pens
 mod Prints
 mod Redrawing

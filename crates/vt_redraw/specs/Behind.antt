@@ -20,8 +20,9 @@ pub record IsAlike (s t : Screen) : Type 0 where
   pub all : s.grid.cols ≤ length s.state.stops
   pub few : s.grid.cols ≤ 255
 
--- where both have the same user's table, every text behind a screen and behind the one that was drawn again makes the same
--- cells and the same state, but for tab stops past the columns, says the same, and leaves the same text pending
+-- where both have the same user's table, every text behind a screen and behind the one that was drawn
+-- again makes the same cells and the same state, but for tab stops past the columns, says the same, and
+-- leaves the same text pending
 abbrev pub TextsFollow : Type 0
 TextsFollow =
     (s other : Screen) (m : Mode) (bytes : List ℕ) → IsStored s → s.state.map ≡ other.state.map

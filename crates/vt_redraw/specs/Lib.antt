@@ -1,7 +1,7 @@
 pub mod Behind
-pub mod Blanks
 pub mod Cells
 pub mod Drawable
+pub mod Pending
 pub mod Redraw
 pub mod Sequences
 pub mod State

@@ -1,13 +1,14 @@
 //! Rows of cells, added to a text.
-ghost use Rattle.std.specs.Prelude.{◌≡◌, ◌<◌, ◌≤◌, ◌+◌, ◌++◌, ◌∷◌, List, length, true, OnOk};
-ghost use Rattle.vt_redraw.specs.Blanks.{blank_count, count_behind, end_count};
-ghost use Rattle.vt_redraw.specs.Cells.{byte_change, cells_text, changed_rows, glyph_text, is_ground, row_text};
-ghost use Rattle.vt_redraw.specs.Sequences.{byte_text, erase_text};
+ghost use Rattle.std.specs.Prelude.{◌≡◌, ◌<◌, ◌≤◌, ◌+◌, ◌++◌, ◌∷◌, ◌&&◌, [], Bool, List, length, nat_lt, OnOk};
+ghost use Rattle.vt_redraw.specs.Cells.{byte_change, cells_text, is_ground, row_text};
+ghost use Rattle.vt_redraw.specs.Pending.{pending_text, start_of_byte};
+ghost use Rattle.vt_redraw.specs.Sequences.{byte_text};
 ghost use Rattle.vt_cells.specs.AttrByte.{vga};
 ghost use Rattle.vt_cells.specs.declared.cell.Cell.{Cell};
 ghost use Rattle.vt_grid.specs.Grid.{row_at};
 
-use crate::sequences::{add, add_erase, add_place, add_sequence};
+use crate::pending::Pending;
+use crate::sequences::{add, add_erase, add_place};
 use std::alloc::Global;
 use vt_base::{Bytes, NoMemory};
 use vt_cells::{Cell, HALF};
@@ -15,6 +16,9 @@ use vt_grid::Grid;
 
 /// No attribute byte: the pen's isn't known.
 const UNKNOWN: u16 = 256;
+
+/// The first code that isn't ASCII.
+const ASCII_END: u32 = 128;
 
 /// Adds a row.
 pub(crate) fn add_row(alloc: Global, text: &mut Bytes, g: &Grid, y: u8) -> Result<(), NoMemory>
@@ -39,100 +43,116 @@ pub(crate) fn add_cells(
         ≡ text.old.bytes ++ cells_text erases 256 (row_at g.now y)) }
 {
     g.stays_full();
-    let blanks = if erases { blank_count(g, y) } else { 0 };
-    let mut left = g.size().cols;
-    let mut now = UNKNOWN;
+    let mut pending = Pending::new(UNKNOWN);
     for cell in g.row(y) {
-        if left == blanks {
-            add_blanks(alloc, text, now, cell.attr)?;
-            return Ok(());
-        }
-        left -= 1;
-        if cell.code != HALF {
-            add_character(alloc, text, now, cell)?;
-            now = u16::from(cell.attr);
+        if pending.attr == u16::from(cell.attr) && cell.code < ASCII_END {
+            pending.push_ascii(cell.code as u8);
+        } else {
+            add_other(alloc, text, &mut pending, cell)?;
         }
     }
+    add_last(alloc, text, &mut pending, erases)
+}
+
+// Draws a cell that is no ASCII in the pen's byte.
+#[inline(never)]
+fn add_other(
+    alloc: Global,
+    text: &mut Bytes,
+    pending: &mut Pending,
+    cell: Cell,
+) -> Result<(), NoMemory>
+    requires other { pending.old.attr ≡ cell.attr → 128 ≤ cell.code }
+    requires room { length pending.old.front + pending.old.blanks + 4 ≤ 1020 }
+    ensures text { OnOk result ((erases : Bool) (more : List Cell)
+        → text.new.bytes ++ pending_text erases pending.new more
+        ≡ text.old.bytes ++ pending_text erases pending.old (cell ∷ more)) }
+    ensures few { OnOk result (length pending.new.front + pending.new.blanks
+        ≤ length pending.old.front + pending.old.blanks + 4) }
+{
+    pending.settle();
+    if cell.code == HALF {
+        return Ok(());
+    }
+    add_change(alloc, text, pending, cell.attr)?;
+    pending.push(cell.code);
     Ok(())
 }
 
-// Adds a blank end.
-fn add_blanks(alloc: Global, text: &mut Bytes, now: u16, attr: u8) -> Result<(), NoMemory>
-    ensures { OnOk result (text.new.bytes ≡ text.old.bytes ++ (byte_change now attr ++ erase_text)) }
+// Sets the pen's byte behind what is pending, unless it is this one.
+fn add_change(alloc: Global, text: &mut Bytes, pending: &mut Pending, b: u8) -> Result<(), NoMemory>
+    ensures text { OnOk result (text.new.bytes ++ pending.new.front
+        ≡ text.old.bytes ++ (pending.old.front ++ byte_change pending.old.attr b)) }
+    ensures attr { OnOk result (pending.new.attr ≡ b) }
+    ensures blanks { OnOk result (pending.new.blanks ≡ pending.old.blanks) }
+    ensures few { OnOk result (length pending.new.front ≤ length pending.old.front) }
 {
-    add_change(alloc, text, now, attr)?;
-    add_erase(alloc, text)
+    if pending.attr == u16::from(b) {
+        return Ok(());
+    }
+    add(alloc, text, pending.front.as_slice())?;
+    add_byte(alloc, text, b)?;
+    pending.front.clear();
+    pending.attr = u16::from(b);
+    Ok(())
 }
 
-// Adds a cell's character, with its byte.
-fn add_character(alloc: Global, text: &mut Bytes, now: u16, cell: Cell) -> Result<(), NoMemory>
+// Adds what is pending at the end of a row, with an erase of a blank end if one is wanted.
+fn add_last(
+    alloc: Global,
+    text: &mut Bytes,
+    pending: &mut Pending,
+    erases: bool,
+) -> Result<(), NoMemory>
+    requires { length pending.old.front + pending.old.blanks ≤ 1020 }
     ensures { OnOk result (text.new.bytes
-        ≡ text.old.bytes ++ (byte_change now cell.attr ++ glyph_text cell.code)) }
+        ≡ text.old.bytes ++ pending_text erases pending.old []) }
 {
-    add_change(alloc, text, now, cell.attr)?;
-    add_glyph(alloc, text, cell.code)
-}
-
-// How many cells at the end of a row are one blank that an erase leaves.
-fn blank_count(g: &Grid, y: u8) -> u8
-    requires row { y < g.now.rows }
-    ensures { result ≡ blank_count (row_at g.now y) }
-{
-    g.stays_full();
-    let mut count = 0;
-    let mut attr = 0;
-    for cell in g.row(y) {
-        (count, attr) = next_count(count, attr, cell);
+    if ends_with_erase(pending, erases) {
+        add(alloc, text, pending.front.as_slice())?;
+        add_erase(alloc, text)?;
+        return Ok(());
     }
-    count
+    pending.settle();
+    add(alloc, text, pending.front.as_slice())?;
+    Ok(())
 }
 
-// The blanks that stand together before and at a cell.
-fn next_count(count: u8, attr: u8, cell: Cell) -> (u8, u8)
-    requires few { count < 255 }
-    requires ground { 0 < count → is_ground attr ≡ true }
-    ensures count { (more : List Cell)
-        → count_behind result.0 result.1 more ≡ count_behind count attr (cell ∷ more) }
-    ensures ground { 0 < result.0 → is_ground result.1 ≡ true }
-    ensures few { result.0 ≤ count + 1 }
+// Whether an erase takes the place of the spaces that what is pending ends with.
+fn ends_with_erase(pending: &Pending, erases: bool) -> bool
+    ensures { result
+        ≡ (erases && (is_ground pending.now.attr && nat_lt 0 pending.now.blanks)) }
 {
-    if cell.code != 0x20 || !is_ground(cell.attr) {
-        (0, attr)
-    } else if cell.attr == attr {
-        (count + 1, attr)
-    } else {
-        (1, cell.attr)
-    }
+    erases && is_ground(pending.attr) && 0 < pending.blanks
 }
 
-fn is_ground(b: u8) -> bool
+// Whether the byte is two colours alone: such blanks are what an erase leaves.
+fn is_ground(b: u16) -> bool
     ensures { result ≡ is_ground b }
 {
     b / 128 == 0 && b / 8 % 2 == 0
 }
 
-// Adds what sets the pen's byte, unless it is this one.
-fn add_change(alloc: Global, text: &mut Bytes, now: u16, b: u8) -> Result<(), NoMemory>
-    ensures { OnOk result (text.new.bytes ≡ text.old.bytes ++ byte_change now b) }
-{
-    if now == u16::from(b) {
-        return Ok(());
-    }
-    add_byte(alloc, text, b)
-}
-
 // Adds SGR for an attribute byte.
-#[tactic(auto, unfolding(crate::specs::Sequences::byte_text))]
 fn add_byte(alloc: Global, text: &mut Bytes, b: u8) -> Result<(), NoMemory>
     ensures { OnOk result (text.new.bytes ≡ text.old.bytes ++ byte_text b) }
 {
-    let fg = 30 + vga(b % 8);
-    let bg = 40 + vga(b / 16 % 8);
+    let fg = b'0' + vga(b % 8);
+    let bg = b'0' + vga(b / 16 % 8);
+    add(alloc, text, start_of_byte(b))?;
+    add(alloc, text, &[fg, b';', b'4', bg, b'm'])?;
+    Ok(())
+}
+
+// SGR for an attribute byte up to the digit of its first colour.
+fn start_of_byte<'a>(b: u8) -> &'a [u8]
+    ensures { result.now ≡ start_of_byte b }
+{
     match (b / 8 % 2 == 1, b / 128 == 1) {
-        (true, true) => add_sequence(alloc, text, 0, &[1, 5, fg, bg], b'm'),
-        (true, false) => add_sequence(alloc, text, 0, &[1, fg, bg], b'm'),
-        (false, true) => add_sequence(alloc, text, 0, &[5, fg, bg], b'm'),
-        (false, false) => add_sequence(alloc, text, 0, &[fg, bg], b'm'),
+        (true, true) => b"\x1b[0;1;5;3",
+        (true, false) => b"\x1b[0;1;3",
+        (false, true) => b"\x1b[0;5;3",
+        (false, false) => b"\x1b[0;3",
     }
 }
 
@@ -148,19 +168,5 @@ fn vga(c: u8) -> u8
         4 => 1,
         6 => 3,
         _ => c,
-    }
-}
-
-// Adds a character, if the code is one's.
-#[tactic(auto, unfolding(crate::specs::Cells::glyph_text))]
-fn add_glyph(alloc: Global, text: &mut Bytes, code: u32) -> Result<(), NoMemory>
-    ensures { OnOk result (text.new.bytes ≡ text.old.bytes ++ glyph_text code) }
-{
-    match char::from_u32(code) {
-        Some(c) => {
-            let mut buffer = [0; 4];
-            add(alloc, text, c.encode_utf8(&mut buffer).as_bytes())
-        }
-        None => Ok(()),
     }
 }

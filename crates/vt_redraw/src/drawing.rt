@@ -6,6 +6,7 @@ ghost use Rattle.vt_redraw.specs.Redraw.{IsSameSize, Redraws, changes_of, redraw
 ghost use Rattle.vt_screen.specs.Screen.{IsWhole, Screen};
 
 use crate::cells::add_row;
+use crate::filled_rows::add_rows_but;
 use crate::laws::screens_redraw;
 use crate::modes::{add_clearing, add_setting};
 use crate::state::add_state;
@@ -53,11 +54,10 @@ fn whole_text(alloc: Global, emu: &Emu) -> Result<Bytes, NoMemory>
     requires { IsTrue (is_redrawable emu.now.state) }
     ensures { IfOk result (λ text. text.bytes ≡ redraw_of emu.now.state) }
 {
-    let mut text = Bytes::new(alloc);
-    let blank = Grid::blank(alloc, emu.grid().size(), BLANK)?;
+    let mut text = Bytes::with_room(alloc, 4_096)?;
     add_setting(alloc, &mut text)?;
     add_clearing(alloc, &mut text)?;
-    add_changed_rows(alloc, &mut text, &blank, emu.grid())?;
+    add_rows_but(alloc, &mut text, emu.grid(), BLANK)?;
     add_state(alloc, &mut text, emu)?;
     Ok(text)
 }

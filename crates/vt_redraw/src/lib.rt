@@ -4,10 +4,12 @@
 mod cells;
 mod drawable;
 mod drawing;
+mod filled_rows;
 mod laws;
 mod modes;
 mod palette;
 mod pen;
+mod pending;
 mod sequences;
 mod state;
 mod stored;
