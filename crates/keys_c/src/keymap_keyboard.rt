@@ -1,0 +1,111 @@
+ghost use Rattle.std.specs.Prelude.{◌≡◌, ◌≤◌, Some, length};
+ghost use Rattle.key_tables.specs.Tables.{func_of};
+ghost use Rattle.keys_c.specs.KeyboardView.{start_keyboard, with_keys_up, with_state, with_string};
+ghost use Rattle.keys_c.specs.Scanning.{after_event, after_scan, out_in_mode, scanned};
+
+use key_machine::{KbState, KeyBytes, KeyModes, KeyOut, Keyboard, mode};
+use key_tables::KeyTables;
+use scan_codes::{KeyEvent, Scanner};
+use std::marker::Model;
+
+/// A keymap's tables, and a keyboard that types by them into one console.
+#[derive(Drop)]
+pub(crate) struct KeymapKeyboard {
+    tables: KeyTables,
+    scanner: Scanner,
+    keyboard: Keyboard,
+    state: KbState,
+}
+
+impl Model for KeymapKeyboard {
+    ghost use Rattle.keys_c.specs.KeyboardView.{KeyboardView, keyboard_of};
+
+    ghost Value = { KeyboardView };
+
+    ghost view = { λ k. keyboard_of k.tables k.scanner k.keyboard k.state };
+}
+
+impl KeymapKeyboard {
+    /// Nothing was typed yet.
+    pub(crate) fn start(tables: KeyTables) -> KeymapKeyboard
+        ensures { result ≡ start_keyboard tables }
+    {
+        KeymapKeyboard {
+            tables,
+            scanner: Scanner::start(),
+            keyboard: Keyboard::start(),
+            state: KbState::start(),
+        }
+    }
+
+    /// Reads a scan byte, and types the key that it ends.
+    pub(crate) fn scan(&mut self, byte: u8, modes: KeyModes) -> KeyOut
+        ensures keyboard { self.new ≡ (after_scan modes byte self.old).keyboard }
+        ensures out { result ≡ (after_scan modes byte self.old).out }
+    {
+        let mode = self.state.mode;
+        let out = match self.scanner.push(byte) {
+            Some(event) => self.type_key(event, modes),
+            None => KeyOut::Nothing,
+        };
+        out_in_mode(mode, byte, out)
+    }
+
+    // A key goes down, again where it repeats, or up.
+    fn type_key(&mut self, event: KeyEvent, modes: KeyModes) -> KeyOut
+        ensures keyboard { self.new ≡ (after_event modes self.old (Some event)).keyboard }
+        ensures out { result ≡ (after_event modes self.old (Some event)).out }
+    {
+        let mut state = self.state;
+        let out = self.keyboard.key(0, event, &self.tables, &mut state, modes);
+        self.state = state;
+        out
+    }
+
+    /// No key is down any more.
+    pub(crate) fn release(&mut self)
+        ensures { self.new ≡ with_keys_up self.old }
+    {
+        self.keyboard.unplug(0);
+    }
+
+    pub(crate) fn state(&self) -> KbState
+        ensures { result ≡ self.now.state }
+    {
+        self.state
+    }
+
+    pub(crate) fn set_state(&mut self, state: KbState)
+        ensures { self.new ≡ with_state self.old state }
+    {
+        self.state = state;
+    }
+
+    /// The string of a function key.
+    pub(crate) fn string(&self, number: u8) -> &[u8]
+        ensures text { result.now ≡ func_of self.now.tables number }
+        ensures short { length result.now ≤ 255 }
+    {
+        self.tables.func(number)
+    }
+
+    pub(crate) fn set_string(&mut self, number: u8, text: &[u8])
+        requires { length text.now ≤ 255 }
+        ensures { self.new ≡ with_string self.old number text.now }
+    {
+        self.tables.set_func(number, text);
+    }
+}
+
+// In K_RAW the byte goes out itself, unless the attention key acts.
+fn out_in_mode(mode: u8, byte: u8, out: KeyOut) -> KeyOut
+    ensures { result ≡ out_in_mode mode byte out }
+{
+    if mode != mode::RAW {
+        return out;
+    }
+    match out {
+        KeyOut::Attention => KeyOut::Attention,
+        _ => KeyOut::Bytes(KeyBytes::of(&[byte])),
+    }
+}

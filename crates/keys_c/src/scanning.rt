@@ -1,0 +1,48 @@
+//! Scan bytes typed, and all keys released.
+ghost use Rattle.std.specs.Prelude.{◌≡◌, None, Some, true, MatchOption};
+ghost use Rattle.keys_c.specs.Answers.{Changes};
+ghost use Rattle.keys_c.specs.Codes.{NOTHING, OK};
+ghost use Rattle.keys_c.specs.KeyboardView.{with_keys_up};
+ghost use Rattle.keys_c.specs.Modes.{modes_of};
+ghost use Rattle.keys_c.specs.Scanning.{after_scan, handed};
+
+use crate::code;
+use crate::handle::KeysHandle;
+use crate::vt_key::VtKey;
+use crate::vt_modes::VtModes;
+use std::alloc::Global;
+
+/// Types a scan byte, and puts what it says where C finds it.
+#[unsafe(no_mangle)]
+pub extern "C" fn vt_keys_scan(
+    h: &mut KeysHandle,
+    alloc: Global,
+    byte: u8,
+    modes: &VtModes,
+    out: &mut VtKey,
+) -> u8
+    ensures keyboard { Changes h.old.value true (λ k. (after_scan (modes_of modes.now) byte k).keyboard) result h.new.value }
+    ensures out { MatchOption h.old.value (out.new ≡ out.old)
+        (λ k. out.new ≡ handed (after_scan (modes_of modes.now) byte k).out out.old) }
+{
+    let Some(mut keyboard) = h.take(alloc) else {
+        return code::NOTHING;
+    };
+    let said = keyboard.scan(byte, modes.modes());
+    h.put(keyboard);
+    out.hand_over(&said);
+    code::OK
+}
+
+/// Releases all keys: none is down any more, and nothing goes out.
+#[unsafe(no_mangle)]
+pub extern "C" fn vt_keys_release(h: &mut KeysHandle, alloc: Global) -> u8
+    ensures { Changes h.old.value true with_keys_up result h.new.value }
+{
+    let Some(mut keyboard) = h.take(alloc) else {
+        return code::NOTHING;
+    };
+    keyboard.release();
+    h.put(keyboard);
+    code::OK
+}
