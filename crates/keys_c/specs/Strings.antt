@@ -1,4 +1,4 @@
--- The string of a function key, handed over to C.
+-- The string of a function key, vt_key_of over to C.
 use Rattle.std.specs.Prelude.{◌≡◌, ℕ, ◌++◌, Bool, true, false, List, Option, Some, None, drop, length, nat_le}
 use Rattle.key_tables.specs.Tables.{func_of}
 use Rattle.keys_c.specs.Codes.{NOTHING, NO_ROOM, OK, RANGE}
@@ -12,7 +12,7 @@ pub record Room : Type 0 where
 abbrev pub room_of : List ℕ → ℕ → Room
 room_of text count = record { text = text; length = count }
 
--- a string is handed over where there is room for it, and its length in any case
+-- a string is vt_key_of over where there is room for it, and its length in any case
 abbrev pub HandsIf : Bool → List ℕ → ℕ → Room → Room → Type 0
 HandsIf true string code old new =
     (code ≡ OK) × (new ≡ room_of (string ++ drop (length string) old.text) (length string))

@@ -1,7 +1,7 @@
 ghost use Rattle.std.specs.Prelude.{◌≡◌, ◌≤◌, Some, length};
 ghost use Rattle.key_tables.specs.Tables.{func_of};
 ghost use Rattle.keys_c.specs.KeyboardView.{start_keyboard, with_keys_up, with_state, with_string};
-ghost use Rattle.keys_c.specs.Scanning.{after_event, after_scan, out_in_mode, scanned};
+ghost use Rattle.keys_c.specs.Scanning.{event_step, byte_step, out_in_mode, scan_step};
 
 use key_machine::{KbState, KeyBytes, KeyModes, KeyOut, Keyboard, mode};
 use key_tables::KeyTables;
@@ -40,8 +40,8 @@ impl KeymapKeyboard {
 
     /// Reads a scan byte, and types the key that it ends.
     pub(crate) fn scan(&mut self, byte: u8, modes: KeyModes) -> KeyOut
-        ensures keyboard { self.new ≡ (after_scan modes byte self.old).keyboard }
-        ensures out { result ≡ (after_scan modes byte self.old).out }
+        ensures keyboard { self.new ≡ (byte_step modes byte self.old).keyboard }
+        ensures out { result ≡ (byte_step modes byte self.old).out }
     {
         let mode = self.state.mode;
         let out = match self.scanner.push(byte) {
@@ -53,8 +53,8 @@ impl KeymapKeyboard {
 
     // A key goes down, again where it repeats, or up.
     fn type_key(&mut self, event: KeyEvent, modes: KeyModes) -> KeyOut
-        ensures keyboard { self.new ≡ (after_event modes self.old (Some event)).keyboard }
-        ensures out { result ≡ (after_event modes self.old (Some event)).out }
+        ensures keyboard { self.new ≡ (event_step modes self.old (Some event)).keyboard }
+        ensures out { result ≡ (event_step modes self.old (Some event)).out }
     {
         let mut state = self.state;
         let out = self.keyboard.key(0, event, &self.tables, &mut state, modes);

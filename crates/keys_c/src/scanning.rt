@@ -2,9 +2,10 @@
 ghost use Rattle.std.specs.Prelude.{◌≡◌, None, Some, true, MatchOption};
 ghost use Rattle.keys_c.specs.Answers.{Changes};
 ghost use Rattle.keys_c.specs.Codes.{NOTHING, OK};
+ghost use Rattle.keys_c.specs.KeyOuts.{vt_key_of};
 ghost use Rattle.keys_c.specs.KeyboardView.{with_keys_up};
 ghost use Rattle.keys_c.specs.Modes.{modes_of};
-ghost use Rattle.keys_c.specs.Scanning.{after_scan, handed};
+ghost use Rattle.keys_c.specs.Scanning.{byte_step};
 
 use crate::code;
 use crate::handle::KeysHandle;
@@ -21,9 +22,9 @@ pub extern "C" fn vt_keys_scan(
     modes: &VtModes,
     out: &mut VtKey,
 ) -> u8
-    ensures keyboard { Changes h.old.value true (λ k. (after_scan (modes_of modes.now) byte k).keyboard) result h.new.value }
+    ensures keyboard { Changes h.old.value true (λ k. (byte_step (modes_of modes.now) byte k).keyboard) result h.new.value }
     ensures out { MatchOption h.old.value (out.new ≡ out.old)
-        (λ k. out.new ≡ handed (after_scan (modes_of modes.now) byte k).out out.old) }
+        (λ k. out.new ≡ vt_key_of (byte_step (modes_of modes.now) byte k).out out.old) }
 {
     let Some(mut keyboard) = h.take(alloc) else {
         return code::NOTHING;

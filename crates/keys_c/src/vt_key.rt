@@ -1,5 +1,5 @@
 ghost use Rattle.std.specs.Prelude.{◌≡◌, ◌≤◌, [], length};
-ghost use Rattle.keys_c.specs.Scanning.{handed, key_of};
+ghost use Rattle.keys_c.specs.KeyOuts.{key_with, vt_key_of};
 
 use key_machine::KeyOut;
 
@@ -21,7 +21,7 @@ pub struct VtKey {
 impl VtKey {
     /// Puts what a key says where C finds it.
     pub(crate) fn hand_over(&mut self, out: &KeyOut)
-        ensures { self.new ≡ handed out.now self.old }
+        ensures { self.new ≡ vt_key_of out.now self.old }
     {
         match out {
             KeyOut::Nothing => self.put(0, 0, &[]),
@@ -37,7 +37,7 @@ impl VtKey {
 
     fn put(&mut self, kind: u8, number: u8, bytes: &[u8])
         requires { length bytes.now ≤ 512 }
-        ensures { self.new ≡ key_of kind number bytes.now self.old }
+        ensures { self.new ≡ key_with kind number bytes.now self.old }
     {
         self.kind = kind;
         self.number = number;
