@@ -9,7 +9,7 @@ use Rattle.scan_codes.specs.Scan.{bytes_after, event_after}
 use Rattle.scan_codes.specs.declared.key_event.KeyEvent.{KeyEvent}
 use Rattle.keys_c.specs.KeyboardView.{KeyboardView}
 
--- a keyboard, and what goes out
+-- a keyboard, and what a key of it says
 pub record ScanStep : Type 0 where
   pub keyboard : KeyboardView
   pub out : KeyOut
@@ -21,14 +21,6 @@ scan_step k out = record { keyboard = k; out = out }
 abbrev pub with_byte : KeyboardView → ℕ → KeyboardView
 with_byte k b = record k { scanner = record k.scanner { bytes = bytes_after k.scanner.bytes b } }
 
--- in K_RAW a scan byte goes out itself (ioctl_console(2), KDSKBMODE), unless the attention key acts
-abbrev pub raw_out : ℕ → KeyOut → KeyOut
-raw_out b key_out.Attention = key_out.Attention
-raw_out b out = key_out.Bytes (b ∷ [])
-
-abbrev pub out_in_mode : ℕ → ℕ → KeyOut → KeyOut
-out_in_mode mode b out = if mode == RAW then raw_out b out else out
-
 -- the key that a byte ends is typed, if it ends one
 abbrev pub event_step : KeyModes → KeyboardView → Option KeyEvent → ScanStep
 event_step modes k None = scan_step k key_out.Nothing
@@ -39,5 +31,12 @@ event_step modes k (Some e) =
 -- a scan byte is read, and the key that it ends is typed
 abbrev pub byte_step : KeyModes → ℕ → KeyboardView → ScanStep
 byte_step modes b k =
-    let done = event_step modes (with_byte k b) (event_after k.scanner.codes k.scanner.bytes b) in
-    scan_step done.keyboard (out_in_mode k.state.mode b done.out)
+    event_step modes (with_byte k b) (event_after k.scanner.codes k.scanner.bytes b)
+
+-- in K_RAW a scan byte goes out itself (ioctl_console(2), KDSKBMODE), unless the attention key acts
+abbrev pub raw_out : ℕ → KeyOut → KeyOut
+raw_out b key_out.Attention = key_out.Attention
+raw_out b out = key_out.Bytes (b ∷ [])
+
+abbrev pub out_in_mode : ℕ → ℕ → KeyOut → KeyOut
+out_in_mode mode b out = if mode == RAW then raw_out b out else out

@@ -1,9 +1,9 @@
 ghost use Rattle.std.specs.Prelude.{◌≡◌, ◌≤◌, Some, length};
 ghost use Rattle.key_tables.specs.Tables.{func_of};
 ghost use Rattle.keys_c.specs.KeyboardView.{start_keyboard, with_keys_up, with_state, with_string};
-ghost use Rattle.keys_c.specs.Scanning.{event_step, byte_step, out_in_mode, scan_step};
+ghost use Rattle.keys_c.specs.Scanning.{byte_step, event_step};
 
-use key_machine::{KbState, KeyBytes, KeyModes, KeyOut, Keyboard, mode};
+use key_machine::{KbState, KeyModes, KeyOut, Keyboard};
 use key_tables::KeyTables;
 use scan_codes::{KeyEvent, Scanner};
 use std::marker::Model;
@@ -43,12 +43,10 @@ impl KeymapKeyboard {
         ensures keyboard { self.new ≡ (byte_step modes byte self.old).keyboard }
         ensures out { result ≡ (byte_step modes byte self.old).out }
     {
-        let mode = self.state.mode;
-        let out = match self.scanner.push(byte) {
+        match self.scanner.push(byte) {
             Some(event) => self.type_key(event, modes),
             None => KeyOut::Nothing,
-        };
-        out_in_mode(mode, byte, out)
+        }
     }
 
     // A key goes down, again where it repeats, or up.
@@ -94,18 +92,5 @@ impl KeymapKeyboard {
         ensures { self.new ≡ with_string self.old number text.now }
     {
         self.tables.set_func(number, text);
-    }
-}
-
-// In K_RAW the byte goes out itself, unless the attention key acts.
-fn out_in_mode(mode: u8, byte: u8, out: KeyOut) -> KeyOut
-    ensures { result ≡ out_in_mode mode byte out }
-{
-    if mode != mode::RAW {
-        return out;
-    }
-    match out {
-        KeyOut::Attention => KeyOut::Attention,
-        _ => KeyOut::Bytes(KeyBytes::of(&[byte])),
     }
 }

@@ -5,7 +5,7 @@ ghost use Rattle.keys_c.specs.Codes.{NOTHING, OK};
 ghost use Rattle.keys_c.specs.KeyOuts.{vt_key_of};
 ghost use Rattle.keys_c.specs.KeyboardView.{with_keys_up};
 ghost use Rattle.keys_c.specs.Modes.{modes_of};
-ghost use Rattle.keys_c.specs.Scanning.{byte_step};
+ghost use Rattle.keys_c.specs.Scanning.{byte_step, out_in_mode};
 
 use crate::code;
 use crate::handle::KeysHandle;
@@ -22,16 +22,19 @@ pub extern "C" fn vt_keys_scan(
     modes: &VtModes,
     out: &mut VtKey,
 ) -> u8
-    ensures keyboard { Changes h.old.value true (λ k. (byte_step (modes_of modes.now) byte k).keyboard) result h.new.value }
+    ensures keyboard { Changes h.old.value true
+        (λ k. (byte_step (modes_of modes.now) byte k).keyboard) result h.new.value }
     ensures out { MatchOption h.old.value (out.new ≡ out.old)
-        (λ k. out.new ≡ vt_key_of (byte_step (modes_of modes.now) byte k).out out.old) }
+        (λ k. let said = (byte_step (modes_of modes.now) byte k).out in
+        out.new ≡ vt_key_of (out_in_mode k.state.mode byte said) out.old) }
 {
     let Some(mut keyboard) = h.take(alloc) else {
         return code::NOTHING;
     };
+    let mode = keyboard.state().mode;
     let said = keyboard.scan(byte, modes.modes());
     h.put(keyboard);
-    out.hand_over(&said);
+    out.hand_over(mode, byte, &said);
     code::OK
 }
 

@@ -1,7 +1,8 @@
 ghost use Rattle.std.specs.Prelude.{◌≡◌, ◌≤◌, [], length};
 ghost use Rattle.keys_c.specs.KeyOuts.{key_with, vt_key_of};
+ghost use Rattle.keys_c.specs.Scanning.{out_in_mode};
 
-use key_machine::KeyOut;
+use key_machine::{KeyOut, mode};
 
 /// Where C finds what a scan byte comes to.
 #[repr(C)]
@@ -19,8 +20,19 @@ pub struct VtKey {
 }
 
 impl VtKey {
-    /// Puts what a key says where C finds it.
-    pub(crate) fn hand_over(&mut self, out: &KeyOut)
+    /// Puts what a key says where C finds it; in K_RAW that is the byte itself, unless the attention key
+    /// acts.
+    pub(crate) fn hand_over(&mut self, mode: u8, byte: u8, out: &KeyOut)
+        ensures { self.new ≡ vt_key_of (out_in_mode mode byte out.now) self.old }
+    {
+        if mode != mode::RAW || matches!(out, KeyOut::Attention) {
+            self.put_out(out);
+        } else {
+            self.put(1, 0, &[byte]);
+        }
+    }
+
+    fn put_out(&mut self, out: &KeyOut)
         ensures { self.new ≡ vt_key_of out.now self.old }
     {
         match out {

@@ -12,7 +12,7 @@ use Rattle.keys_c.specs.KeyboardView.{KeyboardView}
 use Rattle.keys_c.specs.contracts.handle.KeysHandle.{the_row, the_type}
 use Rattle.keys_c.specs.contracts.keymap_keyboard.KeymapKeyboard as owned
 use Rattle.raw_box.specs.Held.{held}
-use Rattle.std.proofs.Crossing.{crosses, frees}
+use Rattle.std.proofs.Crossing.{frees}
 use Rattle.std.specs.Prelude.{Option, Some, None}
 use Rattle.std.specs.contracts.alloc.Global as heap
 use Rattle.std.specs.declared.alloc.Global.{Global}
