@@ -1,0 +1,31 @@
+-- A handle may go to another thread: what it owns may, and any thread may free its block.
+use base.Shift.{Keyless}
+use denote.Builtin.{RawPtr}
+use denote.Memory.{lone}
+use denote.Param.Send.{IsSend, owning_send, struct_send, sendable}
+use denote.RawPtr.{Ptr}
+use denote.Struct.Owning.{shape, fields, to}
+use denote.Struct.Struct.{exits_of}
+use mir.Raw.{raw}
+use Rattle.keys_c.proofs.keymap_keyboard.KeymapKeyboard.TheSendSync.{the_send}
+use Rattle.keys_c.specs.KeyboardView.{KeyboardView}
+use Rattle.keys_c.specs.contracts.handle.KeysHandle.{the_row, the_type}
+use Rattle.keys_c.specs.contracts.keymap_keyboard.KeymapKeyboard as owned
+use Rattle.raw_box.specs.Held.{held}
+use Rattle.std.proofs.Crossing.{frees}
+use Rattle.std.specs.Prelude.{Option, Some, None}
+use Rattle.std.specs.contracts.alloc.Global as heap
+use Rattle.std.specs.declared.alloc.Global.{Global}
+use Rattle.std_alloc.proofs.SendSync.{quiet, lies}
+
+parts : IsSend RawPtr × (IsSend (heap.the_field).row × Unit {0})
+parts = (search sendable, (search sendable depth 20, tt))
+
+held_keyless : (alloc : Global) (at : Ptr) (value : Option KeyboardView) → Keyless (held owned.the_row alloc at value)
+held_keyless alloc at None = tt
+held_keyless alloc at (Some x) = (lies owned.the_row the_send at x, frees.frees alloc (raw (lone (owned.the_row).mir)) at)
+
+pub send : IsSend the_row
+send =
+    owning_send the_type parts (λ h. held_keyless h.alloc h.at h.value)
+    (λ k. quiet (to the_type) (exits_of k (fields the_type)) ((struct_send (shape the_type) parts).leaving k))

@@ -1,0 +1,30 @@
+-- The codes that calls return to C, as include/vt.h names them.
+use Rattle.std.specs.Prelude.{ℕ}
+
+-- VT_OK: the call did what it is for
+abbrev pub OK : ℕ
+OK = 0
+
+-- VT_MADE: the handle has a keyboard already
+abbrev pub MADE : ℕ
+MADE = 1
+
+-- VT_RANGE: a number is out of its range
+abbrev pub RANGE : ℕ
+RANGE = 2
+
+-- VT_NO_MEMORY
+abbrev pub NO_MEMORY : ℕ
+NO_MEMORY = 3
+
+-- VT_NOTHING: the handle has nothing
+abbrev pub NOTHING : ℕ
+NOTHING = 4
+
+-- VT_NO_ROOM: the room is too small
+abbrev pub NO_ROOM : ℕ
+NO_ROOM = 5
+
+-- VT_FAULT: the keymap text has a fault
+abbrev pub FAULT : ℕ
+FAULT = 6

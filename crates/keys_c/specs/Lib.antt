@@ -1,0 +1,9 @@
+pub mod Answers
+pub mod Codes
+pub mod KeyOuts
+pub mod KeyState
+pub mod KeyboardView
+pub mod Keymaps
+pub mod Modes
+pub mod Scanning
+pub mod Strings

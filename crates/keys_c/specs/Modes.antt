@@ -1,0 +1,16 @@
+-- The modes of a screen that C gives, as keys take them.
+use Rattle.std.specs.Prelude.{ℕ, ◌==◌, Bool, not}
+use Rattle.key_machine.specs.declared.key_modes.KeyModes.{KeyModes}
+use Rattle.keys_c.specs.declared.vt_modes.VtModes.{VtModes}
+
+-- C has numbers for modes: 0 is off
+abbrev pub is_set : ℕ → Bool
+is_set n = not (n == 0)
+
+abbrev pub modes_of : VtModes → KeyModes
+modes_of m = record {
+  cursor = is_set m.cursor_keys;
+  keypad = is_set m.keypad;
+  repeat = is_set m.repeat;
+  newline = is_set m.newline;
+}

@@ -1,0 +1,76 @@
+//! The strings of function keys, read and set.
+ghost use Rattle.std.specs.Prelude.{◌≡◌, ◌≤◌, ◌&&◌, None, Some, true, length, nat_le, MatchOption};
+ghost use Rattle.keys_c.specs.Answers.{Changes};
+ghost use Rattle.keys_c.specs.Codes.{NOTHING, NO_ROOM, OK, RANGE};
+ghost use Rattle.keys_c.specs.KeyboardView.{with_string};
+ghost use Rattle.keys_c.specs.Strings.{Hands, HandsString, room_of};
+
+use crate::code;
+use crate::handle::KeysHandle;
+use std::alloc::Global;
+
+/// The greatest number of a function key.
+const LAST_KEY: u32 = 255;
+
+/// The most bytes of a string.
+const MOST_BYTES: usize = 255;
+
+/// Puts the string of a function key where C finds it (ioctl_console(2), KDGKBSENT).
+#[unsafe(no_mangle)]
+pub extern "C" fn vt_keys_string(
+    h: &mut KeysHandle,
+    alloc: Global,
+    number: u32,
+    text: &mut [u8],
+    length: &mut usize,
+) -> u8
+    ensures same { h.new.value ≡ h.old.value }
+    ensures string { HandsString h.old.value number result
+        (room_of text.old length.old) (room_of text.new length.new) }
+{
+    let Some(keyboard) = h.take(alloc) else {
+        return code::NOTHING;
+    };
+    let answer = if number <= LAST_KEY {
+        hand_over(keyboard.string(number as u8), text, length)
+    } else {
+        code::RANGE
+    };
+    h.put(keyboard);
+    answer
+}
+
+/// Sets the string of a function key (ioctl_console(2), KDSKBSENT).
+#[unsafe(no_mangle)]
+pub extern "C" fn vt_keys_set_string(
+    h: &mut KeysHandle,
+    alloc: Global,
+    number: u32,
+    text: &[u8],
+) -> u8
+    ensures { Changes h.old.value (nat_le number 255 && nat_le (length text.now) 255)
+        (λ k. with_string k number text.now) result h.new.value }
+{
+    let Some(mut keyboard) = h.take(alloc) else {
+        return code::NOTHING;
+    };
+    if number > LAST_KEY || text.len() > MOST_BYTES {
+        h.put(keyboard);
+        return code::RANGE;
+    }
+    keyboard.set_string(number as u8, text);
+    h.put(keyboard);
+    code::OK
+}
+
+// Puts a string before what the room has, where there is room for it, and its length.
+fn hand_over(string: &[u8], text: &mut [u8], length: &mut usize) -> u8
+    ensures { Hands string.now result (room_of text.old length.old) (room_of text.new length.new) }
+{
+    *length = string.len();
+    if string.len() > text.len() {
+        return code::NO_ROOM;
+    }
+    text[..string.len()].copy_from_slice(string);
+    code::OK
+}

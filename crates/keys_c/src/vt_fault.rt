@@ -1,0 +1,25 @@
+ghost use Rattle.std.specs.Prelude.{◌≡◌};
+
+use key_text::KeyFault;
+
+/// The first fault of a keymap text: its place, both numbers from 1, and its kind (docs/KEYS.md).
+#[repr(C)]
+#[derive(Clone, Copy, Debug, PartialEq, Eq)]
+pub struct VtFault {
+    pub line: u32,
+    pub column: u32,
+    pub kind: u16,
+}
+
+impl VtFault {
+    /// The fault as C sees it.
+    pub(crate) fn of(fault: KeyFault) -> VtFault
+        ensures { result ≡ record { line = fault.line; column = fault.column; kind = fault.kind } }
+    {
+        VtFault {
+            line: fault.line,
+            column: fault.column,
+            kind: fault.kind,
+        }
+    }
+}
