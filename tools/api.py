@@ -2,19 +2,27 @@
 """Prints the public types, calls and constants of a crate as Markdown, with their comments and contracts.
 
 usage: tools/api.py CRATE [NAME]
+       tools/api.py --write
+       tools/api.py --check
 
 Each part has the text of the source: the comment, the signature, and the clauses of the contract. Fields that aren't
 public are left out. With NAME, a type, a trait, a call or a constant, only this one is printed. The first lines are the
-crate's sentence and the crates that it needs. The status is 1 if there is no such library or no such name in it.
+crate's sentence, the crates that it needs, and where its clauses are in words. `--write` writes a page for each library
+into docs/library/api/, with README.md as their list, and removes pages of crates that are gone; `--check` prints a line
+for each page that isn't as it would be written. The status is 1 if there is one, or no such library or name.
 """
 import re
 import sys
+import textwrap
 
 sys.dont_write_bytecode = True
 
-from check_promises import TOP, exports_of, libraries, traits  # noqa: E402: after the line that keeps tools/ clean
+# After the line that keeps tools/ clean.
+from check_promises import PROOFS, TOP, exports_of, libraries, traits  # noqa: E402
 from copy_crates import lines_of, needs  # noqa: E402
 
+PAGES = TOP / "docs/library/api"
+WIDTH = 120
 CLAUSE = re.compile(r"\s*(?:requires|ensures)\b")
 ITEM = re.compile(r"pub (?:const )?(struct|enum|trait|type|fn|const|static) (\w+)")
 METHOD = re.compile(r"    (?:pub )?(?:const )?fn \w+")
@@ -101,9 +109,111 @@ def parts_of(crate):
     return found
 
 
+def prose(comment):
+    """Gives the paragraphs of a comment, with the links of its source as names in backquotes."""
+    lines = [re.sub(r"^\s*//[/!] ?", "", line) for line in comment]
+    text = re.sub(r"\[(`[^`]+`)\](?:\([^()\s]*\))?", lambda it: it[1].replace("crate::", ""), "\n".join(lines))
+    text = re.sub(r"super::(?=\w)", "", text)
+    text = re.sub(r"\bdocs/([\w/-]*?)([\w-]+)\.md\b", r"[\2](../../\1\2.md)", text)
+    wrap = {"width": WIDTH, "break_long_words": False, "break_on_hyphens": False}
+    return "\n\n".join(textwrap.fill(" ".join(it.split()), **wrap) for it in text.split("\n\n") if it.strip())
+
+
+def name_of(block):
+    """Gives the name of the call that a block of a type has, or nothing for the type's own block."""
+    line = next(it for it in block if not it.lstrip().startswith("///"))
+    call = re.match(r"    (?:pub )?(?:const )?fn (\w+)", line)
+    return call[1] if call else None
+
+
+def shown(block):
+    """Gives a block as Markdown: its comment, and its code."""
+    comment = [line for line in block if line.startswith("///") or (name_of(block) and line.startswith("    ///"))]
+    code = block[len(comment):]
+    indent = 4 if name_of(block) else 0
+    parts = [prose(comment), "\n".join(("    " + line[indent:]).rstrip() for line in code)]
+    return "\n\n".join(it for it in parts if it)
+
+
+def sentence_of(crate):
+    lines = (TOP / "crates" / crate / "src/lib.rt").read_text(encoding="utf-8").splitlines()
+    return prose([line for line in lines if line.startswith("//!")])
+
+
+def places_in_words():
+    """Gives the title and the name of the page of docs/proofs/ that has each crate."""
+    found = {}
+    for page in sorted(PROOFS.glob("*.md")):
+        text = page.read_text(encoding="utf-8")
+        found.update((name, (text.splitlines()[0][2:], page.name)) for name in re.findall(r"^## (\w+)$", text, re.M))
+    return found
+
+
+def page_of(crate, found, names, words):
+    """Gives the page of a crate, with the parts of these names."""
+    below = needs(lines_of(TOP / "crates.txt")[crate])
+    linked = ", ".join(f"[`{it}`]({it}.md)" if (TOP / "crates" / it).is_dir() else f"`{it}`" for it in below)
+    head = f"Needs {linked}." if below else "Needs no other crate."
+    if crate in words:
+        head += f" Its clauses in words: [{words[crate][0]}](../../proofs/{words[crate][1]}#{crate})."
+    wrapped = textwrap.fill(head, WIDTH, break_long_words=False, break_on_hyphens=False)
+    parts = [f"# {crate}", sentence_of(crate), wrapped]
+    for name in sorted(names):
+        parts.append(f"## {name}")
+        for block in found[name]:
+            if name_of(block):
+                parts.append(f"### {name}::{name_of(block)}")
+            parts.append(shown(block))
+    return "\n\n".join(parts) + "\n"
+
+
+def all_pages():
+    """Gives the text of each page of docs/library/api/ by its name."""
+    words, rows, pages = places_in_words(), [], {}
+    for crate in libraries():
+        found = parts_of(crate)
+        if found:
+            pages[f"{crate}.md"] = page_of(crate, found, found, words)
+            names = ", ".join(f"`{it}`" for it in sorted(found))
+            rows.append(f"| [`{crate}`]({crate}.md) | {' '.join(sentence_of(crate).split())} | {names} |")
+    pages["README.md"] = "\n".join([
+        "# Types and calls", "",
+        "Each library with its public types, traits, calls and constants: the comment, the signature and the contract,",
+        "from the sources by `tools/api.py --write`. [Proofs](../../proofs/README.md) has the clauses in words, and",
+        "where the words of a contract are defined. Calls that a trait of the standard library gives are left out.", "",
+        "| crate | is | has |", "|---|---|---|", *rows, "",
+    ])
+    return pages
+
+
+def stored():
+    return {it.name: it.read_text(encoding="utf-8") for it in PAGES.glob("*.md")}
+
+
+def write():
+    PAGES.mkdir(exist_ok=True)
+    pages, old = all_pages(), stored()
+    for name, text in pages.items():
+        if old.get(name) != text:
+            (PAGES / name).write_text(text, encoding="utf-8")
+    for name in set(old) - set(pages):
+        (PAGES / name).unlink()
+    return 0
+
+
+def check():
+    pages, old = all_pages(), stored()
+    differing = sorted(name for name in {*pages, *old} if pages.get(name) != old.get(name))
+    for name in differing:
+        print(f"docs/library/api/{name}: tools/api.py --write gives another page")
+    return 1 if differing else 0
+
+
 def main():
     words = sys.argv[1:]
-    if len(words) not in (1, 2):
+    if words in (["--write"], ["--check"]):
+        return write() if words == ["--write"] else check()
+    if len(words) not in (1, 2) or words[0].startswith("-"):
         print(__doc__.split("\n\n")[1], file=sys.stderr)
         return 1
     crate = words[0]
@@ -111,20 +221,11 @@ def main():
         print(f"api.py: crates.txt has no library {crate}", file=sys.stderr)
         return 1
     found = parts_of(crate)
-    if len(words) == 2:
-        if words[1] not in found:
-            print(f"api.py: {crate} has no public {words[1]}", file=sys.stderr)
-            return 1
-        found = {words[1]: found[words[1]]}
-    text = (TOP / "crates" / crate / "src/lib.rt").read_text(encoding="utf-8")
-    sentence = " ".join(line[3:].strip() for line in text.splitlines() if line.startswith("//!"))
-    below = needs(lines_of(TOP / "crates.txt")[crate])
-    print(f"# {crate}\n\n{sentence}\n\nNeeds: {', '.join(below) or 'nothing'}.")
-    for name in sorted(found):
-        print(f"\n## {name}")
-        for block in found[name]:
-            indent = 0 if ITEM.match(next(it for it in block if not it.lstrip().startswith("///"))) else 4
-            print("\n" + "\n".join("    " + line[indent:] for line in block))
+    names = words[1:] or list(found)
+    if any(name not in found for name in names):
+        print(f"api.py: {crate} has no public {words[1]}", file=sys.stderr)
+        return 1
+    print(page_of(crate, found, names, places_in_words()), end="")
     return 0
 
 

@@ -7,8 +7,8 @@ line `$ COMMAND` of an example in man/, where `vt` is crates/vt/out/vt; the exam
 have to be accepted, and each command of vt(1) has an example. docs/codes.md has a row for each code of tools/why.py.
 The adapter of docs/guide/write-a-terminal.md answers a case. The lines of a journal that docs/guide/tour.md quotes have to
 stand in examples/tour.journal, in the same order. docs/guide/test-a-terminal-program.md is run by
-tools/check_expect.py, and the programs of docs/guide/embed-a-crate.md by tools/check_snippets.py. Prints a line for
-each difference. The status is 1 if there is one, and 2 if the program isn't built.
+tools/check_expect.py, the programs of docs/guide/embed-a-crate.md by tools/check_snippets.py, and docs/library/c.md by
+tools/check_c.py. Prints a line for each difference. The status is 1 if there is one, and 2 if the program isn't built.
 """
 import json
 import os
@@ -22,7 +22,7 @@ TOP = pathlib.Path(__file__).resolve().parent.parent
 PROGRAM = TOP / "crates/vt/out/vt"
 SECONDS = 60
 # Pages whose commands another check runs, in a folder of their own.
-RUN_ELSEWHERE = ("test-a-terminal-program.md", "embed-a-crate.md", "display-server.md")
+RUN_ELSEWHERE = ("test-a-terminal-program.md", "embed-a-crate.md", "display-server.md", "c.md")
 
 
 def examples(text):

@@ -1,16 +1,21 @@
 #!/usr/bin/env python3
-"""Checks docs/proofs/promises.md against the public calls of the libraries that crates.txt lists.
+"""Checks docs/proofs/ against the public calls of the libraries that crates.txt lists.
 
-A public call is a `pub fn` that a user of the crate can name, one of a public trait of this repository, or such a trait's at a
-public type. A section `### CRATE` has a line `Laws: ..`, a table, or both, and each call stands once in them. A law gives
-nothing and changes nothing. A row has five cells: calls; whether they may wait (`no` exactly if the signature, with the
-head of its `impl`, has neither `Wait` nor `Threads`); whether they take memory (`no` exactly where it has no allocator, nor
-a `Seat`, which has one); the other answers, by clauses that every call of the row has ("its clause" has no name), or `none`, which no call that
-gives an Option, a Result or a bool has; and what is lent, which is `nothing lent` exactly where nothing is lent to be changed. NoMemory has no clause; any other answer without
-one is "no clause". Every call of a cell with "no clause", and every call without an `ensures`, stands as `CRATE::CALL` under
-"What no clause says".
-docs/proofs/proved.md and this page each have one sentence "N calls may wait for ever: ..", up to a semicolon, with the
-calls whose rows say that they may.
+A public call is a `pub fn` that a user of the crate can name, one of a public trait of this repository, or such a
+trait's at a public type. A section `## CRATE` has a line `Laws: ..`, a table whose first column is headed "call", or
+both, and each call is once in them. A law returns nothing and changes nothing. A row has five cells:
+
+- calls;
+- whether they may wait: `no` exactly if the signature, with the head of its `impl`, has neither `Wait` nor `Threads`;
+- whether they take memory: `no` exactly if it has no allocator and no `Seat`, which has one;
+- the other answers, by clauses that every call of the row has ("its clause" has no name), or `none`, which no call that
+  returns an Option, a Result or a bool has;
+- what is lent, which is `nothing lent` exactly if nothing is lent to be changed.
+
+NoMemory has no clause; any other answer without one is "no clause". Every call of a cell with "no clause", and every
+call without an `ensures`, is named as `CRATE::CALL` in docs/proofs/unproved.md under "What no clause states".
+docs/proofs/README.md has one sentence "N calls may wait for ever: ..", up to a semicolon, with the calls whose rows
+have that they may.
 Prints a line for each fault, and ends with status 1 if there is one.
 """
 import re
@@ -18,16 +23,18 @@ import sys
 
 sys.dont_write_bytecode = True
 
-from check_proved import NAMES, TOP, UNNAMED, owners  # noqa: E402: after the line that keeps tools/ clean
+# After the line that keeps tools/ clean.
+from check_proved import NAMES, PROOFS, TOP, UNNAMED, owners, tables_of  # noqa: E402
 
-PAGE = TOP / "docs/proofs/promises.md"
-HOLES = "## What no clause says"
+HOLES_PAGE = PROOFS / "unproved.md"
+HOLES = "## What no clause states"
+CALLED = "call"
 MISSING = "no clause"
 LENT_NOTHING = "nothing lent"
 ALLOCATOR = re.compile(r"alloc: |\bSeat<")
 WAITING = re.compile(r"\b(?:Wait|Threads)\b")
 MAY_WAIT = "may"
-WAIT_LISTS = ("docs/proofs/proved.md", "docs/proofs/promises.md")
+WAIT_PAGE = PROOFS / "README.md"
 WAIT_LIST = re.compile(r"(\w+)\s+calls\s+may\s+wait\s+for\s+ever:([^;]*);")
 COUNTS = ("No", "One", "Two", "Three", "Four", "Five", "Six", "Seven", "Eight", "Nine", "Ten", "Eleven", "Twelve")
 
@@ -82,8 +89,7 @@ def promised_at(lines):
 
 
 def public_calls(crate, known):
-    """Gives the signature, with the head of its `impl`, and the promises of each public call of a crate, under the name by
-    which it is cited."""
+    """Gives the signature, with the head of its `impl`, and the promises of each public call, by its name."""
     source = TOP / "crates" / crate / "src"
     exports, found = exports_of(source / "lib.rt"), {}
     for file in sorted(source.rglob("*.rt")):
@@ -139,40 +145,42 @@ def law_faults(name, signature):
         yield f"{name} is no law"
 
 
-def waiting_calls(body):
-    """Gives the calls whose rows say that they may wait."""
-    rows = [[it.strip() for it in line.strip("|").split(" | ")] for line in body.splitlines() if line.startswith("| `")]
-    return {name for cells in rows if len(cells) > 1 and cells[1] == MAY_WAIT for name in NAMES.findall(cells[0])}
-
-
 def wait_list_faults(waiting):
-    """Compares the pages' sentences on the calls that may wait with those of the rows."""
-    for page in WAIT_LISTS:
-        found = WAIT_LIST.findall((TOP / page).read_text(encoding="utf-8"))
-        if len(found) != 1:
-            yield f"{page}: {len(found)} sentences \"N calls may wait for ever: ..;\", one is wanted"
-            continue
-        count, listed = found[0][0], NAMES.findall(found[0][1])
-        yield from (f"{page}: {name} may wait, and isn't in the list of the calls that may"
-                    for name in sorted(waiting - set(listed)))
-        yield from (f"{page}: {name} is listed among the calls that may wait, and its row says otherwise"
-                    for name in sorted(set(listed) - waiting))
-        if listed != list(dict.fromkeys(listed)) or count != dict(enumerate(COUNTS)).get(len(listed)):
-            yield f"{page}: the list of the calls that may wait has {len(listed)}, and the page counts {count}"
+    """Compares the page's sentence on the calls that may wait with those of the rows."""
+    found = WAIT_LIST.findall(WAIT_PAGE.read_text(encoding="utf-8"))
+    if len(found) != 1:
+        yield f"{WAIT_PAGE.name}: {len(found)} sentences \"N calls may wait for ever: ..;\", one is wanted"
+        return
+    count, listed = found[0][0], NAMES.findall(found[0][1])
+    yield from (f"{name} may wait, and isn't in the list of {WAIT_PAGE.name}" for name in sorted(waiting - set(listed)))
+    yield from (f"{name} is in the list of {WAIT_PAGE.name}, and its row has that it doesn't wait"
+                for name in sorted(set(listed) - waiting))
+    if listed != list(dict.fromkeys(listed)) or count != dict(enumerate(COUNTS)).get(len(listed)):
+        yield f"{WAIT_PAGE.name}: the list of the calls that may wait has {len(listed)}, and the page counts {count}"
 
 
-def section_faults(crate, text, calls, holes):
-    """Goes through the section of a crate."""
-    listed = []
-    for line in re.sub(r"(?<!\n)\n(?=`)", " ", text).splitlines():
-        cells = [it.strip() for it in line.strip().strip("|").split(" | ")]
-        is_row = line.startswith("| `")
-        if not is_row and not line.startswith("Laws: "):
-            continue
-        if is_row and len(cells) == 4:
-            cells.append("")
-        if is_row and len(cells) != 5:
-            yield f"{crate}: no row of five cells: {line}"
+def listed_rows(page):
+    """Gives each law as its section and name, and each row of a table of calls as its section and cells."""
+    text = page.read_text(encoding="utf-8")
+    laws = []
+    for name, body in re.findall(r"^## (\w+)$([\s\S]*?)(?=^## |\Z)", text, re.M):
+        for paragraph in re.findall(r"^Laws: (?:.+\n)+", body, re.M):
+            laws += [(name, law) for law in NAMES.findall(paragraph)]
+    rows = [(section, cells) for _, section, heading, cells in tables_of(page) if heading == CALLED]
+    return laws, rows
+
+
+def crate_faults(crate, laws, rows, calls, holes):
+    """Goes through the laws and the rows of a crate."""
+    listed = list(laws)
+    for law in laws:
+        if law not in calls:
+            yield f"{crate}: no call {law}"
+        else:
+            yield from (f"{crate}: {fault}" for fault in law_faults(law, calls[law][0]))
+    for cells in rows:
+        if len(cells) != 5:
+            yield f"{crate}: no row of five cells: {' | '.join(cells)}"
             continue
         for name in NAMES.findall(cells[0]):
             listed.append(name)
@@ -180,9 +188,8 @@ def section_faults(crate, text, calls, holes):
                 yield f"{crate}: no call {name}"
                 continue
             signature, clauses = calls[name]
-            faults = row_faults(name, signature, cells[1:], clauses) if is_row else law_faults(name, signature)
-            yield from (f"{crate}: {fault}" for fault in faults)
-            if is_row and MISSING in line and f"{crate}::{name}" not in holes:
+            yield from (f"{crate}: {fault}" for fault in row_faults(name, signature, cells[1:], clauses))
+            if any(MISSING in cell for cell in cells) and f"{crate}::{name}" not in holes:
                 yield f"{crate}: {name} isn't named under \"{HOLES[3:]}\""
     yield from (f"{crate}: no row of {name}" for name in calls if name not in listed)
     yield from (f"{crate}: two rows of {name}" for name in sorted(set(listed)) if listed.count(name) > 1)
@@ -192,19 +199,26 @@ def section_faults(crate, text, calls, holes):
 
 
 def main():
-    body, _, holes = PAGE.read_text(encoding="utf-8").partition(f"\n{HOLES}\n")
-    sections = dict(re.findall(r"^### (\w+)\n([\s\S]*?)(?=^##|\Z)", body, re.M))
-    told, known, faults = set(re.findall(r"`(\w+::[\w:]+)`", holes)), traits(), []
+    laws, rows = {}, {}
+    for page in sorted(PROOFS.glob("*.md")):
+        laws_of_page, rows_of_page = listed_rows(page)
+        for crate, name in laws_of_page:
+            laws.setdefault(crate, []).append(name)
+        for crate, cells in rows_of_page:
+            rows.setdefault(crate, []).append(cells)
+    _, _, holes = HOLES_PAGE.read_text(encoding="utf-8").partition(f"\n{HOLES}\n")
+    named, known, faults = set(re.findall(r"`(\w+::[\w:]+)`", holes.partition("\n## ")[0])), traits(), []
     calls = {crate: public_calls(crate, known) for crate in libraries()}
     for crate, names in calls.items():
-        if names:
-            faults += section_faults(crate, sections.pop(crate, ""), names, told)
-    faults += [f"no library {crate}" for crate in sections]
-    faults += wait_list_faults(waiting_calls(body))
+        faults += crate_faults(crate, laws.pop(crate, []), rows.get(crate, []), names, named)
+    faults += [f"no library {crate}" for crate in {*laws, *rows} - set(calls)]
+    waiting = {name for cells in sum(rows.values(), []) if len(cells) > 1 and cells[1] == MAY_WAIT
+               for name in NAMES.findall(cells[0])}
+    faults += wait_list_faults(waiting)
     every = {f"{crate}::{name}" for crate, names in calls.items() for name in names}
-    faults += [f"no call {name}" for name in sorted(told - every)]
+    faults += [f"{HOLES_PAGE.name}: no call {name}" for name in sorted(named - every)]
     for fault in faults:
-        print(f"{PAGE.name}: {fault}")
+        print(fault)
     return 1 if faults else 0
 
 

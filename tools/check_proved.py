@@ -1,31 +1,39 @@
 #!/usr/bin/env python3
-"""Checks that what docs/proofs/proved.md cites of the proofs exists.
+"""Checks that what the pages of docs/proofs/ cite of the proofs exists.
 
-A section `### CRATE`, or `### TITLE: CRATE`, has tables of three columns: what holds, what carries it, and where its words
-are defined. What carries it is groups with `; ` between: calls, a colon, and clauses, of which every call of the group has
-every one as an `ensures` or a `requires` in the crate's src/ ("its clause" is an `ensures` without a name, and of
-`Type::output` the text that `Display` promises of the type); or `type` and names of types. A definition is a file of the crate's specs/, or CRATE/specs/FILE of another one, with names in parentheses that
-stand in it.
+A section `## CRATE` may have tables whose first column is headed "what holds": what holds, what proves it, and where
+its words are defined. What proves it is groups with `; ` between: calls, a colon, and clauses, of which every call of
+the group has every one as an `ensures` or a `requires` in the crate's src/ ("its clause" is an `ensures` without a
+name; of `Type::output` it is the text that `Display` promises for the type, and of `Type::from_gives` the promise of a
+`From`); or `type` and names of types. A definition is a file of the crate's specs/, or CRATE/specs/FILE of another one,
+with names in parentheses that it defines. A crate has one section in all pages.
 
-The table under `## Wrong bodies` has a row for each of the named wrong bodies, whose second column names edits, as
-CRATE/must-fail/NAME.edit, or tests: a file of a crate of tests with the test's name in parentheses, or `cases` with that of
-a case. Each has to be there; and every edit of every crate changes files of its src/ alone, since one of a definition or a
-proof shows nothing.
-Prints a line for each that is missing, and ends with status 1 if there is one.
+The table of docs/proofs/wrong-bodies.md has a row for each of the named wrong bodies, whose second column names edits,
+as CRATE/must-fail/NAME.edit, or tests: a file of a crate of tests with the test's name in parentheses, or `cases` with
+that of a case. Each has to be there; and every edit of every crate changes files of its src/ alone, since one of a
+definition or a proof shows nothing.
+
+docs/library/crates.md names each crate of crates.txt in the first column of a table, once.
+Prints a line for each fault, and ends with status 1 if there is one.
 """
 import pathlib
 import re
 import sys
 
 TOP = pathlib.Path(__file__).resolve().parent.parent
+PROOFS = TOP / "docs/proofs"
+CRATES = TOP / "docs/library/crates.md"
+HELD = "what holds"
 NAMES = re.compile(r"`([^`]+)`")
 UNNAMED = "its clause"
+DEFINES = "(?:abbrev|record|data|pub|inductive|opaque|unfoldable)"
 WRONG_BODIES = (
-    "Hop without release", "Death leaves the switch pending", "Wait that only polls", "Write that forgets the rest",
-    "Caps lock as shift", "Release looked up afresh", "Journal sorted by caller", "Two readers, same bytes",
+    "Switch without release", "Death leaves the switch pending", "Wait that only polls", "Write that forgets the rest",
+    "Caps lock as shift", "Release looked up again", "Journal sorted by caller", "Two readers, same bytes",
     "Lenient journal reader: a leading zero", "Lenient journal reader: two blanks", "Lost write",
-    "Release with nothing pending", "Constant answer: Usage", "Constant answer: ReadFault", "Constant answer: WriteFault",
-    "Constant answer: TooLong", "Constant answer: Refused", "Constant answer: JournalFull", "Constant answer: Illegal",
+    "Release with nothing pending", "Constant answer: Usage", "Constant answer: ReadFault",
+    "Constant answer: WriteFault", "Constant answer: TooLong", "Constant answer: Refused", "Constant answer: JournalFull",
+    "Constant answer: Illegal",
     "Deaf worker: each act", "Deaf worker: it ends", "Race played on one thread", "Always out of memory",
     "Display behind the lock", "A dump that writes one line with a single symbol",
 )  # fmt: skip
@@ -39,7 +47,7 @@ def owners(line):
     rest = re.sub(r"^<[^>]*>", "", found[1].strip())
     if " for " in rest:
         rest = rest.split(" for ", 1)[1]
-    return re.findall(r"\w+", rest)[:1]
+    return re.findall(r"(?:\w+::)*(\w+)", rest)[:1]
 
 
 def calls_of(crate):
@@ -51,7 +59,7 @@ def calls_of(crate):
             if line.startswith("}"):
                 owner = []
             owner = owners(line) or owner
-            ghost = re.match(r"\s*ghost (output) = \{", line)
+            ghost = re.match(r"\s*ghost (output|from_gives) = \{", line)
             if ghost and owner:
                 found.setdefault(f"{owner[0]}::{ghost[1]}", set()).add(UNNAMED)
             call = re.match(r"\s*(?:pub )?(?:const )?fn (\w+)", line)
@@ -95,28 +103,48 @@ def definition_faults(crate, cell):
             continue
         text = path.read_text(encoding="utf-8")
         for name in NAMES.findall(names):
-            if not re.search(rf"^\s*(?:(?:abbrev|record|data|pub|inductive|opaque|unfoldable) +)+{re.escape(name)}\b", text, re.M):
+            if not re.search(rf"^\s*(?:{DEFINES} +)+{re.escape(name)}\b", text, re.M):
                 yield f"{file} defines no {name}"
 
 
-def page_faults(page):
-    """Goes through a page's tables whose rows have three columns, under the section that names their crate."""
-    crate = None
+def tables_of(page):
+    """Gives each row of a page's tables: the line's number, the section, the table's first heading, and the cells."""
+    section, heading = "", None
     for number, line in enumerate(page.read_text(encoding="utf-8").splitlines(), 1):
-        heading = re.match(r"#+ (?:.*: )?(.*)", line)
-        if heading:
-            crate = heading[1] if re.fullmatch(r"### (?:.*: )?\w+", line) else None
-            if crate and not (TOP / "crates" / crate).is_dir():
-                yield f"{page.name}:{number}: no crate {crate}"
-                crate = None
-        cells = [it.strip() for it in line.strip().strip("|").split(" | ")]
-        if not crate or not line.startswith("| ") or cells[0] == "what holds":
+        if line.startswith("#"):
+            section, heading = line.lstrip("#").strip(), None
+        elif not line.startswith("|"):
+            heading = None
+        else:
+            cells = [it.strip() for it in line.strip().removeprefix("|").removesuffix("|").split(" | ")]
+            if heading is None:
+                heading = cells[0]
+            elif not set(line) <= set("|- :"):
+                yield number, section, heading, cells
+
+
+def page_faults(page):
+    """Goes through a page's tables of what holds, under the sections that name their crates."""
+    for number, crate, heading, cells in tables_of(page):
+        if heading != HELD:
             continue
-        if len(cells) < 2:
-            yield f"{page.name}:{number}: a row without its carriers"
-            continue
-        faults = [*carrier_faults(crate, cells[1]), *definition_faults(crate, cells[2] if len(cells) > 2 else "")]
-        yield from (f"{page.name}:{number}: {crate}: {fault}" for fault in faults)
+        place = f"{page.name}:{number}: {crate}"
+        if not (TOP / "crates" / crate / "src").is_dir():
+            yield f"{place}: no crate"
+        elif len(cells) != 3:
+            yield f"{place}: a row of three columns is wanted"
+        else:
+            faults = [*carrier_faults(crate, cells[1]), *definition_faults(crate, cells[2])]
+            yield from (f"{place}: {fault}" for fault in faults)
+
+
+def section_faults(pages):
+    """Gives a fault for each crate that has sections on several places."""
+    places = {}
+    for page in pages:
+        for name in re.findall(r"^## (\w+)$", page.read_text(encoding="utf-8"), re.M):
+            places.setdefault(name, []).append(page.name)
+    return [f"{name} has sections in {', '.join(found)}" for name, found in places.items() if len(found) > 1]
 
 
 def refusal_faults(cell):
@@ -135,11 +163,9 @@ def refusal_faults(cell):
 
 def wrong_body_faults(page):
     """Goes through the table of wrong bodies: each named one has a row, and what a row names is there."""
-    number, rows, is_there = 0, [], False
-    for number, line in enumerate(page.read_text(encoding="utf-8").splitlines(), 1):
-        is_there = line == "## Wrong bodies" or is_there and not line.startswith("## ")
-        cells = [it.strip() for it in line.strip().strip("|").split(" | ")]
-        if is_there and line.startswith("| ") and cells[0] != "wrong body":
+    rows = []
+    for number, _, heading, cells in tables_of(page):
+        if heading == "wrong body":
             rows.append(cells[0])
             faults = refusal_faults(cells[1]) if len(cells) == 3 else ["a row of three columns is wanted"]
             yield from (f"{page.name}:{number}: {fault}" for fault in faults)
@@ -156,9 +182,19 @@ def edit_faults():
                 yield f"{edit.relative_to(TOP)}:{number}: it changes {line[6:]}, which is no code"
 
 
+def list_faults():
+    """Compares the list of crates with crates.txt."""
+    wanted = re.findall(r"^(\w+)[^:#\n]*:", (TOP / "crates.txt").read_text(encoding="utf-8"), re.M)
+    listed = [name for _, _, _, cells in tables_of(CRATES) for name in NAMES.findall(cells[0])]
+    yield from (f"{CRATES.name}: no crate {name}" for name in sorted(set(listed) - set(wanted)))
+    counts = {name: listed.count(name) for name in wanted}
+    yield from (f"{CRATES.name}: {name} is listed {count} times" for name, count in counts.items() if count != 1)
+
+
 def main():
-    faults = [*page_faults(TOP / "docs/proofs/proved.md")]
-    faults += [*wrong_body_faults(TOP / "docs/proofs/proved.md"), *edit_faults()]
+    pages = sorted(PROOFS.glob("*.md"))
+    faults = [*(fault for page in pages for fault in page_faults(page)), *section_faults(pages)]
+    faults += [*wrong_body_faults(PROOFS / "wrong-bodies.md"), *edit_faults(), *list_faults()]
     for fault in faults:
         print(fault)
     return 1 if faults else 0

@@ -28,7 +28,7 @@ sys.dont_write_bytecode = True
 from check_pages import TOP, fits  # noqa: E402: after the line that keeps tools/ clean
 
 GUIDE = TOP / "docs/guide/embed-a-crate.md"
-PAGES = [TOP / "docs/library/embedding.md", TOP / "docs/library/key-crates.md", GUIDE]
+PAGES = [*sorted((TOP / "docs/library").glob("*.md")), GUIDE]
 SECONDS = 900
 FILE = re.compile(r"`([\w/.-]+\.(?:rt|antt))`")
 IS_RATTLE = re.compile(r"^\s*(?:let |fn |pub |use |impl |ghost |match |abbrev )", re.M)

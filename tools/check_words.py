@@ -5,10 +5,9 @@ usage: tools/check_words.py [--counts]
 
 The forms are those of PATTERNS: things that tell or say, "what" as a noun, "but" for except, "where" for if, a page
 named without a link, and lines of over 120 characters. Code, headings and text in backquotes don't count, nor does the
-length of a row of a table. LIMITS has how often a page may have each form. OLD_PAGES lists the pages that aren't
-rewritten yet, each with limits of its own. Both are in the order of PATTERNS. `--counts` prints the counts of each
-page. Status 1 means that a page is over a limit, that README.md has over 100 lines, or that a page of OLD_PAGES is
-gone.
+length of a row of a table. LIMITS has how often a page may have each form, in the order of PATTERNS, and WRITTEN_LIMITS
+the same for the pages that tools/api.py writes. `--counts` prints the counts of each page. Status 1 means that a page
+is over a limit, or that README.md has over 100 lines.
 """
 import pathlib
 import re
@@ -43,14 +42,11 @@ PATTERNS = {
     "a page without a link": re.compile(r"(?<![(\w/])docs/[\w/-]+\.md\b"),
     "a long line": None,
 }
-# How often a rewritten page may have each form, in the order of PATTERNS.
+# How often a page may have each form, in the order of PATTERNS.
 LIMITS = (0, 1, 0, 0, 1, 0, 0, 0, 0)
-# Pages that aren't rewritten yet.
-OLD_PAGES = {
-    "docs/proofs/promises.md": (14, 16, 12, 12, 16, 6, 8, 8, 50),
-    "docs/proofs/proved.md": (20, 50, 8, 16, 30, 10, 8, 10, 30),
-    "docs/guide/test-a-terminal-program.md": (4, 4, 4, 4, 4, 4, 4, 8, 50),
-}
+# Pages that a tool writes from the comments of the crates have limits of their own.
+WRITTEN = "docs/library/api/"
+WRITTEN_LIMITS = (0, 1, 5, 0, 1, 0, 0, 0, 0)
 
 
 def lines_of(text):
@@ -72,11 +68,9 @@ def counts(page):
 
 def main():
     over = []
-    seen = set()
     for page in pages():
         name = str(page.relative_to(TOP))
-        seen.add(name)
-        found, limits = counts(page), OLD_PAGES.get(name, LIMITS)
+        found, limits = counts(page), WRITTEN_LIMITS if name.startswith(WRITTEN) else LIMITS
         if "--counts" in sys.argv[1:]:
             print(f"{name}: " + ", ".join(map(str, found)))
         for form, number, limit in zip(PATTERNS, found, limits):
@@ -85,7 +79,6 @@ def main():
     lines = len((TOP / "README.md").read_text(encoding="utf-8").splitlines())
     if lines > README_LINES:
         over.append(f"README.md: lines: {lines}, at most {README_LINES}")
-    over += [f"{name}: no such page; take it out of OLD_PAGES" for name in OLD_PAGES if name not in seen]
     if "--counts" in sys.argv[1:]:
         return 0
     for line in over:

@@ -3,7 +3,7 @@
 
     tools/engines.py [ENGINE ..] [--command 'PROGRAM ..'] [--device N] [options]
 
-The engines are vt, pyte, libvterm and tmux; without any, vt. `--command` names a program with the protocol of lines
+The engines are vt, libvt (the C library), pyte, libvterm and tmux; without any, vt. `--command` names a program with the protocol of lines
 that docs/guide/write-a-terminal.md describes, `--device` a console of this machine. Each case is the same, differs, or
 isn't compared whole, since the engine doesn't know all that has to stand. Ends with status 1 if an engine differs in a
 case, or has a fault there; with status 2 if something that was named is missing or damaged.
@@ -70,7 +70,7 @@ def run(given):
 
 def main():
     words = argparse.ArgumentParser(description=__doc__.split("\n\n")[0])
-    words.add_argument("engine", nargs="*", metavar="ENGINE", help="vt, pyte, libvterm or tmux")
+    words.add_argument("engine", nargs="*", metavar="ENGINE", help="vt, libvt, pyte, libvterm or tmux")
     words.add_argument("--vt", default=PROGRAM, metavar="PROGRAM", help="the program vt")
     words.add_argument("--command", action="append", default=[], metavar="'PROGRAM ..'", help="an engine of your own")
     words.add_argument("--device", type=int, metavar="N", help="console N of this machine")

@@ -15,15 +15,19 @@ journal:
     all but CALLER [CALLER ..] until they wait
 
 Everything but `turns` stays as it is. Words that no play reaches are refused: `turns.py: turns 3: ..`, 3 the item.
-Exit status: 0 written, 1 the session or its words are refused, 2 the program doesn't run, 3 a file can't be read or
-written.
+Exit status: 0 written, 1 the session or its words are refused, 2 the program doesn't run or Python is older than 3.11,
+3 a file can't be read or written.
 """
 import argparse
 import pathlib
 import re
 import subprocess
 import sys
-import tomllib
+
+try:
+    import tomllib
+except ImportError:
+    tomllib = None
 
 from tool_files import Stop, read_file, write_file
 
@@ -305,6 +309,8 @@ def do_word(players, scripts, place, text):
 
 def numbered(program, given):
     """The session of this text with numbers as turns."""
+    if tomllib is None:
+        raise Stop(2, "wanted Python 3.11 or later, for its reader of TOML")
     try:
         text = given.decode()
         document = tomllib.loads(text)

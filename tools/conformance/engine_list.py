@@ -1,4 +1,4 @@
-"""The engines by their names; the C driver is compiled where it is missing."""
+"""The engines by their names; the drivers in C are compiled where they are missing."""
 import os
 import pathlib
 import shutil
@@ -12,6 +12,8 @@ from .tmux import Tmux
 
 HERE = pathlib.Path(__file__).resolve().parent
 BUILT = HERE / "out"
+# What the driver in C of an engine stands on.
+WANTED = {"libvterm": "Debian's libvterm-dev", "libvt": "the library in out/c, which tools/build_c.sh makes"}
 
 
 class Vt:
@@ -27,22 +29,31 @@ class Vt:
         return judge.judge(self.program, cases)
 
 
-def libvterm():
-    """The adapter of libvterm, compiled where it is missing or older than its source."""
-    source, built = HERE / "libvterm.c", BUILT / "libvterm"
-    if not built.exists() or built.stat().st_mtime < source.stat().st_mtime:
+def driver(name, *options):
+    """The adapter in C of an engine, compiled where it is missing or older than its sources."""
+    source, built = HERE / f"{name}.c", BUILT / name
+    newest = max(file.stat().st_mtime for file in (source, HERE / "adapter.h", *(HERE / it for it in options if isinstance(it, pathlib.Path))))
+    if not built.exists() or built.stat().st_mtime < newest:
         compiler = shutil.which("cc") or shutil.which("gcc")
         if not compiler:
-            raise Fault("libvterm: a C compiler was wanted for tools/conformance/libvterm.c")
+            raise Fault(f"{name}: a C compiler was wanted for tools/conformance/{name}.c")
         BUILT.mkdir(exist_ok=True)
         part = f"{built}.{os.getpid()}"
-        words = [compiler, "-O2", "-o", part, source, "-lvterm"]
+        words = [compiler, "-O2", "-o", part, source, *options]
         ran = subprocess.run(words, capture_output=True, text=True, check=False)
         if ran.returncode:
             why = ran.stderr.strip().splitlines()[:1] or ["no reason"]
-            raise Fault(f"libvterm: its driver wasn't compiled; Debian's libvterm-dev was wanted: {why[0]}")
+            raise Fault(f"{name}: its driver wasn't compiled; {WANTED[name]} was wanted: {why[0]}")
         os.replace(part, built)
-    return Program("libvterm", [str(built)])
+    return Program(name, [str(built)])
+
+
+def libvt():
+    """The adapter of the C library that tools/build_c.sh built."""
+    library = HERE.parent.parent / "out/c"
+    if not (library / "lib/libvt.a").exists():
+        raise Fault(f"libvt: {WANTED['libvt']} was wanted")
+    return driver("libvt", library / "lib/libvt.a", f"-I{library}/include")
 
 
 def pyte():
@@ -56,7 +67,8 @@ def pyte():
 
 def engines(given):
     """The engines that the words name: vt where they name none."""
-    makers = {"vt": lambda: Vt(given.vt), "pyte": pyte, "libvterm": libvterm, "tmux": Tmux}
+    makers = {"vt": lambda: Vt(given.vt), "libvt": libvt, "pyte": pyte}
+    makers |= {"libvterm": lambda: driver("libvterm", "-lvterm"), "tmux": Tmux}
     names = list(dict.fromkeys(given.engine))
     unknown = [name for name in names if name not in makers]
     if unknown:

@@ -1,0 +1,562 @@
+"""The screen machine and the keyboard of the Linux text console, by the C library libvt.so.1; vt(3) has its calls.
+
+    import vt
+
+    with vt.Screen(25, 80) as screen:
+        for event in screen.feed(b"hello\\x1b[6n"):
+            print(event)                        # Report(text=b'\\x1b[1;6R')
+        print(screen.rows()[0].rstrip())        # hello
+
+The library is the file that VT_LIBRARY in the environment names, or libvt.so.1 where the system looks for libraries.
+Rows and columns are counted from 0, from the top left. A call of one object waits for the others of that object, so
+that threads may share it. Nothing but Python's own library is needed.
+"""
+import ctypes
+import os
+import threading
+from dataclasses import dataclass
+from typing import NamedTuple
+
+OUTS = 64
+ROW = 255
+COLOURS = 16
+KEYMODES = RAW, XLATE, MEDIUMRAW, UNICODE, OFF = range(5)
+METABIT, ESCPREFIX = 3, 4
+HALF = 0x110000
+
+
+class Error(Exception):
+    """What every error of this module is."""
+
+
+class LibraryError(Error):
+    """The library isn't there, or isn't this one."""
+
+
+class OutOfRange(Error, ValueError):
+    """A number is out of its range."""
+
+
+class NoMemory(Error, MemoryError):
+    """Memory ran out; the screen or the keyboard is as it was."""
+
+
+class Closed(Error):
+    """The screen or the keyboard was closed."""
+
+
+class NotDrawable(Error):
+    """No text draws this screen."""
+
+
+class KeymapFault(Error):
+    """The first fault of a keymap: its kind, and its line and column, both from 1 (docs/codes.md)."""
+
+    def __init__(self, kind, line, column):
+        super().__init__(f"fault {kind} at line {line}, column {column}")
+        self.kind, self.line, self.column = kind, line, column
+
+
+@dataclass(frozen=True)
+class Report:
+    """Bytes that the screen sends to the program's input."""
+
+    text: bytes
+
+
+@dataclass(frozen=True)
+class SwitchTo:
+    """The console of this number has to come to the front."""
+
+    number: int
+
+
+@dataclass(frozen=True)
+class SwitchLast:
+    """The console that was in front before has to come to the front."""
+
+
+@dataclass(frozen=True)
+class SwitchNext:
+    """The next console has to come to the front."""
+
+
+@dataclass(frozen=True)
+class SwitchPrevious:
+    """The console before this one, by number, has to come to the front."""
+
+
+@dataclass(frozen=True)
+class Lights:
+    """The keyboard's lights: the sum of Scroll Lock 1, Num Lock 2 and Caps Lock 4."""
+
+    number: int
+
+
+@dataclass(frozen=True)
+class Bell:
+    """The bell rings."""
+
+
+@dataclass(frozen=True)
+class Typed:
+    """Bytes of a key for the program's input."""
+
+    text: bytes
+
+
+@dataclass(frozen=True)
+class Spawn:
+    """KeyboardSignal: a signal to the process that accepts it."""
+
+
+@dataclass(frozen=True)
+class Attention:
+    """The secure attention key."""
+
+
+class Cell(NamedTuple):
+    """A cell: its character ("" for the right half of a wide one), its code, and its attribute byte."""
+
+    character: str
+    code: int
+    attribute: int
+
+    @property
+    def colour(self):
+        """The colour of the character: the sum of blue 1, green 2, red 4, bright 8."""
+        return self.attribute % 16
+
+    @property
+    def background(self):
+        """The colour behind it."""
+        return self.attribute // 16 % 8
+
+    @property
+    def blinks(self):
+        """Whether it blinks."""
+        return self.attribute >= 128
+
+
+class Cursor(NamedTuple):
+    """Where the cursor is, and whether it is shown."""
+
+    row: int
+    column: int
+    visible: bool
+
+
+class Modes(NamedTuple):
+    """The modes of a screen that keys depend on: DECCKM, DECPAM, DECARM, LNM. These are those of a new screen."""
+
+    cursor_keys: bool = False
+    keypad: bool = False
+    repeat: bool = True
+    newline: bool = False
+
+
+class KeyState(NamedTuple):
+    """The key state of a console. Flags and lights are sums of Scroll Lock 1, Num Lock 2, Caps Lock 4; modifiers are
+    sums of the weights of keymaps(5)."""
+
+    mode: int
+    meta: int
+    flags: int
+    defaults: int
+    lights: int
+    locks: int
+    sticky: int
+
+
+class _Handle(ctypes.Structure):
+    _fields_ = [("at", ctypes.c_void_p)]
+
+
+class _Out(ctypes.Structure):
+    _fields_ = [
+        ("kind", ctypes.c_uint8), ("number", ctypes.c_uint8), ("length", ctypes.c_uint8),
+        ("text", ctypes.c_uint8 * 16)]
+
+
+class _Fed(ctypes.Structure):
+    _fields_ = [("taken", ctypes.c_size_t), ("said", ctypes.c_size_t)]
+
+
+class _Cell(ctypes.Structure):
+    _fields_ = [("code", ctypes.c_uint32), ("attr", ctypes.c_uint8)]
+
+
+class _State(ctypes.Structure):
+    _fields_ = [
+        (name, ctypes.c_uint8)
+        for name in ("rows", "cols", "y", "x", "visible", "reverse", "cursor_keys", "keypad", "newline", "repeat")]
+
+
+class _Colour(ctypes.Structure):
+    _fields_ = [("red", ctypes.c_uint8), ("green", ctypes.c_uint8), ("blue", ctypes.c_uint8)]
+
+
+class _Fault(ctypes.Structure):
+    _fields_ = [("line", ctypes.c_uint32), ("column", ctypes.c_uint32), ("kind", ctypes.c_uint16)]
+
+
+class _Text(ctypes.Structure):
+    _fields_ = [
+        ("name", ctypes.c_char_p), ("name_length", ctypes.c_size_t),
+        ("text", ctypes.c_char_p), ("text_length", ctypes.c_size_t)]
+
+
+class _KeyState(ctypes.Structure):
+    _fields_ = [
+        (name, ctypes.c_uint8) for name in ("mode", "meta", "flags", "defaults", "lights", "locks", "sticky")]
+
+
+class _Modes(ctypes.Structure):
+    _fields_ = [(name, ctypes.c_uint8) for name in ("cursor_keys", "keypad", "repeat", "newline")]
+
+
+class _Key(ctypes.Structure):
+    _fields_ = [
+        ("kind", ctypes.c_uint8), ("number", ctypes.c_uint8), ("length", ctypes.c_uint16),
+        ("bytes", ctypes.c_uint8 * 512)]
+
+
+_to = ctypes.POINTER
+_bytes, _size, _number = ctypes.c_char_p, ctypes.c_size_t, ctypes.c_uint32
+_room, _byte = _to(ctypes.c_uint8), ctypes.c_uint8
+# The arguments of each call behind the handle.
+_CALLS = {
+    "vt_screen_new": (_number, _number),
+    "vt_screen_feed": (_bytes, _size, _to(_Out), _size, _to(_Fed)),
+    "vt_screen_write": (_bytes, _size),
+    "vt_screen_state": (_to(_State),),
+    "vt_screen_cell": (_number, _number, _to(_Cell)),
+    "vt_screen_row": (_number, _to(_Cell), _size),
+    "vt_screen_row_text": (_number, _room, _size, _to(_size)),
+    "vt_screen_mark": (),
+    "vt_screen_changed": (_room, _size),
+    "vt_screen_resize": (_number, _number),
+    "vt_screen_colour": (_number, _to(_Colour)),
+    "vt_screen_palette": (_to(_Colour), _size),
+    "vt_screen_set_colour": (_number, _byte, _byte, _byte),
+    "vt_screen_set_user": (_to(ctypes.c_uint16),),
+    "vt_screen_redraw": (_room, _size, _to(_size)),
+    "vt_screen_redraw_changes": (_room, _size, _to(_size)),
+    "vt_keys_new": (_bytes, _size, _to(_Text), _size, _to(_Fault)),
+    "vt_keys_scan": (_byte, _to(_Modes), _to(_Key)),
+    "vt_keys_release": (),
+    "vt_keys_state": (_to(_KeyState),),
+    "vt_keys_set_mode": (_number,),
+    "vt_keys_set_meta": (_number,),
+    "vt_keys_set_flags": (_number, _number),
+    "vt_keys_set_lights": (_number,),
+    "vt_keys_set_locks": (_number, _number),
+    "vt_keys_string": (_number, _room, _size, _to(_size)),
+    "vt_keys_set_string": (_number, _bytes, _size),
+}
+
+
+def _load():
+    name = os.environ.get("VT_LIBRARY") or "libvt.so.1"
+    try:
+        library = ctypes.CDLL(name)
+        for call, arguments in _CALLS.items():
+            function = getattr(library, call)
+            function.argtypes, function.restype = [_to(_Handle), *arguments], ctypes.c_uint8
+        for call in ("vt_screen_free", "vt_keys_free"):
+            function = getattr(library, call)
+            function.argtypes, function.restype = [_to(_Handle)], None
+    except (OSError, AttributeError) as fault:
+        raise LibraryError(f"{name}: {fault}; VT_LIBRARY may name the file libvt.so.1") from None
+    return library
+
+
+_library = _load()
+_OK, _MADE, _RANGE, _NO_MEMORY, _NOTHING, _NO_ROOM, _FAULT, _NOT_DRAWABLE = range(8)
+
+
+def _unsigned(value, what):
+    """A number for the library; what doesn't fit in 32 bits is out of every range."""
+    if not 0 <= value < 1 << 32:
+        raise OutOfRange(f"{what}: {value}")
+    return value
+
+
+class _Object:
+    """A handle, and the calls on it, one at a time."""
+
+    _kind = ""
+
+    def __init__(self):
+        self._handle = _Handle()
+        self._lock = threading.RLock()
+
+    def _call(self, name, *arguments, what="a number is out of its range", may=()):
+        with self._lock:
+            code = getattr(_library, f"vt_{self._kind}_{name}")(self._handle, *arguments)
+        if code == _OK or code in may:
+            return code
+        if code == _RANGE:
+            raise OutOfRange(what)
+        if code == _NO_MEMORY:
+            raise NoMemory("memory ran out")
+        if code == _NOTHING:
+            raise Closed(f"this {type(self).__name__} was closed")
+        if code == _NOT_DRAWABLE:
+            raise NotDrawable("no text draws this screen")
+        raise Error(f"vt_{self._kind}_{name}: code {code}")
+
+    def _text(self, name, *arguments, room, what="a number is out of its range"):
+        """The text that a call gives, in as much room as it takes."""
+        length = ctypes.c_size_t()
+        with self._lock:
+            text = (ctypes.c_uint8 * room)()
+            while self._call(name, *arguments, text, len(text), length, what=what, may=(_NO_ROOM,)) == _NO_ROOM:
+                text = (ctypes.c_uint8 * length.value)()
+        return ctypes.string_at(text, length.value)
+
+    def close(self):
+        """Frees what the object has; a call after it raises Closed."""
+        with self._lock:
+            getattr(_library, f"vt_{self._kind}_free")(self._handle)
+
+    def __enter__(self):
+        return self
+
+    def __exit__(self, *_):
+        self.close()
+
+    def __del__(self):
+        if hasattr(self, "_lock"):
+            self.close()
+
+
+class Screen(_Object):
+    """A screen of 1 to 255 rows and columns (console_codes(4))."""
+
+    _kind = "screen"
+
+    def __init__(self, rows, cols):
+        super().__init__()
+        what = f"{rows} rows and {cols} columns: each is 1 to 255"
+        self._call("new", _unsigned(rows, what), _unsigned(cols, what), what=what)
+        self._outs, self._fed = (_Out * OUTS)(), _Fed()
+
+    def feed(self, text):
+        """Draws the bytes, however they are cut into calls. Returns a list of what they ask for, in order: Report,
+        SwitchTo, SwitchLast, Lights, Bell."""
+        text, events = bytes(text), []
+        with self._lock:
+            while True:
+                self._call("feed", text, len(text), self._outs, OUTS, self._fed)
+                events += map(_event, self._outs[:self._fed.said])
+                if self._fed.taken == len(text):
+                    return events
+                text = text[self._fed.taken:]
+
+    def write(self, text):
+        """Draws the bytes, and drops what they ask for."""
+        text = bytes(text)
+        self._call("write", text, len(text))
+
+    def _state(self):
+        state = _State()
+        self._call("state", state)
+        return state
+
+    @property
+    def size(self):
+        """How many rows and columns the screen has."""
+        state = self._state()
+        return state.rows, state.cols
+
+    @property
+    def cursor(self):
+        """Where the cursor is, and whether it is shown."""
+        state = self._state()
+        return Cursor(state.y, state.x, bool(state.visible))
+
+    @property
+    def modes(self):
+        """The modes that keys depend on, for Keyboard.scan."""
+        state = self._state()
+        return Modes(*(bool(mode) for mode in (state.cursor_keys, state.keypad, state.repeat, state.newline)))
+
+    @property
+    def reverse(self):
+        """Whether the screen is shown reversed (DECSCNM)."""
+        return bool(self._state().reverse)
+
+    def row(self, row):
+        """The characters of a row."""
+        what = f"row {row}"
+        return self._text("row_text", _unsigned(row, what), room=4 * ROW, what=what).decode("utf-8", "surrogatepass")
+
+    def rows(self):
+        """The characters of each row, from the top."""
+        with self._lock:
+            return [self.row(row) for row in range(self.size[0])]
+
+    def cell(self, row, col):
+        """One cell."""
+        cell, what = _Cell(), f"row {row}, column {col}"
+        self._call("cell", _unsigned(row, what), _unsigned(col, what), cell, what=what)
+        return _cell(cell)
+
+    def cells(self, row):
+        """The cells of a row, from its left."""
+        cells, what = (_Cell * ROW)(), f"row {row}"
+        with self._lock:
+            self._call("row", _unsigned(row, what), cells, ROW, what=what)
+            return [_cell(cell) for cell in cells[:self.size[1]]]
+
+    def mark(self):
+        """Remembers the cells as they are, for changed_rows."""
+        self._call("mark")
+
+    def changed_rows(self):
+        """The numbers of the rows that differ from the cells that mark remembered; all of them, if there are none."""
+        rows = (ctypes.c_uint8 * ROW)()
+        with self._lock:
+            self._call("changed", rows, ROW)
+            return [row for row in range(self.size[0]) if rows[row]]
+
+    def resize(self, rows, cols):
+        """Gives the screen another size."""
+        what = f"{rows} rows and {cols} columns: each is 1 to 255"
+        self._call("resize", _unsigned(rows, what), _unsigned(cols, what), what=what)
+
+    @property
+    def palette(self):
+        """Red, green and blue of the colours 0 to 15, in the order of SGR."""
+        colours = (_Colour * COLOURS)()
+        self._call("palette", colours, COLOURS)
+        return [_parts(colour) for colour in colours]
+
+    def colour(self, number):
+        """Red, green and blue of a colour, 0 to 15 in the order of SGR."""
+        colour, what = _Colour(), f"colour {number}"
+        self._call("colour", _unsigned(number, what), colour, what=what)
+        return _parts(colour)
+
+    def set_colour(self, number, red, green, blue):
+        """Sets red, green and blue of a colour, 0 to 15 in the order of SGR."""
+        what = f"colour {number}: {red}, {green}, {blue}"
+        if not all(0 <= part < 256 for part in (red, green, blue)):
+            raise OutOfRange(what)
+        self._call("set_colour", _unsigned(number, what), red, green, blue, what=what)
+
+    def set_user(self, words):
+        """Sets the user's table of characters (ESC ( K): 256 words."""
+        words = list(words)
+        if len(words) != 256 or not all(0 <= word < 1 << 16 for word in words):
+            raise OutOfRange("a table has 256 words from 0 to 65535")
+        self._call("set_user", (ctypes.c_uint16 * 256)(*words))
+
+    def redraw(self):
+        """The text that draws this screen on a terminal of its size. NotDrawable, if there is none."""
+        return self._text("redraw", room=4096)
+
+    def redraw_changes(self):
+        """The same for a terminal that shows the cells that mark remembered: only rows that differ are in the text."""
+        return self._text("redraw_changes", room=4096)
+
+
+class Keyboard(_Object):
+    """A keymap (keymaps(5)) and a keyboard that types by it. `keymap` and the texts that it may include, by name, are
+    bytes or str."""
+
+    _kind = "keys"
+
+    def __init__(self, keymap, includes=None, mode=UNICODE):
+        super().__init__()
+        text = _encoded(keymap)
+        pairs = [(_encoded(name), _encoded(included)) for name, included in (includes or {}).items()]
+        texts = (_Text * max(1, len(pairs)))(*((name, len(name), text, len(text)) for name, text in pairs))
+        fault = _Fault()
+        if self._call("new", text, len(text), texts, len(pairs), fault, may=(_FAULT,)) == _FAULT:
+            raise KeymapFault(fault.kind, fault.line, fault.column)
+        self._key = _Key()
+        self.set_mode(mode)
+
+    def scan(self, byte, modes=Modes()):
+        """Types one scan byte. Returns what it sends or asks for: Typed, SwitchTo, SwitchLast, SwitchNext,
+        SwitchPrevious, Spawn, Attention; or None."""
+        if not 0 <= byte < 256:
+            raise OutOfRange(f"scan byte {byte}")
+        with self._lock:
+            self._call("scan", byte, _Modes(*map(bool, modes)), self._key)
+            return _key_event(self._key)
+
+    def type(self, scans, modes=Modes()):
+        """Types scan bytes. Returns a list of what they send or ask for."""
+        return [event for event in (self.scan(byte, modes) for byte in bytes(scans)) if event is not None]
+
+    def release(self):
+        """Releases all keys that are down; none of them sends anything."""
+        self._call("release")
+
+    @property
+    def state(self):
+        """The key state."""
+        state = _KeyState()
+        self._call("state", state)
+        return KeyState(*(getattr(state, name) for name in KeyState._fields))
+
+    def set_mode(self, mode):
+        """Sets the keyboard mode: RAW, XLATE, MEDIUMRAW, UNICODE or OFF."""
+        what = f"mode {mode}: a mode is 0 to 4"
+        self._call("set_mode", _unsigned(mode, what), what=what)
+
+    def set_meta(self, meta):
+        """Sets what Meta does: METABIT or ESCPREFIX."""
+        what = f"meta {meta}: it is 3 or 4"
+        self._call("set_meta", _unsigned(meta, what), what=what)
+
+    def set_flags(self, flags, defaults=0):
+        """Sets the flags, and those that a reset gives."""
+        what = f"flags {flags} and {defaults}: each is 0 to 7"
+        self._call("set_flags", _unsigned(flags, what), _unsigned(defaults, what), what=what)
+
+    def set_lights(self, lights):
+        """Sets the lights; None makes them show the flags again."""
+        self._call("set_lights", 8 if lights is None else _unsigned(lights, f"lights {lights}"))
+
+    def set_locks(self, locks, sticky=0):
+        """Sets the locked modifiers, and those for the next key."""
+        what = f"modifiers {locks} and {sticky}: each is 0 to 255"
+        self._call("set_locks", _unsigned(locks, what), _unsigned(sticky, what), what=what)
+
+    def string(self, number):
+        """The string of a function key, 0 to 255."""
+        what = f"function key {number}"
+        return self._text("string", _unsigned(number, what), room=255, what=what)
+
+    def set_string(self, number, text):
+        """Sets the string of a function key, 0 to 255, to at most 255 bytes."""
+        text, what = bytes(text), f"function key {number}, {len(text)} bytes"
+        self._call("set_string", _unsigned(number, what), text, len(text), what=what)
+
+
+def _encoded(text):
+    return text.encode() if isinstance(text, str) else bytes(text)
+
+
+def _parts(colour):
+    return colour.red, colour.green, colour.blue
+
+
+def _cell(cell):
+    return Cell("" if cell.code >= HALF else chr(cell.code), cell.code, cell.attr)
+
+
+def _event(out):
+    kinds = {2: lambda: SwitchTo(out.number), 3: SwitchLast, 4: lambda: Lights(out.number), 5: Bell}
+    return Report(bytes(out.text[:out.length])) if out.kind == 1 else kinds[out.kind]()
+
+
+def _key_event(key):
+    kinds = {
+        0: lambda: None, 1: lambda: Typed(bytes(key.bytes[:key.length])), 2: lambda: SwitchTo(key.number),
+        3: SwitchLast, 4: SwitchNext, 5: SwitchPrevious, 6: Spawn, 7: Attention}
+    return kinds[key.kind]()

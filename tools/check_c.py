@@ -1,0 +1,257 @@
+#!/usr/bin/env python3
+"""Builds the C library from this clone and checks it, its examples and its bindings.
+
+usage: check_c.py [--library OUT] [--vt PROGRAM] [--only CHECK,..] [--runs N]
+
+- `header`: vt.h is C11 and C++17; the library has the calls of vt.h and no other symbol; vt.py has its layout.
+- `codes`: each code of each call, plainly, with sanitizers, and under valgrind without a leak.
+- `cuts`, `outs`, `workloads`: the recordings of examples/ in pieces of 1, 7, 64, 4,096 bytes and whole, with room for
+  0, 1, 2, 64 and 5,000 outs; a text that asks for thousands of things in eight cuts; the ten workloads of
+  bench/inputs.py. The rows are those that `vt screen` prints.
+- `memory`: each request for memory refused once. `threads`: handles that go between threads, under helgrind.
+- `keys`, `faults`: N random runs of keys (1,000) are typed as `vt type` does; faults of keymaps are those of `vt keys`.
+- `terminal`: examples/c/term.c on a pseudo-terminal.
+- `python`, `rust`: the tests of the bindings. `fuzz`: the fuzzer's corpus (tools/fuzz_c.sh looks for more).
+- `install`: tools/install.sh into a folder, and programs that are compiled by pkg-config there.
+- `guide`: the files and commands of docs/library/c.md, in an empty folder.
+
+OUT is a folder that tools/build_c.sh filled; without it the library is built first. The program is crates/vt/out/vt.
+If a tool isn't there, a line names the check that is skipped. Prints a line for each thing that isn't so and last 'N
+passed, M failed'; ends with status 1 if one fails, and with 2 if the library isn't built or a file is missing.
+"""
+import argparse
+import ctypes
+import importlib
+import os
+import pathlib
+import re
+import shutil
+import subprocess
+import sys
+import tempfile
+
+sys.dont_write_bytecode = True
+
+from c_library import drawn, guide, terminal, typed  # noqa: E402: after the line that keeps tools/ clean
+from c_library.bench import (  # noqa: E402
+    EXAMPLES, SANITIZERS, TESTS, TOP, VALGRIND, WARNINGS, Bench, Missing)
+from tool_files import Stop, number  # noqa: E402
+
+HEADER = TOP / "include/vt.h"
+WRAPPED = [f"-Wl,--wrap={name}" for name in ("malloc", "realloc", "free")]
+
+
+def calls_of_header():
+    """The names of the calls that vt.h has."""
+    return set(re.findall(r"^(?:uint8_t|void) (vt_\w+)\(", HEADER.read_text(encoding="utf-8"), re.M))
+
+
+def binding(bench):
+    """The module vt.py over this library."""
+    os.environ["VT_LIBRARY"] = str(bench.library / "lib/libvt.so.1")
+    sys.path.insert(0, str(TOP / "bindings/python"))
+    return importlib.import_module("vt")
+
+
+def check_header(bench):
+    bench.needs("nm", "readelf")
+    for language, standard, compiler in (("c", "c11", "cc"), ("c", "c2x", "cc"), ("c++", "c++17", "c++")):
+        if not shutil.which(compiler):
+            bench.skip(f"vt.h as {standard}", f"{compiler} isn't there")
+            continue
+        words = [compiler, "-x", language, f"-std={standard}", *WARNINGS, "-pedantic", "-fsyntax-only", HEADER]
+        bench.ends_well(words, f"vt.h as {standard}")
+    calls = calls_of_header()
+    for name, option in (("libvt.a", "-g"), ("libvt.so.1", "-D")):
+        ran = bench.run(["nm", option, "--defined-only", bench.library / "lib" / name])
+        symbols = {line.split()[-1].partition("@")[0] for line in ran.stdout.decode().splitlines() if re.search(r" [TDBRVW] ", line)}
+        bench.holds(symbols == calls, f"the symbols of {name} are the calls of vt.h: {sorted(symbols ^ calls)}")
+    said = bench.run(["readelf", "-d", bench.library / "lib/libvt.so.1"]).stdout.decode()
+    needed = re.findall(r"NEEDED.*\[(.*)\]", said)
+    is_so = "soname: [libvt.so.1]" in said and needed == ["libc.so.6"]
+    bench.holds(is_so, f"libvt.so.1 needs the C library alone: {needed}")
+    bench.holds("TEXTREL" not in said, "libvt.so.1 has no relocations in its text")
+    layout = bench.compiled("layout", [TESTS / "layout.c"])
+    if layout:
+        compare_layout(bench, bench.run([layout]).stdout.decode().splitlines())
+
+
+def compare_layout(bench, lines):
+    """The structs of vt.py have the sizes and the places of fields that C gives them."""
+    vt = binding(bench)
+    names = {"vt_screen": "_Handle", "vt_keys": "_Handle"}
+    for line in lines:
+        name, value = line.split()
+        struct, _, field = name.partition(".")
+        python = names.get(struct) or "_" + "".join(part.title() for part in struct.split("_")[1:])
+        kind = getattr(vt, python)
+        is_so = getattr(kind, field).offset == int(value) if field else ctypes.sizeof(kind) == int(value)
+        bench.holds(is_so, f"{python} of vt.py has the layout of {name}: {value}")
+
+
+def check_codes(bench):
+    for name in ("screen_codes", "keys_codes"):
+        plain = bench.compiled(name, [TESTS / f"{name}.c"])
+        sanitized = bench.compiled(f"{name}.san", [TESTS / f"{name}.c"], SANITIZERS)
+        if plain and sanitized:
+            bench.ends_well([plain], f"{name}.c")
+            bench.ends_well([sanitized], f"{name}.c with sanitizers")
+            bench.needs("valgrind")
+            bench.ends_well([*VALGRIND, plain], f"{name}.c under valgrind")
+
+
+def check_memory(bench):
+    plain = bench.compiled("memory", [TESTS / "memory.c"], WRAPPED)
+    sanitized = bench.compiled("memory.san", [TESTS / "memory.c"], [*WRAPPED, *SANITIZERS])
+    if plain and sanitized:
+        ran = bench.ends_well([plain], "memory.c")
+        print(ran.stdout.decode().splitlines()[0] if ran.stdout else "no output", flush=True)
+        bench.ends_well([sanitized], "memory.c with sanitizers")
+        bench.needs("valgrind")
+        bench.ends_well([*VALGRIND, plain], "memory.c under valgrind")
+
+
+def check_threads(bench):
+    program = bench.compiled("threads", [TESTS / "threads.c"], ["-pthread"])
+    if program:
+        bench.ends_well([program], "threads.c")
+        bench.needs("valgrind")
+        words = ["valgrind", "-q", "--tool=helgrind", "--error-exitcode=99", program]
+        bench.ends_well(words, "threads.c under helgrind")
+
+
+def check_python(bench):
+    library = str(bench.library / "lib/libvt.so.1")
+    words = [sys.executable, "-B", TOP / "bindings/python/test_vt.py"]
+    bench.ends_well(words, "the tests of vt.py", env={**os.environ, "VT_LIBRARY": library})
+
+
+def check_rust(bench):
+    bench.needs("cargo")
+    folder = bench.folder / "rust"
+    more = {"cwd": TOP / "bindings/rust", "timeout": 900}
+    environment = {**os.environ, "CARGO_TARGET_DIR": str(folder), "VT_LIB_DIR": str(bench.library / "lib")}
+    lock = TOP / "bindings/rust/Cargo.lock"
+    was_there = lock.exists()
+    bench.ends_well(["cargo", "test", "--offline", "-q"], "cargo test", env=environment, **more)
+    text = drawn.workload("sgr")
+    words = ["cargo", "run", "--offline", "-q", "-p", "vt-screen", "--example", "screen", "25", "80"]
+    ran = bench.ends_well(words, "the example of Rust", text, env=environment, **more)
+    wanted = bench.run([bench.vt, "screen", 25, 80], text).stdout
+    bench.holds(ran.stdout == wanted, "the example of Rust draws as vt screen does")
+    if not was_there:
+        lock.unlink(missing_ok=True)
+
+
+def check_fuzz(bench):
+    bench.needs("clang")
+    words = [TOP / "tools/fuzz_c.sh", "--library", bench.library, "0"]
+    ran = bench.run(words)
+    if ran.returncode == 77:
+        raise Missing("clang has no libFuzzer")
+    said = (ran.stdout + ran.stderr).decode("utf-8", "replace")[-2000:]
+    bench.holds(ran.returncode == 0, f"the fuzzer's corpus runs:\n{said}")
+
+
+def check_install(bench):
+    bench.needs("pkg-config")
+    below = bench.folder / "below"
+    # The tool takes what stands in out/c of its clone.
+    built = TOP / "out/c/lib/libvt.a"
+    if not built.exists():
+        raise Missing("out/c isn't built; tools/build_c.sh makes it")
+    environment = {**os.environ, "DESTDIR": str(below)}
+    ran = bench.ends_well([TOP / "tools/install.sh", "/opt/vt"], "install.sh", env=environment)
+    library = ["include/vt.h", "lib/libvt.a", "lib/libvt.so", "lib/libvt.so.1", "lib/pkgconfig/vt.pc"]
+    for name in [*library, "share/man/man3/vt.3", "share/man/man1/vt.1"]:
+        bench.holds((below / "opt/vt" / name).exists() and name in ran.stdout.decode(), f"install.sh installs {name}")
+    prefix = (below / "opt/vt/lib/pkgconfig/vt.pc").read_text().splitlines()[0]
+    bench.holds(prefix == "prefix=/opt/vt", f"vt.pc has the prefix: {prefix}")
+    bench.ends_well([TOP / "tools/install.sh", bench.folder / "here"], "install.sh without DESTDIR")
+    environment = {**os.environ, "PKG_CONFIG_PATH": str(bench.folder / "here/lib/pkgconfig")}
+    for kind, options in (("shared", ""), ("static", "--static")):
+        command = f"cc -o {bench.folder}/one {EXAMPLES}/screen.c $(pkg-config {options} --cflags --libs vt)"
+        bench.ends_well(["sh", "-c", command], f"screen.c by pkg-config, {kind}", env=environment)
+        run = {**os.environ, "LD_LIBRARY_PATH": str(bench.folder / "here/lib")}
+        ran = bench.run([bench.folder / "one", 2, 5], b"abcdefghijk", env=run)
+        bench.holds(ran.stdout == b"|fghij|\n|k    |\n", "the program that was installed for draws")
+    bad = [([], 1), (["-x"], 1), (["a", "b"], 1), (["/dev/null/x"], 1)]
+    for words, status in bad:
+        ran = bench.run([TOP / "tools/install.sh", *words], env={**os.environ, "DESTDIR": ""})
+        is_so = ran.returncode == status and b"install.sh: " in ran.stderr
+        bench.holds(is_so, f"install.sh {words} ends with {status}")
+    for words in (["-x"], ["a", "b"]):
+        ran = bench.run([TOP / "tools/build_c.sh", *words])
+        bench.holds(ran.returncode == 1 and b"usage" in ran.stderr, f"build_c.sh {words} ends with 1")
+
+
+CHECKS = {
+    "header": check_header,
+    "codes": check_codes,
+    "cuts": drawn.check_cuts,
+    "cuts by valgrind": drawn.check_cuts_by_valgrind,
+    "outs": drawn.check_outs,
+    "workloads": drawn.check_workloads,
+    "memory": check_memory,
+    "threads": check_threads,
+    "keys": typed.check_keys,
+    "faults": typed.check_faults,
+    "terminal": lambda bench: terminal.check_terminal(bench, binding(bench)),
+    "python": check_python,
+    "rust": check_rust,
+    "fuzz": check_fuzz,
+    "install": check_install,
+    "guide": guide.check_guide,
+}
+
+
+def build():
+    """The folder of the library, built."""
+    if not shutil.which("cc"):
+        print("skipped: the C library: no C compiler (cc) is there")
+        sys.exit(0)
+    ran = subprocess.run([TOP / "tools/build_c.sh"], capture_output=True, text=True, check=False)
+    if ran.returncode:
+        raise Stop(2, ran.stderr.strip())
+    return TOP / "out/c"
+
+
+def main():
+    words = argparse.ArgumentParser(description=__doc__.split("\n\n")[0])
+    words.add_argument("--library", metavar="OUT", help="a folder that tools/build_c.sh filled")
+    words.add_argument("--vt", default=TOP / "crates/vt/out/vt", metavar="PROGRAM", help="the program vt")
+    words.add_argument("--only", default=",".join(CHECKS), metavar="CHECK,..", help=", ".join(CHECKS))
+    words.add_argument("--runs", default="1000", metavar="N", help="how many random runs of keys")
+    given = words.parse_args()
+    names = given.only.split(",")
+    unknown = [name for name in names if name not in CHECKS]
+    if unknown:
+        raise Stop(2, f"{unknown[0]}: one of {', '.join(CHECKS)} was wanted")
+    try:
+        typed.RUNS = number(given.runs, 1, 100_000, "runs")
+    except ValueError as fault:
+        raise Stop(2, f"check_c.py: {fault}") from None
+    library = pathlib.Path(given.library or build()).absolute()
+    for file in (library / "lib/libvt.a", library / "lib/libvt.so.1", pathlib.Path(given.vt)):
+        if not file.exists():
+            raise Stop(2, f"{file} isn't there")
+    with tempfile.TemporaryDirectory() as folder:
+        bench = Bench(library, folder, pathlib.Path(given.vt).absolute())
+        for name in names:
+            try:
+                CHECKS[name](bench)
+            except Missing as missing:
+                bench.skip(name, missing)
+            except subprocess.TimeoutExpired as late:
+                bench.holds(False, f"{name} ends: {late}")
+    skipped = f", {len(bench.skipped)} skipped" if bench.skipped else ""
+    print(f"{bench.passed} passed, {bench.failed} failed{skipped}")
+    return 1 if bench.failed or not bench.passed else 0
+
+
+if __name__ == "__main__":
+    try:
+        sys.exit(main())
+    except Stop as stop:
+        print(f"check_c.py: {stop}", file=sys.stderr)
+        sys.exit(stop.status)

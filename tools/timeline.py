@@ -1,0 +1,55 @@
+#!/usr/bin/env python3
+"""Draws what `watch json` prints of a session (docs/WATCH.md) as one page of HTML.
+
+    watch json < SESSION.toml | tools/timeline.py > PAGE.html
+    tools/timeline.py [--title TEXT] [-o PAGE.html] [JSON]
+
+Time goes to the right, an entry a column. A band at the top has the console in front with its owner's colour, and below
+it the console that is pending. Each keyboard and process has a lane: its calls as marks, its waits as bars, the signals
+that it gets, and arrows from requests to signals, from these to releases, and from these to the display. Pointing at a
+column, or the keys, show the entry with its answer in words and the reason of a switch. Below are the screens at the
+end and all entries as text. The page needs no other file, and no network.
+
+Exit status: 0 written, 1 the words or the JSON are refused, 3 a file can't be read or written.
+"""
+import argparse
+import pathlib
+import sys
+
+sys.dont_write_bytecode = True
+
+from timeline_page import page  # noqa: E402: after the line that keeps tools/ clean
+from tool_files import Stop, read_file, reason, write_file  # noqa: E402
+from watch_json import read_watch  # noqa: E402
+
+MOST_ENTRIES = 100_000
+
+
+class Parser(argparse.ArgumentParser):
+    def error(self, message):
+        raise Stop(1, f"{message}; {self.format_usage().strip()}")
+
+
+def main():
+    parser = Parser(prog="timeline.py", description="Draws what `watch json` prints as a page of HTML.")
+    parser.add_argument("json", nargs="?", default="-", help="the JSON; standard input without it, or for -")
+    parser.add_argument("-o", "--output", help="where the page is written; standard output without it")
+    parser.add_argument("--title", help="the page's title")
+    try:
+        args = parser.parse_args()
+        try:
+            given = sys.stdin.buffer.read() if args.json == "-" else read_file(args.json, 3)
+        except (OSError, ValueError, AttributeError) as fault:
+            raise Stop(3, f"standard input: {reason(fault)}") from None
+        entries, final = read_watch(given, MOST_ENTRIES)
+        name = "a session" if args.json == "-" else pathlib.Path(args.json).stem
+        text = page(args.title or f"Timeline of {name}", entries, final)
+        write_file(args.output, text.encode(errors="replace"), 3)
+    except Stop as stop:
+        print(f"timeline.py: {stop}", file=sys.stderr)
+        return stop.status
+    return 0
+
+
+if __name__ == "__main__":
+    sys.exit(main())
