@@ -86,17 +86,18 @@ impl<J: Opening> Shared<J> {
         ensures { ComesTo caller seq event self.old self.new result }
     {
         self.sound();
-        if let Some(stop) = &self.state.stop {
+        let state = &*self.state;
+        if let Some(stop) = &state.stop {
             return Turn::Full(stop.what);
         }
-        if self.state.world.waiting(caller) {
+        if state.world.waiting(caller) {
             return Turn::Waits;
         }
         let charge = charge(&event);
-        if !self.state.log.room(charge) {
+        if !state.log.room(charge) {
             let full = Full {
-                events: self.state.log.entries().len() as u32,
-                bytes: self.state.log.bytes(),
+                events: state.log.entries().len() as u32,
+                bytes: state.log.bytes(),
                 charge,
             };
             self.state.stop = Some(Seal {
