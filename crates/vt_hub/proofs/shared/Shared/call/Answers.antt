@@ -1,6 +1,6 @@
 use Rattle.std.proofs.Common.{rules, ◌≡◌, Some, false, length, sym, ap, subst, ◌∙◌}
 use Rattle.turn_lock.specs.declared.seal.Seal.{Seal}
-use Rattle.vt_hub.specs.Shared.{IsSound, IsStop, SharedView, shared_view}
+use Rattle.vt_hub.specs.Shared.{IsSound, SharedView, shared_view}
 use Rattle.vt_hub.specs.declared.state.State.{State}
 use Rattle.vt_journal.specs.Room.{full_at, has_room}
 use Rattle.vt_journal.specs.declared.full.Full.{Full}
