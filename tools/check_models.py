@@ -65,7 +65,7 @@ FUNCTIONS = [
     ("crates/turn_lock/src/door.rt", ["number", "wait", "since", "is_due", "call"]),
     ("crates/turn_lock/src/bells.rt", ["announced", "ring"]),
     ("crates/vt_hub/src/hub.rt", ["wait_end", "turn"]),
-    ("crates/vt_hub/src/bells.rt", ["announced", "ring", "ring_all"]),
+    ("crates/vt_hub/src/wake_ups.rt", ["prepare_wait", "wake", "wake_all"]),
 ]
 
 

@@ -1,5 +1,5 @@
 -- What lies under the lock stays sound as a call is entered.
-use Rattle.std.proofs.Common.{◌≡◌, ◌≢◌, ⊎_elim, ℕ, true, false, ◌==◌, List, [], ◌∷◌, ◌++◌, length, Some, None, refl, sym, ap, ◌∙◌, subst, ◌<◌}
+use Rattle.std.proofs.Common.{◌≡◌, ◌≢◌, ⊎_elim, ℕ, true, false, ◌==◌, List, [], ◌∷◌, ◌++◌, length, Option, Some, None, unwrap_or, refl, sym, ap, ◌∙◌, subst, ◌<◌}
 use Rattle.std.proofs.lemmas.List.{append-nil}
 use Rattle.std.proofs.lemmas.List.Sums.{length-filter}
 use Rattle.std.specs.List.{count_by}
@@ -10,8 +10,10 @@ use Rattle.vt_events.specs.declared.event.Event.{Event}
 use Rattle.vt_events.specs.declared.reply.Reply.{Reply}
 use Rattle.vt_events.specs.declared.reply.Reply.TheVariants as reply
 use Rattle.vt_hub.specs.Histories.{IsFree, awaits, made_by}
-use Rattle.vt_hub.specs.Shared.{IsSound, SharedView}
+use Rattle.vt_hub.specs.Shared.{IsSound, IsStop, SharedView}
 use Rattle.vt_hub.proofs.Lists.{each_more, made_other, made_own, waits_more}
+use Rattle.turn_lock.specs.declared.seal.Seal.{Seal}
+use Rattle.vt_journal.specs.declared.full.Full.{Full}
 use Rattle.vt_journal.specs.declared.limits.Limits.{Limits}
 use Rattle.vt_world.specs.History.{IsLegal, IsNext, LegalGrows, ReplayGrows, replay}
 use Rattle.vt_world.specs.State.{WorldState, is_waiting}
@@ -107,3 +109,23 @@ module _ (start : WorldState) (most : Limits) (v w : SharedView) (p seq : ℕ) (
             ∙ waits called free q opened;
         stops = λ z is. let bad : None ≡ Some z = sym goes_on ∙ is in absurd cc;
       }
+
+-- a state without a stop stays sound as a stop of this history is set
+pub sound_stopped : (start : WorldState) (most : Limits) (v : SharedView) (stop : Seal Full) → IsSound start most v
+    → IsStop most v.world v.log.entries stop → IsSound start most (record v { stop = Some stop })
+sound_stopped start most v stop sound is = record {
+  legal = sound.legal;
+  replayed = sound.replayed;
+  free = sound.free;
+  limits = sound.limits;
+  rows = sound.rows;
+  cols = sound.cols;
+  display_low = sound.display_low;
+  display_high = sound.display_high;
+  shown_low = sound.shown_low;
+  shown_high = sound.shown_high;
+  lawful = sound.lawful;
+  tickets = sound.tickets;
+  stops = λ z same. subst (IsStop most v.world v.log.entries)
+      (ap (λ (o : Option (Seal Full)). unwrap_or o stop) same) is;
+}

@@ -7,6 +7,7 @@ use Rattle.vt_events.specs.declared.entry.Entry.{Entry}
 use Rattle.vt_events.specs.declared.event.Event.{Event}
 use Rattle.vt_events.specs.declared.reply.Reply.{Reply}
 use Rattle.vt_hub.specs.Histories.{IsFree, awaits, made_by}
+use Rattle.vt_hub.specs.declared.state.State.{State}
 use Rattle.vt_hub.specs.declared.turn.Turn.{Turn}
 use Rattle.vt_hub.specs.declared.turn.Turn.TheVariants as turn
 use Rattle.vt_journal.specs.Log.{Logged}
@@ -22,6 +23,10 @@ pub record SharedView : Type 0 where
   pub world : WorldState
   pub log : Logged
   pub stop : Option (Seal Full)
+
+-- what contracts see of the state under the lock
+abbrev pub shared_view : State → SharedView
+shared_view s = record { world = s.world; log = s.log; stop = s.stop }
 
 -- a stop has the numbers of this history, its charge finds no room, and its caller has no open ticket
 pub record IsStop (most : Limits) (w : WorldState) (history : List Entry) (stop : Seal Full) : Type 0 where

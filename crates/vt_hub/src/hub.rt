@@ -12,7 +12,6 @@ ghost use Rattle.vt_world.specs.State.{is_waiting};
 ghost use Rattle.vt_world.specs.Refusals.{ends_wait};
 
 use crate::answer::Answer;
-use crate::bells::Bells;
 use crate::opening::Opening;
 use crate::pass::Pass;
 use crate::pass_place::PassPlace;
@@ -20,6 +19,7 @@ use crate::run::Run;
 use crate::shared::Shared;
 use crate::steward::Steward;
 use crate::turn::Turn;
+use crate::wake_ups::WakeUps;
 use std::alloc::Global;
 use std::marker::Model;
 use std::sync::Wait;
@@ -33,7 +33,7 @@ use vt_world::{Spare, World, screens_are_tapes};
 #[derive(Drop)]
 pub struct Hub<J: Opening> {
     lock: TurnLock<Shared<J>>,
-    bells: Bells,
+    wake_ups: WakeUps,
     alloc: Global,
     // Of the screens: it tells how much memory a call needs.
     size: Size,
@@ -63,15 +63,15 @@ impl<J: Opening> Hub<J> {
     {
         let size = w.size();
         let log = Log::with_room(alloc, limits.events, limits.bytes)?;
-        let shared = Shared::new(Box::new(alloc, w)?, log);
+        let shared = Shared::new(alloc, w, log)?;
         shared.sound();
-        let bells = Bells::new(alloc)?;
+        let wake_ups = WakeUps::new(alloc)?;
         let (lock, place) = TurnLock::open(alloc, shared)?;
         let stands = [PassPlace::Unmade; 68];
         Ok((
             Hub {
                 lock,
-                bells,
+                wake_ups,
                 alloc,
                 size,
             },
@@ -156,8 +156,8 @@ impl<J: Opening> Hub<J> {
         ensures { Answers J.start J.limits event.WaitEnd p.old p.new result }
     {
         for _ in rt.forever() {
-            // The wait is announced before the look, so the bell can't ring between the two unheard.
-            let key = self.bells.announced(p.number);
+            // The wait is prepared before the look, so that a wake-up between the two ends it.
+            let key = self.wake_ups.prepare_wait(p.number);
             match self.turn(rt, p, Event::WaitEnd, Spare::none(self.alloc)) {
                 Turn::Done { at, reply } => return Answer::Done { at, reply },
                 Turn::Full(full) => return Answer::Full(full),
@@ -190,13 +190,13 @@ impl<J: Opening> Hub<J> {
             Turn::Done { at, reply } => {
                 held.publish();
                 held.leave();
-                self.bells.ring(ended);
+                self.wake_ups.wake(ended);
                 p.seq = seq + 1;
                 Turn::Done { at, reply }
             }
             Turn::Full(full) => {
                 held.leave();
-                self.bells.ring_all();
+                self.wake_ups.wake_all();
                 Turn::Full(full)
             }
             Turn::Waits => {
@@ -236,7 +236,7 @@ impl<J: Opening> Hub<J> {
         screens_are_tapes();
         let Hub {
             lock,
-            bells: _,
+            wake_ups: _,
             alloc: _,
             size: _,
         } = self;

@@ -2,7 +2,6 @@
 #![tactic(auto)]
 
 mod answer;
-mod bells;
 mod hub;
 mod kept_impl;
 mod opening;
@@ -11,9 +10,11 @@ mod pass_place;
 mod run;
 mod seat;
 mod shared;
+mod state;
 mod steward;
 mod turn;
 mod waiters;
+mod wake_ups;
 
 pub use answer::Answer;
 pub use hub::Hub;

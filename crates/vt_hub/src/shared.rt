@@ -1,4 +1,4 @@
-ghost use Rattle.std.specs.Prelude.{◌≡◌, ◌+◌, ◌*◌, ℕ, [], None, false, length, option_map};
+ghost use Rattle.std.specs.Prelude.{◌≡◌, ◌+◌, ◌*◌, ℕ, [], IfOk, None, false, length, option_map};
 ghost use Rattle.vt_events.specs.Charge.{charge_of};
 ghost use Rattle.vt_hub.specs.Histories.{made_by};
 ghost use Rattle.vt_hub.specs.Shared.{ComesTo, IsSound};
@@ -7,11 +7,13 @@ ghost use Rattle.vt_world.specs.Spare.{Fits};
 ghost use Rattle.vt_world.specs.State.{is_waiting};
 
 use crate::opening::Opening;
+use crate::state::State;
 use crate::turn::Turn;
 use crate::waiters::Waiters;
+use std::alloc::Global;
 use std::marker::{Model, PhantomData};
 use turn_lock::Seal;
-use vt_base::CallerNo;
+use vt_base::{CallerNo, NoMemory};
 use vt_events::{Entry, Event, charge};
 use vt_journal::{Full, Log};
 use vt_world::{
@@ -21,62 +23,59 @@ use vt_world::{
 /// What lies under the lock: the world after the entries of the log, and where the hub stopped.
 #[derive(Drop)]
 pub(crate) struct Shared<J: Opening> {
-    // In a box, so that a turn moves one word of it.
-    world: Box<World>,
-    log: Log,
-    stop: Option<Seal<Full>>,
-    // Whose tickets are open after the last call, and whose it ended.
-    waits: Waiters,
-    ended: Waiters,
+    // In a box, so that a turn moves one word.
+    state: Box<State>,
     of: PhantomData<J>,
 }
 
 impl<J: Opening> Model for Shared<J> {
-    ghost use Rattle.vt_hub.specs.Shared.{IsSound, SharedView};
+    ghost use Rattle.vt_hub.specs.Shared.{IsSound, SharedView, shared_view};
 
     ghost Value = { SharedView };
 
-    ghost view = { λ s. record { world = s.world.value; log = s.log; stop = s.stop } };
+    ghost view = { λ s. shared_view s.state.value };
 
-    ghost invariant = { λ s.
-        IsSound J.start J.limits (record { world = s.world.value; log = s.log; stop = s.stop }) };
+    ghost invariant = { λ s. IsSound J.start J.limits (shared_view s.state.value) };
 }
 
 impl<J: Opening> Shared<J> {
     /// The world that is opened, with no entries.
-    pub(crate) fn new(world: Box<World>, log: Log) -> Shared<J>
-        requires start { world.value ≡ J.start }
+    pub(crate) fn new(alloc: Global, world: World, log: Log) -> Result<Shared<J>, NoMemory>
+        requires start { world ≡ J.start }
         requires limits { log.limits ≡ J.limits }
         requires empty { log.entries ≡ [] }
-        requires free { (p : ℕ) → is_waiting world.value p ≡ false }
-        ensures log { result.log ≡ log }
-        ensures stop { result.stop ≡ None }
+        requires free { (p : ℕ) → is_waiting world p ≡ false }
+        ensures log { IfOk result (λ made. made.log ≡ log) }
+        ensures stop { IfOk result (λ made. made.stop ≡ None) }
     {
         legal_grows();
         displays_are_lawful_from(&world);
         let _front = world.display().get();
-        Shared {
+        let state = State {
             world,
             log,
             stop: None,
             waits: Waiters::none(),
             ended: Waiters::none(),
+        };
+        Ok(Shared {
+            state: Box::new(alloc, state)?,
             of: PhantomData,
-        }
+        })
     }
 
     /// What it always keeps.
     pub(crate) fn sound(&self)
         ensures { IsSound J.start J.limits self.now }
     {
-        let _ = &self.stop;
+        let _ = &self.state.stop;
     }
 
     /// 64 times the number of entries, plus the display.
     pub(crate) fn word(&self) -> u64
         ensures { result ≡ 64 * length self.now.log.entries + self.now.world.display.front }
     {
-        64 * self.log.entries().len() as u64 + u64::from(self.world.display().get())
+        64 * self.state.log.entries().len() as u64 + u64::from(self.state.world.display().get())
     }
 
     /// One look of a caller that has made `seq` calls: it enters its next call, unless the hub has
@@ -87,20 +86,21 @@ impl<J: Opening> Shared<J> {
         ensures { ComesTo caller seq event self.old self.new result }
     {
         self.sound();
-        if let Some(stop) = &self.stop {
+        let state = &*self.state;
+        if let Some(stop) = &state.stop {
             return Turn::Full(stop.what);
         }
-        if self.world.waiting(caller) {
+        if state.world.waiting(caller) {
             return Turn::Waits;
         }
         let charge = charge(&event);
-        if !self.log.room(charge) {
+        if !state.log.room(charge) {
             let full = Full {
-                events: self.log.entries().len() as u32,
-                bytes: self.log.bytes(),
+                events: state.log.entries().len() as u32,
+                bytes: state.log.bytes(),
                 charge,
             };
-            self.stop = Some(Seal {
+            self.state.stop = Some(Seal {
                 by: u32::from(caller.get()),
                 what: full,
             });
@@ -122,25 +122,26 @@ impl<J: Opening> Shared<J> {
         sizes_stay();
         tickets_are_called();
         self.sound();
-        let at = self.log.entries().len() as u32;
-        let (reply, unused) = self.world.step(caller, &event, spare);
-        let _front = self.world.display().get();
-        let waits = self.waits.after(&self.world, caller);
-        self.ended = self.waits.without(waits);
-        self.waits = waits;
+        let state = &mut *self.state;
+        let at = state.log.entries().len() as u32;
+        let (reply, unused) = state.world.step(caller, &event, spare);
+        let _front = state.world.display().get();
+        let waits = state.waits.after(&state.world, caller);
+        state.ended = state.waits.without(waits);
+        state.waits = waits;
         let entry = Entry {
             caller,
             seq,
             event,
             reply: reply.copy_into(unused),
         };
-        self.log.push(entry);
+        state.log.push(entry);
         Turn::Done { at, reply }
     }
 
     /// Those whose tickets the last call ended.
     pub(crate) fn ended(&self) -> Waiters {
-        self.ended
+        self.state.ended
     }
 
     /// The world, the log, and where the hub stopped.
@@ -149,10 +150,17 @@ impl<J: Opening> Shared<J> {
         ensures log { result.1 ≡ self.log }
         ensures stop { result.2 ≡ option_map (λ z. z.what) self.stop }
     {
-        let stop = match &self.stop {
+        let State {
+            world,
+            log,
+            stop,
+            waits: _,
+            ended: _,
+        } = Box::into_inner(self.state);
+        let stop = match stop {
             Some(stop) => Some(stop.what),
             None => None,
         };
-        (Box::into_inner(self.world), self.log, stop)
+        (world, log, stop)
     }
 }

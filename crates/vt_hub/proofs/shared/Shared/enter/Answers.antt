@@ -1,7 +1,8 @@
-use Rattle.std.proofs.Common.{arith, refl, sym, ap, subst, ◌∙◌}
+use Rattle.std.proofs.Common.{◌≡◌, [], ◌∷◌, ◌++◌, arith, refl, sym, ap, subst, ◌∙◌}
 use Rattle.vt_events.specs.declared.entry.Entry.{Entry}
 use Rattle.vt_hub.specs.Histories.{made_by}
-use Rattle.vt_hub.specs.Shared.{SharedView}
+use Rattle.vt_hub.specs.Shared.{SharedView, shared_view}
+use Rattle.vt_hub.specs.declared.state.State.{State}
 use Rattle.vt_world.specs.State.{WorldState, is_waiting}
 use Rattle.vt_world.specs.Step.{HasOutcome, step}
 use Rattle.vt_hub.proofs.Sounds.{IsEntryOf, enters}
@@ -10,15 +11,12 @@ use Rattle.vt_hub.proofs.shared.Shared.enter.Goals as goal
 
 pub invariant_of-self : goal.invariant_of-self
 invariant_of-self g c =
-    let v : SharedView = record {
-      world = c.self.inside.world.value;
-      log = c.self.inside.log;
-      stop = c.self.inside.stop;
-    } in
+    let v : SharedView = shared_view c.self.inside.state.value in
+    let given : c.deref_mut-state.result.now ≡ c.self.inside.state.value = c.deref_mut-state.ensures.value in
     let w : SharedView = record {
       world = c.step-reply.new.self;
       log = c.push.new.self;
-      stop = c.self.inside.stop;
+      stop = c.deref_mut-state.result.now.stop;
     } in
     let entry : Entry = record {
       caller = c.args.caller;
@@ -30,15 +28,15 @@ invariant_of-self g c =
     record { caller = refl; number = refl; event = refl; reply = c.copy_into.ensures } in
     let stepped : HasOutcome (step v.world c.args.caller c.args.event) w.world c.step-reply.result.0 =
     subst (λ (x : WorldState). HasOutcome (step x c.args.caller c.args.event) w.world c.step-reply.result.0)
-    c.deref_mut.ensures.value c.step-reply.ensures.step in
-    let shown = ap (λ (x : WorldState). x.display.front) c.deref.ensures in
+    (ap (λ (s : State). s.world) given) c.step-reply.ensures.step in
     enters g.J.Opening.start g.J.Opening.limits v w c.args.caller c.args.seq c.args.event
     c.step-reply.result.0 entry of stepped c.self.invariant c.legal_grows.ensures.more
     c.legal_grows.ensures.replay c.sizes_stay.ensures c.tickets_are_called.ensures
     (ap (λ (x : SharedView). is_waiting x.world c.args.caller) c.self.view_is ∙ c.requires.free)
     (c.requires.number
     ∙ ap (λ (x : SharedView). length (made_by c.args.caller x.log.entries)) (sym c.self.view_is))
-    (ap (λ l. l.entries) c.push.ensures) (ap (λ l. l.limits) c.push.ensures)
-    (ap (λ (x : SharedView). x.stop) c.self.view_is ∙ c.requires.open)
-    (omega (arith, c.get-front.ensures.low, c.get-front.ensures.same, c.display.ensures, shown))
-    (omega (arith, c.get-front.ensures.high, c.get-front.ensures.same, c.display.ensures, shown))
+    (ap (λ l. l.entries) c.push.ensures ∙ ap (λ (s : State). s.log.entries ++ entry ∷ []) given)
+    (ap (λ l. l.limits) c.push.ensures ∙ ap (λ (s : State). s.log.limits) given)
+    (ap (λ (s : State). s.stop) given ∙ (ap (λ (x : SharedView). x.stop) c.self.view_is ∙ c.requires.open))
+    (omega (arith, c.get-front.ensures.low, c.get-front.ensures.same, c.display.ensures))
+    (omega (arith, c.get-front.ensures.high, c.get-front.ensures.same, c.display.ensures))

@@ -1,0 +1,15 @@
+use crate::waiters::Waiters;
+use turn_lock::Seal;
+use vt_journal::{Full, Log};
+use vt_world::World;
+
+/// The world after the entries of the log, and where the hub stopped.
+#[derive(Drop)]
+pub(crate) struct State {
+    pub(crate) world: World,
+    pub(crate) log: Log,
+    pub(crate) stop: Option<Seal<Full>>,
+    // Whose tickets are open after the last call, and whose it ended.
+    pub(crate) waits: Waiters,
+    pub(crate) ended: Waiters,
+}
