@@ -30,7 +30,7 @@ split_all-requires-clause-fresh g c =
 
 -- the hooks are those of the session's processes
 pub work_all-requires-clause-hooks : goal.work_all-requires-clause-hooks
-work_all-requires-clause-hooks g c =
+work_all-requires-clause-hooks g c κs within =
     hooked c.programs-programs.ensures.are
     (subst (λ ps. HasHooks ps c.args.hooks.now) (sym c.programs-programs.ensures.same) c.requires.hooks)
 
