@@ -3,15 +3,19 @@ use Rattle.std.proofs.Common.{◌≡◌, ℕ, ◌+◌, ◌<◌, true, false, ◌
 use Rattle.std.proofs.lemmas.Bool.{cases_Bool, or_left}
 use Rattle.std.specs.Prelude.{is_some}
 use Rattle.session_order.specs.Calls.{all_over}
-use Rattle.session_order.specs.Ends.{Setup}
+use Rattle.session_order.specs.Ends.{Ends, Setup}
 use Rattle.session_order.specs.Laws.{FinishedStays, IsFromStart, RoundsAddUp, RoundsGoOn}
 use Rattle.session_order.specs.Meant.{ReplayIsMeant, plain_history}
+use Rattle.session_order.specs.Follows.{Follows}
 use Rattle.session_order.specs.Serial.{IsSerial, Played, is_finished, nothing_played, round, rounds, turns}
+use Rattle.session_order.specs.Sessions.{IsRightHistory, LegalAreRight, setup_of, start_of}
 use Rattle.session_run.specs.Playing.{IsAt, PlayerView}
-use Rattle.session_run.specs.Runs.{run_result}
+use Rattle.session_run.specs.Runs.{IsRightRun, run_result}
+use Rattle.session_text.specs.Sessions.{SessionView}
 use Rattle.vt_hub.specs.declared.run.Run.{Run}
 use Rattle.vt_journal.specs.Log.{Logged}
-use Rattle.vt_world.specs.History.{replay}
+use Rattle.vt_journal.specs.Room.{tail_at}
+use Rattle.vt_world.specs.History.{IsLegal, replay}
 use Rattle.session_run.proofs.Turns.{lengths}
 
 not_longer : (m n : ℕ) → m < n → n ≡ m → ⊥
@@ -76,3 +80,11 @@ run_world is_meant o t view run at world log =
     ∙ at.replayed
     ∙ ap (replay o.start) (sym at.history ∙ ap (λ (l : Logged). plain_history l.entries) (sym log))
     ∙ is_meant o.start run.log.entries
+
+-- a run whose history is legal, follows the programs and ends so is right
+pub right_run : (s : SessionView) → LegalAreRight s → (run : Run) → run.world ≡ replay (start_of s) run.log.entries
+    → IsLegal (start_of s) run.log.entries → Follows (start_of s) s.programs run.log.entries
+    → Ends (setup_of s) run.log.entries (tail_at run.log.entries run.stop) → IsRightRun s run
+right_run s laws run world legal follows ends =
+    subst (λ w. IsRightHistory s w run.log.entries (tail_at run.log.entries run.stop)) (sym world)
+    (laws run.log.entries (tail_at run.log.entries run.stop) legal follows ends)

@@ -106,9 +106,9 @@ hook_at processes keyboards programs tables p program a has is none =
     (omega (arith, apart, acts.0), acts.1)
 
 -- the hooks of a session's processes are at the places of their numbers
-pub hooked : (processes keyboards : ℕ) (programs : List Program) (tables : List (List Act))
+pub hooked : {processes keyboards : ℕ} {programs : List Program} {tables : List (List Act)}
     → ArePrograms processes keyboards programs → HasHooks programs tables → AreHooked programs tables
-hooked processes keyboards programs tables a has = record {
+hooked {processes} {keyboards} {programs} {tables} a has = record {
   each = λ p program is. hook_at processes keyboards programs tables p program a has is;
 }
 

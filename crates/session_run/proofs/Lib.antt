@@ -5,7 +5,6 @@ pub mod HavePrograms
 pub mod Joins
 pub mod Plays
 pub mod Races
-pub mod Sessions
 pub mod Texts
 pub mod Turns
 pub mod Working

@@ -8,10 +8,12 @@ use Rattle.session_order.specs.Calls.{call_of, made_by}
 use Rattle.session_order.specs.Ends.{Ends, Setup}
 use Rattle.session_order.specs.Follows.{Follows, is_waiting}
 use Rattle.session_order.specs.Races.{HasEnded, HasNext, IsClosed, IsRun, RaceIsRight}
-use Rattle.session_order.specs.Sessions.{setup_of, start_of}
+use Rattle.session_order.specs.Sessions.{AreOfCallers, LegalAreRight, setup_of, start_of}
+use Rattle.session_run.proofs.Ends.{right_run}
 use Rattle.session_run.proofs.HavePrograms.{caller_at, caller_known}
 use Rattle.session_run.specs.Callers.{callers_in, has_program}
-use Rattle.session_run.specs.Racing.{AreHome, IsNone, IsRunOf, Works}
+use Rattle.session_run.specs.Racing.{AreHome, IsNone, Works}
+use Rattle.session_run.specs.Runs.{IsRightRun}
 use Rattle.session_text.specs.Programs.{next, program_of}
 use Rattle.session_text.specs.Sessions.{SessionView}
 use Rattle.session_text.specs.declared.program.Program.{Program}
@@ -63,7 +65,7 @@ all_home programs here s home = none_out s.stands (λ k. ⊎_elim
     (cases_Bool (has_program programs k)))
 
 -- what is known of a pass that was taken in
-module _ (o : Setup) (here : TableId) (s : StewardView) (world : WorldState) (log : Logged) (stop : Option Full) (whole : IsWhole o.start o.limits s world log stop) (home : AllHome o.programs here s) (low : (p : ℕ) → has_program o.programs p ≡ true → p ≤ 67) where
+module _ (o : Setup) (here : TableId) (s : StewardView) (world : WorldState) (log : Logged) (stop : Option Full) (whole : IsWhole o.start o.limits s world log stop) (home : AllHome o.programs here s) (known_callers : AreOfCallers o.programs) where
   part : (place : ℕ) (x : PassView) → slice_get s.joined place ≡ Some x
       → IsPart o.start log.entries stop x
   part place x is =
@@ -119,7 +121,7 @@ module _ (o : Setup) (here : TableId) (s : StewardView) (world : WorldState) (lo
       → HasEnded program (made_by p log.entries) stop (p ≡ caller)
   ended caller names p program known =
       let has : has_program o.programs p ≡ true = ap is_some known in
-      let at = caller_at o.programs p (low p has) has in
+      let at = caller_at o.programs p (omega (arith, known_callers p has)) has in
       let mine = home.each at.0 at.1 in
       let same : mine.1.number ≡ p = mine.3 ∙ at.2 in
       let x : PassView = mine.1 in
@@ -149,16 +151,15 @@ module _ (o : Setup) (here : TableId) (s : StewardView) (world : WorldState) (lo
       right o log.entries stop caller.0 (closed caller.0 caller.1) (ended caller.0 caller.1)
 
 -- what comes of the race of a session, once all is taken in
-pub race_raced : RaceIsRight → (s : SessionView) (start : WorldState) (most : Limits) (programs : List Program) (here : TableId) (steward : StewardView) (run : Run)
+pub race_right : RaceIsRight → (s : SessionView) (start : WorldState) (most : Limits) (programs : List Program) (here : TableId) (steward : StewardView) (run : Run)
+    → AreOfCallers s.programs → LegalAreRight s
     → start ≡ start_of s → most ≡ s.limits → programs ≡ s.programs
     → IsWhole start most steward run.world run.log run.stop
-    → AllHome programs here steward → ((p : ℕ) → has_program programs p ≡ true → p ≤ 67) → IsRunOf s run
-race_raced right s start most programs here steward run is_start is_most same given taken low =
+    → AllHome programs here steward → IsRightRun s run
+race_right right s start most programs here steward run known laws is_start is_most same given taken =
     let whole : IsWhole (start_of s) s.limits steward run.world run.log run.stop =
     subst (λ st. IsWhole st s.limits steward run.world run.log run.stop) is_start
     (subst (λ m. IsWhole start m steward run.world run.log run.stop) is_most given) in
     let home : AllHome s.programs here steward = subst (λ ps. AllHome ps here steward) same taken in
-    let few : (p : ℕ) → has_program s.programs p ≡ true → p ≤ 67 =
-    subst (λ ps. (p : ℕ) → has_program ps p ≡ true → p ≤ 67) same low in
-    let holds = race_holds (setup_of s) here steward run.world run.log run.stop whole home few right in
-    record { world = whole.replayed; legal = whole.legal; follows = holds.0; ends = holds.1 }
+    let holds = race_holds (setup_of s) here steward run.world run.log run.stop whole home known right in
+    right_run s laws run whole.replayed whole.legal holds.0 holds.1

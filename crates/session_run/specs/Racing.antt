@@ -2,24 +2,14 @@
 use Rattle.std.specs.Prelude.{◌≡◌, ℕ, ◌<◌, true, List, [], length, map, Some, None, slice_get, slice_index_or}
 use Rattle.atomic_table.specs.Seated.{TableId}
 use Rattle.session_order.specs.Calls.{call_of}
-use Rattle.session_order.specs.Ends.{Ends}
-use Rattle.session_order.specs.Follows.{Follows}
 use Rattle.session_order.specs.Races.{HasNext, IsRun}
-use Rattle.session_order.specs.Sessions.{ShowsTapes, setup_of, start_of}
 use Rattle.session_run.specs.Callers.{callers_in, has_program}
 use Rattle.session_text.specs.Programs.{next, program_of}
-use Rattle.session_text.specs.Sessions.{SessionView}
 use Rattle.session_text.specs.declared.program.Program.{Program}
 use Rattle.turn_lock.specs.declared.seal.Seal.{Seal}
 use Rattle.vt_hub.specs.Views.{PassView, StewardView, stand_at}
-use Rattle.vt_hub.specs.declared.run.Run.{Run}
 use Rattle.vt_hub.specs.declared.pass_place.PassPlace.TheVariants.{Unmade, Home}
-use Rattle.vt_journal.specs.Room.{tail_at}
 use Rattle.vt_journal.specs.declared.full.Full.{Full}
-use Rattle.vt_switch.specs.Law.{IsExplained, IsLawful}
-use Rattle.vt_world.specs.History.{IsLegal, replay}
-use Rattle.vt_world.specs.Laws.{moments}
-use Rattle.vt_world.specs.State.{core}
 
 -- what a worker leaves: a run of its program, to the end or to where it met the stop, which is by its
 -- next call if it is its own
@@ -75,18 +65,3 @@ pub record AreHome (programs : List Program) (here : TableId) (n : ℕ) (s : Ste
       (i : ℕ) → i < n
       → (place : ℕ) × (x : PassView) × (slice_get s.joined place ≡ Some x)
       × (x.number ≡ slice_index_or (callers_in programs) i 0)
-
--- a legal run of a session, to its end
-pub record IsRunOf (s : SessionView) (run : Run) : Type 0 where
-  pub world : run.world ≡ replay (start_of s) run.log.entries
-  pub legal : IsLegal (start_of s) run.log.entries
-  pub follows : Follows (start_of s) s.programs run.log.entries
-  pub ends : Ends (setup_of s) run.log.entries (tail_at run.log.entries run.stop)
-
--- what comes of the race of a session: such a run, and what the laws of every history say of it
-pub record IsRaced (s : SessionView) (run : Run) : Type 0 where
-  pub is : IsRunOf s run
-  pub lawful : IsLawful (moments (start_of s) run.log.entries)
-  pub explained :
-      IsExplained (length run.log.entries) (core run.world) (moments (start_of s) run.log.entries)
-  pub screens : ShowsTapes s run.world run.log.entries

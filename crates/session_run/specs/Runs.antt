@@ -2,10 +2,13 @@
 use Rattle.std.specs.Prelude.{◌≡◌, List, Option, Some, None, filter_map}
 use Rattle.session_order.specs.Meant.{plain_history}
 use Rattle.session_order.specs.Serial.{Played}
-use Rattle.vt_hub.specs.declared.run.Run.{Run}
+use Rattle.session_order.specs.Sessions.{IsRightHistory}
+use Rattle.session_text.specs.Sessions.{SessionView}
 use Rattle.session_text.specs.declared.program.Program.{Program}
 use Rattle.session_text.specs.declared.program.Program.TheVariants as program
 use Rattle.sig_hooks.specs.declared.act.Act.{Act}
+use Rattle.vt_hub.specs.declared.run.Run.{Run}
+use Rattle.vt_journal.specs.Room.{tail_at}
 
 -- the table of a process; a keyboard has none
 abbrev pub table_of : Program → Option (List Act)
@@ -16,6 +19,16 @@ table_of (program.Script items table) = Some table
 pub record HasHooks (programs : List Program) (tables : List (List Act)) : Type 0 where
   pub acts : tables ≡ filter_map table_of programs
 
+-- a call that makes a handler of a table: it may be called on each, and what it gives answers by that
+abbrev pub MakesHandlers : {H : Type 0} → (List Act → Type 0) → (List Act → H → Type 0)
+    → (H → List Act → Type 0) → Type 0
+MakesHandlers may_call gives answers =
+    (table : List Act) → may_call table × ((h : _) → gives table h → answers h table)
+
 -- the history of a run, as it is meant, and where it stopped
 abbrev pub run_result : Run → Played
 run_result run = record { history = plain_history run.log.entries; stop = run.stop }
+
+-- the run has a right history of the session, and its console is the one after it
+abbrev pub IsRightRun : SessionView → Run → Type 0
+IsRightRun s run = IsRightHistory s run.world run.log.entries (tail_at run.log.entries run.stop)

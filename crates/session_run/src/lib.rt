@@ -7,7 +7,7 @@ mod drill_draws;
 mod drill_items;
 mod final_map;
 mod final_texts;
-mod handlers;
+mod hooks;
 mod passes;
 mod player;
 mod racing;

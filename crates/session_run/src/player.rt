@@ -7,7 +7,7 @@ ghost use Rattle.session_text.specs.Programs.{program_of};
 ghost use Rattle.vt_events.specs.Charge.{charge_of};
 ghost use Rattle.vt_journal.specs.Log.{HasRoom};
 
-use session_order::{SessionProgress, meant_laws};
+use session_order::{SessionProgress, meant_laws, start_of};
 use session_text::{Program, Session};
 use std::alloc::Global;
 use std::marker::Model;
@@ -45,7 +45,7 @@ impl Player {
         ensures { IfOk result (λ player. IsAt (setup_of s.now) nothing_played player) }
     {
         let limits = s.limits();
-        let world = World::start(alloc, s.config(), s.key_tables())?;
+        let world = start_of(alloc, s)?;
         let log = Log::with_room(alloc, limits.events, limits.bytes)?;
         let standing = SessionProgress::start(alloc)?;
         Ok(Player {

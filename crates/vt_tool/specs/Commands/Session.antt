@@ -1,9 +1,7 @@
 -- What the commands over sessions give alike: what is printed of a run of a session, and of a text that
 -- is none. This project's own: docs/SESSIONS.md.
-use Rattle.std.specs.Prelude.{◌≡◌, ℕ, List, [], ◌++◌, length, Err}
-use Rattle.session_order.specs.Ends.{Ends}
-use Rattle.session_order.specs.Follows.{Follows}
-use Rattle.session_order.specs.Sessions.{ShowsTapes, setup_of, start_of}
+use Rattle.std.specs.Prelude.{◌≡◌, ℕ, List, [], ◌++◌, Err}
+use Rattle.session_order.specs.Sessions.{IsRightHistory, start_of}
 use Rattle.session_run.specs.Final.{final_text}
 use Rattle.session_text.specs.Sessions.{SessionView, session_says}
 use Rattle.table_fields.specs.declared.fault.TableFault.{TableFault}
@@ -11,30 +9,19 @@ use Rattle.vt_events.specs.declared.entry.Entry.{Entry}
 use Rattle.vt_journal.specs.Journal.{journal_text}
 use Rattle.vt_journal.specs.declared.tail.Tail.{Tail}
 use Rattle.vt_journal.specs.declared.tail.Tail.TheVariants as tail
-use Rattle.vt_switch.specs.Law.{IsExplained, IsLawful}
 use Rattle.vt_tool.specs.Outcome.{Outcome}
 use Rattle.vt_tool.specs.declared.status.Status.{Status}
 use Rattle.vt_tool.specs.declared.status.Status.TheVariants as status
-use Rattle.vt_world.specs.History.{IsLegal, replay}
-use Rattle.vt_world.specs.Laws.{moments}
-use Rattle.vt_world.specs.State.{core}
+use Rattle.vt_world.specs.History.{replay}
 
 -- Fine where all programs are over, and JournalFull where a call found no room
 abbrev pub status_of : Tail → Status
 status_of (tail.End events bytes) = status.Fine
 status_of (tail.Full full) = status.JournalFull full
 
--- a history of a session, and its end: it is legal, follows the programs and ends rightly; each hop of
--- the display was allowed, and what waits for it was asked for; and each screen is its console's tape,
--- run from the start screen
-pub record IsRightRun (s : SessionView) (history : List Entry) (end : Tail) : Type 0 where
-  pub legal : IsLegal (start_of s) history
-  pub follows : Follows (start_of s) s.programs history
-  pub ends : Ends (setup_of s) history end
-  pub lawful : IsLawful (moments (start_of s) history)
-  pub explained :
-      IsExplained (length history) (core (replay (start_of s) history)) (moments (start_of s) history)
-  pub screens : ShowsTapes s (replay (start_of s) history) history
+-- a right history of a session, with the console that it leaves
+abbrev pub IsRightRun : SessionView → List Entry → Tail → Type 0
+IsRightRun s history end = IsRightHistory s (replay (start_of s) history) history end
 
 -- what is printed of a history of a session: its journal, and the console after it
 pub record IsPrinted (s : SessionView) (history : List Entry) (end : Tail) (status : Status)

@@ -7,12 +7,12 @@ ghost use Rattle.vt_tool.specs.Status.{is_command_status};
 use crate::answer::Answer;
 use crate::commands::lines::add_number;
 use crate::status::Status;
+use session_order::session_laws;
 use session_text::Session;
 use std::alloc::Global;
 use vt_base::{Bytes, NoMemory};
 use vt_check::{Verdict, check};
 use vt_journal::Journal;
-use vt_world::displays_are_lawful;
 
 /// The verdict on the journal.
 pub(crate) fn answer(
@@ -24,8 +24,7 @@ pub(crate) fn answer(
         (record { status = answer.status; text = answer.text.bytes })) }
     ensures own { IfOk result (λ answer. IsTrue (is_command_status answer.status)) }
 {
-    displays_are_lawful();
-    let _config = session.config();
+    session_laws(session);
     let verdict = check(alloc, session, journal)?;
     answer_told(alloc, verdict, journal.entries.as_slice().len())
 }

@@ -1,10 +1,9 @@
-use Rattle.std.proofs.Common.{List, length, ap, ◌∙◌, subst}
+use Rattle.std.proofs.Common.{List, length, ap, ◌∙◌}
+use Rattle.session_order.specs.Sessions.{setup_of}
 use Rattle.session_text.specs.Sessions.{SessionView}
-use Rattle.vt_base.specs.ConsoleSet.{IsFitSet}
+use Rattle.vt_check.specs.Verdicts.{IsRightJournal}
 use Rattle.vt_events.specs.declared.entry.Entry.{Entry}
 use Rattle.vt_journal.specs.declared.tail.Tail.{Tail}
-use Rattle.vt_procs.specs.declared.config.Config.{Config}
-use Rattle.vt_tool.proofs.Checks.{right_if_legal}
 use Rattle.vt_tool.proofs.Oks.{ok_more}
 use Rattle.vt_tool.specs.Commands.Check.{legal_text}
 use Rattle.vt_tool.specs.Commands.Judged.{judged_text}
@@ -20,11 +19,9 @@ returns-clause-judged c =
     (λ answer is. record {
       verdict = c.in_ok-verdict.verdict;
       judged = facts.judges;
-      right =
-          right_if_legal s entries end c.in_ok-verdict.verdict c.displays_are_lawful.ensures.waiting
-          (subst (λ (config : Config). IsFitSet config.consoles config.front) c.config-config.ensures.same
-          c.config-config.ensures.fit)
-          facts.legal facts.lawful facts.screens;
+      right = λ legal.
+          let right : IsRightJournal (setup_of s) entries end = facts.legal.0 legal in
+          c.session_laws.ensures.right entries end right.legal right.follows right.ends;
       is = is
           ∙ ap (λ n. judged_text (legal_text n) c.in_ok-verdict.verdict) (ap length c.as_slice.ensures.same);
     }) c.answer_told.ensures.told

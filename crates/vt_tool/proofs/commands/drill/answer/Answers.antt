@@ -1,6 +1,7 @@
 use Rattle.std.proofs.Common.{◌∙◌, List, Option, ap}
 use Rattle.session_text.specs.Sessions.{SessionView}
 use Rattle.vt_events.specs.declared.entry.Entry.{Entry}
+use Rattle.vt_journal.specs.Room.{tail_at}
 use Rattle.vt_journal.specs.declared.full.Full.{Full}
 use Rattle.vt_tool.proofs.Sessions.{right_run}
 use Rattle.vt_tool.specs.Commands.Drill.{drill_text}
@@ -21,9 +22,7 @@ returns-clause-gives c =
       history = entries;
       stop = stop;
       serial = facts.serial;
-      right =
-          right_run s world entries stop facts.world facts.legal facts.follows facts.ends facts.lawful
-          facts.explained facts.screens;
+      right = right_run s world entries (tail_at entries stop) facts.right;
       status_is = c.status_of-status.ensures.status ∙ ap status_of c.tail.ensures;
-      text = c.in_ok-text.ensures ∙ ap (drill_text entries) facts.world;
+      text = c.in_ok-text.ensures ∙ ap (drill_text entries) facts.right.world;
     }

@@ -20,11 +20,9 @@ returns-clause-played c =
       history = entries;
       stop = stop;
       serial = facts.serial;
-      right =
-          right_run s world entries stop facts.world facts.legal facts.follows facts.ends facts.lawful
-          facts.explained facts.screens;
+      right = right_run s world entries (tail_at entries stop) facts.right;
       printed =
-          run_printed s world entries stop facts.world c.in_ok-answer.answer.status
+          run_printed s world entries stop facts.right.world c.in_ok-answer.answer.status
           c.in_ok-answer.answer.text.bytes printed.status
           (printed.text
           ∙ ap (λ (last : List ℕ). journal_text 2 entries (tail_at entries stop) ++ last)

@@ -19,9 +19,7 @@ returns-clause-raced g c =
     record {
       history = entries;
       stop = stop;
-      right =
-          right_run s world entries stop facts.world facts.legal facts.follows facts.ends facts.lawful
-          facts.explained facts.screens;
+      right = right_run s world entries (tail_at entries stop) facts;
       printed =
           run_printed s world entries stop facts.world c.in_ok-answer.answer.status
           c.in_ok-answer.answer.text.bytes printed.status
