@@ -1,4 +1,5 @@
 """Programs in examples/c/term.c inside tmux, beside the same programs in tmux alone: the rows are the same."""
+import itertools
 import os
 import shutil
 import time
@@ -8,6 +9,7 @@ from .bench import EXAMPLES, Missing
 ROWS, COLS = 25, 80
 LIMIT = 20
 STEP = 0.4
+NUMBERS = itertools.count()
 # A program, what is asked of it, and the keys that are typed. `{}` is a folder with two files.
 PROGRAMS = {
     "vim": ("vim -n -u NONE -N --cmd 'set number ruler laststatus=2' {}/b.c", ["G", "o", "new é", "Escape", "0"]),
@@ -22,15 +24,16 @@ class Session:
     """A tmux of our own with one window."""
 
     def __init__(self, bench, command):
-        self.bench, self.socket = bench, str(bench.folder / "tmux")
-        size = ["-x", COLS, "-y", ROWS]
-        self.tmux("new-session", "-d", "-s", "one", *size, "sh", "-c", f"sleep 0.2; exec {command}")
-        self.tmux("set-option", "-t", "one", "status", "off")
-        self.tmux("resize-window", "-t", "one", *size)
+        # (a server that was ended may still be there for a moment, so each session has a socket of its own)
+        self.bench, self.socket = bench, str(bench.folder / f"tmux.{next(NUMBERS)}")
+        self.settings = str(bench.folder / "tmux.conf")
+        with open(self.settings, "w", encoding="ascii") as file:
+            file.write("set -g status off\nset -g default-size 80x25\n")
+        self.tmux("new-session", "-d", "-s", "one", "-x", COLS, "-y", ROWS, "sh", "-c", f"exec {command}")
 
     def tmux(self, *words):
         environment = {**os.environ, "LC_ALL": "C.UTF-8", "SHELL": "/bin/sh"}
-        words = ["tmux", "-u", "-S", self.socket, "-f", "/dev/null", *words]
+        words = ["tmux", "-u", "-S", self.socket, "-f", self.settings, *words]
         return self.bench.run(words, env=environment).stdout.decode("utf-8", "replace")
 
     def rows(self):
@@ -44,21 +47,25 @@ class Session:
             last = now
         return last.splitlines()
 
-    def type(self, keys):
-        """Types each key once the screen has stood."""
+    def type(self, keys, wanted):
+        """Types each key once the screen has stood; the rows at the end, as soon as they are those that are wanted."""
         for key in keys:
             self.rows()
             self.tmux("send-keys", "-t", "one", key)
-        return self.rows()
+        end = time.monotonic() + LIMIT
+        found = self.rows()
+        while wanted and found != wanted and time.monotonic() < end:
+            found = self.rows()
+        return found
 
     def end(self):
         self.tmux("kill-server")
 
 
-def shown(bench, command, keys):
+def shown(bench, command, keys, wanted=None):
     session = Session(bench, command)
     try:
-        return session.type(keys)
+        return session.type(keys, wanted)
     finally:
         session.end()
 
@@ -79,9 +86,11 @@ def check_programs(bench):
         if name in missing:
             continue
         command = command.format(*[home] * command.count("{}"))
-        alone, inside = shown(bench, command, keys), shown(bench, f"{term} {command}", keys)
+        alone = shown(bench, command, keys)
+        inside = shown(bench, f"{term} {command}", keys, alone)
         wrong = [f"row {y}: {a!r} and {b!r}" for y, (a, b) in enumerate(zip(alone, inside)) if a != b]
-        is_so = len(alone) > 3 and alone == inside
-        bench.holds(is_so, f"{name} in term.c has the rows that it has in tmux alone: {wrong[:3]}, {len(alone)} rows")
+        is_so = len(alone) == ROWS and alone == inside
+        why = f"{wrong[:3]}, {len(alone)} and {len(inside)} rows"
+        bench.holds(is_so, f"{name} in term.c has the rows that it has in tmux alone: {why}")
     if missing:
         raise Missing(f"{', '.join(missing)} of {', '.join(PROGRAMS)} aren't there")
