@@ -54,7 +54,7 @@ pub(crate) fn add_cells(
     add_last(alloc, text, &mut pending, erases)
 }
 
-// Draws a cell that is no ASCII in the pen's byte.
+// Draws a cell that has another byte than the pen, or no character of ASCII.
 #[inline(never)]
 fn add_other(
     alloc: Global,

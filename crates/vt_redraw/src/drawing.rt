@@ -16,6 +16,9 @@ use vt_base::{Bytes, NoMemory};
 use vt_grid::Grid;
 use vt_screen::{BLANK, Emu};
 
+/// The room of a text at first: few screens have a longer one.
+const FIRST_ROOM: usize = 4_096;
+
 /// The text that draws the screen again on any screen of its size on which no text is pending, whatever it shows and
 /// whatever its state: cells, cursor, pen, modes, region, tab stops, tables, palette and the saved cursor. The tab
 /// stops past the last column and the user's table are not restored. Every byte belongs to a control sequence, a
@@ -54,7 +57,7 @@ fn whole_text(alloc: Global, emu: &Emu) -> Result<Bytes, NoMemory>
     requires { IsTrue (is_redrawable emu.now.state) }
     ensures { IfOk result (λ text. text.bytes ≡ redraw_of emu.now.state) }
 {
-    let mut text = Bytes::with_room(alloc, 4_096)?;
+    let mut text = Bytes::with_room(alloc, FIRST_ROOM)?;
     add_setting(alloc, &mut text)?;
     add_clearing(alloc, &mut text)?;
     add_rows_but(alloc, &mut text, emu.grid(), BLANK)?;
