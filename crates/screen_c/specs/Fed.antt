@@ -1,0 +1,17 @@
+-- What a feed does.
+use Rattle.std.specs.Prelude.{◌≡◌, ℕ, ◌<◌, ◌≤◌, ◌++◌, List, length, map, take, drop}
+use Rattle.screen_c.specs.Shown.{c_out}
+use Rattle.screen_c.specs.declared.vt_fed.VtFed.{VtFed}
+use Rattle.screen_c.specs.declared.vt_out.VtOut.{VtOut}
+use Rattle.vt_screen.specs.Run.{after, outs_of_run}
+use Rattle.vt_screen.specs.Screen.{Screen}
+use Rattle.vt_units.specs.Run.{Reached}
+
+-- so many bytes were run, what they say stands in the first places in order, and the other places stay. Bytes are left
+-- only if no place is
+pub record IsFed (m : Reached Screen) (bytes : List ℕ) (old new : List VtOut) (fed : VtFed) (end : Reached Screen) : Type 0 where
+  pub within : fed.taken ≤ length bytes
+  pub screen : end ≡ after m (take fed.taken bytes)
+  pub outs : new ≡ map c_out (outs_of_run m (take fed.taken bytes)) ++ drop fed.said old
+  pub count : fed.said ≡ length (outs_of_run m (take fed.taken bytes))
+  pub all : fed.said < length old → fed.taken ≡ length bytes

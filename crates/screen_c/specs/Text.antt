@@ -1,0 +1,27 @@
+-- How a call hands over a text.
+use Rattle.std.specs.Prelude.{◌≡◌, ◌⊎◌, ℕ, ◌<◌, ◌≤◌, ◌++◌, List, length, drop}
+
+-- fine: the text stands in the first places of the room, the other places stay, and its length is given
+pub record IsHandedOver (text old new : List ℕ) (count code : ℕ) : Type 0 where
+  pub code : code ≡ 0
+  pub count : count ≡ length text
+  pub room : length text ≤ length old
+  pub text : new ≡ text ++ drop (length text) old
+
+-- no room: only its length is given
+pub record LacksRoom (text old new : List ℕ) (count code : ℕ) : Type 0 where
+  pub code : code ≡ 5
+  pub count : count ≡ length text
+  pub room : length old < length text
+  pub same : new ≡ old
+
+-- no memory: nothing is given
+pub record LacksMemory (old new : List ℕ) (old_count count code : ℕ) : Type 0 where
+  pub code : code ≡ 3
+  pub count : count ≡ old_count
+  pub same : new ≡ old
+
+-- one of the three
+abbrev pub HandsOver : List ℕ → List ℕ → List ℕ → ℕ → ℕ → ℕ → Type 0
+HandsOver text old new old_count count code =
+    IsHandedOver text old new count code ⊎ (LacksRoom text old new count code ⊎ LacksMemory old new old_count count code)

@@ -1,0 +1,22 @@
+//! What a call returns, as `enum vt_code` of `include/vt.h` has it.
+
+/// The call did what it does.
+pub const OK: u8 = 0;
+
+/// The handle has a screen already.
+pub const MADE: u8 = 1;
+
+/// A number is out of its range.
+pub const RANGE: u8 = 2;
+
+/// Memory ran out.
+pub const NO_MEMORY: u8 = 3;
+
+/// The handle has nothing: it was never made, or it was freed.
+pub const NOTHING: u8 = 4;
+
+/// The room is too small, and only the length was written.
+pub const NO_ROOM: u8 = 5;
+
+/// No text draws the screen. (6 is a keymap's fault.)
+pub const NOT_DRAWABLE: u8 = 7;

@@ -1,0 +1,128 @@
+//! The colours and the user's table of a screen.
+ghost use Rattle.std.specs.Prelude.{◌≡◌, ◌<◌, ◌≤◌, ◌⊎◌, map, slice_get, slice_set, IfNone, IfSome, None, Some};
+ghost use Rattle.screen_c.specs.Held.{with_machine};
+ghost use Rattle.screen_c.specs.Places.{with_items};
+ghost use Rattle.screen_c.specs.Shown.{c_colour};
+ghost use Rattle.vt_cells.specs.Colours.{Rgb};
+ghost use Rattle.vt_screen.specs.Tape.{palette, user_map, with_change};
+
+use crate::codes::{NOTHING, OK, RANGE};
+use crate::{ScreenHandle, VtColour};
+use std::alloc::Global;
+
+/// The colour of a number.
+#[unsafe(no_mangle)]
+pub extern "C" fn vt_screen_colour(
+    handle: &mut ScreenHandle,
+    number: u32,
+    colour: &mut VtColour,
+    alloc: Global,
+) -> u8
+    ensures same { handle.new.value ≡ handle.old.value }
+    ensures nothing { IfNone handle.old.value ((result ≡ NOTHING) × (colour.new ≡ colour.old)) }
+    ensures colour { IfSome handle.old.value (λ o.
+        ((result ≡ OK) × (number < 16)
+        × ((rgb : Rgb) × (slice_get o.machine.state.state.palette number ≡ Some rgb) × (colour.new ≡ c_colour rgb)))
+        ⊎ ((result ≡ RANGE) × (16 ≤ number) × (colour.new ≡ colour.old))) }
+{
+    match handle.take(alloc) {
+        None => NOTHING,
+        Some(owned) => {
+            let within = number < 16;
+            if within {
+                *colour = VtColour::of(owned.emu.state().palette.get(number as u8));
+            }
+            handle.put(owned);
+            if within { OK } else { RANGE }
+        }
+    }
+}
+
+/// The colours of the numbers 0 to 15.
+#[unsafe(no_mangle)]
+pub extern "C" fn vt_screen_palette(
+    handle: &mut ScreenHandle,
+    colours: &mut [VtColour],
+    alloc: Global,
+) -> u8
+    ensures same { handle.new.value ≡ handle.old.value }
+    ensures nothing { IfNone handle.old.value ((result ≡ NOTHING) × (colours.new ≡ colours.old)) }
+    ensures colours { IfSome handle.old.value (λ o. (result ≡ OK)
+        × (colours.new ≡ with_items (map c_colour o.machine.state.state.palette) colours.old)) }
+{
+    match handle.take(alloc) {
+        None => NOTHING,
+        Some(owned) => {
+            put_colours(owned.emu.state().palette.as_slice(), colours);
+            handle.put(owned);
+            OK
+        }
+    }
+}
+
+// Puts the colours into the places from the first.
+fn put_colours(rgbs: &[(u8, u8, u8)], places: &mut [VtColour])
+    ensures { places.new ≡ with_items (map c_colour rgbs.now) places.old }
+{
+    let mut n = 0;
+    while n < places.len() && n < rgbs.len() {
+        places[n] = VtColour::of(rgbs[n]);
+        n += 1;
+    }
+}
+
+/// Sets the colour of a number.
+#[unsafe(no_mangle)]
+pub extern "C" fn vt_screen_set_colour(
+    handle: &mut ScreenHandle,
+    number: u32,
+    red: u8,
+    green: u8,
+    blue: u8,
+    alloc: Global,
+) -> u8
+    ensures nothing { IfNone handle.old.value ((result ≡ NOTHING) × (handle.new.value ≡ None)) }
+    ensures colour { IfSome handle.old.value (λ o. let old = o.machine.state.state.palette in
+        ((result ≡ OK) × (number < 16)
+        × (handle.new.value ≡ Some (with_machine
+        (with_change (palette (slice_set old number (red, green, blue))) o.machine) o)))
+        ⊎ ((result ≡ RANGE) × (16 ≤ number) × (handle.new.value ≡ Some o))) }
+{
+    match handle.take(alloc) {
+        None => NOTHING,
+        Some(owned) => {
+            let mut owned = owned;
+            let within = number < 16;
+            if within {
+                owned
+                    .emu
+                    .palette_mut()
+                    .set(number as u8, (red, green, blue));
+            }
+            handle.put(owned);
+            if within { OK } else { RANGE }
+        }
+    }
+}
+
+/// Sets the user's table: a code point for each byte.
+#[unsafe(no_mangle)]
+pub extern "C" fn vt_screen_set_user(
+    handle: &mut ScreenHandle,
+    words: &[u16; 256],
+    alloc: Global,
+) -> u8
+    ensures nothing { IfNone handle.old.value ((result ≡ NOTHING) × (handle.new.value ≡ None)) }
+    ensures table { IfSome handle.old.value (λ o. (result ≡ OK)
+        × (handle.new.value ≡ Some (with_machine (with_change (user_map words.now) o.machine) o))) }
+{
+    match handle.take(alloc) {
+        None => NOTHING,
+        Some(owned) => {
+            let mut owned = owned;
+            owned.emu.set_user(words);
+            handle.put(owned);
+            OK
+        }
+    }
+}

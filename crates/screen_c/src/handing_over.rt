@@ -1,0 +1,17 @@
+//! A text is handed over into a room of C's.
+ghost use Rattle.std.specs.Prelude.{◌≡◌};
+ghost use Rattle.screen_c.specs.Text.{HandsOver};
+
+use crate::codes::{NO_ROOM, OK};
+
+/// Writes the text's length, and the text, if there is room for it.
+pub(crate) fn hand_over(text: &[u8], room: &mut [u8], count: &mut usize) -> u8
+    ensures { HandsOver text.now room.old room.new count.old count.new result }
+{
+    *count = text.len();
+    if room.len() < text.len() {
+        return NO_ROOM;
+    }
+    room[..text.len()].copy_from_slice(text);
+    OK
+}

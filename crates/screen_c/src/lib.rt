@@ -1,0 +1,29 @@
+//! The screen machine for programs in C: `vt_screen` of `include/vt.h`.
+#![tactic(auto)]
+
+mod codes;
+mod colours;
+mod feeding;
+mod handing_over;
+mod handle;
+mod life;
+mod marks;
+mod owned_screen;
+mod reading;
+mod redrawing;
+mod sending;
+#[cfg(test)]
+mod tests;
+mod vt_cell;
+mod vt_colour;
+mod vt_fed;
+mod vt_out;
+mod vt_state;
+
+pub use handle::ScreenHandle;
+pub use owned_screen::OwnedScreen;
+pub use vt_cell::VtCell;
+pub use vt_colour::VtColour;
+pub use vt_fed::VtFed;
+pub use vt_out::VtOut;
+pub use vt_state::VtState;

@@ -1,0 +1,129 @@
+//! A screen is made, freed, and given another size.
+ghost use Rattle.std.specs.Prelude.{◌≡◌, ◌⊎◌, ¬◌, IfNone, IfOk, IfSome, None, Some};
+ghost use Rattle.screen_c.specs.Codes.{IsSize};
+ghost use Rattle.screen_c.specs.Held.{new_screen, with_machine};
+ghost use Rattle.vt_screen.specs.Tape.{resize, with_change};
+
+use crate::codes::{MADE, NO_MEMORY, NOTHING, OK, RANGE};
+use crate::{OwnedScreen, ScreenHandle};
+use std::alloc::Global;
+use vt_base::{NoMemory, Size};
+use vt_grid::Grid;
+use vt_screen::{BLANK, Emu, Outs};
+
+/// Makes a start screen of so many rows and columns.
+#[unsafe(no_mangle)]
+pub extern "C" fn vt_screen_new(
+    handle: &mut ScreenHandle,
+    rows: u32,
+    cols: u32,
+    alloc: Global,
+) -> u8
+    ensures made { IfSome handle.old.value (λ o. (result ≡ MADE) × (handle.new.value ≡ Some o)) }
+    ensures range { IfNone handle.old.value (¬ (IsSize rows cols) → (result ≡ RANGE) × (handle.new.value ≡ None)) }
+    ensures fine { IfNone handle.old.value (IsSize rows cols
+        → ((result ≡ OK) × (handle.new.value ≡ Some (new_screen rows cols)))
+        ⊎ ((result ≡ NO_MEMORY) × (handle.new.value ≡ None))) }
+{
+    match handle.take(alloc) {
+        Some(owned) => {
+            handle.put(owned);
+            MADE
+        }
+        None => match size_of(rows, cols) {
+            None => RANGE,
+            Some(size) => match OwnedScreen::boxed(alloc, size) {
+                Err(_) => NO_MEMORY,
+                Ok(owned) => {
+                    handle.put(owned);
+                    OK
+                }
+            },
+        },
+    }
+}
+
+/// Frees what the handle has, if anything.
+#[unsafe(no_mangle)]
+pub extern "C" fn vt_screen_free(handle: &mut ScreenHandle, alloc: Global)
+    ensures { handle.new.value ≡ None }
+{
+    let _ = handle.take(alloc);
+}
+
+/// Gives the screen so many rows and columns. The text that is pending stays, and so does the mark.
+#[unsafe(no_mangle)]
+pub extern "C" fn vt_screen_resize(
+    handle: &mut ScreenHandle,
+    rows: u32,
+    cols: u32,
+    alloc: Global,
+) -> u8
+    ensures nothing { IfNone handle.old.value ((result ≡ NOTHING) × (handle.new.value ≡ None)) }
+    ensures range { IfSome handle.old.value (λ o. ¬ (IsSize rows cols)
+        → (result ≡ RANGE) × (handle.new.value ≡ Some o)) }
+    ensures fine { IfSome handle.old.value (λ o. IsSize rows cols
+        → ((result ≡ OK)
+        × (handle.new.value ≡ Some (with_machine (with_change (resize rows cols) o.machine) o)))
+        ⊎ ((result ≡ NO_MEMORY) × (handle.new.value ≡ Some o))) }
+{
+    match handle.take(alloc) {
+        None => NOTHING,
+        Some(owned) => {
+            let mut owned = owned;
+            let code = owned.resize(alloc, rows, cols);
+            handle.put(owned);
+            code
+        }
+    }
+}
+
+impl OwnedScreen {
+    // A start screen of this size, in a block of its own.
+    fn boxed(alloc: Global, size: Size) -> Result<Box<OwnedScreen>, NoMemory>
+        ensures { IfOk result (λ owned. owned.value ≡ new_screen size.rows size.cols) }
+    {
+        let grid = Grid::blank(alloc, size, BLANK)?;
+        let owned = Box::new(
+            alloc,
+            OwnedScreen {
+                emu: Emu::new(grid),
+                outs: Outs::new(),
+                mark: None,
+            },
+        )?;
+        Ok(owned)
+    }
+
+    fn resize(&mut self, alloc: Global, rows: u32, cols: u32) -> u8
+        ensures range { ¬ (IsSize rows cols) → (result ≡ RANGE) × (self.new ≡ self.old) }
+        ensures fine { IsSize rows cols
+            → ((result ≡ OK) × (self.new ≡ with_machine (with_change (resize rows cols) self.old.machine) self.old))
+            ⊎ ((result ≡ NO_MEMORY) × (self.new ≡ self.old)) }
+    {
+        match size_of(rows, cols) {
+            None => RANGE,
+            Some(size) => match Grid::blank(alloc, size, BLANK) {
+                Err(_) => NO_MEMORY,
+                Ok(fresh) => {
+                    let _ = self.emu.resize(fresh);
+                    OK
+                }
+            },
+        }
+    }
+}
+
+// The numbers as a size, if they are one.
+fn size_of(rows: u32, cols: u32) -> Option<Size>
+    ensures some { IfSome result (λ size. IsSize rows cols × (size.rows ≡ rows) × (size.cols ≡ cols)) }
+    ensures none { IfNone result (¬ (IsSize rows cols)) }
+{
+    if rows < 1 || 255 < rows || cols < 1 || 255 < cols {
+        return None;
+    }
+    Some(Size {
+        rows: rows as u8,
+        cols: cols as u8,
+    })
+}

@@ -1,0 +1,94 @@
+//! A screen as a text that draws it again.
+ghost use Rattle.std.specs.Prelude.{◌≡◌, false, IfNone, IfOk, IfSome, IsTrue, None, Some};
+ghost use Rattle.screen_c.specs.Marks.{text_from_mark};
+ghost use Rattle.screen_c.specs.Text.{HandsOver};
+ghost use Rattle.vt_redraw.specs.Drawable.{is_redrawable};
+ghost use Rattle.vt_redraw.specs.Redraw.{redraw_of};
+
+use crate::codes::{NO_MEMORY, NOT_DRAWABLE, NOTHING};
+use crate::handing_over::hand_over;
+use crate::{OwnedScreen, ScreenHandle};
+use std::alloc::Global;
+use vt_base::{Bytes, NoMemory};
+use vt_redraw::{redraw, redraw_changes, redrawable};
+
+/// The text that draws the screen again on any screen of its size.
+#[unsafe(no_mangle)]
+pub extern "C" fn vt_screen_redraw(
+    handle: &mut ScreenHandle,
+    text: &mut [u8],
+    count: &mut usize,
+    alloc: Global,
+) -> u8
+    ensures same { handle.new.value ≡ handle.old.value }
+    ensures nothing { IfNone handle.old.value ((result ≡ NOTHING) × (text.new ≡ text.old) × (count.new ≡ count.old)) }
+    ensures undrawable { IfSome handle.old.value (λ o. is_redrawable o.machine.state ≡ false
+        → (result ≡ NOT_DRAWABLE) × (text.new ≡ text.old) × (count.new ≡ count.old)) }
+    ensures text { IfSome handle.old.value (λ o. IsTrue (is_redrawable o.machine.state)
+        → HandsOver (redraw_of o.machine.state) text.old text.new count.old count.new result) }
+{
+    match handle.take(alloc) {
+        None => NOTHING,
+        Some(owned) => {
+            let code = if redrawable(&owned.emu) {
+                match redraw(alloc, &owned.emu) {
+                    Err(_) => NO_MEMORY,
+                    Ok(bytes) => hand_over(bytes.as_slice(), text, count),
+                }
+            } else {
+                NOT_DRAWABLE
+            };
+            handle.put(owned);
+            code
+        }
+    }
+}
+
+/// The text that draws the screen again on one that shows the marked cells, or on any of its size where none of its size
+/// are marked.
+#[unsafe(no_mangle)]
+pub extern "C" fn vt_screen_redraw_changes(
+    handle: &mut ScreenHandle,
+    text: &mut [u8],
+    count: &mut usize,
+    alloc: Global,
+) -> u8
+    ensures same { handle.new.value ≡ handle.old.value }
+    ensures nothing { IfNone handle.old.value ((result ≡ NOTHING) × (text.new ≡ text.old) × (count.new ≡ count.old)) }
+    ensures undrawable { IfSome handle.old.value (λ o. is_redrawable o.machine.state ≡ false
+        → (result ≡ NOT_DRAWABLE) × (text.new ≡ text.old) × (count.new ≡ count.old)) }
+    ensures text { IfSome handle.old.value (λ o. IsTrue (is_redrawable o.machine.state)
+        → HandsOver (text_from_mark o.mark o.machine.state) text.old text.new count.old count.new result) }
+{
+    match handle.take(alloc) {
+        None => NOTHING,
+        Some(owned) => {
+            let code = if redrawable(&owned.emu) {
+                match owned.text_from_mark(alloc) {
+                    Err(_) => NO_MEMORY,
+                    Ok(bytes) => hand_over(bytes.as_slice(), text, count),
+                }
+            } else {
+                NOT_DRAWABLE
+            };
+            handle.put(owned);
+            code
+        }
+    }
+}
+
+impl OwnedScreen {
+    fn text_from_mark(&self, alloc: Global) -> Result<Bytes, NoMemory>
+        requires { IsTrue (is_redrawable self.now.machine.state) }
+        ensures { IfOk result (λ text. text.bytes ≡ text_from_mark self.now.mark self.now.machine.state) }
+    {
+        let size = self.emu.grid().size();
+        if let Some(mark) = &self.mark {
+            let old = mark.size();
+            if old.rows == size.rows && old.cols == size.cols {
+                return redraw_changes(alloc, mark, &self.emu);
+            }
+        }
+        redraw(alloc, &self.emu)
+    }
+}

@@ -1,0 +1,8 @@
+//! That a handle may go to another thread. Without the first function's bound nothing would prove it.
+use crate::ScreenHandle;
+
+fn needs_send<T: Send>(_value: &T) {}
+
+fn handle_is_sent(handle: &ScreenHandle) {
+    needs_send(handle);
+}

@@ -1,0 +1,2 @@
+//! Each export as C calls it.
+mod calls;

@@ -1,0 +1,9 @@
+/// `struct vt_fed`: how much a feed did.
+#[repr(C)]
+#[derive(Clone, Copy, Debug, Drop, PartialEq)]
+pub struct VtFed {
+    /// How many bytes were run.
+    pub taken: usize,
+    /// How many places were written.
+    pub said: usize,
+}
