@@ -1,1 +1,3 @@
+mod Feeding
 mod HandleParts
+mod Prefixes

@@ -2,26 +2,26 @@
 use Rattle.std.specs.Prelude.{◌≡◌, ◌⊎◌, ℕ, ◌<◌, ◌≤◌, ◌++◌, List, length, drop}
 
 -- fine: the text stands in the first places of the room, the other places stay, and its length is given
-pub record IsHandedOver (text old new : List ℕ) (count code : ℕ) : Type 0 where
-  pub code : code ≡ 0
-  pub count : count ≡ length text
+pub record IsWhole (text old new : List ℕ) (count code : ℕ) : Type 0 where
+  pub fine : code ≡ 0
+  pub size : count ≡ length text
   pub room : length text ≤ length old
-  pub text : new ≡ text ++ drop (length text) old
+  pub places : new ≡ text ++ drop (length text) old
 
 -- no room: only its length is given
 pub record LacksRoom (text old new : List ℕ) (count code : ℕ) : Type 0 where
-  pub code : code ≡ 5
-  pub count : count ≡ length text
+  pub refused : code ≡ 5
+  pub size : count ≡ length text
   pub room : length old < length text
-  pub same : new ≡ old
+  pub places : new ≡ old
 
 -- no memory: nothing is given
 pub record LacksMemory (old new : List ℕ) (old_count count code : ℕ) : Type 0 where
-  pub code : code ≡ 3
-  pub count : count ≡ old_count
-  pub same : new ≡ old
+  pub refused : code ≡ 3
+  pub size : count ≡ old_count
+  pub places : new ≡ old
 
 -- one of the three
 abbrev pub HandsOver : List ℕ → List ℕ → List ℕ → ℕ → ℕ → ℕ → Type 0
 HandsOver text old new old_count count code =
-    IsHandedOver text old new count code ⊎ (LacksRoom text old new count code ⊎ LacksMemory old new old_count count code)
+    IsWhole text old new count code ⊎ (LacksRoom text old new count code ⊎ LacksMemory old new old_count count code)

@@ -64,8 +64,9 @@ pub extern "C" fn vt_screen_palette(
 fn put_colours(rgbs: &[(u8, u8, u8)], places: &mut [VtColour])
     ensures { places.new ≡ with_items (map c_colour rgbs.now) places.old }
 {
+    let count = places.len().min(rgbs.len());
     let mut n = 0;
-    while n < places.len() && n < rgbs.len() {
+    while n < count {
         places[n] = VtColour::of(rgbs[n]);
         n += 1;
     }

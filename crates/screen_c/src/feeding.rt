@@ -1,14 +1,16 @@
 //! Text is run on a screen.
-ghost use Rattle.std.specs.Prelude.{◌≡◌, IfNone, IfSome, None, Some};
+ghost use Rattle.std.specs.Prelude.{◌≡◌, ◌<◌, ◌≤◌, ◌+◌, ◌++◌, drop, length, map, take, IfNone, IfSome, None, Some};
 ghost use Rattle.screen_c.specs.Fed.{IsFed};
 ghost use Rattle.screen_c.specs.Held.{with_machine};
+ghost use Rattle.screen_c.specs.Shown.{c_out};
 ghost use Rattle.vt_screen.specs.Run.{after};
 ghost use Rattle.vt_screen.specs.Screen.{Screen};
 ghost use Rattle.vt_units.specs.Run.{Reached};
 
 use crate::codes::{NOTHING, OK};
-use crate::{ScreenHandle, VtFed, VtOut};
+use crate::{OwnedScreen, ScreenHandle, VtFed, VtOut};
 use std::alloc::Global;
+use vt_screen::{Emu, Outs, any_cut};
 
 /// Runs a text until it is at its end or no place is left for what it asks for.
 #[unsafe(no_mangle)]
@@ -29,7 +31,8 @@ pub extern "C" fn vt_screen_feed(
         None => NOTHING,
         Some(owned) => {
             let mut owned = owned;
-            *fed = owned.feed(bytes, outs);
+            let OwnedScreen { emu, outs: said, .. } = &mut *owned;
+            *fed = feed(emu, bytes, said, outs);
             handle.put(owned);
             OK
         }
@@ -47,9 +50,51 @@ pub extern "C" fn vt_screen_write(handle: &mut ScreenHandle, bytes: &[u8], alloc
         None => NOTHING,
         Some(owned) => {
             let mut owned = owned;
-            owned.write(bytes);
+            let OwnedScreen { emu, outs: said, .. } = &mut *owned;
+            write(emu, bytes, said);
             handle.put(owned);
             OK
         }
+    }
+}
+
+// Runs a text until it is at its end or no place is left for what it says. `said` is room for one thing.
+fn feed(emu: &mut Emu, b: &[u8], said: &mut Outs, places: &mut [VtOut]) -> VtFed
+    ensures { IsFed emu.old b.now places.old places.new result emu.new }
+{
+    any_cut();
+    let mut at = 0;
+    let mut n = 0;
+    while n < places.len() && at < b.len() {
+        at += emu.write_until(&b[at..], said);
+        n += put_said(said, places, n);
+    }
+    VtFed { taken: at, said: n }
+}
+
+// Puts what was said, at most one thing, into a place, and gives how many places that is.
+fn put_said(said: &Outs, places: &mut [VtOut], n: usize) -> usize
+    requires one { length said.now ≤ 1 }
+    requires room { n < length places.old }
+    ensures count { result ≡ length said.now }
+    ensures places { places.new ≡ take n places.old ++ (map c_out said.now ++ drop (n + length said.now) places.old) }
+{
+    match said.as_slice().first() {
+        None => 0,
+        Some(out) => {
+            places[n] = VtOut::of(out);
+            1
+        }
+    }
+}
+
+// Runs a text, and drops what it says. `said` is room for one thing.
+fn write(emu: &mut Emu, b: &[u8], said: &mut Outs)
+    ensures { emu.new ≡ after emu.old b.now }
+{
+    any_cut();
+    let mut at = 0;
+    while at < b.len() {
+        at += emu.write_until(&b[at..], said);
     }
 }

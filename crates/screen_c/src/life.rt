@@ -1,5 +1,5 @@
 //! A screen is made, freed, and given another size.
-ghost use Rattle.std.specs.Prelude.{◌≡◌, ◌⊎◌, ¬◌, IfNone, IfOk, IfSome, None, Some};
+ghost use Rattle.std.specs.Prelude.{◌≡◌, ◌⊎◌, IfNone, IfOk, IfSome, None, Some};
 ghost use Rattle.screen_c.specs.Codes.{IsSize};
 ghost use Rattle.screen_c.specs.Held.{new_screen, with_machine};
 ghost use Rattle.vt_screen.specs.Tape.{resize, with_change};

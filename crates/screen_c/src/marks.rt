@@ -72,11 +72,11 @@ impl OwnedScreen {
     fn changed_rows(&self, places: &mut [u8])
         ensures { places.new ≡ with_items (changed_flags self.now) places.old }
     {
-        let count = self.emu.grid().size().rows;
-        let mut y = 0;
-        while y < count && usize::from(y) < places.len() {
-            places[usize::from(y)] = u8::from(self.is_changed(y));
-            y += 1;
+        let count = usize::from(self.emu.grid().size().rows).min(places.len());
+        let mut n = 0;
+        while n < count {
+            places[n] = u8::from(self.is_changed(n as u8));
+            n += 1;
         }
     }
 

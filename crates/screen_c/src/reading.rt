@@ -1,5 +1,5 @@
 //! What stands on a screen.
-ghost use Rattle.std.specs.Prelude.{◌≡◌, ◌<◌, ◌≤◌, ◌⊎◌, ◌++◌, drop, length, map, IfNone, IfSome, None, Some};
+ghost use Rattle.std.specs.Prelude.{◌≡◌, ◌<◌, ◌≤◌, ◌⊎◌, map, IfNone, IfSome, None, Some};
 ghost use Rattle.std.specs.List.{flat_map};
 ghost use Rattle.screen_c.specs.Places.{with_items};
 ghost use Rattle.screen_c.specs.Shown.{c_cell, c_state};
@@ -13,7 +13,7 @@ use crate::handing_over::hand_over;
 use crate::{OwnedScreen, ScreenHandle, VtCell, VtState};
 use std::alloc::Global;
 use vt_dump::text_row;
-use vt_grid::RowCells;
+use vt_grid::Grid;
 
 /// The size, the cursor and the modes.
 #[unsafe(no_mangle)]
@@ -86,7 +86,7 @@ pub extern "C" fn vt_screen_row(
         Some(owned) => {
             let within = row < u32::from(owned.emu.grid().size().rows);
             if within {
-                put_cells(owned.emu.grid().row(row as u8), cells);
+                put_cells(owned.emu.grid(), row as u8, cells);
             }
             handle.put(owned);
             if within { OK } else { RANGE }
@@ -141,17 +141,15 @@ impl OwnedScreen {
     }
 }
 
-// Puts the cells into the places from the first.
-fn put_cells(row: RowCells<'_>, places: &mut [VtCell])
-    ensures { places.new ≡ with_items (map c_cell row) places.old }
+// Puts the cells of a row into the places from the first.
+fn put_cells(grid: &Grid, y: u8, places: &mut [VtCell])
+    requires { y < grid.now.rows }
+    ensures { places.new ≡ with_items (map c_cell (row_at grid.now y)) places.old }
 {
-    let mut rest = row;
+    let count = usize::from(grid.size().cols).min(places.len());
     let mut n = 0;
-    while n < places.len() {
-        match rest.next() {
-            Some(cell) => places[n] = VtCell::of(cell),
-            None => return,
-        }
+    while n < count {
+        places[n] = VtCell::of(grid.at(y, n as u8));
         n += 1;
     }
 }

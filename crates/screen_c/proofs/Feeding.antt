@@ -1,0 +1,61 @@
+-- A text that is run piece by piece, and the places of what it says.
+use Rattle.screen_c.specs.Shown.{c_out}
+use Rattle.screen_c.specs.declared.vt_out.VtOut.{VtOut}
+use Rattle.std.proofs.Common.{◌≡◌, ℕ, ◌+◌, ◌-◌, ◌≤◌, List, [], ◌++◌, length, map, take, drop, refl, sym, ap, ◌∙◌, arith, length-drop, append_assoc}
+use Rattle.std.proofs.Math.Seq.{take-add, take-append_seam, drop-append-add}
+use Rattle.std.proofs.lemmas.List.{drop-drop, length-append, length-map, map-append, take_all}
+use Rattle.vt_screen.specs.Run.{AnyCut, after, outs_of_run}
+use Rattle.vt_screen.specs.Screen.{Screen}
+use Rattle.vt_screen.specs.declared.out.Out.{Out}
+use Rattle.vt_units.specs.Run.{Reached}
+
+-- so many bytes behind the first
+abbrev pub piece : ℕ → ℕ → List ℕ → List ℕ
+piece at n text = take n (take (length text - at) (drop at text))
+
+joined : (at n : ℕ) (text : List ℕ) → take at text ++ piece at n text ≡ take (at + n) text
+joined at n text =
+    ap (λ (bytes : List ℕ). take at text ++ take n bytes)
+    (take_all (length text - at) (drop at text) (omega (arith, length-drop at text)))
+    ∙ sym (take-add at n text)
+
+pub screen_more : AnyCut → (start before : Reached Screen) (at n : ℕ) (text : List ℕ)
+    → before ≡ after start (take at text) → after before (piece at n text) ≡ after start (take (at + n) text)
+screen_more cut start before at n text done =
+    ap (λ (m : Reached Screen). after m (piece at n text)) done
+    ∙ sym (cut start (take at text) (piece at n text)).0
+    ∙ ap (after start) (joined at n text)
+
+pub outs_more : AnyCut → (start before : Reached Screen) (at n : ℕ) (text : List ℕ)
+    → before ≡ after start (take at text)
+    → outs_of_run start (take at text) ++ outs_of_run before (piece at n text) ≡ outs_of_run start (take (at + n) text)
+outs_more cut start before at n text done =
+    ap (λ (m : Reached Screen). outs_of_run start (take at text) ++ outs_of_run m (piece at n text)) done
+    ∙ sym (cut start (take at text) (piece at n text)).1
+    ∙ ap (outs_of_run start) (joined at n text)
+
+-- the places behind the first n have what was said last
+pub places_more : (said more all : List Out) (start before : List VtOut) (n : ℕ)
+    → n ≡ length said → before ≡ map c_out said ++ drop n start → said ++ more ≡ all
+    → take n before ++ (map c_out more ++ drop (n + length more) before)
+    ≡ map c_out all ++ drop (n + length more) start
+places_more said more all start before n count is whole =
+    let first : List VtOut = map c_out said in
+    let long : length first ≡ n = length-map said c_out ∙ sym count in
+    let front : take n before ≡ first =
+    ap (take n) is ∙ ap (λ k. take k (first ++ drop n start)) (sym long) ∙ take-append_seam first (drop n start) in
+    let back : drop (n + length more) before ≡ drop (n + length more) start =
+    ap (drop (n + length more)) is
+    ∙ ap (λ k. drop (k + length more) (first ++ drop n start)) (sym long)
+    ∙ drop-append-add first (drop n start) (length more)
+    ∙ drop-drop (length more) n start in
+    ap (λ xs. xs ++ (map c_out more ++ drop (n + length more) before)) front
+    ∙ ap (λ xs. first ++ (map c_out more ++ xs)) back
+    ∙ sym (append_assoc first (map c_out more) (drop (n + length more) start))
+    ∙ ap (λ xs. xs ++ drop (n + length more) start) (sym (map-append c_out said more))
+    ∙ ap (λ xs. map c_out xs ++ drop (n + length more) start) whole
+
+pub count_more : (said more all : List Out) (n k : ℕ) → n ≡ length said → k ≡ length more → said ++ more ≡ all
+    → n + k ≡ length all
+count_more said more all n k count added whole =
+    omega (arith, count, added, length-append said more, ap length whole)

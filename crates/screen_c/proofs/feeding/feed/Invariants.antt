@@ -1,0 +1,17 @@
+use Rattle.std.proofs.Common.{◌≡◌, ◌≤◌, ◌+◌, ◌-◌, ◌++◌, drop, length, map, take}
+use Rattle.screen_c.specs.Shown.{c_out}
+use Rattle.vt_screen.specs.Run.{after, outs_of_run}
+use Rattle.screen_c.proofs.feeding.feed.Given as goal
+
+abbrev pub invariant-loop-at-n : goal.invariant-loop-at-n
+invariant-loop-at-n l = record {
+  within : l.at ≤ length l.b;
+  room : l.n ≤ length l.places;
+  size : length l.places ≡ length l.fn.places;
+  screen : l.emu ≡ after l.fn.emu (take l.at l.b);
+  count : l.n ≡ length (outs_of_run l.fn.emu (take l.at l.b));
+  places : l.places ≡ map c_out (outs_of_run l.fn.emu (take l.at l.b)) ++ drop l.n l.fn.places;
+}
+
+abbrev pub decreases-loop-at-n : goal.decreases-loop-at-n
+decreases-loop-at-n l = (length l.b - l.at) + (length l.places - l.n)
