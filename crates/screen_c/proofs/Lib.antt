@@ -1,3 +1,4 @@
-mod Feeding
 mod HandleParts
+mod Pieces
 mod Prefixes
+mod RowTests

@@ -1,6 +1,6 @@
 -- Places that are written one after another, from the first.
 use Rattle.screen_c.specs.Places.{with_items}
-use Rattle.std.proofs.Common.{◌≡◌, ℕ, zero, suc, ◌+◌, ◌<◌, ◌≤◌, List, [], ◌∷◌, ◌++◌, length, take, drop, set, get_or, refl, sym, ap, ◌∙◌, ◌⊎◌, inl, inr, arith}
+use Rattle.std.proofs.Common.{◌≡◌, ℕ, zero, suc, ◌+◌, ◌<◌, ◌≤◌, List, [], ◌∷◌, ◌++◌, length, take, drop, set, get_or, refl, sym, ap, ◌∙◌, min, arith}
 use Rattle.std.proofs.lemmas.List.{take_all, drop_all}
 
 -- one more
@@ -27,7 +27,10 @@ all_places items start n all few =
     ∙ ap (λ xs. take (length start) items ++ xs)
     (drop_all n start (omega (arith, all)) ∙ sym (drop_all (length items) start (omega (arith, all, few))))
 
-pub written_all : {X : Type 0} (items start : List X) (n : ℕ) → n ≤ length items → n ≤ length start
-    → (n ≡ length items) ⊎ (n ≡ length start) → take n items ++ drop n start ≡ with_items items start
-written_all items start n few room (inl all) = all_items items start n all room
-written_all items start n few room (inr all) = all_places items start n all few
+pub written_all : {X : Type 0} (items start : List X) (n : ℕ) → n ≡ min (length items) (length start)
+    → take n items ++ drop n start ≡ with_items items start
+written_all [] start n least = all_items [] start n (omega (arith, least)) (omega (arith, least))
+written_all (i ∷ items) [] n least = all_places (i ∷ items) [] n (omega (arith, least)) (omega (arith, least))
+written_all (i ∷ items) (s ∷ start) zero least = absurd (omega (arith, least))
+written_all (i ∷ items) (s ∷ start) (suc n) least =
+    ap (λ xs. i ∷ xs) (written_all items start n (omega (arith, least)))

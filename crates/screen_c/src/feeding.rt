@@ -31,7 +31,11 @@ pub extern "C" fn vt_screen_feed(
         None => NOTHING,
         Some(owned) => {
             let mut owned = owned;
-            let OwnedScreen { emu, outs: said, .. } = &mut *owned;
+            let OwnedScreen {
+                emu,
+                outs: said,
+                ..
+            } = &mut *owned;
             *fed = feed(emu, bytes, said, outs);
             handle.put(owned);
             OK
@@ -50,7 +54,11 @@ pub extern "C" fn vt_screen_write(handle: &mut ScreenHandle, bytes: &[u8], alloc
         None => NOTHING,
         Some(owned) => {
             let mut owned = owned;
-            let OwnedScreen { emu, outs: said, .. } = &mut *owned;
+            let OwnedScreen {
+                emu,
+                outs: said,
+                ..
+            } = &mut *owned;
             write(emu, bytes, said);
             handle.put(owned);
             OK
@@ -77,15 +85,15 @@ fn put_said(said: &Outs, places: &mut [VtOut], n: usize) -> usize
     requires one { length said.now ≤ 1 }
     requires room { n < length places.old }
     ensures count { result ≡ length said.now }
+    ensures size { length places.new ≡ length places.old }
     ensures places { places.new ≡ take n places.old ++ (map c_out said.now ++ drop (n + length said.now) places.old) }
 {
-    match said.as_slice().first() {
-        None => 0,
-        Some(out) => {
-            places[n] = VtOut::of(out);
-            1
-        }
+    let list = said.as_slice();
+    if list.len() == 0 {
+        return 0;
     }
+    places[n] = VtOut::of(&list[0]);
+    1
 }
 
 // Runs a text, and drops what it says. `said` is room for one thing.

@@ -1,8 +1,10 @@
 //! The rows that changed since the cells were marked.
-ghost use Rattle.std.specs.Prelude.{◌≡◌, ◌⊎◌, ◌<◌, IfNone, IfSome, None, Some};
+ghost use Rattle.std.specs.Prelude.{◌≡◌, ◌⊎◌, ◌<◌, IfNone, IfSome, IsTrue, None, Some};
 ghost use Rattle.screen_c.specs.Held.{with_mark};
-ghost use Rattle.screen_c.specs.Marks.{changed_flags, is_changed};
+ghost use Rattle.screen_c.specs.Marks.{changed_flags, is_as_marked, is_changed, is_same_size};
+ghost use Rattle.vt_redraw.specs.Redraw.{IsSameSize};
 ghost use Rattle.screen_c.specs.Places.{with_items};
+ghost use Rattle.screen_c.specs.Shown.{c_flag};
 
 use crate::codes::{NO_MEMORY, NOTHING, OK};
 use crate::{OwnedScreen, ScreenHandle};
@@ -34,12 +36,12 @@ pub extern "C" fn vt_screen_mark(handle: &mut ScreenHandle, alloc: Global) -> u8
 pub extern "C" fn vt_screen_changed(handle: &mut ScreenHandle, rows: &mut [u8], alloc: Global) -> u8
     ensures same { handle.new.value ≡ handle.old.value }
     ensures nothing { IfNone handle.old.value ((result ≡ NOTHING) × (rows.new ≡ rows.old)) }
-    ensures rows { IfSome handle.old.value (λ o. (result ≡ OK) × (rows.new ≡ with_items (changed_flags o) rows.old)) }
+    ensures rows { IfSome handle.old.value (λ o. (result ≡ OK) × (rows.new ≡ with_items (changed_flags o.mark o.machine.state.grid) rows.old)) }
 {
     match handle.take(alloc) {
         None => NOTHING,
         Some(owned) => {
-            owned.changed_rows(rows);
+            put_flags(&owned.mark, owned.emu.grid(), rows);
             handle.put(owned);
             OK
         }
@@ -50,15 +52,13 @@ impl OwnedScreen {
     fn set_mark(&mut self, alloc: Global) -> u8
         ensures { ((result ≡ OK) × (self.new ≡ with_mark self.old)) ⊎ ((result ≡ NO_MEMORY) × (self.new ≡ self.old)) }
     {
-        let size = self.emu.grid().size();
         if let Some(mark) = &mut self.mark {
-            let old = mark.size();
-            if old.rows == size.rows && old.cols == size.cols {
+            if has_same_size(mark, self.emu.grid()) {
                 mark.copy_from(self.emu.grid());
                 return OK;
             }
         }
-        match Grid::blank(alloc, size, BLANK) {
+        match Grid::blank(alloc, self.emu.grid().size(), BLANK) {
             Err(_) => NO_MEMORY,
             Ok(fresh) => {
                 let mut fresh = fresh;
@@ -68,34 +68,52 @@ impl OwnedScreen {
             }
         }
     }
+}
 
-    fn changed_rows(&self, places: &mut [u8])
-        ensures { places.new ≡ with_items (changed_flags self.now) places.old }
-    {
-        let count = usize::from(self.emu.grid().size().rows).min(places.len());
-        let mut n = 0;
-        while n < count {
-            places[n] = u8::from(self.is_changed(n as u8));
-            n += 1;
-        }
+// Puts whether each row differs from the marked cells into the places from the first.
+fn put_flags(mark: &Option<Grid>, grid: &Grid, places: &mut [u8])
+    ensures { places.new ≡ with_items (changed_flags mark.now grid.now) places.old }
+{
+    let rows = usize::from(grid.size().rows);
+    let count = rows.min(places.len());
+    let mut n = 0;
+    while n < count {
+        let answer = flag(is_changed(mark, grid, n as u8));
+        places[n] = answer;
+        n += 1;
     }
+}
 
-    fn is_changed(&self, y: u8) -> bool
-        requires { y < self.now.machine.state.grid.rows }
-        ensures { result ≡ is_changed self.now.mark self.now.machine.state.grid y }
-    {
-        let grid = self.emu.grid();
-        let size = grid.size();
-        match &self.mark {
-            None => true,
-            Some(mark) => {
-                let old = mark.size();
-                if old.rows == size.rows && old.cols == size.cols {
-                    !mark.is_row_same(grid, y)
-                } else {
-                    true
-                }
-            }
-        }
+fn is_changed(mark: &Option<Grid>, grid: &Grid, y: u8) -> bool
+    requires { y < grid.now.rows }
+    ensures { result ≡ is_changed mark.now grid.now y }
+{
+    match mark {
+        None => true,
+        Some(mark) => !is_as_marked(mark, grid, y),
     }
+}
+
+fn flag(test: bool) -> u8
+    ensures { result ≡ c_flag test }
+{
+    u8::from(test)
+}
+
+// Whether the row is as it was marked.
+fn is_as_marked(mark: &Grid, grid: &Grid, y: u8) -> bool
+    requires { y < grid.now.rows }
+    ensures { result ≡ is_as_marked mark.now grid.now y }
+{
+    has_same_size(mark, grid) && mark.is_row_same(grid, y)
+}
+
+/// Whether the marked cells are as many as those of the screen.
+pub(crate) fn has_same_size(mark: &Grid, grid: &Grid) -> bool
+    ensures test { result ≡ is_same_size mark.now grid.now }
+    ensures same { IsTrue result → IsSameSize mark.now grid.now }
+{
+    let old = mark.size();
+    let size = grid.size();
+    old.rows == size.rows && old.cols == size.cols
 }

@@ -7,6 +7,7 @@ ghost use Rattle.vt_redraw.specs.Redraw.{redraw_of};
 
 use crate::codes::{NO_MEMORY, NOT_DRAWABLE, NOTHING};
 use crate::handing_over::hand_over;
+use crate::marks::has_same_size;
 use crate::{OwnedScreen, ScreenHandle};
 use std::alloc::Global;
 use vt_base::{Bytes, NoMemory};
@@ -82,10 +83,8 @@ impl OwnedScreen {
         requires { IsTrue (is_redrawable self.now.machine.state) }
         ensures { IfOk result (λ text. text.bytes ≡ text_from_mark self.now.mark self.now.machine.state) }
     {
-        let size = self.emu.grid().size();
         if let Some(mark) = &self.mark {
-            let old = mark.size();
-            if old.rows == size.rows && old.cols == size.cols {
+            if has_same_size(mark, self.emu.grid()) {
                 return redraw_changes(alloc, mark, &self.emu);
             }
         }

@@ -3,8 +3,8 @@ use Rattle.screen_c.specs.Shown.{c_out}
 use Rattle.vt_screen.specs.Run.{after, outs_of_run}
 use Rattle.screen_c.proofs.feeding.feed.Given as goal
 
-abbrev pub invariant-loop-at-n : goal.invariant-loop-at-n
-invariant-loop-at-n l = record {
+abbrev pub invariant-loop-n : goal.invariant-loop-n
+invariant-loop-n l = record {
   within : l.at ≤ length l.b;
   room : l.n ≤ length l.places;
   size : length l.places ≡ length l.fn.places;
@@ -13,5 +13,5 @@ invariant-loop-at-n l = record {
   places : l.places ≡ map c_out (outs_of_run l.fn.emu (take l.at l.b)) ++ drop l.n l.fn.places;
 }
 
-abbrev pub decreases-loop-at-n : goal.decreases-loop-at-n
-decreases-loop-at-n l = (length l.b - l.at) + (length l.places - l.n)
+abbrev pub decreases-loop-n : goal.decreases-loop-n
+decreases-loop-n l = (length l.b - l.at) + (length l.places - l.n)

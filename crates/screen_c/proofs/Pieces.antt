@@ -1,8 +1,8 @@
 -- A text that is run piece by piece, and the places of what it says.
 use Rattle.screen_c.specs.Shown.{c_out}
 use Rattle.screen_c.specs.declared.vt_out.VtOut.{VtOut}
-use Rattle.std.proofs.Common.{◌≡◌, ℕ, ◌+◌, ◌-◌, ◌≤◌, List, [], ◌++◌, length, map, take, drop, refl, sym, ap, ◌∙◌, arith, length-drop, append_assoc}
-use Rattle.std.proofs.Math.Seq.{take-add, take-append_seam, drop-append-add}
+use Rattle.std.proofs.Common.{◌≡◌, ℕ, ◌+◌, ◌-◌, ◌<◌, ◌≤◌, List, [], ◌∷◌, ◌++◌, add-one, get_or, set, length, map, take, drop, refl, sym, ap, ◌∙◌, arith, length-drop, append_assoc}
+use Rattle.std.proofs.Math.Seq.{take-add, take-append_seam, drop-append-add, set_split}
 use Rattle.std.proofs.lemmas.List.{drop-drop, length-append, length-map, map-append, take_all}
 use Rattle.vt_screen.specs.Run.{AnyCut, after, outs_of_run}
 use Rattle.vt_screen.specs.Screen.{Screen}
@@ -59,3 +59,13 @@ pub count_more : (said more all : List Out) (n k : ℕ) → n ≡ length said �
     → n + k ≡ length all
 count_more said more all n k count added whole =
     omega (arith, count, added, length-append said more, ap length whole)
+
+-- one thing at place n
+pub one_said : (said : List Out) (d : Out) (places : List VtOut) (n : ℕ) → 0 < length said → length said ≤ 1
+    → n < length places
+    → set places n (c_out (get_or said 0 d)) ≡ take n places ++ (map c_out said ++ drop (n + length said) places)
+one_said [] d places n some one room = absurd (omega (arith, some))
+one_said (x ∷ []) d places n some one room =
+    set_split places n (c_out x) room
+    ∙ ap (λ k. take n places ++ (c_out x ∷ drop k places)) (sym (add-one n))
+one_said (x ∷ y ∷ said) d places n some one room = absurd (omega (arith, one))
