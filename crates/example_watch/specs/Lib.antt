@@ -1,0 +1,6 @@
+pub mod Facts
+pub mod Json
+pub mod Lines
+pub mod Sights
+pub mod Watch
+pub mod Words

@@ -1,0 +1,151 @@
+//! What an entry did, as objects of JSON.
+ghost use Rattle.std.specs.Prelude.{◌≡◌, ◌++◌, codes, decimal, OnOk};
+ghost use Rattle.example_watch.specs.Json.{ask_members, cause_members, did_member, end_object, fact_object, request_object, signal_object, switch_object, wait_object};
+ghost use Rattle.example_watch.specs.Words.{listed, wait_end_name};
+
+use crate::adding::{add_number, add_quoted, add_quoted_caller};
+use crate::fact::Fact;
+use crate::fact_lines::wait_end_name;
+use std::alloc::Global;
+use vt_base::{Bytes, CallerNo, ConsoleNo, NoMemory, Signal};
+use vt_explain::{HopCause, HopWhy};
+use vt_journal::add;
+
+/// Adds the member of what an entry did.
+#[tactic(auto, unfolding(crate::specs::Json::did_member))]
+pub fn add_did(alloc: Global, text: &mut Bytes, facts: &[Fact]) -> Result<(), NoMemory>
+    ensures { OnOk result (text.new.bytes ≡ text.old.bytes ++ did_member facts.now) }
+{
+    add(alloc, text, b",\"did\":[")?;
+    add_facts(alloc, text, facts)?;
+    add(alloc, text, b"]")
+}
+
+fn add_facts(alloc: Global, text: &mut Bytes, facts: &[Fact]) -> Result<(), NoMemory>
+    ensures { OnOk result
+        (text.new.bytes ≡ text.old.bytes ++ listed (codes ",") fact_object facts.now) }
+{
+    let Some((first, others)) = facts.split_first() else {
+        return Ok(());
+    };
+    add_fact(alloc, text, first)?;
+    for other in others {
+        add(alloc, text, b",")?;
+        add_fact(alloc, text, other)?;
+    }
+    Ok(())
+}
+
+fn add_fact(alloc: Global, text: &mut Bytes, fact: &Fact) -> Result<(), NoMemory>
+    ensures { OnOk result (text.new.bytes ≡ text.old.bytes ++ fact_object fact.now) }
+{
+    match fact {
+        Fact::Request { caller, console } => add_request(alloc, text, *caller, *console),
+        Fact::Signal { signal, to } => add_signal(alloc, text, *signal, *to),
+        Fact::Switch(item) => add_switch(alloc, text, item),
+        Fact::End(p) => add_end(alloc, text, *p),
+        Fact::Wait { caller, how } => add_wait(alloc, text, *caller, wait_end_name(*how)),
+    }
+}
+
+#[tactic(auto, unfolding(crate::specs::Json::request_object))]
+fn add_request(
+    alloc: Global,
+    text: &mut Bytes,
+    caller: CallerNo,
+    console: ConsoleNo,
+) -> Result<(), NoMemory>
+    ensures { OnOk result (text.new.bytes ≡ text.old.bytes ++ request_object caller console) }
+{
+    add(alloc, text, b"{\"what\":\"request\",\"caller\":")?;
+    add_quoted_caller(alloc, text, caller)?;
+    add(alloc, text, b",\"console\":")?;
+    add_number(alloc, text, u64::from(console.get()))?;
+    add(alloc, text, b"}")
+}
+
+#[tactic(auto, unfolding(crate::specs::Json::signal_object))]
+fn add_signal(alloc: Global, text: &mut Bytes, signal: Signal, to: CallerNo) -> Result<(), NoMemory>
+    ensures { OnOk result (text.new.bytes ≡ text.old.bytes ++ signal_object signal to) }
+{
+    add(alloc, text, b"{\"what\":\"signal\",\"signal\":")?;
+    add_number(alloc, text, u64::from(signal.get()))?;
+    add(alloc, text, b",\"to\":")?;
+    add_quoted_caller(alloc, text, to)?;
+    add(alloc, text, b"}")
+}
+
+#[tactic(auto, unfolding(crate::specs::Json::switch_object))]
+fn add_switch(alloc: Global, text: &mut Bytes, item: &HopWhy) -> Result<(), NoMemory>
+    ensures { OnOk result (text.new.bytes ≡ text.old.bytes ++ switch_object item.now) }
+{
+    add(alloc, text, b"{\"what\":\"switch\",\"from\":")?;
+    add_number(alloc, text, u64::from(item.from.get()))?;
+    add(alloc, text, b",\"to\":")?;
+    add_number(alloc, text, u64::from(item.to.get()))?;
+    add(alloc, text, b",\"cause\":")?;
+    add_cause(alloc, text, &item.cause)?;
+    add(alloc, text, b"}")
+}
+
+fn add_cause(alloc: Global, text: &mut Bytes, cause: &HopCause) -> Result<(), NoMemory>
+    ensures { OnOk result (text.new.bytes ≡ text.old.bytes ++ cause_members cause.now) }
+{
+    match cause {
+        HopCause::Free => add(alloc, text, b"\"free\""),
+        HopCause::Released {
+            owner,
+            asked,
+            signal,
+        } => {
+            add(alloc, text, b"\"released\"")?;
+            add_ask(alloc, text, *owner, *asked, *signal)
+        }
+        HopCause::Died {
+            owner,
+            asked,
+            signal,
+        } => {
+            add(alloc, text, b"\"died\"")?;
+            add_ask(alloc, text, *owner, *asked, *signal)
+        }
+    }
+}
+
+#[tactic(auto, unfolding(crate::specs::Json::ask_members))]
+fn add_ask(
+    alloc: Global,
+    text: &mut Bytes,
+    owner: CallerNo,
+    asked: u32,
+    signal: Signal,
+) -> Result<(), NoMemory>
+    ensures { OnOk result (text.new.bytes ≡ text.old.bytes ++ ask_members owner asked signal) }
+{
+    add(alloc, text, b",\"owner\":")?;
+    add_quoted_caller(alloc, text, owner)?;
+    add(alloc, text, b",\"asked\":")?;
+    add_number(alloc, text, u64::from(asked))?;
+    add(alloc, text, b",\"signal\":")?;
+    add_number(alloc, text, u64::from(signal.get()))
+}
+
+#[tactic(auto, unfolding(crate::specs::Json::end_object))]
+fn add_end(alloc: Global, text: &mut Bytes, p: CallerNo) -> Result<(), NoMemory>
+    ensures { OnOk result (text.new.bytes ≡ text.old.bytes ++ end_object p) }
+{
+    add(alloc, text, b"{\"what\":\"end\",\"caller\":")?;
+    add_quoted_caller(alloc, text, p)?;
+    add(alloc, text, b"}")
+}
+
+#[tactic(auto, unfolding(crate::specs::Json::wait_object))]
+fn add_wait(alloc: Global, text: &mut Bytes, p: CallerNo, how: &[u8]) -> Result<(), NoMemory>
+    ensures { OnOk result (text.new.bytes ≡ text.old.bytes ++ wait_object p how.now) }
+{
+    add(alloc, text, b"{\"what\":\"wait\",\"caller\":")?;
+    add_quoted_caller(alloc, text, p)?;
+    add(alloc, text, b",\"how\":")?;
+    add_quoted(alloc, text, how)?;
+    add(alloc, text, b"}")
+}

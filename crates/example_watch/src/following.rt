@@ -1,0 +1,116 @@
+//! A console that follows a history, entry by entry.
+ghost use Rattle.std.specs.Prelude.{◌≡◌, ◌++◌, Option, if◌then◌else◌, OnOk, IfOk};
+ghost use Rattle.example_watch.specs.Facts.{facts_of};
+ghost use Rattle.example_watch.specs.Json.{sight_object};
+ghost use Rattle.example_watch.specs.Lines.{change_line, sight_lines, state_words};
+ghost use Rattle.example_watch.specs.Sights.{is_same, since_after, sight_of, world_after};
+ghost use Rattle.example_watch.specs.Watch.{sight_text};
+ghost use Rattle.vt_world.specs.State.{WorldState};
+
+use crate::fact::Fact;
+use crate::fact_lines::add_fact_lines;
+use crate::fact_objects::add_did;
+use crate::facts::{add_wait_facts, trace_facts, waits_of};
+use crate::form::Form;
+use crate::json::{add_entry_members, add_state_members};
+use crate::lines::{add_answer_line, add_entry_line, add_lower_line, state_words};
+use std::alloc::Global;
+use vt_base::{Bytes, ConsoleNo, NoMemory};
+use vt_events::Entry;
+use vt_explain::HopWhy;
+use vt_journal::add;
+use vt_world::World;
+
+/// The console after the entries so far, and since which entry what is pending has been the same.
+#[derive(Drop)]
+pub struct Following {
+    pub world: World,
+    pub since: u32,
+}
+
+impl Following {
+    /// Follows the entry at this place, and adds its text.
+    pub fn follow(
+        &mut self,
+        alloc: Global,
+        form: Form,
+        cert: &[HopWhy],
+        place: u32,
+        entry: &Entry,
+        text: &mut Bytes,
+    ) -> Result<(), NoMemory>
+        ensures world { OnOk result (self.new.world ≡ world_after self.old.world entry.now) }
+        ensures since { OnOk result
+            (self.new.since ≡ since_after place self.old.since self.old.world self.new.world) }
+        ensures text { OnOk result (text.new.bytes ≡ text.old.bytes
+            ++ sight_text form cert.now (sight_of place self.old.since self.old.world entry.now)) }
+    {
+        let state = state_words(alloc, &self.world, self.since)?;
+        let facts = self.call(alloc, cert, place, entry)?;
+        match form {
+            Form::Lines => {
+                add_entry_line(alloc, text, entry)?;
+                add_answer_line(alloc, text, &entry.reply)?;
+                add_fact_lines(alloc, text, facts.as_slice())?;
+                self.add_change(alloc, text, state.as_slice())
+            }
+            Form::Json => {
+                add_entry_members(alloc, text, place, entry)?;
+                add_did(alloc, text, facts.as_slice())?;
+                add_state_members(alloc, text, &self.world, self.since)?;
+                add(alloc, text, b"}\n")
+            }
+        }
+    }
+
+    // Makes the call of the entry at this place. What it did.
+    fn call(
+        &mut self,
+        alloc: Global,
+        cert: &[HopWhy],
+        place: u32,
+        entry: &Entry,
+    ) -> Result<Vec<Fact>, NoMemory>
+        ensures world { IfOk result (λ facts. self.new.world ≡ world_after self.old.world entry.now) }
+        ensures since { IfOk result (λ facts.
+            self.new.since ≡ since_after place self.old.since self.old.world self.new.world) }
+        ensures facts { IfOk result (λ facts. facts.items
+            ≡ facts_of cert.now (sight_of place self.old.since self.old.world entry.now)) }
+    {
+        let waits = waits_of(alloc, &self.world)?;
+        let switches = self.world.hops();
+        let pending = self.world.pending_console();
+        let _reply = self.world.call(alloc, entry.caller, &entry.event)?;
+        if !is_same(pending, self.world.pending_console()) {
+            self.since = place;
+        }
+        let mut facts = trace_facts(
+            alloc,
+            entry.caller,
+            cert,
+            switches as usize,
+            self.world.trace(),
+        )?;
+        add_wait_facts(&mut facts, waits.as_slice(), &self.world)?;
+        Ok(facts)
+    }
+
+    // Adds the state, if its words aren't these.
+    fn add_change(&self, alloc: Global, text: &mut Bytes, before: &[u8]) -> Result<(), NoMemory> {
+        let state = state_words(alloc, &self.world, self.since)?;
+        if state.as_slice() == before {
+            return Ok(());
+        }
+        add_lower_line(alloc, text, state.as_slice())
+    }
+}
+
+fn is_same(before: Option<ConsoleNo>, after: Option<ConsoleNo>) -> bool
+    ensures { result ≡ is_same before after }
+{
+    match (before, after) {
+        (None, None) => true,
+        (Some(m), Some(n)) => m == n,
+        _ => false,
+    }
+}

@@ -1,0 +1,59 @@
+//! Who owns which console, and who waits.
+ghost use Rattle.std.specs.Prelude.{◌≡◌, IfOk};
+ghost use Rattle.example_watch.specs.Facts.{open_ticket, owner_at, owners_of, waiter_at, waiters_of};
+
+use crate::owner::Owner;
+use crate::waiter::Waiter;
+use std::alloc::Global;
+use vt_base::{CallerNo, ConsoleNo, NoMemory};
+use vt_procs::{Ticket, Waiting};
+use vt_world::World;
+
+/// Each console that has an owner, rising.
+pub fn owners_of(alloc: Global, world: &World) -> Result<Vec<Owner>, NoMemory>
+    ensures { IfOk result (λ owners. owners.items ≡ owners_of world.now) }
+{
+    let mut owners = Vec::new(alloc);
+    for console in &ConsoleNo::all() {
+        if let Some(owner) = owner_at(world, *console) {
+            owners.push(owner)?;
+        }
+    }
+    Ok(owners)
+}
+
+fn owner_at(world: &World, console: ConsoleNo) -> Option<Owner>
+    ensures { result ≡ owner_at world.now console }
+{
+    let process = world.owner(console)?;
+    Some(Owner { console, process })
+}
+
+/// Each caller that has an open wait, rising.
+pub fn waiters_of(alloc: Global, world: &World) -> Result<Vec<Waiter>, NoMemory>
+    ensures { IfOk result (λ waiters. waiters.items ≡ waiters_of world.now) }
+{
+    let mut waiters = Vec::new(alloc);
+    for caller in &CallerNo::all() {
+        if let Some(waiter) = waiter_at(world, *caller) {
+            waiters.push(waiter)?;
+        }
+    }
+    Ok(waiters)
+}
+
+fn waiter_at(world: &World, caller: CallerNo) -> Option<Waiter>
+    ensures { result ≡ waiter_at world.now caller }
+{
+    let ticket = open_ticket(&world.wait_of(caller))?;
+    Some(Waiter { caller, ticket })
+}
+
+fn open_ticket(waiting: &Waiting) -> Option<Ticket>
+    ensures { result ≡ open_ticket waiting.now }
+{
+    match waiting {
+        Waiting::Open(ticket) => Some(*ticket),
+        _ => None,
+    }
+}
