@@ -6,7 +6,7 @@ use Rattle.example_watch.specs.declared.wait_end.WaitEnd.TheVariants as how
 use Rattle.vt_base.specs.declared.errno.Errno.{Errno}
 use Rattle.vt_base.specs.declared.errno.Errno.TheVariants as errno
 use Rattle.vt_journal.specs.Callers.{caller_word}
-use Rattle.vt_journal.specs.Text.{spaced}
+use Rattle.vt_journal.specs.Text.{blank_before_each}
 
 -- a caller as a journal of version 2 has it
 abbrev pub caller_text : ℕ → List ℕ
@@ -14,7 +14,7 @@ caller_text caller = caller_word 2 caller
 
 -- words with a blank between each and the next
 abbrev pub words_text : List (List ℕ) → List ℕ
-words_text words = drop 1 (spaced words)
+words_text words = drop 1 (blank_before_each words)
 
 -- the names of errors (errno(3))
 abbrev pub error_name : Errno → List ℕ
