@@ -110,7 +110,7 @@ entry_members place entry =
 
 -- the members of what it did
 unfoldable pub did_member : List Fact → List ℕ
-did_member facts = codes ",\"did\":[" ++ (listed (codes ",") fact_object facts ++ codes "]")
+did_member facts = codes ",\"did\":[" ++ (listed [] (codes ",") fact_object facts ++ codes "]")
 
 -- the members of the state after it
 unfoldable pub state_members : WorldState → ℕ → List ℕ
@@ -118,11 +118,11 @@ state_members w since =
     codes ",\"front\":"
     ++ (decimal w.display.front
     ++ (codes ",\"owners\":["
-    ++ (listed (codes ",") owner_object (owners_of w)
+    ++ (listed [] (codes ",") owner_object (owners_of w)
     ++ (codes "],\"pending\":"
     ++ (pending_value w.display.pending since
     ++ (codes ",\"waits\":["
-    ++ (listed (codes ",") waiter_object (waiters_of w) ++ codes "]")))))))
+    ++ (listed [] (codes ",") waiter_object (waiters_of w) ++ codes "]")))))))
 
 -- an entry
 abbrev pub sight_object : List HopWhy → Sight → List ℕ

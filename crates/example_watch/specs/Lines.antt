@@ -4,7 +4,7 @@ use Rattle.std.specs.List.{flat_map}
 use Rattle.std.specs.Str.{bytes_eq}
 use Rattle.example_watch.specs.Facts.{facts_of, owners_of, waiters_of}
 use Rattle.example_watch.specs.Sights.{Sight}
-use Rattle.example_watch.specs.Words.{caller_text, error_name, listed, or_none, wait_end_name}
+use Rattle.example_watch.specs.Words.{caller_text, error_name, listed, wait_end_name}
 use Rattle.example_watch.specs.declared.fact.Fact.{Fact}
 use Rattle.example_watch.specs.declared.fact.Fact.TheVariants as fact
 use Rattle.example_watch.specs.declared.owner.Owner.{Owner}
@@ -83,11 +83,11 @@ state_words w since =
     codes "now: front "
     ++ (decimal w.display.front
     ++ (codes "; owners "
-    ++ (or_none (listed (codes ", ") owner_words (owners_of w))
+    ++ (listed (codes "none") (codes ", ") owner_words (owners_of w)
     ++ (codes "; pending "
     ++ (pending_words w.display.pending since
     ++ (codes "; waits "
-    ++ or_none (listed (codes ", ") waiter_words (waiters_of w))))))))
+    ++ listed (codes "none") (codes ", ") waiter_words (waiters_of w)))))))
 
 -- the state after an entry, if that changed it
 abbrev pub change_line : Sight → List ℕ

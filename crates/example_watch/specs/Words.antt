@@ -38,13 +38,8 @@ wait_end_name how.Gone = codes "gone"
 unfoldable pub quoted : List ℕ → List ℕ
 quoted text = codes "\"" ++ (text ++ codes "\"")
 
--- the texts of some things, with a separator between each and the next
-abbrev pub listed : {A : Type 0} → List ℕ → (A → List ℕ) → List A → List ℕ
-listed separator text [] = []
-listed separator text (first ∷ others) =
+-- the texts of some things, with a separator between each and the next; and a text for none
+abbrev pub listed : {A : Type 0} → List ℕ → List ℕ → (A → List ℕ) → List A → List ℕ
+listed none separator text [] = none
+listed none separator text (first ∷ others) =
     text first ++ flat_map (λ other. separator ++ text other) others
-
--- or, where there are none, a word for that
-abbrev pub or_none : List ℕ → List ℕ
-or_none [] = codes "none"
-or_none text = text

@@ -1,7 +1,6 @@
 //! Parts of the text, each added at its end.
 ghost use Rattle.std.specs.Prelude.{◌≡◌, ◌++◌, decimal, OnOk};
 ghost use Rattle.example_watch.specs.Words.{caller_text, quoted};
-ghost use Rattle.vt_journal.specs.Callers.{caller_word};
 
 use itoa::Buffer;
 use std::alloc::Global;

@@ -1,5 +1,5 @@
 //! What an entry did, in words.
-ghost use Rattle.std.specs.Prelude.{◌≡◌, ◌++◌, decimal, OnOk};
+ghost use Rattle.std.specs.Prelude.{◌≡◌, ◌++◌, OnOk};
 ghost use Rattle.std.specs.List.{flat_map};
 ghost use Rattle.example_watch.specs.Lines.{ask_words, cause_words, fact_line, fact_words, request_words, signal_words, switch_words};
 ghost use Rattle.example_watch.specs.Words.{wait_end_name};

@@ -1,7 +1,7 @@
 //! What an entry did, as objects of JSON.
-ghost use Rattle.std.specs.Prelude.{◌≡◌, ◌++◌, codes, decimal, OnOk};
+ghost use Rattle.std.specs.Prelude.{◌≡◌, [], ◌++◌, codes, OnOk};
 ghost use Rattle.example_watch.specs.Json.{ask_members, cause_members, did_member, end_object, fact_object, request_object, signal_object, switch_object, wait_object};
-ghost use Rattle.example_watch.specs.Words.{listed, wait_end_name};
+ghost use Rattle.example_watch.specs.Words.{listed};
 
 use crate::adding::{add_number, add_quoted, add_quoted_caller};
 use crate::fact::Fact;
@@ -23,7 +23,7 @@ pub fn add_did(alloc: Global, text: &mut Bytes, facts: &[Fact]) -> Result<(), No
 
 fn add_facts(alloc: Global, text: &mut Bytes, facts: &[Fact]) -> Result<(), NoMemory>
     ensures { OnOk result
-        (text.new.bytes ≡ text.old.bytes ++ listed (codes ",") fact_object facts.now) }
+        (text.new.bytes ≡ text.old.bytes ++ listed [] (codes ",") fact_object facts.now) }
 {
     let Some((first, others)) = facts.split_first() else {
         return Ok(());

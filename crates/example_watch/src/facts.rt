@@ -1,6 +1,6 @@
 //! What an entry did.
-ghost use Rattle.std.specs.Prelude.{◌≡◌, ◌≤◌, ◌++◌, List, drop, length, IfOk, slice_index_or, option_map};
-ghost use Rattle.example_watch.specs.Facts.{facts_of, trace_facts, wait_end, wait_fact, wait_facts, wait_of, waits_of};
+ghost use Rattle.std.specs.Prelude.{◌≡◌, ◌++◌, drop, IfOk, OnOk, slice_index_or};
+ghost use Rattle.example_watch.specs.Facts.{trace_facts, wait_end, wait_fact, wait_facts, waits_of};
 ghost use Rattle.vt_procs.specs.declared.waiting.Waiting.{Waiting};
 
 use crate::fact::Fact;
@@ -15,8 +15,9 @@ use vt_world::{Mark, World};
 pub fn waits_of(alloc: Global, world: &World) -> Result<Vec<Waiting>, NoMemory>
     ensures { IfOk result (λ waits. waits.items ≡ waits_of world.now) }
 {
+    let all = CallerNo::all();
     let mut waits = Vec::new(alloc);
-    for p in &CallerNo::all() {
+    for p in &all {
         waits.push(world.wait_of(*p))?;
     }
     Ok(waits)
@@ -64,7 +65,8 @@ pub fn add_wait_facts(
 ) -> Result<(), NoMemory>
     ensures { OnOk result (facts.new.items ≡ facts.old.items ++ wait_facts before.now after.now) }
 {
-    for p in &CallerNo::all() {
+    let all = CallerNo::all();
+    for p in &all {
         if let Some(fact) = wait_fact(before, after, *p) {
             facts.push(fact)?;
         }

@@ -1,11 +1,10 @@
 //! A console that follows a history, entry by entry.
-ghost use Rattle.std.specs.Prelude.{◌≡◌, ◌++◌, Option, if◌then◌else◌, OnOk, IfOk};
+ghost use Rattle.std.specs.Prelude.{◌≡◌, ◌++◌, OnOk, IfOk, if◌then◌else◌, []};
 ghost use Rattle.example_watch.specs.Facts.{facts_of};
-ghost use Rattle.example_watch.specs.Json.{sight_object};
-ghost use Rattle.example_watch.specs.Lines.{change_line, sight_lines, state_words};
+ghost use Rattle.example_watch.specs.Lines.{lower_line, state_words};
+ghost use Rattle.std.specs.Str.{bytes_eq};
 ghost use Rattle.example_watch.specs.Sights.{is_same, since_after, sight_of, world_after};
-ghost use Rattle.example_watch.specs.Watch.{sight_text};
-ghost use Rattle.vt_world.specs.State.{WorldState};
+ghost use Rattle.example_watch.specs.Texts.{sight_text};
 
 use crate::fact::Fact;
 use crate::fact_lines::add_fact_lines;
@@ -96,9 +95,13 @@ impl Following {
     }
 
     // Adds the state, if its words aren't these.
-    fn add_change(&self, alloc: Global, text: &mut Bytes, before: &[u8]) -> Result<(), NoMemory> {
+    fn add_change(&self, alloc: Global, text: &mut Bytes, before: &[u8]) -> Result<(), NoMemory>
+        ensures { OnOk result (text.new.bytes ≡ text.old.bytes
+            ++ (if bytes_eq before.now (state_words self.now.world self.now.since) then []
+            else lower_line (state_words self.now.world self.now.since))) }
+    {
         let state = state_words(alloc, &self.world, self.since)?;
-        if state.as_slice() == before {
+        if before == state.as_slice() {
             return Ok(());
         }
         add_lower_line(alloc, text, state.as_slice())

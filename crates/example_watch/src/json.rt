@@ -1,5 +1,5 @@
 //! An entry as an object of JSON, but for what it did.
-ghost use Rattle.std.specs.Prelude.{◌≡◌, ◌++◌, codes, decimal, OnOk};
+ghost use Rattle.std.specs.Prelude.{◌≡◌, [], ◌++◌, codes, drop, OnOk};
 ghost use Rattle.std.specs.List.{flat_map};
 ghost use Rattle.example_watch.specs.Json.{end_line, entry_members, error_value, escaped_byte, owner_object, pending_object, pending_value, state_members, ticket_members, waiter_object};
 ghost use Rattle.example_watch.specs.Words.{listed, quoted, words_text};
@@ -93,7 +93,7 @@ pub fn add_state_members(
 
 fn add_owners(alloc: Global, text: &mut Bytes, owners: &[Owner]) -> Result<(), NoMemory>
     ensures { OnOk result
-        (text.new.bytes ≡ text.old.bytes ++ listed (codes ",") owner_object owners.now) }
+        (text.new.bytes ≡ text.old.bytes ++ listed [] (codes ",") owner_object owners.now) }
 {
     let Some((first, others)) = owners.split_first() else {
         return Ok(());
@@ -149,7 +149,7 @@ fn add_pending_console(
 
 fn add_waiters(alloc: Global, text: &mut Bytes, waiters: &[Waiter]) -> Result<(), NoMemory>
     ensures { OnOk result
-        (text.new.bytes ≡ text.old.bytes ++ listed (codes ",") waiter_object waiters.now) }
+        (text.new.bytes ≡ text.old.bytes ++ listed [] (codes ",") waiter_object waiters.now) }
 {
     let Some((first, others)) = waiters.split_first() else {
         return Ok(());

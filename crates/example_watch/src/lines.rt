@@ -1,8 +1,7 @@
 //! An entry for a person: its line of the journal, what it did, and the state after it, if that changed.
-ghost use Rattle.std.specs.Prelude.{◌≡◌, ◌++◌, codes, decimal, OnOk};
-ghost use Rattle.example_watch.specs.Facts.{owners_of, waiters_of};
+ghost use Rattle.std.specs.Prelude.{◌≡◌, ◌++◌, codes, IfOk, OnOk};
 ghost use Rattle.example_watch.specs.Lines.{answer_line, lower_line, owner_words, pending_words, state_words, ticket_words, waiter_words};
-ghost use Rattle.example_watch.specs.Words.{listed, or_none};
+ghost use Rattle.example_watch.specs.Words.{listed};
 ghost use Rattle.vt_journal.specs.Journal.{entry_words, line_text};
 
 use crate::adding::{add_caller_text, add_number};
@@ -81,7 +80,7 @@ fn add_state(alloc: Global, text: &mut Bytes, world: &World, since: u32) -> Resu
 
 fn add_owners(alloc: Global, text: &mut Bytes, owners: &[Owner]) -> Result<(), NoMemory>
     ensures { OnOk result
-        (text.new.bytes ≡ text.old.bytes ++ or_none (listed (codes ", ") owner_words owners.now)) }
+        (text.new.bytes ≡ text.old.bytes ++ listed (codes "none") (codes ", ") owner_words owners.now) }
 {
     let Some((first, others)) = owners.split_first() else {
         return add(alloc, text, b"none");
@@ -122,7 +121,7 @@ fn add_pending(
 
 fn add_waiters(alloc: Global, text: &mut Bytes, waiters: &[Waiter]) -> Result<(), NoMemory>
     ensures { OnOk result
-        (text.new.bytes ≡ text.old.bytes ++ or_none (listed (codes ", ") waiter_words waiters.now)) }
+        (text.new.bytes ≡ text.old.bytes ++ listed (codes "none") (codes ", ") waiter_words waiters.now) }
 {
     let Some((first, others)) = waiters.split_first() else {
         return add(alloc, text, b"none");

@@ -13,8 +13,9 @@ use vt_world::World;
 pub fn owners_of(alloc: Global, world: &World) -> Result<Vec<Owner>, NoMemory>
     ensures { IfOk result (λ owners. owners.items ≡ owners_of world.now) }
 {
+    let all = ConsoleNo::all();
     let mut owners = Vec::new(alloc);
-    for console in &ConsoleNo::all() {
+    for console in &all {
         if let Some(owner) = owner_at(world, *console) {
             owners.push(owner)?;
         }
@@ -33,8 +34,9 @@ fn owner_at(world: &World, console: ConsoleNo) -> Option<Owner>
 pub fn waiters_of(alloc: Global, world: &World) -> Result<Vec<Waiter>, NoMemory>
     ensures { IfOk result (λ waiters. waiters.items ≡ waiters_of world.now) }
 {
+    let all = CallerNo::all();
     let mut waiters = Vec::new(alloc);
-    for caller in &CallerNo::all() {
+    for caller in &all {
         if let Some(waiter) = waiter_at(world, *caller) {
             waiters.push(waiter)?;
         }

@@ -1,6 +1,8 @@
 //! The text of a history.
-ghost use Rattle.std.specs.Prelude.{◌≡◌, ◌++◌, IfOk, OnOk};
-ghost use Rattle.example_watch.specs.Watch.{IfText, IsWatched, verdict_of, watch_text};
+ghost use Rattle.std.specs.Prelude.{◌≡◌, ◌≤◌, ◌++◌, IfOk, OnOk, length};
+ghost use Rattle.example_watch.specs.Texts.{end_text, head_text, watch_text};
+ghost use Rattle.example_watch.specs.Watch.{IfText, IsWatched, verdict_of};
+ghost use Rattle.session_run.specs.Final.{final_text};
 ghost use Rattle.session_order.specs.Sessions.{setup_of, start_of};
 ghost use Rattle.vt_check.specs.Verdicts.{Judges};
 
