@@ -7,6 +7,7 @@ use Rattle.example_watch.specs.Words.{caller_text, error_name, listed, quoted, w
 use Rattle.example_watch.specs.declared.fact.Fact.{Fact}
 use Rattle.example_watch.specs.declared.fact.Fact.TheVariants as fact
 use Rattle.example_watch.specs.declared.owner.Owner.{Owner}
+use Rattle.example_watch.specs.declared.wait_end.WaitEnd.{WaitEnd}
 use Rattle.example_watch.specs.declared.waiter.Waiter.{Waiter}
 use Rattle.vt_events.specs.declared.entry.Entry.{Entry}
 use Rattle.vt_events.specs.declared.reply.Reply.{Reply}
@@ -14,23 +15,24 @@ use Rattle.vt_events.specs.declared.reply.Reply.TheVariants as reply
 use Rattle.vt_explain.specs.declared.hop_cause.HopCause.{HopCause}
 use Rattle.vt_explain.specs.declared.hop_cause.HopCause.TheVariants as why
 use Rattle.vt_explain.specs.declared.hop_why.HopWhy.{HopWhy}
-use Rattle.vt_journal.specs.Hex.{hex_byte}
+use Rattle.vt_journal.specs.Hex.{hex_text}
 use Rattle.vt_journal.specs.Words.{event_words, reply_words}
 use Rattle.vt_procs.specs.declared.ticket.Ticket.{Ticket}
 use Rattle.vt_procs.specs.declared.ticket.Ticket.TheVariants as ticket
 use Rattle.vt_world.specs.State.{WorldState}
 
--- the members that tell who was asked, in which entry and by which signal
-unfoldable pub ask_members : ℕ → ℕ → ℕ → List ℕ
-ask_members owner asked signal =
-    codes ",\"owner\":"
+-- how an owner let the display go, and in which entry and by which signal it was asked
+unfoldable pub ask_members : List ℕ → ℕ → ℕ → ℕ → List ℕ
+ask_members how owner asked signal =
+    how
+    ++ (codes ",\"owner\":"
     ++ (quoted (caller_text owner)
-    ++ (codes ",\"asked\":" ++ (decimal asked ++ (codes ",\"signal\":" ++ decimal signal))))
+    ++ (codes ",\"asked\":" ++ (decimal asked ++ (codes ",\"signal\":" ++ decimal signal)))))
 
 abbrev pub cause_members : HopCause → List ℕ
 cause_members why.Free = codes "\"free\""
-cause_members (why.Released owner asked signal) = codes "\"released\"" ++ ask_members owner asked signal
-cause_members (why.Died owner asked signal) = codes "\"died\"" ++ ask_members owner asked signal
+cause_members (why.Released owner asked signal) = ask_members (codes "\"released\"") owner asked signal
+cause_members (why.Died owner asked signal) = ask_members (codes "\"died\"") owner asked signal
 
 unfoldable pub switch_object : HopWhy → List ℕ
 switch_object w =
@@ -52,10 +54,10 @@ signal_object signal to =
 unfoldable pub end_object : ℕ → List ℕ
 end_object p = codes "{\"what\":\"end\",\"caller\":" ++ (quoted (caller_text p) ++ codes "}")
 
-unfoldable pub wait_object : ℕ → List ℕ → List ℕ
+unfoldable pub wait_object : ℕ → WaitEnd → List ℕ
 wait_object p how =
     codes "{\"what\":\"wait\",\"caller\":"
-    ++ (quoted (caller_text p) ++ (codes ",\"how\":" ++ (quoted how ++ codes "}")))
+    ++ (quoted (caller_text p) ++ (codes ",\"how\":\"" ++ (wait_end_name how ++ codes "\"}")))
 
 -- what an entry did
 abbrev pub fact_object : Fact → List ℕ
@@ -63,16 +65,19 @@ fact_object (fact.Request caller console) = request_object caller console
 fact_object (fact.Signal signal to) = signal_object signal to
 fact_object (fact.Switch item) = switch_object item
 fact_object (fact.End p) = end_object p
-fact_object (fact.Wait p how) = wait_object p (wait_end_name how)
+fact_object (fact.Wait p how) = wait_object p how
 
 unfoldable pub owner_object : Owner → List ℕ
 owner_object o =
     codes "{\"console\":"
     ++ (decimal o.console ++ (codes ",\"owner\":" ++ (quoted (caller_text o.process) ++ codes "}")))
 
+unfoldable pub place_members : List ℕ → ℕ → List ℕ
+place_members what n = what ++ decimal n
+
 abbrev pub ticket_members : Ticket → List ℕ
-ticket_members (ticket.Active n) = codes "\"display\",\"console\":" ++ decimal n
-ticket_members (ticket.Input n) = codes "\"input\",\"console\":" ++ decimal n
+ticket_members (ticket.Active n) = place_members (codes "\"display\",\"console\":") n
+ticket_members (ticket.Input n) = place_members (codes "\"input\",\"console\":") n
 ticket_members ticket.AnySignal = codes "\"signal\""
 
 unfoldable pub waiter_object : Waiter → List ℕ
@@ -124,11 +129,16 @@ state_members w since =
     ++ (codes ",\"waits\":["
     ++ (listed [] (codes ",") waiter_object (waiters_of w) ++ codes "]")))))))
 
--- an entry
+-- an entry: its members, what it did, and the state after it
+unfoldable pub entry_object : ℕ → Entry → List Fact → List ℕ → List ℕ
+entry_object place entry facts state =
+    entry_members place entry ++ (did_member facts ++ (state ++ codes "}\n"))
+
 abbrev pub sight_object : List HopWhy → Sight → List ℕ
-sight_object cert s =
-    entry_members s.place s.entry
-    ++ (did_member (facts_of cert s) ++ (state_members s.after s.since ++ codes "}\n"))
+sight_object cert s = entry_object s.place s.entry (facts_of cert s) (state_members s.after s.since)
+
+unfoldable pub control_text : ℕ → List ℕ
+control_text b = codes "\\u00" ++ hex_text (b ∷ [])
 
 -- a byte of a text: a quote, a backslash and LF have a backslash before them, other controls are in hexadecimal
 abbrev pub escaped_byte : ℕ → List ℕ
@@ -136,7 +146,7 @@ escaped_byte b =
     if b == 0x22 then codes "\\\""
     else if b == 0x5C then codes "\\\\"
     else if b == 0x0A then codes "\\n"
-    else if nat_lt b 0x20 then codes "\\u00" ++ hex_byte b
+    else if nat_lt b 0x20 then control_text b
     else b ∷ []
 
 -- the end: how many entries there are, and the final text

@@ -1,7 +1,6 @@
-use crate::adding::add_number;
+use crate::adding::{add, add_number};
 use std::alloc::Global;
 use vt_base::{Bytes, NoMemory};
-use vt_journal::add;
 
 /// How the program ends.
 #[derive(Clone, Copy, Drop)]

@@ -3,27 +3,25 @@ ghost use Rattle.std.specs.Prelude.{◌≡◌, [], ◌++◌, codes, OnOk};
 ghost use Rattle.example_watch.specs.Json.{ask_members, cause_members, did_member, end_object, fact_object, request_object, signal_object, switch_object, wait_object};
 ghost use Rattle.example_watch.specs.Words.{listed};
 
-use crate::adding::{add_number, add_quoted, add_quoted_caller};
+use crate::adding::{add, add_console, add_count, add_quoted_caller, add_signal, add_wait_end};
 use crate::fact::Fact;
-use crate::fact_lines::wait_end_name;
+use crate::wait_end::WaitEnd;
 use std::alloc::Global;
 use vt_base::{Bytes, CallerNo, ConsoleNo, NoMemory, Signal};
 use vt_explain::{HopCause, HopWhy};
-use vt_journal::add;
 
 /// Adds the member of what an entry did.
-#[tactic(auto, unfolding(crate::specs::Json::did_member))]
 pub fn add_did(alloc: Global, text: &mut Bytes, facts: &[Fact]) -> Result<(), NoMemory>
     ensures { OnOk result (text.new.bytes ≡ text.old.bytes ++ did_member facts.now) }
 {
     add(alloc, text, b",\"did\":[")?;
     add_facts(alloc, text, facts)?;
-    add(alloc, text, b"]")
+    add(alloc, text, b"]")?;
+    Ok(())
 }
 
 fn add_facts(alloc: Global, text: &mut Bytes, facts: &[Fact]) -> Result<(), NoMemory>
-    ensures { OnOk result
-        (text.new.bytes ≡ text.old.bytes ++ listed [] (codes ",") fact_object facts.now) }
+    ensures { OnOk result (text.new.bytes ≡ text.old.bytes ++ listed [] (codes ",") fact_object facts.now) }
 {
     let Some((first, others)) = facts.split_first() else {
         return Ok(());
@@ -41,14 +39,13 @@ fn add_fact(alloc: Global, text: &mut Bytes, fact: &Fact) -> Result<(), NoMemory
 {
     match fact {
         Fact::Request { caller, console } => add_request(alloc, text, *caller, *console),
-        Fact::Signal { signal, to } => add_signal(alloc, text, *signal, *to),
+        Fact::Signal { signal, to } => add_raise(alloc, text, *signal, *to),
         Fact::Switch(item) => add_switch(alloc, text, item),
         Fact::End(p) => add_end(alloc, text, *p),
-        Fact::Wait { caller, how } => add_wait(alloc, text, *caller, wait_end_name(*how)),
+        Fact::Wait { caller, how } => add_wait(alloc, text, *caller, *how),
     }
 }
 
-#[tactic(auto, unfolding(crate::specs::Json::request_object))]
 fn add_request(
     alloc: Global,
     text: &mut Bytes,
@@ -60,32 +57,33 @@ fn add_request(
     add(alloc, text, b"{\"what\":\"request\",\"caller\":")?;
     add_quoted_caller(alloc, text, caller)?;
     add(alloc, text, b",\"console\":")?;
-    add_number(alloc, text, u64::from(console.get()))?;
-    add(alloc, text, b"}")
+    add_console(alloc, text, console)?;
+    add(alloc, text, b"}")?;
+    Ok(())
 }
 
-#[tactic(auto, unfolding(crate::specs::Json::signal_object))]
-fn add_signal(alloc: Global, text: &mut Bytes, signal: Signal, to: CallerNo) -> Result<(), NoMemory>
+fn add_raise(alloc: Global, text: &mut Bytes, signal: Signal, to: CallerNo) -> Result<(), NoMemory>
     ensures { OnOk result (text.new.bytes ≡ text.old.bytes ++ signal_object signal to) }
 {
     add(alloc, text, b"{\"what\":\"signal\",\"signal\":")?;
-    add_number(alloc, text, u64::from(signal.get()))?;
+    add_signal(alloc, text, signal)?;
     add(alloc, text, b",\"to\":")?;
     add_quoted_caller(alloc, text, to)?;
-    add(alloc, text, b"}")
+    add(alloc, text, b"}")?;
+    Ok(())
 }
 
-#[tactic(auto, unfolding(crate::specs::Json::switch_object))]
 fn add_switch(alloc: Global, text: &mut Bytes, item: &HopWhy) -> Result<(), NoMemory>
     ensures { OnOk result (text.new.bytes ≡ text.old.bytes ++ switch_object item.now) }
 {
     add(alloc, text, b"{\"what\":\"switch\",\"from\":")?;
-    add_number(alloc, text, u64::from(item.from.get()))?;
+    add_console(alloc, text, item.from)?;
     add(alloc, text, b",\"to\":")?;
-    add_number(alloc, text, u64::from(item.to.get()))?;
+    add_console(alloc, text, item.to)?;
     add(alloc, text, b",\"cause\":")?;
     add_cause(alloc, text, &item.cause)?;
-    add(alloc, text, b"}")
+    add(alloc, text, b"}")?;
+    Ok(())
 }
 
 fn add_cause(alloc: Global, text: &mut Bytes, cause: &HopCause) -> Result<(), NoMemory>
@@ -97,55 +95,51 @@ fn add_cause(alloc: Global, text: &mut Bytes, cause: &HopCause) -> Result<(), No
             owner,
             asked,
             signal,
-        } => {
-            add(alloc, text, b"\"released\"")?;
-            add_ask(alloc, text, *owner, *asked, *signal)
-        }
+        } => add_ask(alloc, text, b"\"released\"", *owner, *asked, *signal),
         HopCause::Died {
             owner,
             asked,
             signal,
-        } => {
-            add(alloc, text, b"\"died\"")?;
-            add_ask(alloc, text, *owner, *asked, *signal)
-        }
+        } => add_ask(alloc, text, b"\"died\"", *owner, *asked, *signal),
     }
 }
 
-#[tactic(auto, unfolding(crate::specs::Json::ask_members))]
 fn add_ask(
     alloc: Global,
     text: &mut Bytes,
+    how: &[u8],
     owner: CallerNo,
     asked: u32,
     signal: Signal,
 ) -> Result<(), NoMemory>
-    ensures { OnOk result (text.new.bytes ≡ text.old.bytes ++ ask_members owner asked signal) }
+    ensures { OnOk result (text.new.bytes ≡ text.old.bytes ++ ask_members how.now owner asked signal) }
 {
+    add(alloc, text, how)?;
     add(alloc, text, b",\"owner\":")?;
     add_quoted_caller(alloc, text, owner)?;
     add(alloc, text, b",\"asked\":")?;
-    add_number(alloc, text, u64::from(asked))?;
+    add_count(alloc, text, asked)?;
     add(alloc, text, b",\"signal\":")?;
-    add_number(alloc, text, u64::from(signal.get()))
+    add_signal(alloc, text, signal)?;
+    Ok(())
 }
 
-#[tactic(auto, unfolding(crate::specs::Json::end_object))]
 fn add_end(alloc: Global, text: &mut Bytes, p: CallerNo) -> Result<(), NoMemory>
     ensures { OnOk result (text.new.bytes ≡ text.old.bytes ++ end_object p) }
 {
     add(alloc, text, b"{\"what\":\"end\",\"caller\":")?;
     add_quoted_caller(alloc, text, p)?;
-    add(alloc, text, b"}")
+    add(alloc, text, b"}")?;
+    Ok(())
 }
 
-#[tactic(auto, unfolding(crate::specs::Json::wait_object))]
-fn add_wait(alloc: Global, text: &mut Bytes, p: CallerNo, how: &[u8]) -> Result<(), NoMemory>
-    ensures { OnOk result (text.new.bytes ≡ text.old.bytes ++ wait_object p how.now) }
+fn add_wait(alloc: Global, text: &mut Bytes, p: CallerNo, how: WaitEnd) -> Result<(), NoMemory>
+    ensures { OnOk result (text.new.bytes ≡ text.old.bytes ++ wait_object p how) }
 {
     add(alloc, text, b"{\"what\":\"wait\",\"caller\":")?;
     add_quoted_caller(alloc, text, p)?;
-    add(alloc, text, b",\"how\":")?;
-    add_quoted(alloc, text, how)?;
-    add(alloc, text, b"}")
+    add(alloc, text, b",\"how\":\"")?;
+    add_wait_end(alloc, text, how)?;
+    add(alloc, text, b"\"}")?;
+    Ok(())
 }

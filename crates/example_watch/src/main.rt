@@ -8,7 +8,6 @@
 
 mod adding;
 mod ending;
-mod errors;
 mod fact;
 mod fact_lines;
 mod fact_objects;
@@ -19,6 +18,8 @@ mod input;
 mod json;
 mod lines;
 mod owner;
+mod state_lines;
+mod state_members;
 mod states;
 mod wait_end;
 mod waiter;

@@ -6,10 +6,11 @@ ghost use Rattle.session_run.specs.Final.{final_text};
 ghost use Rattle.session_order.specs.Sessions.{setup_of, start_of};
 ghost use Rattle.vt_check.specs.Verdicts.{Judges};
 
+use crate::adding::add;
 use crate::following::Following;
 use crate::form::Form;
 use crate::json::add_end;
-use crate::lines::state_words;
+use crate::state_lines::state_words;
 use crate::watched::Watched;
 use session_order::start_of;
 use session_run::{Run, final_text};
@@ -18,7 +19,7 @@ use std::alloc::Global;
 use vt_base::{Bytes, NoMemory};
 use vt_events::Entry;
 use vt_explain::{Explained, HopWhy, explain};
-use vt_journal::{Journal, Log, add};
+use vt_journal::{Journal, Log};
 use vt_world::World;
 
 /// What each entry of the journal did, if it is a legal one of the session (docs/WATCH.md).

@@ -1,4 +1,4 @@
-use Rattle.std.proofs.Common.{◌≡◌, ◌++◌, [], drop, codes}
+use Rattle.std.proofs.Common.{◌≡◌, [], ◌++◌, codes, drop}
 use Rattle.std.specs.List.{flat_map}
 use Rattle.example_watch.specs.Json.{fact_object}
 use Rattle.example_watch.specs.Words.{listed}

@@ -1,8 +1,8 @@
-use Rattle.std.proofs.Common.{◌≡◌, ◌++◌, drop, codes}
+use Rattle.std.proofs.Common.{◌≡◌, ◌++◌, codes, drop}
 use Rattle.std.specs.List.{flat_map}
 use Rattle.example_watch.specs.Lines.{owner_words}
 use Rattle.example_watch.specs.Words.{listed}
-use Rattle.example_watch.proofs.lines.add_owners.Given as goal
+use Rattle.example_watch.proofs.state_lines.add_owner_list.Given as goal
 
 abbrev pub invariant-loop-other : goal.invariant-loop-other
 invariant-loop-other l =

@@ -1,8 +1,8 @@
-use Rattle.std.proofs.Common.{◌≡◌, ◌++◌, [], drop, codes}
+use Rattle.std.proofs.Common.{◌≡◌, [], ◌++◌, codes, drop}
 use Rattle.std.specs.List.{flat_map}
 use Rattle.example_watch.specs.Json.{waiter_object}
 use Rattle.example_watch.specs.Words.{listed}
-use Rattle.example_watch.proofs.json.add_waiters.Given as goal
+use Rattle.example_watch.proofs.state_members.add_waiter_list.Given as goal
 
 abbrev pub invariant-loop-other : goal.invariant-loop-other
 invariant-loop-other l =
