@@ -1,5 +1,5 @@
 -- What an entry did, and the state after it. This project's own.
-use Rattle.std.specs.Prelude.{ℕ, Bool, true, false, List, [], ◌∷◌, ◌++◌, Option, Some, None, drop, map, option_map, slice_index_or}
+use Rattle.std.specs.Prelude.{ℕ, ◌+◌, min, List, [], ◌∷◌, ◌++◌, Option, Some, None, map, option_map, option_to_list, slice_get, slice_index_or}
 use Rattle.std.specs.List.{filter_map, range_with_len}
 use Rattle.example_watch.specs.Sights.{Sight}
 use Rattle.example_watch.specs.declared.fact.Fact.{Fact}
@@ -19,14 +19,25 @@ use Rattle.vt_switch.specs.declared.mark.Mark.{Mark}
 use Rattle.vt_switch.specs.declared.mark.Mark.TheVariants as mark
 use Rattle.vt_world.specs.State.{WorldState}
 
--- what the trace of an entry has, where its switches are these items of the certificate and those that follow
-abbrev pub trace_facts : ℕ → List HopWhy → List Mark → List Fact
-trace_facts caller items [] = []
-trace_facts caller items (mark.Asked n ∷ marks) = fact.Request caller n ∷ trace_facts caller items marks
-trace_facts caller items (mark.Raised p signal ∷ marks) = fact.Signal signal p ∷ trace_facts caller items marks
-trace_facts caller [] (mark.Hopped hop ∷ marks) = trace_facts caller [] marks
-trace_facts caller (item ∷ items) (mark.Hopped hop ∷ marks) = fact.Switch item ∷ trace_facts caller items marks
-trace_facts caller items (mark.Ended p ∷ marks) = fact.End p ∷ trace_facts caller items marks
+-- switches are counted up to the greatest number, as the console counts them
+abbrev pub count_after : Mark → ℕ → ℕ
+count_after (mark.Hopped hop) count = min 18446744073709551615 (count + 1)
+count_after m count = count
+
+-- what a mark of the trace is, after so many switches of the history: the switch is the item of the certificate
+-- at that place
+abbrev pub mark_fact : ℕ → List HopWhy → ℕ → Mark → Option Fact
+mark_fact caller cert count (mark.Asked n) = Some (fact.Request caller n)
+mark_fact caller cert count (mark.Raised p signal) = Some (fact.Signal signal p)
+mark_fact caller cert count (mark.Hopped hop) = option_map fact.Switch (slice_get cert count)
+mark_fact caller cert count (mark.Ended p) = Some (fact.End p)
+
+-- what the trace of an entry has
+abbrev pub trace_facts : ℕ → List HopWhy → ℕ → List Mark → List Fact
+trace_facts caller cert count [] = []
+trace_facts caller cert count (m ∷ marks) =
+    option_to_list (mark_fact caller cert count m)
+    ++ trace_facts caller cert (count_after m count) marks
 
 -- what stands of each caller's wait
 abbrev pub wait_of : WorldState → ℕ → Waiting
@@ -52,10 +63,10 @@ wait_fact before after p =
 abbrev pub wait_facts : List Waiting → WorldState → List Fact
 wait_facts before after = filter_map (wait_fact before after) (range_with_len 0 callers)
 
--- what an entry did: the switches before it took the first items of the certificate
+-- what an entry did, and the waits that ended
 abbrev pub facts_of : List HopWhy → Sight → List Fact
 facts_of cert s =
-    trace_facts s.entry.caller (drop s.before.trace.hops cert) s.after.trace.marks
+    trace_facts s.entry.caller cert s.before.trace.hops s.after.trace.marks
     ++ wait_facts (waits_of s.before) s.after
 
 -- each console that has an owner, rising

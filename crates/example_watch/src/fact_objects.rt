@@ -1,5 +1,5 @@
 //! What an entry did, as objects of JSON.
-ghost use Rattle.std.specs.Prelude.{◌≡◌, [], ◌++◌, codes, OnOk};
+ghost use Rattle.std.specs.Prelude.{◌≡◌, [], ◌∷◌, ◌++◌, codes, OnOk};
 ghost use Rattle.example_watch.specs.Json.{ask_members, cause_members, did_member, end_object, fact_object, request_object, signal_object, switch_object, wait_object};
 ghost use Rattle.example_watch.specs.Words.{listed};
 
@@ -23,9 +23,22 @@ pub fn add_did(alloc: Global, text: &mut Bytes, facts: &[Fact]) -> Result<(), No
 fn add_facts(alloc: Global, text: &mut Bytes, facts: &[Fact]) -> Result<(), NoMemory>
     ensures { OnOk result (text.new.bytes ≡ text.old.bytes ++ listed [] (codes ",") fact_object facts.now) }
 {
-    let Some((first, others)) = facts.split_first() else {
-        return Ok(());
-    };
+    match facts.split_first() {
+        None => Ok(()),
+        Some((first, others)) => add_facts_from(alloc, text, first, others),
+    }
+}
+
+// Adds the first one, and the others after it.
+fn add_facts_from(
+    alloc: Global,
+    text: &mut Bytes,
+    first: &Fact,
+    others: &[Fact],
+) -> Result<(), NoMemory>
+    ensures { OnOk result (text.new.bytes
+        ≡ text.old.bytes ++ listed [] (codes ",") fact_object (first.now ∷ others.now)) }
+{
     add_fact(alloc, text, first)?;
     for other in others {
         add(alloc, text, b",")?;

@@ -1,7 +1,8 @@
 //! What an entry did.
-ghost use Rattle.std.specs.Prelude.{◌≡◌, ◌++◌, drop, IfOk, OnOk, slice_index_or};
-ghost use Rattle.example_watch.specs.Facts.{trace_facts, wait_end, wait_fact, wait_facts, waits_of};
-ghost use Rattle.vt_procs.specs.declared.waiting.Waiting.{Waiting};
+ghost use Rattle.std.specs.Prelude.{◌≡◌, ◌++◌, IfOk, OnOk, option_map, option_to_list, slice_get, slice_index_or};
+ghost use Rattle.example_watch.specs.Facts.{count_after, mark_fact, trace_facts, wait_end, wait_fact, wait_facts, waits_of};
+ghost use Rattle.example_watch.specs.declared.fact.Fact.TheVariants as fact_is;
+ghost use Rattle.vt_procs.specs.declared.waiting.Waiting.TheVariants.{Nothing};
 
 use crate::fact::Fact;
 use crate::wait_end::WaitEnd;
@@ -23,38 +24,58 @@ pub fn waits_of(alloc: Global, world: &World) -> Result<Vec<Waiting>, NoMemory>
     Ok(waits)
 }
 
-/// What the trace of an entry has, whose switches are the items of the certificate from this place on.
+/// What the trace of an entry has, before which the history had so many switches.
 pub fn trace_facts(
     alloc: Global,
     caller: CallerNo,
     cert: &[HopWhy],
-    switches: usize,
+    switches: u64,
     marks: &[Mark],
 ) -> Result<Vec<Fact>, NoMemory>
-    ensures { IfOk result (λ facts. facts.items ≡ trace_facts caller (drop switches cert.now) marks.now) }
+    ensures { IfOk result (λ facts. facts.items ≡ trace_facts caller cert.now switches marks.now) }
 {
     let mut facts = Vec::new(alloc);
-    let mut next = switches;
+    let mut count = switches;
     for mark in marks {
-        match mark {
-            Mark::Asked(console) => facts.push(Fact::Request {
-                caller,
-                console: *console,
-            })?,
-            Mark::Raised { to, signal } => facts.push(Fact::Signal {
-                signal: *signal,
-                to: *to,
-            })?,
-            Mark::Hopped(_) => {
-                if let Some(item) = cert.get(next) {
-                    facts.push(Fact::Switch(*item))?;
-                    next += 1;
-                }
-            }
-            Mark::Ended(p) => facts.push(Fact::End(*p))?,
-        }
+        push_some(&mut facts, mark_fact(caller, cert, count, mark))?;
+        count = count_after(mark, count);
     }
     Ok(facts)
+}
+
+// What a mark of the trace is, after so many switches of the history.
+fn mark_fact(caller: CallerNo, cert: &[HopWhy], count: u64, mark: &Mark) -> Option<Fact>
+    ensures { result ≡ mark_fact caller cert.now count mark.now }
+{
+    match mark {
+        Mark::Asked(console) => Some(Fact::Request {
+            caller,
+            console: *console,
+        }),
+        Mark::Raised { to, signal } => Some(Fact::Signal {
+            signal: *signal,
+            to: *to,
+        }),
+        Mark::Hopped(_) => switch_fact(cert, count),
+        Mark::Ended(p) => Some(Fact::End(*p)),
+    }
+}
+
+// The switch after so many.
+fn switch_fact(cert: &[HopWhy], count: u64) -> Option<Fact>
+    ensures { result ≡ option_map fact_is.Switch (slice_get cert.now count) }
+{
+    let item = cert.get(count as usize)?;
+    Some(Fact::Switch(*item))
+}
+
+fn count_after(mark: &Mark, count: u64) -> u64
+    ensures { result ≡ count_after mark.now count }
+{
+    match mark {
+        Mark::Hopped(_) => count.saturating_add(1),
+        _ => count,
+    }
 }
 
 /// Adds the waits that ended, by rising callers.
@@ -67,9 +88,17 @@ pub fn add_wait_facts(
 {
     let all = CallerNo::all();
     for p in &all {
-        if let Some(fact) = wait_fact(before, after, *p) {
-            facts.push(fact)?;
-        }
+        push_some(facts, wait_fact(before, after, *p))?;
+    }
+    Ok(())
+}
+
+// Adds the fact, if there is one.
+fn push_some(facts: &mut Vec<Fact>, fact: Option<Fact>) -> Result<(), NoMemory>
+    ensures { OnOk result (facts.new.items ≡ facts.old.items ++ option_to_list fact) }
+{
+    if let Some(fact) = fact {
+        facts.push(fact)?;
     }
     Ok(())
 }
@@ -82,7 +111,7 @@ fn wait_fact(before: &[Waiting], after: &World, p: CallerNo) -> Option<Fact>
 }
 
 fn waiting_at(waits: &[Waiting], p: CallerNo) -> Waiting
-    ensures { result ≡ slice_index_or waits.now p Waiting.Nothing }
+    ensures { result ≡ slice_index_or waits.now p Nothing }
 {
     let at = usize::from(p.get());
     if at < waits.len() {

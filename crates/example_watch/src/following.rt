@@ -113,13 +113,7 @@ impl Following {
         if !is_same(pending, self.world.pending_console()) {
             self.since = place;
         }
-        let mut facts = trace_facts(
-            alloc,
-            entry.caller,
-            cert,
-            switches as usize,
-            self.world.trace(),
-        )?;
+        let mut facts = trace_facts(alloc, entry.caller, cert, switches, self.world.trace())?;
         add_wait_facts(&mut facts, waits.as_slice(), &self.world)?;
         Ok(facts)
     }

@@ -1,5 +1,5 @@
 //! The state after an entry, in words.
-ghost use Rattle.std.specs.Prelude.{◌≡◌, ◌++◌, codes, decimal, IfOk, OnOk};
+ghost use Rattle.std.specs.Prelude.{◌≡◌, ◌∷◌, ◌++◌, codes, decimal, IfOk, OnOk};
 ghost use Rattle.example_watch.specs.Facts.{owners_of, waiters_of};
 ghost use Rattle.example_watch.specs.Lines.{owner_words, pending_console_words, pending_words, place_words, state_words, ticket_words, waiter_words};
 ghost use Rattle.example_watch.specs.Words.{listed};
@@ -52,9 +52,22 @@ fn add_owners(alloc: Global, text: &mut Bytes, world: &World) -> Result<(), NoMe
 fn add_owner_list(alloc: Global, text: &mut Bytes, owners: &[Owner]) -> Result<(), NoMemory>
     ensures { OnOk result (text.new.bytes ≡ text.old.bytes ++ listed (codes "none") (codes ", ") owner_words owners.now) }
 {
-    let Some((first, others)) = owners.split_first() else {
-        return add(alloc, text, b"none");
-    };
+    match owners.split_first() {
+        None => add(alloc, text, b"none"),
+        Some((first, others)) => add_owners_from(alloc, text, first, others),
+    }
+}
+
+// Adds the first one, and the others after it.
+fn add_owners_from(
+    alloc: Global,
+    text: &mut Bytes,
+    first: &Owner,
+    others: &[Owner],
+) -> Result<(), NoMemory>
+    ensures { OnOk result (text.new.bytes
+        ≡ text.old.bytes ++ listed (codes "none") (codes ", ") owner_words (first.now ∷ others.now)) }
+{
     add_owner(alloc, text, first)?;
     for other in others {
         add(alloc, text, b", ")?;
@@ -105,9 +118,22 @@ fn add_waiters(alloc: Global, text: &mut Bytes, world: &World) -> Result<(), NoM
 fn add_waiter_list(alloc: Global, text: &mut Bytes, waiters: &[Waiter]) -> Result<(), NoMemory>
     ensures { OnOk result (text.new.bytes ≡ text.old.bytes ++ listed (codes "none") (codes ", ") waiter_words waiters.now) }
 {
-    let Some((first, others)) = waiters.split_first() else {
-        return add(alloc, text, b"none");
-    };
+    match waiters.split_first() {
+        None => add(alloc, text, b"none"),
+        Some((first, others)) => add_waiters_from(alloc, text, first, others),
+    }
+}
+
+// Adds the first one, and the others after it.
+fn add_waiters_from(
+    alloc: Global,
+    text: &mut Bytes,
+    first: &Waiter,
+    others: &[Waiter],
+) -> Result<(), NoMemory>
+    ensures { OnOk result (text.new.bytes
+        ≡ text.old.bytes ++ listed (codes "none") (codes ", ") waiter_words (first.now ∷ others.now)) }
+{
     add_waiter(alloc, text, first)?;
     for other in others {
         add(alloc, text, b", ")?;

@@ -1,5 +1,5 @@
 //! The state after an entry, as members of an object of JSON.
-ghost use Rattle.std.specs.Prelude.{◌≡◌, [], ◌++◌, codes, decimal, OnOk};
+ghost use Rattle.std.specs.Prelude.{◌≡◌, [], ◌∷◌, ◌++◌, codes, decimal, OnOk};
 ghost use Rattle.example_watch.specs.Facts.{owners_of, waiters_of};
 ghost use Rattle.example_watch.specs.Json.{owner_object, pending_object, pending_value, place_members, state_members, ticket_members, waiter_object};
 ghost use Rattle.example_watch.specs.Words.{listed};
@@ -50,9 +50,22 @@ fn add_owners(alloc: Global, text: &mut Bytes, world: &World) -> Result<(), NoMe
 fn add_owner_list(alloc: Global, text: &mut Bytes, owners: &[Owner]) -> Result<(), NoMemory>
     ensures { OnOk result (text.new.bytes ≡ text.old.bytes ++ listed [] (codes ",") owner_object owners.now) }
 {
-    let Some((first, others)) = owners.split_first() else {
-        return Ok(());
-    };
+    match owners.split_first() {
+        None => Ok(()),
+        Some((first, others)) => add_owners_from(alloc, text, first, others),
+    }
+}
+
+// Adds the first one, and the others after it.
+fn add_owners_from(
+    alloc: Global,
+    text: &mut Bytes,
+    first: &Owner,
+    others: &[Owner],
+) -> Result<(), NoMemory>
+    ensures { OnOk result (text.new.bytes
+        ≡ text.old.bytes ++ listed [] (codes ",") owner_object (first.now ∷ others.now)) }
+{
     add_owner(alloc, text, first)?;
     for other in others {
         add(alloc, text, b",")?;
@@ -107,9 +120,22 @@ fn add_waiters(alloc: Global, text: &mut Bytes, world: &World) -> Result<(), NoM
 fn add_waiter_list(alloc: Global, text: &mut Bytes, waiters: &[Waiter]) -> Result<(), NoMemory>
     ensures { OnOk result (text.new.bytes ≡ text.old.bytes ++ listed [] (codes ",") waiter_object waiters.now) }
 {
-    let Some((first, others)) = waiters.split_first() else {
-        return Ok(());
-    };
+    match waiters.split_first() {
+        None => Ok(()),
+        Some((first, others)) => add_waiters_from(alloc, text, first, others),
+    }
+}
+
+// Adds the first one, and the others after it.
+fn add_waiters_from(
+    alloc: Global,
+    text: &mut Bytes,
+    first: &Waiter,
+    others: &[Waiter],
+) -> Result<(), NoMemory>
+    ensures { OnOk result (text.new.bytes
+        ≡ text.old.bytes ++ listed [] (codes ",") waiter_object (first.now ∷ others.now)) }
+{
     add_waiter(alloc, text, first)?;
     for other in others {
         add(alloc, text, b",")?;

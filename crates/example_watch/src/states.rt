@@ -1,5 +1,5 @@
 //! Who owns which console, and who waits.
-ghost use Rattle.std.specs.Prelude.{◌≡◌, IfOk};
+ghost use Rattle.std.specs.Prelude.{◌≡◌, ◌++◌, IfOk, OnOk, option_to_list};
 ghost use Rattle.example_watch.specs.Facts.{open_ticket, owner_at, owners_of, waiter_at, waiters_of};
 
 use crate::owner::Owner;
@@ -16,9 +16,7 @@ pub fn owners_of(alloc: Global, world: &World) -> Result<Vec<Owner>, NoMemory>
     let all = ConsoleNo::all();
     let mut owners = Vec::new(alloc);
     for console in &all {
-        if let Some(owner) = owner_at(world, *console) {
-            owners.push(owner)?;
-        }
+        push_owner(&mut owners, owner_at(world, *console))?;
     }
     Ok(owners)
 }
@@ -30,6 +28,16 @@ fn owner_at(world: &World, console: ConsoleNo) -> Option<Owner>
     Some(Owner { console, process })
 }
 
+// Adds the owner, if there is one.
+fn push_owner(owners: &mut Vec<Owner>, owner: Option<Owner>) -> Result<(), NoMemory>
+    ensures { OnOk result (owners.new.items ≡ owners.old.items ++ option_to_list owner) }
+{
+    if let Some(owner) = owner {
+        owners.push(owner)?;
+    }
+    Ok(())
+}
+
 /// Each caller that has an open wait, rising.
 pub fn waiters_of(alloc: Global, world: &World) -> Result<Vec<Waiter>, NoMemory>
     ensures { IfOk result (λ waiters. waiters.items ≡ waiters_of world.now) }
@@ -37,9 +45,7 @@ pub fn waiters_of(alloc: Global, world: &World) -> Result<Vec<Waiter>, NoMemory>
     let all = CallerNo::all();
     let mut waiters = Vec::new(alloc);
     for caller in &all {
-        if let Some(waiter) = waiter_at(world, *caller) {
-            waiters.push(waiter)?;
-        }
+        push_waiter(&mut waiters, waiter_at(world, *caller))?;
     }
     Ok(waiters)
 }
@@ -49,6 +55,16 @@ fn waiter_at(world: &World, caller: CallerNo) -> Option<Waiter>
 {
     let ticket = open_ticket(&world.wait_of(caller))?;
     Some(Waiter { caller, ticket })
+}
+
+// Adds the waiter, if there is one.
+fn push_waiter(waiters: &mut Vec<Waiter>, waiter: Option<Waiter>) -> Result<(), NoMemory>
+    ensures { OnOk result (waiters.new.items ≡ waiters.old.items ++ option_to_list waiter) }
+{
+    if let Some(waiter) = waiter {
+        waiters.push(waiter)?;
+    }
+    Ok(())
 }
 
 fn open_ticket(waiting: &Waiting) -> Option<Ticket>
