@@ -16,10 +16,11 @@ use vt_world::{Mark, World};
 pub fn waits_of(alloc: Global, world: &World) -> Result<Vec<Waiting>, NoMemory>
     ensures { IfOk result (λ waits. waits.items ≡ waits_of world.now) }
 {
-    let all = CallerNo::all();
+    let callers = CallerNo::all();
+    let all = callers.as_slice();
     let mut waits = Vec::new(alloc);
-    for p in &all {
-        waits.push(world.wait_of(*p))?;
+    for p in all {
+        waits.extend_from_slice(&[world.wait_of(*p)])?;
     }
     Ok(waits)
 }
@@ -86,8 +87,9 @@ pub fn add_wait_facts(
 ) -> Result<(), NoMemory>
     ensures { OnOk result (facts.new.items ≡ facts.old.items ++ wait_facts before.now after.now) }
 {
-    let all = CallerNo::all();
-    for p in &all {
+    let callers = CallerNo::all();
+    let all = callers.as_slice();
+    for p in all {
         push_some(facts, wait_fact(before, after, *p))?;
     }
     Ok(())
@@ -98,7 +100,7 @@ fn push_some(facts: &mut Vec<Fact>, fact: Option<Fact>) -> Result<(), NoMemory>
     ensures { OnOk result (facts.new.items ≡ facts.old.items ++ option_to_list fact) }
 {
     if let Some(fact) = fact {
-        facts.push(fact)?;
+        facts.extend_from_slice(&[fact])?;
     }
     Ok(())
 }

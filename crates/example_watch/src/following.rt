@@ -1,5 +1,5 @@
 //! A console that follows a history, entry by entry.
-ghost use Rattle.std.specs.Prelude.{◌≡◌, ◌++◌, IfOk, OnOk};
+ghost use Rattle.std.specs.Prelude.{◌≡◌, ◌++◌, IfOk, OnOk, if◌then◌else◌};
 ghost use Rattle.example_watch.specs.Facts.{facts_of};
 ghost use Rattle.example_watch.specs.Lines.{change_line, entry_lines, state_words};
 ghost use Rattle.example_watch.specs.Json.{entry_object, state_members};
@@ -110,9 +110,7 @@ impl Following {
         let switches = self.world.hops();
         let pending = self.world.pending_console();
         let _reply = self.world.call(alloc, entry.caller, &entry.event)?;
-        if !is_same(pending, self.world.pending_console()) {
-            self.since = place;
-        }
+        self.since = since_after(place, self.since, pending, self.world.pending_console());
         let mut facts = trace_facts(alloc, entry.caller, cert, switches, self.world.trace())?;
         add_wait_facts(&mut facts, waits.as_slice(), &self.world)?;
         Ok(facts)
@@ -129,6 +127,13 @@ impl Following {
         }
         add_lower_line(alloc, text, state.as_slice())
     }
+}
+
+// Since which entry what is pending has been the same, after the entry at this place.
+fn since_after(place: u32, since: u32, before: Option<ConsoleNo>, after: Option<ConsoleNo>) -> u32
+    ensures { result ≡ (if is_same before after then since else place) }
+{
+    if is_same(before, after) { since } else { place }
 }
 
 fn is_same(before: Option<ConsoleNo>, after: Option<ConsoleNo>) -> bool

@@ -13,9 +13,10 @@ use vt_world::World;
 pub fn owners_of(alloc: Global, world: &World) -> Result<Vec<Owner>, NoMemory>
     ensures { IfOk result (λ owners. owners.items ≡ owners_of world.now) }
 {
-    let all = ConsoleNo::all();
+    let consoles = ConsoleNo::all();
+    let all = consoles.as_slice();
     let mut owners = Vec::new(alloc);
-    for console in &all {
+    for console in all {
         push_owner(&mut owners, owner_at(world, *console))?;
     }
     Ok(owners)
@@ -33,7 +34,7 @@ fn push_owner(owners: &mut Vec<Owner>, owner: Option<Owner>) -> Result<(), NoMem
     ensures { OnOk result (owners.new.items ≡ owners.old.items ++ option_to_list owner) }
 {
     if let Some(owner) = owner {
-        owners.push(owner)?;
+        owners.extend_from_slice(&[owner])?;
     }
     Ok(())
 }
@@ -42,9 +43,10 @@ fn push_owner(owners: &mut Vec<Owner>, owner: Option<Owner>) -> Result<(), NoMem
 pub fn waiters_of(alloc: Global, world: &World) -> Result<Vec<Waiter>, NoMemory>
     ensures { IfOk result (λ waiters. waiters.items ≡ waiters_of world.now) }
 {
-    let all = CallerNo::all();
+    let callers = CallerNo::all();
+    let all = callers.as_slice();
     let mut waiters = Vec::new(alloc);
-    for caller in &all {
+    for caller in all {
         push_waiter(&mut waiters, waiter_at(world, *caller))?;
     }
     Ok(waiters)
@@ -62,7 +64,7 @@ fn push_waiter(waiters: &mut Vec<Waiter>, waiter: Option<Waiter>) -> Result<(), 
     ensures { OnOk result (waiters.new.items ≡ waiters.old.items ++ option_to_list waiter) }
 {
     if let Some(waiter) = waiter {
-        waiters.push(waiter)?;
+        waiters.extend_from_slice(&[waiter])?;
     }
     Ok(())
 }
