@@ -1,5 +1,6 @@
 -- Lists that are gone over, and what is made of them, element by element.
-use Rattle.std.proofs.Common.{◌≡◌, ℕ, ◌+◌, ◌<◌, List, [], ◌∷◌, ◌++◌, Option, Some, None, drop, map, length, get_or, refl, sym, ap, ◌∙◌, append_assoc, add-one, drop-cons}
+use Rattle.std.proofs.Common.{◌≡◌, ℕ, ◌+◌, ◌<◌, ◌≤◌, zero, suc, List, [], ◌∷◌, ◌++◌, Option, Some, None, drop, map, length, get_or, refl, sym, ap, ◌∙◌, append_assoc, add-one, drop-cons, arith, absurd}
+use Rattle.std.proofs.lemmas.List.{append-nil}
 use Rattle.std.specs.List.{cons_option, filter_map, flat_map}
 use Rattle.std.specs.Prelude.{option_to_list}
 use Rattle.example_watch.specs.Facts.{count_after, mark_fact, trace_facts}
@@ -61,3 +62,16 @@ mark_more caller cert count marks i m old new whole within is added so_far =
     (trace_facts caller cert (count_after m count) (drop (i + 1) marks))
     (trace_facts caller cert count (drop i marks)) new whole added
     (ap (trace_facts caller cert count) (next_drop marks i m within is)) so_far
+
+-- behind the end nothing is left
+pub past_end : {A : Type 0} (xs : List A) (i : ℕ) → length xs ≤ i → drop i xs ≡ []
+past_end [] zero over = refl
+past_end [] (suc i) over = refl
+past_end (x ∷ xs) zero over = absurd (omega (arith, over))
+past_end (x ∷ xs) (suc i) over = past_end xs i (omega (arith, over))
+
+-- so all values are there
+pub all_some : {A B : Type 0} (h : A → Option B) (xs : List A) (i : ℕ) (made whole : List B) → length xs ≤ i
+    → made ++ filter_map h (drop i xs) ≡ whole → made ≡ whole
+all_some h xs i made whole over so_far =
+    sym (append-nil made) ∙ ap (λ (rest : List _). made ++ filter_map h rest) (sym (past_end xs i over)) ∙ so_far
