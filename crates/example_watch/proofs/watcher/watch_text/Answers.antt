@@ -20,8 +20,8 @@ returns-in_ok-text-in-Cert-clause-text c = record {
       subst (λ (x : Explained). IfCert x (IsCertificate (moments (start_of c.args.s.now) c.args.j.now.entries)))
       c.in-Cert.is c.in_ok-cert.ensures.cert;
   text_is =
-      c.in_ok-text.ensures
-      ∙ (λ k. watch_text c.args.form (c.as_slice.ensures.value k) (c.in_ok-world.ensures k) (c.as_slice-2.ensures.same k));
+      c.in_ok-text-in-Cert.ensures
+      ∙ (λ k. watch_text c.args.form (c.as_slice.ensures.value k) (c.in_ok-world-in-Cert.ensures k) (c.as_slice-in-Cert.ensures.same k));
 }
 
 pub returns-in-Illegal-clause-judges : goal.returns-in-Illegal-clause-judges
