@@ -1,0 +1,77 @@
+-- Lists that are gone over, and what is made of them, element by element.
+use Rattle.std.proofs.Common.{◌≡◌, ℕ, ◌+◌, ◌<◌, ◌≤◌, zero, suc, List, [], ◌∷◌, ◌++◌, Option, Some, None, drop, map, length, get_or, refl, sym, ap, ◌∙◌, append_assoc, add-one, drop-cons, arith}
+use Rattle.std.proofs.lemmas.List.{append-nil}
+use Rattle.std.specs.List.{cons_option, filter_map, flat_map}
+use Rattle.std.specs.Prelude.{option_to_list}
+use Rattle.example_watch.specs.Facts.{count_after, mark_fact, trace_facts}
+use Rattle.example_watch.specs.declared.fact.Fact.{Fact}
+use Rattle.vt_explain.specs.declared.hop_why.HopWhy.{HopWhy}
+use Rattle.vt_switch.specs.declared.mark.Mark.{Mark}
+
+-- the next element, and those that are left
+pub next_drop : {A : Type 0} (xs : List A) (i : ℕ) (x : A) → i < length xs → x ≡ get_or xs i x
+    → drop i xs ≡ x ∷ drop (i + 1) xs
+next_drop xs i x within is =
+    drop-cons xs i x within ∙ (λ j. sym is j ∷ drop (sym (add-one i) j) xs)
+
+-- a list with a piece more, whose rest has it no more, is the same whole
+pub piece_more : {A : Type 0} (old piece rest all new whole : List A) → new ≡ old ++ piece → all ≡ piece ++ rest
+    → old ++ all ≡ whole → new ++ rest ≡ whole
+piece_more old piece rest all new whole added parts so_far =
+    ap (λ (text : List _). text ++ rest) added
+    ∙ append_assoc old piece rest
+    ∙ ap (λ (text : List _). old ++ text) (sym parts)
+    ∙ so_far
+
+-- the text of one more
+pub text_more : {A : Type 0} (f : A → List ℕ) (xs : List A) (i : ℕ) (x : A) (old new whole : List ℕ)
+    → i < length xs → x ≡ get_or xs i x → new ≡ old ++ f x → old ++ flat_map f (drop i xs) ≡ whole
+    → new ++ flat_map f (drop (i + 1) xs) ≡ whole
+text_more f xs i x old new whole within is added so_far =
+    piece_more old (f x) (flat_map f (drop (i + 1) xs)) (flat_map f (drop i xs)) new whole added
+    (ap (flat_map f) (next_drop xs i x within is)) so_far
+
+-- the value of one more
+pub value_more : {A B : Type 0} (f : A → B) (xs : List A) (i : ℕ) (x : A) (old new whole : List B)
+    → i < length xs → x ≡ get_or xs i x → new ≡ old ++ f x ∷ [] → old ++ map f (drop i xs) ≡ whole
+    → new ++ map f (drop (i + 1) xs) ≡ whole
+value_more f xs i x old new whole within is added so_far =
+    piece_more old (f x ∷ []) (map f (drop (i + 1) xs)) (map f (drop i xs)) new whole added
+    (ap (map f) (next_drop xs i x within is)) so_far
+
+in_front : {B : Type 0} (y : Option B) (ys : List B) → cons_option y ys ≡ option_to_list y ++ ys
+in_front None ys = refl
+in_front (Some y) ys = refl
+
+-- the value of one more, if it has one
+pub some_more : {A B : Type 0} (h : A → Option B) (xs : List A) (i : ℕ) (x : A) (old new whole : List B)
+    → i < length xs → x ≡ get_or xs i x → new ≡ old ++ option_to_list (h x) → old ++ filter_map h (drop i xs) ≡ whole
+    → new ++ filter_map h (drop (i + 1) xs) ≡ whole
+some_more h xs i x old new whole within is added so_far =
+    piece_more old (option_to_list (h x)) (filter_map h (drop (i + 1) xs)) (filter_map h (drop i xs)) new whole added
+    (ap (filter_map h) (next_drop xs i x within is) ∙ in_front (h x) (filter_map h (drop (i + 1) xs))) so_far
+
+-- what one more mark of a trace is
+pub mark_more : (caller : ℕ) (cert : List HopWhy) (count : ℕ) (marks : List Mark) (i : ℕ) (m : Mark)
+    (old new whole : List Fact)
+    → i < length marks → m ≡ get_or marks i m → new ≡ old ++ option_to_list (mark_fact caller cert count m)
+    → old ++ trace_facts caller cert count (drop i marks) ≡ whole
+    → new ++ trace_facts caller cert (count_after m count) (drop (i + 1) marks) ≡ whole
+mark_more caller cert count marks i m old new whole within is added so_far =
+    piece_more old (option_to_list (mark_fact caller cert count m))
+    (trace_facts caller cert (count_after m count) (drop (i + 1) marks))
+    (trace_facts caller cert count (drop i marks)) new whole added
+    (ap (trace_facts caller cert count) (next_drop marks i m within is)) so_far
+
+-- behind the end nothing is left
+pub past_end : {A : Type 0} (xs : List A) (i : ℕ) → length xs ≤ i → drop i xs ≡ []
+past_end [] zero over = refl
+past_end [] (suc i) over = refl
+past_end (x ∷ xs) zero over = absurd (omega (arith, over))
+past_end (x ∷ xs) (suc i) over = past_end xs i (omega (arith, over))
+
+-- so all values are there
+pub all_some : {A B : Type 0} (h : A → Option B) (xs : List A) (i : ℕ) (made whole : List B) → length xs ≤ i
+    → made ++ filter_map h (drop i xs) ≡ whole → made ≡ whole
+all_some h xs i made whole over so_far =
+    sym (append-nil made) ∙ ap (λ (rest : List _). made ++ filter_map h rest) (sym (past_end xs i over)) ∙ so_far

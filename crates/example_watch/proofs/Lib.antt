@@ -1,0 +1,4 @@
+pub mod EntryLines
+pub mod Going
+pub mod Histories
+pub mod Pieces

@@ -1,0 +1,11 @@
+use Rattle.example_watch.proofs.Pieces.{in_three}
+use Rattle.example_watch.specs.Words.{quoted}
+use Rattle.example_watch.proofs.adding.add_quoted_caller.Goals as goal
+
+pub returns : goal.returns
+unfolding quoted
+returns c =
+    in_three _ _ _ _ _ _ _
+    c.in_ok-add.ensures
+    c.in_ok-add_caller.ensures
+    c.in_ok-add-2.ensures

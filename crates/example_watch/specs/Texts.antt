@@ -1,0 +1,37 @@
+-- What is printed of a history. This project's own.
+use Rattle.std.specs.Prelude.{ℕ, List, [], ◌++◌, length}
+use Rattle.std.specs.List.{flat_map}
+use Rattle.example_watch.specs.Json.{end_line, sight_object}
+use Rattle.example_watch.specs.Lines.{first_line, sight_lines}
+use Rattle.example_watch.specs.Sights.{Sight, sights}
+use Rattle.example_watch.specs.declared.form.Form.{Form}
+use Rattle.example_watch.specs.declared.form.Form.TheVariants as form
+use Rattle.session_run.specs.Final.{final_text}
+use Rattle.vt_events.specs.declared.entry.Entry.{Entry}
+use Rattle.vt_explain.specs.declared.hop_why.HopWhy.{HopWhy}
+use Rattle.vt_world.specs.History.{replay}
+use Rattle.vt_world.specs.State.{WorldState}
+
+-- the text of an entry
+abbrev pub sight_text : Form → List HopWhy → Sight → List ℕ
+sight_text form.Lines cert s = sight_lines cert s
+sight_text form.Json cert s = sight_object cert s
+
+-- the texts of entries from a place and a console on
+abbrev pub sights_text : Form → List HopWhy → ℕ → ℕ → WorldState → List Entry → List ℕ
+sights_text f cert place since w entries = flat_map (sight_text f cert) (sights place since w entries)
+
+-- the text before the first entry, and that after the last
+abbrev pub head_text : Form → WorldState → List ℕ
+head_text form.Lines w = first_line w
+head_text form.Json w = []
+
+abbrev pub end_text : Form → ℕ → WorldState → List ℕ
+end_text form.Lines entries w = []
+end_text form.Json entries w = end_line entries (final_text w)
+
+-- the text of a history, whose switches are the items of this certificate
+abbrev pub watch_text : Form → List HopWhy → WorldState → List Entry → List ℕ
+watch_text f cert start entries =
+    head_text f start
+    ++ (sights_text f cert 0 0 start entries ++ end_text f (length entries) (replay start entries))

@@ -1,0 +1,8 @@
+/// How a history is printed.
+#[derive(Clone, Copy, Debug)]
+pub enum Form {
+    /// Lines for a person.
+    Lines,
+    /// Objects of JSON for tools.
+    Json,
+}

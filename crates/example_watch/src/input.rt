@@ -1,0 +1,77 @@
+//! What the input is: a session, and a journal after it or none.
+use crate::ending::Ending;
+use crate::form::Form;
+use crate::watched::Watched;
+use crate::watcher::watch_text;
+use session_run::play;
+use session_text::{SError, Session, read};
+use std::alloc::Global;
+use vt_base::{Bytes, NoMemory};
+use vt_journal::{JError, Journal, parse, print, version_of};
+
+/// What is printed for the input.
+pub fn text_for(alloc: Global, form: Form, input: &[u8]) -> Result<Bytes, Ending> {
+    let (text, after) = cut(input);
+    let session = session_of(alloc, text)?;
+    let journal = if after.is_empty() {
+        played(alloc, &session)?
+    } else {
+        parsed(alloc, after)?
+    };
+    match watch_text(alloc, form, &session, &journal)? {
+        Watched::Text(text) => Ok(text),
+        Watched::Illegal { index, why } => Err(Ending::Illegal { index, why }),
+    }
+}
+
+// The input, cut before the first of its lines that is the first line of a journal.
+fn cut(input: &[u8]) -> (&[u8], &[u8]) {
+    for at in 0..input.len() {
+        let (text, after) = input.split_at(at);
+        if begins_line(text) && version_of(after).is_some() {
+            return (text, after);
+        }
+    }
+    (input, &[])
+}
+
+fn begins_line(text: &[u8]) -> bool {
+    text.is_empty() || text.ends_with(b"\n".as_slice())
+}
+
+fn session_of(alloc: Global, text: &[u8]) -> Result<Session, Ending> {
+    match read(alloc, text) {
+        Ok(session) => Ok(session),
+        Err(SError::Fault(fault)) => Err(Ending::Refused {
+            code: fault.kind,
+            a: fault.part,
+            b: fault.item,
+        }),
+        Err(SError::NoMemory) => Err(Ending::NoMemory),
+    }
+}
+
+fn parsed(alloc: Global, text: &[u8]) -> Result<Journal, Ending> {
+    match parse(alloc, text) {
+        Ok(journal) => Ok(journal),
+        Err(JError::Fault(fault)) => Err(Ending::Refused {
+            code: fault.kind,
+            a: fault.line,
+            b: if fault.line == 0 { 0 } else { 1 },
+        }),
+        Err(JError::NoMemory) => Err(Ending::NoMemory),
+    }
+}
+
+// The journal of the session's play.
+fn played(alloc: Global, session: &Session) -> Result<Journal, Ending> {
+    let text = journal_text(alloc, session)?;
+    parsed(alloc, text.as_slice())
+}
+
+fn journal_text(alloc: Global, session: &Session) -> Result<Bytes, NoMemory> {
+    let run = play(alloc, session)?;
+    let mut text = Bytes::new(alloc);
+    print(alloc, run.log.entries(), 2, &run.tail(), &mut text)?;
+    Ok(text)
+}

@@ -1,0 +1,8 @@
+use vt_base::{CallerNo, ConsoleNo};
+
+/// A console with the process that handles its switches.
+#[derive(Clone, Copy, Debug)]
+pub struct Owner {
+    pub console: ConsoleNo,
+    pub process: CallerNo,
+}

@@ -1,0 +1,10 @@
+/// How a wait ended.
+#[derive(Clone, Copy, Debug)]
+pub enum WaitEnd {
+    /// What it waited for came.
+    Done,
+    /// A signal came, or the idle rule ended it.
+    Interrupted,
+    /// Its process died.
+    Gone,
+}

@@ -1,0 +1,9 @@
+use vt_base::CallerNo;
+use vt_procs::Ticket;
+
+/// A caller whose wait is open, with what it waits for.
+#[derive(Clone, Copy, Debug)]
+pub struct Waiter {
+    pub caller: CallerNo,
+    pub ticket: Ticket,
+}
