@@ -9,7 +9,8 @@ use Rattle.vt_units.specs.Run.{Reached}
 
 -- so many bytes were run, what they say stands in the first places in order, and the other places stay. Bytes are left
 -- only if no place is
-pub record IsFed (m : Reached Screen) (bytes : List ℕ) (old new : List VtOut) (fed : VtFed) (end : Reached Screen) : Type 0 where
+pub record IsFed (m : Reached Screen) (bytes : List ℕ) (old new : List VtOut) (fed : VtFed) (end : Reached Screen)
+    : Type 0 where
   pub within : fed.taken ≤ length bytes
   pub screen : end ≡ after m (take fed.taken bytes)
   pub outs : new ≡ map c_out (outs_of_run m (take fed.taken bytes)) ++ drop fed.said old

@@ -24,8 +24,8 @@ is_changed (Some mark) grid y = not (is_as_marked mark grid y)
 abbrev pub changed_flags : Option GridView → GridView → List ℕ
 changed_flags mark grid = map (λ y. c_flag (is_changed mark grid y)) (range_with_len 0 grid.rows)
 
--- the text that draws the screen on one that shows the marked cells, or on any of its size if no cells of this size were
--- marked
+-- the text that draws the screen on one that shows the marked cells, or on any of its size if no cells of this size
+-- were marked
 abbrev pub text_from_mark : Option GridView → Screen → List ℕ
 text_from_mark None s = redraw_of s
 text_from_mark (Some mark) s = if is_same_size mark s.grid then changes_of mark s else redraw_of s

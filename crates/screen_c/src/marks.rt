@@ -36,7 +36,8 @@ pub extern "C" fn vt_screen_mark(handle: &mut ScreenHandle, alloc: Global) -> u8
 pub extern "C" fn vt_screen_changed(handle: &mut ScreenHandle, rows: &mut [u8], alloc: Global) -> u8
     ensures same { handle.new.value ≡ handle.old.value }
     ensures nothing { IfNone handle.old.value ((result ≡ NOTHING) × (rows.new ≡ rows.old)) }
-    ensures rows { IfSome handle.old.value (λ o. (result ≡ OK) × (rows.new ≡ with_items (changed_flags o.mark o.machine.state.grid) rows.old)) }
+    ensures rows { IfSome handle.old.value (λ o. (result ≡ OK)
+        × (rows.new ≡ with_items (changed_flags o.mark o.machine.state.grid) rows.old)) }
 {
     match handle.take(alloc) {
         None => NOTHING,

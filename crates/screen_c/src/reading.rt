@@ -108,7 +108,8 @@ pub extern "C" fn vt_screen_row_text(
     ensures range { IfSome handle.old.value (λ o. o.machine.state.grid.rows ≤ row
         → (result ≡ RANGE) × (text.new ≡ text.old) × (count.new ≡ count.old)) }
     ensures text { IfSome handle.old.value (λ o. row < o.machine.state.grid.rows
-        → HandsOver (flat_map cell_text (row_at o.machine.state.grid row)) text.old text.new count.old count.new result) }
+        → HandsOver (flat_map cell_text (row_at o.machine.state.grid row))
+        text.old text.new count.old count.new result) }
 {
     match handle.take(alloc) {
         None => NOTHING,
@@ -125,7 +126,8 @@ impl OwnedScreen {
         ensures range { self.now.machine.state.grid.rows ≤ row
             → (result ≡ RANGE) × (text.new ≡ text.old) × (count.new ≡ count.old) }
         ensures text { row < self.now.machine.state.grid.rows
-            → HandsOver (flat_map cell_text (row_at self.now.machine.state.grid row)) text.old text.new count.old count.new result }
+            → HandsOver (flat_map cell_text (row_at self.now.machine.state.grid row))
+            text.old text.new count.old count.new result }
     {
         let grid = self.emu.grid();
         if u32::from(grid.size().rows) <= row {

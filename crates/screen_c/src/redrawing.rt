@@ -45,8 +45,8 @@ pub extern "C" fn vt_screen_redraw(
     }
 }
 
-/// The text that draws the screen again on one that shows the marked cells, or on any of its size where none of its size
-/// are marked.
+/// The text that draws the screen again on one that shows the marked cells, or on any of its size if no cells of its
+/// size are marked.
 #[unsafe(no_mangle)]
 pub extern "C" fn vt_screen_redraw_changes(
     handle: &mut ScreenHandle,
