@@ -1,5 +1,5 @@
 -- What is printed for tools: objects of JSON, one a line (RFC 8259). This project's own.
-use Rattle.std.specs.Prelude.{ℕ, ◌==◌, ◌/◌, ◌%◌, nat_lt, List, [], ◌∷◌, ◌++◌, Option, Some, None, codes, decimal, if◌then◌else◌}
+use Rattle.std.specs.Prelude.{ℕ, ◌==◌, nat_lt, List, [], ◌∷◌, ◌++◌, Option, Some, None, codes, decimal, if◌then◌else◌}
 use Rattle.std.specs.List.{flat_map}
 use Rattle.example_watch.specs.Facts.{facts_of, owners_of, waiters_of}
 use Rattle.example_watch.specs.Sights.{Sight}
