@@ -12,8 +12,6 @@ mod owned_screen;
 mod reading;
 mod redrawing;
 mod sending;
-#[cfg(test)]
-mod tests;
 mod vt_cell;
 mod vt_colour;
 mod vt_fed;

@@ -1,2 +1,0 @@
-//! Each export as C calls it.
-mod calls;
