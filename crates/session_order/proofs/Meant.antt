@@ -1,4 +1,4 @@
--- Histories and their entries as they are meant.
+-- Histories and their entries without spare room in their bytes.
 use Rattle.std.proofs.Common.{◌≡◌, ℕ, ◌+◌, ◌≤◌, true, false, cond, List, [], ◌∷◌, filter, map, take, Some, None, option_map, refl, sym, ap, ◌∙◌, subst}
 use Rattle.std.proofs.lemmas.List.{length-map, take-map}
 use Rattle.std.proofs.lemmas.List.Folds.{fold-map}
@@ -60,7 +60,7 @@ charges_meant entries =
 call_meant : (entry : Entry) → call_of (plain_entry entry) ≡ call_of entry
 call_meant entry = λ i. call (plain-twice entry.event i) (reply_twice entry.reply i)
 
--- the calls of p
+-- the calls of p in a history without spare room
 pub calls_meant : (p : ℕ) (entries : List Entry) → calls_by p (plain_history entries) ≡ calls_by p entries
 calls_meant p [] = refl
 calls_meant p (entry ∷ entries) =
@@ -80,7 +80,7 @@ waiting_meant : (start : WorldState) (p : ℕ) (entries : List Entry)
     → is_waiting (replay start (plain_history entries)) p ≡ is_waiting (replay start entries) p
 waiting_meant start p entries = ap (λ w. is_waiting w p) (replay_meant start entries)
 
--- an entry of a history as it is meant, right behind those before it
+-- an entry of a history without spare room, directly after those before it
 at_meant : (P : List Entry → Entry → Type 0) (entries : List Entry) (k : ℕ) (entry : Entry)
     → slice_get entries k ≡ Some entry
     → ((entry : Entry) → slice_get (plain_history entries) k ≡ Some entry → P (take k (plain_history entries)) entry)

@@ -1,4 +1,4 @@
--- The next call of a program: what it doesn't depend on, and where there is one.
+-- The next call of a program: the parts of answers that it doesn't depend on, and when there is one.
 use Rattle.std.proofs.Common.{◌≡◌, ℕ, Bool, true, false, List, [], ◌∷◌, ◌++◌, map, Option, Some, None, refl, ap, ◌∙◌, subst}
 use Rattle.std.proofs.lemmas.Option.{none-some, same_Some}
 use Rattle.std.specs.List.{range_with_len, cons_option}
@@ -41,13 +41,12 @@ ends_plain : (c : Call) → ends (as_meant c).event (as_meant c).reply ≡ ends 
 ends_plain c = λ i.
     exit_plain c.event i || (not (kill_plain c.event i) && gone_plain c.reply i)
 
--- what a list of calls does to what follows it, after its first call: nothing follows, or waitend and
--- the rest, or the rest
+-- the calls that follow the first call of a list: none, or waitend and the rest, or the rest
 abbrev pub behind_first : Bool → Bool → (List Call → Option Event) → List Call → Option Event
 behind_first over waits behind more =
     if over then None else (if waits then calls event.WaitEnd behind more else behind more)
 
--- how the calls ahead depend on those that were made: as they are meant, and by waits
+-- how the next calls depend on those that were made: without spare room, and through waits
 pub record Fine (f : List Call → Option Event) : Type 0 where
   pub same : (made : List Call) → f (map as_meant made) ≡ f made
   pub plain : (made : List Call) (e : Event) → f made ≡ Some e → plain_event e ≡ e
@@ -106,7 +105,7 @@ calls_fine e behind is fine = record {
   waits = waits_calls e behind fine;
 }
 
--- each of these calls is as it is meant
+-- each of these calls has no spare room
 abbrev ArePlain : List Event → Type 0
 ArePlain [] = ⊤
 ArePlain (e ∷ events) = (plain_event e ≡ e) × ArePlain events
@@ -133,7 +132,7 @@ from_plain : (table : List Act) (set s : ℕ) → ArePlain (calls_from table set
 unfolding calls_from
 from_plain table set s = acts_plain table set (range_with_len s (65 - s))
 
--- what follows once the signals of a set are taken
+-- the calls after the signals of a set were taken
 abbrev pub taken : List Act → (List Call → Option Event) → ℕ → List Call → Option Event
 taken table behind set = calls event.TakeSignals (all_calls (calls_from table set 1) behind)
 

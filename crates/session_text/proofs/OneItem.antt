@@ -1,4 +1,4 @@
--- The text of a script item says one thing only.
+-- The text of a script item has one meaning.
 use Rattle.std.proofs.Common.{◌≡◌, ℕ, Bool, false, eqb, refl, true≢false, List, ◌∷◌, codes, decimal, Ok, Err, inl, inr, ap, sym, ◌∙◌, arith}
 use lib.Pointwise.{pointwise}
 use Rattle.std.proofs.lemmas.Fmt.{decimal_injective}
@@ -15,12 +15,12 @@ use Rattle.session_text.proofs.OneResult.{IsOne}
 abbrev is_say : List ℕ → Bool
 is_say name = pointwise eqb name (codes "say")
 
--- no kind of calls has this name
+-- no kind of calls has the name `say`
 other_name : (k : Kind) → is_say (name_of k) ≡ false
 other_name kind.Exit = refl
 other_name k = refl
 
--- a say spells no call
+-- the text of a `say` spells no call
 say_spells : CallsAreCut → (text : List ℕ) (d e : Event) → Spells text d → IsSay text e → ⊥
 say_spells cut text d e call say =
     let is = cut text d call in
@@ -28,7 +28,7 @@ say_spells cut text d e call say =
     let name : name_of (kind_of d) ≡ codes "say" = cc in
     true≢false (sym (ap is_say name) ∙ other_name (kind_of d))
 
--- a say is one write
+-- the text of a `say` is one write
 one_say : (text : List ℕ) (d e : Event) → IsSay text d → IsSay text e → d ≡ e
 one_say text d e this other =
     let is = this.say.are in
