@@ -1,12 +1,13 @@
 ghost use Rattle.std.specs.Prelude.{◌≡◌, ℕ, ◌<◌, ◌≤◌, ◌||◌, false, length, slice_index_or, replicate, IfOk, IsTrue};
 ghost use Rattle.key_text.specs.Fault.{Gives};
 ghost use Rattle.key_text.specs.Lines.{before, covers, in_order, keymaps_line, range_by, range_of, table_of, tables_in};
-ghost use Rattle.key_text.specs.Sayings.{is_fit_said, statement_view};
+ghost use Rattle.key_text.specs.Sayings.{statement_view};
 ghost use Rattle.key_text.specs.Tables.{is_table_set};
 
 use crate::fault::KeyError;
 use crate::fault_kind::{OUT_OF_RANGE, UNKNOWN_WORD};
 use crate::fields::{end_of_line, number_in_range};
+use crate::fit_kind::FitKind;
 use crate::line_kind::LineKind;
 use crate::pieces::{rest_of, start_of};
 use crate::placed::{Place, Placed};
@@ -33,14 +34,13 @@ pub(crate) fn keymaps_line(
     end: Place,
     items: &[Placed],
 ) -> Result<Statement, KeyError>
-    ensures value { Gives statement_view result (keymaps_line end items.now) }
-    ensures fit { IfOk result (λ s. IsTrue (is_fit_said (statement_view s))) }
+    ensures { Gives statement_view result (keymaps_line end items.now) }
 {
     let (word, rest) = next(alloc, UNKNOWN_WORD, end, items)?;
     let text = bytes(alloc, word)?;
     let tables = tables_in(alloc, word, text.as_slice())?;
     end_of_line(alloc, rest)?;
-    Ok(Statement::Tells(LineKind::Keymaps(tables)))
+    Ok(Statement::Tells(FitKind::of(LineKind::Keymaps(tables))))
 }
 
 // The tables of a word of ranges, whose bytes are the text.

@@ -113,9 +113,9 @@ fn read_row(
     };
     match said {
         Statement::Nothing => Ok(count),
-        Statement::Tells(kind) => {
+        Statement::Tells(line) => {
             out.push(Line {
-                kind,
+                kind: line.kind,
                 line: first.line,
                 column: first.column,
             })?;

@@ -1,5 +1,5 @@
 use crate::fault::KeyFault;
-use crate::line_kind::LineKind;
+use crate::fit_kind::FitKind;
 use crate::placed::Place;
 
 /// What a row says.
@@ -8,7 +8,7 @@ pub(crate) enum Statement {
     /// Nothing: it has no word, or no effect.
     Nothing,
     /// A line.
-    Tells(LineKind),
+    Tells(FitKind),
     /// That a text is to be included: its name, the place of the quoted name, and the fault of what
     /// follows the name.
     Includes(Vec<u8>, Place, Option<KeyFault>),
