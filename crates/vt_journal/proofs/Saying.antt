@@ -207,7 +207,7 @@ one_journal text a b says_a says_b = said_once text a b (said text a says_a) (sa
 
 -- the room of bytes is none of what is printed
 plain_words : (e : Event) → event_words (plain_event e) ≡ event_words e
-plain_words (event.Scan b) = refl
+plain_words event.Exit = refl
 plain_words e = refl
 
 plain_answer : (r : Reply) → reply_words (plain_reply r) ≡ reply_words r
