@@ -7,6 +7,6 @@ pub(crate) enum Step {
     Keep,
     /// The byte is added, and the stage is then this one.
     Grow(ParserState),
-    /// None are left.
+    /// No bytes are left.
     Clear,
 }
