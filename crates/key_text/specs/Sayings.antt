@@ -1,4 +1,4 @@
--- What a row says, as the code has it.
+-- The statements of rows, as the code has them.
 use Rattle.std.specs.Prelude.{Bool, true}
 use Rattle.key_text.specs.Lines.{Said, nothing, tells, includes}
 use Rattle.key_text.specs.KeymapLine.{is_fit}
@@ -11,7 +11,7 @@ statement_view sayings.Nothing = nothing
 statement_view (sayings.Tells kind) = tells (telling_of kind)
 statement_view (sayings.Includes name at bad_end) = includes name.items at bad_end
 
--- a line that is told is fit to be one
+-- a statement that is a line has a fit content
 abbrev pub is_fit_said : Said → Bool
 is_fit_said nothing = true
 is_fit_said (tells telling) = is_fit telling
