@@ -2,10 +2,10 @@
 
 use key_syms::Pair;
 
-/// How many function keys have a row among the usual strings.
+/// The number of function keys with a row among the usual strings.
 pub(crate) const USUAL_STRING_COUNT: usize = 30;
 
-/// How many usual pairs there are.
+/// The number of usual pairs.
 pub(crate) const USUAL_PAIR_COUNT: usize = 66;
 
 /// The usual strings of the function keys in order, each up to its first 0.
