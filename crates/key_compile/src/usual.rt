@@ -43,7 +43,7 @@ pub(crate) static USUAL_STRINGS: [[u8; 5]; USUAL_STRING_COUNT] = [
     *b"\x1B[P\0\0", // Pause
 ];
 
-/// The usual pairs: an accent or a first character, a character, and what the two make.
+/// The usual pairs: an accent or a first character, a character, and the result of the two.
 #[rattlefmt::skip]
 pub(crate) static USUAL_PAIRS: [Pair; USUAL_PAIR_COUNT] = [
     Pair { accent: b'`' as u16, base: b'A' as u16, result: 0xC0 }, // À

@@ -1,4 +1,4 @@
--- The words of a row: quoted texts and what touches them, or bytes up to a blank or a comment
+-- The words of a row: quoted texts with the bytes that touch them, or bytes up to a blank or a comment
 -- (keymaps(5)).
 use Rattle.std.specs.Prelude.{ℕ, suc, ◌+◌, Bool, false, ◌==◌, ◌&&◌, ◌||◌, not, cond, Option, Some, None, Result, Ok, Err, List, [], ◌∷◌, length, take, drop, map, slice_index_or}
 use Rattle.std.specs.List.{prefix_len}
@@ -27,8 +27,8 @@ is_bare b = not (is_blank b || b == 0x21 || b == 0x23)
 abbrev pub is_quote : ℕ → Bool
 is_quote b = b == 0x22 || b == 0x27
 
--- the number of bytes before the quote that closes a quoted text: a quote that no backslash escapes, where a
--- backslash after a backslash escapes none
+-- the number of bytes before the quote that closes a quoted text: a quote that no backslash escapes. A
+-- backslash after a backslash escapes nothing
 abbrev pub close_at : ℕ → Bool → List Placed → Option ℕ
 close_at q escaped [] = None
 close_at q escaped (p ∷ ps) =

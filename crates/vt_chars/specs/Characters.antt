@@ -1,5 +1,5 @@
--- Texts cut into characters: well-formed sequences, and the maximal subparts of what is malformed (the
--- Unicode Standard, 3.9, D93b).
+-- Texts cut into characters: well-formed sequences, and the maximal subparts of malformed bytes (the Unicode
+-- Standard, 3.9, D93b).
 use Rattle.std.specs.Prelude.{◌≡◌, ◌<◌, ◌-◌, ◌||◌, ℕ, zero, suc, Bool, List, [], ◌∷◌, ◌++◌, length, take, if◌then◌else◌}
 use Rattle.std.specs.List.{concat}
 use Rattle.vt_chars.specs.Utf8.{is_begun, is_well_formed}

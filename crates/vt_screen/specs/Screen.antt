@@ -101,7 +101,7 @@ start_pen = record {
   toggle = false;
 }
 
--- the cursor at home, with what belongs to it, as it is saved at the start
+-- the cursor at home, with its pen and its modes, as it is saved at the start
 abbrev pub start_saved : Saved
 start_saved = record { x = 0; y = 0; attr = start_attr; g0 = 0; g1 = 1; shift = 0 }
 

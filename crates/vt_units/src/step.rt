@@ -1,6 +1,6 @@
 use crate::parser_state::ParserState;
 
-/// What a byte does to the pending bytes.
+/// The effect of a byte on the pending bytes.
 #[derive(Debug, Clone, Copy, PartialEq, Eq)]
 pub(crate) enum Step {
     /// They stay.

@@ -36,7 +36,7 @@ impl RowStore {
         self.scroll(top, bottom, count, bottom + 1 - count, count, c, steps);
     }
 
-    /// Does what [`RowStore::scroll_up`] does, but down.
+    /// Scrolls down, as [`RowStore::scroll_up`] scrolls up.
     pub(crate) fn scroll_down(&mut self, top: u8, bottom: u8, n: u16, c: Cell)
         requires order { top ≤ bottom }
         requires row { bottom < self.old.rows }
