@@ -1,3 +1,4 @@
+//! The statement of a row, by its first word.
 ghost use Rattle.std.specs.Prelude.{◌≡◌, IfOk, IsTrue};
 ghost use Rattle.key_text.specs.Fault.{Gives};
 ghost use Rattle.key_text.specs.Lines.{line_by, modified_by, said_from, weight_of};
