@@ -1,3 +1,4 @@
+//! The first fault of the lines.
 ghost use Rattle.std.specs.Prelude.{◌≡◌, ◌≤◌, ◌+◌, nat_lt, cond, Some, None, false, IfNone};
 ghost use Rattle.key_compile.specs.Faults.{at_line, fault_of, first_fault, is_key, pairs_fault, pairs_of_line};
 ghost use Rattle.key_text.specs.FaultKinds.{LATE_KEYMAPS, WRONG_COUNT};
@@ -9,7 +10,7 @@ use key_text::{KeyFault, Line, LineKind};
 // The most pairs.
 const PAIRS: usize = 256;
 
-/// The first fault of the lines, where there are n tables in the union.
+/// The first fault of the lines, if there are n tables in the union.
 pub(crate) fn first_fault(lines: &[Line], n: usize) -> Option<KeyFault>
     ensures { result ≡ first_fault n false 0 lines.now }
 {

@@ -1,3 +1,4 @@
+//! The dump of key tables.
 ghost use Rattle.std.specs.Prelude.{◌≡◌, ◌++◌, [], codes, cond, decimal, is_some, map, IfOk, IsTrue, OnOk};
 ghost use Rattle.std.specs.List.{flat_map, join_with_byte, list_all, list_any};
 ghost use Rattle.key_compile.specs.Dumpable.{is_dumpable};
@@ -15,7 +16,7 @@ use key_tables::KeyTables;
 use std::alloc::Global;
 use vt_base::{Bytes, NoMemory};
 
-// How many tables there may be, and how many function keys.
+// The most tables, and the most function keys.
 const TABLE_COUNT: usize = 256;
 
 /// Whether tables can be written as a keymap text: at least one exists, and the pairs are of

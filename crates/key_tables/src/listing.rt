@@ -1,3 +1,4 @@
+//! The listing of key tables.
 ghost use Rattle.std.specs.Prelude.{◌≡◌, ◌++◌, ◌≤◌, [], cond, length, OnOk};
 ghost use Rattle.std.specs.List.{flat_map};
 ghost use Rattle.key_tables.specs.Listing.{entry_text, func_text, hex_byte, hex_digit, listing_of, map_text, maps_text, number_text, numbers_line, pair_text, texts_from};
@@ -10,7 +11,7 @@ use key_syms::{Action, Pair, kind};
 use std::alloc::Global;
 use vt_base::{Bytes, NoMemory};
 
-// How many tables there may be.
+// The number of tables that can exist.
 const TABLE_COUNT: u16 = 256;
 
 /// Adds the whole listing.

@@ -1,4 +1,9 @@
+<<<<<<< HEAD
 ghost use Rattle.std.specs.Prelude.{◌≡◌, IfOk};
+=======
+//! The other lines of a keymap, a function for each first word.
+ghost use Rattle.std.specs.Prelude.{◌≡◌, IfOk, IsTrue};
+>>>>>>> bf4a71183a413e8e6c1d01686b4972f06582139e
 ghost use Rattle.std.specs.Result.{result_err};
 ghost use Rattle.key_text.specs.Fault.{Gives};
 ghost use Rattle.key_text.specs.Fields.{end_of_line};
@@ -75,7 +80,7 @@ fn usual_pairs_line(alloc: Global, end: Place, items: &[Placed]) -> Result<State
     Ok(Statement::Tells(FitKind::of(LineKind::UsualPairs)))
 }
 
-// What follows `for "name"`, where it is there.
+// The rest of the row after `for "name"`, if the row begins with it.
 #[tactic(auto, unfolding(crate::specs::Lines::after_charset))]
 fn after_charset(alloc: Global, end: Place, items: &[Placed]) -> Result<&[Placed], KeyError>
     ensures { Gives (λ rest. rest.now) result (after_charset end items.now) }
