@@ -1,3 +1,4 @@
+//! A symbol that stands alone on a key line, in each table.
 ghost use Rattle.std.specs.Prelude.{◌≡◌, ◌≤◌};
 ghost use Rattle.key_syms.specs.Act.{act};
 ghost use Rattle.key_tables.specs.Tables.{hole};
@@ -5,7 +6,7 @@ ghost use Rattle.key_compile.specs.Fill.{value_with_control, filled_action, is_c
 
 use key_syms::{Action, kind};
 
-/// What a symbol that stands alone on a key line does in a table.
+/// The action in a table of a symbol that stands alone on a key line.
 #[tactic(auto, unfolding(crate::specs::Fill::filled_action))]
 pub(crate) fn filled_action(t: u8, a: Action) -> Action
     ensures { result ≡ filled_action t a }

@@ -1,3 +1,4 @@
+//! The entries that `alt_is_meta` sets.
 ghost use Rattle.std.specs.Prelude.{◌≡◌, ◌≢◌, ◌<◌, ◌+◌, ◌==◌, ◌&&◌, None, cond, IsSome};
 ghost use Rattle.std.specs.List.{list_any};
 ghost use Rattle.key_tables.specs.Tables.{entry_of};
@@ -6,15 +7,12 @@ ghost use Rattle.key_compile.specs.Metas.{meta_at, meta_given, meta_of, metas_be
 ghost use Rattle.key_compile.specs.Puts.{Puts};
 
 use crate::fill::is_character_act;
-use key_syms::{Action, kind};
+use key_syms::{Action, KEYCODES, kind};
 use key_tables::KeyTables;
 use key_text::{Line, LineKind};
 
-// How many tables there are without Alt below those with it.
+// The number of tables without Alt below those with it.
 const PLAIN_TABLES: u8 = 8;
-
-// One past the greatest keycode.
-const KEYCODES: u16 = 256;
 
 /// Whether a line is `alt_is_meta`.
 pub(crate) fn has_alt_is_meta(lines: &[Line]) -> bool
@@ -69,7 +67,7 @@ fn put_meta(tables: &mut KeyTables, t: u8, c: u8)
     }
 }
 
-// The meta of a character over a hole, where both tables exist.
+// The meta of a character over a hole, if both tables exist.
 fn meta_of(below: Option<Action>, above: Option<Action>) -> Option<Action>
     ensures value { result ≡ meta_of below above }
     ensures exists { IsSome result → IsSome above }

@@ -1,12 +1,11 @@
+//! The tables that the lines declare.
 ghost use Rattle.std.specs.Prelude.{◌≡◌, ℕ, ◌<◌, ◌||◌, false, length, slice_index_or, IfOk, replicate};
 ghost use Rattle.std.specs.List.{list_any};
 ghost use Rattle.key_compile.specs.Union.{IsSetOf, in_union, is_declared, is_keymaps, is_usual_table, modifies_table, names_table, passing_below};
 
+use key_syms::TABLE_COUNT;
 use key_text::{Line, LineKind};
 use std::alloc::{AllocError, Global};
-
-// How many tables there may be.
-const TABLE_COUNT: usize = 256;
 
 /// For each table whether it is in the union.
 #[tactic(auto, unfolding(crate::specs::Union::in_union))]
@@ -95,7 +94,7 @@ fn is_usual_table(t: usize) -> bool
     t <= 2 || t == 4 || t == 5 || t == 8 || t == 12
 }
 
-/// For each table whether it is declared. `union` says it of the union.
+/// For each table whether it is declared. `union` holds for each table whether it is in the union.
 #[tactic(auto, unfolding(crate::specs::Union::is_declared))]
 pub(crate) fn declared_marks(
     alloc: Global,

@@ -1,3 +1,4 @@
+//! The rows of a table's entries.
 ghost use Rattle.std.specs.Prelude.{◌≡◌, ◌≤◌, ◌/◌, ◌%◌, ◌==◌, ◌++◌, [], cond, OnOk};
 ghost use Rattle.std.specs.List.{flat_map};
 ghost use Rattle.std.specs.Option.{option_map_or};
@@ -7,15 +8,12 @@ ghost use Rattle.key_dump.specs.Dump.{entry_rows, entry_words, modifier_words, r
 ghost use Rattle.key_dump.specs.Spaced.{blank_after_each};
 
 use crate::numerals::{add, add_number};
-use key_syms::{Action, kind, name_of};
+use key_syms::{Action, KEYCODES, kind, name_of};
 use key_tables::KeyTables;
 use std::alloc::Global;
 use vt_base::{Bytes, NoMemory};
 
-// One past the greatest keycode.
-const KEYCODES: u16 = 256;
-
-/// Adds the rows of a table, where it exists.
+/// Adds the rows of a table, if it exists.
 pub(crate) fn add_table(
     alloc: Global,
     text: &mut Bytes,
@@ -34,7 +32,7 @@ pub(crate) fn add_table(
     Ok(())
 }
 
-// Adds the row of an entry, where it is there and isn't a hole.
+// Adds the row of an entry, if it exists and isn't a hole.
 fn add_entry(
     alloc: Global,
     text: &mut Bytes,

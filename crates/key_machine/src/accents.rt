@@ -1,3 +1,4 @@
+//! Accents, and the characters that they make.
 ghost use Rattle.std.specs.Prelude.{◌≡◌, ◌==◌, if◌then◌else◌};
 ghost use Rattle.key_machine.specs.Codes.{codes_of, typed_of};
 ghost use Rattle.key_machine.specs.Compose.{accent_of, character, dead, joined_by, waits};
@@ -31,7 +32,7 @@ pub(crate) fn character(t: &KeyTables, waiting: Waiting, code: u16) -> (TypedCod
     }
 }
 
-// What an accent and a character make, where the pair has this result.
+// The characters of an accent and a character, if their pair has this result.
 fn join(pair: Option<u16>, accent: u16, code: u16) -> TypedCodes
     ensures { codes_of result ≡ joined_by pair accent code }
 {
@@ -64,7 +65,7 @@ pub(crate) fn dead(t: &KeyTables, waiting: Waiting, new: u16) -> (TypedCodes, Wa
     }
 }
 
-// What waits after two accents that no pair joins.
+// The accent that waits after two accents that no pair joins.
 fn second(accent: u16, new: u16) -> Waiting
     ensures { result ≡ (if accent == new then nothing_waits else waits new) }
 {

@@ -1,3 +1,4 @@
+//! The bytes that keys send.
 ghost use Rattle.std.specs.Prelude.{◌≡◌, ◌≤◌, ◌+◌, ◌++◌, length};
 ghost use Rattle.key_machine.specs.Bytes.{character_bytes, characters_bytes, code_bytes, meta_bytes, out_of, return_bytes};
 ghost use Rattle.key_machine.specs.Codes.{codes_of};
@@ -5,7 +6,7 @@ ghost use Rattle.key_machine.specs.Codes.{codes_of};
 use crate::accents::TypedCodes;
 use crate::{KeyBytes, KeyOut, meta, mode};
 
-/// The bytes go out, where there are any.
+/// The bytes as output, if there are any.
 pub(crate) fn sent(bytes: KeyBytes) -> KeyOut
     ensures { result ≡ out_of bytes }
 {

@@ -1,3 +1,4 @@
+//! The search for a name in the symbol table.
 ghost use Rattle.std.specs.Prelude.{◌≡◌, ◌≢◌, ℕ, ◌+◌, ◌<◌, ◌≤◌, IfSome, IfNone, slice_index, slice_range};
 ghost use Rattle.key_syms.specs.Index.{name_at, place_of_rank};
 
@@ -31,7 +32,7 @@ pub(crate) fn place_of(name: &[u8]) -> Option<usize>
     None
 }
 
-// The place of the name of a rank.
+// The place of the name of this rank.
 #[tactic(auto, using(crate::proofs::Places::order_is_within), unfolding(crate::specs::Index::place_of_rank))]
 fn place_of_rank(rank: usize) -> usize
     requires { rank < NAME_COUNT }

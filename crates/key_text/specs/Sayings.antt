@@ -1,18 +1,10 @@
--- What a row says, as the code has it.
-use Rattle.std.specs.Prelude.{Bool, true}
+-- The statements of rows, as the code has them.
 use Rattle.key_text.specs.Lines.{Said, nothing, tells, includes}
-use Rattle.key_text.specs.KeymapLine.{is_fit}
 use Rattle.key_text.specs.View.{telling_of}
 use Rattle.key_text.specs.declared.statement.Statement.{Statement}
 use Rattle.key_text.specs.declared.statement.Statement.TheVariants as sayings
 
 abbrev pub statement_view : Statement → Said
 statement_view sayings.Nothing = nothing
-statement_view (sayings.Tells kind) = tells (telling_of kind)
+statement_view (sayings.Tells line) = tells (telling_of line.kind)
 statement_view (sayings.Includes name at bad_end) = includes name.items at bad_end
-
--- a line that is told is fit to be one
-abbrev pub is_fit_said : Said → Bool
-is_fit_said nothing = true
-is_fit_said (tells telling) = is_fit telling
-is_fit_said (includes name at bad_end) = true

@@ -1,3 +1,4 @@
+//! The items of a line: a word, a number, a symbol, a quoted text, a character.
 ghost use Rattle.std.specs.Prelude.{◌≡◌, ◌≤◌, ℕ, Option, length, IfOk, min, IsTrue};
 ghost use Rattle.std.specs.Option.{option_map};
 ghost use Rattle.key_syms.specs.Act.{is_character};
@@ -13,11 +14,8 @@ use crate::named::{named_action, named_number};
 use crate::placed::{Place, Placed};
 use crate::quoted::{character_of, text_of};
 use crate::words::{check_utf8, fault, is_quote, is_word, next, place_of_word, word_at};
-use key_syms::{Action, kind};
+use key_syms::{Action, STRING_BYTES, kind};
 use std::alloc::Global;
-
-// The greatest bytes of a string.
-const STRING_BYTES: usize = 255;
 
 /// The row ends: no word is left.
 #[tactic(auto, unfolding(crate::specs::Fields::end_of_line))]
@@ -33,7 +31,7 @@ pub(crate) fn end_of_line(alloc: Global, items: &[Placed]) -> Result<(), KeyErro
     }
 }
 
-/// This keyword, and what follows it.
+/// This keyword, and the rest of the row.
 #[tactic(auto, unfolding(crate::specs::Fields::keyword_at))]
 pub(crate) fn keyword_at<'a>(
     alloc: Global,
@@ -73,7 +71,7 @@ pub(crate) fn number_in_range(
     }
 }
 
-/// A keycode, and what follows it.
+/// A keycode, and the rest of the row.
 #[tactic(auto, unfolding(crate::specs::Fields::code_at))]
 pub(crate) fn code_at(
     alloc: Global,
@@ -98,7 +96,7 @@ pub(crate) fn action_of(alloc: Global, word: &[Placed]) -> Result<Action, KeyErr
     }
 }
 
-/// The function key that a word names, and what follows it.
+/// The function key that a word names, and the rest of the row.
 #[tactic(auto, unfolding(crate::specs::Fields::function_at))]
 pub(crate) fn function_at(
     alloc: Global,
@@ -122,7 +120,7 @@ fn function_by(word: &[Placed], action: Action) -> Result<u8, KeyError>
     Err(fault(UNKNOWN_SYMBOL, place_of_word(word)))
 }
 
-/// A quoted text, the place of its word, and what follows it.
+/// A quoted text, the place of its word, and the rest of the row.
 #[tactic(auto, unfolding(crate::specs::Fields::text_at))]
 pub(crate) fn text_at(
     alloc: Global,
@@ -138,7 +136,7 @@ pub(crate) fn text_at(
     }
 }
 
-/// A string of a function key, and what follows it.
+/// A string of a function key, and the rest of the row.
 #[tactic(auto, unfolding(crate::specs::Fields::string_at))]
 pub(crate) fn string_at(
     alloc: Global,
@@ -155,7 +153,7 @@ pub(crate) fn string_at(
     Err(fault(LONG_STRING, at))
 }
 
-// The character that a word is: quoted, or a symbol.
+// The character that a word stands for: quoted, or a symbol.
 #[tactic(auto, unfolding(crate::specs::Fields::character_in))]
 fn character_in(alloc: Global, word: &[Placed]) -> Result<u16, KeyError>
     ensures value { Gives (λ x. x) result (character_in word.now) }
@@ -207,7 +205,7 @@ fn is_quoted(word: &[Placed]) -> bool
     }
 }
 
-/// A character, and what follows it.
+/// A character, and the rest of the row.
 #[tactic(auto, unfolding(crate::specs::Fields::character_at))]
 pub(crate) fn character_at(
     alloc: Global,

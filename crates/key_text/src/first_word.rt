@@ -1,7 +1,6 @@
-ghost use Rattle.std.specs.Prelude.{◌≡◌, IfOk, IsTrue};
 ghost use Rattle.key_text.specs.Fault.{Gives};
 ghost use Rattle.key_text.specs.Lines.{line_by, modified_by, said_from, weight_of};
-ghost use Rattle.key_text.specs.Sayings.{is_fit_said, statement_view};
+ghost use Rattle.key_text.specs.Sayings.{statement_view};
 
 use crate::fault::KeyError;
 use crate::fault_kind::UNKNOWN_WORD;
@@ -15,7 +14,7 @@ use crate::statement::Statement;
 use crate::words::{check_utf8, fault, is_word, place_of_word};
 use std::alloc::Global;
 
-/// What a row says whose first word is this.
+/// The statement of a row with this first word.
 #[tactic(auto, unfolding(crate::specs::Lines::said_from))]
 pub(crate) fn statement_from(
     alloc: Global,
@@ -23,8 +22,7 @@ pub(crate) fn statement_from(
     word: &[Placed],
     rest: &[Placed],
 ) -> Result<Statement, KeyError>
-    ensures value { Gives statement_view result (said_from end (word.now, rest.now)) }
-    ensures fit { IfOk result (λ s. IsTrue (is_fit_said (statement_view s))) }
+    ensures { Gives statement_view result (said_from end (word.now, rest.now)) }
 {
     let (word, rest) = check_utf8(alloc, word, rest)?;
     statement_by_keyword(alloc, end, word, rest)
@@ -38,8 +36,7 @@ fn statement_by_keyword(
     word: &[Placed],
     rest: &[Placed],
 ) -> Result<Statement, KeyError>
-    ensures value { Gives statement_view result (line_by end (word.now, rest.now)) }
-    ensures fit { IfOk result (λ s. IsTrue (is_fit_said (statement_view s))) }
+    ensures { Gives statement_view result (line_by end (word.now, rest.now)) }
 {
     if is_word(b"keymaps", word) {
         return keymaps_line(alloc, end, rest);
@@ -74,9 +71,8 @@ fn modified_by(
     word: &[Placed],
     rest: &[Placed],
 ) -> Result<Statement, KeyError>
-    ensures value { Gives statement_view result
+    ensures { Gives statement_view result
         (modified_by end (word.now, rest.now) (weight_of word.now)) }
-    ensures fit { IfOk result (λ s. IsTrue (is_fit_said (statement_view s))) }
 {
     match weight_of(word) {
         Some(weight) => modified_line(alloc, weight, end, rest),

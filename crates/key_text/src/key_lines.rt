@@ -1,12 +1,13 @@
-ghost use Rattle.std.specs.Prelude.{◌≡◌, ◌+◌, [], ◌∷◌, length, IfOk, IsTrue};
+ghost use Rattle.std.specs.Prelude.{◌≡◌, ◌+◌, [], ◌∷◌, length};
 ghost use Rattle.key_text.specs.Fault.{Gives};
 ghost use Rattle.key_text.specs.Lines.{keycode_by, keys_line, modified_line, modifiers_at, weight_of};
 ghost use Rattle.key_text.specs.Fields.{symbols_at, with_actions};
-ghost use Rattle.key_text.specs.Sayings.{is_fit_said, statement_view};
+ghost use Rattle.key_text.specs.Sayings.{statement_view};
 
 use crate::fault::KeyError;
 use crate::fault_kind::{UNKNOWN_WORD, WRONG_COUNT};
 use crate::fields::{action_of, code_at, end_of_line, keyword_at};
+use crate::fit_kind::FitKind;
 use crate::line_kind::LineKind;
 use crate::placed::{Place, Placed};
 use crate::statement::Statement;
@@ -18,18 +19,17 @@ use std::alloc::Global;
 /// `keycode N =` and symbols.
 #[tactic(auto, unfolding(crate::specs::Lines::keys_line, crate::specs::Fields::symbol_at))]
 pub(crate) fn keys_line(alloc: Global, end: Place, items: &[Placed]) -> Result<Statement, KeyError>
-    ensures value { Gives statement_view result (keys_line end items.now) }
-    ensures fit { IfOk result (λ s. IsTrue (is_fit_said (statement_view s))) }
+    ensures { Gives statement_view result (keys_line end items.now) }
 {
     let (code, rest) = code_at(alloc, end, items)?;
     let rest = keyword_at(alloc, b"=", end, rest)?;
     let (word, rest) = next(alloc, WRONG_COUNT, end, rest)?;
     let first = action_of(alloc, word)?;
     let syms = symbols(alloc, first, rest)?;
-    Ok(Statement::Tells(LineKind::Keys { code, syms }))
+    Ok(Statement::Tells(FitKind::of(LineKind::Keys { code, syms })))
 }
 
-// The symbols up to the row's end, behind a first one.
+// The symbols up to the row's end, after a first one.
 fn symbols(alloc: Global, first: Action, items: &[Placed]) -> Result<Syms, KeyError>
     ensures { Gives (λ syms. syms) result
         (with_actions (first ∷ []) (symbols_at (length items.now) items.now)) }
@@ -58,8 +58,7 @@ pub(crate) fn modified_line(
     end: Place,
     items: &[Placed],
 ) -> Result<Statement, KeyError>
-    ensures value { Gives statement_view result (modified_line weight end items.now) }
-    ensures fit { IfOk result (λ s. IsTrue (is_fit_said (statement_view s))) }
+    ensures { Gives statement_view result (modified_line weight end items.now) }
 {
     let (table, rest) = modifiers_at(alloc, weight, end, items)?;
     let (code, rest) = code_at(alloc, end, rest)?;
@@ -67,14 +66,14 @@ pub(crate) fn modified_line(
     let (word, rest) = next(alloc, WRONG_COUNT, end, rest)?;
     let action = action_of(alloc, word)?;
     end_of_line(alloc, rest)?;
-    Ok(Statement::Tells(LineKind::One {
+    Ok(Statement::Tells(FitKind::of(LineKind::One {
         table,
         code,
         action,
-    }))
+    })))
 }
 
-// Modifier words up to `keycode`: the union of their weights, and what follows.
+// Modifier words up to `keycode`: the union of their weights, and the rest of the row.
 fn modifiers_at(
     alloc: Global,
     weight: u8,

@@ -1,23 +1,22 @@
+//! Lines `keymaps`, with their ranges of tables.
 ghost use Rattle.std.specs.Prelude.{◌≡◌, ℕ, ◌<◌, ◌≤◌, ◌||◌, false, length, slice_index_or, replicate, IfOk, IsTrue};
 ghost use Rattle.key_text.specs.Fault.{Gives};
 ghost use Rattle.key_text.specs.Lines.{before, covers, in_order, keymaps_line, range_by, range_of, table_of, tables_in};
-ghost use Rattle.key_text.specs.Sayings.{is_fit_said, statement_view};
+ghost use Rattle.key_text.specs.Sayings.{statement_view};
 ghost use Rattle.key_text.specs.Tables.{is_table_set};
 
 use crate::fault::KeyError;
 use crate::fault_kind::{OUT_OF_RANGE, UNKNOWN_WORD};
 use crate::fields::{end_of_line, number_in_range};
+use crate::fit_kind::FitKind;
 use crate::line_kind::LineKind;
 use crate::pieces::{rest_of, start_of};
 use crate::placed::{Place, Placed};
 use crate::statement::Statement;
 use crate::table_set::TableSet;
 use crate::words::{bytes, fault, next, place_of_word};
-use key_syms::number;
+use key_syms::{TABLE_COUNT, number};
 use std::alloc::{AllocError, Global};
-
-// How many tables there may be.
-const TABLE_COUNT: usize = 256;
 
 /// Tables from a first to a last one.
 #[derive(Clone, Copy)]
@@ -33,14 +32,13 @@ pub(crate) fn keymaps_line(
     end: Place,
     items: &[Placed],
 ) -> Result<Statement, KeyError>
-    ensures value { Gives statement_view result (keymaps_line end items.now) }
-    ensures fit { IfOk result (λ s. IsTrue (is_fit_said (statement_view s))) }
+    ensures { Gives statement_view result (keymaps_line end items.now) }
 {
     let (word, rest) = next(alloc, UNKNOWN_WORD, end, items)?;
     let text = bytes(alloc, word)?;
     let tables = tables_in(alloc, word, text.as_slice())?;
     end_of_line(alloc, rest)?;
-    Ok(Statement::Tells(LineKind::Keymaps(tables)))
+    Ok(Statement::Tells(FitKind::of(LineKind::Keymaps(tables))))
 }
 
 // The tables of a word of ranges, whose bytes are the text.
@@ -122,7 +120,7 @@ fn table_of(word: &[Placed], piece: &[u8]) -> Result<u8, KeyError>
     number_in_range(0, 255, word, number(piece))
 }
 
-// How many bytes stand before the first of this kind.
+// The number of bytes before the first byte of this kind.
 fn before(mark: u8, text: &[u8]) -> usize
     ensures value { result ≡ before mark text.now }
     ensures within { result ≤ length text.now }

@@ -6,6 +6,7 @@ pub mod fault_kind;
 mod fault_text;
 mod fields;
 mod first_word;
+mod fit_kind;
 mod included;
 mod includes;
 mod key_lines;

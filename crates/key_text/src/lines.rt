@@ -1,12 +1,13 @@
-ghost use Rattle.std.specs.Prelude.{◌≡◌, IfOk, IsTrue};
+ghost use Rattle.std.specs.Prelude.{◌≡◌, IfOk};
 ghost use Rattle.std.specs.Result.{result_err};
 ghost use Rattle.key_text.specs.Fault.{Gives};
 ghost use Rattle.key_text.specs.Fields.{end_of_line};
 ghost use Rattle.key_text.specs.Lines.{after_charset, alt_is_meta_line, charset_line, compose_line, include_line, is_next, pair_line, string_line, usual_pairs_line, usual_strings_line};
-ghost use Rattle.key_text.specs.Sayings.{is_fit_said, statement_view};
+ghost use Rattle.key_text.specs.Sayings.{statement_view};
 
 use crate::fault::{KeyError, KeyFault};
 use crate::fields::{character_at, end_of_line, function_at, keyword_at, string_at, text_at};
+use crate::fit_kind::FitKind;
 use crate::line_kind::LineKind;
 use crate::placed::{Place, Placed};
 use crate::statement::Statement;
@@ -22,15 +23,14 @@ pub(crate) fn string_line(
     end: Place,
     items: &[Placed],
 ) -> Result<Statement, KeyError>
-    ensures value { Gives statement_view result (string_line end items.now) }
-    ensures fit { IfOk result (λ s. IsTrue (is_fit_said (statement_view s))) }
+    ensures { Gives statement_view result (string_line end items.now) }
 {
     let (func, rest) = function_at(alloc, end, items)?;
     let rest = keyword_at(alloc, b"=", end, rest)?;
     let (text, rest) = string_at(alloc, end, rest)?;
     end_of_line(alloc, rest)?;
     let text = Bytes::from_slice(alloc, text.as_slice())?;
-    Ok(Statement::Tells(LineKind::Text { func, text }))
+    Ok(Statement::Tells(FitKind::of(LineKind::Text { func, text })))
 }
 
 /// `compose A B to C`, or `compose as usual`.
@@ -40,8 +40,7 @@ pub(crate) fn compose_line(
     end: Place,
     items: &[Placed],
 ) -> Result<Statement, KeyError>
-    ensures value { Gives statement_view result (compose_line end items.now) }
-    ensures fit { IfOk result (λ s. IsTrue (is_fit_said (statement_view s))) }
+    ensures { Gives statement_view result (compose_line end items.now) }
 {
     if is_next(b"as", items) {
         return usual_pairs_line(alloc, end, items);
@@ -51,34 +50,32 @@ pub(crate) fn compose_line(
 
 #[tactic(auto, unfolding(crate::specs::Lines::pair_line))]
 fn pair_line(alloc: Global, end: Place, items: &[Placed]) -> Result<Statement, KeyError>
-    ensures value { Gives statement_view result (pair_line end items.now) }
-    ensures fit { IfOk result (λ s. IsTrue (is_fit_said (statement_view s))) }
+    ensures { Gives statement_view result (pair_line end items.now) }
 {
     let (accent, rest) = character_at(alloc, end, items)?;
     let (base, rest) = character_at(alloc, end, rest)?;
     let rest = keyword_at(alloc, b"to", end, rest)?;
     let (result, rest) = character_at(alloc, end, rest)?;
     end_of_line(alloc, rest)?;
-    Ok(Statement::Tells(LineKind::Compose(Pair {
+    Ok(Statement::Tells(FitKind::of(LineKind::Compose(Pair {
         accent,
         base,
         result,
-    })))
+    }))))
 }
 
 #[tactic(auto, unfolding(crate::specs::Lines::usual_pairs_line))]
 fn usual_pairs_line(alloc: Global, end: Place, items: &[Placed]) -> Result<Statement, KeyError>
-    ensures value { Gives statement_view result (usual_pairs_line end items.now) }
-    ensures fit { IfOk result (λ s. IsTrue (is_fit_said (statement_view s))) }
+    ensures { Gives statement_view result (usual_pairs_line end items.now) }
 {
     let rest = keyword_at(alloc, b"as", end, items)?;
     let rest = keyword_at(alloc, b"usual", end, rest)?;
     let rest = after_charset(alloc, end, rest)?;
     end_of_line(alloc, rest)?;
-    Ok(Statement::Tells(LineKind::UsualPairs))
+    Ok(Statement::Tells(FitKind::of(LineKind::UsualPairs)))
 }
 
-// What follows `for "name"`, where it is there.
+// The rest of the row after `for "name"`, if the row begins with it.
 #[tactic(auto, unfolding(crate::specs::Lines::after_charset))]
 fn after_charset(alloc: Global, end: Place, items: &[Placed]) -> Result<&[Placed], KeyError>
     ensures { Gives (λ rest. rest.now) result (after_charset end items.now) }
@@ -109,23 +106,21 @@ pub(crate) fn usual_strings_line(
     end: Place,
     items: &[Placed],
 ) -> Result<Statement, KeyError>
-    ensures value { Gives statement_view result (usual_strings_line end items.now) }
-    ensures fit { IfOk result (λ s. IsTrue (is_fit_said (statement_view s))) }
+    ensures { Gives statement_view result (usual_strings_line end items.now) }
 {
     let rest = keyword_at(alloc, b"as", end, items)?;
     let rest = keyword_at(alloc, b"usual", end, rest)?;
     end_of_line(alloc, rest)?;
-    Ok(Statement::Tells(LineKind::UsualStrings))
+    Ok(Statement::Tells(FitKind::of(LineKind::UsualStrings)))
 }
 
 /// `alt_is_meta`.
 #[tactic(auto, unfolding(crate::specs::Lines::alt_is_meta_line))]
 pub(crate) fn alt_is_meta_line(alloc: Global, items: &[Placed]) -> Result<Statement, KeyError>
-    ensures value { Gives statement_view result (alt_is_meta_line items.now) }
-    ensures fit { IfOk result (λ s. IsTrue (is_fit_said (statement_view s))) }
+    ensures { Gives statement_view result (alt_is_meta_line items.now) }
 {
     end_of_line(alloc, items)?;
-    Ok(Statement::Tells(LineKind::AltIsMeta))
+    Ok(Statement::Tells(FitKind::of(LineKind::AltIsMeta)))
 }
 
 /// `include "name"`.
@@ -135,8 +130,7 @@ pub(crate) fn include_line(
     end: Place,
     items: &[Placed],
 ) -> Result<Statement, KeyError>
-    ensures value { Gives statement_view result (include_line end items.now) }
-    ensures fit { IfOk result (λ s. IsTrue (is_fit_said (statement_view s))) }
+    ensures { Gives statement_view result (include_line end items.now) }
 {
     let (name, at, rest) = text_at(alloc, end, items)?;
     let bad_end = end_fault(alloc, rest)?;
@@ -161,8 +155,7 @@ pub(crate) fn charset_line(
     end: Place,
     items: &[Placed],
 ) -> Result<Statement, KeyError>
-    ensures value { Gives statement_view result (charset_line end items.now) }
-    ensures fit { IfOk result (λ s. IsTrue (is_fit_said (statement_view s))) }
+    ensures { Gives statement_view result (charset_line end items.now) }
 {
     let (_name, _at, rest) = text_at(alloc, end, items)?;
     end_of_line(alloc, rest)?;

@@ -1,3 +1,4 @@
+//! The actions and numbers that words name.
 ghost use Rattle.std.specs.Prelude.{◌≡◌, ◌≤◌, length, min, take, IfOk};
 ghost use Rattle.std.specs.Option.{option_map};
 ghost use Rattle.key_syms.specs.Names.{symbol};
@@ -36,7 +37,7 @@ pub(crate) fn named_number(alloc: Global, word: &[Placed]) -> Result<Option<u32>
     Ok(number(text.as_slice()))
 }
 
-// The bytes of a short word, before bytes that don't matter.
+// The bytes of a short word, followed by bytes that don't matter.
 fn short_bytes(word: &[Placed]) -> [u8; SHORT]
     requires { length word.now ≤ 32 }
     ensures { take (length word.now) result ≡ bytes word.now }

@@ -14,30 +14,15 @@ use Rattle.vt_events.specs.Plain.{plain_event, plain_reply}
 use Rattle.vt_events.specs.declared.event.Event.{Event}
 use Rattle.vt_events.specs.declared.event.Event.TheVariants as event
 use Rattle.vt_events.specs.declared.reply.Reply.{Reply}
+use Rattle.vt_events.proofs.Meant.{plain-twice}
 use Rattle.vt_events.specs.declared.reply.Reply.TheVariants as reply
 
-pub plain_twice : (e : Event) → plain_event (plain_event e) ≡ plain_event e
-plain_twice (event.Write fd b) = refl
-plain_twice (event.SetFunc fd i b) = refl
-plain_twice (event.SetDia fd b) = refl
-plain_twice (event.SetMap fd b) = refl
-plain_twice (event.SetPal fd b) = refl
-plain_twice e = refl
-
 pub exit_plain : (e : Event) → is_exit (plain_event e) ≡ is_exit e
-exit_plain (event.Write fd b) = refl
-exit_plain (event.SetFunc fd i b) = refl
-exit_plain (event.SetDia fd b) = refl
-exit_plain (event.SetMap fd b) = refl
-exit_plain (event.SetPal fd b) = refl
+exit_plain event.Exit = refl
 exit_plain e = refl
 
 kill_plain : (e : Event) → is_kill (plain_event e) ≡ is_kill e
-kill_plain (event.Write fd b) = refl
-kill_plain (event.SetFunc fd i b) = refl
-kill_plain (event.SetDia fd b) = refl
-kill_plain (event.SetMap fd b) = refl
-kill_plain (event.SetPal fd b) = refl
+kill_plain event.Exit = refl
 kill_plain e = refl
 
 pub gone_plain : (r : Reply) → is_gone (plain_reply r) ≡ is_gone r
@@ -194,7 +179,7 @@ exits_fine = calls_fine event.Exit nothing refl nothing_fine
 script_fine : (table : List Act) (items : List Event) → Fine (script table items)
 script_fine table [] = exits_fine
 script_fine table (item ∷ items) =
-    calls_fine (plain_event item) (takes table (script table items)) (plain_twice item)
+    calls_fine (plain_event item) (takes table (script table items)) (plain-twice item)
     (takes_fine table (script table items) (script_fine table items))
 
 scans_fine : (bytes : List ℕ) → Fine (scans bytes)

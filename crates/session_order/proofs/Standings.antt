@@ -18,16 +18,8 @@ use Rattle.vt_base.specs.Limits.{callers}
 use Rattle.vt_events.specs.Plain.{plain_event, plain_reply}
 use Rattle.vt_events.specs.declared.entry.Entry.{Entry}
 use Rattle.vt_events.specs.declared.event.Event.{Event}
-use Rattle.vt_events.specs.declared.event.Event.TheVariants as event
 use Rattle.vt_events.specs.declared.reply.Reply.{Reply}
-
-pub event_twice : (e : Event) → plain_event (plain_event e) ≡ plain_event e
-event_twice (event.Write fd b) = refl
-event_twice (event.SetFunc fd i b) = refl
-event_twice (event.SetDia fd b) = refl
-event_twice (event.SetMap fd b) = refl
-event_twice (event.SetPal fd b) = refl
-event_twice e = refl
+use Rattle.vt_events.proofs.Meant.{plain-twice}
 
 -- an entry of p is one more call of it, and none of another
 calls_mine : (h : List Entry) (entry : Entry) (q : ℕ) → entry.caller ≡ q
@@ -141,7 +133,7 @@ taken is_meant programs h entry p program r before after took is at few by follo
     let next_is : next program (calls_by p h) ≡ Some e =
     ap (λ found. next_of found (calls_by p h)) (sym is) ∙ follows in
     let call_is : as_meant (call e r) ≡ call_of entry =
-    λ i. call (event_twice entry.event i) (sym answer i) in
+    λ i. call (plain-twice entry.event i) (sym answer i) in
     let within : p < length before.walks = omega (arith, took.known, at.walks) in
     let stands : IsWalkAfter program took.moved (calls_by p h ++ as_meant (call e r) ∷ []) =
     stands_more is_meant program took.walk took.moved (calls_by p h) e r

@@ -55,11 +55,7 @@ moves_stands p w moved r made e m s is = record {
 }
 
 ends_plain : (e : Event) (r : Reply) → ends e r ≡ ends (plain_event e) r
-ends_plain (event.Write fd b) r = refl
-ends_plain (event.SetFunc fd i b) r = refl
-ends_plain (event.SetDia fd b) r = refl
-ends_plain (event.SetMap fd b) r = refl
-ends_plain (event.SetPal fd b) r = refl
+ends_plain event.Exit r = refl
 ends_plain e r = refl
 
 turn : (e : Event) (r : Reply) (more : List Call) (behind after : List Call → Option Event) (over waiting : Bool)

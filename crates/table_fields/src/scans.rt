@@ -1,3 +1,4 @@
+//! Scan bytes.
 ghost use Rattle.std.specs.Prelude.{◌≡◌, ◌≤◌, length, map, IfOk};
 ghost use Rattle.table_fields.specs.Checked.{Gives};
 ghost use Rattle.table_fields.specs.Fields.{byte_of, bytes_of, few_items_of, items_of, most_scan_bytes, scan_bytes_of};
@@ -35,7 +36,7 @@ pub fn scan_items(alloc: Global, text: &str, part: u32, key: u32) -> Result<Vec<
     Ok(items)
 }
 
-// The parts between single blanks, of which the empty text has none.
+// The parts between single blanks; the empty text has none.
 fn cut_items(alloc: Global, text: &str) -> Result<Vec<&str>, AllocError>
     ensures { IfOk result (λ items. map (λ item. item.now) items.items ≡ items_of text.now) }
 {

@@ -1,3 +1,4 @@
+//! The attribute byte of a cell.
 ghost use Rattle.std.specs.Prelude.{◌≡◌, ◌<◌, if◌then◌else◌};
 ghost use Rattle.vt_cells.specs.AttrByte.{attr_byte, byte_of, erase_byte, with_bit_flipped, foreground, with_colours_swapped, vga};
 
@@ -54,7 +55,7 @@ fn foreground(a: &Attr, l: &Look) -> u8
     }
 }
 
-// A ground and a character's colour in one byte.
+// A background and a character's colour in one byte.
 #[tactic(auto, using(crate::proofs::Bits::bits))]
 fn byte_of(bg: u8, fg: u8) -> u8
     requires bg { bg < 16 }

@@ -1,3 +1,4 @@
+//! The colours of the indices from 0 to 255.
 ghost use Rattle.std.specs.Prelude.{◌≡◌, ◌≤◌, ◌==◌, ◌*◌, ◌/◌, ◌%◌, ◌^◌, if◌then◌else◌};
 ghost use Rattle.vt_cells.specs.Colours.{rgb_of, sixth, with_parts};
 
@@ -38,7 +39,7 @@ fn part(c: u8, bit: u8, on: u8, off: u8) -> u8
     if c >> bit & 1 == 1 { on } else { off }
 }
 
-// A step of six of a part.
+// One of the six levels of a part.
 fn sixth(n: u8) -> u8
     requires { n ≤ 5 }
     ensures { result ≡ sixth n }

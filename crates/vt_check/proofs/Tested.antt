@@ -3,7 +3,7 @@ use Rattle.std.proofs.Common.{◌≡◌, ◌↔◌, ℕ, Bool, true, false, ◌&
 use Rattle.std.specs.Prelude.{◌==◌, IsTrue, count_by, is_some, option_map}
 use Rattle.std.proofs.lemmas.Bool.{and_from, both_ways, false_from_ne_true, false≢true}
 use Rattle.std.proofs.lemmas.Option.{none-some, same_Some}
-use Rattle.session_order.proofs.Standings.{event_twice}
+use Rattle.vt_events.proofs.Meant.{plain-twice}
 use Rattle.session_order.specs.Calls.{next_by}
 use Rattle.session_order.specs.Ends.{Setup}
 use Rattle.session_order.specs.Follows.{IsNextCall, is_waiting}
@@ -77,7 +77,7 @@ next_is is_plain o h view entry goes same call program at going test is found co
       λ next.
           let call_is : call ≡ plain_event entry.event =
           same_Some call (plain_event entry.event) (found ∙ next.next) in
-          compared.1 (ap plain_event call_is ∙ event_twice entry.event),
+          compared.1 (ap plain_event call_is ∙ plain-twice entry.event),
     )
 
 -- a program that is over has no next call

@@ -13,8 +13,8 @@ use session_order::{SessionProgress, meant_laws, start_of};
 use session_text::{Program, Session, program_of};
 use std::alloc::Global;
 use vt_base::NoMemory;
-use vt_events::{Entry, Event, charge};
-use vt_journal::{Limits, same_event, same_reply};
+use vt_events::{Entry, Event, charge, same_event, same_reply};
+use vt_journal::Limits;
 use vt_world::{World, legal_grows};
 
 /// The number of the reason that the caller isn't one of the session, or the number isn't its next.

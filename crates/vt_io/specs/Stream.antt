@@ -1,8 +1,8 @@
--- What the layers above know of a source or a sink.
+-- A source or a sink as the layers above know it.
 use Rattle.std.specs.Prelude.{◌≡◌, ℕ, ◌<◌, ◌≤◌, List, length, take, drop, Option, Result, IfOk, MatchResult}
 use Rattle.std.specs.Io.KnownBytes.{Appends}
 
--- the bytes that are left or held, where the stream tells them, and its count of faults
+-- the bytes that are left or held, if they are known, and the count of faults
 pub record Stream : Type 0 where
   pub told : Option (List ℕ)
   pub faults : ℕ
@@ -11,7 +11,7 @@ pub record Stream : Type 0 where
 abbrev pub GrowsByPrefix : Option (List ℕ) → Option (List ℕ) → List ℕ → Type 0
 GrowsByPrefix old new text = (n : ℕ) × Appends old new (take n text)
 
--- of a buffer nothing changes past the bytes that a read tells, and nothing at all where it fails
+-- a read changes nothing in the buffer past the bytes that it counts, and nothing at all if it fails
 abbrev pub FillsFront : {E : Type 0} → Result ℕ E → List ℕ → List ℕ → Type 0
 FillsFront result before after = MatchResult result
     (λ n. drop n after ≡ drop n before)

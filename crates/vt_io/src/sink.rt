@@ -8,7 +8,7 @@ use crate::Failed;
 
 /// A sink of bytes.
 pub trait Sink {
-    // The bytes held, where they are known.
+    // The bytes held, if they are known.
     ghost held: { Self → Option (List ℕ) };
 
     ghost faults: { Self → ℕ };

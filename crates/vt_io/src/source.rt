@@ -8,7 +8,7 @@ use crate::Failed;
 
 /// A source of bytes.
 pub trait Source {
-    // The bytes left, where they are known.
+    // The bytes left, if they are known.
     ghost left: { Self → Option (List ℕ) };
 
     ghost faults: { Self → ℕ };

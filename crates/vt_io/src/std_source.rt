@@ -10,7 +10,7 @@ use crate::{Failed, Source};
 use std::io::{ErrorKind, Read};
 use std::marker::Model;
 
-/// The most bytes that one read gives.
+/// The most bytes that one read returns.
 const PIECE_BYTES: usize = 4_096;
 
 /// A source over a reader of std. Its contract does not describe the bytes. An interrupted read is
@@ -73,7 +73,7 @@ impl<R: Read> Source for StdSource<R> {
     }
 }
 
-// What a read gives, tried again where it was interrupted.
+// Reads a piece, and tries again after an interruption.
 fn read_again<R: Read>(reader: &mut R, piece: &mut [u8]) -> Option<usize>
     ensures { IfSome result (λ count. count ≤ length piece.old) }
 {

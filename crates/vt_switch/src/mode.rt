@@ -1,4 +1,4 @@
-//! Who is to handle the switches of a console.
+//! The choice of the handler of a console's switches.
 ghost use Rattle.std.specs.Prelude.{◌≡◌, Some};
 ghost use Rattle.vt_switch.specs.Calls.{after_mode, with_console_handling, handling_of, mode_answer, process_of, set_mode, signal_of};
 
@@ -6,7 +6,7 @@ use crate::{Handling, Handshake, Switch, Words};
 use vt_base::{CallerNo, ConsoleNo, Inval, Signal, VtMode};
 
 /// SIGKILL, which no handshake may use (signal(7)).
-const SIGKILL: u16 = 9;
+pub const SIGKILL: u16 = 9;
 
 impl Switch {
     /// Sets the mode of console `c` for process `p` (ioctl_console(2), VT_SETMODE).

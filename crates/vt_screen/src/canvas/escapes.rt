@@ -1,3 +1,4 @@
+//! The effect of escape sequences.
 ghost use Rattle.std.specs.Prelude.{◌≡◌, ◌<◌, ◌≤◌, ◌+◌, ◌++◌, ◌==◌, length, if◌then◌else◌};
 ghost use Rattle.vt_screen.specs.Effect.{escape, plain_escape};
 ghost use Rattle.vt_screen.specs.Run.{outs_of_option};
@@ -7,7 +8,7 @@ use super::Canvas;
 use crate::Outs;
 
 impl Canvas {
-    /// Does what an escape sequence does. What it says beside the screen is then last in `outs`.
+    /// Applies an escape sequence. Its side effect, if it has one, is then last in `outs`.
     #[inline(always)]
     #[tactic(auto, unfolding(crate::specs::Effect::escape))]
     pub(crate) fn escape(&mut self, mid: u8, last: u8, outs: &mut Outs)

@@ -1,3 +1,4 @@
+//! The moves of the cursor.
 ghost use Rattle.std.specs.Prelude.{◌≡◌, ◌==◌, ◌-◌, ◌+◌, ◌<◌, ◌≤◌, max, min, not, drop, if◌then◌else◌};
 ghost use Rattle.std.specs.List.{prefix_len};
 ghost use Rattle.vt_screen.specs.Cursor.{at_column, first_row, cursor_home, last_row, linefeed, cursor_to, newline, newlines, cursor_to_in_region, region_down, region_up, reverse_linefeed, tab};
@@ -28,7 +29,7 @@ impl Canvas {
         self.state.wrap = false;
     }
 
-    /// What LF does.
+    /// LF: a line feed; in newline mode the cursor also goes to the first column.
     pub(super) fn newline(&mut self)
         ensures { self.new ≡ newline self.old }
     {
@@ -45,7 +46,7 @@ impl Canvas {
         self.state.y == self.state.bottom
     }
 
-    /// Does line feeds at once, of which each scrolls.
+    /// Applies line feeds at once, each of which scrolls.
     pub(crate) fn scroll(&mut self, count: u16)
         requires some { 0 < count }
         requires scrolls { self.old.state.y ≡ self.old.state.bottom }
@@ -58,7 +59,7 @@ impl Canvas {
             .scroll_up(self.state.top, self.state.bottom, count, blank);
     }
 
-    // The column that a line feed leads to.
+    // The cursor's column after a line feed.
     fn line_start(&self) -> u8
         ensures column { result ≡ (if self.now.state.newline then 0 else self.now.state.x) }
         ensures within { result < self.now.grid.cols }
@@ -188,7 +189,7 @@ impl Canvas {
     }
 }
 
-// The next stop behind column `x`, or the last column where it comes first.
+// The next stop after column `x`, or the last column if that comes first.
 fn next_stop(stops: &Stops, x: u8, last: u8) -> u8
     requires within { x ≤ last }
     requires columns { last < 255 }

@@ -1,3 +1,4 @@
+//! Modes, tab stops, the region, character sets, the pen and the palette.
 ghost use Rattle.std.specs.Prelude.{◌≡◌, ◌<◌, ◌≤◌, ◌==◌, if◌then◌else◌};
 ghost use Rattle.vt_screen.specs.Settings.{table_named, clear_stops, each, after_shift, after_sgr, set_stop, with_coding, with_colour, with_g0, with_g1, with_keypad, with_mode, with_pen, with_private_mode, with_region, with_start_palette};
 ghost use Rattle.vt_sgr.specs.Sgr.{sgr};
@@ -150,7 +151,7 @@ impl Canvas {
         self.erase = erase_byte(&self.state.pen.attr);
     }
 
-    // SGR of more than two parameters, out of line: then the usual ones save no registers.
+    // SGR of more than two parameters. It isn't inlined: then the usual ones save no registers.
     #[inline(never)]
     #[tactic(auto, unfolding(crate::specs::Settings::after_sgr, crate::specs::Screen::printed_byte, crate::specs::Screen::erased_byte))]
     fn render_long_sgr(&mut self, params: &[u16])
@@ -245,7 +246,7 @@ fn last_of(bottom: u16, rows: u16) -> u16
     if bottom == 0 { rows } else { bottom }
 }
 
-// The table that the final byte designates, or the old one where it designates none.
+// The table that the final byte designates, or the old one if it designates none.
 fn table_named(last: u8, old: u8) -> u8
     requires { old < 4 }
     ensures table { result ≡ table_named last old }
