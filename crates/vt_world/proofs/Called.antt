@@ -14,7 +14,8 @@ use Rattle.vt_world.specs.Acts.{all_acts, request_of}
 use Rattle.vt_world.specs.Deeds.{Deed, Asks, By, Clears, Own, Writes, apply_deed}
 use Rattle.vt_world.specs.Heard.{without_marks}
 use Rattle.vt_world.specs.Laws.{ActsAreCalls, AllCalled, IsCalled}
-use Rattle.vt_world.specs.Rows.{free_deeds, out_deeds, row}
+use Rattle.vt_world.specs.Events.{row}
+use Rattle.vt_world.specs.Rows.{free_deeds, out_deeds}
 use Rattle.vt_world.specs.State.{WorldState}
 use Rattle.vt_world.specs.Step.{Outcome}
 use Rattle.vt_world.specs.Terminals.{said_of, terminal_at}

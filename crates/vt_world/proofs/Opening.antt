@@ -14,7 +14,8 @@ use Rattle.vt_world.proofs.Steps.{by_step, outcome}
 use Rattle.vt_world.proofs.Waits.{NoWait, OneWait, RowDoes, apply_deeds_age, row_does}
 use Rattle.vt_world.specs.Deeds.{Deed, apply_deeds}
 use Rattle.vt_world.specs.Heard.{without_marks}
-use Rattle.vt_world.specs.Rows.{EventRow, row}
+use Rattle.vt_world.specs.Events.{row}
+use Rattle.vt_world.specs.Rows.{EventRow}
 use Rattle.vt_world.specs.State.{WorldState, is_waiting}
 use Rattle.vt_world.specs.Step.{Outcome}
 use Rattle.vt_world.specs.StepLaws.{NobodyWaitsAtStart, TicketsAreCalled}

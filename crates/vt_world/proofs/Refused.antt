@@ -4,10 +4,10 @@ use Rattle.std.specs.Prelude.{Result}
 use Rattle.vt_base.specs.declared.errno.Errno.{Errno}
 use Rattle.vt_events.specs.declared.event.Event.{Event}
 use Rattle.vt_events.specs.declared.reply.Reply.{Reply}
-use Rattle.vt_world.specs.Rows.{row}
+use Rattle.vt_world.specs.Events.{own_refusals, row}
 use Rattle.vt_world.specs.State.{WorldState}
 use Rattle.vt_world.specs.Step.{RowResult, HasRowResult, row_result, own_row_result, plain_answer}
-use Rattle.vt_world.specs.Refusals.{first_refusal, own_refusals}
+use Rattle.vt_world.specs.Refusals.{first_refusal}
 
 abbrev unchanged : WorldState → Result Reply Errno → RowResult
 unchanged w answer = record { world = w; answer = answer }

@@ -26,7 +26,7 @@ use Rattle.vt_world.specs.Deeds.{Deed, By, Asks, Own, OwnDeed, Starts, Clears, W
 use Rattle.vt_world.specs.Heard.{without_marks, apply_mark, apply_marks}
 use Rattle.vt_world.specs.History.{replay}
 use Rattle.vt_world.specs.Laws.{IsStart, ScreensAreTapes}
-use Rattle.vt_world.specs.Rows.{row}
+use Rattle.vt_world.specs.Events.{row}
 use Rattle.vt_world.specs.Start.{start_world}
 use Rattle.vt_world.specs.State.{WorldState, HasTerminals, core}
 use Rattle.vt_world.specs.Step.{Outcome, step}

@@ -6,10 +6,11 @@ use Rattle.vt_events.specs.declared.reply.Reply.TheVariants as reply
 use Rattle.vt_world.specs.Acts.{deeds_after, deeds_unless, event_deeds}
 use Rattle.vt_world.specs.Deeds.{Deed, apply_deeds}
 use Rattle.vt_world.specs.Heard.{without_marks}
-use Rattle.vt_world.specs.Rows.{EventRow, row}
+use Rattle.vt_world.specs.Events.{own_refusals, row}
+use Rattle.vt_world.specs.Rows.{EventRow}
 use Rattle.vt_world.specs.State.{WorldState}
 use Rattle.vt_world.specs.Step.{Outcome, outcome_of_row, row_result_after, row_result, step, with_idle_rule}
-use Rattle.vt_world.specs.Refusals.{common_refusals, first_refusal, own_refusals}
+use Rattle.vt_world.specs.Refusals.{common_refusals, first_refusal}
 
 abbrev refusal : WorldState → Errno → Outcome
 refusal w errno = record { world = w; reply = reply.Err errno }

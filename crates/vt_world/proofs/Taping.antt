@@ -14,7 +14,8 @@ use Rattle.vt_screen.specs.declared.out.Out.{Out}
 use Rattle.vt_world.proofs.Quiet.{are_quiet, is_quiet_act, is_quiet_own, outs_quiet, scan_quiet, sent_quiet, wait_quiet}
 use Rattle.vt_world.proofs.Truths.{differ, left_of, right_of}
 use Rattle.vt_world.specs.Deeds.{Deed, Alters, Asks, By, Clears, Own, OwnDeed, Starts, Writes}
-use Rattle.vt_world.specs.Rows.{free_deeds, out_deeds, row}
+use Rattle.vt_world.specs.Events.{row}
+use Rattle.vt_world.specs.Rows.{free_deeds, out_deeds}
 use Rattle.vt_world.specs.State.{WorldState}
 use Rattle.vt_world.specs.Tapes.{items_of, tape_after, unless_refused}
 use Rattle.vt_world.specs.Terminals.{said_of, terminal_at}

@@ -24,8 +24,9 @@ use Rattle.vt_world.specs.Deeds.{Deed, Asks, By, Coded, Own, OwnDeed, Puts, Rais
 use Rattle.vt_world.specs.Heard.{without_marks, apply_mark, apply_marks}
 use Rattle.vt_world.specs.History.{replay}
 use Rattle.vt_world.specs.Inputs.{input_at}
+use Rattle.vt_world.specs.Events.{row}
 use Rattle.vt_world.specs.Refusals.{is_empty, is_in_use, target}
-use Rattle.vt_world.specs.Rows.{disallocate_deeds, free_deeds, out_deeds, row, waits_unless}
+use Rattle.vt_world.specs.Rows.{disallocate_deeds, free_deeds, out_deeds, waits_unless}
 use Rattle.vt_world.specs.State.{WorldState, core}
 use Rattle.vt_world.specs.Step.{Outcome, step}
 use Rattle.vt_world.specs.StepLaws.{IsOneTranslation, OneTranslation, translations}

@@ -22,8 +22,9 @@ use Rattle.vt_world.specs.Deeds.{Deed, Collects, Own}
 use Rattle.vt_world.specs.Heard.{without_marks}
 use Rattle.vt_world.specs.History.{replay}
 use Rattle.vt_world.specs.RefusalLaws.{BrokenWaitsAreTaken, IsSameWithout, LaterAnswersStay, RefusalsCanGo, RefusalsChangeNothing, accepted_entries, calls, exchanges, is_refusal}
+use Rattle.vt_world.specs.Events.{row}
 use Rattle.vt_world.specs.Refusals.{caller, has_ticket, holds_ticket, is_empty, target}
-use Rattle.vt_world.specs.Rows.{ended_reply, row, row_of, waits_unless}
+use Rattle.vt_world.specs.Rows.{ended_reply, row_of, waits_unless}
 use Rattle.vt_world.specs.State.{WorldState}
 use Rattle.vt_world.specs.Step.{Outcome, outcome_of_row, row_result_after, row_result, step}
 

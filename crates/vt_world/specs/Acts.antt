@@ -6,10 +6,10 @@ use Rattle.vt_events.specs.declared.event.Event.{Event}
 use Rattle.vt_switch.specs.Acts.{SwitchAct, Request}
 use Rattle.vt_world.specs.Deeds.{Deed, Asks, By, Own, apply_deed}
 use Rattle.vt_world.specs.Heard.{without_marks}
-use Rattle.vt_world.specs.Rows.{row}
+use Rattle.vt_world.specs.Events.{own_refusals, row}
 use Rattle.vt_world.specs.State.{WorldState}
 use Rattle.vt_world.specs.Step.{step}
-use Rattle.vt_world.specs.Refusals.{common_refusals, first_refusal, own_refusals}
+use Rattle.vt_world.specs.Refusals.{common_refusals, first_refusal}
 use Rattle.vt_world.specs.Wanted.{wanted_in}
 
 abbrev pub request_of : Option ℕ → List SwitchAct

@@ -1,26 +1,19 @@
 -- What refuses each event, in order (ioctl_console(2)). The order of refusals is this project's own.
 use Rattle.std.specs.Prelude.{ℕ, ◌==◌, ◌&&◌, ◌||◌, ◌%◌, Bool, true, not, nat_le, nat_lt, List, [], ◌∷◌, length, Option, Some, None, Result, Ok, Err, false, is_some, unwrap_or, if◌then◌else◌}
-use Rattle.call_bytes.specs.Colours.{colours_in}
-use Rattle.call_bytes.specs.Pairs.{pairs_in}
-use Rattle.call_bytes.specs.Words.{words_in}
-use Rattle.key_syms.specs.Act.{is_action}
-use Rattle.key_tables.specs.Tables.{exists_in}
-use Rattle.scan_codes.specs.Groups.{is_scan}
 use Rattle.vt_base.specs.Keyboards.{is_keyboard}
 use Rattle.vt_base.specs.declared.errno.Errno.{Errno}
-use Rattle.vt_base.specs.declared.errno.Errno.TheVariants.{Srch, Intr, Nxio, Badf, Again, Busy, Inval, Notty, Perm}
+use Rattle.vt_base.specs.declared.errno.Errno.TheVariants.{Srch, Intr, Nxio, Badf, Inval, Notty, Perm}
 use Rattle.vt_base.specs.declared.vt_mode.VtMode.{VtMode}
 use Rattle.vt_events.specs.declared.event.Event.{Event}
 use Rattle.vt_events.specs.declared.event.Event.TheVariants as event
-use Rattle.vt_procs.specs.Callers.{caller_at, console_of, free_fd, has_open, is_live, is_opened}
-use Rattle.vt_procs.specs.Tickets.{is_open, waited_of}
+use Rattle.vt_procs.specs.Callers.{caller_at, console_of, has_open, is_live, is_opened}
+use Rattle.vt_procs.specs.Tickets.{waited_of}
 use Rattle.vt_procs.specs.declared.process.Process.{Process}
 use Rattle.vt_procs.specs.declared.waited.Waited.{Waited}
 use Rattle.vt_procs.specs.declared.waited.Waited.TheVariants as waited
-use Rattle.vt_switch.specs.Calls.{handling_of, is_held, release_result}
-use Rattle.vt_switch.specs.Display.{is_allocated}
+use Rattle.vt_switch.specs.Calls.{is_held}
 use Rattle.vt_world.specs.Inputs.{input_at}
-use Rattle.vt_world.specs.Spare.{is_console, is_extent}
+use Rattle.vt_world.specs.Spare.{is_console}
 use Rattle.vt_world.specs.State.{WorldState}
 
 -- what refuses an event with an error, where it applies
@@ -146,73 +139,6 @@ sets w p fd makes_sense = needs_open w p fd ∷ needs_right w p fd ∷ needs_sen
 -- and of one that tells something of it
 abbrev pub gets : WorldState → ℕ → ℕ → Bool → List Refusal
 gets w p fd makes_sense = needs_open w p fd ∷ needs_sense makes_sense ∷ []
-
--- what refuses an event, in order
-abbrev pub own_refusals : WorldState → ℕ → Event → List Refusal
-own_refusals w p (event.Scan b) = []
-own_refusals w p event.Exit = []
-own_refusals w p (event.OpenCon n) =
-    needs_console_or_0 n ∷ refusal (not (is_some (free_fd w.callers p))) Busy ∷ []
-own_refusals w p (event.CloseFd fd) = needs_open w p fd ∷ []
-own_refusals w p (event.Write fd b) = gets w p fd (nat_le (length b.bytes) transfer_limit)
-own_refusals w p (event.ReadIn fd most) =
-    needs_open w p fd ∷ needs_sense (nat_le 1 most && nat_le most transfer_limit)
-    ∷ refusal (is_empty w (target w p fd)) Again ∷ []
-own_refusals w p (event.WaitInput fd) =
-    needs_open w p fd ∷ needs_no_signal w p (is_empty w (target w p fd)) ∷ []
-own_refusals w p (event.WaitActive fd n) =
-    needs_open w p fd ∷ needs_right w p fd ∷ needs_console n
-    ∷ needs_no_signal w p (not (n == w.display.front)) ∷ []
-own_refusals w p event.WaitSignal = needs_no_signal w p true ∷ []
-own_refusals w p event.WaitEnd =
-    needs_sense (holds_ticket w p) ∷ refusal (is_open (caller w p).waiting) Again ∷ []
-own_refusals w p (event.Activate fd n) =
-    needs_open w p fd ∷ needs_right w p fd ∷ needs_console n ∷ refusal w.display.locked Busy ∷ []
-own_refusals w p (event.Disallocate fd n) =
-    needs_open w p fd ∷ needs_right w p fd ∷ needs_console_or_0 n
-    ∷ refusal (not (n == 0) && is_in_use w n) Busy ∷ []
-own_refusals w p (event.OpenQry fd) = needs_open w p fd ∷ []
-own_refusals w p (event.GetState fd) = needs_open w p fd ∷ []
-own_refusals w p (event.Resize fd rows cols) = sets w p fd (is_extent rows cols)
-own_refusals w p (event.LockSwitch fd) = needs_open w p fd ∷ needs_privilege w p ∷ []
-own_refusals w p (event.UnlockSwitch fd) = needs_open w p fd ∷ needs_privilege w p ∷ []
-own_refusals w p (event.SetKd fd m) = sets w p fd (nat_le m 1)
-own_refusals w p (event.GetKd fd) = needs_open w p fd ∷ []
-own_refusals w p (event.SetMode fd m wait r a f) =
-    sets w p fd (is_some (handling_of p (mode_of m wait r a f)))
-own_refusals w p (event.GetMode fd) = needs_open w p fd ∷ []
-own_refusals w p (event.RelDisp fd arg) =
-    sets w p fd (is_taken (release_result w.display (target w p fd) p arg))
-own_refusals w p (event.SetKb fd m) = sets w p fd (nat_le m 4)
-own_refusals w p (event.GetKb fd) = needs_open w p fd ∷ []
-own_refusals w p (event.SetMeta fd m) = sets w p fd (m == 3 || m == 4)
-own_refusals w p (event.GetMeta fd) = needs_open w p fd ∷ []
-own_refusals w p (event.SetLed fd v) = needs_open w p fd ∷ needs_right w p fd ∷ []
-own_refusals w p (event.GetLed fd) = needs_open w p fd ∷ []
-own_refusals w p (event.SetFlags fd v) = sets w p fd (is_flags v)
-own_refusals w p (event.GetFlags fd) = needs_open w p fd ∷ []
-own_refusals w p (event.SetEntry fd t code k v) =
-    sets w p fd (exists_in w.board.tables t && (is_keycode code && is_action k v))
-own_refusals w p (event.GetEntry fd t code) = gets w p fd (nat_le t 255 && is_keycode code)
-own_refusals w p (event.SetFunc fd i b) = sets w p fd (nat_le i 255 && nat_le (length b.bytes) 255)
-own_refusals w p (event.GetFunc fd i) = gets w p fd (nat_le i 255)
-own_refusals w p (event.SetDia fd b) = sets w p fd (is_some (pairs_in b.bytes))
-own_refusals w p (event.GetDia fd) = needs_open w p fd ∷ []
-own_refusals w p (event.SetCode fd scan code) = sets w p fd (is_scan scan && nat_le code 255)
-own_refusals w p (event.GetCode fd scan) = gets w p fd (is_scan scan)
-own_refusals w p (event.Accept fd s) = sets w p fd (is_signal s && not (s == 9))
-own_refusals w p (event.SetMap fd b) = sets w p fd (is_some (words_in b.bytes))
-own_refusals w p (event.GetMap fd) = needs_open w p fd ∷ []
-own_refusals w p (event.SetPal fd b) = sets w p fd (is_some (colours_in b.bytes))
-own_refusals w p (event.GetPal fd) = needs_open w p fd ∷ []
-own_refusals w p (event.Dump kind n) =
-    needs_sight w p (console_by_number w n) ∷ needs_console_or_0 n
-    ∷ needs_sense (nat_le kind 2 && is_allocated w.display (console_by_number w n)) ∷ []
-own_refusals w p event.TakeSignals = []
-own_refusals w p (event.Kill q s) =
-    refusal (not ((caller w p).privileged || q == p)) Perm
-    ∷ refusal (not (is_process q)) Nxio ∷ needs_sense (is_signal s)
-    ∷ refusal (not (is_live w.callers q)) Srch ∷ []
 
 -- a keyboard makes scans, and processes all others; both may end
 abbrev pub may_make : ℕ → Event → Bool

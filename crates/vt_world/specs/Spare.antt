@@ -1,5 +1,5 @@
 -- What an event needs beside the world, taken before.
-use Rattle.std.specs.Prelude.{◌≡◌, ◌≤◌, ⊤, ℕ, Bool, true, false, ◌&&◌, nat_le, Option, Some, None, [], if◌then◌else◌}
+use Rattle.std.specs.Prelude.{◌≡◌, ◌≤◌, ⊤, ℕ, Bool, ◌&&◌, nat_le, Option, Some, None, [], if◌then◌else◌}
 use Rattle.vt_base.specs.Bytes.{Text}
 use Rattle.vt_base.specs.declared.size.Size.{Size}
 use Rattle.vt_events.specs.Charge.{greatest_reply}
@@ -48,19 +48,6 @@ needed_grid size (event.Activate fd n) = if is_console n then Some size else Non
 needed_grid size (event.Resize fd rows cols) =
     if is_extent rows cols then Some (extent rows cols) else None
 needed_grid size e = None
-
--- the event may use the grid, or the buffer for its answer
-abbrev pub takes_spare : Event → Bool
-takes_spare (event.OpenCon n) = true
-takes_spare (event.ReadIn fd most) = true
-takes_spare (event.Activate fd n) = true
-takes_spare (event.Resize fd rows cols) = true
-takes_spare (event.GetFunc fd i) = true
-takes_spare (event.GetDia fd) = true
-takes_spare (event.GetMap fd) = true
-takes_spare (event.GetPal fd) = true
-takes_spare (event.Dump kind n) = true
-takes_spare e = false
 
 -- a grid of this size is there
 abbrev pub HasSize : Extent → Option GridView → Type 0

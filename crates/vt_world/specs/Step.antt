@@ -9,9 +9,10 @@ use Rattle.vt_events.specs.declared.reply.Reply.TheVariants as reply
 use Rattle.vt_procs.specs.Tickets.{after_idle_rule}
 use Rattle.vt_world.specs.Deeds.{apply_deeds}
 use Rattle.vt_world.specs.Heard.{without_marks}
-use Rattle.vt_world.specs.Rows.{EventRow, row}
+use Rattle.vt_world.specs.Events.{own_refusals, row}
+use Rattle.vt_world.specs.Rows.{EventRow}
 use Rattle.vt_world.specs.State.{WorldState}
-use Rattle.vt_world.specs.Refusals.{common_refusals, first_refusal, own_refusals}
+use Rattle.vt_world.specs.Refusals.{common_refusals, first_refusal}
 
 -- what a row leaves, and whether it refuses or answers
 pub record RowResult : Type 0 where

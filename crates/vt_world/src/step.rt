@@ -3,7 +3,7 @@ ghost use Rattle.vt_events.specs.Charge.{greatest_reply, text_of_reply};
 ghost use Rattle.vt_procs.specs.Callers.{caller_at, is_live};
 ghost use Rattle.vt_procs.specs.Tickets.{waited_of};
 ghost use Rattle.vt_procs.specs.declared.waited.Waited.{Waited};
-ghost use Rattle.vt_world.specs.Spare.{Fits, HasGrid, extent, needed_grid, takes_spare};
+ghost use Rattle.vt_world.specs.Spare.{Fits, HasGrid, extent, needed_grid};
 ghost use Rattle.vt_world.specs.Step.{HasOutcome, HasRowResult, row_result_after, outcome_of_result, own_row_result, plain_answer, step, text_of_answer};
 ghost use Rattle.vt_world.specs.Refusals.{common_refusals, ends_wait, error_of, first_refusal, may_make};
 
@@ -104,7 +104,7 @@ impl World {
         Ok(())
     }
 
-    // Carries out an event that the caller may make now.
+    // Carries out an event that the caller may make. Each arm is a rule of the table of events.
     fn carry_out(
         &mut self,
         p: CallerNo,
@@ -122,40 +122,21 @@ impl World {
         ensures bytes { length (text_of_answer result) ≤ greatest_reply event.now }
     {
         match event {
-            Event::OpenCon(n) => self.open(p, *n, grid),
-            Event::ReadIn(fd, most) => self.read_in(p, *fd, *most, reply),
-            Event::Activate(fd, n) => self.activate(p, *fd, *n, grid),
-            Event::Resize(fd, rows, cols) => self.resize(p, *fd, *rows, *cols, grid),
-            Event::GetFunc(fd, i) => self.get_func(p, *fd, *i, reply),
-            Event::GetDia(fd) => self.get_pairs(p, *fd, reply),
-            Event::GetMap(fd) => self.get_map(p, *fd, reply),
-            Event::GetPal(fd) => self.get_palette(p, *fd, reply),
-            Event::Dump(kind, n) => self.dump(p, *kind, *n, reply),
-            _ => self.carry_out_alone(p, event),
-        }
-    }
-
-    // Carries out an event that needs nothing beside the world.
-    fn carry_out_alone(&mut self, p: CallerNo, event: &Event) -> Result<Reply, Errno>
-        requires alone { takes_spare event.now ≡ false }
-        requires clear { self.old.trace.marks ≡ [] }
-        requires live { is_live self.old.callers p ≡ true }
-        requires free { ends_wait event.now ≡ false
-            → waited_of (caller_at self.old.callers p).waiting ≡ Waited.None }
-        ensures { HasRowResult (own_row_result self.old p event.now) self.new result }
-    {
-        match event {
             Event::Scan(b) => self.scan(p, *b),
             Event::Exit => self.exit(p),
+            Event::OpenCon(n) => self.open(p, *n, grid),
             Event::CloseFd(fd) => self.close(p, *fd),
             Event::Write(fd, b) => self.write(p, *fd, b),
+            Event::ReadIn(fd, most) => self.read_in(p, *fd, *most, reply),
             Event::WaitInput(fd) => self.wait_input(p, *fd),
             Event::WaitActive(fd, n) => self.wait_active(p, *fd, *n),
             Event::WaitSignal => self.wait_signal(p),
             Event::WaitEnd => self.wait_end(p),
+            Event::Activate(fd, n) => self.activate(p, *fd, *n, grid),
             Event::Disallocate(fd, n) => self.disallocate(p, *fd, *n),
             Event::OpenQry(fd) => self.open_query(p, *fd),
             Event::GetState(fd) => self.get_state(p, *fd),
+            Event::Resize(fd, rows, cols) => self.resize(p, *fd, *rows, *cols, grid),
             Event::LockSwitch(fd) => self.lock_switch(p, *fd),
             Event::UnlockSwitch(fd) => self.unlock_switch(p, *fd),
             Event::SetKd(fd, mode) => self.set_kd(p, *fd, *mode),
@@ -185,23 +166,19 @@ impl World {
             }
             Event::GetEntry(fd, table, code) => self.get_entry(p, *fd, *table, *code),
             Event::SetFunc(fd, i, b) => self.set_func(p, *fd, *i, b),
+            Event::GetFunc(fd, i) => self.get_func(p, *fd, *i, reply),
             Event::SetDia(fd, b) => self.set_pairs(p, *fd, b),
+            Event::GetDia(fd) => self.get_pairs(p, *fd, reply),
             Event::SetCode(fd, scan, code) => self.set_code(p, *fd, *scan, *code),
             Event::GetCode(fd, scan) => self.get_code(p, *fd, *scan),
             Event::Accept(fd, signal) => self.accept(p, *fd, *signal),
             Event::SetMap(fd, b) => self.set_map(p, *fd, b),
+            Event::GetMap(fd) => self.get_map(p, *fd, reply),
             Event::SetPal(fd, b) => self.set_palette(p, *fd, b),
+            Event::GetPal(fd) => self.get_palette(p, *fd, reply),
+            Event::Dump(kind, n) => self.dump(p, *kind, *n, reply),
             Event::TakeSignals => self.take_signals(p),
             Event::Kill(q, signal) => self.kill(p, *q, *signal),
-            Event::OpenCon(_)
-            | Event::ReadIn(_, _)
-            | Event::Activate(_, _)
-            | Event::Resize(_, _, _)
-            | Event::GetFunc(_, _)
-            | Event::GetDia(_)
-            | Event::GetMap(_)
-            | Event::GetPal(_)
-            | Event::Dump(_, _) => unreachable!(),
         }
     }
 }
