@@ -8,10 +8,11 @@ use Rattle.vt_world.proofs.world.World.carry_out.Goals as goal
 
 pub returns-in-Disallocate-clause-bytes : goal.returns-in-Disallocate-clause-bytes
 returns-in-Disallocate-clause-bytes c =
-    omega
-    (arith,
-    ap length
-    (no_bytes _ _ (event.Disallocate c.in-Disallocate.fd c.in-Disallocate.n) _ _ refl c.disallocate.ensures))
+    omega (
+      arith,
+      ap length
+          (no_bytes _ _ (event.Disallocate c.in-Disallocate.fd c.in-Disallocate.n) _ _ refl c.disallocate.ensures),
+    )
 
 pub returns-in-OpenQry-clause-bytes : goal.returns-in-OpenQry-clause-bytes
 returns-in-OpenQry-clause-bytes c =
@@ -20,12 +21,13 @@ returns-in-OpenQry-clause-bytes c =
 
 pub returns-in-SetEntry-clause-bytes : goal.returns-in-SetEntry-clause-bytes
 returns-in-SetEntry-clause-bytes c =
-    omega
-    (arith,
-    ap length
-    (no_bytes _ _
-    (event.SetEntry c.in-SetEntry.fd c.in-SetEntry.table c.in-SetEntry.code c.in-SetEntry.kind c.in-SetEntry.value)
-    _ _ refl c.set_entry.ensures))
+    omega (
+      arith,
+      ap length
+          (no_bytes _ _
+          (event.SetEntry c.in-SetEntry.fd c.in-SetEntry.table c.in-SetEntry.code c.in-SetEntry.kind c.in-SetEntry.value)
+          _ _ refl c.set_entry.ensures),
+    )
 
 pub returns-in-Dump-clause-effect : goal.returns-in-Dump-clause-effect
 returns-in-Dump-clause-effect c =
