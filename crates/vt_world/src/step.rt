@@ -15,8 +15,8 @@ use vt_grid::Grid;
 use vt_procs::Waited;
 
 impl World {
-    /// Takes a call of the caller and returns the answer, and the spare's second buffer, which it doesn't
-    /// use. It always returns, and takes no memory.
+    /// Takes a call of the caller and returns the answer, and the spare's second buffer, which it
+    /// doesn't use. It always returns, and allocates no memory.
     pub fn step(&mut self, caller: CallerNo, event: &Event, spare: Spare) -> (Reply, Bytes)
         requires fits { Fits self.old.rows self.old.cols event.now spare }
         ensures step { HasOutcome (step self.old caller event.now) self.new result.0 }
@@ -33,8 +33,8 @@ impl World {
         (answer, unused)
     }
 
-    /// The same step with a grid that is lent. It stays where the event doesn't use it; where a screen
-    /// is resized onto it, that screen's old grid stands in its place.
+    /// The same step with a grid that is lent. The grid stays if the event doesn't use it; if a
+    /// screen is resized onto it, the screen's old grid takes its place.
     pub(crate) fn step_on(
         &mut self,
         caller: CallerNo,
@@ -52,7 +52,7 @@ impl World {
         self.finish(caller, answer)
     }
 
-    // A refusal is answered by its error. After any other event comes the idle rule.
+    // Answers a refused event by its error. Applies the idle rule after any other event.
     fn finish(&mut self, p: CallerNo, answer: Result<Reply, Errno>) -> Reply
         ensures step { HasOutcome (outcome_of_result self.old (plain_answer answer)) self.new result }
         ensures bytes { text_of_reply result ≡ text_of_answer answer }
@@ -66,7 +66,7 @@ impl World {
         }
     }
 
-    // What refuses every event comes before what refuses this one.
+    // The tests of every event come before the event's own.
     fn take(
         &mut self,
         p: CallerNo,
@@ -85,7 +85,7 @@ impl World {
         self.carry_out(p, event, grid, reply)
     }
 
-    // What refuses any event of the caller.
+    // The tests of every event.
     fn may_take(&self, caller: CallerNo, event: &Event) -> Result<(), Errno>
         ensures first { error_of result ≡ first_refusal (common_refusals self.now caller event.now) }
         ensures live { IfOk result (λ passed. is_live self.now.callers caller ≡ true) }
@@ -183,8 +183,8 @@ impl World {
     }
 }
 
-// Whether the caller can make such an event: a keyboard makes scans, and processes all others; both
-// may end.
+// Whether the caller can make such an event: keyboards make scans, processes make all others, and
+// both may exit.
 fn may_make(caller: CallerNo, event: &Event) -> bool
     ensures { result ≡ may_make caller event.now }
 {
@@ -195,7 +195,7 @@ fn may_make(caller: CallerNo, event: &Event) -> bool
     }
 }
 
-// Whether a caller with a ticket may make the event: it may but ask how that ended.
+// Whether a caller with a wait may make the event: it may only ask how the wait ended.
 fn ends_wait(event: &Event) -> bool
     ensures { result ≡ ends_wait event.now }
 {
