@@ -6,7 +6,8 @@ use Rattle.std.specs.Prelude.{Option, Result, Ok, Err}
 use Rattle.turn_lock.specs.declared.seal.Seal.{Seal}
 use Rattle.vt_base.specs.Bytes.{Text}
 use Rattle.vt_base.specs.declared.errno.Errno.{Errno}
-use Rattle.vt_events.specs.Plain.{plain_event, plain_reply, text}
+use Rattle.vt_events.specs.Kinds.{text}
+use Rattle.vt_events.specs.Plain.{plain_event, plain_reply}
 use Rattle.vt_events.specs.Waits.{is_wait}
 use Rattle.vt_events.specs.declared.entry.Entry.{Entry}
 use Rattle.vt_events.specs.declared.event.Event.{Event}

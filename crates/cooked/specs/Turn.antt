@@ -1,7 +1,8 @@
 -- A turn: one byte is read, and what it echoes is written. This project's own.
 use Rattle.std.specs.Prelude.{◌≡◌, ◌≤◌, ◌⊎◌, ⊤, ℕ, false, List, [], ◌∷◌, ◌++◌, length, Option, Some, None, Result, Ok, Err}
 use Rattle.turn_lock.specs.declared.seal.Seal.{Seal}
-use Rattle.vt_events.specs.Plain.{plain_event, plain_reply, text}
+use Rattle.vt_events.specs.Kinds.{text}
+use Rattle.vt_events.specs.Plain.{plain_event, plain_reply}
 use Rattle.vt_events.specs.declared.entry.Entry.{Entry}
 use Rattle.vt_events.specs.declared.event.Event.TheVariants as event
 use Rattle.vt_events.specs.declared.reply.Reply.{Reply}

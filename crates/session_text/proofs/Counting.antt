@@ -9,7 +9,7 @@ use Rattle.table_fields.specs.Checked.{check, collect, fault, ◌>>=◌}
 use Rattle.table_fields.specs.declared.fault.TableFault.{TableFault}
 use Rattle.toml.specs.Data.{Data, Items, as_array, as_str}
 use Rattle.vt_base.specs.Bytes.{Text}
-use Rattle.vt_events.specs.Plain.{text}
+use Rattle.vt_events.specs.Kinds.{text}
 use Rattle.session_text.specs.Keyboards.{further_items_of, further_of, keyboards_of}
 
 one_more : {B : Type 0} (r : Result B TableFault) (more : Result (List B) TableFault) (n : ℕ) (ys : List B)

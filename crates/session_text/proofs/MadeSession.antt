@@ -3,7 +3,7 @@ use Rattle.std.proofs.Common.{◌≡◌, ℕ, ◌+◌, List, [], ◌∷◌, ◌+
 use Rattle.std.proofs.lemmas.List.{length-map}
 use Rattle.key_compile.specs.Compiled.{AreTablesOf}
 use Rattle.vt_base.specs.Bytes.{Text}
-use Rattle.vt_events.specs.Plain.{text}
+use Rattle.vt_events.specs.Kinds.{text}
 use Rattle.session_text.specs.Parts.{AreOf, IsMadeOf}
 use Rattle.session_text.specs.Sessions.{IsSessionOf, SessionValue, SessionView, keys_of, script_of}
 use Rattle.session_text.specs.declared.opening.SessionHeader.{SessionHeader}

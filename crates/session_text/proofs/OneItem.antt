@@ -2,7 +2,7 @@
 use Rattle.std.proofs.Common.{◌≡◌, ℕ, Bool, false, eqb, refl, true≢false, List, ◌∷◌, codes, decimal, Ok, Err, inl, inr, ap, sym, ◌∙◌, arith}
 use lib.Pointwise.{pointwise}
 use Rattle.std.proofs.lemmas.Fmt.{decimal_injective}
-use Rattle.vt_events.specs.Plain.{text as bytes_of}
+use Rattle.vt_events.specs.Kinds.{text as bytes_of}
 use Rattle.vt_events.specs.declared.event.Event.{Event}
 use Rattle.vt_events.specs.declared.event.Event.TheVariants as event
 use Rattle.vt_journal.specs.Calls.{name_of}

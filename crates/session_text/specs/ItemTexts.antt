@@ -3,7 +3,7 @@ use Rattle.std.specs.Prelude.{◌≡◌, ℕ, ◌+◌, ◌<◌, ◌^◌, Bool, t
 use Rattle.table_fields.specs.FaultCodes.{SCRIPT_ITEM}
 use Rattle.table_fields.specs.Checked.{fault}
 use Rattle.table_fields.specs.declared.fault.TableFault.{TableFault}
-use Rattle.vt_events.specs.Plain.{text as bytes_of}
+use Rattle.vt_events.specs.Kinds.{text as bytes_of}
 use Rattle.vt_events.specs.declared.event.Event.{Event}
 use Rattle.vt_events.specs.declared.event.Event.TheVariants as event
 use Rattle.vt_journal.specs.Words.{Spells, joined_by_blanks}

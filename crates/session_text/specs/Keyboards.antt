@@ -8,7 +8,7 @@ use Rattle.table_fields.specs.FaultCodes.{FURTHER_SCAN_BYTE, OUT_OF_RANGE}
 use Rattle.table_fields.specs.Fields.{bytes_of, few_items_of, keymap_of, scan_bytes_of, text_of, texts_of}
 use Rattle.table_fields.specs.declared.fault.TableFault.{TableFault}
 use Rattle.toml.specs.Data.{Data, Members, as_str, get_member}
-use Rattle.vt_events.specs.Plain.{text}
+use Rattle.vt_events.specs.Kinds.{text}
 use Rattle.session_text.specs.declared.keyboard.SessionKeyboard.{SessionKeyboard}
 
 -- the lines of the keymap, and the scan bytes of the first keyboard

@@ -8,7 +8,7 @@ use Rattle.toml.specs.View.{table_view}
 use Rattle.toml.specs.declared.value.Value.{Value}
 use Rattle.table_fields.specs.Fields.{most_scan_bytes}
 use Rattle.vt_base.specs.Bytes.{Text}
-use Rattle.vt_events.specs.Plain.{text}
+use Rattle.vt_events.specs.Kinds.{text}
 use Rattle.session_text.specs.Keyboards.{IsKeyboardOf}
 use Rattle.session_text.specs.Openings.{IsOpening}
 use Rattle.session_text.specs.Scripts.{IsScript}

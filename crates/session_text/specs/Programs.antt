@@ -9,7 +9,8 @@ use Rattle.vt_base.specs.Keyboards.{keyboard_of}
 use Rattle.vt_base.specs.Signals.{has_signal}
 use Rattle.vt_base.specs.declared.errno.Errno.{Errno}
 use Rattle.vt_base.specs.declared.errno.Errno.TheVariants as errno
-use Rattle.vt_events.specs.Plain.{plain_event, text}
+use Rattle.vt_events.specs.Kinds.{text}
+use Rattle.vt_events.specs.Plain.{plain_event}
 use Rattle.vt_events.specs.Waits.{is_wait}
 use Rattle.vt_events.specs.declared.event.Event.{Event}
 use Rattle.vt_events.specs.declared.event.Event.TheVariants as event

@@ -8,7 +8,7 @@ use Rattle.table_fields.specs.Fields.{document_of, most_scan_bytes}
 use Rattle.table_fields.specs.declared.fault.TableFault.{TableFault}
 use Rattle.toml.specs.Data.{Members}
 use Rattle.vt_base.specs.ConsoleSet.{IsFitSet}
-use Rattle.vt_events.specs.Plain.{text}
+use Rattle.vt_events.specs.Kinds.{text}
 use Rattle.vt_journal.specs.declared.limits.Limits.{Limits}
 use Rattle.vt_procs.specs.Callers.{IsFitCount}
 use Rattle.vt_procs.specs.declared.config.Config.{Config}

@@ -4,7 +4,7 @@ ghost use Rattle.std.specs.List.{All};
 ghost use Rattle.table_fields.specs.Checked.{Gives, GivesBy, collect};
 ghost use Rattle.table_fields.specs.Fields.{bytes_of, few_items_of, most_scan_bytes};
 ghost use Rattle.toml.specs.View.{view};
-ghost use Rattle.vt_events.specs.Plain.{text};
+ghost use Rattle.vt_events.specs.Kinds.{text};
 ghost use Rattle.session_text.specs.Keyboards.{further_of, keyboards_of};
 ghost use Rattle.session_text.specs.Parts.{IsFitFurther};
 
