@@ -1,4 +1,5 @@
--- The answer to a call holds no bytes if its row has none: for the arms of `carry_out` that the search leaves open.
+-- The answer to a call holds no bytes if its row has none: for arms of `carry_out` that the search
+-- leaves open.
 use Rattle.std.proofs.Common.{ap, ◌∙◌, sym}
 use Rattle.std.specs.Prelude.{◌≡◌, refl, ℕ, [], Option, Some, None, Result, Ok, Err}
 use Rattle.vt_base.specs.declared.errno.Errno.{Errno}

@@ -1,4 +1,4 @@
--- In no event a request comes before a release, an end or a signal that is raised by itself.
+-- In no event a request comes before a release, an end or a signal that is raised without an act.
 use Rattle.std.proofs.Common.{◌≡◌, ℕ, Bool, true, false, cond, List, [], ◌∷◌, ◌++◌, filter, flat_map, Option, Some, None, refl}
 use Rattle.std.specs.List.{range_with_len}
 use Rattle.std.specs.Prelude.{unwrap_or, ◌&&◌, ◌||◌, ◌==◌, not}

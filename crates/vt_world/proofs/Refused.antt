@@ -1,4 +1,5 @@
--- An event that is refused has no other effect. The row stays as it is: it may speak of all consoles.
+-- A refused event has no other effect. The proof keeps the row as a variable: it may be about all
+-- consoles.
 use Rattle.std.proofs.Common.{◌≡◌, ℕ, Option, Some, Err, ap, sym, ◌∙◌}
 use Rattle.std.specs.Prelude.{Result}
 use Rattle.vt_base.specs.declared.errno.Errno.{Errno}

@@ -1,4 +1,4 @@
--- What an event tells of the display is what its acts tell, one after another.
+-- The marks of an event about the display are those of its acts, one after another.
 use Rattle.std.proofs.Common.{◌≡◌, ℕ, Bool, true, false, cond, List, [], ◌∷◌, ◌++◌, Option, Some, None, refl, sym, ap, ◌∙◌}
 use Rattle.std.specs.Prelude.{◌&&◌, ◌||◌, not}
 use Rattle.vt_events.specs.declared.event.Event.{Event}

@@ -1,4 +1,4 @@
--- What an event tells: what its acts tell, and signals that were raised beside them.
+-- The marks of an event: those of its acts, and signals that were raised without an act.
 use Rattle.std.proofs.Common.{◌≡◌, ℕ, Bool, true, false, cond, List, [], ◌∷◌, ◌++◌, Option, Some, None, refl, sym, ap, subst, subst₂, ◌∙◌, append_assoc, append-nil}
 use Rattle.std.specs.List.{list_all}
 use Rattle.vt_switch.specs.Acts.{SwitchAct, Request}

@@ -1,4 +1,4 @@
--- All keyboards have one translation.
+-- All keyboards have the same keycodes.
 use Rattle.std.proofs.Common.{◌≡◌, ℕ, zero, suc, Bool, true, false, List, [], ◌∷◌, ◌++◌, flat_map, map, filter, Option, Some, None, refl, sym, ap, ◌∙◌, subst}
 use Rattle.std.proofs.lemmas.Bool.{and_from, and_parts, false≢true}
 use Rattle.std.proofs.lemmas.List.Folds.{list_all-append}
@@ -154,7 +154,7 @@ scans : (raw : Bool) (w : WorldState) (k n b : ℕ)
 scans true w k n b = reads w (apply_deed w (Own (Puts n (b ∷ [])))) k n b refl
 scans false w k n b = reads w w k n b refl
 
--- one translation stays one
+-- keyboards with the same keycodes keep them the same
 alike : (w v : WorldState) → translations v ≡ translations w → IsOneTranslation w → IsOneTranslation v
 alike w v same one = (one.0, same ∙ one.1)
 

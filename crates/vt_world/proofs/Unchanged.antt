@@ -1,4 +1,4 @@
--- A refused call is as one that was never made.
+-- A refused call has no effect.
 use Rattle.std.proofs.Common.{◌≡◌, ℕ, zero, suc, Bool, true, false, cond, List, [], ◌∷◌, get_or, set, Some, None, refl, sym, ap, ◌∙◌}
 use Rattle.std.specs.List.{list_any}
 use Rattle.std.specs.Prelude.{◌==◌, ◌&&◌, ◌||◌, not}
@@ -61,7 +61,7 @@ refusals_change_nothing w p e =
     w p e (λ errno refused. refl)
     (λ passed refused. differ (sym (row_accepts (without_marks w) p e) ∙ refused))
 
--- what is told of an event before makes no difference
+-- the trace of an earlier event makes no difference
 untold : (w : WorldState) (entries : List Entry)
     → exchanges (without_marks w) entries ≡ exchanges w entries
 untold w [] = refl
@@ -163,7 +163,7 @@ abbrev tells_signal : Reply → Bool
 tells_signal (reply.Err Intr) = true
 tells_signal answer = false
 
--- how a wait ended, told to a live process
+-- a live process learns how its wait ended
 own_end : (v : WorldState) (p : ℕ) (ended : Waiting) → is_live v.callers p ≡ true
     → (caller v p).waiting ≡ ended
     → (outcome_of_row
