@@ -38,7 +38,7 @@ array_count as_kind part key (Some d) xs is = in_array (as_array d) is
     in_array (Some items) is =
         length-collect (λ n d. ok_or (as_kind d) (fault WRONG_KIND part key)) 1 (values_of items) xs is
 
--- few texts were read, of as many items as there are texts
+-- at most three texts were read, with as many lists of items as there are texts
 checked_items : (texts : List (List ℕ)) (few : Bool) (items : List (List (List ℕ))) → nat_le (length texts) 3 ≡ few
     → (check few (fault OUT_OF_RANGE 0 12) >>= (λ _. collect (λ k text. few_items_of 0 12 text) 1 texts)) ≡ Ok items
     → (length items ≡ length texts) × (length texts ≤ 3)
@@ -65,7 +65,7 @@ further_items d (Ok items) further read is =
     (length-collect (bytes_of FURTHER_SCAN_BYTE) 1 items further is ∙ counted.0, counted.1)
 further_items d (Err e) further read is = cc
 
--- there are as many keyboards as the first and the further ones that were read
+-- there are as many keyboards as the first one and the further ones that were read
 pub further_count : (d : Option Data) (further : List (List ℕ)) (read : List Text) → further_of d ≡ Ok further
     → read ≡ map text further → keyboards_of d ≡ length read + 1
 further_count d further read is are =

@@ -36,7 +36,7 @@ pub record AreFit (parts : SessionParts) : Type 0 where
   pub scripts : All (λ (process : Process). IsScript process.items) parts.processes.items
   pub further : IsFitFurther parts.further.items
 
--- a session's table that was read, but for its processes
+-- the keys of a session's table except its processes, as code reads them
 pub record IsTop (code : CodeTop) (top : Top) : Type 0 where
   pub opening : code.opening ≡ top.opening
   pub keyboard : IsKeyboardOf code.keyboard top.typed
@@ -44,7 +44,7 @@ pub record IsTop (code : CodeTop) (top : Top) : Type 0 where
   pub tables : map (λ (table : Bor (BTreeMap (String Global) Value)). table_view table.now) code.tables.items ≡ top.tables
   pub further : code.further.items ≡ map text top.further
 
--- what is kept of it
+-- the bounds that the code's values of these keys keep
 pub record IsFitTop (code : CodeTop) : Type 0 where
   pub opening : IsOpening code.opening
   pub keys : length code.keyboard.keys.bytes ≤ most_scan_bytes

@@ -120,6 +120,7 @@ pub enum Event {
 
 impl Event {
     /// A copy of the call, whose bytes have no spare room.
+    #[tactic(auto, using(crate::proofs::Calls::of_kind))]
     pub fn copy(&self, alloc: Global) -> Result<Event, NoMemory>
         ensures { IfOk result (λ copy. copy ≡ plain_event self.now) }
     {

@@ -103,14 +103,14 @@ impl Kind {
         form_of(self).numbers
     }
 
-    /// Whether bytes follow them.
+    /// Whether bytes follow the numbers.
     pub fn holds_bytes(self) -> bool
         ensures { result ≡ is_some (held_of (blank self)) }
     {
         form_of(self).bytes
     }
 
-    /// Whether a call may hold that many bytes: one of a scan holds one.
+    /// Whether a call of this kind may hold that many bytes. A scan holds one.
     pub fn takes(self, bytes: usize) -> bool
         ensures { result ≡ takes self bytes }
     {
