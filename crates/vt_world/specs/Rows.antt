@@ -6,7 +6,7 @@ use Rattle.key_machine.specs.Keys.{State}
 use Rattle.key_syms.specs.Act.{Act, act}
 use Rattle.vt_base.specs.declared.errno.Errno.TheVariants.{Intr}
 use Rattle.vt_dump.specs.Dumps.{codes_bytes, vcs_bytes, vcsa_bytes}
-use Rattle.vt_events.specs.Plain.{text}
+use Rattle.vt_events.specs.Kinds.{text}
 use Rattle.vt_events.specs.declared.reply.Reply.{Reply}
 use Rattle.vt_events.specs.declared.reply.Reply.TheVariants as reply
 use Rattle.vt_procs.specs.Callers.{is_opened}

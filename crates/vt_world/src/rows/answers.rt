@@ -1,7 +1,8 @@
 //! Answers with bytes.
 ghost use Rattle.std.specs.Prelude.{◌≡◌, ◌≤◌, [], length};
 ghost use Rattle.vt_events.specs.Charge.{text_of_reply};
-ghost use Rattle.vt_events.specs.Plain.{plain_reply, text};
+ghost use Rattle.vt_events.specs.Kinds.{text};
+ghost use Rattle.vt_events.specs.Plain.{plain_reply};
 ghost use Rattle.vt_events.specs.declared.reply.Reply.TheVariants as reply;
 
 use vt_base::Bytes;
