@@ -16,6 +16,9 @@ tools/api.py writes) and those of examples/ and models/. Each block is one of th
   well formed.
 - It stands in LEFT, with the reason why nothing runs it.
 
+The literal blocks of man/ have commands, or are in MANUALS with what checks them; tools/check_pages.py gives those of
+vt-session(5) and vt-keymap(5) to `vt`.
+
 `--list` prints each block with what checks it. Prints a line for each fault, and ends with status 1 if there is one.
 """
 import pathlib
@@ -28,6 +31,7 @@ sys.dont_write_bytecode = True
 from check_pages import PROGRAM, SECONDS, TOP  # noqa: E402: after the line that keeps tools/ clean
 from check_snippets import stands_in  # noqa: E402
 
+DRAWING, FORM, USAGE = "a drawing", "the form of lines, with names for their parts", "a usage line with names for its parts"
 # The tools that check the commands and files of a page in a folder of its own.
 ELSEWHERE = {
     "docs/guide/test-a-terminal-program.md": "check_expect.py",
@@ -35,6 +39,11 @@ ELSEWHERE = {
     "docs/guide/display-server.md": "check_watch.py",
     "docs/library/c.md": "check_c.py",
 }
+# What checks the blocks of man/ that have no commands.
+MANUALS = {
+    "vt-session.5": "check_pages.py", "vt-keymap.5": "check_pages.py", "vt.3": "check_c.py",
+    "vt-journal.5": f"nothing: {FORM}",
+}  # fmt: skip
 # The tools that check single blocks, by their first words.
 OTHERS = {"docs/guide/write-a-terminal.md": {"import json": "check_pages.py"}}
 # The tools that look for the quoted lines of a journal.
@@ -43,7 +52,6 @@ QUOTED = re.compile(r"[kp]\d+ \d+ .* = .*")
 FILE = re.compile(r"`((?:crates|examples|include)/[\w/.-]+)`")
 NAMED = re.compile(r"`[\w/.-]+\.\w+`")
 # The first words of blocks that nothing runs, with the reason.
-DRAWING, FORM, USAGE = "a drawing", "the form of lines, with names for their parts", "a usage line with names for its parts"
 LEFT = {
     "README.md": {"keyboard    a": DRAWING},
     "docs/REDRAW.md": {"example_redraw 25 80": USAGE, "modes that the rows need": "the order of the parts of a text"},
@@ -163,6 +171,12 @@ def main():
             if "--list" in sys.argv[1:]:
                 print(f"{page}:{number}: {block[0][:60]}: {by}")
             faults += [f"{page}:{number}: {fault}" for fault in found]
+    for path in sorted((TOP / "man").iterdir()):
+        for block in re.findall(r"^\.Bd -literal.*\n((?:.*\n)*?)\.Ed$", path.read_text(encoding="utf-8"), re.M):
+            by = "check_pages.py" if block.startswith("$ ") else MANUALS.get(path.name)
+            if "--list" in sys.argv[1:]:
+                print(f"man/{path.name}: {block.splitlines()[0][:60]}: {by}")
+            faults += [] if by else [f"man/{path.name}: no check has the block\n{block}"]
     for page, words in LEFT.items():
         faults += [f"{page}: no block begins with {it}" for it, why in words.items() if (page, f"nothing: {why}") not in used]
     for fault in faults:
