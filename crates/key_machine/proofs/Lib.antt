@@ -5,5 +5,4 @@ pub mod Histories
 pub mod Medium
 pub mod Outs
 pub mod Places
-pub mod Strings
 pub mod Unplugging

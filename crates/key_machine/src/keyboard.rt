@@ -173,7 +173,7 @@ impl Keyboard {
             kind::CHARACTER | kind::LETTER => self.type_character(t, v, s),
             kind::META => sent(meta_bytes(s.meta, v as u8)),
             kind::FUNCTION => ShortOut::Function(v as u8),
-            kind::PAD => pad_out(t, m, weight, s.flags, v),
+            kind::PAD => pad_out(m, weight, s.flags, v),
             kind::CURSOR => sent(cursor_bytes(m.cursor, v)),
             kind::DEAD => self.type_accent(t, v, s),
             kind::LOCK => {

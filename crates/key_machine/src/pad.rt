@@ -6,7 +6,6 @@ ghost use Rattle.key_tables.specs.Tables.{Tables};
 
 use crate::bytes::{return_bytes, sent};
 use crate::{FewBytes, KeyModes, ShortOut, cursor, flag, function};
-use key_tables::KeyTables;
 
 /// KP_Enter.
 pub(crate) const ENTER: u16 = 14;
@@ -41,9 +40,9 @@ fn cursor_letter(v: u16) -> u8
 
 /// The bytes of a key of the pad, with the weight of the modifiers that are down.
 #[tactic(auto, unfolding(crate::specs::Pads::pad_bytes), using(crate::proofs::Outs::outs))]
-pub(crate) fn pad_out(t: &KeyTables, m: KeyModes, weight: u8, flags: u8, v: u16) -> ShortOut
+pub(crate) fn pad_out(m: KeyModes, weight: u8, flags: u8, v: u16) -> ShortOut
     requires { v ≤ 16 }
-    ensures { out_with t.now result ≡ out_of (pad_bytes t.now m weight flags v) }
+    ensures { (tables : Tables) → out_with tables result ≡ out_of (pad_bytes tables m weight flags v) }
 {
     if m.keypad && weight == 0 {
         sent(FewBytes::of(&[0x1B, b'O', letter(v)]))

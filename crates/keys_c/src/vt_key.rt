@@ -24,6 +24,7 @@ pub struct VtKey {
 
 impl VtKey {
     /// Writes the result of a scan byte. In K_RAW that is the byte itself, unless the attention key acts.
+    #[tactic(auto, using(crate::proofs::RawOuts::raw_outs))]
     pub(crate) fn hand_over(&mut self, mode: u8, byte: u8, out: &ShortOut, from: &KeymapKeyboard)
         ensures { self.new ≡ vt_key_of (out_in_mode mode byte (out_with from.now.tables out.now)) self.old }
     {
@@ -55,8 +56,11 @@ impl VtKey {
         requires { length text.now ≤ 255 }
         ensures { self.new ≡ vt_key_of (out_of text.now) self.old }
     {
-        let kind = if text.is_empty() { 0 } else { 1 };
-        self.put(kind, 0, text);
+        if text.is_empty() {
+            self.put(0, 0, &[]);
+        } else {
+            self.put(1, 0, text);
+        }
     }
 
     fn put(&mut self, kind: u8, number: u8, bytes: &[u8])
