@@ -7,9 +7,11 @@ use Rattle.std.proofs.lemmas.List.Elements.{All-append, All-cons, All-nil, All-w
 use Rattle.std.proofs.lemmas.List.Folds.{list_all-append}
 use Rattle.std.proofs.lemmas.List.Splits.{slice_split_at, slice_split_none}
 use Rattle.std.proofs.lemmas.List.Sums.{AllPass-from_list_all}
+use Rattle.vt_events.specs.Calls.{held_of, kind_of, numbers_of}
+use Rattle.vt_events.specs.Kinds.{name_of}
 use Rattle.vt_events.specs.declared.event.Event.{Event}
-use Rattle.vt_events.specs.declared.event.Event.TheVariants as event
-use Rattle.vt_journal.specs.Calls.{held_of, name_of, numbers_of}
+use Rattle.vt_events.specs.declared.kind.Kind.{Kind}
+use Rattle.vt_events.specs.declared.kind.Kind.TheVariants as calls
 use Rattle.vt_journal.specs.Cut.{words_of_text}
 use Rattle.vt_journal.specs.Hex.{hex_byte, hex_digit}
 use Rattle.vt_journal.specs.Lines.{IsLine}
@@ -80,9 +82,9 @@ pub are_clear-append : (u v : List (List ℕ)) → are_clear u ≡ true → are_
 are_clear-append u v first others = list_all-append is_clear u v ∙ (λ j. first j && others j)
 
 -- names are clear
-pub is_clear_name : (e : Event) → is_clear (name_of e) ≡ true
-is_clear_name (event.Scan b) = refl
-is_clear_name e = refl
+pub is_clear_name : (k : Kind) → is_clear (name_of k) ≡ true
+is_clear_name calls.Exit = refl
+is_clear_name k = refl
 
 -- numbers are clear
 pub is_clear-decimal : (n : ℕ) → n < 2 ^ 64 → is_clear (decimal n) ≡ true
@@ -133,4 +135,4 @@ are_clear-event e fit =
     let others =
     are_clear-append (map decimal (numbers_of e)) (held_words (held_of e))
     (are_clear_decimals (numbers_of e) numbers) (are_clear_held (held_of e)) in
-    λ j. is_clear_name e j && others j
+    λ j. is_clear_name (kind_of e) j && others j

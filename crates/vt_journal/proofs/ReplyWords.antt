@@ -20,7 +20,7 @@ use Rattle.vt_journal.specs.Replies.{IsAnswer, IsFitReply, Within, kind_of, most
 use Rattle.vt_journal.specs.Words.{held_words, reply_words}
 use Rattle.vt_journal.specs.declared.reply_kind.ReplyKind.{ReplyKind}
 use Rattle.vt_journal.specs.declared.reply_kind.ReplyKind.TheVariants as kind
-use Rattle.vt_journal.proofs.Calls.{held_if}
+use Rattle.vt_events.proofs.Calls.{held_if}
 use Rattle.vt_journal.proofs.Clear.{are_clear, are_clear-append, are_clear_decimals, are_clear_held, is_clear}
 use Rattle.vt_journal.proofs.Spellings.{decimals_injective, fit_bytes, held_injective, split_numbers}
 
