@@ -58,7 +58,7 @@ kind_is words u k e rest is named =
       kind = subst (λ k. IsOfKind k e) (kind_once (kind_of e) k name) (of_kind e);
     }
 
--- as many numbers, and then what follows them
+-- as many numbers, and the words after them
 pub split_numbers : (ms ns : List ℕ) (u v : List (List ℕ)) → length ms ≡ length ns
     → map decimal ms ++ u ≡ map decimal ns ++ v → (map decimal ms ≡ map decimal ns) × (u ≡ v)
 split_numbers [] [] u v many same = (refl, same)
@@ -70,7 +70,7 @@ split_numbers (m ∷ ms) (n ∷ ns) u v many same =
     let both = split_numbers ms ns u v (omega arith) others in
     (λ j. first j ∷ both.0 j, both.1)
 
--- behind its name and as many numbers stand a call's bytes
+-- after its name and as many numbers come a call's bytes
 pub bytes_are : (words u v : List (List ℕ)) (k : Kind) (ns : List ℕ) (held : Bool) (e : Event)
     (rest : List (List ℕ)) → words ≡ event_words e ++ rest → words ≡ name_of k ∷ u
     → u ≡ map decimal ns ++ v → length ns ≡ length (numbers_of (blank k)) → held ≡ holds (blank k)
@@ -103,7 +103,7 @@ decimals_injective (m ∷ ms) (n ∷ ns) fit_m fit_n same =
     (λ k d within. fit_n (suc k) d (omega arith)) others in
     λ j. head j ∷ tail j
 
--- bytes are read back from their word, and so is what follows them
+-- bytes are read back from their word, and so are the words after them
 pub held_injective : (held : Bool) (a b : List ℕ) (u v : List (List ℕ)) → All (λ x. x < 2 ^ 8) a
     → All (λ x. x < 2 ^ 8) b → held_words (held_if held a) ++ u ≡ held_words (held_if held b) ++ v
     → (held_if held a ≡ held_if held b) × (u ≡ v)
@@ -132,7 +132,7 @@ takes_all words u v w k ns b held e rest is named numbers bytes many same fit_b 
     ∙ takes_held k (bytes_of e)
     ∙ (kind_is words u k e rest is named).kind.takes
 
--- words are one call and what follows it
+-- words are one call and the words after it
 pub event_once : (d e : Event) (u v : List (List ℕ)) → IsFit d → IsFit e → plain_event d ≡ d
     → plain_event e ≡ e → event_words d ++ u ≡ event_words e ++ v → (d ≡ e) × (u ≡ v)
 event_once d e u v fit_d fit_e plain_d plain_e same =
@@ -166,7 +166,7 @@ spelled_once text d e sd se =
     (event_once d e [] [] sd.fit se.fit sd.plain se.plain
     (ap (λ words. words ++ []) (sym (cut_parts text d sd) ∙ cut_parts text e se))).0
 
--- the call made of what was read has these words
+-- the call made of the kind, numbers and bytes that were read has these words
 pub record IsRead (words : List (List ℕ)) (e : Event) (rest : List (List ℕ)) : Type 0 where
   pub parts : words ≡ event_words e ++ rest
   pub fit : IsFit e
