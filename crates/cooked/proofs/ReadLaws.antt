@@ -19,8 +19,8 @@ use Rattle.vt_events.specs.declared.reply.Reply.TheVariants as reply
 use Rattle.vt_world.specs.Heard.{without_marks}
 use Rattle.vt_world.specs.History.{IsLegal, replay}
 use Rattle.vt_world.specs.Inputs.{input_at}
-use Rattle.vt_world.specs.Refusals.{Refusal, common_refusals, first_refusal, is_empty, needs_open, needs_sense, own_refusals, refusal, target, transfer_limit}
-use Rattle.vt_world.specs.Rows.{row}
+use Rattle.vt_world.specs.Events.{own_refusals, row}
+use Rattle.vt_world.specs.Refusals.{Refusal, common_refusals, first_refusal, is_empty, needs_open, needs_sense, refusal, target, transfer_limit}
 use Rattle.vt_world.specs.State.{WorldState}
 use Rattle.vt_world.specs.Step.{outcome_of_row, row_result_after, row_result, step}
 use Rattle.cooked.specs.Turn.{ReadAnswer, WriteAnswer}

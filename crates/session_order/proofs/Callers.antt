@@ -27,7 +27,8 @@ use Rattle.vt_switch.specs.Acts.{hop_of}
 use Rattle.vt_switch.specs.declared.mark.Mark.TheVariants as mark
 use Rattle.vt_world.specs.Deeds.{apply_deeds}
 use Rattle.vt_world.specs.Heard.{without_marks, apply_mark, apply_marks}
-use Rattle.vt_world.specs.Rows.{EventRow, row}
+use Rattle.vt_world.specs.Events.{row}
+use Rattle.vt_world.specs.Rows.{EventRow}
 use Rattle.vt_world.specs.State.{WorldState, core}
 use Rattle.vt_world.specs.Step.{Outcome, step}
 use Rattle.vt_world.specs.Refusals.{ends_wait, may_make}

@@ -33,7 +33,8 @@ use Rattle.vt_procs.specs.declared.waiting.Waiting.TheVariants.{Nothing, Open, D
 use Rattle.session_order.proofs.Steps.{Accepted, RefusedByAll, RefusedByOwn, StepDoes, step_does}
 use Rattle.vt_world.specs.Heard.{without_marks}
 use Rattle.vt_world.specs.History.{IsLegal, IsNext, replay}
-use Rattle.vt_world.specs.Rows.{ended_reply, row, waits_unless}
+use Rattle.vt_world.specs.Events.{row}
+use Rattle.vt_world.specs.Rows.{ended_reply, waits_unless}
 use Rattle.vt_world.specs.State.{WorldState}
 use Rattle.vt_world.specs.Step.{Outcome, step}
 use Rattle.vt_world.specs.Refusals.{caller, is_empty, target}

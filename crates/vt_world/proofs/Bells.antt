@@ -1,4 +1,4 @@
--- The bells of a text, counted piece by piece.
+-- The BELs of a text, counted piece by piece.
 use Rattle.std.proofs.Common.{◌≡◌, ◌≤◌, ℕ, ◌+◌, min, List, [], ◌++◌, sym, ap, ◌∙◌, cond, arith}
 use Rattle.std.specs.Prelude.{count_by}
 use Rattle.std.proofs.lemmas.List.Sums.{sum_by-append}
