@@ -5,7 +5,7 @@ use Rattle.std.proofs.lemmas.List.Sums.{sum_by-append, sum_by-take-le}
 use Rattle.std.specs.List.{flat_map}
 use Rattle.std.specs.Prelude.{Ok, option_map}
 use Rattle.vt_screen.specs.Asking.{RequestsAreFew, asks, requests}
-use Rattle.vt_screen.specs.Run.{AnyCut, outs_of_run}
+use Rattle.vt_screen.specs.Run.{AnyCut}
 use Rattle.vt_screen.specs.declared.out.Out.{Out}
 use Rattle.vt_screen.specs.declared.out.Out.TheVariants as outs
 use Rattle.vt_world.specs.Rows.{out_deeds, write_deeds}
