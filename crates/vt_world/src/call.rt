@@ -3,13 +3,12 @@ ghost use Rattle.vt_events.specs.Charge.{greatest_reply, text_of_reply};
 ghost use Rattle.vt_world.specs.Spare.{HasGrid, extent, needed_grid};
 ghost use Rattle.vt_world.specs.Step.{HasOutcome, step};
 
-use crate::spare::needed_grid;
+use crate::spare::{grid_from, needed_grid};
 use crate::world::World;
 use std::alloc::Global;
 use vt_base::{Bytes, CallerNo, NoMemory, Size};
 use vt_events::{Event, Reply, reply_bytes};
 use vt_grid::Grid;
-use vt_screen::BLANK;
 
 impl World {
     /// Takes a call of the caller and returns the answer: a step whose memory is allocated here. A
@@ -48,12 +47,7 @@ impl World {
         ensures cols { IfOk result (λ grid. grid.cols ≡ size.cols) }
         ensures same { self.new ≡ self.old }
     {
-        if let Some(grid) = self.kept.take() {
-            if grid.size() == size {
-                return Ok(grid);
-            }
-        }
-        Ok(Grid::blank(alloc, size, BLANK)?)
+        grid_from(alloc, size, &mut self.kept)
     }
 
     // Keeps a grid for a later call.

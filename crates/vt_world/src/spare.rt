@@ -56,6 +56,46 @@ pub fn spare_for(alloc: Global, e: &Event, size: Size) -> Result<Spare, NoMemory
     })
 }
 
+/// The same memory. If the kept grid has the size that the call needs, it is taken for it.
+pub fn spare_from(
+    alloc: Global,
+    e: &Event,
+    size: Size,
+    kept: &mut Option<Grid>,
+) -> Result<Spare, NoMemory>
+    ensures { IfOk result (λ spare. Fits size.rows size.cols e.now spare) }
+{
+    let bytes = reply_bytes(e);
+    let reply = Bytes::with_room(alloc, bytes)?;
+    let unused = Bytes::with_room(alloc, bytes)?;
+    let grid = match needed_grid(e, size) {
+        Some(size) => Some(grid_from(alloc, size, kept)?),
+        None => None,
+    };
+    Ok(Spare {
+        grid,
+        reply,
+        unused,
+    })
+}
+
+/// A grid of this size: the one that is kept, or a fresh one.
+pub(crate) fn grid_from(
+    alloc: Global,
+    size: Size,
+    kept: &mut Option<Grid>,
+) -> Result<Grid, NoMemory>
+    ensures rows { IfOk result (λ grid. grid.rows ≡ size.rows) }
+    ensures cols { IfOk result (λ grid. grid.cols ≡ size.cols) }
+{
+    if let Some(grid) = kept.take() {
+        if grid.size() == size {
+            return Ok(grid);
+        }
+    }
+    Ok(Grid::blank(alloc, size, BLANK)?)
+}
+
 fn grid_of(alloc: Global, needed: Option<Size>) -> Result<Option<Grid>, NoMemory>
     ensures size { IfOk result (λ grid. HasGrid (option_map extent_of needed) grid) }
     ensures some { IfOk result (λ grid. is_some grid ≡ is_some needed) }
