@@ -1,7 +1,8 @@
 //! Parts of the text, each added at its end.
 ghost use Rattle.std.specs.Prelude.{◌≡◌, ◌++◌, decimal, OnOk};
-ghost use Rattle.example_watch.specs.Words.{caller_text, error_name, quoted, wait_end_name};
+ghost use Rattle.example_watch.specs.Words.{by_form, caller_text, error_name, quoted, wait_end_name};
 
+use crate::form::Form;
 use crate::wait_end::WaitEnd;
 use itoa::Buffer;
 use std::alloc::Global;
@@ -15,6 +16,22 @@ pub fn add(alloc: Global, text: &mut Bytes, bytes: &[u8]) -> Result<(), NoMemory
     ensures { OnOk result (text.new.bytes ≡ text.old.bytes ++ bytes.now) }
 {
     vt_journal::add(alloc, text, bytes)
+}
+
+/// Adds the bytes of the form.
+pub fn add_by_form(
+    alloc: Global,
+    text: &mut Bytes,
+    form: Form,
+    in_lines: &[u8],
+    in_json: &[u8],
+) -> Result<(), NoMemory>
+    ensures { OnOk result (text.new.bytes ≡ text.old.bytes ++ by_form form in_lines.now in_json.now) }
+{
+    match form {
+        Form::Lines => add(alloc, text, in_lines),
+        Form::Json => add(alloc, text, in_json),
+    }
 }
 
 /// Adds the number.
