@@ -35,7 +35,7 @@ pub struct Hub<J: Opening> {
     lock: TurnLock<Shared<J>>,
     wake_ups: WakeUps,
     alloc: Global,
-    // Of the screens: it tells how much memory a call needs.
+    // The size of the screens, which determines the memory that a call needs.
     size: Size,
 }
 
@@ -105,6 +105,7 @@ impl<J: Opening> Hub<J> {
             place,
             number: c,
             seq: 0,
+            kept: None,
         }
     }
 
@@ -126,6 +127,7 @@ impl<J: Opening> Hub<J> {
             place,
             number,
             seq: _,
+            kept: _,
         } = p;
         self.lock.join(&mut s.place, place);
         s.stands[usize::from(number.get())] = PassPlace::Home;
@@ -138,7 +140,7 @@ impl<J: Opening> Hub<J> {
         requires own { p.old.hub ≡ self.now }
         requires call { ends_wait event ≡ false }
         requires fits { Fits J.start.rows J.start.cols event spare }
-        // Who was answered "wait" asks first how that ended, by `wait_end`.
+        // A caller that was answered "wait" makes `wait_end` first.
         requires free { p.old.stop ≡ None → awaits p.old.mine ≡ false }
         ensures { Answers J.start J.limits event p.old p.new result }
     {
@@ -180,10 +182,11 @@ impl<J: Opening> Hub<J> {
     {
         let number = p.number;
         let seq = p.seq;
+        let mut rest = None;
         let mut held = self.lock.enter(rt, &mut p.place);
         let shared = held.value();
         shared.sound();
-        let answer = shared.call(number, seq, event, spare);
+        let answer = shared.call(number, seq, event, spare, &mut rest);
         shared.sound();
         let ended = shared.ended();
         match answer {
@@ -191,6 +194,7 @@ impl<J: Opening> Hub<J> {
                 held.publish();
                 held.leave();
                 self.wake_ups.wake(ended);
+                p.keep(rest);
                 p.seq = seq + 1;
                 Turn::Done { at, reply }
             }
@@ -219,7 +223,7 @@ impl<J: Opening> Hub<J> {
         ensures rest { p.new ≡ record p.old { known = p.new.known; read = p.new.read } }
         ensures later { p.old.known / 64 ≤ p.new.known / 64 }
         ensures greatest { p.old.known ≤ p.new.known }
-        // Every later history has that beginning with this display, also behind a later answer.
+        // Every later history has that prefix and this display after it, also after a later answer.
         ensures stands { (history : List Entry) → BeginsWith history p.new.read
             → IsRead J.start history p.new.known }
     {

@@ -13,7 +13,6 @@ use std::marker::Model;
 use std::sync::Wait;
 use vt_base::NoMemory;
 use vt_events::Event;
-use vt_world::spare_for;
 
 /// Everything that a call needs except the pass: the handle for waiting, the allocator, and the hub.
 /// Threads may share it. Contracts see which hub it is.
@@ -38,7 +37,7 @@ impl<J: Opening, R: Wait> Seat<'_, J, R> {
     #[tactic(auto, using(crate::proofs::Ready::ready_after, crate::proofs::Ready::end_tells))]
     pub fn ask(&self, pass: &mut Pass<J>, event: Event) -> Result<Answer, NoMemory>
         requires own { pass.old.hub ≡ self.now }
-        // Who was answered "wait" asks first how that ended.
+        // A caller that was answered "wait" makes WaitEnd first.
         requires free { ends_wait event ≡ false → pass.old.stop ≡ None → awaits pass.old.mine ≡ false }
         ensures ok { IfOk result (λ answer. Answers J.start J.limits event pass.old pass.new answer) }
         ensures ready { IfOk result (λ answer. IsReady self.now (is_told_to_wait answer) pass.new) }
@@ -48,7 +47,7 @@ impl<J: Opening, R: Wait> Seat<'_, J, R> {
         if matches!(event, Event::WaitEnd) {
             return Ok(self.hub.wait_end(self.rt, pass));
         }
-        let spare = spare_for(self.alloc, &event, self.hub.size())?;
+        let spare = pass.spare(self.alloc, &event, self.hub.size())?;
         Ok(self.hub.call(self.rt, pass, event, spare))
     }
 }
