@@ -1,6 +1,6 @@
 -- The facts of an entry: lines for a person, or objects of JSON. This project's own.
 use Rattle.std.specs.Prelude.{ℕ, List, [], ◌++◌, codes, decimal}
-use Rattle.example_watch.specs.Words.{by_form, caller_text, listed, wait_end_name}
+use Rattle.example_watch.specs.Words.{by_form, caller_text, list_text, wait_end_name}
 use Rattle.example_watch.specs.declared.fact.Fact.{Fact}
 use Rattle.example_watch.specs.declared.fact.Fact.TheVariants as fact
 use Rattle.example_watch.specs.declared.form.Form.{Form}
@@ -70,4 +70,4 @@ fact_text f x =
 unfoldable pub facts_text : Form → List Fact → List ℕ
 facts_text f facts =
     by_form f [] (codes ",\"did\":[")
-    ++ (listed [] (by_form f [] (codes ",")) (fact_text f) facts ++ by_form f [] (codes "]"))
+    ++ (list_text [] (by_form f [] (codes ",")) (fact_text f) facts ++ by_form f [] (codes "]"))

@@ -5,7 +5,7 @@ use Rattle.example_watch.specs.FactText.{facts_text}
 use Rattle.example_watch.specs.Facts.{facts_of}
 use Rattle.example_watch.specs.Sights.{Sight}
 use Rattle.example_watch.specs.StateText.{state_text}
-use Rattle.example_watch.specs.Words.{caller_text, error_name, quoted, words_text}
+use Rattle.example_watch.specs.Words.{caller_text, error_name, in_quotes, words_text}
 use Rattle.example_watch.specs.declared.fact.Fact.{Fact}
 use Rattle.example_watch.specs.declared.form.Form.TheVariants as form
 use Rattle.vt_events.specs.declared.entry.Entry.{Entry}
@@ -16,7 +16,7 @@ use Rattle.vt_journal.specs.Hex.{hex_text}
 use Rattle.vt_journal.specs.Words.{event_words, reply_words}
 
 abbrev pub error_value : Reply → List ℕ
-error_value (reply.Err errno) = quoted (error_name errno)
+error_value (reply.Err errno) = in_quotes (error_name errno)
 error_value other = codes "null"
 
 -- the members of the entry itself
@@ -25,13 +25,13 @@ entry_members place entry =
     codes "{\"entry\":"
     ++ (decimal place
     ++ (codes ",\"caller\":"
-    ++ (quoted (caller_text entry.caller)
+    ++ (in_quotes (caller_text entry.caller)
     ++ (codes ",\"count\":"
     ++ (decimal entry.seq
     ++ (codes ",\"call\":"
-    ++ (quoted (words_text (event_words entry.event))
+    ++ (in_quotes (words_text (event_words entry.event))
     ++ (codes ",\"answer\":"
-    ++ (quoted (words_text (reply_words entry.reply))
+    ++ (in_quotes (words_text (reply_words entry.reply))
     ++ (codes ",\"error\":" ++ error_value entry.reply))))))))))
 
 -- an entry: its members, its facts, and the state after it

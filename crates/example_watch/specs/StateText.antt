@@ -1,7 +1,7 @@
 -- The state after an entry: words for a person, or members of an object of JSON. This project's own.
 use Rattle.std.specs.Prelude.{ℕ, List, [], ◌++◌, Option, Some, None, codes, decimal}
 use Rattle.example_watch.specs.Facts.{owners_of, waiters_of}
-use Rattle.example_watch.specs.Words.{by_form, caller_text, listed}
+use Rattle.example_watch.specs.Words.{by_form, caller_text, list_text}
 use Rattle.example_watch.specs.declared.form.Form.{Form}
 use Rattle.example_watch.specs.declared.owner.Owner.{Owner}
 use Rattle.example_watch.specs.declared.waiter.Waiter.{Waiter}
@@ -54,8 +54,8 @@ state_text f w since =
     by_form f (codes "now: front ") (codes ",\"front\":")
     ++ (decimal w.display.front
     ++ (by_form f (codes "; owners ") (codes ",\"owners\":[")
-    ++ (listed (none_text f) (separator f) (owner_text f) (owners_of w)
+    ++ (list_text (none_text f) (separator f) (owner_text f) (owners_of w)
     ++ (by_form f (codes "; pending ") (codes "],\"pending\":")
     ++ (pending_text f w.display.pending since
     ++ (by_form f (codes "; waits ") (codes ",\"waits\":[")
-    ++ (listed (none_text f) (separator f) (waiter_text f) (waiters_of w) ++ by_form f [] (codes "]"))))))))
+    ++ (list_text (none_text f) (separator f) (waiter_text f) (waiters_of w) ++ by_form f [] (codes "]"))))))))

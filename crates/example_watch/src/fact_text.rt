@@ -1,7 +1,7 @@
 //! What an entry did: a line for each fact, or an object of JSON.
 ghost use Rattle.std.specs.Prelude.{◌≡◌, [], ◌∷◌, ◌++◌, codes, OnOk};
 ghost use Rattle.example_watch.specs.FactText.{ask_text, cause_text, death_text, fact_text, facts_text, request_text, signal_text, switch_text, wait_text, words_of_fact};
-ghost use Rattle.example_watch.specs.Words.{by_form, listed};
+ghost use Rattle.example_watch.specs.Words.{by_form, list_text};
 
 use crate::adding::{add_by_form, add_caller, add_console, add_count, add_signal, add_wait_end};
 use crate::fact::Fact;
@@ -12,7 +12,7 @@ use vt_base::{Bytes, CallerNo, ConsoleNo, NoMemory, Signal};
 use vt_explain::{HopCause, HopWhy};
 
 /// Adds the facts of an entry.
-pub fn add_facts(
+pub(crate) fn add_facts(
     alloc: Global,
     text: &mut Bytes,
     form: Form,
@@ -33,7 +33,7 @@ fn add_fact_list(
     facts: &[Fact],
 ) -> Result<(), NoMemory>
     ensures { OnOk result (text.new.bytes
-        ≡ text.old.bytes ++ listed [] (by_form form [] (codes ",")) (fact_text form) facts.now) }
+        ≡ text.old.bytes ++ list_text [] (by_form form [] (codes ",")) (fact_text form) facts.now) }
 {
     match facts.split_first() {
         None => Ok(()),
@@ -50,7 +50,7 @@ fn add_facts_from(
     others: &[Fact],
 ) -> Result<(), NoMemory>
     ensures { OnOk result (text.new.bytes
-        ≡ text.old.bytes ++ listed [] (by_form form [] (codes ",")) (fact_text form) (first.now ∷ others.now)) }
+        ≡ text.old.bytes ++ list_text [] (by_form form [] (codes ",")) (fact_text form) (first.now ∷ others.now)) }
 {
     add_fact(alloc, text, form, first)?;
     for other in others {

@@ -24,14 +24,14 @@ use vt_world::World;
 
 /// The machine after the entries so far, and the entry since which the pending console has been the same.
 #[derive(Drop)]
-pub struct Following {
+pub(crate) struct Following {
     pub world: World,
     pub since: u32,
 }
 
 impl Following {
     /// Follows the entry at this place, and adds its text.
-    pub fn follow(
+    pub(crate) fn follow(
         &mut self,
         alloc: Global,
         form: Form,

@@ -2,7 +2,7 @@
 ghost use Rattle.std.specs.Prelude.{◌≡◌, [], ◌∷◌, ◌++◌, codes, decimal, IfOk, OnOk};
 ghost use Rattle.example_watch.specs.Facts.{owners_of, waiters_of};
 ghost use Rattle.example_watch.specs.StateText.{none_text, owner_text, pending_console_text, pending_text, place_text, separator, state_text, ticket_text, waiter_text};
-ghost use Rattle.example_watch.specs.Words.{listed};
+ghost use Rattle.example_watch.specs.Words.{list_text};
 
 use crate::adding::{add, add_by_form, add_caller, add_console, add_count};
 use crate::form::Form;
@@ -15,7 +15,12 @@ use vt_procs::Ticket;
 use vt_world::World;
 
 /// The text of a state, in which the console that is pending has been pending since this entry.
-pub fn state_text(alloc: Global, form: Form, world: &World, since: u32) -> Result<Bytes, NoMemory>
+pub(crate) fn state_text(
+    alloc: Global,
+    form: Form,
+    world: &World,
+    since: u32,
+) -> Result<Bytes, NoMemory>
     ensures { IfOk result (λ made. made.bytes ≡ state_text form world.now since) }
 {
     let mut text = Bytes::new(alloc);
@@ -24,7 +29,7 @@ pub fn state_text(alloc: Global, form: Form, world: &World, since: u32) -> Resul
 }
 
 /// Adds this text.
-pub fn add_state(
+pub(crate) fn add_state(
     alloc: Global,
     text: &mut Bytes,
     form: Form,
@@ -66,7 +71,7 @@ fn add_separator(alloc: Global, text: &mut Bytes, form: Form) -> Result<(), NoMe
 
 fn add_owners(alloc: Global, text: &mut Bytes, form: Form, world: &World) -> Result<(), NoMemory>
     ensures { OnOk result (text.new.bytes
-        ≡ text.old.bytes ++ listed (none_text form) (separator form) (owner_text form) (owners_of world.now)) }
+        ≡ text.old.bytes ++ list_text (none_text form) (separator form) (owner_text form) (owners_of world.now)) }
 {
     let owners = owners_of(alloc, world)?;
     add_owner_list(alloc, text, form, owners.as_slice())
@@ -79,7 +84,7 @@ fn add_owner_list(
     owners: &[Owner],
 ) -> Result<(), NoMemory>
     ensures { OnOk result (text.new.bytes
-        ≡ text.old.bytes ++ listed (none_text form) (separator form) (owner_text form) owners.now) }
+        ≡ text.old.bytes ++ list_text (none_text form) (separator form) (owner_text form) owners.now) }
 {
     match owners.split_first() {
         None => add_none(alloc, text, form),
@@ -96,7 +101,7 @@ fn add_owners_from(
     others: &[Owner],
 ) -> Result<(), NoMemory>
     ensures { OnOk result (text.new.bytes ≡ text.old.bytes
-        ++ listed (none_text form) (separator form) (owner_text form) (first.now ∷ others.now)) }
+        ++ list_text (none_text form) (separator form) (owner_text form) (first.now ∷ others.now)) }
 {
     add_owner(alloc, text, form, first)?;
     for other in others {
@@ -152,7 +157,7 @@ fn add_pending_console(
 
 fn add_waiters(alloc: Global, text: &mut Bytes, form: Form, world: &World) -> Result<(), NoMemory>
     ensures { OnOk result (text.new.bytes
-        ≡ text.old.bytes ++ listed (none_text form) (separator form) (waiter_text form) (waiters_of world.now)) }
+        ≡ text.old.bytes ++ list_text (none_text form) (separator form) (waiter_text form) (waiters_of world.now)) }
 {
     let waiters = waiters_of(alloc, world)?;
     add_waiter_list(alloc, text, form, waiters.as_slice())
@@ -165,7 +170,7 @@ fn add_waiter_list(
     waiters: &[Waiter],
 ) -> Result<(), NoMemory>
     ensures { OnOk result (text.new.bytes
-        ≡ text.old.bytes ++ listed (none_text form) (separator form) (waiter_text form) waiters.now) }
+        ≡ text.old.bytes ++ list_text (none_text form) (separator form) (waiter_text form) waiters.now) }
 {
     match waiters.split_first() {
         None => add_none(alloc, text, form),
@@ -182,7 +187,7 @@ fn add_waiters_from(
     others: &[Waiter],
 ) -> Result<(), NoMemory>
     ensures { OnOk result (text.new.bytes ≡ text.old.bytes
-        ++ listed (none_text form) (separator form) (waiter_text form) (first.now ∷ others.now)) }
+        ++ list_text (none_text form) (separator form) (waiter_text form) (first.now ∷ others.now)) }
 {
     add_waiter(alloc, text, form, first)?;
     for other in others {

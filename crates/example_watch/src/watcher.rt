@@ -23,7 +23,12 @@ use vt_journal::{Journal, Log};
 use vt_world::World;
 
 /// The text with the facts of each entry of the journal, if it is a legal one of the session (docs/WATCH.md).
-pub fn watch_text(alloc: Global, form: Form, s: &Session, j: &Journal) -> Result<Watched, NoMemory>
+pub(crate) fn watch_text(
+    alloc: Global,
+    form: Form,
+    s: &Session,
+    j: &Journal,
+) -> Result<Watched, NoMemory>
     ensures judges { IfOk result
         (λ x. Judges (setup_of s.now) j.now.entries j.now.tail (verdict_of x)) }
     ensures text { IfOk result
