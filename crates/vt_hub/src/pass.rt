@@ -40,11 +40,24 @@ impl<J: Opening> Pass<J> {
         self.number
     }
 
-    /// The memory that the call may need, with the kept grid if it has the size.
+    /// The memory that the call may need, with the kept grid if it has the size. If the call needs a grid of
+    /// another size, the kept one is freed here, so that the call, which may leave a grid, frees none.
     pub(crate) fn spare(&mut self, alloc: Global, e: &Event, size: Size) -> Result<Spare, NoMemory>
         ensures fits { IfOk result (λ spare. Fits size.rows size.cols e.now spare) }
         ensures same { self.new ≡ self.old }
     {
-        spare_from(alloc, e, size, &mut self.kept)
+        let spare = spare_from(alloc, e, size, &mut self.kept)?;
+        if may_leave_grid(e) {
+            self.kept = None;
+        }
+        Ok(spare)
     }
+}
+
+// Whether the event is one of those that may leave a grid.
+fn may_leave_grid(e: &Event) -> bool {
+    matches!(
+        e,
+        Event::OpenCon(_) | Event::Activate(..) | Event::Resize(..)
+    )
 }
