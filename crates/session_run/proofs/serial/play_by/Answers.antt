@@ -3,7 +3,7 @@ use Rattle.std.proofs.lemmas.List.Elements.{All-weaker}
 use Rattle.session_order.specs.Ends.{Setup}
 use Rattle.session_order.specs.Laws.{IsRight}
 use Rattle.session_order.specs.Serial.{IsSerial, nothing_played, turns}
-use Rattle.session_order.specs.Sessions.{setup_of, start_of}
+use Rattle.session_order.specs.Sessions.{setup_of}
 use Rattle.session_run.proofs.Ends.{IsEnd, right_run, run_serial, run_world}
 use Rattle.session_run.proofs.HavePrograms.{hooked}
 use Rattle.session_run.specs.Playing.{IsAt}
