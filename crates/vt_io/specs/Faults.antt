@@ -1,7 +1,7 @@
--- Counts of faults: how a caller of a source or a sink sees that a call failed.
+-- Counts of faults: they show that a call of a source or a sink failed.
 use Rattle.std.specs.Prelude.{ℕ, ◌+◌, ◌-◌, ◌^◌, ◌≤◌, min, Result, OnErr}
 
--- the greatest count: one that stands there rises no more
+-- the greatest count, which rises no more
 abbrev pub greatest : ℕ
 greatest = 2 ^ 64 - 1
 
@@ -9,7 +9,7 @@ greatest = 2 ^ 64 - 1
 abbrev pub one_more : ℕ → ℕ
 one_more count = min (count + 1) greatest
 
--- the count is greater than before, or stands at the greatest
+-- the count is greater than before, or is the greatest
 abbrev pub Rose : ℕ → ℕ → Type 0
 Rose before now = one_more before ≤ now
 

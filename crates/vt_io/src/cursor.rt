@@ -3,7 +3,7 @@ ghost use Rattle.std.specs.Prelude.{◌≡◌, ◌≢◌, ◌↔◌, ◌++◌, l
 use std::marker::Model;
 use vt_base::Bytes;
 
-/// Bytes that are taken from the front.
+/// Bytes that are taken in order.
 #[derive(Drop)]
 pub(crate) struct Cursor {
     bytes: Bytes,
@@ -27,8 +27,8 @@ impl Cursor {
         Cursor { bytes, at: 0 }
     }
 
-    /// Moves the next bytes into the front of `buf`, as many as it takes and are left, and gives
-    /// their number.
+    /// Moves the next bytes to the beginning of `buf`, as many as it has room for, and returns their
+    /// number.
     pub(crate) fn read(&mut self, buf: &mut [u8]) -> usize
         ensures count { result ≡ min (length buf.old) (length self.old) }
         ensures moved { buf.new ≡ take result self.old ++ drop result buf.old }
@@ -39,7 +39,7 @@ impl Cursor {
         count
     }
 
-    /// Takes the next byte, and says whether it is there and isn't 0.
+    /// Takes the next byte, and returns whether there is one that isn't 0.
     pub(crate) fn take_flag(&mut self) -> bool
         ensures flag { IsTrue result ↔ (slice_index self.old 0 ≢ 0) }
         ensures rest { self.new ≡ drop 1 self.old }
@@ -50,7 +50,8 @@ impl Cursor {
     }
 }
 
-// Copies as many bytes as both have from the front of `from` to the front of `to`.
+// Copies the first bytes of `from` over the first bytes of `to`, as many as the shorter one has, and
+// returns their number.
 pub(crate) fn copy_bytes(from: &[u8], to: &mut [u8]) -> usize
     ensures count { result ≡ min (length to.old) (length from.now) }
     ensures moved { to.new ≡ take result from.now ++ drop result to.old }

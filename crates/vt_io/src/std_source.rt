@@ -10,7 +10,7 @@ use crate::{Failed, Source};
 use std::io::{ErrorKind, Read};
 use std::marker::Model;
 
-/// The most bytes that one read gives.
+/// The most bytes that one read returns.
 const PIECE_BYTES: usize = 4_096;
 
 /// A source over a reader of std. Its contract does not describe the bytes. An interrupted read is
@@ -47,9 +47,7 @@ impl<R> StdSource<R> {
 }
 
 impl<R: Read> Source for StdSource<R> {
-    ghost left = { λ _. None };
-
-    ghost faults = { λ count. count };
+    ghost stream = { λ count. record { bytes = None; faults = count } };
 
     fn read(&mut self, buf: &mut [u8]) -> Result<usize, Failed>
         ensures bound { ReadsAtMost result buf.new }
@@ -73,7 +71,7 @@ impl<R: Read> Source for StdSource<R> {
     }
 }
 
-// What a read gives, tried again where it was interrupted.
+// The result of a read, which is tried again if it was interrupted.
 fn read_again<R: Read>(reader: &mut R, piece: &mut [u8]) -> Option<usize>
     ensures { IfSome result (λ count. count ≤ length piece.old) }
 {

@@ -9,7 +9,7 @@ use Rattle.vt_journal.specs.declared.journal.Journal.{Journal}
 use Rattle.vt_tool.proofs.Upgrades.{first_line}
 use Rattle.vt_tool.specs.Commands.Judging.{column_of}
 use Rattle.vt_tool.specs.Commands.Upgrade.{GivesUpgraded, IsNewer, IsNoJournal, IsUpgraded}
-use Rattle.vt_tool.specs.Outcome.{Outcome}
+use Rattle.vt_tool.specs.Outcome.{Outcome, fine_text, no_text}
 use Rattle.vt_tool.specs.declared.status.Status.TheVariants as status
 
 -- a first line, its digit told
@@ -28,10 +28,10 @@ one_version text x y =
     omega (arith, digits)
 
 abbrev printed : Journal → Outcome
-printed j = record { status = status.Fine; text = journal_text 2 j.entries j.tail }
+printed j = fine_text (journal_text 2 j.entries j.tail)
 
 abbrev refused : JFault → Outcome
-refused fault = record { status = status.Refused fault.kind fault.line (column_of fault.line); text = [] }
+refused fault = no_text (status.Refused fault.kind fault.line (column_of fault.line))
 
 module _ (one_journal : OneJournal) (input : List ℕ) (a b : Outcome)
   where

@@ -15,17 +15,17 @@ use table_fields::{
 use toml::Table;
 use vt_base::Bytes;
 
-/// A key that isn't known.
+/// The fault code of an unknown key of the table.
 const UNKNOWN_KEY: u16 = 21;
 
-/// The keyboard modes; K_UNICODE where none is given (ioctl_console(2), KDSKBMODE).
+/// The keyboard modes, by default K_UNICODE (ioctl_console(2), KDSKBMODE).
 const MODES: Numbers = Numbers {
     default: 3,
     low: 0,
     high: 4,
 };
 
-/// What `type` reads: the keyboard mode, the tables of the keymap, and the scan bytes.
+/// The input of `type`: the keyboard mode, the tables of the keymap, and the scan bytes.
 #[derive(Drop)]
 pub(crate) struct TypeTable {
     pub mode: u8,
@@ -33,7 +33,7 @@ pub(crate) struct TypeTable {
     pub keys: Bytes,
 }
 
-/// The table that the text says, or its first fault.
+/// The table of the text, or its first fault.
 pub(crate) fn read_type_table(alloc: Global, input: &[u8]) -> Result<TypeTable, TableError>
     ensures table { GivesBy IsReadAs result (type_table_of input.now) }
     ensures mode { IfOk result (λ table. table.mode ≤ 4) }

@@ -47,7 +47,7 @@ impl Typist {
         }
     }
 
-    /// Types a scan byte. The answer is what it says.
+    /// Types a scan byte, and returns the output of the key that it ends.
     pub(crate) fn take(&mut self, tables: &KeyTables, b: u8) -> KeyOut
         ensures typed { (mode : ℕ) (before : List ℕ) → HasTyped tables.now mode before self.old
             → HasTyped tables.now mode (before ++ b ∷ []) self.new }
