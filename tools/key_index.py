@@ -176,10 +176,10 @@ def table(found):
     rows = " \\\n".join(lines)
     size = sum(len(symbol.name) + 1 for symbol in found)
     return (
-        "//! The names of the symbol table. Written by tools/key_index.py, and proved to be those of the definition.\n"
-        f"\n/// How many names there are.\npub(crate) const NAME_COUNT: usize = {len(found)};\n"
-        f"\n/// How many bytes the text of the names has.\npub(crate) const NAMES_SIZE: usize = {size};\n"
-        "\n/// The names in order, with a blank behind each.\n#[rattlefmt::skip]\n"
+        "//! Written by tools/key_index.py: the names of the symbol table, proved equal to those of the definition.\n"
+        f"\n/// The number of names.\npub(crate) const NAME_COUNT: usize = {len(found)};\n"
+        f"\n/// The number of bytes of the text of the names.\npub(crate) const NAMES_SIZE: usize = {size};\n"
+        "\n/// The names in order, with a blank after each.\n#[rattlefmt::skip]\n"
         f'pub(crate) static NAMES: [u8; NAMES_SIZE] = *b"\\\n{rows} ";\n'
     )
 
@@ -202,11 +202,11 @@ def index(found):
     starts = [sum(len(name) + 1 for name in names[:place]) for place in range(len(names))]
     order = sorted(range(len(names)), key=lambda place: names[place].encode())
     return (
-        "//! Where the names of the symbol table lie, their order, and what they stand for. "
-        "Written by tools/key_index.py,\n//! and proved to be of the definition.\n"
+        "//! Written by tools/key_index.py: the places of the names of the symbol table, their order and their actions,\n"
+        "//! proved to be those of the definition.\n"
         "\nuse crate::table::NAME_COUNT;\n"
-        + static("Where each name starts in the table's text.", "STARTS", "u16", starts)
-        + static("How many bytes each name has.", "LENGTHS", "u8", map(len, names))
+        + static("The place at which each name starts in the table's text.", "STARTS", "u16", starts)
+        + static("The number of bytes of each name.", "LENGTHS", "u8", map(len, names))
         + static("The places of the names, in the order of their bytes.", "ORDER", "u16", order)
         + static("The kind of each name's action.", "KINDS", "u8", kind_numbers)
         + static("The value of each name's action.", "VALUES", "u16", values)

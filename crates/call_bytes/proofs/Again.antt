@@ -1,4 +1,4 @@
--- What is read of the bytes of a table is the table.
+-- The table that is read from the bytes of a table is that table.
 use Rattle.std.proofs.Common.{◌≡◌, ℕ, zero, suc, ◌+◌, ◌*◌, ◌/◌, ◌%◌, ◌<◌, Bool, true, ◌==◌, ◌&&◌, List, length, get_or, refl, sym, ap, ◌∙◌, arith, eq-eqb}
 use Rattle.std.specs.Prelude.{map}
 use Rattle.std.specs.Int.{to_le_bytes, w16}

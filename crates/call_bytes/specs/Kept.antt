@@ -1,4 +1,4 @@
--- What is written from a table that was read is what was read.
+-- The bytes that are written from a table equal the bytes that it was read from.
 use Rattle.std.specs.Prelude.{◌≡◌, ◌<◌, ℕ, List, All, Some}
 use Rattle.call_bytes.specs.Colours.{colours_in, colours_text}
 use Rattle.call_bytes.specs.Pairs.{pairs_in, pairs_text}
@@ -15,13 +15,13 @@ PairsAreKept =
     (bytes : List ℕ) (pairs : List Pair)
     → AreBytes bytes → pairs_in bytes ≡ Some pairs → pairs_text pairs ≡ bytes
 
--- and those of a user's table
+-- the bytes of a user's table are kept
 abbrev pub WordsAreKept : Type 0
 WordsAreKept =
     (bytes words : List ℕ)
     → AreBytes bytes → words_in bytes ≡ Some words → words_text words ≡ bytes
 
--- and those of a palette
+-- the bytes of a palette are kept
 abbrev pub ColoursAreKept : Type 0
 ColoursAreKept =
     (bytes : List ℕ) (colours : List Rgb)

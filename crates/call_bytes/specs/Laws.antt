@@ -1,4 +1,4 @@
--- What is read of the bytes of a table is the table.
+-- The table that is read from the bytes of a table is that table.
 use Rattle.std.specs.Prelude.{◌≡◌, ◌<◌, ◌≤◌, ℕ, List, length, All, Some}
 use Rattle.call_bytes.specs.Colours.{colours_in, colours_text}
 use Rattle.call_bytes.specs.Pairs.{pairs_in, pairs_text}

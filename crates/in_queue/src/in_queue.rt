@@ -8,8 +8,8 @@ use std::alloc::Global;
 use std::marker::Model;
 use vt_base::{Bytes, NoMemory, PIECE_BYTES};
 
-/// The input of a console that nobody has read yet: at most [`PIECE_BYTES`] bytes. A piece that
-/// doesn't fit is dropped whole and counted.
+/// The input of a console that no process has read yet: at most [`PIECE_BYTES`] bytes. A piece that doesn't
+/// fit is dropped whole and counted.
 #[derive(Debug, Drop)]
 pub struct InQueue {
     bytes: HeapCircularBuffer<u8>,

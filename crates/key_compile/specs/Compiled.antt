@@ -10,8 +10,8 @@ use Rattle.key_compile.specs.Pairs.{pairs_in}
 use Rattle.key_compile.specs.Strings.{string_in}
 use Rattle.key_compile.specs.Union.{is_declared}
 
--- the tables of the lines: which exist, what each keycode from 1 to 255 does in them, the strings
--- and the pairs; code 0 is no keycode
+-- the tables of the lines: the tables that exist, the action of each keycode from 1 to 255 in them, the
+-- strings and the pairs; code 0 is no keycode
 pub record AreTablesOf (lines : List KeymapLine) (tables : Tables) : Type 0 where
   pub whole : IsWhole tables
   pub exist : (t : ℕ) → t < 256 → exists_in tables t ≡ is_declared lines t
@@ -25,7 +25,7 @@ pub record AreTablesOf (lines : List KeymapLine) (tables : Tables) : Type 0 wher
 abbrev pub OneValue : Type 0
 OneValue = (lines : List KeymapLine) (a b : Tables) → AreTablesOf lines a → AreTablesOf lines b → a ≡ b
 
--- the tables that are declared exist, and nothing is set
+-- the declared tables exist, and nothing is set
 pub record AreStart (lines : List KeymapLine) (tables : Tables) : Type 0 where
   pub exist : (t : ℕ) → t < 256 → exists_in tables t ≡ is_declared lines t
   pub entries : (t c : ℕ) → entry_of tables t c ≡ cond (exists_in tables t) (Some hole) None

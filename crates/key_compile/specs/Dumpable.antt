@@ -1,4 +1,4 @@
--- Which tables can be written as a keymap text.
+-- The tables that can be written as a keymap text.
 use Rattle.std.specs.Prelude.{◌≡◌, Bool, ◌&&◌, is_some, IsTrue, List, All}
 use Rattle.std.specs.List.{list_all, list_any}
 use Rattle.key_tables.specs.Tables.{Tables}
@@ -9,7 +9,7 @@ use Rattle.key_compile.specs.Compiled.{AreTablesOf}
 abbrev pub is_dumpable : Tables → Bool
 is_dumpable tables = list_any is_some tables.maps && list_all is_real tables.pairs
 
--- each line is fit to be one, as those that are read are
+-- each line is fit, as those that are read are
 abbrev pub AreFit : List KeymapLine → Type 0
 AreFit lines = All (λ l. IsTrue (is_fit l.telling)) lines
 

@@ -1,4 +1,4 @@
--- Which line decides an entry: the last one that names its table and code.
+-- The line that decides an entry: the last one that names its table and code.
 use Rattle.std.specs.Prelude.{ℕ, Bool, true, false, ◌==◌, ◌&&◌, cond, nat_le, nat_lt, Option, Some, None, unwrap_or, List, [], ◌∷◌, ◌-◌}
 use Rattle.std.specs.List.{list_any}
 use Rattle.std.specs.Option.{option_or}
@@ -9,23 +9,24 @@ use Rattle.key_text.specs.KeymapLine.{Telling, KeymapLine, keymaps, keys, one, s
 use Rattle.key_compile.specs.Fill.{filled_action, is_character_act}
 use Rattle.key_compile.specs.Union.{is_declared, union_of}
 
--- the action of a table, where actions stand for tables in order
+-- the action of a table, if actions stand for tables in order
 abbrev pub action_of_table : List ℕ → List Act → ℕ → Option Act
 action_of_table [] actions t = None
 action_of_table (u ∷ us) [] t = None
 action_of_table (u ∷ us) (a ∷ rest) t = option_or (action_of_table us rest t) (cond (t == u) (Some a) None)
 
--- the action of a table, where one symbol stands for all of them
+-- the action of a table, if one symbol stands for all of them
 abbrev pub everywhere : List ℕ → Act → ℕ → Option Act
 everywhere tables a t = cond (list_any (λ u. t == u) tables) (Some (filled_action t a)) None
 
--- what symbols give a table: one for all tables of the union, more for the first of them
+-- the action that symbols give a table: one symbol is for all tables of the union, several are for the first
+-- of them
 abbrev pub by_symbols : List ℕ → List Act → ℕ → Option Act
 by_symbols union [] t = None
 by_symbols union (a ∷ []) t = everywhere union a t
 by_symbols union (a ∷ b ∷ rest) t = action_of_table union (a ∷ b ∷ rest) t
 
--- what a line gives a table and a code, if it names them
+-- the action that a line gives a table and a code, if it names them
 abbrev pub gives : List ℕ → Telling → ℕ → ℕ → Option Act
 gives union (keymaps tables) t c = None
 gives union (keys code actions) t c = cond (c == code) (by_symbols union actions t) None
@@ -36,12 +37,12 @@ gives union alt_is_meta t c = None
 gives union usual_strings t c = None
 gives union usual_pairs t c = None
 
--- what the last line that names a table and a code gives
+-- the action by the last line that names a table and a code
 abbrev pub last_action : List ℕ → List KeymapLine → ℕ → ℕ → Option Act
 last_action union [] t c = None
 last_action union (l ∷ ls) t c = option_or (last_action union ls t c) (gives union l.telling t c)
 
--- the entry that the lines decide: a hole where none names it
+-- the entry by the lines: a hole if none names it
 unfoldable pub line_entry : List KeymapLine → ℕ → ℕ → Act
 line_entry lines t c = unwrap_or (last_action (union_of lines) lines t c) hole
 

@@ -1,4 +1,4 @@
--- What lines need of the tables that they set entries of.
+-- The tables that lines need, since they set entries of them.
 use Rattle.std.specs.Prelude.{◌≡◌, ℕ, ◌<◌, Bool, true, ◌==◌, nat_le, List, length, All}
 use Rattle.std.specs.List.{list_any}
 use Rattle.key_tables.specs.Tables.{Tables, exists_in}

@@ -32,8 +32,8 @@ pairs_of_line usual_pairs = 66
 abbrev pub pairs_fault : ℕ → Option ℕ
 pairs_fault count = cond (nat_lt 256 count) (Some TOO_MANY_PAIRS) None
 
--- the kind of a line's fault, where there are n tables in the union, a key line stood before or
--- not, and the lines before have so many pairs
+-- the kind of a line's fault, given the number n of tables in the union, whether a key line stands before it,
+-- and the number of pairs in the lines before it
 abbrev pub fault_of : ℕ → Bool → ℕ → Telling → Option ℕ
 fault_of n seen count (keymaps tables) = cond seen (Some LATE_KEYMAPS) None
 fault_of n seen count (keys code actions) = cond (nat_lt n (length actions)) (Some WRONG_COUNT) None

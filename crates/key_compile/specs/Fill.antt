@@ -1,4 +1,4 @@
--- What a symbol that stands alone on a key line does in a table.
+-- The action in a table of a symbol that stands alone on a key line.
 use Rattle.std.specs.Prelude.{ℕ, ◌+◌, ◌-◌, ◌/◌, ◌%◌, Bool, ◌==◌, ◌&&◌, ◌||◌, cond, nat_le}
 use Rattle.key_syms.specs.Act.{Act, act}
 use Rattle.key_syms.specs.Kinds.{CHARACTER, LETTER, META}
@@ -39,11 +39,11 @@ value_with_shift t v = cond (has_shift t) (other_case v) v
 abbrev pub value_with_control : ℕ → ℕ → ℕ
 value_with_control t v = cond (has_control t) (value_with_shift t v % 32) (value_with_shift t v)
 
--- a meta with Alt, else a character with Control, else a letter
+-- a meta with Alt, otherwise a character with Control, otherwise a letter
 abbrev pub kind_in : ℕ → ℕ
 kind_in t = cond (has_alt t) META (cond (has_control t) CHARACTER LETTER)
 
--- an ASCII letter by the table, a hole from 16 on; another symbol as it is
+-- an ASCII letter by the table, a hole from 16 on; another symbol unchanged
 unfoldable pub filled_action : ℕ → Act → Act
 filled_action t a =
     cond (is_letter a)

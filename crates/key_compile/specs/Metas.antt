@@ -1,4 +1,4 @@
--- What `alt_is_meta` sets, over tables whose lines are done.
+-- The entries that `alt_is_meta` sets, over tables whose lines are done.
 use Rattle.std.specs.Prelude.{ℕ, ◌+◌, ◌-◌, Bool, ◌==◌, ◌&&◌, cond, nat_le, nat_lt, Option, Some, None}
 use Rattle.key_syms.specs.Act.{Act, act}
 use Rattle.key_syms.specs.Kinds.{HOLE, META}
@@ -10,7 +10,7 @@ abbrev pub meta_given : Act → Act → Option Act
 meta_given below a =
     cond (a.kind == HOLE && is_ascii_act below) (Some (act META below.value)) None
 
--- the same where both tables exist
+-- the meta of a character over a hole, if both tables exist
 abbrev pub meta_of : Option Act → Option Act → Option Act
 meta_of None e = None
 meta_of (Some below) None = None
@@ -19,7 +19,7 @@ meta_of (Some below) (Some a) = meta_given below a
 abbrev pub is_keycode : ℕ → Bool
 is_keycode c = nat_le 1 c && nat_lt c 256
 
--- what the table with Alt gets for the table t below it
+-- the entry that the table with Alt gets for the table t below it
 unfoldable pub meta_at : Tables → ℕ → ℕ → Option Act
 meta_at k t c = cond (is_keycode c) (meta_of (entry_of k t c) (entry_of k (t + 8) c)) None
 

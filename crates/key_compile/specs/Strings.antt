@@ -1,15 +1,15 @@
--- Function strings: the usual ones, and that the last string of a name decides.
+-- Function strings: the usual ones, and the rule that the last string of a name decides.
 use Rattle.std.specs.Prelude.{ℕ, ◌==◌, cond, Option, Some, None, unwrap_or, List, [], ◌∷◌, ◌++◌, codes, map, slice_index_or}
 use Rattle.std.specs.Fmt.{decimal}
 use Rattle.std.specs.Option.{option_or}
 use Rattle.key_text.specs.KeymapLine.{Telling, KeymapLine, keymaps, keys, one, string, compose, alt_is_meta, usual_strings, usual_pairs}
 
--- a text, where it isn't empty
+-- a text, if it isn't empty
 abbrev pub some_text : List ℕ → Option (List ℕ)
 some_text [] = None
 some_text (b ∷ bs) = Some (b ∷ bs)
 
--- a text behind ESC and `[`
+-- a text after ESC and `[`
 abbrev pub escape : List ℕ → List ℕ
 escape text = 0x1B ∷ codes "[" ++ text
 
@@ -17,8 +17,8 @@ escape text = 0x1B ∷ codes "[" ++ text
 abbrev pub tilde : ℕ → List ℕ
 tilde n = escape (decimal n ++ codes "~")
 
--- the usual strings of the function keys in order: F1 to F20, Find to Next, Macro, Help and Do
--- with none, and Pause
+-- the usual strings of the function keys in order: F1 to F20, Find to Next, Macro, Help and Do without one,
+-- and Pause
 unfoldable pub usual_texts : List (List ℕ)
 usual_texts =
     map (λ letter. escape (codes "[" ++ letter ∷ [])) (codes "ABCDE")
@@ -30,7 +30,7 @@ usual_texts =
 unfoldable pub usual_string : ℕ → Option (List ℕ)
 usual_string i = some_text (slice_index_or usual_texts i [])
 
--- what a line gives a function key, if it names it
+-- the string that a line gives a function key, if it names it
 abbrev pub text_by : Telling → ℕ → Option (List ℕ)
 text_by (keymaps tables) i = None
 text_by (keys code actions) i = None
@@ -41,7 +41,7 @@ text_by alt_is_meta i = None
 text_by usual_strings i = usual_string i
 text_by usual_pairs i = None
 
--- what the last line that names a function key gives
+-- the string by the last line that names a function key
 abbrev pub last_text : List KeymapLine → ℕ → Option (List ℕ)
 last_text [] i = None
 last_text (l ∷ ls) i = option_or (last_text ls i) (text_by l.telling i)

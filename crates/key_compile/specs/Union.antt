@@ -1,4 +1,4 @@
--- Which tables the lines of a keymap declare.
+-- The tables that the lines of a keymap declare.
 use Rattle.std.specs.Prelude.{◌≡◌, ℕ, zero, suc, ◌<◌, Bool, true, false, ◌==◌, ◌||◌, cond, nat_le, List, [], ◌∷◌, ◌++◌, length, slice_index_or}
 use Rattle.std.specs.List.{list_any}
 use Rattle.key_text.specs.KeymapLine.{Telling, KeymapLine, keymaps, keys, one, string, compose, alt_is_meta, usual_strings, usual_pairs}
@@ -59,7 +59,7 @@ union_of lines = passing_below (in_union lines) 256
 unfoldable pub is_declared : List KeymapLine → ℕ → Bool
 is_declared lines t = in_union lines t || list_any (λ l. modifies_table t l.telling) lines
 
--- the list says for each table whether it passes
+-- the list has for each table whether it passes the test
 pub record IsSetOf (marks : List Bool) (test : ℕ → Bool) : Type 0 where
   pub full : length marks ≡ 256
   pub each : (t : ℕ) → t < 256 → slice_index_or marks t false ≡ test t

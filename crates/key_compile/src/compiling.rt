@@ -41,7 +41,7 @@ pub fn compile(alloc: Global, lines: &[Line]) -> Result<KeyTables, KeyError>
     Ok(tables)
 }
 
-// Each line is fit to be one; this opens them one by one.
+// Each line is fit; the loop opens them one by one, so that this is known of each.
 fn are_fit(lines: &[Line])
     ensures { AreFit lines.now }
 {
@@ -59,7 +59,7 @@ fn lines_fault(lines: &[Line], union: &[u8]) -> Option<KeyFault>
     first_fault(lines, union.len())
 }
 
-// The tables that are declared. `marks` says it of the union.
+// The tables that are declared. `marks` holds for each table whether it is in the union.
 fn start_tables(alloc: Global, lines: &[Line], marks: &[bool]) -> Result<KeyTables, NoMemory>
     requires { IsSetOf marks.now (in_union lines.now) }
     ensures { IfOk result (AreStart lines.now) }
@@ -69,7 +69,7 @@ fn start_tables(alloc: Global, lines: &[Line], marks: &[bool]) -> Result<KeyTabl
     KeyTables::empty(alloc, numbers.as_slice())
 }
 
-// Sets what the lines give.
+// Sets the entries, the strings and the pairs of the lines.
 fn fill_tables(tables: &mut KeyTables, union: &[u8], lines: &[Line], pairs: &[Pair])
     requires start { AreStart lines.now tables.old }
     requires union { union.now ≡ union_of lines.now }
@@ -84,7 +84,7 @@ fn fill_tables(tables: &mut KeyTables, union: &[u8], lines: &[Line], pairs: &[Pa
     tables.stays_whole();
 }
 
-// Fills the tables with Alt, where a line is `alt_is_meta`.
+// Fills the tables with Alt, if a line is `alt_is_meta`.
 fn put_alt(tables: &mut KeyTables, lines: &[Line])
     ensures { Puts (λ t c. cond (list_any (λ l. is_alt l.telling) lines.now)
         (metas_below tables.old 8 t c) None) tables.old tables.new }

@@ -9,7 +9,7 @@ use key_syms::Action;
 use key_tables::KeyTables;
 use key_text::{Line, LineKind};
 
-/// Sets what the lines give, one behind another.
+/// Sets the entries that the lines give, one line after another.
 pub(crate) fn put_lines(tables: &mut KeyTables, union: &[u8], lines: &[Line])
     requires exist { HasTables union.now tables.old }
     requires own { HaveOwnTables lines.now tables.old }
@@ -21,7 +21,7 @@ pub(crate) fn put_lines(tables: &mut KeyTables, union: &[u8], lines: &[Line])
     }
 }
 
-// Sets what a line gives.
+// Sets the entries that a line gives.
 fn put_line(tables: &mut KeyTables, union: &[u8], line: &Line)
     requires exist { HasTables union.now tables.old }
     requires own { HasOwnTable line.now.telling tables.old }
@@ -48,7 +48,7 @@ fn put_one(tables: &mut KeyTables, table: u8, code: u8, action: Action)
     tables.set_entry(table, code, action);
 }
 
-// Sets the symbols of a key line: one in all tables of the union, more in the first of them.
+// Sets the symbols of a key line: one symbol in all tables of the union, several in the first of them.
 fn put_symbols(tables: &mut KeyTables, union: &[u8], code: u8, actions: &[Action])
     requires exist { HasTables union.now tables.old }
     requires key { code ≢ 0 }

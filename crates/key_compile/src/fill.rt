@@ -5,7 +5,7 @@ ghost use Rattle.key_compile.specs.Fill.{value_with_control, filled_action, is_c
 
 use key_syms::{Action, kind};
 
-/// What a symbol that stands alone on a key line does in a table.
+/// The action in a table of a symbol that stands alone on a key line.
 #[tactic(auto, unfolding(crate::specs::Fill::filled_action))]
 pub(crate) fn filled_action(t: u8, a: Action) -> Action
     ensures { result ≡ filled_action t a }

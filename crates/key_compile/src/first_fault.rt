@@ -9,7 +9,7 @@ use key_text::{KeyFault, Line, LineKind};
 // The most pairs.
 const PAIRS: usize = 256;
 
-/// The first fault of the lines, where there are n tables in the union.
+/// The first fault of the lines, if there are n tables in the union.
 pub(crate) fn first_fault(lines: &[Line], n: usize) -> Option<KeyFault>
     ensures { result ≡ first_fault n false 0 lines.now }
 {

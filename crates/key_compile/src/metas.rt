@@ -10,7 +10,7 @@ use key_syms::{Action, kind};
 use key_tables::KeyTables;
 use key_text::{Line, LineKind};
 
-// How many tables there are without Alt below those with it.
+// The number of tables without Alt below those with it.
 const PLAIN_TABLES: u8 = 8;
 
 // One past the greatest keycode.
@@ -69,7 +69,7 @@ fn put_meta(tables: &mut KeyTables, t: u8, c: u8)
     }
 }
 
-// The meta of a character over a hole, where both tables exist.
+// The meta of a character over a hole, if both tables exist.
 fn meta_of(below: Option<Action>, above: Option<Action>) -> Option<Action>
     ensures value { result ≡ meta_of below above }
     ensures exists { IsSome result → IsSome above }

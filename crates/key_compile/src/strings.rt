@@ -7,7 +7,7 @@ use crate::usual::{USUAL_STRING_COUNT, USUAL_STRINGS};
 use key_tables::KeyTables;
 use key_text::{Line, LineKind};
 
-/// Sets the strings of the lines, one line behind another.
+/// Sets the strings of the lines, one line after another.
 pub(crate) fn put_strings(tables: &mut KeyTables, lines: &[Line])
     ensures { PutsTexts (last_text lines.now) tables.old tables.new }
 {
@@ -71,7 +71,7 @@ fn row_at(i: usize) -> &'static [u8]
     &USUAL_STRINGS[i]
 }
 
-// How many bytes stand before the first 0.
+// The number of bytes before the first 0.
 fn len_of(row: &[u8]) -> usize
     ensures value { result ≡ prefix_len (λ b. not (b == 0)) row.now }
     ensures within { result ≤ length row.now }

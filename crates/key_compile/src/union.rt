@@ -5,7 +5,7 @@ ghost use Rattle.key_compile.specs.Union.{IsSetOf, in_union, is_declared, is_key
 use key_text::{Line, LineKind};
 use std::alloc::{AllocError, Global};
 
-// How many tables there may be.
+// The number of tables that can exist.
 const TABLE_COUNT: usize = 256;
 
 /// For each table whether it is in the union.
@@ -95,7 +95,7 @@ fn is_usual_table(t: usize) -> bool
     t <= 2 || t == 4 || t == 5 || t == 8 || t == 12
 }
 
-/// For each table whether it is declared. `union` says it of the union.
+/// For each table whether it is declared. `union` holds for each table whether it is in the union.
 #[tactic(auto, unfolding(crate::specs::Union::is_declared))]
 pub(crate) fn declared_marks(
     alloc: Global,

@@ -2,10 +2,10 @@
 
 use key_syms::Pair;
 
-/// How many function keys have a row among the usual strings.
+/// The number of function keys with a row among the usual strings.
 pub(crate) const USUAL_STRING_COUNT: usize = 30;
 
-/// How many usual pairs there are.
+/// The number of usual pairs.
 pub(crate) const USUAL_PAIR_COUNT: usize = 66;
 
 /// The usual strings of the function keys in order, each up to its first 0.
@@ -43,7 +43,7 @@ pub(crate) static USUAL_STRINGS: [[u8; 5]; USUAL_STRING_COUNT] = [
     *b"\x1B[P\0\0", // Pause
 ];
 
-/// The usual pairs: an accent or a first character, a character, and what the two make.
+/// The usual pairs: an accent or a first character, a character, and the result of the two.
 #[rattlefmt::skip]
 pub(crate) static USUAL_PAIRS: [Pair; USUAL_PAIR_COUNT] = [
     Pair { accent: b'`' as u16, base: b'A' as u16, result: 0xC0 }, // À

@@ -1,4 +1,4 @@
--- A text as the one way to read tables from it.
+-- A text that is read as given tables.
 use Rattle.std.specs.Prelude.{◌≡◌, ℕ, None, Ok, [], List, IsTrue}
 use Rattle.key_compile.specs.Compiled.{AreTablesOf}
 use Rattle.key_compile.specs.Dumpable.{is_dumpable}

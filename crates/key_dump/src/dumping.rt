@@ -15,7 +15,7 @@ use key_tables::KeyTables;
 use std::alloc::Global;
 use vt_base::{Bytes, NoMemory};
 
-// How many tables there may be, and how many function keys.
+// The most tables, and the most function keys.
 const TABLE_COUNT: usize = 256;
 
 /// Whether tables can be written as a keymap text: at least one exists, and the pairs are of

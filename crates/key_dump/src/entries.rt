@@ -15,7 +15,7 @@ use vt_base::{Bytes, NoMemory};
 // One past the greatest keycode.
 const KEYCODES: u16 = 256;
 
-/// Adds the rows of a table, where it exists.
+/// Adds the rows of a table, if it exists.
 pub(crate) fn add_table(
     alloc: Global,
     text: &mut Bytes,
@@ -34,7 +34,7 @@ pub(crate) fn add_table(
     Ok(())
 }
 
-// Adds the row of an entry, where it is there and isn't a hole.
+// Adds the row of an entry, if it exists and isn't a hole.
 fn add_entry(
     alloc: Global,
     text: &mut Bytes,

@@ -7,7 +7,7 @@ use key_syms::{Action, kind, name_of};
 use std::alloc::Global;
 use vt_base::{Bytes, NoMemory};
 
-/// Adds the row of the string of a function key, where it isn't empty.
+/// Adds the row of the string of a function key, if it isn't empty.
 pub(crate) fn add_string(
     alloc: Global,
     text: &mut Bytes,
@@ -39,7 +39,7 @@ fn add_string_row(alloc: Global, text: &mut Bytes, i: u8, string: &[u8]) -> Resu
     Ok(())
 }
 
-// Adds a text as it stands between quotes.
+// Adds a text in the form that it has between quotes.
 fn add_escaped(alloc: Global, text: &mut Bytes, string: &[u8]) -> Result<(), NoMemory>
     ensures { OnOk result (text.new.bytes ≡ text.old.bytes ++ flat_map escape_of string.now) }
 {

@@ -1,4 +1,4 @@
--- What a key that goes down or up changes in the counts, and what these say of the weight.
+-- The changes of the counts by a key that goes down or up, and the weight that the counts give.
 use Rattle.std.proofs.Common.{◌≡◌, ℕ, ◌<◌, ◌^◌, Bool, true, false, cond, List, [], ◌∷◌, get_or, Option, refl, arith, ltb, ⊎_elim}
 use Rattle.std.specs.List.{count_by, list_any}
 use Rattle.std.proofs.lemmas.Bool.{cases_Bool}

@@ -7,12 +7,12 @@ use Rattle.key_machine.specs.declared.key_out.KeyOut.TheVariants.{Bytes, Nothing
 use Rattle.key_machine.specs.Numbers.{ESCPREFIX, MEDIUMRAW, UNICODE, XLATE}
 use Rattle.key_syms.specs.Act.{is_surrogate}
 
--- bytes go out, where there are any
+-- bytes go out, if there are any
 abbrev pub out_of : List ℕ → KeyOut
 out_of [] = Nothing
 out_of (b ∷ bytes) = Bytes (b ∷ bytes)
 
--- a character: in UTF-8 in K_UNICODE, as one byte in K_XLATE, and as nothing where it has none
+-- a character: in UTF-8 in K_UNICODE, as one byte in K_XLATE, and as no bytes if it has none
 unfoldable pub character_bytes : ℕ → ℕ → List ℕ
 character_bytes mode code =
     if mode == UNICODE then (if is_surrogate code then [] else encode_utf8 code)
@@ -23,7 +23,7 @@ character_bytes mode code =
 abbrev pub characters_bytes : ℕ → List ℕ → List ℕ
 characters_bytes mode codes = flat_map (character_bytes mode) codes
 
--- a code in K_MEDIUMRAW: one byte below 128, else three. The high bit of the first says that the key
+-- a code in K_MEDIUMRAW: one byte below 128, otherwise three. The high bit of the first one is 1 if the key
 -- goes up
 unfoldable pub code_bytes : ℕ → Bool → List ℕ
 code_bytes code down =
@@ -31,7 +31,7 @@ code_bytes code down =
     if nat_lt code 0x80 then (code + up) ∷ []
     else up ∷ (0x80 + code / 0x80) ∷ (0x80 + code % 0x80) ∷ []
 
--- what goes out where no key is to act: the code in K_MEDIUMRAW
+-- the bytes that go out if no key acts: the code in K_MEDIUMRAW
 abbrev pub idle_bytes : ℕ → ℕ → Bool → List ℕ
 idle_bytes mode code down = if mode == MEDIUMRAW then code_bytes code down else []
 

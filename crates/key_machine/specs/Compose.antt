@@ -1,12 +1,12 @@
--- Accents and what they make of a character (keymaps(5), "COMPOSE DEFINITIONS"). What waits and for
--- how long is this project's own.
+-- Accents, and the characters that they make (keymaps(5), "COMPOSE DEFINITIONS"). Which accents wait, and for
+-- how long, is this project's own.
 use Rattle.std.specs.Prelude.{ℕ, false, ◌==◌, ◌||◌, Option, Some, None, List, [], ◌∷◌, if◌then◌else◌}
 use Rattle.key_machine.specs.Keys.{nothing_waits}
 use Rattle.key_machine.specs.declared.waiting.Waiting.{Waiting}
 use Rattle.key_syms.specs.declared.pair.Pair.{Pair}
 use Rattle.key_tables.specs.Tables.{found_in}
 
--- the characters that go out, and what then waits
+-- the characters that go out, and the accent or Compose that then waits
 pub record Typed : Type 0 where
   pub codes : List ℕ
   pub waiting : Waiting
@@ -14,12 +14,12 @@ pub record Typed : Type 0 where
 abbrev pub make_typed : List ℕ → Waiting → Typed
 make_typed codes waiting = record { codes = codes; waiting = waiting }
 
--- a character waits as accent
+-- a character waits as an accent
 abbrev pub waits : ℕ → Waiting
 waits code = record { accent = Some code; composing = false }
 
--- an accent and a character: the result of their first pair; else the accent alone, where the
--- character is a space or the accent; else both
+-- an accent and a character: the result of their first pair; otherwise the accent alone, if the character is
+-- a space or the accent; otherwise both
 abbrev pub joined_by : Option ℕ → ℕ → ℕ → List ℕ
 joined_by (Some result) accent code = result ∷ []
 joined_by None accent code =
@@ -31,13 +31,13 @@ typed_character pairs None code = make_typed (code ∷ []) nothing_waits
 typed_character pairs (Some accent) code =
     make_typed (joined_by (found_in pairs accent code) accent code) nothing_waits
 
--- a character; the first one after Compose waits as accent in place of one that waits
+-- a character; the first one after Compose waits as an accent, in place of one that waits
 unfoldable pub character : List Pair → Waiting → ℕ → Typed
 character pairs w code =
     if w.composing then make_typed [] (waits code) else typed_character pairs w.accent code
 
--- a second accent: the result of their first pair; else the accent, where both are the same; else
--- the first goes out and the second waits
+-- a second accent: the result of their first pair; otherwise the accent, if both are the same; otherwise the
+-- first goes out and the second waits
 abbrev pub accented_by : Option ℕ → ℕ → ℕ → Typed
 accented_by (Some result) accent new = make_typed (result ∷ []) nothing_waits
 accented_by None accent new =

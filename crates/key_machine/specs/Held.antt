@@ -4,7 +4,7 @@ use Rattle.key_machine.specs.Keys.{Down, down_as, is_modifier}
 use Rattle.key_syms.specs.Act.{Act}
 use Rattle.key_syms.specs.Kinds.{MODIFIER}
 
--- the keys down, where the first entry is that of place n: a keyboard has 256 places, by keycodes
+-- the keys down, if the first entry is that of place n: a keyboard has 256 places, by keycodes
 abbrev pub downs_from : ℕ → List (Option Act) → List Down
 downs_from n [] = []
 downs_from n (None ∷ entries) = downs_from (n + 1) entries
@@ -13,7 +13,7 @@ downs_from n (Some a ∷ entries) = down_as (n / 256) (n % 256) a ∷ downs_from
 unfoldable pub downs : List (Option Act) → List Down
 downs entries = downs_from 0 entries
 
--- a key that stays when those of a keyboard below keycode n have gone
+-- a key that stays when the keys of a keyboard below keycode n are released
 abbrev pub stays : ℕ → ℕ → Down → Bool
 stays from n d = not (d.from == from && nat_lt d.code n)
 
@@ -31,6 +31,6 @@ pub record IsCounted (entries : List (Option Act)) (counts : List ℕ) : Type 0 
   pub eight : length counts ≡ 8
   pub each : (v : ℕ) → v < 8 → slice_index counts v ≡ count_by (holds_modifier v) entries
 
--- which modifier an action is
+-- the modifier that an action is, if it is one
 abbrev pub modifier_of : Act → Option ℕ
 modifier_of a = if a.kind == MODIFIER then Some a.value else None

@@ -11,8 +11,8 @@ use Rattle.key_syms.specs.Kinds.{LOCK}
 use Rattle.key_tables.specs.Tables.{Tables}
 use Rattle.scan_codes.specs.declared.key_event.KeyEvent.{KeyEvent}
 
--- what happens on a keyboard, a key event or, where there is none, its end; and what that meets: the
--- tables, the modes and the state of the console in front
+-- an event of a keyboard, a key event or, if there is none, its end; and the tables, the modes and the state
+-- of the console in front at that event
 pub record Turn : Type 0 where
   pub from : ℕ
   pub event : Option KeyEvent
@@ -29,25 +29,25 @@ abbrev pub keys_after : List Turn → Keys → Keys
 keys_after [] keys = keys
 keys_after (t ∷ turns) keys = keys_after turns (keys_by t.event t keys)
 
--- what happened says that a keycode of its keyboard is down, or what was so before
+-- whether a keycode of the keyboard is down after this event, given whether it was before
 abbrev pub says : Option KeyEvent → Bool → ℕ → Bool
 says None before code = false
 says (Some e) before code = if code == e.code then e.down else before
 
--- what the last event of a key, or the end of its keyboard, says, and without one what was so before
+-- whether a key is down by its last event or the end of its keyboard; without one, as it was given
 abbrev pub last_says : List Turn → Bool → ℕ → ℕ → Bool
 last_says [] before on code = before
 last_says (t ∷ turns) before on code =
     last_says turns (if on == t.from then says t.event before code else before) on code
 
--- from a start, the keys that are down are those whose last event says so
+-- from a start, the keys that are down are those whose last event is that they go down
 abbrev pub DownsAreLast : Type 0
 DownsAreLast =
     (turns : List Turn) (on code : ℕ)
     → is_some (recorded_action (keys_after turns start_keys).down on code) ≡ last_says turns false on code
 
--- where every key that went down came up again, or its keyboard went, no key is down and no modifier
--- weighs, whatever the tables, the modes and the states were in between
+-- if every key that went down came up again, or its keyboard ended, no key is down and the modifier weight is
+-- 0, whatever the tables, the modes and the states were in between
 abbrev pub AllComeUp : Type 0
 AllComeUp =
     (turns : List Turn) → ((on code : ℕ) → IsFalse (last_says turns false on code))
@@ -87,7 +87,7 @@ LocksStay =
 abbrev pub medium_bytes : List KeyEvent → List ℕ
 medium_bytes events = flat_map (λ e. idle_bytes MEDIUMRAW e.code e.down) events
 
--- the bytes in K_MEDIUMRAW tell the events: other events have other bytes
+-- the bytes in K_MEDIUMRAW determine the events: different events have different bytes
 abbrev pub MediumBytesTell : Type 0
 MediumBytesTell =
     (events others : List KeyEvent)

@@ -1,4 +1,4 @@
--- The keys that are down, what waits, and the key state (keymaps(5), loadkeys(1)).
+-- The keys that are down, the accent or Compose that waits, and the key state (keymaps(5), loadkeys(1)).
 use Rattle.std.specs.Prelude.{ℕ, ◌+◌, ◌^◌, Bool, true, false, ◌==◌, ◌&&◌, ◌||◌, not, nat_lt, Option, None, List, [], ◌∷◌, ◌++◌, filter, find, bit_and, bit_or, bit_xor, if◌then◌else◌}
 use Rattle.std.specs.List.{list_any}
 use Rattle.std.specs.Option.{option_map}
@@ -16,8 +16,8 @@ pub record Down : Type 0 where
 abbrev pub down_as : ℕ → ℕ → Act → Down
 down_as from code a = record { from = from; code = code; action = a }
 
--- the keys that are down, by rising keyboards and keycodes. All keyboards share the rest: what waits
--- for a character, and the number that Ascii keys have begun
+-- the keys that are down, by rising keyboards and keycodes. All keyboards share the rest: the accent or
+-- Compose that waits, and the number that Ascii keys have begun
 pub record Keys : Type 0 where
   pub down : List Down
   pub waiting : Waiting
@@ -34,7 +34,7 @@ nothing_waits = record { accent = None; composing = false }
 abbrev pub start_keys : Keys
 start_keys = keys_of [] nothing_waits None
 
--- a key is that of a keyboard and a keycode
+-- a key is the one of this keyboard and this keycode
 abbrev pub is_key : ℕ → ℕ → Down → Bool
 is_key from code d = d.from == from && d.code == code
 
@@ -42,7 +42,7 @@ is_key from code d = d.from == from && d.code == code
 abbrev pub is_before : ℕ → ℕ → ℕ → ℕ → Bool
 is_before from code from2 code2 = nat_lt from from2 || (from == from2 && nat_lt code code2)
 
--- the action that was recorded at the press of a key, where it is down
+-- the action that was recorded at the press of a key, if it is down
 unfoldable pub recorded_action : List Down → ℕ → ℕ → Option Act
 recorded_action down from code = option_map (λ d. d.action) (find (is_key from code) down)
 
@@ -56,7 +56,7 @@ with_key down from code a =
 unfoldable pub without_key : List Down → ℕ → ℕ → List Down
 without_key down from code = filter (λ d. not (is_key from code d)) down
 
--- a keyboard goes, with all its keys
+-- a keyboard ends, with all its keys
 unfoldable pub without_keyboard : List Down → ℕ → List Down
 without_keyboard down from = filter (λ d. not (d.from == from)) down
 
@@ -67,7 +67,7 @@ after_unplug from keys = record keys { down = without_keyboard keys.down from }
 abbrev pub is_modifier : ℕ → Act → Bool
 is_modifier v a = a.kind == MODIFIER && a.value == v
 
--- the weight of a modifier, once, where a key is down as it
+-- the weight of a modifier, once, if a key is down as it
 abbrev pub weighs : List Down → ℕ → ℕ
 weighs down v = if list_any (λ d. is_modifier v d.action) down then 2 ^ v else 0
 
@@ -77,8 +77,8 @@ weight_of down =
     weighs down 0 + weighs down 1 + weighs down 2 + weighs down 3
     + weighs down 4 + weighs down 5 + weighs down 6 + weighs down 7
 
--- a console's key state: its keyboard mode, what Meta does, the flags and those of a reset, the
--- lights where they don't show the flags, and the locked and the sticky modifiers by their weights
+-- a console's key state: its keyboard mode, the use of Meta, the flags and those of a reset, the lights if
+-- they don't show the flags, and the locked and the sticky modifiers by their weights
 pub record State : Type 0 where
   pub mode : ℕ
   pub meta : ℕ
@@ -92,7 +92,7 @@ pub record State : Type 0 where
 abbrev pub is_on : ℕ → ℕ → Bool
 is_on flags flag = not (bit_and flags flag == 0)
 
--- the table in use: modifiers that are down or sticky, the locked ones the other way round
+-- the table in use: (the modifiers that are down or sticky) XOR the locked ones
 abbrev pub table_of : ℕ → State → ℕ
 table_of weight s = bit_xor (bit_or weight s.sticky) s.locks
 

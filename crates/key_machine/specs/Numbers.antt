@@ -1,5 +1,4 @@
--- The numbers of keyboard modes, of flags and of what keys do. The code's constants are proved equal
--- to them.
+-- The numbers of keyboard modes, of flags and of actions. The code's constants are proved equal to them.
 use Rattle.std.specs.Prelude.{ℕ}
 
 -- keyboard modes: ioctl_console(2), KDSKBMODE
@@ -18,7 +17,7 @@ UNICODE = 3
 abbrev pub OFF : ℕ
 OFF = 4
 
--- what Meta does: ioctl_console(2), KDSKBMETA
+-- the uses of Meta: ioctl_console(2), KDSKBMETA
 abbrev pub METABIT : ℕ
 METABIT = 3
 
@@ -35,7 +34,7 @@ NUM = 2
 abbrev pub CAPS : ℕ
 CAPS = 4
 
--- the special actions that do something, by the values of docs/KEYS.md
+-- the special actions that have an effect, by the values of docs/KEYS.md
 abbrev pub RETURN : ℕ
 RETURN = 1
 

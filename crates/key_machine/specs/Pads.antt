@@ -32,8 +32,8 @@ unfoldable pub pad_on : Bool → ℕ → List ℕ
 pad_on newline v =
     if v == ENTER then return_bytes newline else slice_index pad_characters v ∷ []
 
--- without NumLock: the key of the cursor pad in its place, and in the middle ESC [ G; those without
--- one give their characters
+-- without NumLock: the bytes of the cursor pad's key at the same place, and ESC [ G in the middle; a key
+-- without such a key gives its character
 unfoldable pub pad_off : Tables → KeyModes → ℕ → List ℕ
 pad_off tables modes v =
     if v == 0 then func_of tables INSERT
@@ -49,7 +49,7 @@ pad_off tables modes v =
     else if v == 15 || v == 16 then func_of tables REMOVE
     else pad_on modes.newline v
 
--- with DECPAM, where no modifier is down, ESC O and the letter of the key
+-- with DECPAM, if no modifier is down, ESC O and the letter of the key
 unfoldable pub pad_bytes : Tables → KeyModes → ℕ → ℕ → ℕ → List ℕ
 pad_bytes tables modes weight flags v =
     if modes.keypad && weight == 0 then 0x1B ∷ 0x4F ∷ slice_index pad_letters v ∷ []

@@ -1,5 +1,5 @@
--- What a key event does to a keyboard and a console's key state, and what goes out (keymaps(5)). The
--- rows go in the order of the kinds of actions. What keymaps(5) leaves open is this project's own.
+-- The effect of a key event on a keyboard and a console's key state, and its output (keymaps(5)). The cases
+-- are in the order of the kinds of actions. The rules that keymaps(5) leaves open are this project's own.
 use Rattle.std.specs.Prelude.{ℕ, ◌+◌, ◌*◌, ◌^◌, min, Bool, true, false, ◌==◌, ◌&&◌, ◌||◌, not, is_some, unwrap_or, Option, Some, None, List, [], ◌∷◌, bit_or, bit_xor, if◌then◌else◌}
 use Rattle.key_machine.specs.Bytes.{character_bytes, characters_bytes, idle_bytes, meta_bytes, out_of, return_bytes}
 use Rattle.key_machine.specs.Compose.{Typed, accent_of, character, dead}
@@ -14,7 +14,7 @@ use Rattle.key_syms.specs.Kinds.{CHARACTER, CONSOLE, CURSOR, DEAD, FUNCTION, HOL
 use Rattle.key_tables.specs.Tables.{Tables, entry_of, func_of, hole}
 use Rattle.scan_codes.specs.declared.key_event.KeyEvent.{KeyEvent}
 
--- the keyboard and the state after a key event, and what goes out
+-- the keyboard and the state after a key event, and the output
 pub record Step : Type 0 where
   pub keys : Keys
   pub state : State
@@ -23,8 +23,8 @@ pub record Step : Type 0 where
 abbrev pub step : Keys → State → KeyOut → Step
 step keys state out = record { keys = keys; state = state; out = out }
 
--- the action of a keycode in a table, a hole where there is no such table; with Caps on a letter is
--- that of the table with Shift the other way round, where there is one
+-- the action of a keycode in a table, a hole if there is no such table; with Caps on, a letter is that of the
+-- table with Shift the other way around, if there is one
 unfoldable pub action_of : Tables → ℕ → Bool → ℕ → Act
 action_of tables t caps code =
     let a = unwrap_or (entry_of tables t code) hole in
@@ -64,7 +64,7 @@ special modes v keys s =
     else if v == CAPS_ON then step keys (record s { flags = bit_or s.flags CAPS }) Nothing
     else step keys s Nothing
 
--- what an action does, by its kind
+-- the effect of an action, by its kind
 unfoldable pub action_step : Tables → KeyModes → ℕ → Act → Keys → State → Step
 action_step tables modes weight a keys s =
     if a.kind == HOLE then step keys s Nothing
@@ -98,7 +98,7 @@ keeps_sticky a = a.kind == MODIFIER || a.kind == STICKY || a.kind == HOLE
 abbrev pub after_sticky_use : Act → State → State
 after_sticky_use a s = if keeps_sticky a then s else record s { sticky = 0 }
 
--- what a press says in one of the other modes
+-- the output of a press in one of the other modes
 abbrev pub idle_out : ℕ → ℕ → Act → KeyOut
 idle_out mode code a =
     if a.kind == SPECIAL && a.value == SAK then Attention
@@ -116,14 +116,14 @@ abbrev pub changes_flag : ℕ → Bool
 changes_flag v =
     v == CAPS_LOCK || v == NUM_LOCK || v == SCROLL_LOCK || v == BARE_NUM_LOCK || v == CAPS_ON
 
--- a key that is held does it again: not modifiers, locks, sticky modifiers and changes of a flag
+-- a held key repeats its action, unless that is a modifier, a lock, a sticky modifier or a change of a flag
 unfoldable pub repeats : Act → Bool
 repeats a =
     not (a.kind == MODIFIER || a.kind == LOCK || a.kind == STICKY
     || (a.kind == SPECIAL && changes_flag a.value))
 
--- a key goes down: it is recorded with its action, unless that same keyboard holds it down already.
--- Then it repeats: its action is looked up again, and what is recorded stays
+-- a key goes down: it is recorded with its action, unless that same keyboard holds it down already. Then it
+-- repeats: its action is looked up again, and the record stays
 unfoldable pub press_step : Tables → KeyModes → ℕ → ℕ → Keys → State → Step
 press_step tables modes from code keys s =
     let weight = weight_of keys.down in
@@ -143,7 +143,7 @@ abbrev pub was_modifier : Option Act → Bool
 was_modifier None = false
 was_modifier (Some a) = a.kind == MODIFIER
 
--- a key goes up: where it was a modifier by its record, the number goes out
+-- a key goes up: if it was a modifier by its record, the number goes out
 unfoldable pub release_step : ℕ → ℕ → Keys → State → Step
 release_step from code keys s =
     let up = record keys { down = without_key keys.down from code } in

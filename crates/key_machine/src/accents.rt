@@ -31,7 +31,7 @@ pub(crate) fn character(t: &KeyTables, waiting: Waiting, code: u16) -> (TypedCod
     }
 }
 
-// What an accent and a character make, where the pair has this result.
+// The characters of an accent and a character, if their pair has this result.
 fn join(pair: Option<u16>, accent: u16, code: u16) -> TypedCodes
     ensures { codes_of result ≡ joined_by pair accent code }
 {
@@ -64,7 +64,7 @@ pub(crate) fn dead(t: &KeyTables, waiting: Waiting, new: u16) -> (TypedCodes, Wa
     }
 }
 
-// What waits after two accents that no pair joins.
+// The accent that waits after two accents that no pair joins.
 fn second(accent: u16, new: u16) -> Waiting
     ensures { result ≡ (if accent == new then nothing_waits else waits new) }
 {

@@ -9,7 +9,7 @@ use crate::{KbState, KeyBytes, KeyOut, flag, mode, special};
 use key_syms::{Action, kind};
 use key_tables::KeyTables;
 
-/// What a keycode does in a table.
+/// The action of a keycode in a table.
 #[tactic(auto, unfolding(crate::specs::Step::action_of))]
 pub(crate) fn action_of(t: &KeyTables, table: u8, caps: bool, code: u8) -> Action
     ensures { result ≡ action_of t.now table caps code }
@@ -34,7 +34,7 @@ pub(crate) fn keeps_sticky(a: Action) -> bool
     matches!(a.kind, kind::MODIFIER | kind::STICKY | kind::HOLE)
 }
 
-/// Whether a key that is held does it again.
+/// Whether a held key repeats the action.
 #[tactic(auto, unfolding(crate::specs::Step::repeats))]
 pub(crate) fn repeats(a: Action) -> bool
     ensures { result ≡ repeats a }
@@ -98,7 +98,7 @@ pub(crate) fn table_of(weight: u8, s: &KbState) -> u8
     (weight | s.sticky) ^ s.locks
 }
 
-/// The sticky modifiers go with an action.
+/// Removes the sticky modifiers, unless the action keeps them.
 pub(crate) fn spend(a: Action, s: &mut KbState)
     ensures { s.new ≡ after_sticky_use a s.old }
 {
@@ -119,7 +119,7 @@ pub(crate) fn num_lock(s: &mut KbState, keypad: bool) -> KeyOut
     KeyOut::Nothing
 }
 
-/// What a key sends where it doesn't act.
+/// The output of a key that doesn't act.
 pub(crate) fn send_idle(mode: u8, code: u8, down: bool) -> KeyOut
     ensures { result ≡ out_of (idle_bytes mode code down) }
 {
@@ -130,7 +130,7 @@ pub(crate) fn send_idle(mode: u8, code: u8, down: bool) -> KeyOut
     }
 }
 
-/// What a press gives in a mode in which SAK and the modifiers alone act.
+/// The output of a press in a mode in which only SAK and the modifiers act.
 pub(crate) fn idle_out(mode: u8, code: u8, a: Action) -> KeyOut
     ensures { result ≡ idle_out mode code a }
 {

@@ -5,7 +5,7 @@ ghost use Rattle.key_machine.specs.Codes.{codes_of};
 use crate::accents::TypedCodes;
 use crate::{KeyBytes, KeyOut, meta, mode};
 
-/// The bytes go out, where there are any.
+/// The bytes as output, if there are any.
 pub(crate) fn sent(bytes: KeyBytes) -> KeyOut
     ensures { result ≡ out_of bytes }
 {

@@ -62,7 +62,7 @@ impl HeldKeys {
         }
     }
 
-    /// The key goes up. The answer is whether it was down as a modifier.
+    /// The key goes up. Returns whether it was down as a modifier.
     #[tactic(auto, using(crate::proofs::Downs::entries_as_keys))]
     pub(crate) fn release(&mut self, from: u8, code: u8) -> bool
         requires { from < 4 }
@@ -82,7 +82,7 @@ impl HeldKeys {
         true
     }
 
-    /// The keyboard goes, with all its keys.
+    /// The keyboard is unplugged: all its keys go up.
     pub(crate) fn unplug(&mut self, from: u8)
         requires { from < 4 }
         ensures { self.new ≡ without_keyboard self.old from }
@@ -93,7 +93,7 @@ impl HeldKeys {
         }
     }
 
-    // Nothing is done: every keycode is below 256.
+    // Does nothing. It is called for its clause: every keycode is below 256.
     fn has_bytes(&self, from: u8)
         ensures { left_to from 256 self.now ≡ without_keyboard self.now from }
     {
@@ -116,7 +116,7 @@ impl HeldKeys {
     }
 }
 
-// The place of a key: a keyboard's keys stand together, by their keycodes.
+// The place of a key: the keys of a keyboard are next to each other, by their keycodes.
 fn place(from: u8, code: u8) -> usize
     requires { from < 4 }
     ensures place { result ≡ 256 * from + code }
@@ -125,7 +125,7 @@ fn place(from: u8, code: u8) -> usize
     KEYCODES * usize::from(from) + usize::from(code)
 }
 
-// Which modifier an action is.
+// The modifier that an action is, if it is one.
 fn modifier_of(a: Action) -> Option<usize>
     ensures value { result ≡ modifier_of a }
     ensures small { IfSome result (λ v. v < 8) }
@@ -137,7 +137,7 @@ fn modifier_of(a: Action) -> Option<usize>
     }
 }
 
-// What a modifier weighs of which so many keys are down.
+// The weight of a modifier as which so many keys are down.
 fn weight(count: u16, weight: u8) -> u8
     ensures { result ≡ cond (nat_lt 0 count) weight 0 }
 {

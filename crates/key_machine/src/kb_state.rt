@@ -9,7 +9,7 @@ use std::marker::Model;
 pub struct KbState {
     /// The keyboard mode: one of [`crate::mode`].
     pub mode: u8,
-    /// What Meta does: one of [`crate::meta`].
+    /// The use of Meta: one of [`crate::meta`].
     pub meta: u8,
     /// The flags of [`crate::flag`] that are on.
     pub flags: u8,

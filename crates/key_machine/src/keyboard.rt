@@ -78,7 +78,7 @@ impl Keyboard {
         self.held.unplug(from);
     }
 
-    // A key goes down. That its weight is taken before it is recorded is part of the rule.
+    // A key goes down. Its weight is taken before it is recorded: this order is part of the rule.
     #[tactic(auto, unfolding(crate::specs::Step::press_step))]
     fn press(&mut self, from: u8, code: u8, t: &KeyTables, s: &mut KbState, m: KeyModes) -> KeyOut
         requires { from < 4 }
@@ -131,7 +131,7 @@ impl Keyboard {
         out
     }
 
-    // What an action does, by its kind.
+    // Applies an action, by its kind.
     #[tactic(auto, unfolding(crate::specs::Step::action_step))]
     fn act(&mut self, a: Action, weight: u8, t: &KeyTables, s: &mut KbState, m: KeyModes) -> KeyOut
         ensures { action_step t.now m weight a self.old s.old ≡ step self.new s.new result }
@@ -159,7 +159,7 @@ impl Keyboard {
         }
     }
 
-    // What a special action does.
+    // Applies a special action.
     #[tactic(auto, unfolding(crate::specs::Step::special))]
     fn act_special(&mut self, v: u16, s: &mut KbState, m: KeyModes) -> KeyOut
         ensures { special m v self.old s.old ≡ step self.new s.new result }
@@ -202,7 +202,7 @@ impl Keyboard {
         sent(characters_bytes(s.mode, codes))
     }
 
-    // A digit after those of the number that is kept.
+    // Adds a digit to the number that is kept.
     fn add_digit(&mut self, digit: u16) -> KeyOut
         requires { digit ≤ 9 }
         ensures keys { self.new ≡ record self.old { number = Some (number_with self.old.number digit) } }

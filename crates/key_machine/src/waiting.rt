@@ -1,4 +1,4 @@
-/// What waits for a character.
+/// The accent or Compose that waits for a character.
 #[derive(Clone, Copy, Debug, PartialEq, Eq)]
 pub(crate) struct Waiting {
     /// An accent.
@@ -12,7 +12,7 @@ impl Waiting {
     ghost use Rattle.key_machine.specs.Compose.{waits};
     ghost use Rattle.key_machine.specs.Keys.{nothing_waits};
 
-    /// Nothing.
+    /// Nothing waits.
     pub(crate) fn nothing() -> Waiting
         ensures { result ≡ nothing_waits }
     {

@@ -1,4 +1,4 @@
--- What is computed over the whole symbol table.
+-- Facts that are computed over the whole symbol table.
 use Rattle.std.proofs.Common.{◌≡◌, ℕ, ◌&&◌, Bool, true, false, leb, ltb, List, [], ◌∷◌, length, get_or, map, refl}
 use Rattle.std.specs.Fmt.{digits}
 use Rattle.std.specs.List.{list_all}

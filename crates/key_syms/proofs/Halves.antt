@@ -1,4 +1,4 @@
--- A search by halves: what is known of the ranks on both sides of the part that is left.
+-- A search by halves: the facts about the ranks on both sides of the part that is left.
 use Rattle.std.proofs.Common.{◌≡◌, ℕ, ◌+◌, ◌<◌, ◌≤◌, List, sym, ap, ◌∙◌, subst, inl, inr, arith}
 use Rattle.std.proofs.lemmas.Bool.{cases_lt}
 use Rattle.std.proofs.lemmas.Cmp.{nat_list_cmp_total}

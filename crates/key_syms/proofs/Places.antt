@@ -1,4 +1,4 @@
--- What the index says of the names, by their places and ranks.
+-- The facts of the index about the names, by their places and ranks.
 use Rattle.std.proofs.Common.{◌≡◌, ℕ, ◌+◌, ◌-◌, ◌<◌, ◌≤◌, List, [], length, get_or, take, drop, map, refl, sym, ap, ◌∙◌, subst, inl, inr, ltb, arith}
 use Rattle.std.proofs.lemmas.Bool.{cases_order, ltb-true}
 use Rattle.std.proofs.lemmas.Cmp.{nat_list_cmp_total, tied_itself}

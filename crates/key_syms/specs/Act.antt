@@ -1,4 +1,4 @@
--- What a key does.
+-- The actions of keys.
 use Rattle.std.specs.Prelude.{ℕ, Bool, ◌==◌, ◌&&◌, ◌||◌, not, nat_le}
 use Rattle.key_syms.specs.Kinds.{ASCII, CHARACTER, CONSOLE, CURSOR, DEAD, FUNCTION, HOLE, LETTER, LOCK, META, MODIFIER, PAD, SPECIAL, STICKY}
 

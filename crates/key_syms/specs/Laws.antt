@@ -1,4 +1,4 @@
--- The laws of the symbol table: its two ways go together.
+-- The laws of the symbol table: its two directions agree.
 use Rattle.std.specs.Prelude.{◌≡◌, ℕ, Some, ◌++◌, codes, IsTrue}
 use Rattle.key_syms.specs.Act.{Act, act, is_action, is_character}
 use Rattle.key_syms.specs.Names.{hex4, name_text, symbol}

@@ -1,4 +1,4 @@
--- The two ways of the symbol table: from a name to its action, and back.
+-- The two directions of the symbol table: from a name to its action, and back.
 use Rattle.std.specs.Prelude.{ℕ, ◌+◌, ◌/◌, ◌%◌, Bool, ◌==◌, ◌&&◌, nat_lt, nat_eq, cond, Option, None, List, [], ◌∷◌, ◌++◌, length, codes, drop, find, unwrap_or}
 use Rattle.std.specs.List.{starts_with}
 use Rattle.std.specs.Option.{option_and_then, option_map, option_or}
@@ -23,7 +23,7 @@ code_point name =
 abbrev pub small_number : List ℕ → Option ℕ
 small_number name = option_and_then (number_if (λ n. nat_lt n 256)) (number_of name)
 
--- the action of a name without a row: `+U+xxxx` is a letter, `U+xxxx` and a number are characters
+-- the action of a name that isn't in the table: `+U+xxxx` is a letter, `U+xxxx` and a number are characters
 abbrev pub unlisted_action : List ℕ → Option Act
 unlisted_action name =
     cond (starts_with nat_eq name (codes "+"))
@@ -56,6 +56,6 @@ hex4 n =
 abbrev pub code_name : Act → List ℕ
 code_name a = cond (a.kind == LETTER) (codes "+U+") (codes "U+") ++ hex4 a.value
 
--- the first name of an action, or its code point where it has none
+-- the first name of an action, or its code point if it has none
 unfoldable pub name_text : Act → List ℕ
 name_text a = unwrap_or (first_name symbols a) (code_name a)

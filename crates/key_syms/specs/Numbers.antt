@@ -14,7 +14,7 @@ digit_of b =
     (cond (is_between 0x41 0x46 b) (Some (b - 0x37))
     (cond (is_between 0x61 0x66 b) (Some (b - 0x57)) None))
 
--- the number where it passes the test
+-- the number, if it passes the test
 abbrev pub number_if : (ℕ → Bool) → ℕ → Option ℕ
 number_if test n = cond (test n) (Some n) None
 
@@ -32,7 +32,7 @@ abbrev pub number_in_base : ℕ → List ℕ → Option ℕ
 number_in_base base [] = None
 number_in_base base (b ∷ bs) = fold (with_digit base) (Some 0) (b ∷ bs)
 
--- a number: hexadecimal after 0x, octal after 0, else decimal
+-- a number: hexadecimal after 0x, octal after 0, otherwise decimal
 abbrev pub number_of : List ℕ → Option ℕ
 number_of text =
     cond (starts_with nat_eq text (codes "0x")) (number_in_base 16 (drop 2 text))

@@ -5,7 +5,7 @@ use Rattle.key_syms.specs.Symbols.{symbols}
 use Rattle.key_syms.specs.declared.index.TheConstants.{KINDS, VALUES}
 use Rattle.key_syms.specs.declared.table.TheConstants.{NAMES}
 
--- the text has the names in order, with a blank behind each
+-- the text has the names in order, with a blank after each
 abbrev pub NamesArePacked : Type 0
 NamesArePacked = NAMES ≡ flat_map (λ s. s.name ++ 0x20 ∷ []) symbols
 

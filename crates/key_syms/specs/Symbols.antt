@@ -25,7 +25,7 @@ names_in text = slice_split (λ b. b == 0x20) text
 abbrev pub with_before : List ℕ → List (List ℕ) → List (List ℕ)
 with_before text names = map (λ name. text ++ name) names
 
--- a text behind each of the names
+-- a text after each of the names
 abbrev pub with_after : List ℕ → List (List ℕ) → List (List ℕ)
 with_after text names = map (λ name. name ++ text) names
 
@@ -33,7 +33,7 @@ with_after text names = map (λ name. name ++ text) names
 abbrev pub own_names : ℕ → ℕ → List (List ℕ)
 own_names first n = map (λ code. code ∷ []) (range_with_len first n)
 
--- a text with each of n numbers behind it, from the first one on
+-- a text with each of n numbers after it, from the first one on
 abbrev pub names_with_numbers : List ℕ → ℕ → ℕ → List (List ℕ)
 names_with_numbers text first n = map (λ i. text ++ decimal i) (range_with_len first n)
 

@@ -1,9 +1,9 @@
-//! Where the names of the symbol table lie, their order, and what they stand for. Written by tools/key_index.py,
-//! and proved to be of the definition.
+//! Written by tools/key_index.py: the places of the names of the symbol table, their order and their actions,
+//! proved to be those of the definition.
 
 use crate::table::NAME_COUNT;
 
-/// Where each name starts in the table's text.
+/// The place at which each name starts in the table's text.
 #[rattlefmt::skip]
 pub(crate) static STARTS: [u16; NAME_COUNT] = [
     0, 11, 15, 25, 35, 45, 55, 65, 75, 85, 95, 99, 108, 118, 128, 138, 148, 158, 168, 178, 188,
@@ -73,7 +73,7 @@ pub(crate) static STARTS: [u16; NAME_COUNT] = [
     7590, 7598, 7606,
 ];
 
-/// How many bytes each name has.
+/// The number of bytes of each name.
 #[rattlefmt::skip]
 pub(crate) static LENGTHS: [u8; NAME_COUNT] = [
     10, 3, 9, 9, 9, 9, 9, 9, 9, 9, 3, 8, 9, 9, 9, 9, 9, 9, 9, 9, 9, 9, 9, 9, 9, 9, 9, 9, 6, 17,

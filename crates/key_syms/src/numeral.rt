@@ -16,7 +16,7 @@ pub fn number(text: &[u8]) -> Option<u32>
     }
 }
 
-/// The number that digits of a base spell, or 65,536 where it is more.
+/// The number that the digits spell in a base, or 65,536 if it is more.
 pub(crate) fn digits(base: u32, text: &[u8]) -> Option<u32>
     requires some { 1 ≤ base }
     requires known { base ≤ 16 }

@@ -31,7 +31,7 @@ pub(crate) fn place_of(name: &[u8]) -> Option<usize>
     None
 }
 
-// The place of the name of a rank.
+// The place of the name of this rank.
 #[tactic(auto, using(crate::proofs::Places::order_is_within), unfolding(crate::specs::Index::place_of_rank))]
 fn place_of_rank(rank: usize) -> usize
     requires { rank < NAME_COUNT }

@@ -75,7 +75,7 @@ fn code_point(name: &[u8]) -> Option<u16>
     character(digits(16, &name[2..]))
 }
 
-// The character of a number, which may be given as 65,536 where it is more.
+// The character of a number, which may be given as 65,536 if it is more.
 fn character(code: Option<u32>) -> Option<u16>
     ensures value { (n : Option ℕ) → code ≡ option_map (min 65536) n
         → result ≡ option_and_then (number_if is_character) n }
@@ -96,7 +96,7 @@ fn small_number(name: &[u8]) -> Option<u16>
     small(number(name))
 }
 
-// The same for a number below 256.
+// The character of a number below 256.
 fn small(code: Option<u32>) -> Option<u16>
     ensures value { (n : Option ℕ) → code ≡ option_map (min 65536) n
         → result ≡ option_and_then (number_if (λ m. nat_lt m 256)) n }

@@ -1,12 +1,12 @@
-//! The names of the symbol table. Written by tools/key_index.py, and proved to be those of the definition.
+//! Written by tools/key_index.py: the names of the symbol table, proved equal to those of the definition.
 
-/// How many names there are.
+/// The number of names.
 pub(crate) const NAME_COUNT: usize = 991;
 
-/// How many bytes the text of the names has.
+/// The number of bytes of the text of the names.
 pub(crate) const NAMES_SIZE: usize = 7614;
 
-/// The names in order, with a blank behind each.
+/// The names in order, with a blank after each.
 #[rattlefmt::skip]
 pub(crate) static NAMES: [u8; NAMES_SIZE] = *b"\
     VoidSymbol nul Control_a Control_b Control_c Control_d Control_e Control_f Control_g \

@@ -1,4 +1,4 @@
--- How tables are kept: the declared ones alone, beside an index from table numbers to their places.
+-- How tables are kept: only the declared ones, and an index from table numbers to their places.
 use Rattle.std.specs.Prelude.{◌≡◌, ℕ, ◌<◌, Option, Some, None, List, [], length, map, slice_index_or, All}
 use Rattle.std.specs.Option.{option_map}
 use Rattle.key_syms.specs.Act.{Act}
@@ -8,8 +8,8 @@ use Rattle.key_tables.specs.Tables.{IsMap}
 abbrev pub maps_at : List (Option ℕ) → List (List Act) → List (Option (List Act))
 maps_at places kept = map (λ place. option_map (λ p. slice_index_or kept p []) place) places
 
--- 256 numbers have a place or none; what is kept are tables; each place is that of a table, and no
--- two numbers have one place
+-- 256 numbers have a place or none; the kept entries are tables; each place is that of a table, and no two
+-- numbers have one place
 pub record AreKept (places : List (Option ℕ)) (kept : List (List Act)) : Type 0 where
   pub tall : length places ≡ 256
   pub whole : All (λ map. IsMap map) kept

@@ -25,7 +25,7 @@ abbrev pub table_text : ℕ → Option (List Act) → List ℕ
 table_text t None = []
 table_text t (Some map) = number_text t
 
--- `map T C K V`, where the entry isn't a hole
+-- `map T C K V`, if the entry isn't a hole
 abbrev pub entry_text : ℕ → ℕ → Act → List ℕ
 entry_text t c a =
     cond (a.kind == HOLE) []
@@ -44,7 +44,7 @@ hex_digit d = cond (nat_lt d 10) (0x30 + d) (0x57 + d)
 abbrev pub hex_byte : ℕ → List ℕ
 hex_byte b = hex_digit (b / 16) ∷ hex_digit (b % 16) ∷ []
 
--- `func I B`, where the string isn't empty
+-- `func I B`, if the string isn't empty
 abbrev pub func_text : ℕ → List ℕ → List ℕ
 func_text i [] = []
 func_text i (b ∷ bs) =

@@ -7,7 +7,7 @@ use Rattle.key_syms.specs.Act.{Act, act, is_action}
 use Rattle.key_syms.specs.Kinds.{HOLE}
 use Rattle.key_syms.specs.declared.pair.Pair.{Pair}
 
--- for each table its entries by keycode, where it exists; the function strings; the pairs in order
+-- for each table its entries by keycode, if it exists; the function strings; the pairs in order
 pub record Tables : Type 0 where
   pub maps : List (Option (List Act))
   pub funcs : List (List ℕ)
@@ -20,7 +20,7 @@ tables_of maps funcs pairs = record { maps = maps; funcs = funcs; pairs = pairs 
 abbrev pub hole : Act
 hole = act HOLE 0
 
--- the entries of a table, where it exists
+-- the entries of a table, if it exists
 abbrev pub map_of : Tables → ℕ → Option (List Act)
 map_of tables t = slice_index_or tables.maps t None
 
@@ -28,7 +28,7 @@ map_of tables t = slice_index_or tables.maps t None
 abbrev pub exists_in : Tables → ℕ → Bool
 exists_in tables t = is_some (map_of tables t)
 
--- the action of a keycode in a table, where the table exists
+-- the action of a keycode in a table, if the table exists
 abbrev pub entry_of : Tables → ℕ → ℕ → Option Act
 entry_of tables t c = option_map (λ map. slice_index_or map c hole) (map_of tables t)
 
@@ -56,12 +56,12 @@ pub record IsWhole (tables : Tables) : Type 0 where
   pub bytes : All (λ text. All (λ b. b < 256) text) tables.funcs
   pub few : length tables.pairs ≤ 256
 
--- of 256 tables each is a map where it exists
+-- of 256 tables each one that exists is a map
 pub record AreMaps (maps : List (Option (List Act))) : Type 0 where
   pub tall : length maps ≡ 256
   pub each : All (λ map. IfSome map IsMap) maps
 
--- the tables that are declared exist, and nothing is set
+-- the declared tables exist, and nothing is set
 pub record IsEmpty (declared : List ℕ) (tables : Tables) : Type 0 where
   pub exists :
       (t : ℕ) → exists_in tables t ≡ list_any (λ d. d == t) declared

@@ -10,7 +10,7 @@ use std::alloc::Global;
 use std::marker::Model;
 use vt_base::{Bytes, NoMemory};
 
-// How many function keys and pairs there may be.
+// The most function keys, and the most pairs.
 const STRING_COUNT: usize = 256;
 
 /// The tables that exist with the action of each keycode, the strings of the function keys, and the

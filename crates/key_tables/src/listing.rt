@@ -10,7 +10,7 @@ use key_syms::{Action, Pair, kind};
 use std::alloc::Global;
 use vt_base::{Bytes, NoMemory};
 
-// How many tables there may be.
+// The number of tables that can exist.
 const TABLE_COUNT: u16 = 256;
 
 /// Adds the whole listing.

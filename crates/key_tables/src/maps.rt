@@ -8,10 +8,10 @@ use std::alloc::Global;
 use std::marker::Model;
 use vt_base::NoMemory;
 
-// How many tables there may be.
+// The number of tables that can exist.
 const TABLE_COUNT: usize = 256;
 
-/// The tables by number. Those that are declared are kept alone, each at a place of its own.
+/// The tables by number. Only those that are declared are kept, each at a place of its own.
 #[derive(Debug, Drop)]
 pub(crate) struct Maps {
     places: Vec<Option<u8>>,
@@ -44,7 +44,7 @@ impl Maps {
         Ok(Maps { places, kept })
     }
 
-    /// The same tables.
+    /// A copy.
     pub(crate) fn copy(&self, alloc: Global) -> Result<Maps, NoMemory>
         ensures { IfOk result (λ copy. copy ≡ self.now) }
     {
@@ -71,7 +71,7 @@ impl Maps {
         }
     }
 
-    /// The actions by code, or none where the table doesn't exist.
+    /// The actions by code, or no actions if the table doesn't exist.
     pub(crate) fn entries(&self, t: u8) -> &[Action]
         ensures value { result.now ≡ unwrap_or (slice_index_or self.entry.now t None) [] }
         ensures few { length result.now ≤ 256 }
@@ -92,7 +92,7 @@ impl Maps {
         }
     }
 
-    /// Sets an action of a table, where the table exists.
+    /// Sets an action of a table, if the table exists.
     pub(crate) fn put(&mut self, t: u8, c: u8, a: Action)
         requires { c ≢ 0 }
         ensures maps { self.new ≡ slice_set self.old t
@@ -109,7 +109,7 @@ impl Maps {
     }
 }
 
-// The place of a further table, which is kept where it exists.
+// The place of a further table, which is kept if it exists.
 fn declare(alloc: Global, kept: &mut Vec<Table>, exists: bool) -> Result<Option<u8>, NoMemory>
     requires { length kept.old.items ≤ 255 }
     ensures place { IfOk result

@@ -6,7 +6,7 @@ use std::alloc::{AllocError, Global};
 use std::marker::Model;
 use vt_base::NoMemory;
 
-// How many codes a table has entries for.
+// The number of codes that a table has entries for.
 const KEYCODES: usize = 256;
 
 /// A table: the actions by code.
@@ -36,7 +36,7 @@ impl Table {
         Ok(Table { entries })
     }
 
-    /// The same table.
+    /// A copy.
     pub(crate) fn copy(&self, alloc: Global) -> Result<Table, NoMemory>
         ensures { IfOk result (λ copy. copy ≡ self.now) }
     {

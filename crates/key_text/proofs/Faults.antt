@@ -1,4 +1,4 @@
--- A fault that is handed on.
+-- A fault that is passed on.
 use Rattle.std.proofs.Common.{◌≡◌, Result, Err}
 use Rattle.key_text.specs.Fault.{Fails}
 use Rattle.key_text.specs.declared.fault.KeyError.{KeyError}

@@ -1,4 +1,4 @@
--- What stands at a place of a line is read alike in rows of words that are read alike.
+-- The items at a place of a line are read alike in rows of words that are read alike.
 use Rattle.std.proofs.Common.{◌≡◌, ℕ, ◌==◌, cond, nat_le, ◌&&◌, IsTrue, Option, Some, None, Ok, Err, List, length, refl, ap, subst}
 use Rattle.key_syms.specs.Act.{Act, is_character}
 use Rattle.key_syms.specs.Kinds.{CHARACTER, FUNCTION}

@@ -1,4 +1,4 @@
--- Texts tell the same where the words of their rows are read alike.
+-- Texts have the same content if the words of their rows are read alike.
 use Rattle.std.proofs.Common.{◌≡◌, ℕ, zero, suc, ◌+◌, nat_le, Option, Some, None, unwrap_or, Result, Ok, Err, List, [], ◌∷◌, ◌++◌, length, refl, sym, ap, ◌∙◌, subst, arith}
 use Rattle.std.specs.Option.{option_map}
 use Rattle.key_text.proofs.Like.{Alike}

@@ -1,4 +1,4 @@
--- A text that ends a line, and what follows it, are read one after the other.
+-- A text that ends a line and the text after it are read one after the other.
 use Rattle.std.proofs.Common.{◌≡◌, ℕ, IsTrue, Option, None, Result, Ok, Err, List, [], ◌∷◌, ◌++◌, append-nil, ◌⊎◌, refl, sym, ap, ◌∙◌, inl, inr}
 use Rattle.std.proofs.lemmas.List.{append_assoc}
 use Rattle.key_text.proofs.LikeReading.{rows_empty, with_nothing}

@@ -1,4 +1,4 @@
--- Two readings that come to the same but for places.
+-- Two readings with the same result except for places.
 use Rattle.std.proofs.Common.{◌≡◌, Bool, true, false, cond, Result, Ok, Err, sym}
 use Rattle.std.proofs.lemmas.Bool.{false≢true}
 use Rattle.key_text.specs.Fault.{◌>>=◌}

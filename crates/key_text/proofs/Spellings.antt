@@ -1,4 +1,4 @@
--- All spellings of the same rows of words tell the same.
+-- All spellings of the same rows of words have the same content.
 use Rattle.key_text.proofs.HasWords.{same_rows}
 use Rattle.key_text.proofs.LikeReading.{words_decide}
 use Rattle.key_text.proofs.RowBytes.{spelled_rows}

@@ -1,4 +1,4 @@
--- What a call that adds lines did.
+-- The result of a call that adds lines.
 use Rattle.std.specs.Prelude.{◌≡◌, ℕ, Result, Ok, Err, List, ◌++◌}
 use Rattle.key_text.specs.Fault.{Fails}
 use Rattle.key_text.specs.Reading.{Got, make_got}
@@ -6,8 +6,8 @@ use Rattle.key_text.specs.KeymapLine.{KeymapLine}
 use Rattle.key_text.specs.declared.fault.KeyError.{KeyError}
 use Rattle.key_text.specs.declared.fault.KeyFault.{KeyFault}
 
--- the lines that reading gives came behind those before, and the answer is its count; or the call
--- failed as reading does, or for want of memory
+-- the lines that reading gives were added after those before, and the call returned the count of reading; or
+-- the call failed as reading does, or memory ran out
 abbrev pub Adds : List KeymapLine → List KeymapLine → Result ℕ KeyError → Result Got KeyFault → Type 0
 Adds old new (Ok count) read =
     (lines : List KeymapLine) × (read ≡ Ok (make_got lines count)) × (new ≡ old ++ lines)

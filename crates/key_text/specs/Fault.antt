@@ -14,12 +14,12 @@ abbrev pub ◌>>=◌ : {A B : Type 0} → Result A KeyFault → (A → Result B 
 (Ok x) >>= f = f x
 (Err e) >>= f = Err e
 
--- what a call returned in place of a value is what reading gives, unless memory ran out
+-- the error that a call returned in place of a value is that of reading, unless memory ran out
 abbrev pub Fails : {Y : Type 0} → KeyError → Result Y KeyFault → Type 0
 Fails errors.NoMemory read = Unit {0}
 Fails (errors.Fault f) read = read ≡ Err f
 
--- what a call returned, seen by `view`, is what reading gives, unless memory ran out
+-- the value that a call returned, seen by `view`, is that of reading, unless memory ran out
 abbrev pub Gives : {X Y : Type 0} → (X → Y) → Result X KeyError → Result Y KeyFault → Type 0
 Gives view (Ok x) read = read ≡ Ok (view x)
 Gives view (Err e) read = Fails e read

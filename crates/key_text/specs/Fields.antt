@@ -1,4 +1,4 @@
--- What may stand at a place of a line: a word, a number, a symbol, a quoted text, a character.
+-- The items of a line: a word, a number, a symbol, a quoted text, a character.
 use Rattle.std.specs.Prelude.{ℕ, zero, suc, Bool, ◌==◌, ◌&&◌, cond, nat_le, Option, Some, None, Result, Ok, Err, List, [], ◌∷◌, ◌++◌, length, slice_index_or}
 use Rattle.key_syms.specs.Act.{Act, is_character}
 use Rattle.key_syms.specs.Names.{symbol}
@@ -20,7 +20,7 @@ ended_by (Some word) = whole word >>= λ w. Err (fault LEFT_OVER (spot w.0))
 unfoldable pub end_of_line : List Placed → Result (Unit {0}) KeyFault
 end_of_line items = ended_by (word_at items)
 
--- this keyword, and what follows it
+-- this keyword, and the rest of the row
 unfoldable pub keyword_at : List ℕ → Place → List Placed → Result (List Placed) KeyFault
 keyword_at text end items = do
   w ← next UNKNOWN_WORD end items
@@ -32,7 +32,7 @@ number_in_range low high word None = Err (fault UNKNOWN_WORD (spot word))
 number_in_range low high word (Some n) =
     cond (nat_le low n && nat_le n high) (Ok n) (Err (fault OUT_OF_RANGE (spot word)))
 
--- a keycode, and what follows it
+-- a keycode, and the rest of the row
 unfoldable pub code_at : Place → List Placed → Result (ℕ × List Placed) KeyFault
 code_at end items = do
   w ← next UNKNOWN_WORD end items
@@ -47,7 +47,7 @@ symbol_action word (Some action) = Ok action
 abbrev pub action_of : List Placed → Result Act KeyFault
 action_of word = symbol_action word (symbol (bytes word))
 
--- the first symbol of a key line, and what follows it
+-- the first symbol of a key line, and the rest of the row
 unfoldable pub symbol_at : Place → List Placed → Result (Act × List Placed) KeyFault
 symbol_at end items = do
   w ← next WRONG_COUNT end items
@@ -80,12 +80,12 @@ function_at end items = do
   i ← function_by w.0 action
   Ok (i, w.1)
 
--- a text that a word must quote
+-- a text that a word must quote, otherwise the fault of the word
 abbrev pub good : {X : Type 0} → List Placed → Option X → Result X KeyFault
 good word None = Err (fault BAD_TEXT (spot word))
 good word (Some x) = Ok x
 
--- a quoted text, the place of its word, and what follows it
+-- a quoted text, the place of its word, and the rest of the row
 unfoldable pub text_at : Place → List Placed → Result (List ℕ × Place × List Placed) KeyFault
 text_at end items = do
   w ← next BAD_TEXT end items
@@ -110,11 +110,11 @@ character_by word action =
 abbrev pub named_character : List Placed → Result ℕ KeyFault
 named_character word = action_of word >>= λ action. character_by word action
 
--- the code is a character's
+-- the code is that of a character
 abbrev pub real : List Placed → ℕ → Result ℕ KeyFault
 real word code = cond (is_character code) (Ok code) (Err (fault UNKNOWN_SYMBOL (spot word)))
 
--- the character that a word is: quoted, or a symbol
+-- the character that a word stands for: quoted, or a symbol
 unfoldable pub character_in : List Placed → Result ℕ KeyFault
 character_in word =
     cond (is_quoted word) (good word (character_of word)) (named_character word)

@@ -15,7 +15,7 @@ make_named name text = record { name = name; text = text }
 abbrev pub text_named : List ℕ → List Named → Option (List ℕ)
 text_named name texts = option_map (λ n. n.text) (find (λ n. bytes_eq n.name name) texts)
 
--- a text is added where its name isn't there yet
+-- a text is added, unless its name is there already
 abbrev pub with_text : List ℕ → List ℕ → List Named → List Named
 with_text name text texts =
     cond (is_some (text_named name texts)) texts (texts ++ make_named name text ∷ [])

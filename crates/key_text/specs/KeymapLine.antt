@@ -1,11 +1,11 @@
--- What a line of a keymap tells.
+-- The content of a line of a keymap.
 use Rattle.std.specs.Prelude.{ℕ, Bool, ◌&&◌, nat_le, true, List, length}
 use Rattle.key_syms.specs.Act.{Act, is_character}
 use Rattle.key_syms.specs.declared.pair.Pair.{Pair}
 use Rattle.key_text.specs.Tables.{is_table_set}
 
--- which tables there are; the actions of a code in the tables in order; the one action of a code in
--- one table; a string; a pair; and the lines of one meaning
+-- the content: the tables that exist; the actions of a code in the tables in order; the one action of a code
+-- in one table; a string; a pair; and the lines of one meaning
 pub data Telling : Type 0 where
   keymaps : List Bool → Telling
   keys : ℕ → List Act → Telling
@@ -16,7 +16,7 @@ pub data Telling : Type 0 where
   usual_strings : Telling
   usual_pairs : Telling
 
--- a line: what it tells, and the place of its first word
+-- a line: its content, and the place of its first word
 pub record KeymapLine : Type 0 where
   pub telling : Telling
   pub line : ℕ
@@ -27,7 +27,8 @@ abbrev pub is_real : Pair → Bool
 is_real pair =
     is_character pair.accent && is_character pair.base && is_character pair.result
 
--- there is a table, a code isn't 0, a string has at most 255 bytes, and a pair is of characters
+-- the content is fit: there is a table, a code isn't 0, a string has at most 255 bytes, and a pair is of
+-- characters
 abbrev pub is_fit : Telling → Bool
 is_fit (keymaps tables) = is_table_set tables
 is_fit (keys code actions) = nat_le 1 code

@@ -14,8 +14,8 @@ use Rattle.key_text.specs.declared.keymaps_line.TableRange.{TableRange}
 use Rattle.key_text.specs.declared.placed.Place.{Place}
 use Rattle.key_text.specs.declared.placed.Placed.{Placed}
 
--- what a row says: nothing, a line, or that a text is to be included: its name, the place of the
--- quoted name, and the fault of what follows the name on the row
+-- the statement of a row: nothing, a line, or an include: the name of the text, the place of the quoted name,
+-- and the fault of the words after the name
 pub data Said : Type 0 where
   nothing : Said
   tells : Telling → Said
@@ -27,7 +27,7 @@ comma = 0x2C
 abbrev pub dash : ℕ
 dash = 0x2D
 
--- how many bytes stand before the first of this kind
+-- the number of bytes before the first byte of this kind
 abbrev pub before : ℕ → List ℕ → ℕ
 before mark text = prefix_len (λ b. not (b == mark)) text
 
@@ -109,12 +109,12 @@ weight_of word =
     (cond (is_word (codes "ctrll") word) (Some 64)
     (cond (is_word (codes "ctrlr") word) (Some 128) None))))))))
 
--- `keycode` behind modifier words of this table, and what follows
+-- `keycode` after modifier words of this table, and the rest of the row
 abbrev pub keycode_by : ℕ → List Placed × List Placed → Result (ℕ × List Placed) KeyFault
 keycode_by table w =
     cond (is_word (codes "keycode") w.0) (Ok (table, w.1)) (Err (fault UNKNOWN_WORD (spot w.0)))
 
--- modifier words up to `keycode`, n words at most: the union of the weights, and what follows
+-- modifier words up to `keycode`, n words at most: the union of the weights, and the rest of the row
 abbrev pub modifiers_by : (ℕ → List Placed → Result (ℕ × List Placed) KeyFault) → ℕ → List Placed × List Placed → Option ℕ → Result (ℕ × List Placed) KeyFault
 modifiers_by rest table w (Some weight) = rest (bit_or table weight) w.1
 modifiers_by rest table w None = keycode_by table w
@@ -165,7 +165,7 @@ is_next_by text (Some w) = is_word text w.0
 unfoldable pub is_next : List ℕ → List Placed → Bool
 is_next text items = is_next_by text (word_at items)
 
--- `for "name"`, where it is there, and what follows
+-- the rest of the row after `for "name"`, if the row begins with it
 unfoldable pub after_charset : Place → List Placed → Result (List Placed) KeyFault
 after_charset end items =
     cond (is_next (codes "for") items)
@@ -227,6 +227,6 @@ line_by end w =
     (cond (is_word (codes "strings") w.0) (usual_strings_line end w.1)
     (modified_by end w (weight_of w.0)))))))))
 
--- what a row says whose first word is this
+-- the statement of a row with this first word
 unfoldable pub said_from : Place → List Placed × List Placed → Result Said KeyFault
 said_from end word = whole word >>= λ w. line_by end w

@@ -1,4 +1,4 @@
--- Texts in two parts, and the laws that a part is read by itself (keymaps(5)).
+-- Texts in two parts, and the laws that each part is read by itself (keymaps(5)).
 use Rattle.std.specs.Prelude.{◌≡◌, ℕ, Bool, false, ◌==◌, ◌&&◌, not, None, Result, Ok, Err, List, [], ◌∷◌, ◌++◌, ◌⊎◌, length, IsTrue}
 use Rattle.key_text.specs.Cut.{end_len}
 use Rattle.key_text.specs.Fault.{◌>>=◌}
@@ -21,16 +21,16 @@ is_ended [] = false
 is_ended (b ∷ []) = b == line_feed
 is_ended (b ∷ c ∷ bs) = not (b == backslash && is_line_end (c ∷ bs)) && is_ended (c ∷ bs)
 
--- the place behind a text that starts at this one
+-- the place after a text that starts at this one
 abbrev pub place_after_text : Place → List ℕ → Place
 place_after_text at [] = at
 place_after_text at (b ∷ bs) = place_after_text (place_after at b) bs
 
--- what a text gives that starts at this place, where so many texts were included before
+-- the result of a text that starts at this place, after so many included texts
 abbrev pub read_from : List Named → Place → ℕ → List ℕ → Result Got KeyFault
 read_from texts at count text = read_rows (within most_deep texts) texts None count (rows_of at text)
 
--- the lines that it gives
+-- the lines of that result
 abbrev pub lines_from : List Named → Place → ℕ → List ℕ → Result (List KeymapLine) KeyFault
 lines_from texts at count text = read_from texts at count text >>= λ g. Ok g.lines
 
@@ -38,29 +38,29 @@ lines_from texts at count text = read_from texts at count text >>= λ g. Ok g.li
 abbrev pub StartsThere : Type 0
 StartsThere = (texts : List Named) (text : List ℕ) → lines_of texts text ≡ lines_from texts start 0 text
 
--- where a text starts changes no line but for its place
+-- the place at which a text starts changes only the places of its lines
 abbrev pub PlacesTell : Type 0
 PlacesTell =
     (texts : List Named) (at there : Place) (count : ℕ) (text : List ℕ)
     → tellings_or_fault (lines_from texts at count text) ≡ tellings_or_fault (lines_from texts there count text)
 
--- where a text that ends a line has no fault, its lines stand before those of what follows it, which
--- is read as it would be there
+-- if a text that ends a line has no fault, its lines stand before those of the text after it, which is read
+-- as it would be there
 abbrev pub TextsFollow : Type 0
 TextsFollow =
     (texts : List Named) (at : Place) (count : ℕ) (a b : List ℕ) (g : Got)
     → IsTrue (is_ended a) → read_from texts at count a ≡ Ok g
     → read_from texts at count (a ++ b) ≡ with_lines g.lines (read_from texts (place_after_text at a) g.count b)
 
--- where it has a fault, nothing that follows it changes the answer
+-- if it has a fault, no text after it changes the answer
 abbrev pub FaultsStop : Type 0
 FaultsStop =
     (texts : List Named) (at : Place) (count : ℕ) (a b : List ℕ) (f : KeyFault)
     → IsTrue (is_ended a) → read_from texts at count a ≡ Err f
     → read_from texts at count (a ++ b) ≡ Err f
 
--- where a text has a fault, a front of it that ends a line has the same fault, or it has none and
--- what follows has the fault where it stands
+-- if a text has a fault, a prefix of it that ends a line has the same fault, or the prefix has none and the
+-- rest has the fault at its place
 abbrev pub FaultsAreFirst : Type 0
 FaultsAreFirst =
     (texts : List Named) (at : Place) (count : ℕ) (a b : List ℕ) (f : KeyFault)

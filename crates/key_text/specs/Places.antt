@@ -1,4 +1,4 @@
--- Where the text of a name stands among the texts.
+-- The place of the text of a name among the texts.
 use Rattle.std.specs.Prelude.{◌≡◌, ℕ, suc, cond, Option, Some, None, List, [], ◌∷◌, slice_index_or}
 use Rattle.std.specs.BTreeMap.{BTreeMap, get_by}
 use Rattle.std.specs.Cmp.Lexicographic.{slice_cmp}
@@ -17,7 +17,7 @@ place_of name (n ∷ ns) = cond (bytes_eq n.name name) (Some 0) (option_map suc 
 abbrev pub text_in : List Named → ℕ → List ℕ
 text_in texts place = (slice_index_or texts place (make_named [] [])).text
 
--- what an ordered map has at a name
+-- the value that an ordered map has for a name
 abbrev pub at_name : {A : Type 0} → BTreeMap (Vec ℕ A) ℕ → List ℕ → Option ℕ
 at_name places name = get_by (λ key. slice_cmp nat_cmp name key.items) places
 

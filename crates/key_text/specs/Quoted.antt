@@ -6,12 +6,12 @@ use Rattle.key_text.specs.Rows.{backslash}
 use Rattle.key_text.specs.Words.{bytes, close_at}
 use Rattle.key_text.specs.declared.placed.Placed.{Placed}
 
--- what stands before the closing quote, where the word ends with it
+-- the bytes before the closing quote, if the word ends with it
 abbrev pub text_before_quote : List Placed → Option ℕ → Option (List ℕ)
 text_before_quote ps None = None
 text_before_quote ps (Some n) = cond (suc n == length ps) (Some (take n (bytes ps))) None
 
--- what stands between two quotes of this kind that are the first and the last byte of a word
+-- the bytes between two quotes of this kind that are the first and the last byte of a word
 abbrev pub text_between : ℕ → List Placed → Option (List ℕ)
 text_between q [] = None
 text_between q (p ∷ ps) = cond (p.byte == q) (text_before_quote ps (close_at q false ps)) None
@@ -35,21 +35,21 @@ abbrev pub octal_escape : List ℕ → Option (ℕ × ℕ)
 octal_escape digits =
     cond (nat_le (octal_value digits) 255) (Some (octal_value digits, length digits)) None
 
--- how many octal digits begin the bytes, three at most
+-- the number of octal digits that the bytes begin with, three at most
 abbrev pub octal_len : List ℕ → ℕ
 octal_len text = prefix_len is_octal (take 3 text)
 
--- the byte that an escape stands for, and how many bytes behind its backslash it takes
+-- the byte that an escape stands for, and the number of bytes of the escape after its backslash
 unfoldable pub escape_in : List ℕ → Option (ℕ × ℕ)
 escape_in text =
     cond (octal_len text == 0) (letter_escape text) (octal_escape (take (octal_len text) text))
 
--- the first byte of a quoted text, and what follows it: an escape or the byte itself
+-- the first byte of a quoted text, and the rest of the text: an escape or the byte itself
 abbrev pub first_of : ℕ → List ℕ → Option (ℕ × List ℕ)
 first_of b bs =
     cond (b == backslash) (option_map (λ e. (e.0, drop e.1 bs)) (escape_in bs)) (Some (b, bs))
 
--- a byte before the rest of a text, where the rest is good
+-- a byte before the rest of a text, if the rest is good
 abbrev pub before_rest : (List ℕ → Option (List ℕ)) → ℕ × List ℕ → Option (List ℕ)
 before_rest rest first = option_map (λ bs. first.0 ∷ bs) (rest first.1)
 
@@ -62,7 +62,7 @@ unescaped_bytes (suc n) (b ∷ bs) = option_and_then (before_rest (unescaped_byt
 abbrev pub unescaped_whole : List ℕ → Option (List ℕ)
 unescaped_whole text = unescaped_bytes (length text) text
 
--- what a word in double quotes stands for
+-- the text that a word in double quotes stands for
 unfoldable pub text_of : List Placed → Option (List ℕ)
 text_of word = option_and_then unescaped_whole (text_between 0x22 word)
 
@@ -85,6 +85,6 @@ one_character [] = None
 one_character (b ∷ bs) =
     cond (b == backslash) (option_and_then (only bs) (escape_in bs)) (character_of_utf8 (b ∷ bs))
 
--- what a word in single quotes stands for
+-- the character that a word in single quotes stands for
 unfoldable pub character_of : List Placed → Option ℕ
 character_of word = option_and_then one_character (text_between 0x27 word)

@@ -13,7 +13,7 @@ use Rattle.key_text.specs.FaultKinds.{NOT_GIVEN, TOO_DEEP, TOO_MANY_INCLUDES}
 use Rattle.key_text.specs.declared.placed.Place.{Place}
 use Rattle.key_text.specs.declared.placed.Placed.{Placed}
 
--- lines, and how many texts were included up to the last of them
+-- lines, and the number of texts included up to the last of them
 pub record Got : Type 0 where
   pub lines : List KeymapLine
   pub count : ℕ
@@ -21,7 +21,7 @@ pub record Got : Type 0 where
 abbrev pub make_got : List KeymapLine → ℕ → Got
 make_got lines count = record { lines = lines; count = count }
 
--- where a text begins
+-- the place at which a text begins
 abbrev pub start : Place
 start = record { line = 1; column = 1 }
 
@@ -34,18 +34,17 @@ abbrev pub at_outer_include : {A : Type 0} → Option Place → Result A KeyFaul
 at_outer_include outer (Ok x) = Ok x
 at_outer_include outer (Err f) = Err (blamed_fault outer f)
 
--- the text of an include line, read by `deeper`, where it is given; the place is that of the quoted
--- name
+-- the text of an include line, read by `deeper`, if it is given; the place is that of the quoted name
 abbrev pub got_from_include : (List ℕ → Result Got KeyFault) → Place → Option (List ℕ) → Result Got KeyFault
 got_from_include deeper quoted None = Err (fault NOT_GIVEN quoted)
 got_from_include deeper quoted (Some text) = deeper text
 
--- how a text is read at a place: where the quoted name stands, where the include line starts, the
--- fault of what follows the name, and how many texts were included before
+-- the reading of a text at a place, given the place of the quoted name, the place of the include line, the
+-- fault of the words after the name, and the number of texts included before
 abbrev pub Deeper : Type 0
 Deeper = Place → Place → Option KeyFault → ℕ → List ℕ → Result Got KeyFault
 
--- what a row gives that starts at this place
+-- the result of a row that starts at this place
 abbrev pub got_from_row : Deeper → List Named → Option Place → Place → ℕ → Said → Result Got KeyFault
 got_from_row deeper texts outer first count nothing = Ok (make_got [] count)
 got_from_row deeper texts outer first count (tells telling) =
@@ -56,7 +55,7 @@ got_from_row deeper texts outer first count (includes name quoted bad_end) =
     got_from_include (deeper at (unwrap_or outer first) (option_map (blamed_fault outer) bad_end) count) at
     (text_named name texts)
 
--- what a row gives by its first word; without one it gives nothing
+-- the result of a row by its first word; a row without a word gives no lines
 abbrev pub read_row_by : Deeper → List Named → Option Place → ℕ → Place → Option (List Placed × List Placed) → Result Got KeyFault
 read_row_by deeper texts outer count end None = Ok (make_got [] count)
 read_row_by deeper texts outer count end (Some word) =
@@ -70,7 +69,7 @@ read_row deeper texts outer count end items =
 abbrev pub with_lines : List KeymapLine → Result Got KeyFault → Result Got KeyFault
 with_lines front read = read >>= λ g. Ok (make_got (front ++ g.lines) g.count)
 
--- what rows give, one behind another
+-- the result of rows, one after another
 abbrev pub read_rows : Deeper → List Named → Option Place → ℕ → List Row → Result Got KeyFault
 read_rows deeper texts outer count [] = Ok (make_got [] count)
 read_rows deeper texts outer count (row ∷ rows) =
@@ -81,13 +80,13 @@ read_rows deeper texts outer count (row ∷ rows) =
 abbrev pub most_includes : ℕ
 most_includes = 1000
 
--- what is read where the include line ends well
+-- the result, if the include line has no fault
 abbrev pub unless : Option KeyFault → Result Got KeyFault → Result Got KeyFault
 unless None read = read
 unless (Some f) read = Err f
 
--- an included text, where texts may be included this deep: the name is judged first, then the rest
--- of its line, and then the text is read
+-- an included text, if texts may be included this deep: the name is judged first, then the rest of its line,
+-- and then the text is read
 abbrev pub within : ℕ → List Named → Deeper
 within zero texts quoted first bad_end count text = Err (fault TOO_DEEP first)
 within (suc n) texts quoted first bad_end count text =

@@ -1,5 +1,5 @@
--- A text as rows: its bytes with their places, joined where a backslash stands before a line's end,
--- and cut at the line ends (keymaps(5)).
+-- A text as rows: its bytes with their places, joined if a backslash stands before a line's end, and cut at
+-- the line ends (keymaps(5)).
 use Rattle.std.specs.Prelude.{ℕ, ◌+◌, Bool, false, ◌==◌, ◌&&◌, ◌||◌, cond, min, List, [], ◌∷◌, drop}
 use Rattle.key_text.specs.declared.placed.Place.{Place}
 use Rattle.key_text.specs.declared.placed.Placed.{Placed}
@@ -17,7 +17,7 @@ backslash = 0x5C
 abbrev pub more : ℕ → ℕ
 more n = min (n + 1) 4294967295
 
--- the place of the byte behind one here
+-- the place of the byte after one here
 abbrev pub after : Place → Place
 after at = record { line = at.line; column = more at.column }
 
@@ -33,7 +33,7 @@ put_at at b = record { byte = b; line = at.line; column = at.column }
 abbrev pub place_of : Placed → Place
 place_of p = record { line = p.line; column = p.column }
 
--- the place behind a byte: a new line begins behind a line feed
+-- the place after a byte: a new line begins after a line feed
 abbrev pub place_after : Place → ℕ → Place
 place_after at b = cond (b == line_feed) (next_line at) (after at)
 
@@ -42,17 +42,18 @@ abbrev pub with_places : Place → List ℕ → List Placed
 with_places at [] = []
 with_places at (b ∷ bs) = put_at at b ∷ with_places (place_after at b) bs
 
--- a line's end begins the list: LF
+-- the list begins with LF
 abbrev pub begins_lf : List Placed → Bool
 begins_lf [] = false
 begins_lf (p ∷ ps) = p.byte == line_feed
 
--- or CR LF
+-- the list begins with a line's end: LF or CR LF
 abbrev pub begins_end : List Placed → Bool
 begins_end [] = false
 begins_end (p ∷ ps) = p.byte == line_feed || (p.byte == carriage_return && begins_lf ps)
 
--- a backslash before a line's end goes with it, and of CR LF a line feed is left at the place of CR
+-- a backslash before a line's end is removed with that end, and any other CR LF becomes a line feed at the
+-- place of CR
 abbrev pub join_continuations : List Placed → List Placed
 join_continuations [] = []
 join_continuations (p ∷ ps) =
@@ -61,7 +62,7 @@ join_continuations (p ∷ ps) =
     (put_at (place_of p) line_feed ∷ drop 1 (join_continuations ps))
     (p ∷ join_continuations ps))
 
--- a row: its bytes, and the place behind the last one
+-- a row: its bytes, and the place after the last one
 pub record Row : Type 0 where
   pub items : List Placed
   pub end : Place
@@ -74,7 +75,7 @@ abbrev pub with_item : Placed → List Row → List Row
 with_item p [] = []
 with_item p (row ∷ rows) = row_of (p ∷ row.items) row.end ∷ rows
 
--- the rows of these items, each with the place behind its last byte; the last row may be empty
+-- the rows of these items, each with the place after its last byte; the last row may be empty
 abbrev pub rows : Place → List Placed → List Row
 rows at [] = row_of [] at ∷ []
 rows at (p ∷ ps) =

@@ -1,4 +1,4 @@
--- What a row says, as the code has it.
+-- The statements of rows, as the code has them.
 use Rattle.key_text.specs.Lines.{Said, nothing, tells, includes}
 use Rattle.key_text.specs.View.{telling_of}
 use Rattle.key_text.specs.declared.statement.Statement.{Statement}

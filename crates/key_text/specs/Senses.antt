@@ -1,4 +1,4 @@
--- Words that are spelled otherwise and mean the same: numbers, and names but for case (keymaps(5)).
+-- Words that are spelled otherwise and mean the same: numbers, and names in another case (keymaps(5)).
 use Rattle.std.specs.Prelude.{◌≡◌, ℕ, Bool, false, ◌==◌, ◌||◌, not, None, Some, List, [], ◌∷◌, IsFalse, IsTrue}
 use Rattle.std.specs.List.{list_all}
 use Rattle.std.specs.Str.{IsAscii, str_eq_ignore_ascii_case}
@@ -14,7 +14,7 @@ use Rattle.key_text.specs.Tellings.{tellings_or_fault}
 use Rattle.key_text.specs.Words.{bytes}
 use Rattle.key_text.specs.declared.placed.Placed.{Placed}
 
--- neither a comma nor a dash is there, as in ranges of tables
+-- the word has neither a comma nor a dash, which ranges of tables have
 abbrev pub is_single : List ℕ → Bool
 is_single text = list_all (λ b. not (b == comma || b == dash)) text
 
@@ -38,7 +38,7 @@ pub record IsName (v : List Placed) : Type 0 where
   pub unquoted : IsFalse (is_quoted v)
   pub single : IsTrue (is_single (bytes v))
 
--- two words are the same, or the same number, or the same name but for case
+-- two words are the same, or the same number, or the same name except for case
 pub data SameSense : List Placed → List Placed → Type 0 where
   same : (v w : List Placed) → bytes v ≡ bytes w → SameSense v w
   number : (n : ℕ) (v w : List Placed) → IsNumber n v → IsNumber n w → SameSense v w

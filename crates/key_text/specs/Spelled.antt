@@ -1,4 +1,4 @@
--- How a text spells rows of words, and the law that all its spellings tell the same (keymaps(5)).
+-- The spellings of rows of words as a text, and the law that they all have the same content (keymaps(5)).
 use Rattle.std.specs.Prelude.{◌≡◌, ℕ, Bool, true, false, ◌==◌, ◌&&◌, ◌||◌, not, List, [], ◌∷◌, ◌++◌, IsFalse, IsTrue}
 use Rattle.std.specs.List.{list_all}
 use Rattle.key_text.specs.Included.{Named}
@@ -13,7 +13,7 @@ pub data Inside (q : ℕ) : List ℕ → Type 0 where
   plain : (b : ℕ) (bs : List ℕ) → IsFalse (b == q || b == backslash) → Inside q bs → Inside q (b ∷ bs)
   escaped : (b : ℕ) (bs : List ℕ) → Inside q bs → Inside q (backslash ∷ b ∷ bs)
 
--- the bytes of a word: none that ends it, or a quoted text and what touches it
+-- the bytes of a word: bytes that don't end it, or a quoted text and the bytes that touch it
 pub data IsWord : List ℕ → Type 0 where
   bare : (b : ℕ) (bs : List ℕ) → IsFalse (is_quote b) → IsTrue (list_all is_bare (b ∷ bs)) → IsWord (b ∷ bs)
   quoted : (q : ℕ) (inside tail : List ℕ) → IsTrue (is_quote q) → Inside q inside → IsTrue (list_all is_bare tail) → IsWord (q ∷ inside ++ q ∷ tail)
@@ -23,7 +23,7 @@ abbrev pub is_comment : List ℕ → Bool
 is_comment [] = false
 is_comment (b ∷ bs) = b == 0x21 || b == 0x23
 
--- what may stand after a word: nothing, a blank or a comment
+-- the bytes that may stand after a word: none, or a blank or a comment first
 abbrev pub is_apart : List ℕ → Bool
 is_apart [] = true
 is_apart (b ∷ bs) = not (is_bare b)
@@ -69,7 +69,7 @@ pub data Spells : List (List (List ℕ)) → List ℕ → Type 0 where
   row : (words : List (List ℕ)) (rows : List (List (List ℕ))) (text after rest : List ℕ) → IsRowOf words text → IsEnd after → Spells rows rest → Spells (words ∷ rows) (text ++ (after ++ rest))
   row_empty : (rows : List (List (List ℕ))) (text after rest : List ℕ) → IsRowOf [] text → IsEnd after → Spells rows rest → Spells rows (text ++ (after ++ rest))
 
--- two texts that spell the same rows of words tell the same
+-- two texts that spell the same rows of words have the same content
 abbrev pub SpellingsAgree : Type 0
 SpellingsAgree =
     (texts : List Named) (rows : List (List (List ℕ))) (a b : List ℕ)

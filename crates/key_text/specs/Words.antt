@@ -1,4 +1,4 @@
--- The words of a row: quoted texts and what touches them, or bytes up to a blank or a comment
+-- The words of a row: quoted texts with the bytes that touch them, or bytes up to a blank or a comment
 -- (keymaps(5)).
 use Rattle.std.specs.Prelude.{ℕ, suc, ◌+◌, Bool, false, ◌==◌, ◌&&◌, ◌||◌, not, cond, Option, Some, None, Result, Ok, Err, List, [], ◌∷◌, length, take, drop, map, slice_index_or}
 use Rattle.std.specs.List.{prefix_len}
@@ -27,15 +27,15 @@ is_bare b = not (is_blank b || b == 0x21 || b == 0x23)
 abbrev pub is_quote : ℕ → Bool
 is_quote b = b == 0x22 || b == 0x27
 
--- how many bytes stand before the quote that closes a quoted text: one without a backslash before,
--- which itself isn't behind a backslash
+-- the number of bytes before the quote that closes a quoted text: a quote that no backslash escapes. A
+-- backslash after a backslash escapes nothing
 abbrev pub close_at : ℕ → Bool → List Placed → Option ℕ
 close_at q escaped [] = None
 close_at q escaped (p ∷ ps) =
     cond (not escaped && p.byte == q) (Some 0)
     (option_map suc (close_at q (not escaped && p.byte == backslash) ps))
 
--- the bytes of the quoted text that begins the list, all of them where nothing closes it
+-- the bytes of the quoted text that begins the list, all of them if nothing closes it
 abbrev pub quoted_len : List Placed → ℕ
 quoted_len [] = 0
 quoted_len (p ∷ ps) =
@@ -47,13 +47,13 @@ abbrev pub word_len : List Placed → ℕ
 word_len items =
     quoted_len items + prefix_len (λ p. is_bare p.byte) (drop (quoted_len items) items)
 
--- the word that begins the list, and what follows it
+-- the word that begins the list, and the rest of the list
 abbrev pub word_in : List Placed → Option (List Placed × List Placed)
 word_in items =
     cond (word_len items == 0) None
     (Some (take (word_len items) items, drop (word_len items) items))
 
--- the next word and what follows it; none at the row's end, and where a comment begins
+-- the next word and the rest of the row; none at the row's end, and none if a comment begins
 unfoldable pub word_at : List Placed → Option (List Placed × List Placed)
 word_at items = word_in (drop (prefix_len (λ p. is_blank p.byte) items) items)
 
@@ -66,13 +66,13 @@ nth_place word i =
 abbrev pub spot : List Placed → Place
 spot word = nth_place word 0
 
--- a word that has been come to: its bytes are UTF-8, or the fault is at the first that isn't
+-- a word: its bytes are UTF-8, or the fault is at the first byte that isn't
 unfoldable pub whole : List Placed × List Placed → Result (List Placed × List Placed) KeyFault
 whole word =
     let valid = utf8_valid_len (bytes word.0) in
     cond (valid == length word.0) (Ok word) (Err (fault BAD_TEXT (nth_place word.0 valid)))
 
--- a word that must be there, else the fault of this kind is behind the row's last byte
+-- a word that must be there, otherwise the fault of this kind is after the row's last byte
 abbrev pub required_word : ℕ → Place → Option (List Placed × List Placed) → Result (List Placed × List Placed) KeyFault
 required_word kind end None = Err (fault kind end)
 required_word kind end (Some word) = whole word

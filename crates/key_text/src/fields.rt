@@ -16,7 +16,7 @@ use crate::words::{check_utf8, fault, is_quote, is_word, next, place_of_word, wo
 use key_syms::{Action, kind};
 use std::alloc::Global;
 
-// The greatest bytes of a string.
+// The most bytes of a string.
 const STRING_BYTES: usize = 255;
 
 /// The row ends: no word is left.
@@ -33,7 +33,7 @@ pub(crate) fn end_of_line(alloc: Global, items: &[Placed]) -> Result<(), KeyErro
     }
 }
 
-/// This keyword, and what follows it.
+/// This keyword, and the rest of the row.
 #[tactic(auto, unfolding(crate::specs::Fields::keyword_at))]
 pub(crate) fn keyword_at<'a>(
     alloc: Global,
@@ -73,7 +73,7 @@ pub(crate) fn number_in_range(
     }
 }
 
-/// A keycode, and what follows it.
+/// A keycode, and the rest of the row.
 #[tactic(auto, unfolding(crate::specs::Fields::code_at))]
 pub(crate) fn code_at(
     alloc: Global,
@@ -98,7 +98,7 @@ pub(crate) fn action_of(alloc: Global, word: &[Placed]) -> Result<Action, KeyErr
     }
 }
 
-/// The function key that a word names, and what follows it.
+/// The function key that a word names, and the rest of the row.
 #[tactic(auto, unfolding(crate::specs::Fields::function_at))]
 pub(crate) fn function_at(
     alloc: Global,
@@ -122,7 +122,7 @@ fn function_by(word: &[Placed], action: Action) -> Result<u8, KeyError>
     Err(fault(UNKNOWN_SYMBOL, place_of_word(word)))
 }
 
-/// A quoted text, the place of its word, and what follows it.
+/// A quoted text, the place of its word, and the rest of the row.
 #[tactic(auto, unfolding(crate::specs::Fields::text_at))]
 pub(crate) fn text_at(
     alloc: Global,
@@ -138,7 +138,7 @@ pub(crate) fn text_at(
     }
 }
 
-/// A string of a function key, and what follows it.
+/// A string of a function key, and the rest of the row.
 #[tactic(auto, unfolding(crate::specs::Fields::string_at))]
 pub(crate) fn string_at(
     alloc: Global,
@@ -155,7 +155,7 @@ pub(crate) fn string_at(
     Err(fault(LONG_STRING, at))
 }
 
-// The character that a word is: quoted, or a symbol.
+// The character that a word stands for: quoted, or a symbol.
 #[tactic(auto, unfolding(crate::specs::Fields::character_in))]
 fn character_in(alloc: Global, word: &[Placed]) -> Result<u16, KeyError>
     ensures value { Gives (λ x. x) result (character_in word.now) }
@@ -207,7 +207,7 @@ fn is_quoted(word: &[Placed]) -> bool
     }
 }
 
-/// A character, and what follows it.
+/// A character, and the rest of the row.
 #[tactic(auto, unfolding(crate::specs::Fields::character_at))]
 pub(crate) fn character_at(
     alloc: Global,

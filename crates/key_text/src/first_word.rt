@@ -14,7 +14,7 @@ use crate::statement::Statement;
 use crate::words::{check_utf8, fault, is_word, place_of_word};
 use std::alloc::Global;
 
-/// What a row says whose first word is this.
+/// The statement of a row with this first word.
 #[tactic(auto, unfolding(crate::specs::Lines::said_from))]
 pub(crate) fn statement_from(
     alloc: Global,

@@ -67,7 +67,7 @@ impl Includes {
     }
 }
 
-// The place that a map has at a name.
+// The place of a name in a map, if it has one.
 fn place_named(places: &BTreeMap<Vec<u8>, usize>, name: &[u8]) -> Option<usize>
     ensures { result ≡ at_name places.now name.now }
 {

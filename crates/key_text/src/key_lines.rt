@@ -29,7 +29,7 @@ pub(crate) fn keys_line(alloc: Global, end: Place, items: &[Placed]) -> Result<S
     Ok(Statement::Tells(FitKind::of(LineKind::Keys { code, syms })))
 }
 
-// The symbols up to the row's end, behind a first one.
+// The symbols up to the row's end, after a first one.
 fn symbols(alloc: Global, first: Action, items: &[Placed]) -> Result<Syms, KeyError>
     ensures { Gives (λ syms. syms) result
         (with_actions (first ∷ []) (symbols_at (length items.now) items.now)) }
@@ -73,7 +73,7 @@ pub(crate) fn modified_line(
     })))
 }
 
-// Modifier words up to `keycode`: the union of their weights, and what follows.
+// Modifier words up to `keycode`: the union of their weights, and the rest of the row.
 fn modifiers_at(
     alloc: Global,
     weight: u8,

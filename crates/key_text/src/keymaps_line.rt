@@ -17,7 +17,7 @@ use crate::words::{bytes, fault, next, place_of_word};
 use key_syms::number;
 use std::alloc::{AllocError, Global};
 
-// How many tables there may be.
+// The number of tables that can exist.
 const TABLE_COUNT: usize = 256;
 
 /// Tables from a first to a last one.
@@ -122,7 +122,7 @@ fn table_of(word: &[Placed], piece: &[u8]) -> Result<u8, KeyError>
     number_in_range(0, 255, word, number(piece))
 }
 
-// How many bytes stand before the first of this kind.
+// The number of bytes before the first byte of this kind.
 fn before(mark: u8, text: &[u8]) -> usize
     ensures value { result ≡ before mark text.now }
     ensures within { result ≤ length text.now }

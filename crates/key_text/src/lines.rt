@@ -75,7 +75,7 @@ fn usual_pairs_line(alloc: Global, end: Place, items: &[Placed]) -> Result<State
     Ok(Statement::Tells(FitKind::of(LineKind::UsualPairs)))
 }
 
-// What follows `for "name"`, where it is there.
+// The rest of the row after `for "name"`, if the row begins with it.
 #[tactic(auto, unfolding(crate::specs::Lines::after_charset))]
 fn after_charset(alloc: Global, end: Place, items: &[Placed]) -> Result<&[Placed], KeyError>
     ensures { Gives (λ rest. rest.now) result (after_charset end items.now) }

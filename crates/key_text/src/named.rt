@@ -36,7 +36,7 @@ pub(crate) fn named_number(alloc: Global, word: &[Placed]) -> Result<Option<u32>
     Ok(number(text.as_slice()))
 }
 
-// The bytes of a short word, before bytes that don't matter.
+// The bytes of a short word, followed by bytes that don't matter.
 fn short_bytes(word: &[Placed]) -> [u8; SHORT]
     requires { length word.now ≤ 32 }
     ensures { take (length word.now) result ≡ bytes word.now }

@@ -5,8 +5,8 @@ ghost use Rattle.key_text.specs.Rows.{put_at, row_of, rows_of};
 use crate::placed::{Place, Placed};
 use vt_base::NoMemory;
 
-/// What is told of a row beside its bytes: the place behind the last one, and where the next row
-/// starts, if there is one.
+/// The end of a row that was read: the place after its last byte, and the start of the next row, if there is
+/// one.
 #[derive(Clone, Copy)]
 pub(crate) struct LogicalLine {
     pub end: Place,
@@ -63,7 +63,7 @@ pub(crate) fn next_row(
     })
 }
 
-// How many bytes a line's end has at `i`: 1 for LF, 2 for CR LF, 0 where there is none.
+// The number of bytes of a line's end at `i`: 1 for LF, 2 for CR LF, 0 if there is none.
 fn end_len(text: &[u8], i: usize) -> usize
     requires { i ≤ length text.now }
     ensures value { result ≡ end_len (drop i text.now) }
@@ -81,7 +81,7 @@ fn end_len(text: &[u8], i: usize) -> usize
     0
 }
 
-// How many bytes go with a join at `i`: a backslash and the line's end behind it.
+// The number of bytes of a join at `i`: a backslash and the line's end after it.
 fn join_len(text: &[u8], i: usize) -> usize
     requires { i < length text.now }
     ensures value { result ≡ join_len (drop i text.now) }

@@ -18,7 +18,7 @@ pub struct Placed {
 }
 
 impl Place {
-    /// The place of the byte behind one here.
+    /// The place of the byte after one here.
     pub(crate) fn after(self) -> Place
         ensures { result ≡ after self }
     {

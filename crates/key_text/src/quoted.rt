@@ -8,14 +8,14 @@ use crate::placed::Placed;
 use crate::words::{bytes, close_at};
 use std::alloc::{AllocError, Global};
 
-// A byte that an escape stands for, and how many bytes behind its backslash the escape takes.
+// A byte that an escape stands for, and the number of bytes of the escape after its backslash.
 #[derive(Clone, Copy)]
 struct Escape {
     value: u8,
     len: usize,
 }
 
-/// What a word in double quotes stands for.
+/// The text that a word in double quotes stands for.
 #[tactic(auto, unfolding(crate::specs::Quoted::text_of))]
 pub(crate) fn text_of(alloc: Global, word: &[Placed]) -> Result<Option<Vec<u8>>, AllocError>
     ensures { IfOk result (λ text. option_map (λ v. v.items) text ≡ text_of word.now) }
@@ -37,7 +37,7 @@ pub(crate) fn character_of(alloc: Global, word: &[Placed]) -> Result<Option<u32>
     }
 }
 
-// What stands between two quotes that are the first and the last byte of a word.
+// The bytes between two quotes that are the first and the last byte of a word.
 fn text_between(alloc: Global, quote: u8, word: &[Placed]) -> Result<Option<Vec<u8>>, AllocError>
     ensures { IfOk result (λ text. option_map (λ v. v.items) text ≡ text_between quote word.now) }
 {
@@ -78,7 +78,7 @@ fn unescaped_bytes(alloc: Global, text: &[u8]) -> Result<Option<Vec<u8>>, AllocE
     Ok(Some(bytes))
 }
 
-// The byte that a quoted text begins with, and what follows it.
+// The byte that a quoted text begins with, and the rest of the text.
 fn first_of(b: u8, behind: &[u8]) -> Option<(u8, &[u8])>
     ensures value { option_map (λ first. (first.0, first.1.now)) result ≡ first_of b behind.now }
     ensures within { IfSome result (λ first. length first.1.now ≤ length behind.now) }
@@ -90,7 +90,7 @@ fn first_of(b: u8, behind: &[u8]) -> Option<(u8, &[u8])>
     Some((escape.value, rest_of(behind, escape.len)))
 }
 
-// The escape behind a backslash.
+// The escape after a backslash.
 #[tactic(auto, unfolding(crate::specs::Quoted::escape_in))]
 fn escape_in(text: &[u8]) -> Option<Escape>
     ensures value { option_map (λ e. (e.value, e.len)) result ≡ escape_in text.now }
@@ -144,7 +144,7 @@ fn octal_value(digits: &[u8]) -> u32
     }
 }
 
-// How many octal digits begin the bytes, three at most.
+// The number of octal digits that the bytes begin with, three at most.
 fn octal_len(text: &[u8]) -> usize
     ensures value { result ≡ octal_len text.now }
     ensures few { result ≤ 3 }

@@ -25,15 +25,15 @@ const MOST_DEEP: u8 = 8;
 // The most texts that are included.
 const MOST_INCLUDES: u16 = 1000;
 
-// How deep texts may still be included, and where the outermost include line starts.
+// How deep texts may still be included, and the place of the outermost include line.
 #[derive(Clone, Copy)]
 struct Depth {
     left: u8,
     outer: Option<Place>,
 }
 
-// An include line: how deep texts may still be included, where the outermost include line starts,
-// where a fault of the quoted name is told, and the fault of what follows the name.
+// An include line: how deep texts may still be included, the place of the outermost include line, the place
+// of a fault of the quoted name, and the fault of the words after the name.
 #[derive(Clone, Copy)]
 struct IncludeAt {
     left: u8,
@@ -57,8 +57,8 @@ pub fn parse(alloc: Global, text: &[u8], inc: &Includes) -> Result<Vec<Line>, Ke
     Ok(lines)
 }
 
-// Reads a text, of which `count` texts were included before, and adds its lines. The answer is how
-// many were included by its end.
+// Reads a text, after `count` included texts, and adds its lines. Returns the number of texts included by its
+// end.
 #[cycle(reading)]
 fn read_text(
     alloc: Global,

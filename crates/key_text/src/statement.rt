@@ -2,14 +2,14 @@ use crate::fault::KeyFault;
 use crate::fit_kind::FitKind;
 use crate::placed::Place;
 
-/// What a row says.
+/// The statement of a row.
 #[derive(Drop)]
 pub(crate) enum Statement {
-    /// Nothing: it has no word, or no effect.
+    /// The row has no word, or no effect.
     Nothing,
-    /// A line.
+    /// The row is a line.
     Tells(FitKind),
-    /// That a text is to be included: its name, the place of the quoted name, and the fault of what
-    /// follows the name.
+    /// The row includes a text: its name, the place of the quoted name, and the fault of the words after the
+    /// name.
     Includes(Vec<u8>, Place, Option<KeyFault>),
 }

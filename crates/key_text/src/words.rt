@@ -49,7 +49,7 @@ fn nth_place(word: &[Placed], i: usize) -> Place
     }
 }
 
-/// The next word and what follows it, or the fault of this kind behind the row's last byte.
+/// The next word and the rest of the row, or the fault of this kind after the row's last byte.
 #[tactic(auto, unfolding(crate::specs::Words::next))]
 pub(crate) fn next(
     alloc: Global,
@@ -65,7 +65,7 @@ pub(crate) fn next(
     }
 }
 
-/// The next word and what follows it, whatever its bytes are.
+/// The next word and the rest of the row, whatever the word's bytes are.
 #[tactic(auto, unfolding(crate::specs::Words::word_at))]
 pub(crate) fn word_at(items: &[Placed]) -> Option<(&[Placed], &[Placed])>
     ensures { option_map (λ w. (w.0.now, w.1.now)) result ≡ word_at items.now }
@@ -78,7 +78,7 @@ pub(crate) fn word_at(items: &[Placed]) -> Option<(&[Placed], &[Placed])>
     Some((start_of(items, len), rest_of(items, len)))
 }
 
-/// A word that was come to, and what follows it.
+/// A word and the rest of the row, if the word's bytes are UTF-8.
 #[tactic(auto, unfolding(crate::specs::Words::whole))]
 pub(crate) fn check_utf8<'a>(
     alloc: Global,
@@ -94,7 +94,7 @@ pub(crate) fn check_utf8<'a>(
     Err(fault(BAD_TEXT, nth_place(word, valid)))
 }
 
-// How many of a word's bytes are UTF-8 up to the first fault.
+// The number of a word's bytes up to the first that isn't UTF-8.
 #[tactic(auto, using(crate::proofs::Lengths::whole_text, crate::proofs::Lengths::plain_text))]
 fn valid_len(alloc: Global, word: &[Placed]) -> Result<usize, AllocError>
     ensures { IfOk result (λ n. n ≡ utf8_valid_len (bytes word.now)) }
@@ -166,7 +166,7 @@ fn quoted_len(items: &[Placed]) -> usize
     }
 }
 
-/// How many bytes stand before the quote that closes a quoted text.
+/// The number of bytes before the quote that closes a quoted text.
 pub(crate) fn close_at(quote: u8, items: &[Placed]) -> Option<usize>
     ensures value { result ≡ close_at quote false items.now }
     ensures within { IfSome result (λ n. n < length items.now) }

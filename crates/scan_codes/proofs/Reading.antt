@@ -1,4 +1,4 @@
--- Groups after one another, and what begins one.
+-- Groups one after another, and the beginnings of groups.
 use Rattle.std.proofs.Common.{◌≡◌, ◌≢◌, ◌↔◌, ◌⊎◌, ℕ, ◌==◌, Bool, true, false, List, [], ◌∷◌, ◌++◌, None, refl, sym, ap, ◌∙◌, ⊎_elim, inl, inr, append_assoc, arith}
 use Rattle.std.specs.Prelude.{IsTrue, option_to_list}
 use Rattle.std.specs.List.{flat_map, list_all}

@@ -1,4 +1,4 @@
--- Groups of scan bytes: which lists of bytes are one, and what each names. This project's own.
+-- Groups of scan bytes: the lists of bytes that are one, and the key that each names. This project's own.
 use Rattle.std.specs.Prelude.{◌≢◌, ℕ, ◌+◌, ◌%◌, Bool, true, false, ◌==◌, ◌&&◌, ◌||◌, not, nat_le, nat_lt, Option, Some, None, List, [], ◌∷◌, ◌++◌, IsTrue, if◌then◌else◌, slice_index}
 use Rattle.scan_codes.specs.declared.key_event.KeyEvent.{KeyEvent}
 
@@ -25,7 +25,7 @@ event code down = if code == 0 then None else Some (record { code = code; down =
 abbrev pub key : List ℕ → ℕ → Bool → Option KeyEvent
 key codes scan down = if is_scan scan then event (slice_index codes scan) down else None
 
--- the high bit of a byte says that the key goes up
+-- the key goes down: the high bit of the byte is 0
 abbrev pub is_down : ℕ → Bool
 is_down b = nat_lt b 0x80
 
@@ -36,7 +36,7 @@ pause b c =
     else if b == 0x9D && c == 0xC5 then event 119 false
     else None
 
--- what a group names: the low seven bits are its scan number, after E0 with 128 added
+-- the event that a group names: the low seven bits are its scan number, after E0 with 128 added
 abbrev pub named_by : List ℕ → List ℕ → Option KeyEvent
 named_by codes (b ∷ []) =
     if b == 0x00 || b == 0xFF then None else key codes (b % 0x80) (is_down b)

@@ -1,11 +1,11 @@
--- The laws of groups. Each is of the definitions alone.
+-- The laws of groups. Each law is about the definitions alone.
 use Rattle.std.specs.Prelude.{◌≡◌, ℕ, List, [], ◌∷◌, ◌++◌, IsTrue, option_to_list}
 use Rattle.std.specs.List.{flat_map, list_all}
 use Rattle.scan_codes.specs.Groups.{is_group, named_by}
 use Rattle.scan_codes.specs.Scan.{bytes_after, event_after}
 use Rattle.scan_codes.specs.declared.key_event.KeyEvent.{KeyEvent}
 
--- what the bytes after these say, byte by byte
+-- the events of bytes after these, byte by byte
 abbrev pub events : List ℕ → List ℕ → List ℕ → List KeyEvent
 events codes before [] = []
 events codes before (b ∷ bytes) =
@@ -16,7 +16,7 @@ abbrev pub rest : List ℕ → List ℕ → List ℕ
 rest before [] = before
 rest before (b ∷ bytes) = rest (bytes_after before b) bytes
 
--- groups, one after another, say what each of them names
+-- groups, one after another, give the event that each of them names
 abbrev pub GroupsAreRead : Type 0
 GroupsAreRead =
     (codes : List ℕ) (groups : List (List ℕ)) → IsTrue (list_all is_group groups)

@@ -1,4 +1,4 @@
--- What a scan byte comes to after the bytes before it.
+-- The result of a scan byte after the bytes before it.
 use Rattle.std.specs.Prelude.{ℕ, Option, None, List, [], ◌∷◌, ◌++◌, map, if◌then◌else◌, slice_set}
 use Rattle.std.specs.List.{range_with_len}
 use Rattle.scan_codes.specs.Groups.{is_group, named_by}
@@ -21,7 +21,7 @@ start_codes = map start_code (range_with_len 0 256)
 abbrev pub start_scan : Scan
 start_scan = scan_of [] start_codes
 
--- the byte ends a group: what that names, in the translation as it is now
+-- the event if the byte ends a group: the one that the group names, by the current translation
 abbrev pub event_after : List ℕ → List ℕ → ℕ → Option KeyEvent
 event_after codes bytes b =
     let all = bytes ++ b ∷ [] in if is_group all then named_by codes all else None

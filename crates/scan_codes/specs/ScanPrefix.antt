@@ -1,4 +1,4 @@
--- What the scanner keeps. No public clause names this.
+-- The state that the scanner keeps. No public clause names this.
 use Rattle.std.specs.Prelude.{◌≡◌, ℕ, List, [], ◌∷◌, length, slice_index}
 use Rattle.scan_codes.specs.declared.scanner.ScanPrefix.{ScanPrefix}
 use Rattle.scan_codes.specs.declared.scanner.ScanPrefix.TheVariants.{Nothing, E0, E1, E1And}
@@ -9,7 +9,7 @@ bytes_of E0 = 0xE0 ∷ []
 bytes_of E1 = 0xE1 ∷ []
 bytes_of (E1And b) = 0xE1 ∷ b ∷ []
 
--- a keycode for each scan number; those that no key has are without one
+-- a keycode for each scan number; a scan number that no key has is without one
 pub record IsTranslation (codes : List ℕ) : Type 0 where
   pub all : length codes ≡ 256
   pub first : slice_index codes 0 ≡ 0

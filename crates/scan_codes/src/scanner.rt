@@ -11,7 +11,7 @@ use vt_base::Inval;
 /// The keycode of Pause, whose group no setting changes. This project's own.
 const PAUSE: u8 = 119;
 
-// The bytes since the last whole group: they begin one.
+// The bytes since the last whole group, which begin a group.
 #[derive(Debug, Clone, Copy, PartialEq, Eq)]
 enum ScanPrefix {
     Nothing,
@@ -97,7 +97,7 @@ fn is_scan(scan: u16) -> bool
     (1 <= scan && scan <= 127) || (129 <= scan && scan <= 255)
 }
 
-// What b makes of the bytes before it, and what is then kept.
+// The event of b after the kept bytes, and the bytes that are then kept.
 fn step(kept: ScanPrefix, codes: &[u8; 256], b: u8) -> (Option<KeyEvent>, ScanPrefix)
     requires { IsTranslation codes.now }
     ensures event { result.0 ≡ event_after codes.now (bytes_of kept) b }
@@ -111,7 +111,7 @@ fn step(kept: ScanPrefix, codes: &[u8; 256], b: u8) -> (Option<KeyEvent>, ScanPr
     }
 }
 
-// The byte stands first.
+// The byte is the first one of a group.
 fn first(codes: &[u8; 256], b: u8) -> (Option<KeyEvent>, ScanPrefix)
     requires { IsTranslation codes.now }
     ensures event { result.0 ≡ event_after codes.now [] b }

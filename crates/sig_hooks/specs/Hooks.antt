@@ -11,7 +11,7 @@ act_of acts n = slice_index_or acts (n - 1) Nothing
 abbrev pub with_act : List Act → ℕ → Act → List Act
 with_act acts n act = slice_set acts (n - 1) act
 
--- it may be called on each of the 64 signals, and gives the act of it
+-- the function may be called on each of the 64 signals, and returns the act of the signal
 abbrev pub Answers : (ℕ → Type 0) → (ℕ → Act → Type 0) → List Act → Type 0
 Answers may_call gives acts =
     (n : ℕ) → 1 ≤ n → n ≤ 64 → may_call n × ((act : Act) → gives n act → act ≡ act_of acts n)

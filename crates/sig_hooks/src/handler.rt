@@ -9,7 +9,7 @@ pub trait Handler: Drop {
     ghost use Rattle.std.specs.Prelude.{List};
     ghost use Rattle.sig_hooks.specs.declared.act.Act.{Act};
 
-    // It may be called on each signal, and answers the table's act.
+    // The closure may be called on each signal, and returns the table's act.
     ghost answers: { Self → List Act → Type 0 };
 
     /// The act of the signal.

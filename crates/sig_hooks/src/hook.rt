@@ -24,7 +24,7 @@ impl<F: Handler> Model for Hook<F> {
 }
 
 impl<F: Handler> Hook<F> {
-    /// A hook from a closure that may be called on each signal and answers the table's act.
+    /// A hook from a closure that may be called on each signal and returns the table's act.
     pub fn new(f: F, table: HookTable) -> Hook<F>
         requires { F.answers f table }
         ensures { result ≡ table }
@@ -32,14 +32,14 @@ impl<F: Handler> Hook<F> {
         Hook { f, table }
     }
 
-    /// Asks the closure.
+    /// The act that the closure returns.
     pub fn ask(&self, s: Signal) -> Act
         ensures { result ≡ act_of self.now s }
     {
         self.f.answer(&self.table, s)
     }
 
-    /// The table by which it answers.
+    /// The table of its acts.
     pub fn table(&self) -> &HookTable
         ensures { result.now ≡ self.now }
     {

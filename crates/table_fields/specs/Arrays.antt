@@ -18,8 +18,8 @@ abbrev pub array_in : {A : Type 0} → (Data → Option A) → TableFault → Op
 array_in as_kind not_one None = Err not_one
 array_in as_kind not_one (Some items) = of_kind as_kind not_one (values_of items)
 
--- the array at a key, without one the empty array: 22 where it is none, or a value in it is of another
--- kind
+-- the array at a key, or the empty array if the key isn't set: 22 if it is no array, or a value in it is of
+-- another kind
 abbrev pub array_of : {A : Type 0} → (Data → Option A) → ℕ → ℕ → Option Data → Result (List A) TableFault
 array_of as_kind part key None = Ok []
 array_of as_kind part key (Some d) = array_in as_kind (fault WRONG_KIND part key) (as_array d)
@@ -28,12 +28,12 @@ abbrev pub count_in : Option Items → ℕ
 count_in None = 0
 count_in (Some items) = length (values_of items)
 
--- how many values the array at a key has; none where it is no array
+-- the number of values of the array at a key; 0 if it is no array
 abbrev pub count_of : Option Data → ℕ
 count_of None = 0
 count_of (Some d) = count_in (as_array d)
 
--- whether a key is set, without one it isn't: 22 where it is no truth value
+-- the flag at a key, or false if the key isn't set: 22 if it is no truth value
 abbrev pub flag_of : ℕ → ℕ → Option Data → Result Bool TableFault
 flag_of part key None = Ok false
 flag_of part key (Some d) = ok_or (as_bool d) (fault WRONG_KIND part key)

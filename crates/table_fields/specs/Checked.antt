@@ -1,5 +1,5 @@
--- Checks of a TOML table, one after another: what passes them all, or the first fault. This project's
--- own.
+-- Checks of a TOML table, one after another: the value if it passes them all, or the first fault. This
+-- project's own.
 use Rattle.std.specs.Prelude.{◌≡◌, ℕ, ◌+◌, Bool, Result, Ok, Err, List, [], ◌∷◌, ⊤, if◌then◌else◌}
 use Rattle.table_fields.specs.declared.fault.TableError.{TableError}
 use Rattle.table_fields.specs.declared.fault.TableError.TheVariants as errors
@@ -26,19 +26,19 @@ collect f n (x ∷ xs) = do
   ys ← collect f (n + 1) xs
   Ok (y ∷ ys)
 
--- what a call returned is what the checks give, as the relation says, unless memory ran out
+-- the value that a call returned is that of the checks by the relation, unless memory ran out
 abbrev pub GivesBy : {X Y : Type 0} → (X → Y → Type 0) → Result X TableError → Result Y TableFault → Type 0
 GivesBy {Y = Y} relation (Ok x) checked = (y : Y) × (checked ≡ Ok y) × relation x y
 GivesBy relation (Err (errors.Fault f)) checked = checked ≡ Err f
 GivesBy relation (Err errors.NoMemory) checked = ⊤
 
--- what a call returned, seen by `view`, is what the checks give, unless memory ran out
+-- the value that a call returned, seen by `view`, is that of the checks, unless memory ran out
 abbrev pub Gives : {X Y : Type 0} → (X → Y) → Result X TableError → Result Y TableFault → Type 0
 Gives view (Ok x) checked = checked ≡ Ok (view x)
 Gives view (Err (errors.Fault f)) checked = checked ≡ Err f
 Gives view (Err errors.NoMemory) checked = ⊤
 
--- what a call that takes no memory returned, seen by `view`, is what the checks give
+-- the value that a call that takes no memory returned, seen by `view`, is that of the checks
 abbrev pub Returns : {X Y : Type 0} → (X → Y) → Result X TableFault → Result Y TableFault → Type 0
 Returns view (Ok x) checked = checked ≡ Ok (view x)
 Returns view (Err f) checked = checked ≡ Err f

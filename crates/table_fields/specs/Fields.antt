@@ -18,7 +18,7 @@ abbrev pub document_in : Option Members → Result Members TableFault
 document_in None = Err (fault NO_DOCUMENT 0 0)
 document_in (Some members) = Ok members
 
--- the table of a document, which has to be UTF-8: 20 where the text is none
+-- the table of a document, which has to be UTF-8: 20 if the text is none
 abbrev pub document_of : List ℕ → Result Members TableFault
 document_of text = if is_utf8 text then document_in (parse_document text) else Err (fault NO_DOCUMENT 0 0)
 
@@ -36,7 +36,7 @@ abbrev pub number_in : ℕ → ℕ → TableFault → TableFault → Option ℤ 
 number_in low high not_one bad None = Err not_one
 number_in low high not_one bad (Some z) = number_within low high bad z
 
--- the number at a key, which is its own default: 22 where it is no integer, 23 where it is out of range
+-- the number at a key, or the default if the key isn't set: 22 if it is no integer, 23 if it is out of range
 abbrev pub number_of : ℕ → ℕ → ℕ → ℕ → ℕ → Option Data → Result ℕ TableFault
 number_of part key default low high None = Ok default
 number_of part key default low high (Some d) =
@@ -47,12 +47,12 @@ abbrev pub text_in : TableFault → Option (List ℕ) → Result (List ℕ) Tabl
 text_in not_one None = Err not_one
 text_in not_one (Some text) = Ok text
 
--- the text at a key, without one the empty text: 22 where it is no text
+-- the text at a key, or the empty text if the key isn't set: 22 if it is no text
 abbrev pub text_of : ℕ → ℕ → Option Data → Result (List ℕ) TableFault
 text_of part key None = Ok []
 text_of part key (Some d) = text_in (fault WRONG_KIND part key) (as_str d)
 
--- the texts of a table, by their names, behind those before them
+-- the texts of a table, by their names, after those before them
 abbrev pub texts_after : TableFault → List Named → Members → Result (List Named) TableFault
 texts_after not_one before no_members = Ok before
 texts_after not_one before (member name d more) =
@@ -62,12 +62,12 @@ abbrev pub texts_in : TableFault → Option Members → Result (List Named) Tabl
 texts_in not_one None = Err not_one
 texts_in not_one (Some members) = texts_after not_one [] members
 
--- the table of texts at a key, without one no texts: 22 where it is none
+-- the table of texts at a key, or no texts if the key isn't set: 22 if it is no such table
 abbrev pub texts_of : ℕ → ℕ → Option Data → Result (List Named) TableFault
 texts_of part key None = Ok []
 texts_of part key (Some d) = texts_in (fault WRONG_KIND part key) (as_table d)
 
--- a keymap's fault is told as 24 at its own line and column
+-- the fault of a keymap: 24 at the keymap's own line and column
 abbrev pub keymap_fault : KeyFault → TableFault
 keymap_fault f = fault KEYMAP f.line f.column
 
@@ -79,7 +79,7 @@ abbrev pub lines_compiled : List KeymapLine → Option KeyFault → Result (List
 lines_compiled lines None = Ok lines
 lines_compiled lines (Some f) = Err (keymap_fault f)
 
--- the lines of a keymap that may include these texts, where they can be compiled
+-- the lines of a keymap that may include these texts, if they can be compiled
 abbrev pub keymap_of : List Named → List ℕ → Result (List KeymapLine) TableFault
 keymap_of texts keymap =
     lines_read (lines_of texts keymap) >>= λ lines. lines_compiled lines (compile_fault lines)
@@ -107,7 +107,7 @@ items_of (c ∷ text) = slice_split (λ b. b == 0x20) (c ∷ text)
 abbrev pub most_scan_bytes : ℕ
 most_scan_bytes = 100000
 
--- the items of a text of scan bytes: 29 where there are too many, at its key
+-- the items of a text of scan bytes: 29 if there are too many, at its key
 abbrev pub few_items_of : ℕ → ℕ → List ℕ → Result (List (List ℕ)) TableFault
 few_items_of part key text = do
   few ← check (nat_le (length (items_of text)) most_scan_bytes) (fault TOO_MANY part key)
@@ -117,6 +117,6 @@ few_items_of part key text = do
 abbrev pub bytes_of : ℕ → ℕ → List (List ℕ) → Result (List ℕ) TableFault
 bytes_of kind part items = collect (λ n item. byte_in (fault kind part n) (byte_of item)) 1 items
 
--- the scan bytes of a text: 29 where there are too many, at its key; 27 at the first item that is none
+-- the scan bytes of a text: 29 if there are too many, at its key; 27 at the first item that is none
 abbrev pub scan_bytes_of : ℕ → ℕ → List ℕ → Result (List ℕ) TableFault
 scan_bytes_of part key text = few_items_of part key text >>= bytes_of SCAN_BYTE part

@@ -1,4 +1,4 @@
-//! What becomes an error: a fault, and each way in which memory runs out.
+//! The conversions into errors: from a fault, and from each way in which memory runs out.
 ghost use Rattle.std.specs.Prelude.{◌≡◌};
 ghost use Rattle.table_fields.specs.declared.fault.TableError.TheVariants as errors;
 

@@ -35,7 +35,7 @@ pub fn scan_items(alloc: Global, text: &str, part: u32, key: u32) -> Result<Vec<
     Ok(items)
 }
 
-// The parts between single blanks, of which the empty text has none.
+// The parts between single blanks; the empty text has none.
 fn cut_items(alloc: Global, text: &str) -> Result<Vec<&str>, AllocError>
     ensures { IfOk result (λ items. map (λ item. item.now) items.items ≡ items_of text.now) }
 {

@@ -1,4 +1,4 @@
--- What contracts see of `Bytes`.
+-- `Bytes` as contracts see it.
 use Rattle.std.specs.Prelude.{ℕ, List}
 
 -- a list of bytes, and how many more fit

@@ -10,7 +10,7 @@ is_among consoles n = bit_at consoles n == 1
 abbrev pub at_each : {A : Type 0} → ℕ → A → List (Option A)
 at_each consoles a = map (λ n. if is_among consoles n then Some a else None) (range_with_len 0 64)
 
--- a set that a display can begin with: the console in front is among them, and 0 is none
+-- a set that a display can begin with: it has the console in front, and bit 0 isn't set
 pub record IsFitSet (consoles front : ℕ) : Type 0 where
   pub no_zero : is_among consoles 0 ≡ false
   pub has_front : is_among consoles front ≡ true

@@ -10,6 +10,6 @@ is_keyboard p = p == 0 || nat_lt processes p
 abbrev pub keyboard_caller : ℕ → ℕ
 keyboard_caller k = if k == 0 then 0 else processes + k
 
--- which keyboard a caller is, where it is one
+-- the number of the keyboard that a caller is, if it is one
 abbrev pub keyboard_of : ℕ → Option ℕ
 keyboard_of p = if p == 0 then Some 0 else if nat_lt processes p then Some (p - processes) else None

@@ -1,5 +1,5 @@
--- How many there are of each thing, and the longest piece of bytes. This project's own, but for the
--- consoles (console(4)) and the signals (signal(7)).
+-- The number of things of each kind, and the longest piece of bytes. The limits are this project's own,
+-- except the number of consoles (console(4)) and of signals (signal(7)).
 use Rattle.std.specs.Prelude.{ℕ}
 
 abbrev pub consoles : ℕ
@@ -18,7 +18,7 @@ keyboards = 4
 abbrev pub callers : ℕ
 callers = 68
 
--- callers are numbered from 0 to this one
+-- the greatest number of a caller; the least one is 0
 abbrev pub greatest_caller : ℕ
 greatest_caller = 67
 

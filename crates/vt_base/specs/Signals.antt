@@ -18,7 +18,7 @@ pub record IsFirstFrom (set n s : ℕ) : Type 0 where
   pub here : has_signal set s ≡ true
   pub none_before : (t : ℕ) → n ≤ t → t < s → has_signal set t ≡ false
 
--- a set with a signal has it, and else what it had
+-- the set `with` has signal s and the signals of `set`, and no other
 pub record IsWith (set s with : ℕ) : Type 0 where
   pub here : has_signal with s ≡ true
   pub others : (t : ℕ) → 1 ≤ t → t ≢ s → has_signal with t ≡ has_signal set t

@@ -29,7 +29,7 @@ fn parse_any(word: &[u8]) -> Option<u64>
     }
 }
 
-// What a plain word spells.
+// The number that a plain word spells.
 fn parse_text(word: &str) -> Option<u64>
     requires { IsPlain word.now }
     ensures found { IfSome result (λ n. decimal n ≡ word.now) }

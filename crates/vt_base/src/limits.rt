@@ -1,5 +1,5 @@
-//! How many there are of each thing, and the longest piece of bytes. Contracts use the same numbers
-//! from `specs/Limits.antt`.
+//! The number of things of each kind, and the longest piece of bytes. Contracts use the same numbers from
+//! `specs/Limits.antt`.
 
 /// The number of consoles. Their numbers begin with 1.
 pub const CONSOLES: usize = 63;

@@ -33,7 +33,7 @@ impl<T: Drop> From<AllocFailed<T>> for NoMemory {
     }
 }
 
-/// So that `?` works in a `main` that gives an `io::Result`.
+/// Makes `?` work in a `main` that returns an `io::Result`.
 impl From<NoMemory> for io::Error {
     ghost from_gives = { λ _ e. error_kind e ≡ OutOfMemory };
 

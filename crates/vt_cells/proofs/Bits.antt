@@ -1,4 +1,4 @@
--- What the bit operations on an attribute byte give, in numbers. Each is computed at all bytes.
+-- The results of the bit operations on an attribute byte, in numbers. Each is computed for all bytes.
 use Rattle.std.proofs.Common.{◌≡◌, ℕ, ◌*◌, ◌/◌, ◌%◌, ◌<◌, true, eqb, ltb, refl, ap, ◌∙◌, arith}
 use Rattle.std.proofs.lemmas.Bool.{agree_below, agree_below_at, eqb-true, ltb-true}
 use Rattle.std.proofs.lemmas.Nat.{or_shifted, shl_whole}

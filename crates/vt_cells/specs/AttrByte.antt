@@ -1,4 +1,4 @@
--- The attribute byte of a VGA text cell: blink is bit 7, the ground bits 4 to 6, bright bit 3 and the
+-- The attribute byte of a VGA text cell: blink is bit 7, the background bits 4 to 6, bright bit 3 and the
 -- character's colour bits 0 to 2. How attributes become that byte is this project's own.
 use Rattle.std.specs.Prelude.{ℕ, ◌+◌, ◌-◌, ◌*◌, ◌/◌, ◌%◌, ◌==◌, List, [], ◌∷◌, slice_index, if◌then◌else◌}
 use Rattle.vt_cells.specs.Rendition.{Rendition, Tints, is_bold, is_dim}
@@ -12,20 +12,20 @@ vga_colours =
 abbrev pub vga : ℕ → ℕ
 vga c = slice_index vga_colours c
 
--- a ground and a character's colour in one byte
+-- a background and a character's colour in one byte
 abbrev pub byte_of : ℕ → ℕ → ℕ
 byte_of bg fg = 16 * bg + fg
 
--- the ground and the character's colour are exchanged; blink and bright stay
+-- the background and the character's colour are exchanged; blink and bright stay
 abbrev pub with_colours_swapped : ℕ → ℕ
 with_colours_swapped b = 128 * (b / 128) + 16 * (b % 8) + 8 * (b / 8 % 2) + b / 16 % 8
 
--- the bit of this weight is set where it wasn't, and else cleared
+-- the bit of this weight is set if it was clear, and cleared if it was set
 abbrev pub with_bit_flipped : ℕ → ℕ → ℕ
 with_bit_flipped weight b = if b / weight % 2 == 0 then b + weight else b - weight
 
--- the character's colour: green where italic is on, else that for underline, else that for
--- half-bright, else its own
+-- the character's colour: green if italic is on, otherwise the one for underline, otherwise the one for
+-- half-bright, otherwise its own
 abbrev pub foreground : Rendition → Tints → ℕ
 foreground a l =
     if a.italic then 2

@@ -13,7 +13,7 @@ with_parts c on off =
     let part = λ (weight : ℕ). if c / weight % 2 == 1 then on else off in
     (part 1, part 2, part 4)
 
--- a step of six
+-- one of the six levels of a part
 abbrev pub sixth : ℕ → ℕ
 sixth n = n * 255 / 6
 
@@ -59,6 +59,6 @@ fold_fg r g b = (
   is_dark_grey r g b || nat_lt 0xAA (largest r g b),
 )
 
--- a ground's colour
+-- a background colour
 abbrev pub fold_bg : ℕ → ℕ → ℕ → ℕ
 fold_bg r g b = parts_above 127 r g b

@@ -1,10 +1,10 @@
--- What is said of how a character is written.
+-- How a character is written.
 use Rattle.std.specs.Prelude.{ℕ, Bool, true, false}
 use Rattle.vt_cells.specs.declared.intensity.Intensity.{Intensity}
 use Rattle.vt_cells.specs.declared.intensity.Intensity.TheVariants.{Dim, Normal, Bold}
 
--- the colours of the character and of the ground, and what is on: console_codes(4), "ECMA-48 Select
--- Graphic Rendition"
+-- the colours of the character and of the background, and the styles that are on: console_codes(4), "ECMA-48
+-- Select Graphic Rendition"
 pub record Rendition : Type 0 where
   pub fg : ℕ
   pub bg : ℕ

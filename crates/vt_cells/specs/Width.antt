@@ -17,8 +17,8 @@ is_half c = c.code == half
 abbrev pub is_character : ℕ → Bool
 is_character code = nat_lt code 0xD800 || (nat_le 0xE000 code && nat_lt code 0x110000)
 
--- the width of a character, cut to 2. A control character has no width and takes one column, and so
--- does what is no character
+-- the width of a character, at most 2. A control character has no width and takes one column, and so does a
+-- code that is no character
 unfoldable pub columns : ℕ → ℕ
 columns code = if is_character code then min 2 (unwrap_or (char_width false code) 1) else 1
 
@@ -45,7 +45,7 @@ is_plain code = list_any (λ blocks. nat_le blocks.0 (code / 64) && nat_le (code
 abbrev pub PlainTakeOne : Type 0
 PlainTakeOne = (code : ℕ) → is_plain code ≡ true → columns code ≡ 1
 
--- below the combining marks each code but the soft hyphen's takes one column
+-- below the combining marks each code except the soft hyphen takes one column
 abbrev pub LowTakeOne : Type 0
 LowTakeOne = (code : ℕ) → code < 0x300 → code ≢ 0xAD → columns code ≡ 1
 
@@ -53,8 +53,9 @@ LowTakeOne = (code : ℕ) → code < 0x300 → code ≢ 0xAD → columns code �
 abbrev pub AtMostTwo : Type 0
 AtMostTwo = (code : ℕ) → columns code ≤ 2
 
--- a letter and its accent; the soft hyphen, the joiner and the sign that asks for an emoji; a Han
--- character and a face; what stands for no character; a heart, a letter of a flag and a skin tone
+-- a letter and its accent; the soft hyphen, the joiner and the sign that requests an emoji; a Han character
+-- and a face; the replacement character and codes that are no character; a heart, a letter of a flag and a
+-- skin tone
 pub record WorkedColumns : Type 0 where
   pub letter : columns 0x65 ≡ 1
   pub accent : columns 0x301 ≡ 0

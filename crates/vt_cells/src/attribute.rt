@@ -54,7 +54,7 @@ fn foreground(a: &Attr, l: &Look) -> u8
     }
 }
 
-// A ground and a character's colour in one byte.
+// A background and a character's colour in one byte.
 #[tactic(auto, using(crate::proofs::Bits::bits))]
 fn byte_of(bg: u8, fg: u8) -> u8
     requires bg { bg < 16 }

@@ -38,7 +38,7 @@ fn part(c: u8, bit: u8, on: u8, off: u8) -> u8
     if c >> bit & 1 == 1 { on } else { off }
 }
 
-// A step of six of a part.
+// One of the six levels of a part.
 fn sixth(n: u8) -> u8
     requires { n ≤ 5 }
     ensures { result ≡ sixth n }

@@ -1,4 +1,4 @@
-//! What a cell of a screen holds: a character, its attributes, and the colours that they stand for.
+//! A cell of a screen: its character, its attributes, and the colours that they stand for.
 #![tactic(auto)]
 
 mod attr;

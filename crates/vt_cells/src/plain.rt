@@ -1,15 +1,15 @@
 ghost use Rattle.std.specs.Prelude.{◌≡◌};
 ghost use Rattle.vt_cells.specs.Width.{is_plain};
 
-/// How many codes are a block.
+/// The number of codes of a block.
 const BLOCK: u32 = 64;
 
 const Y: bool = true;
 
 const N: bool = false;
 
-/// Whether each code of a block takes one column and is of a kind that text has often, block by
-/// block. A row begins with the code beside it.
+/// For each block, whether each of its codes takes one column and is of a kind that is frequent in text. The
+/// comment after a row is its first code.
 #[rattlefmt::skip]
 static PLAIN: [bool; 160] = [
     Y, Y, N, Y, Y, Y, Y, Y, Y, Y, Y, Y, N, N, Y, Y, // 0000

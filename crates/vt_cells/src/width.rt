@@ -20,7 +20,7 @@ pub fn columns(code: u32) -> u8
 {
     match code {
         SOFT_HYPHEN => 0,
-        // Before the combining marks.
+        // Codes below the combining marks.
         0..=0x2FF => 1,
         // Han, and the syllables of Hangul.
         0x3400..=0x9FFF | 0xAC00..=0xD7A3 => 2,

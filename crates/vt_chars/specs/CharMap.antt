@@ -11,7 +11,7 @@ graphics =
     ∷ 0x252C ∷ 0x2502 ∷ 0x2264 ∷ 0x2265 ∷ 0x03C0 ∷ 0x2260 ∷ 0x00A3 ∷ 0x00B7
     ∷ []
 
--- the byte itself, but for the graphics
+-- the byte itself, except for the graphics
 abbrev pub graphic_of : ℕ → ℕ
 graphic_of b = if within 0x5F 0x7E b then slice_index graphics (b - 0x5F) else b
 

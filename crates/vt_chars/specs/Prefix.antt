@@ -13,7 +13,7 @@ bytes_of (One a) = a ∷ []
 bytes_of (Two a b) = a ∷ b ∷ []
 bytes_of (Three a b c) = a ∷ b ∷ c ∷ []
 
--- the answer to what all the bytes are, and what is then kept of them
+-- the answer by the decoding of all the bytes, and the bytes that are then kept
 abbrev pub Answers : Decoded → Got → Prefix → Got → Prefix → Type 0
 Answers (Character code) bad all got kept = (got ≡ Char code) × (kept ≡ Nothing)
 Answers Unfinished bad all got kept = (got ≡ More) × (kept ≡ all)

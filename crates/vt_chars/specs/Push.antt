@@ -1,4 +1,4 @@
--- What a byte makes of the bytes since the last result.
+-- The answer to a byte after the bytes since the last result.
 use Rattle.std.specs.Prelude.{ℕ, List, [], ◌∷◌, ◌++◌}
 use Rattle.vt_chars.specs.Utf8.{decoding_of}
 use Rattle.vt_chars.specs.declared.decoded.Decoded.{Decoded}
@@ -6,8 +6,8 @@ use Rattle.vt_chars.specs.declared.decoded.Decoded.TheVariants.{Character, Unfin
 use Rattle.vt_chars.specs.declared.got.Got.{Got}
 use Rattle.vt_chars.specs.declared.got.Got.TheVariants.{Char, Bad, BadThen, More}
 
--- malformed bytes: the bytes before b began a character, so they are the maximal subpart; without
--- any, b alone is
+-- the answer for malformed bytes: the bytes before b, if there are any, began a character and are the maximal
+-- subpart; otherwise b alone is
 abbrev pub malformed_by : List ℕ → Got
 malformed_by [] = Bad
 malformed_by (a ∷ before) = BadThen
@@ -17,7 +17,7 @@ got_by before (Character code) = Char code
 got_by before Unfinished = More
 got_by before Malformed = malformed_by before
 
--- the answer to b after these bytes: what all of them together are
+-- the answer to b after these bytes, by the decoding of all of them together
 abbrev pub got_of : List ℕ → ℕ → Got
 got_of before b = got_by before (decoding_of (before ++ b ∷ []))
 

@@ -27,8 +27,8 @@ is_well_formed (a ∷ b ∷ c ∷ []) = within 0xE0 0xEF a && is_second a b && i
 is_well_formed (a ∷ b ∷ c ∷ d ∷ []) = within 0xF0 0xF4 a && is_second a b && is_tail c && is_tail d
 is_well_formed _ = false
 
--- the bytes, of which there is at least one, begin a longer well-formed sequence: its first byte
--- says how long it is, and all bytes so far are as in its row
+-- the bytes, at least one, begin a longer well-formed sequence: the first byte determines its length, and all
+-- bytes so far match its row
 abbrev pub is_begun : List ℕ → Bool
 is_begun (a ∷ []) = within 0xC2 0xF4 a
 is_begun (a ∷ b ∷ []) = within 0xE0 0xF4 a && is_second a b
@@ -43,7 +43,7 @@ code_of (a ∷ b ∷ c ∷ []) = ((a - 0xE0) * 0x40 + (b - 0x80)) * 0x40 + (c - 
 code_of (a ∷ b ∷ c ∷ d ∷ []) = (((a - 0xF0) * 0x40 + (b - 0x80)) * 0x40 + (c - 0x80)) * 0x40 + (d - 0x80)
 code_of _ = 0
 
--- what a text is
+-- the decoding of a text
 abbrev pub decoding_of : List ℕ → Decoded
 decoding_of text =
     if is_well_formed text then Character (code_of text)
@@ -54,7 +54,7 @@ decoding_of text =
 abbrev pub Begins : List ℕ → Type 0
 Begins text = (more : List ℕ) × (more ≢ []) × IsTrue (is_well_formed (text ++ more))
 
--- the unfinished texts are the proper prefixes, the empty text aside
+-- the unfinished texts are the proper prefixes, except the empty text
 abbrev pub UnfinishedBegins : Type 0
 UnfinishedBegins =
     (text : List ℕ) → (decoding_of text ≡ Unfinished) ↔ ((text ≢ []) × Begins text)

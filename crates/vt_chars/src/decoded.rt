@@ -1,7 +1,7 @@
 ghost use Rattle.std.specs.Prelude.{◌≡◌, ◌≤◌, [], ◌∷◌, ◌++◌, length, ◌&&◌};
 ghost use Rattle.vt_chars.specs.Utf8.{decoding_of, is_second, is_tail, within};
 
-/// What a string of bytes is in UTF-8.
+/// How UTF-8 reads a string of bytes.
 #[derive(Debug, Clone, Copy, PartialEq, Eq)]
 pub enum Decoded {
     /// A character, by its code point.
@@ -12,7 +12,7 @@ pub enum Decoded {
     Malformed,
 }
 
-/// What `text` with one byte more is, in the same time for each text.
+/// How UTF-8 reads `text` with one more byte. The time is the same for each text.
 pub fn decode(text: &[u8], b: u8) -> Decoded
     ensures { result ≡ decoding_of (text.now ++ b ∷ []) }
 {
@@ -25,7 +25,7 @@ pub fn decode(text: &[u8], b: u8) -> Decoded
     }
 }
 
-/// What `text` is, in the same time for each text.
+/// How UTF-8 reads `text`. The time is the same for each text.
 pub fn decode_all(text: &[u8]) -> Decoded
     ensures { result ≡ decoding_of text.now }
 {
@@ -38,7 +38,7 @@ pub fn decode_all(text: &[u8]) -> Decoded
     }
 }
 
-/// What a byte is.
+/// How UTF-8 reads one byte.
 pub fn decode_one(a: u8) -> Decoded
     ensures { result ≡ decoding_of (a ∷ []) }
 {
@@ -51,7 +51,7 @@ pub fn decode_one(a: u8) -> Decoded
     }
 }
 
-/// What two bytes are.
+/// How UTF-8 reads two bytes.
 pub fn decode_two(a: u8, b: u8) -> Decoded
     ensures { result ≡ decoding_of (a ∷ b ∷ []) }
 {
@@ -64,7 +64,7 @@ pub fn decode_two(a: u8, b: u8) -> Decoded
     }
 }
 
-/// What three bytes are.
+/// How UTF-8 reads three bytes.
 pub fn decode_three(a: u8, b: u8, c: u8) -> Decoded
     ensures { result ≡ decoding_of (a ∷ b ∷ c ∷ []) }
 {
@@ -78,7 +78,7 @@ pub fn decode_three(a: u8, b: u8, c: u8) -> Decoded
     }
 }
 
-/// What four bytes are.
+/// How UTF-8 reads four bytes.
 pub fn decode_four(a: u8, b: u8, c: u8, d: u8) -> Decoded
     ensures { result ≡ decoding_of (a ∷ b ∷ c ∷ d ∷ []) }
 {

@@ -11,8 +11,8 @@ pub fn byte_more()
     ensures { ByteMore }
 {}
 
-/// A byte below 80 is a character of its own: a text's characters are those before it, it, and those
-/// after it.
+/// A byte below 80 is a character of its own: a text's characters are those before the byte, the byte, and
+/// those after it.
 pub fn ascii_cuts()
     ensures { AsciiCuts }
 {}

@@ -53,7 +53,7 @@ impl Utf8 {
     }
 }
 
-// What b makes of the bytes before it, and what is then kept.
+// The answer to b after the kept bytes, and the bytes that are then kept.
 fn step(kept: Prefix, b: u8) -> (Got, Prefix)
     ensures answer { result.0 ≡ got_of (bytes_of kept) b }
     ensures rest { bytes_of result.1 ≡ left_of (bytes_of kept) b }
@@ -78,7 +78,7 @@ fn step(kept: Prefix, b: u8) -> (Got, Prefix)
     }
 }
 
-// The answer where the bytes are malformed is `bad`; unfinished ones are kept as `all`.
+// The answer is `bad` if the bytes are malformed; unfinished ones are kept as `all`.
 fn answer(decoded: Decoded, bad: Got, all: Prefix) -> (Got, Prefix)
     ensures { Answers decoded bad all result.0 result.1 }
 {

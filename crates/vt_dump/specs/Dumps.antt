@@ -10,7 +10,7 @@ use Rattle.vt_cells.specs.declared.cell.Cell.{Cell}
 abbrev pub cell_count : GridView → ℕ
 cell_count s = s.rows * s.cols
 
--- what each cell gives, in reading order
+-- the bytes of each cell, in reading order
 abbrev pub of_cells : (Cell → List ℕ) → GridView → List ℕ
 of_cells bytes s = flat_map (flat_map bytes) s.cells
 
@@ -18,7 +18,7 @@ of_cells bytes s = flat_map (flat_map bytes) s.cells
 abbrev pub character : Cell → ℕ
 character cell = if nat_le cell.code 0xFF then cell.code else 0x3F
 
--- a cell's attribute, with the colours exchanged where the screen is reversed
+-- a cell's attribute, with the colours exchanged if the screen is reversed
 abbrev pub attribute : Bool → Cell → ℕ
 attribute reversed cell = if reversed then with_colours_swapped cell.attr else cell.attr
 

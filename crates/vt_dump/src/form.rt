@@ -15,7 +15,7 @@ pub(crate) enum Form {
     WithAttribute { reversed: bool },
     /// Its code point.
     Code,
-    /// Its character in UTF-8, or nothing of a right half.
+    /// Its character in UTF-8, or no bytes for a right half.
     Text,
 }
 

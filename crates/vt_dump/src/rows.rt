@@ -11,7 +11,7 @@ use vt_grid::Grid;
 /// The most bytes of a cell's text.
 const CELL_BYTES: usize = 4;
 
-/// The bytes of a row's text beside its cells.
+/// The bytes of a row's text in addition to its cells.
 const FRAME_BYTES: usize = 3;
 
 /// The rows as text: each is `|`, the characters of its cells in UTF-8, `|` and LF. A code of a control

@@ -1,4 +1,4 @@
--- Rows and grids of which no cell is the right half of a character: no border parts a character there, and
+-- Rows and grids of which no cell is the right half of a character: no border splits a character there, and
 -- the edits keep them so.
 use Rattle.std.proofs.Common.{◌≡◌, ℕ, zero, suc, ◌+◌, ◌-◌, ◌<◌, min, Bool, true, false, List, [], ◌∷◌, ◌++◌, length, map, take, drop, set, get_or, replicate, inl, inr, refl, sym, subst, ap, ◌∙◌, arith}
 use Rattle.std.specs.List.{list_all}

@@ -1,4 +1,4 @@
--- No half stands in column 0 or right of a half: what rows are made of keeps that.
+-- No half stands in column 0 or right of a half: the edits of rows keep that.
 use Rattle.std.proofs.Common.{◌≡◌, ℕ, zero, suc, ◌+◌, ◌-◌, ◌<◌, min, Bool, true, false, ◌&&◌, List, [], ◌∷◌, ◌++◌, length, map, take, drop, set, replicate, inl, inr, refl, sym, subst, cond, arith}
 use Rattle.std.specs.Prelude.{All}
 use Rattle.std.proofs.lemmas.Bool.{cases_lt}

@@ -1,4 +1,4 @@
--- Lists that turn round their end.
+-- Lists that turn around their end.
 use Rattle.std.proofs.Common.{◌≡◌, ℕ, ◌+◌, ◌-◌, ◌<◌, ◌≤◌, ◌⊎◌, List, ◌++◌, map, length, take, drop, set, get_or, sym, ap, ◌∙◌, subst, arith, rules}
 use Rattle.std.proofs.lemmas.Bool.{cases_eq}
 use Rattle.std.proofs.lemmas.List.{places, same_lists, get_or-set_same, length-set, map-append, take-map, drop-map, take-append-drop, length-append, length-take, length-drop}

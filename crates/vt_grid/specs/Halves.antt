@@ -8,36 +8,34 @@ use Rattle.vt_cells.specs.declared.cell.Cell.{Cell}
 abbrev pub space_in_colours : Cell → Cell
 space_in_colours c = record c { code = 0x20 }
 
--- these cells, where a border comes between the first two: the two halves of a character become
--- spaces
+-- cells with a border between the first two: the two halves of a character become spaces
 abbrev pub split_pair : List Cell → List Cell
 split_pair (left ∷ right ∷ cells) =
     if is_half right then space_in_colours left ∷ space_in_colours right ∷ cells else left ∷ right ∷ cells
 split_pair cells = cells
 
--- a row, where a border comes before column x: a character that stands on both sides of it becomes
--- two spaces
+-- a row with a border before column x: a character on both sides of it becomes two spaces
 abbrev pub split_wide : ℕ → List Cell → List Cell
 split_wide zero row = row
 split_wide (suc x) row = take x row ++ split_pair (drop x row)
 
--- row y is parted at x
+-- row y is split at x
 abbrev pub split_wide_at : GridView → ℕ → ℕ → GridView
 split_wide_at s y x = with_row s y (split_wide x (row_at s y))
 
--- row y is parted at x, and then at end
+-- row y is split at x, and then at end
 abbrev pub split_wide_between : GridView → ℕ → ℕ → ℕ → GridView
 split_wide_between s y x end = split_wide_at (split_wide_at s y x) y end
 
--- every row is parted at x
+-- every row is split at x
 abbrev pub split_wide_rows : ℕ → GridView → GridView
 split_wide_rows x s = record s { cells = map (split_wide x) s.cells }
 
--- the cells of row y from column x on are these, and what stood there in part is parted
+-- the cells of row y from column x on are these, and a character that they cover in part is split
 abbrev pub with_cells_at : GridView → ℕ → ℕ → List Cell → GridView
 with_cells_at s y x cells = with_run (split_wide_between s y x (x + length cells)) y x cells
 
--- each half among these cells follows a cell that is none; they themselves may follow a half
+-- each half among these cells follows a cell that isn't one; whether the cells follow a half is given
 abbrev pub ArePaired : Bool → List Cell → Type 0
 ArePaired after_half [] = Unit {0}
 ArePaired after_half (c ∷ cells) = ((after_half && is_half c) ≡ false) × ArePaired (is_half c) cells
@@ -53,6 +51,6 @@ IsPaired s = All IsPairedRow s.cells
 abbrev pub IsNarrowRow : List Cell → Type 0
 IsNarrowRow row = All (λ c. is_half c ≡ false) row
 
--- no cell is
+-- no cell of the grid is the right half of a character
 abbrev pub IsNarrow : GridView → Type 0
 IsNarrow s = All IsNarrowRow s.cells

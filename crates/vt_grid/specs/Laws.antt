@@ -1,4 +1,4 @@
--- What holds of every grid.
+-- Laws of every grid.
 use Rattle.std.specs.Prelude.{◌≡◌, ℕ, ◌+◌, ◌<◌, ◌≤◌, true, false, List, [], ◌∷◌, ◌++◌, length}
 use Rattle.vt_cells.specs.Width.{is_half}
 use Rattle.vt_grid.specs.Grid.{IsFull, GridView, with_deleted, with_erased, filled_grid, with_inserted, resized_grid, row_at, scrolled_down, scrolled_up, with_cell, with_run}
@@ -15,7 +15,7 @@ RunOfMore =
     (s : GridView) (y x : ℕ) (c : Cell) (cells : List Cell) → x < length (row_at s y)
     → with_run s y x (c ∷ cells) ≡ with_run (with_cell s y x c) y (x + 1) cells
 
--- a cell that is set leaves its row as long as it was
+-- setting a cell leaves the length of its row unchanged
 abbrev pub CellKeepsWidth : Type 0
 CellKeepsWidth =
     (s : GridView) (y x : ℕ) (c : Cell)
@@ -28,11 +28,11 @@ StretchesJoin =
     → x + length (first ++ second) ≤ length (row_at s y)
     → with_cells_at (with_cells_at s y x first) y (x + length first) second ≡ with_cells_at s y x (first ++ second)
 
--- at a row's end and past it no character is parted
+-- at a row's end and past it no character is split
 abbrev pub EndsAreWhole : Type 0
 EndsAreWhole = (s : GridView) (y x : ℕ) → IsFull s → s.cols ≤ x → split_wide_at s y x ≡ s
 
--- no edit whose borders part what they cut leaves a half in column 0 or right of a half
+-- edits whose borders split the characters that they cut leave no half in column 0 or right of a half
 pub record EditsKeepHalves : Type 0 where
   pub drawing : (s : GridView) (y x : ℕ) (cells : List Cell) → IsPaired s → ArePaired true cells
       → IsPaired (with_cells_at s y x cells)

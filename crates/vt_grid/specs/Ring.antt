@@ -4,12 +4,12 @@ use Rattle.vt_grid.specs.StoredRow.{IsNarrowLine, StoredRow, blank_row}
 use Rattle.vt_grid.specs.Store.{no_row}
 use Rattle.vt_cells.specs.declared.cell.Cell.{Cell}
 
--- a row as it is kept: room for so many cells, and what stands in it
+-- a row as it is kept: the number of its cells, and the cells that are stored
 pub record RowSlot : Type 0 where
   pub room : ℕ
   pub line : StoredRow
 
--- what a number that names no row is read as
+-- the row for a number that names no row
 abbrev pub no_slot : RowSlot
 no_slot = record { room = 0; line = no_row }
 
@@ -21,7 +21,7 @@ slot_at shelves p = slice_index_or shelves p no_slot
 abbrev pub rows_by_number : List RowSlot → List ℕ → List StoredRow
 rows_by_number shelves order = map (λ p. (slot_at shelves p).line) order
 
--- this row, where it stores no cell: each of its cells is c
+-- this row without stored cells: each of its cells is c
 abbrev pub blank_slot : Cell → RowSlot → RowSlot
 blank_slot c shelf = record shelf { line = blank_row c }
 
@@ -35,7 +35,7 @@ cut_all (p ∷ order) c shelves =
 abbrev pub AreNarrow : List RowSlot → Type 0
 AreNarrow shelves = All (λ shelf. IsNarrowLine shelf.line) shelves
 
--- the numbers 0, 1, 2 and so on, so many
+-- the n numbers 0, 1, 2 and so on
 pub record IsRising (n : ℕ) (order : List ℕ) : Type 0 where
   pub count : length order ≡ n
   pub each : (y : ℕ) → y < n → slice_index order y ≡ y

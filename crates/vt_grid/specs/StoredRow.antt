@@ -5,7 +5,7 @@ use Rattle.vt_grid.specs.Grid.{overlaid}
 use Rattle.vt_grid.specs.Halves.{IsNarrowRow}
 use Rattle.vt_cells.specs.declared.cell.Cell.{Cell}
 
--- the cells that are stored, from left to right, and the cell that stands for all further ones
+-- the cells that are stored, from left to right, and the value of all further cells
 pub record StoredRow : Type 0 where
   pub stored : List Cell
   pub rest : Cell
@@ -22,11 +22,11 @@ cell_at line x = slice_index_or line.stored x line.rest
 abbrev pub cells_of : ℕ → StoredRow → List Cell
 cells_of n line = line.stored ++ replicate (n - length line.stored) line.rest
 
--- the stored cells from column x on are these, and all others are as they were
+-- the stored cells from column x on are these, and all others are unchanged
 abbrev pub with_stored_cells : ℕ → List Cell → StoredRow → StoredRow
 with_stored_cells x cells line = record line { stored = overlaid x cells line.stored }
 
--- the cells before column x are stored
+-- the row with the cells before column x stored
 abbrev pub stored_up_to : ℕ → StoredRow → StoredRow
 stored_up_to x line = record line { stored = cells_of x line }
 
@@ -34,14 +34,14 @@ stored_up_to x line = record line { stored = cells_of x line }
 abbrev pub cut_at : ℕ → Cell → StoredRow → StoredRow
 cut_at len c line = record { stored = take len line.stored; rest = c }
 
--- so many cells c come in at column x: the rest moves right, and what passes the end is lost
+-- so many cells c are inserted at column x: the rest moves right, and the cells that pass the end are lost
 abbrev pub with_stored_inserted : ℕ → ℕ → ℕ → Cell → StoredRow → StoredRow
 with_stored_inserted cols x count c line =
     record line {
       stored = take cols (take x line.stored ++ (replicate count c ++ drop x line.stored));
     }
 
--- so many stored cells go out at column x: the rest moves left, and all further cells are c
+-- so many stored cells are deleted at column x: the rest moves left, and all further cells are c
 abbrev pub with_stored_deleted : ℕ → ℕ → Cell → StoredRow → StoredRow
 with_stored_deleted x count c line =
     record { stored = take x line.stored ++ drop (x + count) line.stored; rest = c }

@@ -64,7 +64,7 @@ impl Grid {
         self.store.put_run(y, x, codes, attr, narrow);
     }
 
-    // Parts row `y` before column `x`, and then before column `end`.
+    // Splits row `y` before column `x`, and then before column `end`.
     #[inline(always)]
     #[tactic(auto, using(crate::proofs::Narrow::parted_between_same))]
     fn part_ends(&mut self, y: u8, x: u8, end: u8)
@@ -106,7 +106,7 @@ impl Grid {
         self.at(y, x).code == HALF
     }
 
-    // The cell in row `y` and column `x`, where the row is parted before a later column.
+    // The cell in row `y` and column `x`, if the row is split before a later column.
     pub(crate) fn at_parted(&self, y: u8, x: u8, border: u8) -> Cell
         requires row { y < self.now.rows }
         requires column { x < self.now.cols }
@@ -128,7 +128,7 @@ impl Grid {
         }
     }
 
-    // Makes the cells on both sides of the border spaces, where the right one is a half.
+    // Makes the cells on both sides of the border spaces, if the right one is a half.
     #[inline(never)]
     fn space(&mut self, y: u8, x: u8)
         requires row { y < self.old.rows }

@@ -4,8 +4,8 @@ ghost use Rattle.vt_grid.specs.Halves.{split_wide, split_wide_rows};
 
 use crate::Grid;
 
-/// Copies the old cell of row `y + skip` and column `x` to row `y` and column `x`, where both are. The
-/// old rows are read as if they were parted at `border`, which isn't before the last column that both
+/// Copies the old cell of row `y + skip` and column `x` to row `y` and column `x`, if both exist. The old
+/// rows are read as if they were split at `border`, which isn't before the last column that both grids
 /// have.
 pub(crate) fn copy_cells(fresh: &mut Grid, old: &Grid, skip: u8, border: u8)
     requires { min fresh.old.cols old.now.cols ≤ border }
@@ -20,7 +20,7 @@ pub(crate) fn copy_cells(fresh: &mut Grid, old: &Grid, skip: u8, border: u8)
     }
 }
 
-// Copies the first cells of the old row `from`, parted at `border`, to row `y`.
+// Copies the first cells of the old row `from`, split at `border`, to row `y`.
 fn copy_row(fresh: &mut Grid, old: &Grid, y: u8, from: u8, cols: u8, border: u8)
     requires row { y < fresh.old.rows }
     requires from { from < old.now.rows }

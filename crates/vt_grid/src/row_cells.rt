@@ -25,7 +25,7 @@ impl<'a> Model for RowCells<'a> {
 }
 
 impl<'a> RowCells<'a> {
-    // The stored cells, and then `rest`, `past` times.
+    // The stored cells, and then `past` times the cell `rest`.
     pub(crate) fn new(stored: &'a [PackedCell], rest: PackedCell, past: u8) -> RowCells<'a>
         ensures { result ≡ stored.now ++ replicate past rest }
     {

@@ -1,5 +1,5 @@
-//! The rows of a grid: of each only the first cells are stored, and a ring of numbers names them,
-//! so that rows move without a write of a cell. Each change is counted in steps.
+//! The rows of a grid: only the first cells of each are stored, and a ring of numbers gives their order, so
+//! that rows move without a write of a cell. Each change is counted in steps.
 mod ring;
 mod row;
 mod steps;

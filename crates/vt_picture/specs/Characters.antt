@@ -1,9 +1,9 @@
--- The characters of cells as XML has them.
+-- The characters of cells as XML writes them.
 use Rattle.std.specs.Prelude.{ℕ, Bool, ◌==◌, ◌&&◌, ◌||◌, nat_le, List, [], codes, encode_utf8, if◌then◌else◌}
 use Rattle.vt_cells.specs.Width.{is_half}
 use Rattle.vt_cells.specs.declared.cell.Cell.{Cell}
 
--- the code is that of a character that XML 1.0 has, and no control's
+-- the code is that of a character that XML 1.0 has, and no control character's
 abbrev pub is_text : ℕ → Bool
 is_text code =
     (nat_le 0x20 code && nat_le code 0x7E)

@@ -17,7 +17,7 @@ colour state n = slice_index_or state.palette (vga n) (0, 0, 0)
 unfoldable pub foreground : ScreenState → ℕ → Rgb
 foreground state attr = colour state (attr % 16)
 
--- the colour behind them: bits 4 to 6
+-- the background colour: bits 4 to 6
 unfoldable pub background : ScreenState → ℕ → Rgb
 background state attr = colour state (attr / 16 % 8)
 

@@ -1,5 +1,5 @@
 -- A screen as a picture in SVG 1.1. Each run of a row is a rectangle in its background and a text over it.
--- Which elements the picture has is this project's own.
+-- The choice of elements is this project's own.
 use Rattle.std.specs.Prelude.{ℕ, suc, ◌+◌, ◌*◌, List, [], ◌∷◌, ◌++◌, codes, decimal, length, slice_index_or, if◌then◌else◌}
 use Rattle.std.specs.List.{flat_map}
 use Rattle.vt_cells.specs.declared.cell.Cell.{Cell}
@@ -55,7 +55,7 @@ run_text state y x run =
     rectangle (cell_width * x) (cell_height * y) (cell_width * length run) cell_height (background state attr)
     ++ letters_text state y x run attr
 
--- runs beside each other in row y, of which the first begins in column x
+-- runs next to each other in row y, of which the first begins in column x
 abbrev pub runs_text : ScreenState → ℕ → ℕ → List (List Cell) → List ℕ
 runs_text state y x [] = []
 runs_text state y x (run ∷ more) = run_text state y x run ++ runs_text state y (x + length run) more
@@ -87,11 +87,11 @@ place_words state =
     codes "The cursor is in row "
     ++ (decimal (state.y + 1) ++ (codes " and column " ++ (decimal (state.x + 1) ++ codes ".")))
 
--- where the cursor is, in words
+-- the cursor's place in words, or that it is hidden
 abbrev pub cursor_words : ScreenState → List ℕ
 cursor_words state = if state.visible then place_words state else codes "The cursor is hidden."
 
--- how text looks: it keeps its spaces, bold text is bold, and blinking text is hidden every other half
+-- the style of text: it keeps its spaces, bold text is bold, and blinking text is hidden every other half
 -- second, except for readers who want less motion
 unfoldable pub style : List ℕ
 style =
@@ -112,13 +112,13 @@ opening_tag g =
 unfoldable pub title_text : GridView → List ℕ
 title_text g = codes "<title>A screen of " ++ (size_words g ++ codes "</title>\n")
 
--- the description: the size again, and where the cursor is
+-- the description: the size again, and the cursor's place
 unfoldable pub description_text : Screen → List ℕ
 description_text s =
     codes "<desc>A text console of "
     ++ (size_words s.grid ++ (codes ". " ++ (cursor_words s.state ++ codes "</desc>\n")))
 
--- what stands before the runs
+-- the text before the runs
 unfoldable pub head_text : Screen → List ℕ
 head_text s = opening_tag s.grid ++ (title_text s.grid ++ (description_text s ++ style))
 

@@ -1,4 +1,4 @@
-//! The characters of cells as XML has them.
+//! The characters of cells as XML writes them.
 ghost use Rattle.std.specs.Prelude.{◌≡◌, ◌++◌, encode_utf8, OnOk};
 ghost use Rattle.vt_picture.specs.Characters.{cell_text, markup_of, is_text};
 
@@ -7,7 +7,7 @@ use std::alloc::Global;
 use vt_base::{Bytes, NoMemory};
 use vt_cells::{Cell, HALF};
 
-/// Adds the cell's character, or nothing of a right half.
+/// Adds the cell's character, or no bytes for a right half.
 #[tactic(auto, unfolding(crate::specs::Characters::cell_text))]
 pub(crate) fn add_cell(alloc: Global, text: &mut Bytes, cell: Cell) -> Result<(), NoMemory>
     ensures { OnOk result (text.new.bytes ≡ text.old.bytes ++ cell_text cell) }

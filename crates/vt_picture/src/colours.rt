@@ -28,7 +28,7 @@ pub(crate) fn foreground(state: &ScreenState, attr: u8) -> (u8, u8, u8)
     colour(state, attr % 16)
 }
 
-/// The colour behind the characters.
+/// The background colour.
 #[tactic(auto, unfolding(crate::specs::Colours::background))]
 pub(crate) fn background(state: &ScreenState, attr: u8) -> (u8, u8, u8)
     ensures { result ≡ background state.now attr }

@@ -1,4 +1,4 @@
-//! What stands before the runs.
+//! The text before the runs.
 ghost use Rattle.std.specs.Prelude.{◌≡◌, ◌++◌, OnOk};
 ghost use Rattle.vt_picture.specs.Picture.{cursor_words, description_text, head_text, opening_tag, place_words, size_words, style, title_text};
 

@@ -6,7 +6,7 @@ ghost use Rattle.vt_picture.specs.Runs.{are_joined, is_narrow, runs};
 use vt_cells::{Cell, HALF, columns};
 use vt_grid::Grid;
 
-/// How many cells the run has that begins in row `y` and column `x`.
+/// The number of cells of the run that begins in row `y` and column `x`.
 #[tactic(auto, using(crate::proofs::RunEnds::joined_more))]
 pub(crate) fn run_length(g: &Grid, y: u8, x: u8) -> u8
     requires row { y < g.now.rows }

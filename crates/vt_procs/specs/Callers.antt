@@ -7,7 +7,7 @@ use Rattle.vt_procs.specs.declared.process.Process.{Process}
 use Rattle.vt_procs.specs.declared.proc_start.ProcStart.{ProcStart}
 use Rattle.vt_procs.specs.declared.waiting.Waiting.TheVariants.{Nothing}
 
--- all callers, from number 0 to 67, and who accepts the key signal, with the signal that it named
+-- all callers, from number 0 to 67, and the caller that accepts the key signal, with the signal that it named
 pub record Callers : Type 0 where
   pub list : List Process
   pub accepter : Option (ℕ × ℕ)
@@ -27,11 +27,11 @@ plain_caller live home privileged = record {
   waiting = Nothing;
 }
 
--- who never lived
+-- a caller that never lived
 abbrev pub no_caller : Process
 no_caller = plain_caller false 0 false
 
--- keyboard k, of so many that are there
+-- keyboard k, which lives if there are so many keyboards
 abbrev pub keyboard : ℕ → ℕ → Process
 keyboard keyboards k = plain_caller (nat_lt k keyboards) 0 false
 
@@ -47,12 +47,12 @@ caller_at_start keyboards starts p =
     else if nat_lt processes p then keyboard keyboards (p - processes)
     else caller_of (slice_get starts (p - 1))
 
--- so many keyboards can be there
+-- a possible number of keyboards
 pub record IsFitCount (keyboards : ℕ) : Type 0 where
   pub one : 1 ≤ keyboards
   pub four : keyboards ≤ 4
 
--- the callers at the start; nobody accepts the key signal
+-- the callers at the start; none accepts the key signal
 abbrev pub callers_of : ℕ → List ProcStart → Callers
 callers_of keyboards starts = record {
   list = map (caller_at_start keyboards starts) (range_with_len 0 every_caller);
@@ -69,11 +69,11 @@ is_live callers p = (caller_at callers p).live
 abbrev pub with_caller : Callers → ℕ → Process → Callers
 with_caller callers p caller = record callers { list = slice_set callers.list p caller }
 
--- who accepts the key signal lives
+-- the caller that accepts the key signal is alive
 abbrev pub IsFit : Callers → Type 0
 IsFit callers = IfSome callers.accepter (λ accepter. is_live callers accepter.0 ≡ true)
 
--- the console of p's descriptor fd, None where that isn't open
+-- the console of p's descriptor fd, None if that isn't open
 abbrev pub console_of : Callers → ℕ → ℕ → Option ℕ
 console_of callers p fd = slice_index_or (caller_at callers p).opens fd None
 
@@ -99,7 +99,7 @@ after_open p c callers = with_caller callers p (adds_open (caller_at callers p) 
 abbrev pub loses_open : Process → ℕ → Process
 loses_open process fd = record process { opens = slice_set process.opens fd None }
 
--- p has shut its descriptor fd
+-- p has closed its descriptor fd
 abbrev pub after_close : ℕ → ℕ → Callers → Callers
 after_close p fd callers = with_caller callers p (loses_open (caller_at callers p) fd)
 
@@ -107,15 +107,15 @@ abbrev pub is_console : ℕ → Option ℕ → Bool
 is_console c None = false
 is_console c (Some n) = n == c
 
--- a descriptor of these is open on console c
+-- one of these descriptors is open on console c
 abbrev pub has_open : List (Option ℕ) → ℕ → Bool
 has_open opens c = list_any (is_console c) opens
 
--- somebody has console c open
+-- some caller has console c open
 abbrev pub is_opened : Callers → ℕ → Bool
 is_opened callers c = list_any (λ caller. has_open caller.opens c) callers.list
 
--- who is dead has no descriptor, no ticket and no pending signal
+-- a dead caller has no descriptor, no ticket and no pending signal
 abbrev pub dead_process : Process → Process
 dead_process process = plain_caller false process.home process.privileged
 
@@ -124,7 +124,7 @@ abbrev pub accepts : ℕ → Option (ℕ × ℕ) → Bool
 accepts p None = false
 accepts p (Some accepter) = accepter.0 == p
 
--- the end of p, which accepts no key signal from then on
+-- the end of p, which then accepts no key signal
 abbrev pub after_exit : ℕ → Callers → Callers
 after_exit p callers = record {
   list = slice_set callers.list p (dead_process (caller_at callers p));

@@ -20,14 +20,14 @@ is_open (Open ticket) = true
 is_open Done = false
 is_open Broken = false
 
--- what the process is told of its ticket
+-- the answer to a process about its ticket
 abbrev pub waited_of : Waiting → Waited
 waited_of Nothing = waited.None
 waited_of (Open ticket) = waited.Still
 waited_of Done = waited.Done
 waited_of Broken = waited.Broken
 
--- what is left when it has been told: an open ticket stays
+-- the ticket after that answer: an open one stays
 abbrev pub waiting_after_report : Waiting → Waiting
 waiting_after_report Nothing = Nothing
 waiting_after_report (Open ticket) = Open ticket
@@ -72,7 +72,7 @@ ended_by Idle waiting = after_signal waiting
 abbrev pub with_waiting : Process → Waiting → Process
 with_waiting process waiting = record process { waiting = waiting }
 
--- every open ticket ends that the reason ends
+-- every open ticket ends that this reason ends
 abbrev pub all_ended_by : Ending → List Process → List Process
 all_ended_by ending list =
     map (λ process. with_waiting process (ended_by ending process.waiting)) list
@@ -80,11 +80,11 @@ all_ended_by ending list =
 abbrev pub with_ended : Ending → Callers → Callers
 with_ended ending callers = record callers { list = all_ended_by ending callers.list }
 
--- console c has the display
+-- the callers after console c got the display
 abbrev pub after_display_of : ℕ → Callers → Callers
 after_display_of c callers = with_ended (Shown c) callers
 
--- bytes came to console c
+-- the callers after bytes came to console c
 abbrev pub after_input_on : ℕ → Callers → Callers
 after_input_on c callers = with_ended (Filled c) callers
 
@@ -92,7 +92,7 @@ after_input_on c callers = with_ended (Filled c) callers
 abbrev pub waits : ℕ → Ticket → Callers → Callers
 waits p ticket callers = with_caller callers p (with_waiting (caller_at callers p) (Open ticket))
 
--- p has been told of its ticket
+-- p has had the answer about its ticket
 abbrev pub after_wait_report : ℕ → Callers → Callers
 after_wait_report p callers =
     with_caller callers p (with_waiting (caller_at callers p) (waiting_after_report (caller_at callers p).waiting))
@@ -105,7 +105,7 @@ with_signal_pending process s =
       waiting = after_signal process.waiting;
     }
 
--- raise
+-- raise: a signal is pending for p, and its open ticket ends
 abbrev pub after_raise : ℕ → ℕ → Callers → Callers
 after_raise p s callers = with_caller callers p (with_signal_pending (caller_at callers p) s)
 
@@ -116,7 +116,7 @@ without_pending process = record process { pending = 0 }
 abbrev pub after_taking_signals : ℕ → Callers → Callers
 after_taking_signals p callers = with_caller callers p (without_pending (caller_at callers p))
 
--- p accepts the key signal from here on, in place of an earlier one
+-- p accepts the key signal, in place of an earlier caller
 abbrev pub with_accepter : ℕ → ℕ → Callers → Callers
 with_accepter p s callers = record callers { accepter = Some (p, s) }
 
@@ -124,7 +124,6 @@ with_accepter p s callers = record callers { accepter = Some (p, s) }
 abbrev pub can_go : Process → Bool
 can_go process = process.live && not (is_open process.waiting)
 
--- the idle rule: where no live caller is without an open ticket, every open ticket ends as by a
--- signal
+-- the idle rule: if no live caller is without an open ticket, every open ticket ends as by a signal
 abbrev pub after_idle_rule : Callers → Callers
 after_idle_rule callers = if list_any can_go callers.list then callers else with_ended Idle callers

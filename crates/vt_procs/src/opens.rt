@@ -67,7 +67,7 @@ impl Opens {
     }
 }
 
-// The descriptor of the number, where that is open in these places.
+// The descriptor of the number, if it is open in these places.
 fn number_in(places: &[Option<ConsoleNo>], fd: u16) -> Option<Fd>
     requires { length places.now ≡ 16 }
     ensures { result ≡ (if is_some (slice_index_or places.now fd None) then Some fd else None) }

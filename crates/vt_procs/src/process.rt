@@ -1,7 +1,7 @@
 use crate::{Opens, Waiting};
 use vt_base::SigSet;
 
-/// What is kept of a caller.
+/// The state of a caller.
 #[derive(Clone, Copy, Debug)]
 pub struct Process {
     pub live: bool,

@@ -113,7 +113,7 @@ impl Procs {
         self.callers.iter().any(|caller| caller.opens.has(c))
     }
 
-    /// From now on KeyboardSignal sends this signal to `p`.
+    /// Makes `p` the process to which KeyboardSignal sends this signal.
     pub fn accept(&mut self, p: CallerNo, s: Signal)
         requires { is_live self.old p ≡ true }
         ensures { self.new ≡ with_accepter p s self.old }
@@ -129,8 +129,8 @@ impl Procs {
         self.accepter
     }
 
-    /// The end of a caller: it loses its descriptors, its wait and its pending signals, and no longer
-    /// accepts KeyboardSignal.
+    /// The end of a caller: it loses its descriptors, its wait and its pending signals, and KeyboardSignal
+    /// sends it nothing.
     pub fn end(&mut self, p: CallerNo)
         ensures { self.new ≡ after_exit p self.old }
     {

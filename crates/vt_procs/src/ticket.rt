@@ -1,6 +1,6 @@
 use vt_base::ConsoleNo;
 
-/// What a process waits for.
+/// The event that a process waits for.
 #[derive(Clone, Copy, Debug)]
 pub enum Ticket {
     /// The console has the display (ioctl_console(2), VT_WAITACTIVE).

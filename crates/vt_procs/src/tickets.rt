@@ -57,7 +57,7 @@ impl Procs {
         waited_of(&self.callers[usize::from(p.get())].waiting)
     }
 
-    /// The wait of `p`: none, open with what it waits for, or how it ended.
+    /// The state of the wait of `p`.
     pub fn wait_of(&self, p: CallerNo) -> Waiting
         ensures { result ≡ (caller_at self.now p).waiting }
     {
@@ -101,7 +101,7 @@ impl Procs {
         }
     }
 
-    // Whether some live caller is without an open ticket.
+    // Whether some live caller has no open ticket.
     fn goes_on(&self) -> bool
         ensures { result ≡ list_any can_go self.now.list }
     {
@@ -109,7 +109,7 @@ impl Procs {
     }
 }
 
-// Ends the open tickets of all callers that the reason ends.
+// Ends the open tickets of all callers that end for this reason.
 fn end_tickets(callers: &mut [Process; CALLERS], ending: &Ending)
     ensures { callers.new ≡ all_ended_by ending.now callers.old }
 {

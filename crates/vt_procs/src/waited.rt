@@ -1,11 +1,11 @@
-/// The result of asking for the end of a wait.
+/// The answer to a process about its wait.
 #[derive(Clone, Copy, Debug, PartialEq, Eq)]
 pub enum Waited {
-    /// There is none.
+    /// The process has no wait.
     None,
-    /// It is open.
+    /// The wait is open.
     Still,
-    /// What it waited for came.
+    /// The event that it waited for came.
     Done,
     /// A signal came, or the idle rule ended it.
     Broken,

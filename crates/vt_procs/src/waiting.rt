@@ -6,7 +6,7 @@ pub enum Waiting {
     /// The process does not wait.
     Nothing,
     Open(Ticket),
-    /// What it waited for came.
+    /// The event that it waited for came.
     Done,
     /// A signal came, or the idle rule ended it.
     Broken,

@@ -1,4 +1,4 @@
--- What texts do to a screen where no text is pending, one after another.
+-- The effect of texts on a screen where no text is pending, one after another.
 use Rattle.std.proofs.Common.{◌≡◌, ℕ, List, [], ◌∷◌, ◌++◌, length, take, Some, refl, sym, subst, ap, ◌∙◌, arith}
 use Rattle.std.proofs.lemmas.List.{take_all}
 use Rattle.vt_screen.specs.Effect.{effect}

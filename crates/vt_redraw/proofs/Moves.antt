@@ -1,4 +1,4 @@
--- Sequences that set the state, one lemma each: what they make of any screen.
+-- Sequences that set the state, one lemma each: their effect on any screen.
 use Rattle.std.proofs.Common.{◌≡◌, ℕ, zero, suc, ◌+◌, ◌-◌, ◌<◌, ◌≤◌, ◌==◌, ◌&&◌, ◌||◌, nat_le, nat_lt, min, max, not, Bool, true, false, [], ◌∷◌, ◌++◌, replicate, refl, ap, ◌∙◌, cond, arith}
 use Rattle.std.specs.Fmt.{digits}
 use Rattle.std.proofs.lemmas.Bool.{and_from, cond-true, cond-false, le-leb, lt-ltb, ne_eqb}

@@ -1,4 +1,4 @@
--- What a text that is written behind a screen makes of one that was drawn again.
+-- A later text, on a screen and on the screen that was drawn again.
 use Rattle.std.specs.Prelude.{◌≡◌, ℕ, Bool, ◌≤◌, List, length, take}
 use Rattle.vt_redraw.specs.Redraw.{IsStored, redrawn_on}
 use Rattle.vt_screen.specs.Run.{run_from}
@@ -11,7 +11,7 @@ use Rattle.vt_units.specs.declared.mode.Mode.{Mode}
 abbrev pub with_stops : List Bool → Screen → Screen
 with_stops stops s = with_state s (record s.state { stops = stops })
 
--- the second screen is the first, but for tab stops past the columns
+-- the second screen is the first one, except for tab stops past the columns
 pub record IsAlike (s t : Screen) : Type 0 where
   pub stops : List Bool
   pub is : t ≡ with_stops stops s
@@ -20,9 +20,9 @@ pub record IsAlike (s t : Screen) : Type 0 where
   pub all : s.grid.cols ≤ length s.state.stops
   pub few : s.grid.cols ≤ 255
 
--- where both have the same user's table, every text behind a screen and behind the one that was drawn
--- again makes the same cells and the same state, but for tab stops past the columns, says the same, and
--- leaves the same text pending
+-- if both have the same user's table, every later text makes the same cells and the same state on a screen
+-- and on the one that was drawn again, except for tab stops past the columns, has the same side effects,
+-- and leaves the same text pending
 abbrev pub TextsFollow : Type 0
 TextsFollow =
     (s other : Screen) (m : Mode) (bytes : List ℕ) → IsStored s → s.state.map ≡ other.state.map

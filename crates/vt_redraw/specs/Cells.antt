@@ -1,15 +1,15 @@
--- The text of cells and rows. A row's text stands alone: a motion, and then the pen is set where it is
--- first needed.
+-- The text of cells and rows. A row's text depends on no other row: it begins with a motion, and the pen is
+-- set at the first cell that needs it.
 use Rattle.std.specs.Prelude.{ℕ, Bool, true, false, ◌+◌, ◌/◌, ◌%◌, ◌==◌, ◌&&◌, encode_utf8, List, [], ◌∷◌, ◌++◌, if◌then◌else◌}
 use Rattle.vt_cells.specs.Width.{is_character, is_half}
 use Rattle.vt_cells.specs.declared.cell.Cell.{Cell}
 use Rattle.vt_redraw.specs.Sequences.{byte_text, erase_text, place_text}
 
--- a character in UTF-8; what is none has no text
+-- a character in UTF-8; a code that is no character has no text
 unfoldable pub glyph_text : ℕ → List ℕ
 glyph_text code = if is_character code then encode_utf8 code else []
 
--- where the pen's byte isn't this one, it is set; 256 stands for a pen that isn't known
+-- the pen's byte is set unless it is this one; 256 stands for a pen that isn't known
 abbrev pub byte_change : ℕ → ℕ → List ℕ
 byte_change now b = if now == b then [] else byte_text b
 
@@ -22,13 +22,13 @@ abbrev pub are_spaces : ℕ → List Cell → Bool
 are_spaces b [] = true
 are_spaces b (c ∷ cells) = c.code == 0x20 && c.attr == b && are_spaces b cells
 
--- these cells, of which there is one at least, are all the same blank: what an erase leaves
+-- these cells, at least one, are all the same blank, as an erase leaves them
 abbrev pub is_blank_end : List Cell → Bool
 is_blank_end [] = false
 is_blank_end (c ∷ cells) = is_ground c.attr && are_spaces c.attr (c ∷ cells)
 
--- the cells from the cursor to the end of its row, where the pen's byte is this one: each character,
--- and of a blank end an erase, where one is wanted. A half's character stands before it
+-- the cells from the cursor to the end of its row, if the pen's byte is this one: each character, and an
+-- erase for a blank end if one is wanted. A half has no text: its character stands before it
 abbrev pub cells_text : Bool → ℕ → List Cell → List ℕ
 cells_text erases now [] = []
 cells_text erases now (c ∷ cells) =
@@ -47,7 +47,7 @@ are_same [] (c ∷ cells) = false
 are_same (o ∷ olds) [] = false
 are_same (o ∷ olds) (c ∷ cells) = o.code == c.code && o.attr == c.attr && are_same olds cells
 
--- those of the rows from y on that aren't as the old ones are
+-- the rows from y on that differ from the old ones
 abbrev pub changed_rows : ℕ → List (List Cell) → List (List Cell) → List ℕ
 changed_rows y olds [] = []
 changed_rows y [] (row ∷ rows) = []

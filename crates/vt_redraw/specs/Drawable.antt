@@ -1,4 +1,4 @@
--- Which screens a text can draw.
+-- The screens that a text can draw.
 use Rattle.std.specs.Prelude.{ℕ, Bool, false, not, ◌==◌, ◌&&◌, ◌||◌, nat_le, nat_lt, List, [], ◌∷◌, if◌then◌else◌}
 use Rattle.std.specs.List.{list_all}
 use Rattle.vt_cells.specs.Rendition.{Rendition}
@@ -13,8 +13,8 @@ unfoldable pub is_glyph : ℕ → Bool
 is_glyph code =
     is_character code && nat_le 0x20 code && not (within 0x7F 0x9F code) && nat_le 1 (columns code)
 
--- each cell has a character that prints itself, and behind one of two columns its right half stands,
--- with the same byte. Whether these cells follow such a one, and its byte, is given
+-- each cell has a character that prints itself, and one of two columns is followed by its right half, with
+-- the same byte. It is given whether these cells follow such a character, and its byte
 abbrev pub are_drawable : Bool → ℕ → List Cell → Bool
 are_drawable wide attr [] = not wide
 are_drawable wide attr (c ∷ cells) =
@@ -28,8 +28,8 @@ is_row_drawable row = are_drawable false 0 row
 abbrev pub is_plain_pair : Rendition → Bool
 is_plain_pair a = nat_lt a.fg 8 && nat_lt a.bg 8
 
--- a text can make this state on a screen of so many rows and columns: the colours are plain, what is
--- saved stands on the screen, the region has two rows or the screen one, in origin mode the cursor is in
+-- a text can make this state on a screen of so many rows and columns: the colours are plain, the saved
+-- cursor is on the screen, the region has two rows or the screen has one, in origin mode the cursor is in
 -- the region, and a byte's high bit is changed only in the null mapping
 unfoldable pub is_state_drawable : ℕ → ℕ → ScreenState → Bool
 is_state_drawable rows cols s =

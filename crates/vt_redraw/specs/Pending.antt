@@ -1,4 +1,4 @@
--- What of a row is drawn and isn't in the text yet. No public clause names this.
+-- The part of a row that is drawn and isn't in the text yet. No public clause names this.
 use Rattle.std.specs.Prelude.{ℕ, Bool, ◌+◌, ◌/◌, ◌%◌, ◌==◌, List, [], ◌∷◌, ◌++◌, replicate, if◌then◌else◌}
 use Rattle.vt_cells.specs.AttrByte.{vga}
 use Rattle.vt_cells.specs.declared.cell.Cell.{Cell}
@@ -9,7 +9,7 @@ use Rattle.vt_redraw.specs.declared.pending.Pending.{Pending}
 abbrev pub space_with : ℕ → Cell
 space_with b = record { code = 0x20; attr = b }
 
--- the text of what is pending and of the cells behind it
+-- the text of the pending cells and of the cells after them
 abbrev pub pending_text : Bool → Pending → List Cell → List ℕ
 pending_text erases p more = p.front ++ cells_text erases p.attr (replicate p.blanks (space_with p.attr) ++ more)
 

@@ -1,4 +1,4 @@
--- A screen as a text that draws it again, and what that text makes.
+-- A screen as a text that draws it again, and the result of that text.
 use Rattle.std.specs.Prelude.{◌≡◌, ℕ, false, ◌-◌, ◌<◌, ◌≤◌, IsTrue, List, [], ◌++◌, length, take, replicate, All}
 use Rattle.vt_cells.specs.Colours.{Rgb}
 use Rattle.vt_grid.specs.Grid.{GridView, filled_grid}
@@ -23,8 +23,8 @@ redraw_of s =
     ++ (changed_rows 0 (filled_grid s.grid.rows s.grid.cols start_blank).cells s.grid.cells
     ++ state_text s))
 
--- what comes back of a screen that is drawn on another one: all but the tab stops past its columns, of
--- which none is left, and the user's table, which no text sets and which is the other one's
+-- a screen after it is drawn on another one: itself, except the tab stops past its columns, of which none is
+-- left, and the user's table, which no text sets and which is the other screen's
 abbrev pub redrawn_on : Screen → Screen → Screen
 redrawn_on other s =
     with_state s
@@ -33,13 +33,13 @@ redrawn_on other s =
       map = other.state.map;
     })
 
--- the text, run on another screen where no text is pending, makes this one again. It says nothing, and
+-- the text, run on another screen where no text is pending, makes this one again. It has no side effect, and
 -- leaves no text unfinished
 pub record Redraws (s other : Screen) (text : List ℕ) : Type 0 where
   pub again : (m : Mode) → (left : Mode)
       × (run_from (make_reached other (fresh m)) text ≡ with_outs [] (make_reached (redrawn_on other s) (fresh left)))
 
--- what each screen keeps to that a program holds: it is whole, has at most 255 rows and columns, 255
+-- the invariant of each screen that a program holds: it is whole, has at most 255 rows and columns, 255
 -- columns may have a stop, 16 colours have parts of a byte, and two colours are below 16
 pub record IsStored (s : Screen) : Type 0 where
   pub whole : IsWhole s
@@ -60,7 +60,7 @@ ScreensRedraw =
     (s other : Screen) → IsStored s → IsWhole other → IsSameSize other.grid s.grid
     → IsTrue (is_redrawable s) → Redraws s other (redraw_of s)
 
--- and by the text of what differs, on every screen that has these cells
+-- each redrawable screen is drawn again by the text of the differences, on every screen with these cells
 abbrev pub ChangesRedraw : Type 0
 ChangesRedraw =
     (s other : Screen) → IsStored s → IsWhole other → IsSameSize other.grid s.grid

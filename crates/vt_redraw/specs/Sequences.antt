@@ -3,7 +3,7 @@ use Rattle.std.specs.Prelude.{ℕ, Bool, ◌+◌, ◌/◌, ◌%◌, ◌==◌, de
 use Rattle.vt_cells.specs.AttrByte.{vga}
 use Rattle.vt_cells.specs.Colours.{Rgb}
 
--- further numbers, each behind a semicolon
+-- further numbers, each after a semicolon
 abbrev pub more_numbers : List ℕ → List ℕ
 more_numbers [] = []
 more_numbers (n ∷ ns) = 0x3B ∷ decimal n ++ more_numbers ns
@@ -83,8 +83,8 @@ unfoldable pub colour_text : ℕ → Rgb → List ℕ
 colour_text n (r, g, b) =
     0x1B ∷ 0x5D ∷ 0x50 ∷ hex_digit n ∷ hex_digits r (hex_digits g (hex_digits b []))
 
--- the numbers of SGR that make an attribute byte of a pen, whatever the pen is: nothing on, then bold
--- and blink where the byte has them, and the two colours, whose order VGA exchanges
+-- the numbers of SGR that make an attribute byte of a pen, whatever the pen is: nothing on, then bold and
+-- blink if the byte has them, and the two colours, whose order VGA exchanges
 abbrev pub byte_numbers : ℕ → List ℕ
 byte_numbers b =
     (if b / 8 % 2 == 1 then 1 ∷ [] else [])

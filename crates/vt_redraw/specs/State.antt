@@ -1,6 +1,6 @@
--- The text of a screen's state. What needs motions comes first; the region and the mode of origin home
--- the cursor, so they come before it; a character makes a pending wrap, so the modes that change how one
--- is printed come behind it.
+-- The text of a screen's state. The parts that need motions come first; the region and origin mode home the
+-- cursor, so they come before it; a character makes a pending wrap, so the modes that change how a
+-- character is printed come after it.
 use Rattle.std.specs.Prelude.{ℕ, Bool, true, false, ◌+◌, ◌-◌, ◌==◌, ◌&&◌, nat_lt, List, [], ◌∷◌, ◌++◌, take, if◌then◌else◌}
 use Rattle.vt_cells.specs.Colours.{Rgb, start_palette}
 use Rattle.vt_cells.specs.Rendition.{Rendition}
@@ -14,8 +14,8 @@ use Rattle.vt_screen.specs.declared.saved.Saved.{Saved}
 use Rattle.vt_screen.specs.declared.screen_state.ScreenState.{ScreenState}
 use Rattle.vt_sgr.specs.PenState.{PenState}
 
--- what the rows need, whatever state the screen is in: UTF-8, no control character shown, no insert
--- mode, rows counted from the first one, and autowrap
+-- the modes that rows are drawn in, whatever state the screen is in: UTF-8, no control character shown, no
+-- insert mode, rows counted from the first one, and autowrap
 abbrev pub setting_text : List ℕ
 setting_text =
     coding_text true
@@ -56,16 +56,16 @@ attributes_text a =
     ∷ [])
     0x6D
 
--- G0, G1 and which is in use. SO shows control characters, and RM 3 ends that
+-- G0, G1 and the number of the one in use. SO shows control characters, and RM 3 ends that
 unfoldable pub tables_text : ℕ → ℕ → ℕ → List ℕ
 tables_text g0 g1 shift = g0_text g0 ++ (g1_text g1 ++ (shift_text shift ++ mode_text 3 false))
 
--- what is saved
+-- the saved state
 abbrev pub saved_text : Saved → List ℕ
 saved_text v =
     attributes_text v.attr ++ (tables_text v.g0 v.g1 v.shift ++ (place_text v.y v.x ++ save_text))
 
--- the region, of at least two rows, and the mode of origin
+-- the region, of at least two rows, and origin mode
 abbrev pub region_text : ScreenState → List ℕ
 region_text s =
     (if nat_lt s.top s.bottom then sequence (s.top + 1) ((s.bottom + 1) ∷ []) 0x72 else [])
@@ -75,7 +75,7 @@ region_text s =
 abbrev pub row_number : ScreenState → ℕ
 row_number s = s.y - (if s.origin then s.top else 0)
 
--- the cursor. Where a wrap is pending, its row is drawn to its end once more
+-- the cursor. If a wrap is pending, its row is drawn to its end once more
 abbrev pub cursor_text : Screen → List ℕ
 cursor_text s =
     if s.state.wrap
@@ -107,7 +107,7 @@ pen_text s =
 abbrev pub is_same_colour : Rgb → Rgb → Bool
 is_same_colour (r, g, b) (s, h, c) = r == s && g == h && b == c
 
--- those of the colours from number n on that aren't as at the start
+-- the colours from number n on that differ from those at the start
 abbrev pub colours_from : ℕ → List Rgb → List Rgb → List ℕ
 colours_from n starts [] = []
 colours_from n [] (rgb ∷ colours) = []
@@ -117,7 +117,7 @@ colours_from n (start ∷ starts) (rgb ∷ colours) =
 abbrev pub palette_text : List Rgb → List ℕ
 palette_text colours = start_palette_text ++ colours_from 0 start_palette colours
 
--- the modes that are left, each on or off
+-- the remaining modes, each on or off
 abbrev pub modes_text : ScreenState → List ℕ
 modes_text s =
     mode_text 4 s.insert

@@ -30,7 +30,7 @@ pub(crate) fn add_row(alloc: Global, text: &mut Bytes, g: &Grid, y: u8) -> Resul
     add_cells(alloc, text, g, y, true)
 }
 
-/// Adds the cells of a row, where the pen isn't known, with an erase of a blank end if one is wanted.
+/// Adds the cells of a row, if the pen isn't known, with an erase of a blank end if one is wanted.
 pub(crate) fn add_cells(
     alloc: Global,
     text: &mut Bytes,
@@ -54,7 +54,7 @@ pub(crate) fn add_cells(
     add_last(alloc, text, &mut pending, erases)
 }
 
-// Draws a cell that has another byte than the pen, or no character of ASCII.
+// Draws a cell that has another byte than the pen, or a character that isn't ASCII.
 #[inline(never)]
 fn add_other(
     alloc: Global,
@@ -79,7 +79,7 @@ fn add_other(
     Ok(())
 }
 
-// Sets the pen's byte behind what is pending, unless it is this one.
+// Sets the pen's byte after the pending cells, unless it is this one.
 fn add_change(alloc: Global, text: &mut Bytes, pending: &mut Pending, b: u8) -> Result<(), NoMemory>
     ensures text { OnOk result (text.new.bytes ++ pending.new.front
         ≡ text.old.bytes ++ (pending.old.front ++ byte_change pending.old.attr b)) }
@@ -97,7 +97,7 @@ fn add_change(alloc: Global, text: &mut Bytes, pending: &mut Pending, b: u8) -> 
     Ok(())
 }
 
-// Adds what is pending at the end of a row, with an erase of a blank end if one is wanted.
+// Adds the pending cells at the end of a row, with an erase of a blank end if one is wanted.
 fn add_last(
     alloc: Global,
     text: &mut Bytes,
@@ -118,7 +118,7 @@ fn add_last(
     Ok(())
 }
 
-// Whether an erase takes the place of the spaces that what is pending ends with.
+// Whether an erase takes the place of the spaces at the end of the pending cells.
 fn ends_with_erase(pending: &Pending, erases: bool) -> bool
     ensures { result
         ≡ (erases && (is_ground pending.now.attr && nat_lt 0 pending.now.blanks)) }
@@ -126,7 +126,7 @@ fn ends_with_erase(pending: &Pending, erases: bool) -> bool
     erases && is_ground(pending.attr) && 0 < pending.blanks
 }
 
-// Whether the byte is two colours alone: such blanks are what an erase leaves.
+// Whether the byte is two colours alone: an erase leaves such blanks.
 fn is_ground(b: u16) -> bool
     ensures { result ≡ is_ground b }
 {

@@ -1,4 +1,4 @@
-//! Which screens a text can draw.
+//! The screens that a text can draw.
 ghost use Rattle.std.specs.Prelude.{◌≡◌, ◌<◌};
 ghost use Rattle.std.specs.List.{list_all};
 ghost use Rattle.vt_grid.specs.Grid.{row_at};

@@ -1,4 +1,4 @@
-//! Rows that are one cell over and over, and the others.
+//! Rows whose cells are all the same, and the other rows.
 ghost use Rattle.std.specs.Prelude.{◌≡◌, ◌<◌, ◌++◌, replicate, OnOk};
 ghost use Rattle.vt_grid.specs.Grid.{row_at};
 ghost use Rattle.vt_redraw.specs.Cells.{are_same, changed_rows};

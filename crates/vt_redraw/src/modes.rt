@@ -21,7 +21,7 @@ pub(crate) fn add_setting(alloc: Global, text: &mut Bytes) -> Result<(), NoMemor
     add_private_mode(alloc, text, 7, true)
 }
 
-/// Adds what makes every cell a space, white on black.
+/// Adds the text that makes every cell a space, white on black.
 pub(crate) fn add_clearing(alloc: Global, text: &mut Bytes) -> Result<(), NoMemory>
     ensures { OnOk result (text.new.bytes ≡ text.old.bytes ++ clearing_text) }
 {
@@ -29,7 +29,7 @@ pub(crate) fn add_clearing(alloc: Global, text: &mut Bytes) -> Result<(), NoMemo
     add_sequence(alloc, text, 2, &[], b'J')
 }
 
-/// Adds the modes that are left, each on or off.
+/// Adds the remaining modes, each on or off.
 pub(crate) fn add_modes(alloc: Global, text: &mut Bytes, s: &ScreenState) -> Result<(), NoMemory>
     ensures { OnOk result (text.new.bytes ≡ text.old.bytes ++ modes_text s.now) }
 {
@@ -40,7 +40,7 @@ pub(crate) fn add_modes(alloc: Global, text: &mut Bytes, s: &ScreenState) -> Res
     add_shown_modes(alloc, text, s)
 }
 
-// Adds the others.
+// Adds the modes that `add_modes` doesn't add itself.
 fn add_shown_modes(alloc: Global, text: &mut Bytes, s: &ScreenState) -> Result<(), NoMemory>
     ensures { OnOk result (text.new.bytes
         ≡ text.old.bytes

@@ -8,7 +8,7 @@ use std::alloc::Global;
 use vt_base::{Bytes, NoMemory};
 use vt_cells::Palette;
 
-/// Adds the palette: the start's, and then the colours that are others.
+/// Adds the palette: that of the start, and then the colours that differ from it.
 pub(crate) fn add_palette(
     alloc: Global,
     text: &mut Bytes,

@@ -35,7 +35,7 @@ fn intensity_number(intensity: Intensity) -> u8
     }
 }
 
-/// Adds G0, G1 and which of the two is in use.
+/// Adds G0, G1 and the number of the one in use.
 #[tactic(auto, unfolding(crate::specs::State::tables_text))]
 pub(crate) fn add_tables(
     alloc: Global,

@@ -1,4 +1,4 @@
-//! What of a row is drawn and isn't in the text yet.
+//! The part of a row that is drawn and isn't in the text yet.
 ghost use Rattle.std.specs.Prelude.{◌≡◌, ◌<◌, ◌≤◌, ◌+◌, ◌++◌, ◌∷◌, [], Bool, List, length, replicate};
 ghost use Rattle.vt_cells.specs.declared.cell.Cell.{Cell};
 ghost use Rattle.vt_redraw.specs.Cells.{glyph_text};
@@ -19,7 +19,7 @@ pub(crate) struct Pending {
 }
 
 impl Pending {
-    /// Nothing, where the pen has this byte.
+    /// No cells, with a pen of this byte.
     pub(crate) fn new(attr: u16) -> Pending
         ensures front { result.front ≡ [] }
         ensures blanks { result.blanks ≡ 0 }
@@ -65,7 +65,7 @@ impl Pending {
         }
     }
 
-    /// Draws a character in the pen's byte, where no spaces stand before it.
+    /// Draws a character in the pen's byte, if no spaces are pending before it.
     pub(crate) fn push(&mut self, code: u32)
         requires room { length self.old.front + 4 ≤ 1020 }
         requires settled { self.old.blanks ≡ 0 }

@@ -115,7 +115,7 @@ fn table_letter(table: u8) -> u8
     }
 }
 
-/// Adds what designates G0.
+/// Adds the sequence that designates G0.
 #[tactic(auto, unfolding(crate::specs::Sequences::g0_text))]
 pub(crate) fn add_g0(alloc: Global, text: &mut Bytes, table: u8) -> Result<(), NoMemory>
     ensures { OnOk result (text.new.bytes ≡ text.old.bytes ++ g0_text table) }
@@ -123,7 +123,7 @@ pub(crate) fn add_g0(alloc: Global, text: &mut Bytes, table: u8) -> Result<(), N
     add(alloc, text, &[0x1B, b'(', table_letter(table)])
 }
 
-/// Adds what designates G1.
+/// Adds the sequence that designates G1.
 #[tactic(auto, unfolding(crate::specs::Sequences::g1_text))]
 pub(crate) fn add_g1(alloc: Global, text: &mut Bytes, table: u8) -> Result<(), NoMemory>
     ensures { OnOk result (text.new.bytes ≡ text.old.bytes ++ g1_text table) }

@@ -13,7 +13,7 @@ use std::alloc::Global;
 use vt_base::{Bytes, NoMemory};
 use vt_screen::{Emu, Saved, ScreenState, Stops};
 
-/// Adds what makes the state, on a screen that has the cells.
+/// Adds the text that makes the state, on a screen that has the cells.
 pub(crate) fn add_state(alloc: Global, text: &mut Bytes, emu: &Emu) -> Result<(), NoMemory>
     requires { IsTrue (is_redrawable emu.now.state) }
     ensures { OnOk result (text.new.bytes ≡ text.old.bytes ++ state_text emu.now.state) }
@@ -54,7 +54,7 @@ fn add_stop(alloc: Global, text: &mut Bytes, x: u8) -> Result<(), NoMemory>
     add(alloc, text, b"\x1bH")
 }
 
-// Adds what is saved.
+// Adds the saved state.
 #[tactic(auto, unfolding(crate::specs::Sequences::save_text))]
 fn add_saved(alloc: Global, text: &mut Bytes, v: &Saved) -> Result<(), NoMemory>
     requires row { v.now.y < 255 }
@@ -68,7 +68,7 @@ fn add_saved(alloc: Global, text: &mut Bytes, v: &Saved) -> Result<(), NoMemory>
     add(alloc, text, b"\x1b7")
 }
 
-// Adds the region and the mode of origin.
+// Adds the region and origin mode.
 fn add_region(alloc: Global, text: &mut Bytes, s: &ScreenState) -> Result<(), NoMemory>
     requires { s.now.bottom < 255 }
     ensures { OnOk result (text.new.bytes ≡ text.old.bytes ++ region_text s.now) }
@@ -81,7 +81,7 @@ fn add_region(alloc: Global, text: &mut Bytes, s: &ScreenState) -> Result<(), No
     add_private_mode(alloc, text, 6, s.origin)
 }
 
-// Adds the cursor. Where a wrap is pending its row is drawn to its end once more.
+// Adds the cursor. If a wrap is pending, its row is drawn to its end once more.
 fn add_cursor(alloc: Global, text: &mut Bytes, emu: &Emu) -> Result<(), NoMemory>
     requires { IsTrue (is_redrawable emu.now.state) }
     ensures { OnOk result (text.new.bytes ≡ text.old.bytes ++ cursor_text emu.now.state) }

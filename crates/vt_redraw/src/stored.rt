@@ -1,4 +1,4 @@
-//! What each stored screen keeps to. These calls do nothing, and are made for their clauses.
+//! The invariant of each stored screen. These calls do nothing; they are made for their clauses.
 ghost use Rattle.std.specs.Prelude.{◌≡◌, ◌<◌, ◌≤◌, All, length};
 ghost use Rattle.vt_cells.specs.Colours.{Rgb};
 ghost use Rattle.vt_redraw.specs.Redraw.{IsStored};

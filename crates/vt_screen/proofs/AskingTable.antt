@@ -1,4 +1,4 @@
--- What each row of the effect table asks for.
+-- The requests of each case of the effect table.
 use Rattle.std.proofs.Common.{◌≡◌, ℕ, ◌-◌, ◌≤◌, ◌==◌, ◌&&◌, ◌||◌, not, Bool, true, false, List, nat_le, cond, Some, None, refl, arith}
 use Rattle.std.specs.Prelude.{Option}
 use Rattle.vt_chars.specs.Utf8.{within}

@@ -1,4 +1,4 @@
--- No cut of a text matters: what was said before a run stays in front of what the run says.
+-- No cut of a text matters: earlier side effects stay before those of a run.
 use Rattle.std.proofs.Common.{◌≡◌, ℕ, Bool, true, false, List, [], ◌∷◌, ◌++◌, refl, sym, ap, ◌∙◌, append_assoc, if◌then◌else◌}
 use Rattle.std.proofs.lemmas.List.{append-nil}
 use Rattle.vt_screen.specs.Effect.{control, effect}

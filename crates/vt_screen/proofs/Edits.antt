@@ -1,4 +1,4 @@
--- What the edits of rows keep of each row, where they part the rows at their borders.
+-- The edits of rows keep each row's property, if they split the rows at their borders.
 use Rattle.std.proofs.Common.{◌≡◌, ℕ, ◌+◌, false, List}
 use Rattle.std.specs.Prelude.{All}
 use Rattle.vt_cells.specs.Width.{is_half}

@@ -1,4 +1,4 @@
--- Left of each half stands a character of two columns: what rows are made of keeps that.
+-- Left of each half stands a character of two columns: the edits of rows keep that.
 use Rattle.std.proofs.Common.{◌≡◌, ℕ, zero, suc, ◌+◌, ◌-◌, ◌<◌, ◌==◌, min, Bool, true, false, List, [], ◌∷◌, ◌++◌, length, map, take, drop, set, replicate, inl, inr, refl, sym, ap, ◌∙◌, subst, cond, arith}
 use Rattle.std.specs.Prelude.{All}
 use Rattle.std.proofs.lemmas.Bool.{cases_lt, eqb-true, false≢true}

@@ -1,4 +1,4 @@
--- A listener that hears two lists in turn hears the list that they are.
+-- A listener that hears two lists in turn hears the joined list.
 use Rattle.std.proofs.Common.{List, [], ◌∷◌, ◌++◌, subst}
 use Rattle.vt_screen.specs.Hearing.{HearsAll}
 use Rattle.vt_screen.specs.declared.out.Out.{Out}

@@ -1,4 +1,4 @@
--- Each row of the effect table leaves the cursor inside.
+-- Each case of the effect table leaves the cursor inside.
 use Rattle.std.proofs.Common.{ℕ, ◌+◌, ◌-◌, ◌==◌, ◌&&◌, Bool, true, false, List, nat_lt, nat_le, ap, ◌∙◌, ◌≡◌, arith}
 use Rattle.std.specs.Prelude.{IsTrue}
 use Rattle.vt_chars.specs.Utf8.{within}

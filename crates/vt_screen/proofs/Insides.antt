@@ -1,4 +1,4 @@
--- Each row of the effect table leaves the cursor in the screen, and in origin mode in the region.
+-- Each case of the effect table leaves the cursor in the screen, and in origin mode in the region.
 use Rattle.std.proofs.Common.{◌≡◌, ℕ, ◌+◌, ◌-◌, ◌==◌, ◌&&◌, ◌||◌, ◌<◌, ◌≤◌, Bool, true, false, List, [], ◌∷◌, length, max, min, nat_lt, nat_le, refl, sym, ◌∙◌, cond, arith, inl, inr, ltb-true}
 use Rattle.std.specs.Prelude.{IsTrue}
 use Rattle.std.proofs.lemmas.Bool.{and_parts, false≢true, leb-true}

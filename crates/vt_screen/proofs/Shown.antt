@@ -1,4 +1,4 @@
--- Whole characters at the front of a text.
+-- Whole characters at the start of a text.
 use Rattle.std.proofs.Common.{◌≡◌, ◌<◌, true, ℕ, List, [], ◌∷◌, length, refl, sym, ap, ◌∙◌, arith}
 use Rattle.std.proofs.lemmas.List.{append-nil}
 use Rattle.vt_cells.specs.Width.{columns}

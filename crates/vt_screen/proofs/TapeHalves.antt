@@ -1,4 +1,4 @@
--- Where halves stand, whatever a tape does to a start screen.
+-- The places of halves, after every tape on a start screen.
 use Rattle.std.proofs.Common.{◌&&◌, ◌∙◌, ap, ◌≡◌, ℕ, zero, suc, ◌+◌, ◌-◌, ◌<◌, ◌≤◌, ◌==◌, Bool, true, false, List, [], ◌∷◌, map, refl, sym, subst, cond, arith, nat_lt, ltb-true}
 use Rattle.std.specs.Prelude.{All, slice_index}
 use Rattle.std.specs.List.{list_all, range_with_len}

@@ -1,4 +1,4 @@
--- How often a text asks for another console.
+-- How often a text requests another console.
 use Rattle.std.specs.Prelude.{ℕ, Bool, true, false, ◌+◌, ◌*◌, ◌≤◌, List, length, count_by}
 use Rattle.vt_screen.specs.Run.{outs_of_run}
 use Rattle.vt_screen.specs.Screen.{Screen}

@@ -1,5 +1,5 @@
--- Where the cursor goes (console_codes(4)). This project's own are the wrap flag's rules: what moves
--- the cursor by name switches it off, and a tab leaves it.
+-- The moves of the cursor (console_codes(4)). The rules of the wrap flag are this project's own: a sequence
+-- that moves the cursor ends a pending wrap, and a tab leaves it.
 use Rattle.std.specs.List.{prefix_len}
 use Rattle.std.specs.Prelude.{ℕ, zero, suc, max, false, ◌+◌, ◌-◌, ◌==◌, min, not, drop, if◌then◌else◌}
 use Rattle.vt_grid.specs.Grid.{scrolled_down, scrolled_up}
@@ -38,7 +38,7 @@ reverse_linefeed s =
     if s.state.y == s.state.top then region_down s
     else at_row (s.state.y - 1) s
 
--- what LF does: in newline mode the cursor goes to the first column too
+-- LF: a line feed; in newline mode the cursor also goes to the first column
 abbrev pub newline : Screen → Screen
 newline s = linefeed (if s.state.newline then at_column 0 s else s)
 

@@ -1,6 +1,6 @@
--- The effect table: what each unit does to a screen, and what it says beside it, a row for each in
--- the order of console_codes(4). The rows are defined beside this file: `Cursor`, `Printing`,
--- `Erasing`, `Settings` and `Saying`. Whatever stands in no row does nothing at all.
+-- The effect table: the effect of each unit on a screen, and its side effect, a case for each in the order
+-- of console_codes(4). The modules `Cursor`, `Printing`, `Erasing`, `Settings` and `Saying` define the
+-- cases. A unit without a case has no effect.
 use Rattle.std.specs.Prelude.{ℕ, true, false, ◌+◌, ◌-◌, ◌==◌, max, List, slice_index, if◌then◌else◌}
 use Rattle.vt_chars.specs.Utf8.{within}
 use Rattle.vt_screen.specs.Cursor.{at_column, linefeed, cursor_to, newline, cursor_to_in_region, reverse_linefeed, tab}
@@ -57,7 +57,7 @@ plain_escape last s =
     else if last == 0x3D then without_out (with_keypad true s)
     else without_out s
 
--- escape sequences, by the intermediate byte, which is 0 where there is none, and the final one
+-- escape sequences, by the intermediate byte, which is 0 if there is none, and the final one
 unfoldable pub escape : ℕ → ℕ → Screen → Effect
 escape mid last s =
     if mid == 0 then plain_escape last s
@@ -71,7 +71,7 @@ escape mid last s =
     else if mid == 0x29 then without_out (with_g1 last s)
     else without_out s
 
--- a parameter as it stands, from 0; one that isn't there is 0
+-- a parameter by its place, from 0; one that isn't there is 0
 abbrev pub number_at : List ℕ → ℕ → ℕ
 number_at params place = slice_index params place
 
@@ -151,7 +151,7 @@ control_sequence params last s =
     else if last == 0x5D then console_setting first second s
     else without_out s
 
--- control sequences that ? begins
+-- control sequences that begin with ?
 unfoldable pub private_sequence : List ℕ → ℕ → Screen → Effect
 private_sequence params last s =
     -- DECSET, ? h
@@ -160,7 +160,7 @@ private_sequence params last s =
     else if last == 0x6C then without_out (each (with_private_mode false) params s)
     else without_out s
 
--- what a unit does, one case for each kind
+-- the effect of a unit, one case for each kind
 abbrev pub effect : units.Unit → Screen → Effect
 effect (Char code) s = without_out (print_character code s)
 effect (Byte b) s = without_out (print 1 (character_of_byte b s) s)

@@ -1,5 +1,5 @@
--- What erases, inserts and deletes (console_codes(4), "ECMA-48 CSI sequences"). What comes in is
--- blank, in the pen's two colours. This project's own is that all of these switch the wrap flag off.
+-- Erasing, inserting and deleting (console_codes(4), "ECMA-48 CSI sequences"). New cells are blank, in the
+-- pen's two colours. This project's own is that all of these end a pending wrap.
 use Rattle.std.specs.Prelude.{ℕ, Bool, false, ◌+◌, ◌-◌, ◌==◌, ◌&&◌, ◌||◌, nat_le, min, ◌++◌, take, drop, replicate, if◌then◌else◌}
 use Rattle.vt_grid.specs.Grid.{GridView, with_deleted, with_erased, with_inserted, scrolled_down, scrolled_up}
 use Rattle.vt_grid.specs.Halves.{split_wide_between}
@@ -12,19 +12,19 @@ without_pending_wrap s = with_state s (record s.state { wrap = false })
 abbrev pub with_grid : Screen → GridView → Screen
 with_grid s grid = record s { grid = grid }
 
--- the cells of the cursor's row from column x0 to x1, both included, are blank; a character that
--- stands there in part is parted
+-- the cells of the cursor's row from column x0 to x1, both included, are blank; a character that they cover
+-- in part is split
 abbrev pub line_erased : ℕ → ℕ → Screen → Screen
 line_erased x0 x1 s =
     with_grid s
     (with_erased (split_wide_between s.grid s.state.y x0 (x1 + 1)) s.state.y x0 x1 (blank_of s))
 
--- as many of n cells as the cursor's row has from the cursor on
+-- n, or the number of cells from the cursor to the end of its row if that is less
 abbrev pub fitting_count : ℕ → Screen → ℕ
 fitting_count n s = min n (s.grid.cols - s.state.x)
 
--- n blanks come in at the cursor; a character that stands there, or of which a part passes the row's
--- end, is parted
+-- n blanks are inserted at the cursor; a character at the cursor, or one of which a part passes the row's
+-- end, is split
 abbrev pub cells_inserted : ℕ → Screen → Screen
 cells_inserted n s =
     let y = s.state.y in
@@ -32,8 +32,8 @@ cells_inserted n s =
     with_grid s
     (with_inserted (split_wide_between s.grid y x (s.grid.cols - fitting_count n s)) y x n (blank_of s))
 
--- n cells go out at the cursor; a character that goes out in part is parted. Past the row's end there
--- is none
+-- n cells are deleted at the cursor; a character that is deleted in part is split. There is no cell past the
+-- row's end
 abbrev pub cells_deleted : ℕ → Screen → Screen
 cells_deleted n s =
     let y = s.state.y in
@@ -78,7 +78,7 @@ erase_display which s =
     else if which == 2 || which == 3 then without_pending_wrap (all_erased s)
     else s
 
--- EL: the same in the cursor's row
+-- EL: the same ranges in the cursor's row
 unfoldable pub erase_line : ℕ → Screen → Screen
 erase_line which s =
     if which == 0 then without_pending_wrap (line_end_erased s)
@@ -91,11 +91,11 @@ unfoldable pub erase_characters : ℕ → Screen → Screen
 erase_characters n s =
     without_pending_wrap (line_erased s.state.x (min (s.state.x + n - 1) (s.grid.cols - 1)) s)
 
--- ICH: n blanks come in at the cursor
+-- ICH: n blanks are inserted at the cursor
 unfoldable pub insert_characters : ℕ → Screen → Screen
 insert_characters n s = without_pending_wrap (cells_inserted n s)
 
--- DCH: n cells go out at the cursor
+-- DCH: n cells are deleted at the cursor
 unfoldable pub delete_characters : ℕ → Screen → Screen
 delete_characters n s = without_pending_wrap (cells_deleted n s)
 
@@ -103,8 +103,8 @@ delete_characters n s = without_pending_wrap (cells_deleted n s)
 abbrev pub in_region : Screen → Bool
 in_region s = nat_le s.state.top s.state.y && nat_le s.state.y s.state.bottom
 
--- IL: n blank rows come in at the cursor's one, and the region's rows from there on move down.
--- Outside the region no row changes. The cursor keeps its column: this project's own
+-- IL: n blank rows are inserted at the cursor's row, and the region's rows from there on move down. Outside
+-- the region no row changes. The cursor keeps its column: this project's own
 unfoldable pub insert_lines : ℕ → Screen → Screen
 insert_lines n s =
     without_pending_wrap
@@ -112,7 +112,7 @@ insert_lines n s =
     then with_grid s (scrolled_down s.grid s.state.y s.state.bottom n (blank_of s))
     else s)
 
--- DL: n rows go out at the cursor's one, and the region's rows behind them move up
+-- DL: n rows are deleted at the cursor's row, and the region's rows after them move up
 unfoldable pub delete_lines : ℕ → Screen → Screen
 delete_lines n s =
     without_pending_wrap

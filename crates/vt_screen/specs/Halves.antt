@@ -1,4 +1,4 @@
--- Where the right halves of characters stand on a screen.
+-- The places of the right halves of characters on a screen.
 use Rattle.std.specs.Prelude.{◌≡◌, ◌<◌, ◌==◌, ℕ, Bool, true, false, List, [], ◌∷◌, All}
 use Rattle.vt_cells.specs.Width.{columns, is_half}
 use Rattle.vt_cells.specs.declared.cell.Cell.{Cell}
@@ -16,20 +16,20 @@ abbrev pub IsPlainTaped : Taped → Type 0
 IsPlainTaped (byte b) = b < 256
 IsPlainTaped (change m) = IsPlainChange m
 
--- in every screen that bytes and changes make of a start, no half stands in column 0 or right of a half
+-- in every screen that bytes and changes make from a start, no half stands in column 0 or right of a half
 abbrev pub TapesKeepHalves : Type 0
 TapesKeepHalves =
     (rows cols : ℕ) (tape : List Taped) → All IsPlainTaped tape
     → IsPaired (run_tape tape (with_outs [] (start rows cols))).state.screen.grid
 
--- each half among these cells follows the cell of a character of two columns. Whether they themselves
--- follow one is given
+-- each half among these cells follows the cell of a character of two columns. It is given whether the cells
+-- themselves follow one
 abbrev pub FollowWide : Bool → List Cell → Type 0
 FollowWide after_wide [] = Unit {0}
 FollowWide after_wide (c ∷ cells) =
     (is_half c ≡ true → after_wide ≡ true) × FollowWide (columns c.code == 2) cells
 
--- in every screen that bytes and changes make of a start, the cell of a character of two columns stands
+-- in every screen that bytes and changes make from a start, the cell of a character of two columns stands
 -- left of each half, in the same row
 abbrev pub HalvesFollowWide : Type 0
 HalvesFollowWide =

@@ -1,9 +1,9 @@
--- Who hears what a text says beside the screen.
+-- The side effects that a listener hears.
 use Rattle.std.specs.Prelude.{◌≡◌, List, [], ◌∷◌}
 use Rattle.vt_screen.specs.declared.out.Out.{Out}
 
--- the listener hears these and nothing else, one after another: each from the state that the one before
--- it left
+-- the listener hears these side effects and no others, in order: each from the state that the one before it
+-- left
 abbrev pub HearsAll : {L : Type 0} → (L → Out → L → Type 0) → L → List Out → L → Type 0
 HearsAll hears old [] new = new ≡ old
 HearsAll {L} hears old (out ∷ outs) new =

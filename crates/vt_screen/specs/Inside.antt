@@ -1,4 +1,4 @@
--- Where the cursor stands, after all that a screen is made of.
+-- The place of the cursor, in every screen that bytes and changes make.
 use Rattle.std.specs.Prelude.{◌<◌, ◌≤◌, ℕ, IsTrue, List, [], All}
 use Rattle.vt_screen.specs.Run.{with_outs, start}
 use Rattle.vt_screen.specs.Screen.{Screen}
@@ -10,14 +10,14 @@ CursorIsInside s =
     (s.state.y < s.grid.rows) × (s.state.x < s.grid.cols)
     × (IsTrue s.state.origin → (s.state.top ≤ s.state.y) × (s.state.y ≤ s.state.bottom))
 
--- a byte, or a change that leaves a row and a column at least
+-- a byte, or a change that leaves at least one row and one column
 abbrev pub HasPlaces : Taped → Type 0
 HasPlaces (byte b) = Unit {0}
 HasPlaces (change (user_map words)) = Unit {0}
 HasPlaces (change (palette colours)) = Unit {0}
 HasPlaces (change (resize rows cols)) = (1 ≤ rows) × (1 ≤ cols)
 
--- in every screen that bytes and changes make of a start the cursor is inside
+-- in every screen that bytes and changes make from a start, the cursor is inside
 abbrev pub TapesKeepCursor : Type 0
 TapesKeepCursor =
     (rows cols : ℕ) (tape : List Taped) → 1 ≤ rows → 1 ≤ cols → All HasPlaces tape

@@ -1,5 +1,5 @@
--- What a canvas keeps beside its screen, so that printing reckons no attribute byte. No public
--- clause names this.
+-- The bytes that a canvas keeps in addition to its screen, so that printing computes no attribute byte. No
+-- public clause names this.
 use Rattle.std.specs.Prelude.{◌≡◌, ℕ}
 use Rattle.vt_screen.specs.Screen.{IsWhole, Screen, erased_byte, printed_byte}
 

@@ -1,5 +1,5 @@
--- What printing does (console_codes(4)). The wrap flag's rules and those of characters of two columns
--- are this project's own.
+-- Printing (console_codes(4)). The rules of the wrap flag and of characters of two columns are this project's
+-- own.
 use Rattle.std.specs.Prelude.{ℕ, Bool, false, ◌+◌, ◌-◌, ◌==◌, ◌&&◌, ◌||◌, nat_lt, List, [], ◌∷◌, ◌++◌, length, if◌then◌else◌}
 use Rattle.vt_cells.specs.Width.{columns, half}
 use Rattle.vt_chars.specs.CharMap.{char_of}
@@ -13,8 +13,8 @@ use Rattle.vt_screen.specs.Screen.{Screen, pen_byte}
 abbrev pub lacks_room : ℕ → Screen → Bool
 lacks_room w s = nat_lt s.grid.cols (s.state.x + w)
 
--- where a wrap is pending, or the character doesn't end in this row, it goes to the start of the next
--- row; without autowrap as near to this row's end as it fits
+-- if a wrap is pending, or the character doesn't end in this row, it goes to the start of the next row;
+-- without autowrap, as near to this row's end as it fits
 abbrev pub after_wrap : ℕ → Screen → Screen
 after_wrap w s =
     if s.state.autowrap && (s.state.wrap || lacks_room w s) then linefeed (at_column 0 s)
@@ -25,12 +25,12 @@ after_wrap w s =
 abbrev pub with_gap : ℕ → Screen → Screen
 with_gap w s = if s.state.insert then cells_inserted w s else s
 
--- the codes of a character's cells: of two, the right one has the code of a half
+-- the codes of a character's cells: the second of two has the code of a half
 abbrev pub codes_drawn : ℕ → ℕ → List ℕ
 codes_drawn w code = if w == 2 then code ∷ half ∷ [] else code ∷ []
 
--- cells of these codes from the cursor on, and the cursor after them; where they end the row the cursor
--- is in the last column, and with autowrap a wrap is pending
+-- cells of these codes from the cursor on, and the cursor after them; if they end the row, the cursor is in
+-- the last column, and with autowrap a wrap is pending
 abbrev pub with_cells_at_cursor : List ℕ → Screen → Screen
 with_cells_at_cursor codes s =
     let end = s.state.x + length codes in
@@ -43,12 +43,12 @@ with_cells_at_cursor codes s =
       };
     }
 
--- a character of w columns, of which a row has as many, is printed
+-- a character of w columns is printed; a row has at least as many
 abbrev pub with_character : ℕ → ℕ → Screen → Screen
 with_character w code s = with_cells_at_cursor (codes_drawn w code) (with_gap w (after_wrap w s))
 
--- a character of w columns is printed. One of none does nothing at all; one of two, where rows have
--- one, is printed as the replacement character
+-- a character of w columns is printed. One of no columns has no effect; one of two columns is printed as the
+-- replacement character if rows have one column
 unfoldable pub print : ℕ → ℕ → Screen → Screen
 print w code s =
     if w == 0 then s
@@ -64,12 +64,12 @@ abbrev pub print_characters : List ℕ → Screen → Screen
 print_characters [] s = s
 print_characters (code ∷ codes) s = print_characters codes (print_character code s)
 
--- how many cells there are from the cursor to the end of its row, where no wrap is pending and insert
--- mode is off: characters that end there are put at once
+-- the number of cells from the cursor to the end of its row, if no wrap is pending and insert mode is off:
+-- characters that end there are printed at once
 abbrev pub room : Screen → ℕ
 room s = if s.state.wrap || s.state.insert then 0 else s.grid.cols - s.state.x
 
--- the codes of a character's cells, of which there may be none. No public clause names this
+-- the codes of a character's cells, possibly none. No public clause names this
 abbrev pub cells_codes : ℕ → ℕ → List ℕ
 cells_codes w code = if w == 0 then [] else codes_drawn w code
 

@@ -1,5 +1,5 @@
--- What bytes make of a screen, and the laws of it. Bytes are cut into units (`vt_units`), and the
--- units have their effects in order.
+-- The run of bytes over a screen, and its laws. Bytes are cut into units (`vt_units`), and the units have
+-- their effects in order.
 use Rattle.std.specs.Prelude.{◌≡◌, ℕ, ◌++◌, List, [], ◌∷◌, Option, Some, None}
 use Rattle.vt_screen.specs.Effect.{control, effect}
 use Rattle.vt_screen.specs.Saying.{Effect}
@@ -12,7 +12,7 @@ use Rattle.vt_units.specs.Rest.{fresh, start_mode}
 use Rattle.vt_units.specs.Run.{Effects, Reached, make_reached, run}
 use Rattle.vt_units.specs.Units.{IsUnfinished}
 
--- the screen, and all that was said, in order
+-- the screen, and all side effects, in order
 pub record ScreenAndOuts : Type 0 where
   pub screen : Screen
   pub outs : List Out
@@ -21,13 +21,13 @@ abbrev pub outs_of_option : Option Out → List Out
 outs_of_option None = []
 outs_of_option (Some out) = out ∷ []
 
--- something is done to the screen; what it says comes last
+-- an effect on the screen; its side effect comes last
 abbrev pub then_done : (Screen → Effect) → ScreenAndOuts → ScreenAndOuts
 then_done f t =
     let done = f t.screen in
     record { screen = done.screen; outs = t.outs ++ outs_of_option done.said }
 
--- what control characters and units do: the effect table
+-- the effects of control characters and units: the effect table
 abbrev pub screen_effects : Effects ScreenAndOuts
 screen_effects = record {
   mode_of = λ t. mode_of t.screen;
@@ -35,11 +35,11 @@ screen_effects = record {
   on_unit = λ unit. then_done (effect unit);
 }
 
--- a screen with the rest of its text, and what it said so far
+-- a screen with the rest of its text, and the side effects so far
 abbrev pub with_outs : List Out → Reached Screen → Reached ScreenAndOuts
 with_outs outs m = make_reached (record { screen = m.state; outs = outs }) m.rest
 
--- run: what the bytes make of a screen and the rest of its text
+-- run: the screen and the rest of its text after the bytes
 abbrev pub run_from : Reached Screen → List ℕ → Reached ScreenAndOuts
 run_from m bytes = run screen_effects bytes (with_outs [] m)
 
@@ -49,7 +49,7 @@ after m bytes =
     let end = run_from m bytes in
     make_reached end.state.screen end.rest
 
--- what the bytes say, in order
+-- the side effects of the bytes, in order
 abbrev pub outs_of_run : Reached Screen → List ℕ → List Out
 outs_of_run m bytes = (run_from m bytes).state.outs
 
@@ -57,7 +57,7 @@ outs_of_run m bytes = (run_from m bytes).state.outs
 abbrev pub start : ℕ → ℕ → Reached Screen
 start rows cols = make_reached (start_screen rows cols) (fresh start_mode)
 
--- any cut: bytes run as a whole are run in two parts, wherever they are cut, and say what these say
+-- any cut: bytes run as a whole are run in two parts, wherever they are cut, with the side effects of both
 abbrev pub AnyCut : Type 0
 AnyCut =
     (m : Reached Screen) (a b : List ℕ)
@@ -73,7 +73,7 @@ PiecesAct =
     HasEffect screen_effects (reading mode (text_of mode [] bytes)) (controls_of mode [] bytes)
     (rest_with screen_effects old (fresh mode) bytes) (run_from m bytes) old
 
--- the same of a piece whose first bytes are in the rest
+-- the law of pieces, for a piece whose first bytes are in the rest
 abbrev pub PiecesResume : Type 0
 PiecesResume =
     (m : Reached Screen) (bytes : List ℕ) → IsUnfinished m.rest.mode m.rest.text
@@ -83,7 +83,7 @@ PiecesResume =
     HasEffect screen_effects (reading mode (text_of mode text bytes)) (controls_of mode text bytes)
     (rest_with screen_effects old m.rest bytes) (run_from m bytes) old
 
--- every text is pieces and one last rest, and its run is what they come to
+-- every text consists of pieces and one last rest, and its run is their results
 abbrev pub TextsAreCut : Type 0
 TextsAreCut =
     (m : Reached Screen) (bytes : List ℕ) → IsRest m.rest → IsCut screen_effects (with_outs [] m) bytes (run_from m bytes)

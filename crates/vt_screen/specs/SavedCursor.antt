@@ -9,7 +9,7 @@ use Rattle.vt_screen.specs.declared.saved.Saved.{Saved}
 use Rattle.vt_units.specs.declared.unit.Unit as units
 use Rattle.vt_units.specs.declared.unit.Unit.TheVariants.{Char, Byte, Control, Esc, Csi, Colour, ColourReset, Ignored}
 
--- what is saved of a screen
+-- the saved part of a screen
 abbrev pub saved_of : Screen → Saved
 saved_of s = record {
   x = s.state.x;
@@ -36,8 +36,8 @@ leaves_saved (Colour n rgb) = true
 leaves_saved ColourReset = true
 leaves_saved Ignored = true
 
--- ESC 7, units that leave what was saved, and ESC 8: the cursor is back where it was, unless the mode
--- of origin or the region changed
+-- ESC 7, units that keep the saved cursor, and ESC 8: the cursor is at its place of ESC 7 again, unless
+-- origin mode or the region changed
 abbrev pub RestorePutsBack : Type 0
 RestorePutsBack =
     (s : Screen) (us : List units.Unit) → IsWhole s → CursorIsInside s → IsTrue (list_all leaves_saved us)

@@ -1,12 +1,11 @@
--- What says something beside the screen: reports, lights and requests for another console
--- (console_codes(4)).
+-- Side effects: reports, lights and requests for another console (console_codes(4)).
 use Rattle.std.specs.Prelude.{ℕ, Bool, true, false, ◌+◌, ◌-◌, ◌==◌, ◌&&◌, nat_le, nat_lt, List, ◌∷◌, ◌++◌, Option, Some, None, codes, decimal, if◌then◌else◌}
 use Rattle.vt_screen.specs.Screen.{Screen}
 use Rattle.vt_screen.specs.Settings.{with_pen}
 use Rattle.vt_screen.specs.declared.out.Out.{Out}
 use Rattle.vt_screen.specs.declared.out.Out.TheVariants.{Bell, Lights, Report, SwitchLast, SwitchTo}
 
--- the screen after a unit, and what the unit says beside it
+-- the screen after a unit, and the unit's side effect
 pub record Effect : Type 0 where
   pub screen : Screen
   pub said : Option Out
@@ -40,7 +39,7 @@ cursor_text s =
     let row = if s.state.origin then s.state.y - s.state.top else s.state.y in
     codes "[" ++ (decimal (row + 1) ++ (codes ";" ++ (decimal (s.state.x + 1) ++ codes "R")))
 
--- DSR: 5 asks whether all is well, and it is; 6 asks for the cursor
+-- DSR: 5 requests the status, which is good; 6 requests the cursor's place
 unfoldable pub status_report : ℕ → Screen → Effect
 status_report which s =
     if which == 5 then report (codes "[0n") s
@@ -71,8 +70,8 @@ with_default_pair s =
     with_pen s
     (record s.state.pen { def_fg = s.state.pen.attr.fg; def_bg = s.state.pen.attr.bg })
 
--- CSI ]: settings of the console. Timers, the bell's pitch and length and video modes do nothing:
--- this project's own
+-- CSI ]: settings of the console. Timers, the bell's pitch and length and video modes have no effect: this
+-- project's own
 unfoldable pub console_setting : ℕ → ℕ → Screen → Effect
 console_setting which value s =
     -- the colour for underline

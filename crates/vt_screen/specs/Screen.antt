@@ -1,4 +1,4 @@
--- A screen as contracts see it. What it starts with is this project's own.
+-- A screen as contracts see it. The start screen is this project's own.
 use Rattle.std.specs.List.{range_with_len}
 use Rattle.std.specs.Prelude.{◌≡◌, ◌+◌, ◌-◌, ◌<◌, ◌≤◌, ◌%◌, ◌==◌, ◌&&◌, nat_lt, IsTrue, ℕ, Bool, true, false, List, map, length, slice_index_or}
 use Rattle.vt_cells.specs.AttrByte.{attr_byte, erase_byte}
@@ -13,7 +13,7 @@ use Rattle.vt_screen.specs.declared.screen_state.ScreenState.{ScreenState}
 use Rattle.vt_sgr.specs.PenState.{PenState}
 use Rattle.vt_units.specs.declared.mode.Mode.{Mode}
 
--- the cells, and the state beside them
+-- the cells, and the state
 pub record Screen : Type 0 where
   pub grid : GridView
   pub state : ScreenState
@@ -22,9 +22,9 @@ pub record Screen : Type 0 where
 abbrev pub with_state : Screen → ScreenState → Screen
 with_state s state = record s { state = state }
 
--- what every screen keeps to: the rows are whole, the cursor is in them, a wrap is pending only in
--- the last column, the region is in the rows, the tables are four, G0 or G1 is in use, here and in
--- what is saved, and the user's table has all bytes
+-- the invariant of every screen: the rows are whole, the cursor is in them, a wrap is pending only in the
+-- last column, the region is in the rows, there are four tables, G0 or G1 is in use, in the state and in
+-- the saved part, and the user's table has all bytes
 pub record IsWhole (s : Screen) : Type 0 where
   pub full : IsFull s.grid
   pub row : s.state.y < s.grid.rows
@@ -42,19 +42,19 @@ pub record IsWhole (s : Screen) : Type 0 where
 abbrev pub mode_of : Screen → Mode
 mode_of s = record { utf8 = s.state.utf8; display = s.state.pen.display }
 
--- the attribute byte of what is printed
+-- the attribute byte of printed characters
 unfoldable pub printed_byte : Rendition → Tints → ℕ
 printed_byte a l = attr_byte a l
 
--- the attribute byte of what is erased
+-- the attribute byte of erased cells
 unfoldable pub erased_byte : Rendition → ℕ
 erased_byte a = erase_byte a
 
--- the attribute byte of what the pen prints
+-- the attribute byte of characters that the pen prints
 abbrev pub pen_byte : Screen → ℕ
 pen_byte s = printed_byte s.state.pen.attr s.state.pen.look
 
--- what an empty place holds: a space in the pen's two colours
+-- a blank cell: a space in the pen's two colours
 abbrev pub blank_of : Screen → Cell
 blank_of s = record { code = 0x20; attr = erased_byte s.state.pen.attr }
 
@@ -62,7 +62,7 @@ blank_of s = record { code = 0x20; attr = erased_byte s.state.pen.attr }
 abbrev pub has_stop : List Bool → ℕ → Bool
 has_stop stops x = slice_index_or stops x false
 
--- the tab stops at the start: in every eighth column but the first
+-- the tab stops at the start: in every eighth column except the first
 abbrev pub is_start_stop : ℕ → Bool
 is_start_stop x = nat_lt 0 x && x % 8 == 0
 
@@ -101,7 +101,7 @@ start_pen = record {
   toggle = false;
 }
 
--- the cursor at home, with what belongs to it, as it is saved at the start
+-- the cursor at home, with its pen and its modes, as it is saved at the start
 abbrev pub start_saved : Saved
 start_saved = record { x = 0; y = 0; attr = start_attr; g0 = 0; g1 = 1; shift = 0 }
 
@@ -134,7 +134,7 @@ start_state rows = record {
   map = start_user;
 }
 
--- what a place of the start screen holds
+-- a blank cell of the start screen
 abbrev pub start_blank : Cell
 start_blank = record { code = 0x20; attr = 0x07 }
 

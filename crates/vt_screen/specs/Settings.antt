@@ -1,5 +1,5 @@
--- What changes the state and no cell: modes, tab stops, the region, character sets, the pen, and the
--- cursor that is saved (console_codes(4)); and what makes the whole screen anew.
+-- Effects on the state and on no cell: modes, tab stops, the region, character sets, the pen, and the saved
+-- cursor (console_codes(4)); and effects on the whole screen.
 use Rattle.std.specs.Prelude.{ℕ, Bool, true, false, ◌-◌, ◌==◌, ◌&&◌, nat_le, nat_lt, List, [], ◌∷◌, replicate, slice_set, if◌then◌else◌}
 use Rattle.vt_cells.specs.Colours.{Rgb, start_palette}
 use Rattle.vt_grid.specs.Grid.{filled_grid}
@@ -12,8 +12,8 @@ use Rattle.vt_sgr.specs.Sgr.{sgr}
 abbrev pub with_pen : Screen → PenState → Screen
 with_pen s pen = with_state s (record s.state { pen = pen })
 
--- SO invokes G1 and shows control characters, SI invokes G0 and doesn't (DECCRM); both end the null
--- mapping and the toggled bit. This project's own is what they do beside the invoking
+-- SO invokes G1 and shows control characters, SI invokes G0 and doesn't show them (DECCRM); both end the null
+-- mapping and the toggled bit. All of this except the invoking is this project's own
 unfoldable pub after_shift : ℕ → Bool → Screen → Screen
 after_shift shift display s =
     with_state s
@@ -94,8 +94,8 @@ with_private_mode on n s =
     else if n == 25 then with_state s (record s.state { visible = on })
     else s
 
--- DECSTBM: the rows t to b, counted from 1, are the region, where they are at least two and on the
--- screen; 0 for b is the last row. Then the cursor goes home
+-- DECSTBM: the rows t to b, counted from 1, are the region if they are at least two and on the screen; 0 for
+-- b is the last row. Then the cursor goes home
 unfoldable pub with_region : ℕ → ℕ → Screen → Screen
 with_region t b s =
     let last = if b == 0 then s.grid.rows else b in
@@ -122,7 +122,7 @@ save s =
       };
     })
 
--- DECRC: as they were saved. The cursor goes there by a move, so in origin mode into the region:
+-- DECRC: the saved state is restored. The cursor goes there by a move, so in origin mode into the region:
 -- this project's own
 unfoldable pub restore : Screen → Screen
 restore s =

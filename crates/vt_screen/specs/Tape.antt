@@ -1,4 +1,4 @@
--- What a screen is made of in all its life: bytes, and changes between them.
+-- The tape of a screen: all bytes written to it, and the changes between them.
 use Rattle.std.specs.Prelude.{◌≡◌, ℕ, false, ◌+◌, ◌-◌, min, ◌++◌, List, [], ◌∷◌, map}
 use Rattle.vt_cells.specs.Colours.{Rgb}
 use Rattle.vt_grid.specs.Grid.{filled_grid, resized_grid}
@@ -7,13 +7,13 @@ use Rattle.vt_screen.specs.Run.{ScreenAndOuts, screen_effects, with_outs, run_fr
 use Rattle.vt_screen.specs.Screen.{Screen, blank_of, with_state}
 use Rattle.vt_units.specs.Run.{Reached, make_reached, step}
 
--- how many rows are lost at the top of a screen that is to have so many: as many as bring the
+-- the number of rows that are lost at the top of a screen that gets so many rows: as many as bring the
 -- cursor's row into it
 abbrev pub lost_rows : ℕ → Screen → ℕ
 lost_rows rows s = s.state.y + 1 - rows
 
--- the screen in another size: the cells that both have stay, but for a character that is cut, new
--- ones are blank, the cursor stays at its cell where that is kept, and the region is whole
+-- the screen in another size: the cells that both have stay, except a character that is cut, new ones are
+-- blank, the cursor stays at its cell if that is kept, and the region is whole
 unfoldable pub resized_to : ℕ → ℕ → Screen → Screen
 resized_to rows cols s = record {
   grid = resized_grid (split_wide_rows cols s.grid) (filled_grid rows cols (blank_of s)) (lost_rows rows s);
@@ -48,7 +48,7 @@ after_change (resize rows cols) s = resized_to rows cols s
 abbrev pub with_change : Change → Reached Screen → Reached Screen
 with_change m at = make_reached (after_change m at.state) at.rest
 
--- what an item of a tape does
+-- the effect of an item of a tape
 abbrev pub after_tape_item : Taped → Reached ScreenAndOuts → Reached ScreenAndOuts
 after_tape_item (byte b) at = step screen_effects b at
 after_tape_item (change m) at = make_reached (record at.state { screen = after_change m at.state.screen }) at.rest

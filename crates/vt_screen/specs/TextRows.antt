@@ -1,4 +1,4 @@
--- What a text of printable characters shows on the start screen: itself, row after row.
+-- The display of a text of printable characters on the start screen: row after row.
 use Rattle.std.specs.List.{flat_map}
 use Rattle.std.specs.Prelude.{◌≡◌, ℕ, ◌+◌, ◌-◌, ◌*◌, ◌<◌, ◌≤◌, ◌==◌, min, true, List, [], ◌++◌, length, map, replicate, All}
 use Rattle.vt_cells.specs.declared.cell.Cell.{Cell}
@@ -22,9 +22,9 @@ abbrev pub state_at : ℕ → ℕ → ℕ → ℕ → ScreenState
 state_at rows cols y columns =
     record (start_state rows) { x = min columns (cols - 1); y = y; wrap = columns == cols }
 
--- the screen shows the text alone: its cells, row after row, are those of the text and then blanks.
--- The cursor is after the text, in row y, of which so many columns are written, and some where there
--- is text at all. The state is else that of the start
+-- the screen shows the text alone: its cells, row after row, are those of the text and then blanks. The
+-- cursor is after the text, in row y, of which so many columns are written, at least one if the text isn't
+-- empty. The rest of the state is that of the start
 pub record ShowsText (rows cols : ℕ) (text : List ℕ) (s : Screen) : Type 0 where
   pub size : (s.grid.rows ≡ rows) × (s.grid.cols ≡ cols)
   pub full : IsFull s.grid
@@ -36,8 +36,8 @@ pub record ShowsText (rows cols : ℕ) (text : List ℕ) (s : Screen) : Type 0 w
   pub some : 0 < length text → 0 < columns
   pub state : s.state ≡ state_at rows cols y columns
 
--- the screen shows the end of the text: whole rows of it are lost at the top, no more than have to
--- be, and what is left is shown alone
+-- the screen shows the end of the text: as few whole rows of it as possible are lost at the top, and the rest
+-- is shown alone
 pub record ShowsEnd (rows cols : ℕ) (text : List ℕ) (s : Screen) : Type 0 where
   pub lost : ℕ
   pub above : List ℕ
@@ -47,15 +47,15 @@ pub record ShowsEnd (rows cols : ℕ) (text : List ℕ) (s : Screen) : Type 0 wh
   pub few : 0 < lost → (rows - 1) * cols < length left
   pub shown : ShowsText rows cols left s
 
--- on the start screen a text of printable characters, no more than the screen has cells, shows
--- itself alone
+-- on the start screen a text of printable characters, at most as many as the screen has cells, shows itself
+-- alone
 abbrev pub TextFillsRows : Type 0
 TextFillsRows =
     (rows cols : ℕ) (text : List ℕ) → 1 ≤ rows → 1 ≤ cols
     → All (λ byte. is_printable byte ≡ true) text → length text ≤ rows * cols
     → ShowsText rows cols text (after (start rows cols) text).state
 
--- a text of any length shows its end; it says nothing, and leaves nothing unfinished
+-- a text of any length shows its end; it has no side effect, and leaves nothing unfinished
 abbrev pub TextScrolls : Type 0
 TextScrolls =
     (rows cols : ℕ) (text : List ℕ) → 1 ≤ rows → 1 ≤ cols

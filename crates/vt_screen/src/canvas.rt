@@ -27,14 +27,14 @@ use vt_cells::{Cell, Palette};
 use vt_grid::Grid;
 use vt_units::{Mode, Unit};
 
-/// A screen, and what each unit does to it.
+/// A screen, and the effect of each unit on it.
 #[derive(Drop)]
 pub(crate) struct Canvas {
     grid: Grid,
     state: ScreenState,
-    // The attribute byte of what the pen prints.
+    // The attribute byte of characters that the pen prints.
     attr: u8,
-    // That of what is erased.
+    // The attribute byte of cells that are erased.
     erase: u8,
 }
 
@@ -74,7 +74,7 @@ impl Canvas {
         &self.grid
     }
 
-    /// The state beside the cells.
+    /// The state, without the cells.
     pub(crate) fn state(&self) -> &ScreenState
         ensures state { result.now ≡ self.now.state }
         ensures whole { IsWhole self.now }
@@ -108,7 +108,7 @@ impl Canvas {
         &mut self.state.palette
     }
 
-    /// Does what the unit does. What it says beside the screen is then last in `outs`.
+    /// Applies the unit. Its side effect, if it has one, is then last in `outs`.
     pub(crate) fn dispatch(&mut self, unit: &Unit, outs: &mut Outs)
         requires room { length outs.old < 64 }
         ensures screen { self.new ≡ (effect unit.now self.old).screen }
@@ -131,7 +131,7 @@ impl Canvas {
         }
     }
 
-    // What an empty place holds.
+    // A blank cell.
     fn blank(&self) -> Cell
         ensures blank { result ≡ blank_of self.now }
         ensures one { is_half result ≡ false }

@@ -7,7 +7,7 @@ pub fn tapes_keep_cursor()
     ensures { TapesKeepCursor }
 {}
 
-/// ESC 8 puts the cursor where it was at ESC 7.
+/// ESC 8 puts the cursor back to its place at ESC 7, unless origin mode or the region changed.
 pub fn restore_puts_back()
     ensures { RestorePutsBack }
 {}

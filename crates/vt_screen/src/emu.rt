@@ -126,7 +126,7 @@ impl Emu {
         self.canvas.resize(fresh)
     }
 
-    // Reads a byte. What it comes to has its effect.
+    // Reads a byte and applies its result.
     #[inline(never)]
     fn take(&mut self, byte: u8, outs: &mut Outs)
         requires room { length outs.old < 64 }
@@ -144,7 +144,7 @@ impl Emu {
         }
     }
 
-    // Does what `take` does, quickly where the byte is a control character by itself.
+    // Does what `take` does, by a faster way for a control character by itself.
     fn take_quickly(&mut self, byte: u8, outs: &mut Outs)
         requires room { length outs.old < 64 }
         ensures step { with_outs outs.new self.new ≡ step screen_effects byte (with_outs outs.old self.old) }
@@ -158,8 +158,7 @@ impl Emu {
         outs.say(Out::bell(self.canvas.control(byte)));
     }
 
-    // Does what stands at the front of the text, as much at once as can be, and tells how many bytes
-    // that is.
+    // Runs the start of the text, as much at once as possible, and returns the number of its bytes.
     #[inline(always)]
     pub(crate) fn take_prefix(&mut self, b: &[u8], outs: &mut Outs) -> usize
         requires some { 0 < length b.now }
@@ -178,8 +177,8 @@ impl Emu {
         self.take_other(b, outs)
     }
 
-    // Does what `take_prefix` does. What the front of the text says is then alone in `outs`, where it
-    // isn't printed.
+    // Does what `take_prefix` does. If the start of the text isn't printed, its side effect is then alone in
+    // `outs`.
     #[inline(always)]
     pub(crate) fn take_next(&mut self, b: &[u8], outs: &mut Outs) -> usize
         requires some { 0 < length b.now }
@@ -195,7 +194,7 @@ impl Emu {
         self.take_other(b, outs)
     }
 
-    // Does what stands at the front of the text, where it isn't printed at once.
+    // Runs the start of the text, if it isn't printed at once.
     #[inline(always)]
     fn take_other(&mut self, b: &[u8], outs: &mut Outs) -> usize
         requires some { 0 < length b.now }
@@ -215,7 +214,7 @@ impl Emu {
         1
     }
 
-    // Does a sequence or line feeds at the front of the text, and tells how many bytes they are.
+    // Runs a sequence or line feeds at the start of the text, and returns the number of their bytes.
     #[inline(always)]
     fn take_run(&mut self, b: &[u8], outs: &mut Outs) -> usize
         requires some { 0 < length b.now }
@@ -233,8 +232,7 @@ impl Emu {
         }
     }
 
-    // Does the line feeds at the front of the text at once, where they scroll, and tells how many they
-    // are.
+    // Runs the line feeds at the start of the text at once, if they scroll, and returns their number.
     #[inline(never)]
     fn scroll_linefeeds(&mut self, b: &[u8]) -> usize
         ensures within { result ≤ length b.now }
@@ -253,7 +251,7 @@ impl Emu {
         count
     }
 
-    // Prints characters at the front of the text, and tells how many bytes they are.
+    // Prints characters at the start of the text, and returns the number of their bytes.
     #[inline(always)]
     fn print_prefix(&mut self, b: &[u8]) -> usize
         requires { 0 < length b.now }
@@ -270,7 +268,7 @@ impl Emu {
         }
     }
 
-    // Prints whole characters at the front of the text, and tells how many bytes they are.
+    // Prints whole characters at the start of the text, and returns the number of their bytes.
     #[inline(never)]
     fn print_characters(&mut self, b: &[u8]) -> usize
         ensures within { result ≤ length b.now }
@@ -288,8 +286,8 @@ impl Emu {
         count
     }
 
-    // Prints the printable bytes at the front of the text that end in the cursor's row, or one, and
-    // tells how many they are.
+    // Prints the printable bytes at the start of the text that end in the cursor's row, or one byte, and
+    // returns their number.
     #[inline(always)]
     fn print_run(&mut self, b: &[u8]) -> usize
         ensures within { result ≤ length b.now }
@@ -308,7 +306,7 @@ impl Emu {
         count
     }
 
-    // Prints the first byte, where it is printable.
+    // Prints the first byte, if it is printable.
     #[inline(never)]
     fn print_one(&mut self, b: &[u8]) -> usize
         ensures within { result ≤ length b.now }

@@ -47,7 +47,7 @@ pub fn halves_follow_wide()
     texts_spell_characters();
 }
 
-/// A text asks for another console at most once in four bytes; three of them may have come before it.
+/// A text requests another console at most once in four bytes; three of them may have come before it.
 pub fn requests_are_few()
     ensures { RequestsAreFew }
 {}

@@ -56,7 +56,7 @@ impl Outs {
         }
     }
 
-    // Takes out what was said first, if anything was.
+    // Removes the first side effect, if there is one.
     #[inline(always)]
     pub(crate) fn pop_first(&mut self) -> Option<Out>
         ensures some { IfSome result (λ out. self.old ≡ out ∷ self.new) }

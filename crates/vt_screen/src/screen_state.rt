@@ -25,7 +25,7 @@ pub struct ScreenState {
     pub g0: u8,
     /// The table that is G1.
     pub g1: u8,
-    /// Which of the two is in use, 0 or 1.
+    /// The table in use: 0 for G0, 1 for G1.
     pub shift: u8,
     /// Whether text is UTF-8.
     pub utf8: bool,
@@ -40,7 +40,7 @@ pub struct ScreenState {
     pub reverse: bool,
     /// DECOM: rows are counted from the region's first one.
     pub origin: bool,
-    /// DECAWM: what passes the last column goes to the next row.
+    /// DECAWM: a character past the last column goes to the next row.
     pub autowrap: bool,
     /// DECARM: a key that is held repeats.
     pub repeat: bool,

@@ -20,8 +20,7 @@ impl Emu {
         }
     }
 
-    // Does what stands at the front of the text, and tells the listener what it says and the caller how
-    // many bytes it is.
+    // Runs the start of the text, gives the listener its side effect, and returns the number of its bytes.
     #[inline(always)]
     fn take_told<L: Listener>(&mut self, b: &[u8], outs: &mut Outs, listener: &mut L) -> usize
         requires some { 0 < length b.now }
@@ -38,7 +37,7 @@ impl Emu {
     }
 }
 
-// Tells the listener what stands in the list, in order, and empties it.
+// Gives the listener the side effects of the list, in order, and empties the list.
 #[inline(always)]
 fn tell<L: Listener>(outs: &mut Outs, listener: &mut L)
     ensures empty { outs.new ≡ [] }

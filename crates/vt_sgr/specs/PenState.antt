@@ -1,4 +1,4 @@
--- What is said of a pen.
+-- The state of a pen.
 use Rattle.std.specs.Prelude.{ℕ, Bool, false}
 use Rattle.vt_cells.specs.Rendition.{Rendition, Tints}
 use Rattle.vt_cells.specs.declared.intensity.Intensity.{Intensity}
@@ -15,11 +15,11 @@ pub record PenState : Type 0 where
   pub display : Bool
   pub toggle : Bool
 
--- other attributes
+-- the pen with other attributes
 abbrev pub with_attributes : PenState → Rendition → PenState
 with_attributes p a = record p { attr = a }
 
--- the default colours, and nothing on
+-- the pen with the default colours, and with nothing on
 abbrev pub plain : PenState → PenState
 plain p =
     with_attributes p
@@ -33,38 +33,38 @@ plain p =
       reverse = false;
     })
 
--- another colour of the character
+-- the pen with another colour of the character
 abbrev pub with_fg : PenState → ℕ → PenState
 with_fg p fg = with_attributes p (record p.attr { fg = fg })
 
--- another colour of the ground
+-- the pen with another background colour
 abbrev pub with_bg : PenState → ℕ → PenState
 with_bg p bg = with_attributes p (record p.attr { bg = bg })
 
--- another colour of the character, and another intensity
+-- the pen with another colour of the character, and another intensity
 abbrev pub with_bright : PenState → ℕ → Intensity → PenState
 with_bright p fg intensity = with_attributes p (record p.attr { fg = fg; intensity = intensity })
 
--- another intensity
+-- the pen with another intensity
 abbrev pub with_intensity : PenState → Intensity → PenState
 with_intensity p intensity = with_attributes p (record p.attr { intensity = intensity })
 
--- italic on or off
+-- the pen with italic on or off
 abbrev pub with_italic : PenState → Bool → PenState
 with_italic p on = with_attributes p (record p.attr { italic = on })
 
--- underline on or off
+-- the pen with underline on or off
 abbrev pub with_underline : PenState → Bool → PenState
 with_underline p on = with_attributes p (record p.attr { underline = on })
 
--- blink on or off
+-- the pen with blink on or off
 abbrev pub with_blink : PenState → Bool → PenState
 with_blink p on = with_attributes p (record p.attr { blink = on })
 
--- reverse video on or off
+-- the pen with reverse video on or off
 abbrev pub with_reverse : PenState → Bool → PenState
 with_reverse p on = with_attributes p (record p.attr { reverse = on })
 
--- other flags of the mapping
+-- the pen with other flags of the mapping
 abbrev pub with_mapping : PenState → Bool → Bool → Bool → PenState
 with_mapping p alt display toggle = record p { alt = alt; display = display; toggle = toggle }

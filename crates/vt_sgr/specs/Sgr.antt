@@ -27,7 +27,7 @@ colour_of rest =
     else if is_direct rest then Some (part rest 1, part rest 2, part rest 3)
     else None
 
--- how many parameters that colour takes; one that isn't whole takes all that are left
+-- the number of parameters that the colour takes; an incomplete one takes all that are left
 abbrev pub colour_len : List ℕ → ℕ
 colour_len rest =
     if is_indexed rest then 2
@@ -41,7 +41,7 @@ with_fg_colour p (Some (r, g, b)) =
     let folded = fold_fg r g b in
     with_bright p folded.0 (if folded.1 then Bold else Normal)
 
--- the ground takes the hue of the colour
+-- the background takes the hue of the colour
 abbrev pub with_bg_colour : PenState → Option Rgb → PenState
 with_bg_colour p None = p
 with_bg_colour p (Some (r, g, b)) = with_bg p (fold_bg r g b)
@@ -50,7 +50,7 @@ with_bg_colour p (Some (r, g, b)) = with_bg p (fold_bg r g b)
 abbrev pub foreground_of : ℕ → ℕ × Bool
 foreground_of i = let rgb = rgb_of i in fold_fg rgb.0 rgb.1 rgb.2
 
--- the colour of a ground by an index. No public clause names this
+-- the background colour of an index. No public clause names this
 abbrev pub background_of : ℕ → ℕ
 background_of i = let rgb = rgb_of i in fold_bg rgb.0 rgb.1 rgb.2
 
@@ -58,7 +58,7 @@ background_of i = let rgb = rgb_of i in fold_bg rgb.0 rgb.1 rgb.2
 abbrev pub is_of : ℕ → ℕ → Bool
 is_of low n = nat_le low n && nat_le n (low + 7)
 
--- the pen after the parameter n, which the rest follows
+-- the pen after the parameter n, given the parameters that follow it
 abbrev pub with_form : ℕ → List ℕ → PenState → PenState
 with_form n rest p =
     if n == 0 then plain p  -- reset all attributes
@@ -87,17 +87,17 @@ with_form n rest p =
     else if is_of 100 n then with_bg p (n - 100)  -- background, bright not supported
     else p
 
--- how many of the rest the parameter n takes along
+-- the number of the following parameters that the parameter n takes
 abbrev pub taken_by : ℕ → List ℕ → ℕ
 taken_by n rest = if n == 38 || n == 48 then colour_len rest else 0
 
--- the pen after the parameters, of which the first `taken` belong to what stands before them
+-- the pen after the parameters, of which the first `taken` belong to the parameter before them
 abbrev pub sgr_skipping : ℕ → List ℕ → PenState → PenState
 sgr_skipping taken [] p = p
 sgr_skipping (suc taken) (n ∷ rest) p = sgr_skipping taken rest p
 sgr_skipping zero (n ∷ rest) p = sgr_skipping (taken_by n rest) rest (with_form n rest p)
 
--- the pen after all parameters; no parameter is 0
+-- the pen after all parameters; a list without a parameter counts as 0
 abbrev pub sgr : List ℕ → PenState → PenState
 sgr [] p = with_form 0 [] p
 sgr (n ∷ rest) p = sgr_skipping 0 (n ∷ rest) p

@@ -70,7 +70,7 @@ fn apply_five_listed(p: &mut Pen, first: u16, second: u16, third: u16, fourth: u
     apply_all(p, &[first, second, third, fourth, fifth]);
 }
 
-// Out of line: a list for other numbers would take room on the stack for colours too.
+// Not inlined: a list for other numbers would take room on the stack for colours too.
 #[inline(never)]
 fn apply_listed(p: &mut Pen, first: u16, second: u16, third: u16)
     ensures { p.new ≡ sgr (first ∷ second ∷ third ∷ []) p.old }
@@ -78,7 +78,7 @@ fn apply_listed(p: &mut Pen, first: u16, second: u16, third: u16)
     apply_all(p, &[first, second, third]);
 }
 
-// A character takes the hue and intensity of the colour of an index, if there is one.
+// Gives characters the hue and intensity of the colour of an index, if there is one.
 fn set_fg_index(p: &mut Pen, index: u16)
     ensures { p.new ≡ with_fg_colour p.old (colour_of_index index) }
 {
@@ -88,7 +88,7 @@ fn set_fg_index(p: &mut Pen, index: u16)
     }
 }
 
-// A character takes this hue, and is bold or normal.
+// Gives characters this hue, bold or normal.
 fn set_foreground(p: &mut Pen, fg: u8, bold: bool)
     requires { fg < 16 }
     ensures { p.new ≡ with_bright p.old fg (if bold then Bold else Normal) }
@@ -133,7 +133,7 @@ fn apply_all(p: &mut Pen, params: &[u16])
     }
 }
 
-// Changes the pen by one parameter, which the rest follows.
+// Changes the pen by one parameter, given those that follow it.
 #[inline(always)]
 fn set_form(p: &mut Pen, n: u16, rest: &[u16])
     ensures { p.new ≡ with_form n rest.now p.old }
@@ -166,7 +166,7 @@ fn set_form(p: &mut Pen, n: u16, rest: &[u16])
     }
 }
 
-// How many of the rest the parameter takes along.
+// The number of the following parameters that the parameter takes.
 fn taken_by(n: u16, rest: &[u16]) -> usize
     ensures count { result ≡ taken_by n rest.now }
     ensures within { result ≤ length rest.now }
@@ -177,7 +177,7 @@ fn taken_by(n: u16, rest: &[u16]) -> usize
     }
 }
 
-// The parameters after a 38 give the colour of characters.
+// Sets the colour of characters by the parameters after a 38.
 #[inline(never)]
 fn set_fg_by(p: &mut Pen, rest: &[u16])
     ensures { p.new ≡ with_fg_colour p.old (colour_of rest.now) }
@@ -185,7 +185,7 @@ fn set_fg_by(p: &mut Pen, rest: &[u16])
     set_fg_colour(p, colour_of(rest));
 }
 
-// The parameters after a 48 give the colour of the ground.
+// Sets the background colour by the parameters after a 48.
 #[inline(never)]
 fn set_bg_by(p: &mut Pen, rest: &[u16])
     ensures { p.new ≡ with_bg_colour p.old (colour_of rest.now) }
@@ -193,7 +193,7 @@ fn set_bg_by(p: &mut Pen, rest: &[u16])
     set_bg_colour(p, colour_of(rest));
 }
 
-// A character takes the hue and intensity of the colour, if there is one.
+// Gives characters the hue and intensity of the colour, if there is one.
 fn set_fg_colour(p: &mut Pen, rgb: Option<(u8, u8, u8)>)
     ensures { p.new ≡ with_fg_colour p.old rgb }
 {

@@ -15,7 +15,7 @@ pub(crate) fn colour_of(rest: &[u16]) -> Option<(u8, u8, u8)>
     }
 }
 
-/// How many parameters that colour takes. One that isn't whole takes all that are left: it ends the
+/// The number of parameters that the colour takes. An incomplete one takes all that are left: it ends the
 /// SGR. This project's own.
 pub(crate) fn colour_len(rest: &[u16]) -> usize
     ensures count { result ≡ colour_len rest.now }

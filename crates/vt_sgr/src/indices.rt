@@ -2,7 +2,7 @@
 ghost use Rattle.std.specs.Prelude.{◌≡◌, ◌<◌};
 ghost use Rattle.vt_sgr.specs.Sgr.{background_of, foreground_of};
 
-// Of each index the colour of a character, and 8 more where it is bold.
+// For each index the colour of a character, plus 8 if it is bold.
 #[rattlefmt::skip]
 static FOREGROUNDS: [u8; 256] = [
     0, 1, 2, 3, 4, 5, 6, 7, 8, 9, 10, 11, 12, 13, 14, 15, // 00
@@ -23,7 +23,7 @@ static FOREGROUNDS: [u8; 256] = [
     7, 7, 7, 7, 7, 7, 7, 7, 7, 15, 15, 15, 15, 15, 15, 15, // F0
 ];
 
-// Of each index the colour of a ground.
+// For each index the background colour.
 #[rattlefmt::skip]
 static BACKGROUNDS: [u8; 256] = [
     0, 1, 2, 3, 4, 5, 6, 7, 0, 1, 2, 3, 4, 5, 6, 7, // 00
@@ -54,7 +54,7 @@ pub(crate) fn foreground_of(index: u8) -> (u8, bool)
     (ink % 8, ink >= 8)
 }
 
-/// The colour of a ground.
+/// The background colour.
 #[inline(always)]
 pub(crate) fn background_of(index: u8) -> u8
     ensures folded { result ≡ background_of index }

@@ -1,4 +1,4 @@
--- Why a hop was made, and what a request leaves.
+-- The reason of a hop, and the display after a request.
 use Rattle.std.proofs.Common.{◌≡◌, ℕ, ◌+◌, ◌≤◌, Bool, true, false, cond, List, [], ◌∷◌, ◌++◌, Option, Some, None, refl, sym, ap, subst, ◌∙◌, inl, inr, arith}
 use Rattle.std.specs.Prelude.{◌==◌, ◌||◌, not, IfSome, option_to_list}
 use Rattle.vt_switch.proofs.Lookups.{nothing, same_number}

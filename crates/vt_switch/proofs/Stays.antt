@@ -1,5 +1,5 @@
--- What an act leaves that asks for nothing, where a console waits after it: the console in front, its
--- owner, and what waits.
+-- The state after an act that requests nothing, if a console waits after it: the console in front, its owner,
+-- and the console that waits are unchanged.
 use Rattle.std.proofs.Common.{◌≡◌, ℕ, Bool, true, false, cond, List, get_or, Option, Some, None, Result, Ok, Err, refl, sym, ap, subst, ◌∙◌}
 use Rattle.std.proofs.Math.ListN.{get_or-map}
 use Rattle.std.proofs.lemmas.List.{get_or-set_other}

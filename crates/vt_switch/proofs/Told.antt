@@ -1,4 +1,4 @@
--- What the trace of an act tells: one thing at most.
+-- The news of an act's trace: one at most.
 use Rattle.std.proofs.Common.{◌≡◌, ◌≤◌, ℕ, Bool, true, false, cond, List, [], ◌∷◌, ◌++◌, length, Option, Some, None, refl, sym, ap, subst, ◌∙◌, lit≤}
 use Rattle.vt_switch.proofs.Lookups.{differ}
 use Rattle.vt_switch.specs.Acts.{SwitchAct, Allocate, Request, Release, SetMode, SetKd, Lock, Free, End, hop_of, hop_of_asked}

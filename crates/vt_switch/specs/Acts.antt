@@ -1,5 +1,5 @@
--- The acts of the switch: every change of the display, of what is pending and of who handles the
--- switches of a console is a list of these.
+-- The acts of the switch: every change of the display, of the pending request and of the handlers of switches
+-- is a list of these.
 use Rattle.std.specs.Prelude.{◌≡◌, ℕ, Bool, Option, Some, None, Result, Ok, Err}
 use Rattle.vt_base.specs.declared.vt_mode.VtMode.{VtMode}
 use Rattle.vt_base.specs.declared.inval.Inval.{Inval}
@@ -20,7 +20,7 @@ pub data SwitchAct : Type 0 where
   Free : ℕ → SwitchAct
   End : ℕ → SwitchAct
 
--- what an act leaves; one that is refused leaves all as it was
+-- the display after an act; a refused act changes nothing
 abbrev pub after : Display → SwitchAct → Display
 after d (Allocate n) = allocate d n
 after d (Request n) = request d n

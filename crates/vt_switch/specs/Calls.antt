@@ -1,4 +1,4 @@
--- What each call of the switch answers, and what it leaves (ioctl_console(2)). The rules of the
+-- The answer of each call of the switch, and the display after it (ioctl_console(2)). The rules of the
 -- handshake are this project's own.
 use Rattle.std.specs.Prelude.{◌≡◌, ⊤, ℕ, Bool, true, false, not, ◌==◌, ◌||◌, Option, Some, None, Result, Ok, Err, slice_set, is_some, if◌then◌else◌}
 use Rattle.vt_base.specs.ConsoleSet.{at_each}
@@ -42,9 +42,9 @@ abbrev pub asked_of : Display → ℕ → Bool → Handling → Asked
 asked_of d n graphics (Process handshake) = Signalled handshake.owner handshake.relsig
 asked_of d n graphics (Auto words) = if graphics then Ignored else Hopped (hop_from d n Free)
 
--- request: nothing where the console isn't allocated or is in front, switching is locked, or the
--- front handles its switches itself and shows graphics. Where the front handles them itself, the
--- display switches; where a process does, it is asked by its release signal
+-- request: ignored if the console isn't allocated or is in front, if switching is locked, or if the front
+-- handles its switches itself and shows graphics. If the front handles them itself, the display switches;
+-- if a process does, it is asked by its release signal
 abbrev pub request_outcome : Display → ℕ → Asked
 request_outcome d n =
     if not (is_allocated d n) || n == d.front || d.locked then Ignored
@@ -55,21 +55,21 @@ after_asked d n (Hopped hop) = with_hop d hop
 after_asked d n (Signalled owner signal) = record d { pending = Some n }
 after_asked d n Ignored = d
 
--- what a request leaves: one that waits takes the place of an earlier one
+-- the display after a request; a request that waits replaces an earlier one
 abbrev pub request : Display → ℕ → Display
 request d n = after_asked d n (request_outcome d n)
 
--- where a request isn't ignored, the console that it asks for is allocated
+-- if a request isn't ignored, the console that it names is allocated
 abbrev pub HasTarget : Display → ℕ → Asked → Type 0
 HasTarget d n (Hopped hop) = is_allocated d hop.to ≡ true
 HasTarget d n (Signalled owner signal) = MayWait d n
 HasTarget d n Ignored = ⊤
 
--- what waits for the display, where console c has it
+-- the console that waits for the display, if console c has the display
 abbrev pub pending_at : Display → ℕ → Option ℕ
 pending_at d c = if c == d.front then d.pending else None
 
--- the number is there, and is n
+-- there is a number, and it is n
 abbrev pub names : ℕ → Option ℕ → Bool
 names n None = false
 names n (Some number) = number == n
@@ -86,8 +86,8 @@ abbrev pub drop_pending : Option ℕ → Result (Option Hop) Inval
 drop_pending None = Err inval
 drop_pending (Some n) = Ok None
 
--- release of console c by p, which has to be the owner: 1 lets the pending switch away from c go
--- on, 0 drops it, and 2 acknowledges that c got the display
+-- release of console c by p, which has to be the owner: 1 lets the pending switch away from c happen, 0 drops
+-- it, and 2 acknowledges that c got the display
 abbrev pub release_result : Display → ℕ → ℕ → ℕ → Result (Option Hop) Inval
 release_result d c p arg =
     if not (owns d p c) then Err inval
@@ -101,11 +101,11 @@ after_released d arg (Ok (Some hop)) = with_hop d hop
 after_released d arg (Ok None) = if arg == 0 then record d { pending = None } else d
 after_released d arg (Err refused) = d
 
--- what a release leaves
+-- the display after a release
 abbrev pub release : Display → ℕ → ℕ → ℕ → Display
 release d c p arg = after_released d arg (release_result d c p arg)
 
--- a signal of a handshake, which is any but 9
+-- a signal of a handshake: any except 9
 abbrev pub signal_of : ℕ → Option ℕ
 signal_of n = if n == 9 then None else in_range 1 64 n
 
@@ -134,7 +134,7 @@ handling_of p m =
     else if m.mode == 1 then process_of p m (signal_of m.relsig) (signal_of m.acqsig)
     else None
 
--- it takes the place of the console's handling; a switch away from c that was pending is dropped
+-- the handling replaces that of the console; a pending switch away from c is dropped
 abbrev pub with_console_handling : Display → ℕ → Handling → Display
 with_console_handling d c handling = with_console d c (λ console. record console { handling = handling })
 
@@ -143,7 +143,7 @@ after_mode d c None = d
 after_mode d c (Some handling) =
     if c == d.front then record (with_console_handling d c handling) { pending = None } else with_console_handling d c handling
 
--- what a set mode leaves
+-- the display after a set mode
 abbrev pub set_mode : Display → ℕ → ℕ → VtMode → Display
 set_mode d c p m = after_mode d c (handling_of p m)
 

@@ -4,8 +4,8 @@ use Rattle.vt_switch.specs.declared.console.Console.{Console}
 use Rattle.vt_switch.specs.declared.handling.Handling.{Handling}
 use Rattle.vt_switch.specs.declared.handling.Handling.TheVariants.{Auto, Process}
 
--- the console in front and the one that was before it; whether switching is locked; the console
--- that waits for the display; and each console by its number, None where it isn't allocated
+-- the console in front and the previous one; whether switching is locked; the console that waits for the
+-- display; and each console by its number, None if it isn't allocated
 pub record Display : Type 0 where
   pub front : ℕ
   pub last : ℕ
@@ -22,7 +22,7 @@ display_of front last locked pending consoles = record {
   consoles = consoles;
 }
 
--- what a new console has: text, and nobody who handles its switches
+-- a new console: text, and no process handles its switches
 abbrev pub fresh : Console
 fresh = record {
   graphics = false;

@@ -31,7 +31,7 @@ pub record Raises (i a p n : ℕ) (m : Moment) : Type 0 where
   pub raised : trace m ≡ mark.Asked n ∷ mark.Raised p signal ∷ []
   pub target : (core_left_by m).display.pending ≡ Some n
 
--- no accepted set mode of a, no accepted refusal of a, no hop and nobody asked, and n still waits
+-- no accepted set mode of a, no accepted refusal of a, no hop and no new request, and n still waits
 pub record Quiet (a n : ℕ) (m : Moment) : Type 0 where
   pub no_mode : sets_mode a m.before m.act ≡ false
   pub no_refusal : refuses a m.before m.act ≡ false
@@ -44,9 +44,9 @@ pub record Handed (earlier : List Moment) (m : Moment) (a p n : ℕ) : Type 0 wh
   pub waits : m.before.display.pending ≡ Some n
   pub asked : Since (Quiet a n) (Raises m.entry a p n) earlier
 
--- what the display was and what was done, where an act moves it: the console in front handled its
--- switches itself and showed text, and switching wasn't locked; or its owner let the display go to
--- what waited; or its owner ended
+-- the display before an act that moves it, and the act: the console in front handled its switches itself
+-- and showed text, and switching wasn't locked; or its owner let the display go to the console that waited;
+-- or its owner ended
 pub record IsLetGo (d : Display) (a p n : ℕ) : Type 0 where
   pub owner : owner_of (console d a).handling ≡ Some p
   pub waits : d.pending ≡ Some n
@@ -90,7 +90,7 @@ abbrev pub IsLawful : List Moment → Type 0
 IsLawful [] = ⊤
 IsLawful (m ∷ earlier) = EachAllowed earlier m (hops (trace m)) × IsLawful earlier
 
--- whoever handles the switches of a console lives
+-- each process that handles the switches of a console is alive
 abbrev pub OwnersLive : Core → Type 0
 OwnersLive k =
     (c p : ℕ) → owner_of (console k.display c).handling ≡ Some p → is_live k p ≡ true
@@ -113,11 +113,11 @@ pub record WasAskedFor (i : ℕ) (k : Core) (earlier : List Moment) (n : ℕ) : 
   pub owned : owner_of (console k.display k.display.front).handling ≡ Some owner
   pub asked : Since (Quiet k.display.front n) (Raises i k.display.front owner n) earlier
 
--- what waits for the display was asked for
+-- the console that waits for the display was asked for
 abbrev pub IsExplained : ℕ → Core → List Moment → Type 0
 IsExplained i k earlier = (n : ℕ) → k.display.pending ≡ Some n → WasAskedFor i k earlier n
 
--- from a core where nothing waits and every owner lives, what waits after a history was asked for
+-- from a core where nothing waits and every owner lives, the console that waits after a history was asked for
 -- in it
 abbrev pub TargetLaw : Type 0
 TargetLaw =

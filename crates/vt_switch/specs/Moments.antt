@@ -1,5 +1,4 @@
--- Histories of the display: what was done, act by act, and what each act tells. The rules are this
--- project's own.
+-- Histories of the display: the acts in order, and the marks of each act. The rules are this project's own.
 use Rattle.std.specs.Prelude.{ℕ, ◌+◌, ◌==◌, ◌&&◌, ◌||◌, ◌++◌, Bool, true, false, not, List, [], ◌∷◌, Option, Some, None, Result, Ok, Err, is_some, slice_index_or, slice_set, if◌then◌else◌}
 use Rattle.vt_base.specs.declared.inval.Inval.{Inval}
 use Rattle.vt_switch.specs.Acts.{SwitchAct, Allocate, Request, Release, SetMode, SetKd, Lock, Free, End, after, hop_of}
@@ -21,7 +20,7 @@ pub record Core : Type 0 where
 abbrev pub is_live : Core → ℕ → Bool
 is_live k p = slice_index_or k.live p false
 
--- what an act leaves: the dead set no modes, and an end is the end of a life
+-- the core after an act: a dead process sets no mode, and an end is the end of a life
 abbrev pub core_after : Core → SwitchAct → Core
 core_after k (Allocate n) = record k { display = after k.display (Allocate n) }
 core_after k (Request n) = record k { display = after k.display (Request n) }
@@ -47,8 +46,8 @@ abbrev pub raise_acquire : Core → Handling → List Mark
 raise_acquire k (Auto words) = []
 raise_acquire k (Process handshake) = raise k handshake.owner handshake.acqsig
 
--- what an act tells of itself: a request of an allocated console, with the release signal that it
--- raises; and the end of a caller
+-- the marks of an act itself: a request of an allocated console, with the release signal that it raises; and
+-- the end of a caller
 abbrev pub own_marks : Core → SwitchAct → List Mark
 own_marks k (Allocate n) = []
 own_marks k (Request n) =
@@ -60,7 +59,7 @@ own_marks k (Lock on) = []
 own_marks k (Free n) = []
 own_marks k (End p) = mark.Ended p ∷ []
 
--- what a hop tells: itself, and the acquire signal to the process that handles the new front
+-- the marks of a hop: the hop, and the acquire signal to the process that handles the new front
 abbrev pub hop_marks : Core → Option Hop → List Mark
 hop_marks k None = []
 hop_marks k (Some hop) =
@@ -122,7 +121,7 @@ is_request (Lock on) = false
 is_request (Free n) = false
 is_request (End p) = false
 
--- what can end a wait for the display
+-- the act can end a wait for the display
 abbrev pub settles : SwitchAct → Bool
 settles (Allocate n) = false
 settles (Request n) = false

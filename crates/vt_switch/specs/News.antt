@@ -1,4 +1,5 @@
--- What a trace tells of the display: who is asked to let it go, and where it goes. This project's own.
+-- The news of a trace about the display: the requests to processes to let it go, and its hops. This project's
+-- own.
 use Rattle.std.specs.Prelude.{◌≡◌, ◌≤◌, ℕ, List, [], ◌∷◌, ◌++◌, length, option_to_list}
 use Rattle.vt_switch.specs.Acts.{SwitchAct, hop_of}
 use Rattle.vt_switch.specs.Moments.{Core, core_after, hops, marks}
@@ -16,7 +17,7 @@ pub data News : Type 0 where
   Asking : Ask → News
   Going : Hop → News
 
--- all that a trace tells, in order; the raise of who is asked stands right after its request
+-- the news of a trace, in order; the raise of the signal to the asked process stands right after its request
 abbrev pub news : List Mark → List News
 news [] = []
 news (mark.Asked n ∷ mark.Raised p signal ∷ told) =
@@ -24,16 +25,16 @@ news (mark.Asked n ∷ mark.Raised p signal ∷ told) =
 news (mark.Hopped hop ∷ told) = Going hop ∷ news told
 news (m ∷ told) = news told
 
--- what acts tell, one after another
+-- the news of acts, one after another
 abbrev pub news_of : Core → List SwitchAct → List News
 news_of k [] = []
 news_of k (act ∷ acts) = news (marks k act) ++ news_of (core_after k act) acts
 
--- the hops of an act's trace are the one that it makes
+-- the hops of an act's trace are exactly the hop that the act makes
 abbrev pub OneHopIsTold : Type 0
 OneHopIsTold =
     (k : Core) (act : SwitchAct) → hops (marks k act) ≡ option_to_list (hop_of k.display act)
 
--- an act asks somebody, or moves the display, once at most
+-- an act asks a process, or moves the display, at most once
 abbrev pub OneNewsIsTold : Type 0
 OneNewsIsTold = (k : Core) (act : SwitchAct) → length (news (marks k act)) ≤ 1

@@ -8,6 +8,6 @@ pub enum Asked {
     Hopped(Hop),
     /// The owner of the console in front is asked by a signal, and the console waits for the display.
     Signalled { owner: CallerNo, signal: Signal },
-    /// Nothing.
+    /// The request has no effect.
     Ignored,
 }

@@ -1,6 +1,6 @@
 use crate::Handling;
 
-/// What the switch keeps of an allocated console.
+/// The state of an allocated console in the switch.
 #[derive(Clone, Copy, Debug)]
 pub struct Console {
     /// KD_GRAPHICS: the display shows graphics and no text.

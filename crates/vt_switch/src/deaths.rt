@@ -1,4 +1,4 @@
-//! What the death of a process does to the display.
+//! The effect of the death of a process on the display.
 ghost use Rattle.std.specs.Prelude.{◌≡◌, true, None, option_map, map, if◌then◌else◌};
 ghost use Rattle.vt_switch.specs.Calls.{names, owns};
 ghost use Rattle.vt_switch.specs.Display.{owner_of};
@@ -32,7 +32,7 @@ impl Switch {
         hop
     }
 
-    // The display goes to what waits for it, if anything does, where `p` handled the switches of the
+    // The display goes to the console that waits for it, if there is one and `p` handled the switches of the
     // front.
     fn fall(&mut self, front: bool, p: CallerNo) -> Option<Hop>
         ensures answer { result ≡ (if front then falls_to self.old p self.old.pending else None) }
@@ -49,7 +49,7 @@ impl Switch {
     }
 }
 
-// Each console whose switches `p` handled is as a new one.
+// Gives each console whose switches `p` handled the KD mode and the handling of a new one.
 fn give_back(consoles: &mut [Option<Console>; CONSOLE_PLACES], p: CallerNo)
     ensures { consoles.new ≡ map (option_map (left_by p)) consoles.old }
 {

@@ -1,4 +1,4 @@
-//! Who is to handle the switches of a console.
+//! The choice of the handler of a console's switches.
 ghost use Rattle.std.specs.Prelude.{◌≡◌, Some};
 ghost use Rattle.vt_switch.specs.Calls.{after_mode, with_console_handling, handling_of, mode_answer, process_of, set_mode, signal_of};
 

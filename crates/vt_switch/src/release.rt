@@ -1,4 +1,4 @@
-//! What the process answers that handles the switches of a console.
+//! The answers of the process that handles the switches of a console.
 ghost use Rattle.std.specs.Prelude.{◌≡◌, true, IfSome};
 ghost use Rattle.vt_switch.specs.Display.{is_allocated};
 ghost use Rattle.vt_switch.specs.Calls.{after_released, drop_pending, let_go, owns, release, release_result, pending_at};

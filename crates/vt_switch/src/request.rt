@@ -1,4 +1,4 @@
-//! Requests for the display, and what makes it change hands.
+//! Requests for the display, and its hops.
 ghost use Rattle.std.specs.Prelude.{◌≡◌, true};
 ghost use Rattle.vt_switch.specs.Display.{is_allocated};
 ghost use Rattle.vt_switch.specs.Calls.{HasTarget, request_outcome, hop_from, with_hop, request};

@@ -1,4 +1,4 @@
-//! What is set of the display and of a console, and read again.
+//! The settings of the display and of a console.
 ghost use Rattle.std.specs.Prelude.{◌≡◌, false};
 ghost use Rattle.vt_switch.specs.Calls.{without_console, is_held, with_kd, with_lock, words_of};
 ghost use Rattle.vt_switch.specs.Display.{console, owner_of};
@@ -70,7 +70,7 @@ impl Switch {
         }
     }
 
-    /// A console that nobody needs is allocated no longer.
+    /// Frees the console, unless it is in front, waits for the display, or a process handles its switches.
     pub fn free(&mut self, c: ConsoleNo)
         requires { is_held self.old c ≡ false }
         ensures { self.new ≡ without_console self.old c }

@@ -10,7 +10,7 @@ use vt_base::{CONSOLES, ConsoleNo, is_among};
 /// The places for consoles by their numbers, of which 0 stays free.
 pub(crate) const CONSOLE_PLACES: usize = CONSOLES + 1;
 
-/// What a new console has.
+/// The state of a new console.
 pub(crate) const FRESH: Console = Console {
     graphics: false,
     handling: Handling::Auto(Words {
@@ -70,7 +70,7 @@ impl Switch {
         self.front
     }
 
-    /// The console that was in front before.
+    /// The console that was in front before the last hop.
     pub fn last(&self) -> ConsoleNo
         ensures { result ≡ self.now.last }
     {
@@ -98,7 +98,7 @@ impl Switch {
         self.consoles[usize::from(c.get())].is_some()
     }
 
-    /// A console that isn't allocated becomes a new one.
+    /// Allocates the console as a new one, if it isn't allocated.
     pub fn allocate(&mut self, c: ConsoleNo)
         ensures { self.new ≡ allocate self.old c }
     {

@@ -1,4 +1,4 @@
--- Characters of two or three bytes, whatever tails follow the first one.
+-- Characters of two or three bytes, whatever continuation bytes follow the first one.
 use Rattle.std.proofs.Common.{◌≡◌, ℕ, Bool, true, false, not, ◌++◌, replicate, slice_index_or, ◌==◌, ◌&&◌, ◌<◌, ◌≤◌, zero, suc, List, [], ◌∷◌, length, take, get_or, refl, sym, ap, ◌∙◌, subst, ◌⊎◌, inl, inr, ⊎_elim, arith}
 use Rattle.std.proofs.lemmas.Bool.{agree_below_at, and_parts, cases_lt, cond-false, false≢true}
 use Rattle.std.proofs.lemmas.Bool.Decides.{nat_tests}

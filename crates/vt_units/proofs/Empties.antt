@@ -1,4 +1,4 @@
--- Where no text is pending, what stands there is known, and stands in every mode.
+-- If no text is pending, the pending bytes are known, and are right in every mode.
 use Rattle.std.proofs.Common.{◌≡◌, ◌⊎◌, ◌+◌, ◌<◌, ℕ, true, List, [], ◌∷◌, ◌++◌, length, refl, sym, ap, ◌∙◌, arith, ⊎_elim}
 use Rattle.std.proofs.lemmas.List.{length-append}
 use Rattle.vt_chars.specs.Utf8.{decoding_of}

@@ -1,4 +1,4 @@
--- What an unfinished text is with one byte more, by its kind: phrase by phrase.
+-- The reading of an unfinished text with one more byte, by its kind, phrase by phrase.
 use Rattle.std.proofs.Common.{◌≡◌, ℕ, ◌==◌, ◌≤◌, ◌<◌, ◌+◌, Bool, true, false, cond, ◌&&◌, List, [], ◌∷◌, ◌++◌, length, refl, sym, ap, ◌∙◌, subst, arith, ⊎_elim}
 use Rattle.std.specs.Prelude.{nat_lt}
 use Rattle.std.proofs.lemmas.Bool.{and_parts, and_left, cases_Bool, cases_lt, cond-true, cond-false, eq-eqb, lt-ltb, le-ltb, or_from, not_from_false, false≢true}

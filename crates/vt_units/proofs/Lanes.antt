@@ -1,4 +1,4 @@
--- A run of bytes that pass a test, seen 16 at a time by the mask of those that don't.
+-- A run of bytes that pass a test, found 16 at a time by the mask of those that don't.
 use Rattle.std.proofs.Common.{◌≡◌, ℕ, ◌+◌, ◌-◌, ◌*◌, ◌%◌, ◌^◌, ◌<◌, ◌≤◌, Bool, true, false, not, cond, List, [], ◌∷◌, map, length, drop, replicate, refl, sym, ap, ◌∙◌, ⊎_elim, arith, w8, Fits}
 use Rattle.std.specs.List.{prefix_len}
 use Rattle.std.proofs.lemmas.Bool.{cases_lt, eq-eqb, ne_eqb}

@@ -1,4 +1,4 @@
--- What the units of texts print: code points, and the byte that ends a text.
+-- The output of the units of texts: code points, and the byte that ends a text.
 use Rattle.std.proofs.Common.{◌≡◌, ◌<◌, ◌≤◌, ◌==◌, ◌&&◌, ℕ, Bool, true, false, List, [], ◌∷◌, ◌++◌, take, drop, length, nat_lt, nat_le, refl, sym, ap, cond, arith, leb-true, eqb-true, not, get_or, inl, inr, lit<}
 use Rattle.std.specs.List.{list_all}
 use Rattle.std.proofs.lemmas.Bool.{and_parts, cases_eq, eqb-false}

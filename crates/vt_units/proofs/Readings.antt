@@ -1,4 +1,4 @@
--- What a text with one byte more reads as, by its stage.
+-- The reading of a text with one more byte, by its stage.
 use Rattle.std.proofs.Common.{◌≡◌, ℕ, ◌≤◌, ◌<◌, ◌+◌, true, false, List, [], ◌∷◌, ◌++◌, length, refl, sym, ap, ◌∙◌, subst, arith, ⊎_elim}
 use Rattle.std.proofs.lemmas.Bool.{and_left, cond-true, cond-false, cond_both, lt-ltb, le-ltb, false≢true}
 use Rattle.std.proofs.lemmas.List.{append-nil, append_assoc, length-append}

@@ -1,4 +1,4 @@
--- The first byte of a character says how many bytes it has.
+-- The first byte of a character determines the number of its bytes.
 use Rattle.std.proofs.Common.{◌≡◌, ℕ, ◌≤◌, ◌<◌, zero, suc, ◌&&◌, List, [], ◌∷◌, length, take, get_or, Option, None, Some, IfNone, refl, sym, ap, ◌∙◌, subst, ⊎_elim, arith, length-take-le}
 use Rattle.std.proofs.lemmas.Bool.{and_parts, cases_lt, false≢true}
 use Rattle.std.proofs.lemmas.Bool.Decides.{nat_tests}

@@ -1,4 +1,4 @@
--- What a byte comes to behind a rest. Both are judged by what whole texts are.
+-- The result of a byte after a rest. Both are defined by the readings of whole texts.
 use Rattle.std.specs.Prelude.{ℕ, Bool, true, false, ◌==◌, [], ◌∷◌, ◌++◌, if◌then◌else◌}
 use Rattle.vt_units.specs.Bytes.{acts, interrupts, is_swallowed}
 use Rattle.vt_units.specs.Reading.{Reading, character, sequence, command, string, string_end, whole, dropped, unfinished, none, reading}
@@ -7,13 +7,13 @@ use Rattle.vt_units.specs.declared.mode.Mode.{Mode}
 use Rattle.vt_units.specs.declared.read.Read.{Read}
 use Rattle.vt_units.specs.declared.then.Then as then
 
--- the byte goes on with the unfinished character
+-- the byte continues the unfinished character
 abbrev pub goes_on : Reading → Bool
 goes_on none = false
 goes_on r = true
 
--- some texts are units by what follows them: what then is left of the rest before b, and whether
--- it was a malformed character
+-- the byte after some texts ends them: the part of the rest that is then left before b, and whether it was a
+-- malformed character
 pub record RestBefore : Type 0 where
   pub bad : Bool
   pub rest : Rest
@@ -21,9 +21,9 @@ pub record RestBefore : Type 0 where
 abbrev pub unbroken_rest : Rest → RestBefore
 unbroken_rest r = record { bad = false; rest = r }
 
--- an unfinished character before a byte that doesn't go on with it is malformed; ESC, and CSI in
--- byte mode, break a sequence off; behind ESC in a string a byte that isn't \ ends the string and
--- belongs to the sequence of that ESC
+-- an unfinished character before a byte that doesn't continue it is malformed; ESC, and CSI in byte mode,
+-- break a sequence off; after an ESC in a string, a byte that isn't \ ends the string and belongs to the
+-- sequence of that ESC
 abbrev pub rest_before_by : Reading → Rest → Mode → ℕ → RestBefore
 rest_before_by (unfinished character) old m b =
     if goes_on (reading old.mode (old.text ++ b ∷ [])) then unbroken_rest old
@@ -47,13 +47,13 @@ acts_in (unfinished sequence) b = acts b
 acts_in (unfinished command) b = acts b
 acts_in r b = false
 
--- the byte leaves no trace: DEL in a sequence, or a byte of a string
+-- the byte has no effect and isn't kept: DEL in a sequence, or a byte of a string
 abbrev pub vanishes_in : Reading → ℕ → Bool
 vanishes_in (unfinished sequence) b = b == 0x7F
 vanishes_in (unfinished string) b = is_swallowed b
 vanishes_in r b = false
 
--- what a byte comes to, and the rest after it
+-- the result of a byte, and the rest after it
 pub record ByteOutcome : Type 0 where
   pub got : then.Then
   pub rest : Rest
@@ -61,7 +61,7 @@ pub record ByteOutcome : Type 0 where
 abbrev pub make_outcome : then.Then → Rest → ByteOutcome
 make_outcome got r = record { got = got; rest = r }
 
--- by what the text with the byte is
+-- the result, by the reading of the text with the byte
 abbrev pub outcome_by_reading : Reading → Rest → ℕ → ByteOutcome
 outcome_by_reading (whole u) r b = make_outcome (then.Then.Unit u) (fresh r.mode)
 outcome_by_reading (unfinished kind) r b = make_outcome then.Then.More (rest_with_byte r b)
@@ -78,7 +78,7 @@ byte_outcome r b =
     else if vanishes_in now b then make_outcome then.Then.More r
     else outcome_of_text r b
 
--- the answer to b, given with mode m
+-- the answer to b, given in mode m
 abbrev pub answer : Rest → Mode → ℕ → Read
 answer old m b =
     let s = rest_before old m b in

@@ -1,5 +1,5 @@
--- The kinds of bytes that units are made of (console_codes(4)). What interrupts a sequence and what
--- drops it is this project's own.
+-- The kinds of bytes that units are made of (console_codes(4)). The rules for the bytes that interrupt or
+-- drop a sequence are this project's own.
 use Rattle.std.specs.Prelude.{ℕ, Bool, not, ◌==◌, ◌&&◌, ◌||◌, nat_lt}
 use Rattle.vt_chars.specs.Utf8.{within}
 use Rattle.vt_units.specs.declared.mode.Mode.{Mode}
@@ -18,7 +18,7 @@ is_digit b = within 0x30 0x39 b
 abbrev pub is_hex : ℕ → Bool
 is_hex b = is_digit b || within 0x41 0x46 b || within 0x61 0x66 b
 
--- a byte that opens a string behind ESC: P, X, ^ and _
+-- a byte that opens a string after ESC: P, X, ^ and _
 abbrev pub opens_string : ℕ → Bool
 opens_string b = b == 0x50 || b == 0x58 || b == 0x5E || b == 0x5F
 
@@ -34,7 +34,7 @@ is_swallowed b = not (ends_string b || b == 0x1B)
 abbrev pub decodes : Mode → Bool
 decodes m = m.utf8 && not m.display
 
--- a byte that is CSI where no text is pending
+-- a byte that is CSI if no text is pending
 abbrev pub is_csi : Mode → ℕ → Bool
 is_csi m b = b == 0x9B && (m.display || not m.utf8)
 
@@ -43,7 +43,7 @@ abbrev pub is_never_shown : ℕ → Bool
 is_never_shown b =
     b == 0x00 || b == 0x08 || b == 0x0A || b == 0x0C || b == 0x0D || b == 0x0E || b == 0x0F
 
--- a control character where no text is pending (ESC aside)
+-- a control character if no text is pending, except ESC
 abbrev pub is_control : Mode → ℕ → Bool
 is_control m b = nat_lt b 0x20 && (not m.display || is_never_shown b)
 
@@ -51,7 +51,7 @@ is_control m b = nat_lt b 0x20 && (not m.display || is_never_shown b)
 abbrev pub interrupts : Mode → ℕ → Bool
 interrupts m b = b == 0x1B || (b == 0x9B && not m.utf8)
 
--- a control character that acts inside a sequence: all but CAN, SUB and ESC
+-- a control character that acts inside a sequence: each except CAN, SUB and ESC
 abbrev pub acts : ℕ → Bool
 acts b = nat_lt b 0x20 && not (b == 0x18 || b == 0x1A || b == 0x1B)
 
@@ -59,7 +59,7 @@ acts b = nat_lt b 0x20 && not (b == 0x18 || b == 0x1A || b == 0x1B)
 abbrev pub joins : Mode → ℕ → Bool
 joins m b = not (acts b || interrupts m b || b == 0x7F)
 
--- the same behind ESC ], where DEL is part of the sequence
+-- a byte that is part of a sequence after ESC ], where DEL is part of it too
 abbrev pub joins_command : Mode → ℕ → Bool
 joins_command m b = not (acts b || interrupts m b)
 

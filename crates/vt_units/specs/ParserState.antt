@@ -1,4 +1,4 @@
--- What the pending bytes look like at each stage. No public clause names this.
+-- The pending bytes at each stage of the parser. No public clause names this.
 use Rattle.std.specs.Prelude.{◌≡◌, ◌<◌, ◌⊎◌, ℕ, Bool, true, false, List, [], ◌∷◌, ◌++◌, length}
 use Rattle.vt_chars.specs.Utf8.{decoding_of}
 use Rattle.vt_chars.specs.declared.decoded.Decoded.TheVariants.{Unfinished}
@@ -13,7 +13,7 @@ use Rattle.vt_units.specs.declared.step.Step.TheVariants.{Keep, Grow, Clear}
 use Rattle.vt_units.specs.declared.parser_state.ParserState as stage
 use Rattle.vt_units.specs.declared.then.Then as then
 
--- each byte passes
+-- each byte passes the test
 abbrev pub Each : (ℕ → Bool) → List ℕ → Type 0
 Each p [] = Unit {0}
 Each p (x ∷ xs) = (p x ≡ true) × Each p xs
@@ -50,7 +50,7 @@ Stands stage.ParserState.Palette m t =
 Stands stage.ParserState.ControlString m t = IsOpener t
 Stands stage.ParserState.StringEscape m t = (opener : List ℕ) × (t ≡ opener ++ 0x1B ∷ []) × IsOpener opener
 
--- a step of the pending bytes makes this of a rest
+-- the outcome of byte b after the rest r is this result and this step of the pending bytes
 abbrev pub Steps : ByteOutcome → Rest → ℕ → then.Then → Step → Type 0
 Steps all r b got Keep = all ≡ make_outcome got r
 Steps all r b got (Grow to) =
@@ -60,11 +60,11 @@ Steps all r b got Clear = all ≡ make_outcome got (fresh r.mode)
 abbrev pub rest_of : Mode → List ℕ → Rest
 rest_of m t = record { mode = m; text = t }
 
--- the byte is judged with the text
+-- the result and the step are those of the byte, by the reading of the text with it
 abbrev pub IsOutcomeOf : Mode → List ℕ → ℕ → then.Then → Step → Type 0
 IsOutcomeOf m t b got step = Steps (outcome_of_text (rest_of m t) b) (rest_of m t) b got step
 
--- what is left of a rest at a stage, before a byte with mode now
+-- the part of the rest at a stage that is left before a byte with mode now
 abbrev pub Leaves : RestBefore → stage.ParserState → Rest → Mode → Remainder → Type 0
 Leaves all at old now All = all ≡ unbroken_rest old
 Leaves all at old now Nothing = all ≡ unbroken_rest (fresh now)
@@ -73,18 +73,18 @@ Leaves all at old now AllInNewMode =
     (all ≡ unbroken_rest (record { mode = now; text = old.text })) × (at ≡ stage.ParserState.ControlString)
 Leaves all at old now Escape = all ≡ unbroken_rest (record { mode = old.mode; text = 0x1B ∷ [] })
 
--- the byte is read behind the text
+-- the result and the step are those of the byte after the text
 abbrev pub Inside : Mode → List ℕ → ℕ → then.Then → Step → Type 0
 Inside m t b got step = Steps (byte_outcome (rest_of m t) b) (rest_of m t) b got step
 
--- the text is a sequence that isn't a string, and not behind ESC ]
+-- the text is a sequence that isn't a string and doesn't begin with ESC ]
 abbrev pub IsSequence : stage.ParserState → Type 0
 IsSequence stage.ParserState.Escape = Unit {0}
 IsSequence stage.ParserState.Control = Unit {0}
 IsSequence stage.ParserState.CsiBracket = Unit {0}
 IsSequence other = ⊥
 
--- nothing comes of the byte, whichever mode it is given in
+-- the byte has no result, whichever mode it is given in
 abbrev pub Quiet : Rest → ℕ → Rest → Type 0
 Quiet old b new =
     (m : Mode) → (answer old m b ≡ record { bad = false; got = then.Then.More }) × (rest_after old m b ≡ new)

@@ -1,4 +1,4 @@
--- A piece of text: the bytes of one unit, with what acted or was ignored among them.
+-- A piece of text: the bytes of one unit, with the bytes among them that acted or were ignored.
 use Rattle.std.specs.Prelude.{◌≡◌, ℕ, Bool, false, ◌==◌, ◌||◌, List, [], ◌∷◌, ◌++◌, if◌then◌else◌}
 use Rattle.vt_units.specs.Answer.{acts_in}
 use Rattle.vt_units.specs.Bytes.{is_swallowed}
@@ -15,14 +15,14 @@ is_ignored_in r b = false
 abbrev pub is_left_out : Reading → ℕ → Bool
 is_left_out r b = acts_in r b || is_ignored_in r b
 
--- the text of bytes behind a text: without those that act and those that are ignored
+-- the text of a text and bytes after it: without the bytes that act and those that are ignored
 abbrev pub text_of : Mode → List ℕ → List ℕ → List ℕ
 text_of m text [] = text
 text_of m text (b ∷ bytes) =
     if is_left_out (reading m text) b then text_of m text bytes
     else text_of m (text ++ b ∷ []) bytes
 
--- the control characters among them that act
+-- the control characters among the bytes that act
 abbrev pub controls_of : Mode → List ℕ → List ℕ → List ℕ
 controls_of m text [] = []
 controls_of m text (b ∷ bytes) =
@@ -30,7 +30,7 @@ controls_of m text (b ∷ bytes) =
     else if is_left_out (reading m text) b then controls_of m text bytes
     else controls_of m (text ++ b ∷ []) bytes
 
--- control characters in order
+-- the state after control characters, in order
 abbrev pub after_controls : {S : Type 0} → Effects S → List ℕ → S → S
 after_controls e [] s = s
 after_controls e (c ∷ controls) s = after_controls e controls (e.on_control c s)
@@ -45,8 +45,8 @@ abbrev pub is_end_in : Reading → ℕ → Bool
 is_end_in (unfinished string) b = b == 0x1B
 is_end_in r b = false
 
--- the rest with a byte more, where its text is read so: what acts, is ignored or is swallowed is kept
--- nowhere; a string has the mode at the ESC that may end it, and so has the sequence that may begin there
+-- the rest with one more byte, by the reading of its text: a byte that acts, is ignored or is swallowed isn't
+-- kept; a string has the mode at the ESC that may end it, and so has the sequence that may begin there
 abbrev pub read_on : Reading → Mode → Rest → ℕ → Rest
 read_on now mode r b =
     if is_left_out now b || is_swallowed_in now b then r
@@ -60,9 +60,9 @@ rest_with e s r (b ∷ bytes) =
     let now = reading r.mode r.text in
     rest_with e (if acts_in now b then e.on_control b s else s) (read_on now (e.mode_of s) r b) bytes
 
--- from s on, the bytes had the effects of the control characters among them, then that of the unit,
--- and no text is left. A sequence that is dropped has no effect of its own. Of an unfinished text this
--- rest is left; of a unit and of a drop its mode
+-- from s on, the bytes had the effects of the control characters among them, then that of the unit, and no
+-- text is left. A sequence that is dropped has no effect of its own. An unfinished text leaves this rest; a
+-- unit or a drop leaves its mode
 abbrev pub HasEffect : {S : Type 0} → Effects S → Reading → List ℕ → Rest → Reached S → S → Type 0
 HasEffect e (whole u) controls left after s =
     after ≡ make_reached (e.on_unit u (after_controls e controls s)) (fresh left.mode)

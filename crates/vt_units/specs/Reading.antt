@@ -1,5 +1,5 @@
--- Which whole text is which unit, in a mode (console_codes(4)). The text of a unit is its bytes
--- without control characters that acted inside it and DEL that was ignored there.
+-- The unit of each whole text, in a mode (console_codes(4)). The text of a unit is its bytes without the
+-- control characters that acted inside it and without each DEL that was ignored there.
 use Rattle.std.specs.Prelude.{ℕ, Bool, true, false, not, cond, ◌==◌, ◌&&◌, nat_lt, List, [], ◌∷◌, length, take, drop, if◌then◌else◌}
 use Rattle.vt_chars.specs.Utf8.{decoding_of, within}
 use Rattle.vt_chars.specs.declared.decoded.Decoded.{Decoded}
@@ -10,8 +10,8 @@ use Rattle.vt_units.specs.declared.mode.Mode.{Mode}
 use Rattle.vt_units.specs.declared.unit.Unit as units
 use Rattle.vt_units.specs.declared.unit.Unit.TheVariants.{Char, Byte, Control, ColourReset, Ignored}
 
--- what a text is the beginning of: a character, a sequence, a sequence behind ESC ], a string, or a
--- string with the ESC that may end it
+-- the kind of an unfinished text: the beginning of a character, of a sequence, of a sequence after ESC ] or
+-- of a string, or a string with the ESC that may end it
 pub data Kind : Type 0 where
   character : Kind
   sequence : Kind
@@ -19,15 +19,15 @@ pub data Kind : Type 0 where
   string : Kind
   string_end : Kind
 
--- what a whole text is: a unit, a sequence that its last byte drops, the beginning of a unit, or
--- none of these
+-- the reading of a whole text: a unit, a sequence that its last byte drops, the beginning of a unit, or none
+-- of these
 pub data Reading : Type 0 where
   whole : units.Unit → Reading
   dropped : Reading
   unfinished : Kind → Reading
   none : Reading
 
--- the longest front whose bytes pass, and what stands behind it
+-- the longest prefix whose bytes pass, and the bytes after it
 abbrev pub longest_prefix : (ℕ → Bool) → List ℕ → List ℕ
 longest_prefix p [] = []
 longest_prefix p (x ∷ xs) = cond (p x) (x ∷ longest_prefix p xs) []
@@ -40,12 +40,12 @@ abbrev pub is_empty : List ℕ → Bool
 is_empty [] = true
 is_empty (x ∷ xs) = false
 
--- with nothing behind it
+-- the reading, if no bytes follow
 abbrev pub alone : List ℕ → Reading → Reading
 alone [] r = r
 alone (x ∷ more) r = none
 
--- a byte that a sequence doesn't admit drops it, where the byte is part of it
+-- a byte that a sequence doesn't admit drops it, if the byte is part of it
 abbrev pub dropped_or_none : Mode → ℕ → Reading
 dropped_or_none m b = if joins m b then dropped else none
 
@@ -58,7 +58,7 @@ bracket_text m [] = unfinished sequence
 bracket_text m (last ∷ more) =
     alone more (if within 0x20 0x7E last then whole Ignored else dropped_or_none m last)
 
--- a control sequence, behind CSI: a body, and what ends it
+-- a control sequence after CSI: a body, and the bytes that end it
 abbrev pub control_ends : Mode → List ℕ → List ℕ → Reading
 control_ends m body [] = unfinished sequence
 control_ends m body (last ∷ more) =
@@ -68,7 +68,7 @@ control_ends m body (last ∷ more) =
 abbrev pub control_text : Mode → List ℕ → Reading
 control_text m text = control_ends m (longest_prefix is_body text) (after_prefix is_body text)
 
--- a string, behind what opened it, and behind the ESC that may end it
+-- a string after its opening bytes, and after the ESC that may end it
 abbrev pub string_tail : List ℕ → Reading
 string_tail [] = unfinished string_end
 string_tail (last ∷ more) = alone more (if last == 0x5C then whole Ignored else none)
@@ -81,7 +81,7 @@ string_ends (last ∷ more) =
 abbrev pub string_text : List ℕ → Reading
 string_text text = string_ends (after_prefix is_swallowed text)
 
--- a colour of the palette, behind ESC ] P: seven digits
+-- a colour of the palette after ESC ] P: seven digits
 abbrev pub palette_ends : Mode → List ℕ → List ℕ → Reading
 palette_ends m digits [] =
     if nat_lt (length digits) 7 then unfinished command
@@ -93,7 +93,7 @@ palette_ends m digits (last ∷ more) =
 abbrev pub palette_text : Mode → List ℕ → Reading
 palette_text m text = palette_ends m (longest_prefix is_hex text) (after_prefix is_hex text)
 
--- behind ESC ]
+-- a text after ESC ]
 abbrev pub command_text : Mode → List ℕ → Reading
 command_text m [] = unfinished command
 command_text m (b ∷ more) =
@@ -101,7 +101,7 @@ command_text m (b ∷ more) =
     else if b == 0x50 then palette_text m more
     else alone more (if b == 0x52 then whole ColourReset else dropped_or_none_command m b)
 
--- an escape sequence, behind ESC: intermediate bytes, and what ends it
+-- an escape sequence after ESC: intermediate bytes, and the byte that ends it
 abbrev pub escape_ends : Mode → List ℕ → List ℕ → Reading
 escape_ends m mids [] = unfinished sequence
 escape_ends m mids (last ∷ more) =
@@ -113,7 +113,7 @@ escape_ends m mids (last ∷ more) =
 abbrev pub escape_text : Mode → List ℕ → Reading
 escape_text m text = escape_ends m (longest_prefix is_mid text) (after_prefix is_mid text)
 
--- a character: DEL and the C1 control characters are ignored, and a malformed byte is U+FFFD
+-- the unit of a character: DEL and the C1 control characters are ignored, and a malformed byte is U+FFFD
 abbrev pub character_unit : ℕ → units.Unit
 character_unit code = if within 0x7F 0x9F code then Ignored else Char code
 
@@ -132,11 +132,11 @@ character_text m text =
     if begins_csi text then control_text m (drop 2 text)
     else character_reading text (decoding_of text)
 
--- a byte that is shown as the byte tables say; DEL only where control characters are shown
+-- a byte that is shown by the byte tables; DEL is shown only if control characters are
 abbrev pub byte_unit : Mode → ℕ → units.Unit
 byte_unit m b = if b == 0x7F && not m.display then Ignored else Byte b
 
--- a text by its first byte, however long it is
+-- the reading of a text by its first byte, whatever its length is
 abbrev pub text_reading : Mode → List ℕ → Reading
 text_reading m [] = none
 text_reading m (b ∷ more) =
@@ -150,12 +150,12 @@ abbrev pub is_sequence : Reading → Bool
 is_sequence (unfinished sequence) = true
 is_sequence r = false
 
--- a byte behind 256 bytes of a sequence drops it
+-- a byte after 256 bytes of a sequence drops it
 abbrev pub overlong : Mode → List ℕ → Reading
 overlong m [] = none
 overlong m (last ∷ more) = alone more (dropped_or_none m last)
 
--- what a whole text is. A sequence that isn't a string has at most 256 bytes: this project's own
+-- the reading of a whole text. A sequence that isn't a string has at most 256 bytes: this project's own
 abbrev pub reading : Mode → List ℕ → Reading
 reading m text =
     if nat_lt 256 (length text) && is_sequence (text_reading m (take 256 text))

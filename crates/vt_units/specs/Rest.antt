@@ -1,10 +1,10 @@
--- What is left of a text that isn't finished.
+-- The rest: the part of an unfinished text that is kept.
 use Rattle.std.specs.Prelude.{ℕ, true, false, List, [], ◌∷◌, ◌++◌}
 use Rattle.vt_units.specs.declared.mode.Mode.{Mode}
 
--- the bytes since the last unit or drop, without those that acted or were ignored, and the mode at
--- the first of them. Of a string these are the bytes that opened it, and the ESC that stands last;
--- the mode is then the one at that ESC
+-- the bytes since the last unit or drop, without those that acted or were ignored, and the mode at the
+-- first of them. For a string they are the bytes that opened it, and the ESC if it stands last; the mode is
+-- then the one at that ESC
 pub record Rest : Type 0 where
   pub mode : Mode
   pub text : List ℕ

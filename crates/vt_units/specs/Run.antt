@@ -1,4 +1,4 @@
--- What bytes make of a state: each byte is answered, and the answers have their effects in order.
+-- The run of bytes over a state: each byte is answered, and the answers have their effects in order.
 use Rattle.std.specs.Prelude.{◌≡◌, ℕ, List, [], ◌∷◌, if◌then◌else◌}
 use Rattle.vt_units.specs.Answer.{answer, rest_after}
 use Rattle.vt_units.specs.Rest.{Rest}
@@ -7,7 +7,7 @@ use Rattle.vt_units.specs.declared.read.Read.{Read}
 use Rattle.vt_units.specs.declared.then.Then as then
 use Rattle.vt_units.specs.declared.unit.Unit as units
 
--- what units do to a state, and the mode that a state gives its bytes
+-- the effects of units on a state, and the mode that a state gives its bytes
 pub record Effects (S : Type 0) : Type 0 where
   pub mode_of : S → Mode
   pub on_control : ℕ → S → S
@@ -21,14 +21,14 @@ pub record Reached (S : Type 0) : Type 0 where
 abbrev pub make_reached : {S : Type 0} → S → Rest → Reached S
 make_reached s r = record { state = s; rest = r }
 
--- the effect of what a byte comes to
+-- the effect of the result of a byte
 abbrev pub effect_of : {S : Type 0} → Effects S → then.Then → S → S
 effect_of e (then.Then.Unit u) s = e.on_unit u s
 effect_of e (then.Then.Act c) s = e.on_control c s
 effect_of e then.Then.More s = s
 effect_of e then.Then.Dropped s = s
 
--- the effect of malformed bytes before it comes first
+-- the effects of an answer: that of malformed bytes before it comes first
 abbrev pub effects_of : {S : Type 0} → Effects S → Read → S → S
 effects_of e read s =
     effect_of e read.got (if read.bad then e.on_unit (units.Unit.Char 0xFFFD) s else s)

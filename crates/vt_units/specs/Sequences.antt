@@ -1,4 +1,4 @@
--- What a finished sequence is as a unit (console_codes(4)).
+-- The units of finished sequences (console_codes(4)).
 use Rattle.std.specs.Prelude.{ℕ, Bool, true, false, ◌+◌, ◌-◌, ◌*◌, ◌==◌, ◌||◌, List, [], ◌∷◌, if◌then◌else◌}
 use Rattle.std.specs.List.{list_all}
 use Rattle.vt_chars.specs.Utf8.{within}

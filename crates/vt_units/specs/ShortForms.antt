@@ -9,7 +9,7 @@ use Rattle.vt_units.specs.Rest.{Rest}
 abbrev pub is_short_end : ℕ → Bool
 is_short_end b = within 0x40 0x5A b || within 0x60 0x7A b
 
--- a number of at most three digits comes first, perhaps of none, and of what is after it this is true
+-- a number of at most three digits, possibly of none, and the test holds for the text after it
 abbrev pub is_number_before : (List ℕ → Bool) → List ℕ → Bool
 is_number_before holds text = nat_le (length (longest_prefix is_digit text)) 3 && holds (after_prefix is_digit text)
 
@@ -39,12 +39,12 @@ abbrev pub ends_sgr : List ℕ → Bool
 ends_sgr [] = false
 ends_sgr (last ∷ more) = last == 0x6D
 
--- a semicolon, and such a number behind it
+-- a semicolon and such a number after it
 abbrev pub is_number_next : (List ℕ → Bool) → List ℕ → Bool
 is_number_next holds [] = false
 is_number_next holds (b ∷ more) = b == 0x3B && is_number_before holds more
 
--- ESC [, 38 or 48, and 5 or 2, with a semicolon behind each of the two
+-- ESC [, 38 or 48, and 5 or 2, each of the two followed by a semicolon
 abbrev pub begins_colour : List ℕ → Bool
 begins_colour text =
     slice_index text 0 == 0x1B
@@ -55,7 +55,7 @@ begins_colour text =
     && ((slice_index text 5 == 0x35 || slice_index text 5 == 0x32)
     && slice_index text 6 == 0x3B)))))
 
--- a colour by its index, 5, has one number more, and one by its parts has three
+-- the end of a colour: one more number for a colour by its index, 5, and three for one by its parts
 abbrev pub ends_colour : ℕ → List ℕ → Bool
 ends_colour way text =
     if way == 0x35 then is_number_before ends_sgr text
@@ -67,14 +67,14 @@ begins_longer text =
     nat_le 19 (length text)
     && (begins_colour text && ends_colour (slice_index text 5) (drop 7 text))
 
--- such a control sequence stands at the front of the text, where nothing is pending
+-- such a control sequence stands at the start of the text, and nothing is pending
 abbrev pub short_stands : Rest → List ℕ → Bool
 short_stands rest text = if is_empty rest.text then begins_short (take 256 text) else false
 
--- such an escape sequence stands there
+-- such an escape sequence stands at the start of the text, and nothing is pending
 abbrev pub escape_stands : Rest → List ℕ → Bool
 escape_stands rest text = if is_empty rest.text then begins_escape text else false
 
--- such a sequence of SGR stands there
+-- such a sequence of SGR stands at the start of the text, and nothing is pending
 abbrev pub longer_stands : Rest → List ℕ → Bool
 longer_stands rest text = if is_empty rest.text then begins_longer (take 256 text) else false

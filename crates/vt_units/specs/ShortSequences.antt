@@ -9,7 +9,7 @@ use Rattle.vt_units.specs.declared.short_csi.ShortCsi.{ShortCsi}
 use Rattle.vt_units.specs.declared.long_sgr.LongSgr.{LongSgr}
 use Rattle.vt_units.specs.declared.unit.Unit.TheVariants.{Csi}
 
--- one parameter, or both
+-- the numbers of one parameter, or of both
 abbrev pub numbers_in : ℕ → ℕ → Bool → List ℕ
 numbers_in first second both = if both then first ∷ second ∷ [] else first ∷ []
 
@@ -35,8 +35,8 @@ pub record Begun (text : List ℕ) : Type 0 where
   pub escape : slice_index text 0 ≡ 0x1B
   pub bracket : slice_index text 1 ≡ 0x5B
 
--- what the text has from place j on, after the number m, is read as what it has from place i on,
--- after the number n. No public clause names this
+-- the text from place j on, after the number m, is read like the text from place i on, after the number n. No
+-- public clause names this
 pub record Goes (text : List ℕ) (n i m j : ℕ) : Type 0 where
   pub numbers : numbers_after n (longest_prefix is_parameter (drop i text)) ≡ numbers_after m (longest_prefix is_parameter (drop j text))
   pub count : length (longest_prefix is_parameter (drop i text)) + i ≡ length (longest_prefix is_parameter (drop j text)) + j

@@ -1,4 +1,4 @@
--- The sequences that are read at once, where they stand whole at the front of a text.
+-- The sequences that are read at once, if they stand whole at the start of a text.
 use Rattle.std.specs.Prelude.{ℕ, Bool, true, false, not, ◌+◌, ◌==◌, ◌&&◌, ◌||◌, List, [], ◌∷◌, length, take, Option, Some, None, if◌then◌else◌}
 use Rattle.vt_chars.specs.Utf8.{within}
 use Rattle.vt_units.specs.Bytes.{is_mid, opens_string}
@@ -17,7 +17,7 @@ pub record Sequence : Type 0 where
   pub unit : units.Unit
   pub count : ℕ
 
--- the last byte of a control sequence, but [, behind which another byte may follow
+-- the last byte of a control sequence, except [, after which another byte may follow
 abbrev pub ends_control : ℕ → Bool
 ends_control b = within 0x40 0x7E b && not (b == 0x5B)
 
@@ -25,7 +25,7 @@ ends_control b = within 0x40 0x7E b && not (b == 0x5B)
 abbrev pub ends_escape : ℕ → Bool
 ends_escape b = within 0x30 0x7E b && not (opens_string b || b == 0x5B || b == 0x5D)
 
--- parameters, and what stands behind them
+-- parameters, and the text after them
 abbrev pub numbers_end : Bool → ℕ → List ℕ → List ℕ → Option Sequence
 numbers_end private before numbers [] = None
 numbers_end private before numbers (last ∷ more) =
@@ -33,24 +33,24 @@ numbers_end private before numbers (last ∷ more) =
     then Some (record { unit = Csi private (params_of numbers) last; count = before + length numbers + 1 })
     else None
 
--- parameters and a last byte, behind so many bytes
+-- parameters and a last byte, after so many bytes
 abbrev pub numbers_ahead : Bool → ℕ → List ℕ → Option Sequence
 numbers_ahead private before text =
     numbers_end private before (longest_prefix is_parameter text) (after_prefix is_parameter text)
 
--- behind ESC [: a question mark may come first
+-- the sequence that goes on after ESC [: a question mark may come first
 abbrev pub control_ahead : List ℕ → Option Sequence
 control_ahead [] = None
 control_ahead (b ∷ more) =
     if b == 0x3F then numbers_ahead true 3 more else numbers_ahead false 2 (b ∷ more)
 
--- behind ESC and an intermediate byte
+-- the sequence that goes on after ESC and an intermediate byte
 abbrev pub mid_ahead : ℕ → List ℕ → Option Sequence
 mid_ahead mid [] = None
 mid_ahead mid (last ∷ more) =
     if within 0x30 0x7E last then Some (record { unit = Esc mid last; count = 3 }) else None
 
--- behind ESC
+-- the sequence that goes on after ESC
 abbrev pub escape_ahead : ℕ → List ℕ → Option Sequence
 escape_ahead b more =
     if b == 0x5B then control_ahead more
@@ -68,7 +68,7 @@ opened_ahead (esc ∷ b ∷ more) = if esc == 0x1B then escape_ahead b more else
 abbrev pub sequence_ahead : List ℕ → Option Sequence
 sequence_ahead text = opened_ahead (take 256 text)
 
--- what an answer and the parameters beside it say
+-- the sequence that an answer and the parameters give
 abbrev pub sequence_of : WholeSequence → List ℕ → Option Sequence
 sequence_of ahead.Nothing params = None
 sequence_of (ahead.Esc mid last count) params = Some (record { unit = Esc mid last; count = count })
@@ -84,11 +84,11 @@ abbrev pub parameters_ahead : Option Sequence → List ℕ
 parameters_ahead None = []
 parameters_ahead (Some s) = parameters_of s.unit
 
--- what is read at once where this rest stands before the text: nothing unless it is empty
+-- the sequence that is read at once with this rest before the text: none unless the rest is empty
 abbrev pub taken_ahead : Rest → List ℕ → Option Sequence
 taken_ahead old text = if is_empty old.text then sequence_ahead text else None
 
--- the rest behind it
+-- the rest after it
 abbrev pub rest_ahead : Rest → Mode → Option Sequence → Rest
 rest_ahead old m None = old
 rest_ahead old m (Some s) = fresh m

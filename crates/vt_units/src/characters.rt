@@ -1,4 +1,4 @@
-//! Whole characters at the front of a text.
+//! Whole characters at the start of a text.
 ghost use Rattle.std.specs.Prelude.{◌≡◌, ◌≤◌, ◌<◌, [], ◌∷◌, true, drop, length, take, IfNone, IfSome};
 ghost use Rattle.vt_chars.specs.Utf8.{is_tail};
 ghost use Rattle.vt_units.specs.Characters.{AreTextsOf, Begins, IsHidden, NoneBegins, is_common, is_shown};
@@ -6,18 +6,18 @@ ghost use Rattle.vt_units.specs.Characters.{AreTextsOf, Begins, IsHidden, NoneBe
 use crate::codes::Codes;
 use vt_chars::{Decoded, decode_four, decode_one, decode_three, decode_two};
 
-// What the bits that mark the bytes of a character of two add up to.
+// The sum of the bits that mark the bytes of a character of two bytes.
 const TWO_MARKS: u32 = 0xC0 * 0x40 + 0x80;
 
-// The same of three.
+// The sum of the bits that mark the bytes of a character of three bytes.
 const THREE_MARKS: u32 = (0xE0 * 0x40 + 0x80) * 0x40 + 0x80;
 
 const Y: bool = true;
 
 const N: bool = false;
 
-// Whether each byte is the first one of a character of two or three bytes that is shown, whatever tails
-// follow. A row begins with the byte beside it.
+// For each byte, whether it is the first one of a shown character of two or three bytes, whatever
+// continuation bytes follow. The comment after a row is its first byte.
 #[rattlefmt::skip]
 static COMMON: [bool; 256] = [
     N, N, N, N, N, N, N, N, N, N, N, N, N, N, N, N, // 00
@@ -38,8 +38,8 @@ static COMMON: [bool; 256] = [
     N, N, N, N, N, N, N, N, N, N, N, N, N, N, N, N, // F0
 ];
 
-/// Reads whole characters at the front of the text that are shown, as many as are wanted at most, and
-/// tells how many bytes they are.
+/// Reads the whole shown characters that the text begins with, at most `most`, and returns the number of
+/// their bytes.
 pub(crate) fn read_characters(b: &[u8], most: usize, codes: &mut Codes) -> usize
     requires empty { codes.old ≡ [] }
     requires room { most ≤ 64 }
@@ -59,7 +59,7 @@ pub(crate) fn read_characters(b: &[u8], most: usize, codes: &mut Codes) -> usize
     b.len() - rest.len()
 }
 
-// The character that the text begins with, where it is whole and is shown, and how many bytes it has.
+// The character that the text begins with and the number of its bytes, if it is whole and shown.
 #[inline(always)]
 fn first_character(b: &[u8]) -> Option<(u32, usize)>
     ensures some { IfSome result (λ read. Begins b.now read.0 read.1) }
@@ -73,9 +73,9 @@ fn first_character(b: &[u8]) -> Option<(u32, usize)>
     }
 }
 
-// The character that begins with these bytes and has two or three, where it is whole and is shown, and
-// how many it has. Text often has both in turn, so no branch asks how many there are: the code and the
-// length are chosen apart, since one choice of both is compiled into a branch.
+// The character of two or three bytes that begins with these bytes and its length, if it is whole and
+// shown. Text often has both lengths in turn, so no branch depends on the length: the code and the length
+// are chosen separately, since one choice of both is compiled into a branch.
 #[inline(always)]
 fn common_character(a: u8, b: u8, c: u8) -> Option<(u32, usize)>
     requires common { is_common a ≡ true }
@@ -110,7 +110,7 @@ fn is_tail(b: u8) -> bool
     0x80 <= b && b <= 0xBF
 }
 
-// The same, whatever the first byte is.
+// The character and its length, whatever the first byte is.
 #[inline(always)]
 fn any_character(b: &[u8]) -> Option<(u32, usize)>
     ensures some { IfSome result (λ read. Begins b.now read.0 read.1) }

@@ -1,4 +1,4 @@
-//! A byte where no text is pending, or the beginning of a character is.
+//! A byte if no text is pending, or after the beginning of a character.
 ghost use Rattle.std.specs.Prelude.{◌≡◌, [], ◌∷◌, ◌++◌};
 ghost use Rattle.vt_chars.specs.Utf8.{decoding_of};
 ghost use Rattle.vt_units.specs.Reading.{begins_csi, byte_unit, character_unit};
@@ -10,7 +10,7 @@ use crate::step::Step;
 use crate::{Mode, Then, Unit};
 use vt_chars::{Decoded, decode};
 
-/// Where no text is pending.
+/// Reads a byte if no text is pending.
 pub(crate) fn ground(mode: Mode, b: u8) -> (Then, Step)
     ensures { IsOutcomeOf mode [] b result.0 result.1 }
 {
@@ -31,7 +31,7 @@ pub(crate) fn ground(mode: Mode, b: u8) -> (Then, Step)
     }
 }
 
-/// Behind the beginning of a character.
+/// Reads a byte after the beginning of a character.
 pub(crate) fn part(mode: Mode, text: &[u8], b: u8) -> (Then, Step)
     requires { Stands ParserState.Utf8 mode text.now }
     ensures { IsOutcomeOf mode text.now b result.0 result.1 }

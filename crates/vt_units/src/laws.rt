@@ -30,7 +30,7 @@ pub fn pieces_act()
     unfinished_begins();
 }
 
-/// Texts that end by the byte after them: this byte is read as if it stood alone.
+/// If a byte ends the text before it, the byte is read as if it stood alone.
 pub fn ended_texts()
     ensures characters { CharactersEnd }
     ensures sequences { SequencesEnd }

@@ -1,4 +1,4 @@
-//! SGR that sets one colour, at the front of a text, read without a list of its parameters.
+//! SGR that sets one colour, at the start of a text, read without a list of its parameters.
 ghost use Rattle.std.specs.Prelude.{◌≡◌, ◌≢◌, ◌≤◌, ◌<◌, ◌+◌, false, true, length, slice_index, take, Some, IfSome, MatchOption};
 ghost use Rattle.vt_units.specs.WholeSequence.{opened_ahead, sequence_ahead};
 ghost use Rattle.vt_units.specs.ShortForms.{begins_colour, begins_longer};
@@ -10,12 +10,12 @@ use crate::bytes::is_within;
 use crate::pending_bytes::SEQUENCE_BYTES;
 use crate::short_csi_ahead::{number_at, with_digit};
 
-/// The most bytes of such a sequence: ESC, `[`, 38 and 2 with a `;` behind each, three numbers of three
-/// digits, what parts them, and the last byte.
+/// The most bytes of such a sequence: ESC, `[`, 38 and 2 each with a `;` after it, three numbers of three
+/// digits with a `;` between them, and the last byte.
 const LONG_SGR_BYTES: usize = 19;
 
-/// The sequence of SGR that the text begins with, where it is one colour by an index or by three
-/// parts, each of three digits at most.
+/// The sequence of SGR that the text begins with, if it sets one colour by an index or by three parts, each
+/// of at most three digits.
 #[inline(always)]
 pub(crate) fn long_sgr_ahead(b: &[u8]) -> Option<LongSgr>
     ensures sequence { IfSome result (λ longer. sequence_ahead b.now ≡ Some (sgr_in longer)) }
@@ -46,8 +46,8 @@ fn opened_long_sgr(b: &[u8]) -> Option<LongSgr>
     }
 }
 
-// Whether the text begins with ESC [, 38 or 48, and 5 or 2, with a `;` behind each number. All that
-// follows is compiled for these alone, and knows where the numbers stand.
+// Whether the text begins with ESC [, 38 or 48, and 5 or 2, with a `;` after each number. The code that
+// follows is compiled for these prefixes alone, so the places of the numbers are known.
 #[inline(always)]
 fn begins_colour(b: &[u8]) -> bool
     requires { 19 ≤ length b.now }
@@ -93,7 +93,7 @@ fn digit_at(b: &[u8], at: usize) -> u16
     with_digit(0, b[at]) as u16
 }
 
-// SGR of three parameters, of which the last ends before place `end`.
+// SGR of three parameters, the last of which ends before place `end`.
 #[inline(always)]
 #[tactic(auto, using(crate::proofs::ShortSequences::three_are))]
 fn three_numbers(b: &[u8], first: u16, second: u16, third: u16, end: usize) -> Option<LongSgr>
@@ -127,7 +127,7 @@ fn three_numbers(b: &[u8], first: u16, second: u16, third: u16, end: usize) -> O
     })
 }
 
-// SGR of five parameters, of which three are read: the third ends before place `end`.
+// SGR of five parameters, three of which are read: the third ends before place `end`.
 #[inline(always)]
 fn five_numbers(b: &[u8], first: u16, second: u16, third: u16, end: usize) -> Option<LongSgr>
     requires begins { Begun b.now }

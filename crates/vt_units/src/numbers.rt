@@ -26,7 +26,7 @@ pub(crate) fn params_of(body: &[u8]) -> Params
     params
 }
 
-/// Reads the digits and semicolons at the front of the text, and tells how many bytes they are.
+/// Reads the digits and semicolons at the start of the text, and returns their number.
 pub(crate) fn read_numbers(text: &[u8], params: &mut Params) -> usize
     requires none { params.old ≡ [] }
     requires short { length text.now ≤ 256 }
@@ -50,7 +50,7 @@ pub(crate) fn read_numbers(text: &[u8], params: &mut Params) -> usize
     at + read_more_numbers(&text[at..], params)
 }
 
-// Reads the parameters at the front of the text, behind others.
+// Reads the parameters at the start of the text, after others.
 fn read_more_numbers(text: &[u8], params: &mut Params) -> usize
     ensures params { params.new
         ≡ take 16 (params.old ++ numbers_after 0 (longest_prefix is_parameter text.now)) }
@@ -74,7 +74,7 @@ fn read_more_numbers(text: &[u8], params: &mut Params) -> usize
     text.len()
 }
 
-// One parameter more, where it counts.
+// Adds a parameter, if it counts.
 fn add(params: &mut Params, number: u32)
     requires { number ≤ 65535 }
     ensures { params.new ≡ take 16 (params.old ++ number ∷ []) }

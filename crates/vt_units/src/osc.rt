@@ -1,4 +1,4 @@
-//! A byte behind ESC ].
+//! A byte after ESC ].
 ghost use Rattle.std.specs.Prelude.{◌≡◌};
 ghost use Rattle.vt_units.specs.ParserState.{Inside, IsOutcomeOf, Stands};
 
@@ -11,10 +11,10 @@ use crate::{Mode, Then, Unit};
 // The bytes of ESC ] P.
 const OPENING: usize = 3;
 
-// The digits of a colour before its last one.
+// The number of digits of a colour before its last one.
 const DIGITS: usize = 6;
 
-/// Right behind ESC ].
+/// Reads a byte right after ESC ].
 pub(crate) fn command(mode: Mode, text: &[u8], b: u8) -> (Then, Step)
     requires { Stands ParserState.Osc mode text.now }
     ensures { Inside mode text.now b result.0 result.1 }
@@ -34,7 +34,7 @@ pub(crate) fn command(mode: Mode, text: &[u8], b: u8) -> (Then, Step)
     }
 }
 
-/// Behind ESC ] P and digits.
+/// Reads a byte after ESC ] P and digits.
 pub(crate) fn palette(mode: Mode, text: &[u8], b: u8) -> (Then, Step)
     requires { Stands ParserState.Palette mode text.now }
     ensures { Inside mode text.now b result.0 result.1 }

@@ -1,4 +1,4 @@
-/// How far the pending bytes have come: what they were read as, so that no byte is looked at twice.
+/// The state of the parser after the pending bytes, so that no byte is read twice.
 #[derive(Debug, Clone, Copy, PartialEq, Eq)]
 pub(crate) enum ParserState {
     /// No bytes are pending.
@@ -15,8 +15,8 @@ pub(crate) enum ParserState {
     Osc,
     /// ESC ] P, and digits of a colour.
     Palette,
-    /// What opened a string.
+    /// The bytes that open a string.
     ControlString,
-    /// The same, and ESC.
+    /// The bytes that open a string, and ESC.
     StringEscape,
 }

@@ -158,8 +158,8 @@ impl Pending {
         ahead
     }
 
-    /// Reads what [`Pending::take_sequence`] reads, if it is a control sequence of one or two short
-    /// parameters that doesn't begin with `?`. After None that call has the result.
+    /// Reads the sequence that [`Pending::take_sequence`] reads, if it is a control sequence of one or two
+    /// short parameters that doesn't begin with `?`. After None that call has the result.
     #[inline(always)]
     pub fn take_short_csi(&mut self, mode: Mode, b: &[u8]) -> Option<ShortCsi>
         ensures sequence { IfSome result (λ brief. taken_ahead self.old b.now ≡ Some (csi_in brief)) }
@@ -177,8 +177,8 @@ impl Pending {
         Some(brief)
     }
 
-    /// Reads what [`Pending::take_sequence`] reads, if it is an escape sequence of two bytes with a
-    /// final byte from `0` to `O`, and returns that byte.
+    /// Reads the sequence that [`Pending::take_sequence`] reads, if it is an escape sequence of two bytes
+    /// with a final byte from `0` to `O`, and returns that byte.
     #[inline(always)]
     pub fn take_escape(&mut self, mode: Mode, b: &[u8]) -> Option<u8>
         ensures sequence { IfSome result (λ last. taken_ahead self.old b.now
@@ -210,8 +210,8 @@ impl Pending {
         takes
     }
 
-    // Adds the byte to the body of a control sequence, where it is part of one, and tells whether it
-    // is: most bytes of a sequence are.
+    // Adds the byte to the body of a control sequence if it is part of one, and returns whether it is: most
+    // bytes of a sequence are.
     fn take_body(&mut self, b: u8) -> bool
         ensures goes { result ≡ true → Quiet self.old b self.new }
         ensures stays { result ≡ false → self.new ≡ self.old }
@@ -223,7 +223,7 @@ impl Pending {
         goes
     }
 
-    // Ends what the byte ends by following it; the answer is whether that was malformed.
+    // Ends the text that the byte ends by following it, and returns whether that text was malformed.
     fn settle(&mut self, mode: Mode, b: u8) -> bool
         ensures { rest_before self.old mode b ≡ record { bad = result; rest = self.new } }
     {
@@ -240,7 +240,7 @@ impl Pending {
         false
     }
 
-    // Goes on without a text, where there was none.
+    // Continues without a text, if there was none.
     #[tactic(auto, using(crate::proofs::Empties::stands_empty))]
     fn go_on(&mut self, mode: Mode)
         requires { is_empty self.old.text ≡ true }
@@ -266,7 +266,7 @@ impl Pending {
         self.text.push(0x1B);
     }
 
-    // Reads the byte behind what is left.
+    // Reads the byte after the bytes that are left.
     fn advance(&mut self, b: u8) -> Then
         ensures { byte_outcome self.old b ≡ record { got = result; rest = self.new } }
     {
@@ -340,7 +340,7 @@ fn settling(stage: ParserState, mode: Mode, text: &[u8], now: Mode, b: u8) -> Re
     }
 }
 
-// Of a string: its rest has the mode at an ESC.
+// The remainder of a string: it has the mode at an ESC.
 fn opened(b: u8) -> Remainder
     ensures { result ≡ (if b == 0x1B then Remainder.AllInNewMode else Remainder.All) }
 {
@@ -351,7 +351,7 @@ fn opened(b: u8) -> Remainder
     }
 }
 
-// Of a string and an ESC.
+// The remainder of a string with an ESC at its end.
 fn ended(mode: Mode, b: u8) -> Remainder
     ensures { result ≡ (if b == 0x5C then Remainder.All
         else if interrupts mode b then Remainder.Nothing
@@ -366,7 +366,7 @@ fn ended(mode: Mode, b: u8) -> Remainder
     }
 }
 
-// Of a sequence that isn't a string.
+// The remainder of a sequence that isn't a string.
 fn broken(mode: Mode, b: u8) -> Remainder
     ensures { result ≡ (if interrupts mode b then Remainder.Nothing else Remainder.All) }
 {

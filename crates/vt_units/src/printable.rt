@@ -1,4 +1,4 @@
-//! The printable characters of ASCII at the front of a text, looked for 16 bytes at a time.
+//! The printable characters of ASCII at the start of a text, searched 16 bytes at a time.
 ghost use Rattle.std.specs.List.{prefix_len};
 ghost use Rattle.std.specs.Prelude.{◌≡◌, ◌≤◌, ◌+◌, drop, length, map, not};
 ghost use Rattle.std.specs.Simd.Lanes.{mask_l};
@@ -7,10 +7,10 @@ ghost use Rattle.vt_units.specs.Bytes.{is_printable};
 use crate::bytes::is_printable;
 use std::simd::prelude::*;
 
-/// How many bytes are looked at together.
+/// The number of bytes that are searched together.
 const LANES: usize = 16;
 
-/// How many of the first bytes are printable characters of ASCII.
+/// The number of the first bytes that are printable characters of ASCII.
 pub(crate) fn printable_prefix(b: &[u8]) -> usize
     ensures count { result ≡ prefix_len is_printable b.now }
     ensures bound { result ≤ length b.now }
@@ -26,7 +26,7 @@ pub(crate) fn printable_prefix(b: &[u8]) -> usize
     at + short_prefix(&b[at..])
 }
 
-// The same, one by one.
+// The number of the first bytes that are printable, found one by one.
 fn short_prefix(b: &[u8]) -> usize
     ensures count { result ≡ prefix_len is_printable b.now }
     ensures bound { result ≤ length b.now }
@@ -39,7 +39,7 @@ fn short_prefix(b: &[u8]) -> usize
     b.len()
 }
 
-// A bit for each byte, set where it isn't printable.
+// A bit for each byte, set if it isn't printable.
 #[inline(always)]
 fn stops_in(v: u8x16) -> u64
     ensures { result ≡ mask_l (map (λ b. not (is_printable b)) v) }

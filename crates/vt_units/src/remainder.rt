@@ -1,4 +1,4 @@
-/// What is left of the pending bytes before a byte that may end them.
+/// The part of the pending bytes that is left before a byte that may end them.
 #[derive(Debug, Clone, Copy, PartialEq, Eq)]
 pub(crate) enum Remainder {
     /// All of them.
@@ -9,6 +9,6 @@ pub(crate) enum Remainder {
     Malformed,
     /// All of them, with the mode of this byte.
     AllInNewMode,
-    /// The ESC that stands last.
+    /// The ESC at their end.
     Escape,
 }

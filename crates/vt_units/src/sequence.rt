@@ -11,7 +11,8 @@ use crate::sequences::{control_unit, escape_unit};
 use crate::step::Step;
 use crate::{Mode, Then, Unit};
 
-/// What acts or vanishes comes first, then the bound, and then what the sequence admits.
+/// A byte that acts or vanishes is handled first, then the bound, and then the bytes that the sequence
+/// admits.
 pub(crate) fn sequence(stage: ParserState, mode: Mode, text: &[u8], b: u8) -> (Then, Step)
     requires stands { Stands stage mode text.now }
     requires sequence { IsSequence stage }
@@ -42,7 +43,7 @@ fn admit(stage: ParserState, mode: Mode, text: &[u8], b: u8) -> (Then, Step)
     }
 }
 
-// Behind ESC and intermediate bytes.
+// Reads a byte after ESC and intermediate bytes.
 fn escape(mode: Mode, text: &[u8], b: u8) -> (Then, Step)
     requires stands { Stands ParserState.Escape mode text.now }
     requires room { length text.now < 256 }
@@ -73,7 +74,7 @@ fn mids_of(mode: Mode, text: &[u8]) -> &[u8]
     &text[1..]
 }
 
-// Behind CSI and a body.
+// Reads a byte after CSI and a body.
 fn control(mode: Mode, text: &[u8], b: u8) -> (Then, Step)
     requires stands { Stands ParserState.Control mode text.now }
     requires room { length text.now < 256 }
@@ -91,7 +92,7 @@ fn control(mode: Mode, text: &[u8], b: u8) -> (Then, Step)
     }
 }
 
-// CSI is one byte, or two where it begins with ESC or is the character U+009B.
+// CSI is one byte, or two if it begins with ESC or is the character U+009B.
 fn body_of(mode: Mode, text: &[u8]) -> &[u8]
     requires { Stands ParserState.Control mode text.now }
     ensures { HasBody mode text.now result.now }
@@ -104,7 +105,7 @@ fn body_of(mode: Mode, text: &[u8]) -> &[u8]
     }
 }
 
-// Behind CSI [.
+// Reads a byte after CSI [.
 fn bracket(mode: Mode, text: &[u8], b: u8) -> (Then, Step)
     requires stands { Stands ParserState.CsiBracket mode text.now }
     requires room { length text.now < 256 }

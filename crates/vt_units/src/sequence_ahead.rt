@@ -1,4 +1,4 @@
-//! A whole sequence at the front of a text.
+//! A whole sequence at the start of a text.
 ghost use Rattle.std.specs.Prelude.{◌≡◌, ◌≤◌, [], length, drop};
 ghost use Rattle.vt_units.specs.WholeSequence.{control_ahead, ends_control, ends_escape, escape_ahead, mid_ahead, numbers_ahead, opened_ahead, parameters_ahead, sequence_ahead, sequence_of};
 ghost use Rattle.vt_units.specs.Numbers.{params_of};
@@ -10,8 +10,8 @@ use crate::numbers::read_numbers;
 use crate::pending_bytes::SEQUENCE_BYTES;
 use crate::{Params, WholeSequence};
 
-/// The sequence that the text begins with, where it is one that is read at once. Its parameters are
-/// then in `params`.
+/// The sequence that the text begins with, if it is one that is read at once. Its parameters are then in
+/// `params`.
 pub(crate) fn sequence_ahead(b: &[u8], params: &mut Params) -> WholeSequence
     requires { params.old ≡ [] }
     ensures sequence { sequence_of result params.new ≡ sequence_ahead b.now }
@@ -32,7 +32,7 @@ fn opened_ahead(b: &[u8], params: &mut Params) -> WholeSequence
     }
 }
 
-// Behind ESC.
+// The sequence that goes on after ESC.
 fn escape_ahead(b: u8, more: &[u8], params: &mut Params) -> WholeSequence
     requires none { params.old ≡ [] }
     requires short { length more.now ≤ 256 }
@@ -54,7 +54,7 @@ fn escape_ahead(b: u8, more: &[u8], params: &mut Params) -> WholeSequence
     }
 }
 
-// Behind ESC and an intermediate byte.
+// The sequence that goes on after ESC and an intermediate byte.
 fn mid_ahead(mid: u8, more: &[u8]) -> WholeSequence
     ensures sequence { sequence_of result [] ≡ mid_ahead mid more.now }
     ensures parameters { parameters_ahead (mid_ahead mid more.now) ≡ [] }
@@ -69,7 +69,7 @@ fn mid_ahead(mid: u8, more: &[u8]) -> WholeSequence
     }
 }
 
-// Behind ESC [.
+// The sequence that goes on after ESC [.
 fn control_ahead(text: &[u8], params: &mut Params) -> WholeSequence
     requires none { params.old ≡ [] }
     requires short { length text.now ≤ 256 }
@@ -82,7 +82,7 @@ fn control_ahead(text: &[u8], params: &mut Params) -> WholeSequence
     }
 }
 
-// Parameters and a last byte, behind so many bytes.
+// Parameters and a last byte, after so many bytes.
 #[inline(always)]
 fn numbers_ahead(private: bool, before: usize, text: &[u8], params: &mut Params) -> WholeSequence
     requires none { params.old ≡ [] }

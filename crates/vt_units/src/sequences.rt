@@ -1,4 +1,4 @@
-//! What a finished sequence is as a unit.
+//! The units of finished sequences.
 ghost use Rattle.std.specs.Prelude.{◌≡◌, ◌<◌, ◌++◌, ◌∷◌, [], true, length};
 ghost use Rattle.std.specs.List.{list_all};
 ghost use Rattle.vt_units.specs.Bytes.{is_hex};

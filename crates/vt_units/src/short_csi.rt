@@ -1,11 +1,11 @@
-/// A control sequence of one or two short parameters, which no `?` begins.
+/// A control sequence of one or two short parameters, without a leading `?`.
 #[derive(Clone, Copy)]
 pub struct ShortCsi {
     pub first: u16,
-    /// The second parameter, which counts where there are both.
+    /// The second parameter, if there are two.
     pub second: u16,
     pub both: bool,
     pub last: u8,
-    /// How many bytes it has.
+    /// The number of its bytes.
     pub count: usize,
 }

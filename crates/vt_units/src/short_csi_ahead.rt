@@ -1,4 +1,4 @@
-//! A short sequence at the front of a text, read without a list of its parameters.
+//! A short sequence at the start of a text, read without a list of its parameters.
 ghost use Rattle.std.specs.Prelude.{◌≡◌, ◌==◌, ◌≤◌, ◌+◌, ◌*◌, length, slice_index, take, false, true, Some, IfSome, MatchOption};
 ghost use Rattle.vt_units.specs.WholeSequence.{ends_control, opened_ahead, sequence_ahead};
 ghost use Rattle.vt_units.specs.ShortForms.{begins_short, begins_escape, is_short_end};
@@ -14,8 +14,8 @@ use crate::pending_bytes::SEQUENCE_BYTES;
 /// The most bytes of such a sequence: ESC, `[`, two numbers of three digits, `;` and the last byte.
 const SHORT_CSI_BYTES: usize = 10;
 
-/// The control sequence of one or two parameters, each of three digits at most, that the text begins
-/// with, where as many bytes as the longest of them are there.
+/// The control sequence of one or two parameters, each of at most three digits, that the text begins with, if
+/// the text has as many bytes as the longest such sequence.
 #[inline(always)]
 pub(crate) fn short_csi_ahead(b: &[u8]) -> Option<ShortCsi>
     ensures sequence { IfSome result (λ brief. sequence_ahead b.now ≡ Some (csi_in brief)) }
@@ -134,8 +134,8 @@ pub(crate) fn number_at(b: &[u8], at: usize) -> (u16, usize)
     (with_digit(two, b[at + 2]) as u16, at + 3)
 }
 
-// Whether the byte ends a control sequence, and is one that is looked for here: a letter, `@` or a
-// grave accent. The few others are left to the longer way.
+// Whether the byte ends a control sequence and is one that is read here: a letter, `@` or a grave accent. The
+// few others are left to the slower way.
 #[inline(always)]
 fn ends_short(b: u8) -> bool
     ensures byte { result ≡ is_short_end b }
@@ -155,8 +155,7 @@ pub(crate) fn with_digit(number: u32, digit: u8) -> u32
     number * 10 + u32::from(digit - b'0')
 }
 
-/// The last byte of the escape sequence of two bytes that the text begins with, where it is one from
-/// `0` to `O`.
+/// The last byte of the escape sequence of two bytes that the text begins with, if it is from `0` to `O`.
 #[inline(always)]
 pub(crate) fn escape_ahead_of(b: &[u8]) -> Option<u8>
     ensures sequence { IfSome result (λ last. sequence_ahead b.now

@@ -1,12 +1,12 @@
 use crate::parser_state::ParserState;
 
-/// What a byte does to the pending bytes.
+/// The effect of a byte on the pending bytes.
 #[derive(Debug, Clone, Copy, PartialEq, Eq)]
 pub(crate) enum Step {
     /// They stay.
     Keep,
     /// The byte is added, and the stage is then this one.
     Grow(ParserState),
-    /// None are left.
+    /// No bytes are left.
     Clear,
 }

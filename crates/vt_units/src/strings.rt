@@ -7,7 +7,7 @@ use crate::parser_state::ParserState;
 use crate::step::Step;
 use crate::{Mode, Then, Unit};
 
-/// In a string.
+/// Reads a byte in a string.
 pub(crate) fn string(mode: Mode, text: &[u8], b: u8) -> (Then, Step)
     requires { Stands ParserState.ControlString mode text.now }
     ensures { Inside mode text.now b result.0 result.1 }
@@ -23,7 +23,7 @@ pub(crate) fn string(mode: Mode, text: &[u8], b: u8) -> (Then, Step)
     }
 }
 
-/// Behind an ESC in a string.
+/// Reads a byte after an ESC in a string.
 pub(crate) fn string_end(mode: Mode, text: &[u8], b: u8) -> (Then, Step)
     requires { Stands ParserState.StringEscape mode text.now }
     ensures { Inside mode text.now b result.0 result.1 }

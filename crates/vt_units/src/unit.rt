@@ -1,6 +1,6 @@
 use crate::Params;
 
-/// A unit: what a text means (console_codes(4)).
+/// A unit: the meaning of a text (console_codes(4)).
 #[derive(Debug, Drop)]
 pub enum Unit {
     /// A character, by its code point. U+FFFD stands for malformed bytes.

@@ -1,7 +1,7 @@
-/// A sequence at the front of a text, and how many bytes it has.
+/// A sequence at the start of a text, and the number of its bytes.
 #[derive(Debug, Clone, Copy, PartialEq, Eq)]
 pub enum WholeSequence {
-    /// None that is read at once.
+    /// No sequence that is read at once.
     Nothing,
     /// An escape sequence: its intermediate byte, or 0 if there is none, and its final byte.
     Esc {
@@ -9,7 +9,7 @@ pub enum WholeSequence {
         last: u8,
         count: usize,
     },
-    /// A control sequence: whether `?` begins it, and its last byte.
+    /// A control sequence: whether it begins with `?`, and its last byte.
     Csi {
         private: bool,
         last: u8,

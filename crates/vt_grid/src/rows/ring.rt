@@ -8,7 +8,7 @@ use std::marker::Model;
 use std::sync::ledger::Ledger;
 use vt_base::NoMemory;
 
-/// Numbers in a ring: the first of them stands at `head`.
+/// Numbers in a ring: the first of them is at `head`.
 #[derive(Drop)]
 pub(crate) struct Ring {
     head: u8,
@@ -47,7 +47,7 @@ impl Ring {
         self.numbers[place]
     }
 
-    /// So many numbers from the one at `from` on, in two pieces.
+    /// The `count` numbers from the one at `from` on, in two pieces.
     pub(crate) fn pieces(&self, from: u8, count: u8) -> (&[u8], &[u8])
         requires { from + count ≤ length self.now }
         ensures { result.0.now ++ result.1.now ≡ take count (drop from self.now) }
@@ -62,7 +62,7 @@ impl Ring {
         }
     }
 
-    /// Moves all numbers up by `n` round the end.
+    /// Moves all numbers up by `n` around the end.
     pub(crate) fn turn(&mut self, n: u8)
         requires { n ≤ length self.old }
         ensures { self.new ≡ rotation_by n self.old }
@@ -70,7 +70,7 @@ impl Ring {
         self.head = place_of(self.head, n, self.numbers.len()) as u8;
     }
 
-    /// Moves the numbers `top` to `bottom` up by `n` round their end, with a step for each.
+    /// Moves the numbers `top` to `bottom` up by `n` around their end, with a step for each.
     #[inline(never)]
     pub(crate) fn rotate<L: Ledger>(&mut self, top: u8, bottom: u8, n: u8, steps: &mut Steps<L>)
         requires order { top ≤ bottom }
@@ -86,7 +86,7 @@ impl Ring {
     }
 }
 
-// The place of what stands y after the head, in a ring of len places.
+// The place of the number that is y places after the head, in a ring of len places.
 fn place_of(head: u8, y: u8, len: usize) -> usize
     requires head { head < len }
     requires within { y ≤ len }
@@ -108,7 +108,7 @@ fn read_part(numbers: &[u8], head: u8, top: u8, part: &mut [u8])
     }
 }
 
-// Reads numbers from the one at `top` on, those from `n` on before the first `n`.
+// Reads numbers from the one at `top` on: those from `n` on, and then the first `n`.
 fn read_turned(numbers: &[u8], head: u8, top: u8, n: u8, part: &mut [u8])
     requires head { head < length numbers.now }
     requires within { top + length part.old ≤ length numbers.now }

@@ -131,7 +131,7 @@ impl Row {
         }
     }
 
-    /// Puts the cell `c` in at column `x`, `count` times.
+    /// Inserts the cell `c` at column `x`, `count` times.
     pub(crate) fn insert(&mut self, x: u8, count: u8, c: Cell)
         requires place { x ≤ length self.old.line.stored }
         requires columns { x + count ≤ self.old.room }
@@ -148,8 +148,7 @@ impl Row {
         self.len = end as u8;
     }
 
-    /// Takes `count` cells out at column `x` of a row whose cells are all stored. All further
-    /// cells are `c`.
+    /// Removes `count` cells at column `x` of a row whose cells are all stored. All further cells are `c`.
     pub(crate) fn remove(&mut self, x: u8, count: u8, c: Cell)
         requires stored { length self.old.line.stored ≡ self.old.room }
         requires columns { x + count ≤ self.old.room }
@@ -211,7 +210,7 @@ fn copy_prefix(cells: &mut [PackedCell], front: &[PackedCell])
     cells[..front.len()].copy_from_slice(front);
 }
 
-// Writes the cells of `front`, and `rest` from there on up to place `end`.
+// Writes the cells of `front`, and then `rest` up to place `end`.
 fn cover_prefix(cells: &mut [PackedCell], end: u8, front: &[PackedCell], rest: PackedCell)
     requires front { length front.now ≤ end }
     requires end { end ≤ length cells.old }
@@ -221,7 +220,7 @@ fn cover_prefix(cells: &mut [PackedCell], end: u8, front: &[PackedCell], rest: P
     cover_all(&mut cells[..usize::from(end)], front, rest);
 }
 
-// Writes the cells of `front`, and `rest` from there on.
+// Writes the cells of `front`, and then `rest`.
 fn cover_all(cells: &mut [PackedCell], front: &[PackedCell], rest: PackedCell)
     requires { length front.now ≤ length cells.old }
     ensures { cells.new ≡ front.now ++ replicate (length cells.old - length front.now) rest }

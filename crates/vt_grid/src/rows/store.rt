@@ -23,8 +23,8 @@ pub struct RowStore {
     size: Size,
     ring: Ring,
     rows: Vec<Row>,
-    // Whether it is known that no cell is the right half of a character: then no border parts one, and
-    // no cell is looked at.
+    // Whether it is known that no cell is the right half of a character: then no border splits one, and no
+    // cell is read.
     narrow: bool,
 }
 
@@ -180,7 +180,7 @@ impl RowStore {
     }
 }
 
-// Whether it is known that no cell is the right half of a character, where this one comes in.
+// Whether it is known that no cell is the right half of a character, if this one is added.
 fn stays_narrow(narrow: bool, c: Cell) -> bool
     ensures before { result ≡ true → narrow ≡ true }
     ensures one { result ≡ true → is_half c ≡ false }

@@ -5,7 +5,7 @@ ghost use Rattle.vt_screen.specs.Saying.{bell_if};
 use super::Canvas;
 
 impl Canvas {
-    /// What a control character does. The answer is whether the bell rings.
+    /// Applies a control character, and returns whether the bell rings.
     #[tactic(auto, unfolding(crate::specs::Effect::control))]
     pub(crate) fn control(&mut self, code: u8) -> bool
         ensures { control code self.old ≡ record { screen = self.new; said = bell_if result } }

@@ -64,7 +64,7 @@ impl Canvas {
         self.unwrap();
     }
 
-    /// ICH: puts `n` blanks in at the cursor.
+    /// ICH: inserts `n` blanks at the cursor.
     #[tactic(auto, unfolding(crate::specs::Erasing::insert_characters))]
     pub(super) fn insert_characters(&mut self, n: u16)
         ensures { self.new ≡ insert_characters n self.old }
@@ -73,7 +73,7 @@ impl Canvas {
         self.unwrap();
     }
 
-    /// DCH: takes `n` cells out at the cursor.
+    /// DCH: deletes `n` cells at the cursor.
     #[tactic(auto, unfolding(crate::specs::Erasing::delete_characters))]
     pub(super) fn delete_characters(&mut self, n: u16)
         ensures { self.new ≡ delete_characters n self.old }
@@ -82,7 +82,7 @@ impl Canvas {
         self.unwrap();
     }
 
-    /// IL: puts `n` blank rows in at the cursor's one.
+    /// IL: inserts `n` blank rows at the cursor's row.
     #[tactic(auto, unfolding(crate::specs::Erasing::insert_lines))]
     pub(super) fn insert_lines(&mut self, n: u16)
         ensures { self.new ≡ insert_lines n self.old }
@@ -96,7 +96,7 @@ impl Canvas {
         self.unwrap();
     }
 
-    /// DL: takes `n` rows out at the cursor's one.
+    /// DL: deletes `n` rows at the cursor's row.
     #[tactic(auto, unfolding(crate::specs::Erasing::delete_lines))]
     pub(super) fn delete_lines(&mut self, n: u16)
         ensures { self.new ≡ delete_lines n self.old }
@@ -116,7 +116,7 @@ impl Canvas {
         self.state.top <= self.state.y && self.state.y <= self.state.bottom
     }
 
-    // No wrap is pending any more.
+    // Ends a pending wrap.
     fn unwrap(&mut self)
         ensures { self.new ≡ without_pending_wrap self.old }
     {
@@ -179,7 +179,7 @@ impl Canvas {
         self.grid.stays_full();
     }
 
-    /// Puts `n` blanks in at the cursor.
+    /// Inserts `n` blanks at the cursor.
     pub(super) fn insert_cells(&mut self, n: u16)
         ensures { self.new ≡ cells_inserted n self.old }
     {
@@ -191,7 +191,7 @@ impl Canvas {
         self.grid.stays_full();
     }
 
-    // Takes `n` cells out at the cursor.
+    // Deletes `n` cells at the cursor.
     fn delete_cells(&mut self, n: u16)
         ensures { self.new ≡ cells_deleted n self.old }
     {
@@ -201,7 +201,7 @@ impl Canvas {
         self.grid.stays_full();
     }
 
-    // Parts the cursor's row before the cursor, and then `n` columns on, where the row goes so far.
+    // Splits the cursor's row before the cursor, and then `n` columns after it, if the row is so long.
     fn part_ends(&mut self, n: u16)
         ensures { self.new
             ≡ with_grid self.old
@@ -216,7 +216,7 @@ impl Canvas {
         }
     }
 
-    // Parts the cursor's row before column `x`, and then before column `end`.
+    // Splits the cursor's row before column `x`, and then before column `end`.
     fn part(&mut self, x: u8, end: u8)
         requires column { x ≤ self.old.grid.cols }
         requires end { end ≤ self.old.grid.cols }

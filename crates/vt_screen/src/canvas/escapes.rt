@@ -7,7 +7,7 @@ use super::Canvas;
 use crate::Outs;
 
 impl Canvas {
-    /// Does what an escape sequence does. What it says beside the screen is then last in `outs`.
+    /// Applies an escape sequence. Its side effect, if it has one, is then last in `outs`.
     #[inline(always)]
     #[tactic(auto, unfolding(crate::specs::Effect::escape))]
     pub(crate) fn escape(&mut self, mid: u8, last: u8, outs: &mut Outs)

@@ -28,7 +28,7 @@ impl Canvas {
         self.state.wrap = false;
     }
 
-    /// What LF does.
+    /// LF: a line feed; in newline mode the cursor also goes to the first column.
     pub(super) fn newline(&mut self)
         ensures { self.new ≡ newline self.old }
     {
@@ -45,7 +45,7 @@ impl Canvas {
         self.state.y == self.state.bottom
     }
 
-    /// Does line feeds at once, of which each scrolls.
+    /// Applies line feeds at once, each of which scrolls.
     pub(crate) fn scroll(&mut self, count: u16)
         requires some { 0 < count }
         requires scrolls { self.old.state.y ≡ self.old.state.bottom }
@@ -58,7 +58,7 @@ impl Canvas {
             .scroll_up(self.state.top, self.state.bottom, count, blank);
     }
 
-    // The column that a line feed leads to.
+    // The cursor's column after a line feed.
     fn line_start(&self) -> u8
         ensures column { result ≡ (if self.now.state.newline then 0 else self.now.state.x) }
         ensures within { result < self.now.grid.cols }
@@ -188,7 +188,7 @@ impl Canvas {
     }
 }
 
-// The next stop behind column `x`, or the last column where it comes first.
+// The next stop after column `x`, or the last column if that comes first.
 fn next_stop(stops: &Stops, x: u8, last: u8) -> u8
     requires within { x ≤ last }
     requires columns { last < 255 }

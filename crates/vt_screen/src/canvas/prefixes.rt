@@ -1,4 +1,4 @@
-//! How many characters at the front of a list are put at once.
+//! The number of characters at the start of a list that are printed at once.
 ghost use Rattle.std.specs.List.{prefix_len};
 ghost use Rattle.std.specs.Prelude.{◌≡◌, ◌<◌, ◌≤◌, ◌+◌, ◌++◌, ℕ, [], false, true, length, slice_index, take};
 ghost use Rattle.vt_cells.specs.Width.{columns, is_plain};
@@ -7,8 +7,8 @@ ghost use Rattle.vt_screen.specs.Printing.{cells_codes, cells_of_characters};
 use vt_cells::{HALF, columns, is_plain};
 use vt_units::Codes;
 
-/// How many of the first characters are plain ones, of one column each: by fours, of which the last
-/// ones may have been looked at before.
+/// The number of the first characters that are plain, of one column each: by fours, so the last ones may be
+/// read twice.
 pub(super) fn plain_prefix(codes: &[u32]) -> usize
     ensures count { result ≡ prefix_len is_plain codes.now }
     ensures within { result ≤ length codes.now }
@@ -26,7 +26,7 @@ pub(super) fn plain_prefix(codes: &[u32]) -> usize
     at + plain_rest(&codes[at..])
 }
 
-// How many of the first characters are plain ones, one by one.
+// The number of the first characters that are plain, one by one.
 #[inline(never)]
 fn plain_rest(codes: &[u32]) -> usize
     ensures count { result ≡ prefix_len is_plain codes.now }
@@ -59,8 +59,8 @@ fn are_four_plain(codes: &[u32], at: usize) -> bool
     is_plain(codes[at + 3])
 }
 
-/// How many of the first characters have at most so many cells. The codes of these cells are then in
-/// `cells`.
+/// The number of the first characters that have at most so many cells together. The codes of these cells are
+/// then in `cells`.
 pub(super) fn fitting_prefix(codes: &[u32], most: usize, cells: &mut Codes) -> usize
     requires empty { cells.old ≡ [] }
     requires few { most ≤ 64 }
@@ -76,7 +76,7 @@ pub(super) fn fitting_prefix(codes: &[u32], most: usize, cells: &mut Codes) -> u
     codes.len()
 }
 
-// Adds the codes of a character's cells, where there are then at most so many.
+// Adds the codes of a character's cells, if there are then at most so many.
 fn add_cells(code: u32, most: usize, cells: &mut Codes) -> bool
     requires few { most ≤ 64 }
     requires fits { length cells.old ≤ most }

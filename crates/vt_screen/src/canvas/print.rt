@@ -11,7 +11,7 @@ use vt_cells::{HALF, columns, columns_are_few};
 use vt_grid::laws::stretches_join;
 use vt_units::{Codes, MOST_CODES};
 
-/// What stands for a character that a row has no columns for (Unicode, "REPLACEMENT CHARACTER").
+/// The character that replaces one for which a row has no columns (Unicode, "REPLACEMENT CHARACTER").
 const REPLACEMENT: u32 = 0xFFFD;
 
 impl Canvas {
@@ -39,8 +39,8 @@ impl Canvas {
         }
     }
 
-    /// How many cells there are from the cursor to the end of its row, where no wrap is pending and
-    /// insert mode is off.
+    /// The number of cells from the cursor to the end of its row, if no wrap is pending and insert mode is
+    /// off.
     pub(crate) fn room(&self) -> usize
         ensures room { result ≡ room self.now }
         ensures whole { IsWhole self.now }
@@ -57,7 +57,7 @@ impl Canvas {
         }
     }
 
-    /// Prints the character of a byte, or none.
+    /// Prints the character of the first byte, if there is one.
     pub(crate) fn print_first(&mut self, bytes: &[u8])
         requires { length bytes.now ≤ 1 }
         ensures { self.new ≡ print_characters bytes.now self.old }
@@ -95,7 +95,7 @@ impl Canvas {
         }
     }
 
-    // Prints characters at the front, as many at once as end in the cursor's row, and tells how many.
+    // Prints characters at the start, as many at once as end in the cursor's row, and returns their number.
     fn print_some(&mut self, codes: &[u32]) -> usize
         requires { 0 < length codes.now }
         ensures some { 0 < result }
@@ -114,7 +114,7 @@ impl Canvas {
         1
     }
 
-    // Prints the plain characters at the front that end in the cursor's row, and tells how many.
+    // Prints the plain characters at the start that end in the cursor's row, and returns their number.
     fn print_plain(&mut self, codes: &[u32]) -> usize
         ensures within { result ≤ length codes.now }
         ensures printed { self.new ≡ print_characters (take result codes.now) self.old }
@@ -129,8 +129,8 @@ impl Canvas {
         count
     }
 
-    // Prints the characters at the front that end in the cursor's row, and tells how many: none where
-    // they have no cell.
+    // Prints the characters at the start that end in the cursor's row, and returns their number: 0 if they
+    // have no cell.
     fn print_spread(&mut self, codes: &[u32]) -> usize
         ensures within { result ≤ length codes.now }
         ensures printed { self.new ≡ print_characters (take result codes.now) self.old }
@@ -146,7 +146,7 @@ impl Canvas {
         count
     }
 
-    // Prints a character in so many columns, of which a row has as many.
+    // Prints a character in so many columns; a row has at least as many.
     fn set_down(&mut self, width: u8, code: u32)
         requires some { 0 < width }
         requires few { width ≤ 2 }
@@ -158,7 +158,8 @@ impl Canvas {
         self.put(width, code);
     }
 
-    // Goes to where a character of so many columns ends in the row, and does the wrap that is pending.
+    // Moves the cursor to a place at which a character of so many columns ends in the row, and does the
+    // pending wrap.
     fn wrap(&mut self, width: u8)
         requires { width ≤ self.old.grid.cols }
         ensures wrapped { self.new ≡ after_wrap width self.old }
@@ -175,7 +176,7 @@ impl Canvas {
         }
     }
 
-    // In insert mode, makes a place at the cursor.
+    // In insert mode, makes room at the cursor.
     fn open(&mut self, width: u8)
         ensures { self.new ≡ with_gap width self.old }
     {
@@ -266,8 +267,8 @@ impl Canvas {
     }
 }
 
-// Moves the cursor on over so many cells: where they end the row it is in the last column, and with
-// autowrap a wrap is pending.
+// Moves the cursor on over so many cells: if they end the row, it is in the last column, and with autowrap a
+// wrap is pending.
 #[inline(always)]
 fn go_on(state: &mut ScreenState, count: usize, cols: u8)
     requires some { 0 < cols }
@@ -288,7 +289,7 @@ fn go_on(state: &mut ScreenState, count: usize, cols: u8)
     }
 }
 
-// Does the same where no wrap is pending.
+// Moves the cursor on over so many cells, if no wrap is pending.
 #[inline(always)]
 fn go_on_unwrapped(state: &mut ScreenState, count: usize, cols: u8)
     requires some { 0 < cols }

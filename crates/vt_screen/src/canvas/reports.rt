@@ -11,7 +11,7 @@ use vt_cells::Look;
 use vt_sgr::Pen;
 
 impl Canvas {
-    /// Says what DA asks for.
+    /// Adds the report for DA to `outs`.
     #[inline(never)]
     pub(super) fn report_device(&self, which: u16, outs: &mut Outs)
         requires room { length outs.old < 64 }
@@ -22,7 +22,7 @@ impl Canvas {
         outs.say(self.device_report(which));
     }
 
-    /// Says what DSR asks for.
+    /// Adds the report for DSR to `outs`.
     #[inline(never)]
     pub(super) fn report_status(&self, which: u16, outs: &mut Outs)
         requires room { length outs.old < 64 }
@@ -33,7 +33,7 @@ impl Canvas {
         outs.say(self.status_report(which));
     }
 
-    /// Says which lights DECLL sets.
+    /// Adds the lights that DECLL sets to `outs`.
     #[inline(never)]
     pub(super) fn report_lights(&self, which: u16, outs: &mut Outs)
         requires room { length outs.old < 64 }
@@ -44,7 +44,7 @@ impl Canvas {
         outs.say(lights(which));
     }
 
-    /// Does what CSI ] sets, and says what it asks for.
+    /// Sets the setting of CSI ], and adds its request to `outs`.
     #[inline(never)]
     pub(super) fn say_setting(&mut self, which: u16, value: u16, outs: &mut Outs)
         requires room { length outs.old < 64 }
@@ -55,7 +55,7 @@ impl Canvas {
         outs.say(self.console_setting(which, value));
     }
 
-    // DA: what the terminal is, a VT102.
+    // DA: the kind of the terminal, a VT102.
     #[tactic(auto, unfolding(crate::specs::Saying::device_report))]
     fn device_report(&self, which: u16) -> Option<Out>
         ensures { device_report which self.now ≡ record { screen = self.now; said = result } }
@@ -66,7 +66,7 @@ impl Canvas {
         }
     }
 
-    // DSR: how the terminal is, or where the cursor is.
+    // DSR: the status of the terminal, or the cursor's place.
     #[tactic(auto, unfolding(crate::specs::Saying::status_report))]
     fn status_report(&self, which: u16) -> Option<Out>
         ensures { status_report which self.now ≡ record { screen = self.now; said = result } }

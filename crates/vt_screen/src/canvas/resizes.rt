@@ -5,7 +5,7 @@ use super::Canvas;
 use vt_grid::Grid;
 
 impl Canvas {
-    /// Becomes as large as the fresh grid, and gives the old one.
+    /// Takes the size of the fresh grid, and returns the old one.
     #[tactic(auto, unfolding(crate::specs::Tape::resized_to))]
     pub(crate) fn resize(&mut self, fresh: Grid) -> Grid
         ensures screen { self.new ≡ resized_to fresh.rows fresh.cols self.old }

@@ -8,7 +8,7 @@ use vt_cells::Cell;
 use vt_sgr::Pen;
 
 impl Canvas {
-    /// DECSC: saves the cursor, with what belongs to it.
+    /// DECSC: saves the cursor, with its pen and its modes.
     #[tactic(auto, unfolding(crate::specs::Settings::save))]
     pub(super) fn save(&mut self)
         ensures { self.new ≡ save self.old }
@@ -23,7 +23,7 @@ impl Canvas {
         };
     }
 
-    /// DECRC: goes back to what was saved.
+    /// DECRC: restores the saved state.
     #[tactic(auto, unfolding(crate::specs::Settings::restore))]
     pub(super) fn restore(&mut self)
         ensures { self.new ≡ restore self.old }
@@ -40,7 +40,7 @@ impl Canvas {
         self.move_to(u32::from(saved.y), u32::from(saved.x));
     }
 
-    /// RIS: begins anew, but for what is kept.
+    /// RIS: starts again, except for the parts that are kept.
     #[tactic(auto, unfolding(crate::specs::Settings::reset))]
     pub(super) fn reset(&mut self)
         ensures { self.new ≡ reset self.old }

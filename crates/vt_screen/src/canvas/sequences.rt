@@ -10,7 +10,7 @@ use crate::Outs;
 use vt_units::LongSgr;
 
 impl Canvas {
-    /// Does what a control sequence does. What it says beside the screen is then last in `outs`.
+    /// Applies a control sequence. Its side effect, if it has one, is then last in `outs`.
     pub(crate) fn dispatch_sequence(
         &mut self,
         private: bool,
@@ -32,7 +32,7 @@ impl Canvas {
         }
     }
 
-    /// Does the same for a control sequence of one parameter, or of both.
+    /// Applies a control sequence of one parameter, or of two.
     #[inline(always)]
     pub(crate) fn dispatch_short_csi(
         &mut self,
@@ -53,7 +53,7 @@ impl Canvas {
         self.control_sequence(first, params[1], &params[..count], last, outs);
     }
 
-    /// Does the same for SGR of three parameters, or of five.
+    /// Applies SGR of three parameters, or of five.
     #[inline(always)]
     #[tactic(auto, unfolding(crate::specs::Effect::control_sequence))]
     pub(crate) fn dispatch_long_sgr(&mut self, longer: LongSgr, outs: &mut Outs)
@@ -67,7 +67,7 @@ impl Canvas {
         self.render_more(longer);
     }
 
-    // The table of control sequences, with the first two parameters beside the list of all.
+    // The table of control sequences, given the first two parameters and the list of all.
     #[inline(always)]
     #[tactic(auto, unfolding(crate::specs::Effect::control_sequence))]
     fn control_sequence(
@@ -123,7 +123,7 @@ impl Canvas {
         }
     }
 
-    // What a control sequence that `?` begins does.
+    // Applies a control sequence that begins with `?`.
     #[tactic(auto, unfolding(crate::specs::Effect::private_sequence))]
     fn private_sequence(&mut self, params: &[u16], last: u8)
         ensures { private_sequence params.now last self.old ≡ without_out self.new }
@@ -136,7 +136,7 @@ impl Canvas {
     }
 }
 
-// A parameter as it stands, or 0 where there is none.
+// A parameter, or 0 if there is none.
 fn number_at(params: &[u16], place: usize) -> u16
     ensures { result ≡ number_at params.now place }
 {

@@ -150,7 +150,7 @@ impl Canvas {
         self.erase = erase_byte(&self.state.pen.attr);
     }
 
-    // SGR of more than two parameters, out of line: then the usual ones save no registers.
+    // SGR of more than two parameters. It isn't inlined: then the usual ones save no registers.
     #[inline(never)]
     #[tactic(auto, unfolding(crate::specs::Settings::after_sgr, crate::specs::Screen::printed_byte, crate::specs::Screen::erased_byte))]
     fn render_long_sgr(&mut self, params: &[u16])
@@ -245,7 +245,7 @@ fn last_of(bottom: u16, rows: u16) -> u16
     if bottom == 0 { rows } else { bottom }
 }
 
-// The table that the final byte designates, or the old one where it designates none.
+// The table that the final byte designates, or the old one if it designates none.
 fn table_named(last: u8, old: u8) -> u8
     requires { old < 4 }
     ensures table { result ≡ table_named last old }

@@ -1,4 +1,4 @@
-//! Sequences that stand whole at the front of a text.
+//! Sequences that stand whole at the start of a text.
 ghost use Rattle.std.specs.Prelude.{◌≡◌, ◌<◌, ◌≤◌, ◌+◌, length, take};
 ghost use Rattle.vt_screen.specs.Run.{screen_effects, with_outs};
 ghost use Rattle.vt_units.specs.Run.{run};
@@ -7,7 +7,7 @@ use crate::{Emu, Outs};
 use vt_units::{Params, WholeSequence, sequences_are_units};
 
 impl Emu {
-    // Does what `obey_front` does, quickly where the sequence has one or two short parameters.
+    // Does what `dispatch_prefix` does, by a faster way for a sequence of one or two short parameters.
     #[inline(always)]
     pub(super) fn dispatch_short_csi(&mut self, b: &[u8], outs: &mut Outs) -> usize
         requires room { length outs.old < 64 }
@@ -28,7 +28,7 @@ impl Emu {
         }
     }
 
-    // Does what `obey_front` does, quickly where it is an escape sequence of two bytes.
+    // Does what `dispatch_prefix` does, by a faster way for an escape sequence of two bytes.
     #[inline(always)]
     fn dispatch_escape(&mut self, b: &[u8], outs: &mut Outs) -> usize
         requires room { length outs.old < 64 }
@@ -48,7 +48,7 @@ impl Emu {
         }
     }
 
-    // Does what `obey_front` does, quickly where the sequence is SGR that sets one colour.
+    // Does what `dispatch_prefix` does, by a faster way for SGR that sets one colour.
     #[inline(never)]
     fn dispatch_long_sgr(&mut self, b: &[u8], outs: &mut Outs) -> usize
         requires room { length outs.old < 64 }
@@ -68,8 +68,8 @@ impl Emu {
         }
     }
 
-    // Does the sequence that the text begins with, where it is read at once, and tells how many bytes
-    // it is.
+    // Runs the sequence that the text begins with, if it is read at once, and returns the number of its
+    // bytes.
     #[inline(never)]
     fn dispatch_prefix(&mut self, b: &[u8], outs: &mut Outs) -> usize
         requires room { length outs.old < 64 }

@@ -8,8 +8,8 @@ use crate::long_sgr_ahead::long_sgr_ahead;
 use crate::{LongSgr, Mode, Pending};
 
 impl Pending {
-    /// Reads what [`Pending::take_sequence`] reads, if it is SGR that sets one colour by its index or
-    /// by its three parts, each of three digits at most. After None that call has the result.
+    /// Reads the sequence that [`Pending::take_sequence`] reads, if it is SGR that sets one colour by its
+    /// index or by its three parts, each of at most three digits. After None that call has the result.
     #[inline(always)]
     pub fn take_long_sgr(&mut self, mode: Mode, b: &[u8]) -> Option<LongSgr>
         ensures sequence { IfSome result (λ longer. taken_ahead self.old b.now ≡ Some (sgr_in longer)) }

@@ -1,4 +1,4 @@
-//! The edits of a grid, as the rows take them.
+//! The edits of a grid, on its stored rows.
 ghost use Rattle.std.specs.List.{list_all};
 ghost use Rattle.std.specs.Prelude.{◌≡◌, ◌+◌, ◌-◌, ◌<◌, ◌≤◌, ◌==◌, length, map, not, replicate, take, true};
 ghost use Rattle.vt_cells.specs.Width.{half};
@@ -83,8 +83,8 @@ impl RowStore {
         self.narrow = stays_narrow(self.narrow, c);
     }
 
-    /// Puts the cell `c` in at column `x` of row `y`, `n` times. The row's rest moves right, and what
-    /// passes the end is lost.
+    /// Inserts the cell `c` at column `x` of row `y`, `n` times. The row's rest moves right, and the cells
+    /// that pass the end are lost.
     pub(crate) fn insert(&mut self, y: u8, x: u8, n: u16, c: Cell)
         requires row { y < self.old.rows }
         requires column { x < self.old.cols }
@@ -100,7 +100,7 @@ impl RowStore {
         self.narrow = stays_narrow(self.narrow, c);
     }
 
-    /// Takes `n` cells out at column `x` of row `y`. The row's rest moves left, and its end is `c`.
+    /// Deletes `n` cells at column `x` of row `y`. The row's rest moves left, and its end is `c`.
     pub(crate) fn delete(&mut self, y: u8, x: u8, n: u16, c: Cell)
         requires row { y < self.old.rows }
         requires column { x < self.old.cols }
@@ -134,7 +134,7 @@ impl RowStore {
         }
     }
 
-    // Row `y` becomes the old row `from`, as far as it goes.
+    // Row `y` becomes the old row `from`, up to its length.
     fn copy_whole(&mut self, y: u8, old: &RowStore, from: u8)
         requires row { y < self.old.rows }
         requires from { from < old.now.rows }

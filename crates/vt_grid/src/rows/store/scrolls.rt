@@ -1,4 +1,4 @@
-//! The scrolls of a grid, as the rows take them.
+//! The scrolls of a grid, on its stored rows.
 ghost use Rattle.std.specs.Prelude.{◌≡◌, ◌+◌, ◌-◌, ◌<◌, ◌≤◌, ◌==◌, ℕ, drop, if◌then◌else◌, length, slice_index, take};
 ghost use Rattle.vt_grid.specs.Grid.{scrolled_down, scrolled_up};
 ghost use Rattle.vt_grid.specs.StoredRow.{blank_row};
@@ -36,7 +36,7 @@ impl RowStore {
         self.scroll(top, bottom, count, bottom + 1 - count, count, c, steps);
     }
 
-    /// Does what [`RowStore::scroll_up`] does, but down.
+    /// Scrolls down, as [`RowStore::scroll_up`] scrolls up.
     pub(crate) fn scroll_down(&mut self, top: u8, bottom: u8, n: u16, c: Cell)
         requires order { top ≤ bottom }
         requires row { bottom < self.old.rows }
@@ -57,7 +57,7 @@ impl RowStore {
         );
     }
 
-    // Moves the rows `top` to `bottom` up by `n` round their end, and then makes `count` rows from row
+    // Moves the rows `top` to `bottom` up by `n` around their end, and then makes `count` rows from row
     // `from` on blank.
     #[inline(always)]
     fn scroll<L: Ledger>(
@@ -90,7 +90,8 @@ impl RowStore {
         }
     }
 
-    // Does the same where these aren't all rows, out of line: then a scroll of all saves no registers.
+    // Does the same for rows that aren't all rows. It isn't inlined: then a scroll of all rows saves no
+    // registers.
     #[inline(never)]
     fn scroll_some<L: Ledger>(
         &mut self,
@@ -118,8 +119,7 @@ impl RowStore {
         self.clear(from, count, c, steps);
     }
 
-    // Moves the rows `top` to `bottom` up by `n` round their end. Nothing moves if that is their
-    // number.
+    // Moves the rows `top` to `bottom` up by `n` around their end. Nothing moves if `n` is their number.
     fn move_up<L: Ledger>(&mut self, top: u8, bottom: u8, n: u8, steps: &mut Steps<L>)
         requires order { top ≤ bottom }
         requires row { bottom < self.old.rows }
@@ -187,7 +187,7 @@ fn scroll_alone<L: Ledger>(
     store.scroll(top, bottom, n, from, count, c, &mut steps);
 }
 
-// Makes the rows of so many numbers from the one at `from` on blank: each cell is `c`.
+// Makes `count` rows blank, those named by the numbers from the one at `from` on: each cell is `c`.
 #[inline(never)]
 fn clear_rows(rows: &mut [Row], ring: &Ring, from: u8, count: u8, c: Cell)
     requires part { from + count ≤ length ring.now }
