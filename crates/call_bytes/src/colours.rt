@@ -1,3 +1,4 @@
+//! A palette as bytes.
 ghost use Rattle.std.specs.Prelude.{◌≡◌, ◌+◌, ◌*◌, ◌<◌, ◌≤◌, ◌++◌, length};
 ghost use Rattle.call_bytes.specs.Colours.{colour_at, colours_in, colours_text};
 

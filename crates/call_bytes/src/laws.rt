@@ -1,3 +1,4 @@
+//! Laws of reading and adding tables as bytes.
 ghost use Rattle.call_bytes.specs.Kept.{ColoursAreKept, PairsAreKept, WordsAreKept};
 ghost use Rattle.call_bytes.specs.Laws.{ColoursComeBack, PairsComeBack, WordsComeBack};
 

@@ -1,3 +1,4 @@
+//! Numbers of two and of four bytes.
 ghost use Rattle.std.specs.Prelude.{◌≡◌, ◌+◌, ◌<◌, length};
 ghost use Rattle.call_bytes.specs.Numbers.{is_number_at, number_at};
 

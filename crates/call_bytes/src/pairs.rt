@@ -1,3 +1,4 @@
+//! Pairs of compose keys as bytes.
 ghost use Rattle.std.specs.Prelude.{◌≡◌, ◌+◌, ◌*◌, ◌≤◌, ◌++◌, length};
 ghost use Rattle.std.specs.Int.{to_le_bytes, w32};
 ghost use Rattle.call_bytes.specs.Pairs.{is_pair_at, pair_at, pair_bytes, pairs_in, pairs_text};

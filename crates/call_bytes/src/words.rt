@@ -1,3 +1,4 @@
+//! A user's table as bytes.
 ghost use Rattle.std.specs.Prelude.{◌≡◌, ◌+◌, ◌≤◌, ◌++◌, length};
 ghost use Rattle.call_bytes.specs.Words.{words_in, words_text};
 

@@ -1,3 +1,4 @@
+//! The tables of the lines of a keymap.
 ghost use Rattle.std.specs.Prelude.{◌≡◌, None, cond, IfOk, IsTrue};
 ghost use Rattle.std.specs.List.{list_any};
 ghost use Rattle.key_compile.specs.Compiled.{AreStart, AreTablesOf, Compiles};

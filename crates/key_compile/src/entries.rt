@@ -1,3 +1,4 @@
+//! The entries that lines set.
 ghost use Rattle.std.specs.Prelude.{◌≡◌, ◌≢◌, ◌≤◌, ◌==◌, ◌&&◌, true, length, Some, None, cond};
 ghost use Rattle.key_tables.specs.Tables.{exists_in};
 ghost use Rattle.key_compile.specs.Entries.{by_symbols, last_action, everywhere, gives, action_of_table};

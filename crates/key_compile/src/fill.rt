@@ -1,3 +1,4 @@
+//! A symbol that stands alone on a key line, in each table.
 ghost use Rattle.std.specs.Prelude.{◌≡◌, ◌≤◌};
 ghost use Rattle.key_syms.specs.Act.{act};
 ghost use Rattle.key_tables.specs.Tables.{hole};

@@ -1,3 +1,4 @@
+//! The first fault of the lines.
 ghost use Rattle.std.specs.Prelude.{◌≡◌, ◌≤◌, ◌+◌, nat_lt, cond, Some, None, false, IfNone};
 ghost use Rattle.key_compile.specs.Faults.{at_line, fault_of, first_fault, is_key, pairs_fault, pairs_of_line};
 ghost use Rattle.key_text.specs.FaultKinds.{LATE_KEYMAPS, WRONG_COUNT};

@@ -1,3 +1,4 @@
+//! The entries that `alt_is_meta` sets.
 ghost use Rattle.std.specs.Prelude.{◌≡◌, ◌≢◌, ◌<◌, ◌+◌, ◌==◌, ◌&&◌, None, cond, IsSome};
 ghost use Rattle.std.specs.List.{list_any};
 ghost use Rattle.key_tables.specs.Tables.{entry_of};

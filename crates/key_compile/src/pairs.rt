@@ -1,3 +1,4 @@
+//! The pairs of the lines.
 ghost use Rattle.std.specs.Prelude.{◌≡◌, ◌∷◌, [], ◌++◌, IfOk, OnOk};
 ghost use Rattle.key_compile.specs.Pairs.{pairs_by, pairs_in, usual};
 

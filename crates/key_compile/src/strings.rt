@@ -1,3 +1,4 @@
+//! The strings of the function keys.
 ghost use Rattle.std.specs.Prelude.{◌≡◌, ◌<◌, ◌≤◌, ◌==◌, [], None, Some, cond, length, not, slice_index_or};
 ghost use Rattle.std.specs.List.{prefix_len};
 ghost use Rattle.key_compile.specs.Puts.{PutsTexts};

@@ -1,3 +1,4 @@
+//! The tables that the lines declare.
 ghost use Rattle.std.specs.Prelude.{◌≡◌, ℕ, ◌<◌, ◌||◌, false, length, slice_index_or, IfOk, replicate};
 ghost use Rattle.std.specs.List.{list_any};
 ghost use Rattle.key_compile.specs.Union.{IsSetOf, in_union, is_declared, is_keymaps, is_usual_table, modifies_table, names_table, passing_below};

@@ -1,3 +1,4 @@
+//! The dump of key tables.
 ghost use Rattle.std.specs.Prelude.{◌≡◌, ◌++◌, [], codes, cond, decimal, is_some, map, IfOk, IsTrue, OnOk};
 ghost use Rattle.std.specs.List.{flat_map, join_with_byte, list_all, list_any};
 ghost use Rattle.key_compile.specs.Dumpable.{is_dumpable};

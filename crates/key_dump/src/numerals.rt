@@ -1,3 +1,4 @@
+//! Numbers and code points, added to a text.
 ghost use Rattle.std.specs.Prelude.{◌≡◌, ◌<◌, ◌++◌, decimal, OnOk};
 ghost use Rattle.key_syms.specs.Names.{hex4, hex_digit};
 ghost use Rattle.key_dump.specs.Dump.{code_point};

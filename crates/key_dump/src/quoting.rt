@@ -1,3 +1,4 @@
+//! The row of a string, between quotes.
 ghost use Rattle.std.specs.Prelude.{◌≡◌, ◌++◌, [], ◌∷◌, OnOk};
 ghost use Rattle.std.specs.List.{flat_map};
 ghost use Rattle.key_dump.specs.Dump.{escape_of, is_plain, octal_escape, quoted_text, row_text, string_rows, string_words};

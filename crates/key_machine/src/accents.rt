@@ -1,3 +1,4 @@
+//! Accents, and the characters that they make.
 ghost use Rattle.std.specs.Prelude.{◌≡◌, ◌==◌, if◌then◌else◌};
 ghost use Rattle.key_machine.specs.Codes.{codes_of, typed_of};
 ghost use Rattle.key_machine.specs.Compose.{accent_of, character, dead, joined_by, waits};

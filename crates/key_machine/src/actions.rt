@@ -1,3 +1,4 @@
+//! Facts about actions, and their effects on a key state.
 ghost use Rattle.std.specs.Prelude.{◌≡◌, ◌≤◌, ◌^◌, [], ◌∷◌, if◌then◌else◌};
 ghost use Rattle.key_machine.specs.Bytes.{idle_bytes, out_of};
 ghost use Rattle.key_machine.specs.Keys.{is_on, table_of};

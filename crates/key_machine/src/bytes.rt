@@ -1,3 +1,4 @@
+//! The bytes that keys send.
 ghost use Rattle.std.specs.Prelude.{◌≡◌, ◌≤◌, ◌+◌, ◌++◌, length};
 ghost use Rattle.key_machine.specs.Bytes.{character_bytes, characters_bytes, code_bytes, meta_bytes, out_of, return_bytes};
 ghost use Rattle.key_machine.specs.Codes.{codes_of};

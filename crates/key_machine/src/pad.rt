@@ -1,3 +1,4 @@
+//! The cursor keys, the numeric pad and the function keys.
 ghost use Rattle.std.specs.Prelude.{◌≡◌, ◌≤◌, slice_index};
 ghost use Rattle.key_machine.specs.Pads.{cursor_bytes, cursor_letters, pad_bytes, pad_characters, pad_letters, pad_off, pad_on};
 ghost use Rattle.key_tables.specs.Tables.{func_of};

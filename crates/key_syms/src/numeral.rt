@@ -1,3 +1,4 @@
+//! Numbers as keymaps spell them.
 ghost use Rattle.std.specs.Prelude.{◌≡◌, ◌<◌, ◌≤◌, min, IfSome};
 ghost use Rattle.std.specs.Option.{option_map};
 ghost use Rattle.key_syms.specs.Numbers.{digit_in, number_of, number_in_base};

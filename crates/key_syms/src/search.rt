@@ -1,3 +1,4 @@
+//! The search for a name in the symbol table.
 ghost use Rattle.std.specs.Prelude.{◌≡◌, ◌≢◌, ℕ, ◌+◌, ◌<◌, ◌≤◌, IfSome, IfNone, slice_index, slice_range};
 ghost use Rattle.key_syms.specs.Index.{name_at, place_of_rank};
 

@@ -1,3 +1,4 @@
+//! The listing of key tables.
 ghost use Rattle.std.specs.Prelude.{◌≡◌, ◌++◌, ◌≤◌, [], cond, length, OnOk};
 ghost use Rattle.std.specs.List.{flat_map};
 ghost use Rattle.key_tables.specs.Listing.{entry_text, func_text, hex_byte, hex_digit, listing_of, map_text, maps_text, number_text, numbers_line, pair_text, texts_from};

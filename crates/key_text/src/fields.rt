@@ -1,3 +1,4 @@
+//! The items of a line: a word, a number, a symbol, a quoted text, a character.
 ghost use Rattle.std.specs.Prelude.{◌≡◌, ◌≤◌, ℕ, Option, length, IfOk, min, IsTrue};
 ghost use Rattle.std.specs.Option.{option_map};
 ghost use Rattle.key_syms.specs.Act.{is_character};

@@ -1,3 +1,4 @@
+//! Lines `keymaps`, with their ranges of tables.
 ghost use Rattle.std.specs.Prelude.{◌≡◌, ℕ, ◌<◌, ◌≤◌, ◌||◌, false, length, slice_index_or, replicate, IfOk, IsTrue};
 ghost use Rattle.key_text.specs.Fault.{Gives};
 ghost use Rattle.key_text.specs.Lines.{before, covers, in_order, keymaps_line, range_by, range_of, table_of, tables_in};

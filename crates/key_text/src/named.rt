@@ -1,3 +1,4 @@
+//! The actions and numbers that words name.
 ghost use Rattle.std.specs.Prelude.{◌≡◌, ◌≤◌, length, min, take, IfOk};
 ghost use Rattle.std.specs.Option.{option_map};
 ghost use Rattle.key_syms.specs.Names.{symbol};

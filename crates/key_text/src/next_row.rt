@@ -1,3 +1,4 @@
+//! The next row of a text, with its joins.
 ghost use Rattle.std.specs.Prelude.{◌≡◌, ◌≢◌, ◌+◌, ◌<◌, ◌≤◌, [], ◌∷◌, cond, drop, length, IsTrue, IfOk};
 ghost use Rattle.key_text.specs.Cut.{end_len, join_len};
 ghost use Rattle.key_text.specs.Rows.{put_at, row_of, rows_of};

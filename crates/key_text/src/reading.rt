@@ -1,3 +1,4 @@
+//! The lines of a keymap with the texts that it includes.
 ghost use Rattle.std.specs.Prelude.{◌≡◌, Result};
 ghost use Rattle.std.specs.Option.{option_map};
 ghost use Rattle.key_text.specs.Included.{text_named};

@@ -1,3 +1,4 @@
+//! The keycodes of the scan numbers at the start.
 ghost use Rattle.std.specs.Prelude.{◌≡◌};
 ghost use Rattle.scan_codes.specs.Start.{start_code};
 

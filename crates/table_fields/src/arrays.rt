@@ -1,3 +1,4 @@
+//! Arrays of one kind of values.
 ghost use Rattle.std.specs.Prelude.{◌≡◌, map, option_map};
 ghost use Rattle.toml.specs.Data.{as_integer, as_str, as_table};
 ghost use Rattle.toml.specs.View.{table_view, view};

@@ -1,3 +1,4 @@
+//! The texts that a keymap may include.
 ghost use Rattle.std.specs.Prelude.{[], option_map};
 ghost use Rattle.toml.specs.View.{table_view, view};
 ghost use Rattle.table_fields.specs.Checked.{Gives, fault};

@@ -1,3 +1,4 @@
+//! The keymap of a field.
 ghost use Rattle.std.specs.Prelude.{◌≡◌};
 ghost use Rattle.key_compile.specs.Compiled.{AreTablesOf};
 ghost use Rattle.table_fields.specs.Checked.{GivesBy};

@@ -1,3 +1,4 @@
+//! Scan bytes.
 ghost use Rattle.std.specs.Prelude.{◌≡◌, ◌≤◌, length, map, IfOk};
 ghost use Rattle.table_fields.specs.Checked.{Gives};
 ghost use Rattle.table_fields.specs.Fields.{byte_of, bytes_of, few_items_of, items_of, most_scan_bytes, scan_bytes_of};

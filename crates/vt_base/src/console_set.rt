@@ -1,3 +1,4 @@
+//! Membership in sets of consoles, which are numbers.
 ghost use Rattle.std.specs.Prelude.{◌≡◌, ◌<◌};
 ghost use Rattle.vt_base.specs.ConsoleSet.{is_among};
 

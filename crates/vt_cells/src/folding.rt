@@ -1,3 +1,4 @@
+//! Colours of 24 bits, folded into those of a text cell.
 ghost use Rattle.std.specs.Prelude.{◌≡◌, ◌<◌, if◌then◌else◌};
 ghost use Rattle.vt_cells.specs.Colours.{fold_bg, fold_fg, parts_above};
 

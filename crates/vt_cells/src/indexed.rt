@@ -1,3 +1,4 @@
+//! The colours of the indices from 0 to 255.
 ghost use Rattle.std.specs.Prelude.{◌≡◌, ◌≤◌, ◌==◌, ◌*◌, ◌/◌, ◌%◌, ◌^◌, if◌then◌else◌};
 ghost use Rattle.vt_cells.specs.Colours.{rgb_of, sixth, with_parts};
 

@@ -1,3 +1,4 @@
+//! A fast test for codes of one column.
 ghost use Rattle.std.specs.Prelude.{◌≡◌};
 ghost use Rattle.vt_cells.specs.Width.{is_plain};
 

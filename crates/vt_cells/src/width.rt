@@ -1,3 +1,4 @@
+//! The columns of a character.
 ghost use Rattle.std.specs.Prelude.{◌≡◌, ◌≤◌};
 ghost use Rattle.vt_cells.specs.Width.{columns};
 

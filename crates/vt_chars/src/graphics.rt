@@ -1,3 +1,4 @@
+//! The VT100 graphics.
 ghost use Rattle.std.specs.Prelude.{◌≡◌};
 ghost use Rattle.vt_chars.specs.CharMap.{graphic_of};
 

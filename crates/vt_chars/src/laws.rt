@@ -1,3 +1,4 @@
+//! Laws of UTF-8 and of texts cut into characters.
 ghost use Rattle.vt_chars.specs.Characters.{AsciiCuts, ByteMore, CharactersAreAll};
 ghost use Rattle.vt_chars.specs.Utf8.{UnfinishedBegins};
 

@@ -1,3 +1,4 @@
+//! The cells of a grid, written in the form of a dump.
 ghost use Rattle.std.specs.Prelude.{◌≡◌, ◌+◌, ◌*◌, ◌<◌, ◌≤◌, ◌++◌, length};
 ghost use Rattle.std.specs.List.{flat_map};
 ghost use Rattle.vt_dump.specs.Dumps.{of_cells};

@@ -1,3 +1,4 @@
+//! The three dumps of a screen as bytes.
 ghost use Rattle.std.specs.Prelude.{◌≡◌, ◌+◌, ◌*◌, ◌≤◌, ◌++◌, length};
 ghost use Rattle.vt_dump.specs.Dumps.{cell_count, codes_bytes, vcs_bytes, vcsa_bytes};
 

@@ -1,3 +1,4 @@
+//! The rows of a screen as text.
 ghost use Rattle.std.specs.Prelude.{◌≡◌, ◌+◌, ◌*◌, ◌<◌, ◌≤◌, ◌++◌, IfOk, OnErr, OnOk};
 ghost use Rattle.vt_dump.specs.Rows.{row_text, rows_text};
 ghost use Rattle.vt_grid.specs.Grid.{row_at};

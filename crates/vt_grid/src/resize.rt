@@ -1,3 +1,4 @@
+//! The copy of a grid's cells into another size.
 ghost use Rattle.std.specs.Prelude.{◌≡◌, ◌<◌, ◌≤◌, min, take};
 ghost use Rattle.vt_grid.specs.Grid.{resized_grid, row_at, with_run};
 ghost use Rattle.vt_grid.specs.Halves.{split_wide, split_wide_rows};

@@ -1,3 +1,4 @@
+//! The line feeds at the start of a text.
 ghost use Rattle.std.specs.Prelude.{All, ◌≡◌, ◌≤◌, length, take};
 
 /// How many of the first bytes are line feeds, up to the greatest number of 16 bits.

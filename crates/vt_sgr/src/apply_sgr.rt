@@ -1,3 +1,4 @@
+//! The effect of SGR on a pen.
 ghost use Rattle.std.specs.Prelude.{◌≡◌, ◌<◌, ◌≤◌, [], ◌∷◌, length, if◌then◌else◌};
 ghost use Rattle.vt_cells.specs.declared.intensity.Intensity.TheVariants.{Bold, Normal};
 ghost use Rattle.vt_sgr.specs.PenState.{with_bright};

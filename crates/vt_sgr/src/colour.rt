@@ -1,3 +1,4 @@
+//! The colour after a 38 or a 48 in SGR.
 ghost use Rattle.std.specs.Prelude.{◌≡◌, ◌≤◌, length, min};
 ghost use Rattle.vt_sgr.specs.Sgr.{colour_len, colour_of};
 

@@ -1,3 +1,4 @@
+//! The effect of control characters.
 ghost use Rattle.std.specs.Prelude.{◌≡◌};
 ghost use Rattle.vt_screen.specs.Effect.{control};
 ghost use Rattle.vt_screen.specs.Saying.{bell_if};

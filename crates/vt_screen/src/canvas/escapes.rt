@@ -1,3 +1,4 @@
+//! The effect of escape sequences.
 ghost use Rattle.std.specs.Prelude.{◌≡◌, ◌<◌, ◌≤◌, ◌+◌, ◌++◌, ◌==◌, length, if◌then◌else◌};
 ghost use Rattle.vt_screen.specs.Effect.{escape, plain_escape};
 ghost use Rattle.vt_screen.specs.Run.{outs_of_option};

@@ -1,3 +1,4 @@
+//! The moves of the cursor.
 ghost use Rattle.std.specs.Prelude.{◌≡◌, ◌==◌, ◌-◌, ◌+◌, ◌<◌, ◌≤◌, max, min, not, drop, if◌then◌else◌};
 ghost use Rattle.std.specs.List.{prefix_len};
 ghost use Rattle.vt_screen.specs.Cursor.{at_column, first_row, cursor_home, last_row, linefeed, cursor_to, newline, newlines, cursor_to_in_region, region_down, region_up, reverse_linefeed, tab};

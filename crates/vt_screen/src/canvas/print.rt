@@ -1,3 +1,4 @@
+//! The characters that are printed at the cursor.
 ghost use Rattle.std.specs.List.{list_all};
 ghost use Rattle.std.specs.Prelude.{◌≡◌, ◌<◌, ◌≤◌, ◌+◌, ◌-◌, false, true, length, nat_lt, take, if◌then◌else◌};
 ghost use Rattle.vt_cells.specs.Width.{is_plain};

@@ -1,3 +1,4 @@
+//! Reports, lights, and the settings of CSI ].
 ghost use Rattle.std.specs.Prelude.{◌≡◌, ◌<◌, ◌≤◌, ◌+◌, ◌-◌, ◌∷◌, ◌++◌, length, nat_lt, if◌then◌else◌};
 ghost use Rattle.vt_screen.specs.Run.{outs_of_option};
 ghost use Rattle.vt_screen.specs.Screen.{Screen};

@@ -1,3 +1,4 @@
+//! The change of a screen's size.
 ghost use Rattle.std.specs.Prelude.{◌≡◌};
 ghost use Rattle.vt_screen.specs.Tape.{resized_to};
 

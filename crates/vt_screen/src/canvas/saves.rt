@@ -1,3 +1,4 @@
+//! The saved cursor, the reset and the alignment pattern.
 ghost use Rattle.std.specs.Prelude.{◌≡◌};
 ghost use Rattle.vt_screen.specs.Settings.{alignment_pattern, reset, restore, save};
 

@@ -1,3 +1,4 @@
+//! The effect of control sequences.
 ghost use Rattle.std.specs.Prelude.{◌≡◌, ◌<◌, ◌≤◌, ◌+◌, ◌++◌, false, length, max};
 ghost use Rattle.vt_screen.specs.Effect.{control_sequence, effect, number_at, private_sequence};
 ghost use Rattle.vt_screen.specs.Run.{outs_of_option};

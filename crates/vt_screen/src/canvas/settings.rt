@@ -1,3 +1,4 @@
+//! Modes, tab stops, the region, character sets, the pen and the palette.
 ghost use Rattle.std.specs.Prelude.{◌≡◌, ◌<◌, ◌≤◌, ◌==◌, if◌then◌else◌};
 ghost use Rattle.vt_screen.specs.Settings.{table_named, clear_stops, each, after_shift, after_sgr, set_stop, with_coding, with_colour, with_g0, with_g1, with_keypad, with_mode, with_pen, with_private_mode, with_region, with_start_palette};
 ghost use Rattle.vt_sgr.specs.Sgr.{sgr};

@@ -1,3 +1,4 @@
+//! The faster way for SGR that sets one colour.
 ghost use Rattle.std.specs.Prelude.{◌≡◌, ◌≤◌, false, length, true, Some, IfSome, MatchOption};
 ghost use Rattle.vt_units.specs.WholeSequence.{taken_ahead};
 ghost use Rattle.vt_units.specs.ShortForms.{longer_stands};
