@@ -1,8 +1,4 @@
-<<<<<<< HEAD
-=======
 //! The statement of a row, by its first word.
-ghost use Rattle.std.specs.Prelude.{◌≡◌, IfOk, IsTrue};
->>>>>>> bf4a71183a413e8e6c1d01686b4972f06582139e
 ghost use Rattle.key_text.specs.Fault.{Gives};
 ghost use Rattle.key_text.specs.Lines.{line_by, modified_by, said_from, weight_of};
 ghost use Rattle.key_text.specs.Sayings.{statement_view};

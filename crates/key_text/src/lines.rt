@@ -1,9 +1,5 @@
-<<<<<<< HEAD
-ghost use Rattle.std.specs.Prelude.{◌≡◌, IfOk};
-=======
 //! The other lines of a keymap, a function for each first word.
-ghost use Rattle.std.specs.Prelude.{◌≡◌, IfOk, IsTrue};
->>>>>>> bf4a71183a413e8e6c1d01686b4972f06582139e
+ghost use Rattle.std.specs.Prelude.{◌≡◌, IfOk};
 ghost use Rattle.std.specs.Result.{result_err};
 ghost use Rattle.key_text.specs.Fault.{Gives};
 ghost use Rattle.key_text.specs.Fields.{end_of_line};
