@@ -4,9 +4,8 @@ use Rattle.std.specs.Prelude.{◌≡◌, ℕ, Bool, true, false, ◌==◌, ◌||
 use lib.Pointwise.{pointwise}
 use lib.Dec.{eqb}
 use Rattle.key_compile.specs.Compiled.{AreTablesOf}
-use Rattle.key_machine.specs.Keys.{Keys, State, start_keys, start_state}
+use Rattle.key_machine.specs.Keys.{Keys, State, start_keys, start_modes, start_state}
 use Rattle.key_machine.specs.Step.{Step, key_step}
-use Rattle.key_machine.specs.declared.key_modes.KeyModes.{KeyModes}
 use Rattle.key_machine.specs.declared.key_out.KeyOut.{KeyOut}
 use Rattle.key_machine.specs.declared.key_out.KeyOut.TheVariants.{Attention, Bytes, Last, Next, Nothing, Prev, Spawn, Switch}
 use Rattle.key_tables.specs.Tables.{Tables}
@@ -52,10 +51,6 @@ type_table_at members = do
 abbrev pub type_table_of : List ℕ → Result TypeTable TableFault
 type_table_of input = document_of input >>= type_table_at
 
--- the screen that keys are typed on is a start screen
-abbrev pub start_modes : KeyModes
-start_modes = record { cursor = false; keypad = false; repeat = true; newline = false }
-
 -- the keyboard and the key state
 pub record Typing : Type 0 where
   pub keys : Keys
@@ -68,7 +63,7 @@ make_typing keys state = record { keys = keys; state = state }
 abbrev pub start_typing : ℕ → Typing
 start_typing mode = make_typing start_keys (record start_state { mode = mode })
 
--- a key event
+-- a key event, on a start screen
 abbrev pub typing_step : Tables → Typing → KeyEvent → Step
 typing_step tables t e = key_step tables start_modes 0 e t.keys t.state
 

@@ -9,14 +9,12 @@ ghost use Rattle.vt_tool.specs.Commands.Typing.{is_type_key, type_table_at, type
 
 use key_tables::KeyTables;
 use std::alloc::Global;
+use table_fields::fault_code::UNKNOWN_KEY;
 use table_fields::{
     Numbers, TableError, at, document, keymap, number, refused, scan_bytes, text, texts,
 };
 use toml::Table;
 use vt_base::Bytes;
-
-/// The fault code of an unknown key of the table.
-const UNKNOWN_KEY: u16 = 21;
 
 /// The keyboard modes, by default K_UNICODE (ioctl_console(2), KDSKBMODE).
 const MODES: Numbers = Numbers {

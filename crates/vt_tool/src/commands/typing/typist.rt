@@ -3,18 +3,10 @@ ghost use Rattle.key_tables.specs.Tables.{Tables};
 ghost use Rattle.vt_tool.specs.Commands.Typed.{HasTyped};
 ghost use Rattle.vt_tool.specs.Commands.Typing.{said_after};
 
-use key_machine::{KbState, KeyModes, KeyOut, Keyboard};
+use key_machine::{KbState, KeyOut, Keyboard, START_MODES};
 use key_tables::KeyTables;
 use scan_codes::Scanner;
 use std::marker::Model;
-
-/// The modes of a start screen.
-const START_MODES: KeyModes = KeyModes {
-    cursor: false,
-    keypad: false,
-    repeat: true,
-    newline: false,
-};
 
 /// A keyboard whose scan bytes are typed on a start screen.
 #[derive(Drop)]
