@@ -1,12 +1,12 @@
 #!/usr/bin/env python3
-"""Writes the lists that follow from the words of calls, crates/vt_journal/specs/Calls.antt.
+"""Writes the lists that follow from the variants of calls in crates/vt_events/src/event.rt.
 
 usage: tools/call_lists.py [--check]
 
-A call is one line of `parts_of` there, and one variant of `Event` with its page. The lists that say no more than these
-two are written anew, each in the block of its file; --check only says which of them isn't as it would be written, apart
-from blanks and ends of lines, and ends with 1 then. Run `rt fmt` in both crates afterwards. The prover holds every list
-to the definition: a wrong one is not proved.
+The doc comment of a variant of `Event` begins with the words of its call: the name, then a word for each field (HH is
+u8, B is `Bytes`, any other word is u16). Each list that these words determine is written into its file. --check only
+compares, apart from blanks, commas and ends of lines, names each list that differs, and ends with status 1 then. Run
+`rt fmt` in vt_events and unit_tests afterwards. The checker proves that the lists are equal to the definitions.
 """
 import pathlib
 import re
@@ -14,66 +14,83 @@ import sys
 import textwrap
 
 CRATES = pathlib.Path(__file__).parent.parent / "crates"
-WORDS = CRATES / "vt_journal/specs/Calls.antt"
+EVENT = CRATES / "vt_events/src/event.rt"
 BLANK_LINE = "\n\n"
+TYPES = {"HH": "u8", "B": "Bytes"}
 
 
 class Call:
-    """A line of `parts_of`: the call, the names of what it holds in order, its word, and the names of its numbers."""
+    """A variant of `Event`: its name, the word of its calls, and the names of its fields."""
 
-    def __init__(self, head, shape, word, numbers, bytes_held):
-        self.name, *self.fields = head.strip("()").removeprefix("event.").split()
-        self.word = word
-        self.numbers = [it for it in numbers.strip("()").removesuffix("[]").split(" ∷ ") if it]
-        self.holds_bytes = shape == "with_bytes"
-        self.is_one_byte = self.holds_bytes and not bytes_held.endswith(".bytes")
+    def __init__(self, words, name, fields):
+        self.name = name
+        self.word, *places = words.split()
+        self.fields = [it.lower() for it in places]
+        self.numbers = [it.lower() for it in places if it not in TYPES]
+        self.held = next((it.lower() for it in places if it in TYPES), None)
+        if [TYPES.get(it, "u16") for it in places] != fields:
+            sys.exit(f"the fields of {name} are {fields}, and its words are {words!r}")
+        if self.numbers + [self.held] * (self.held is not None) != self.fields:
+            sys.exit(f"the bytes of {name} aren't its one last field")
 
-    def of(self, enum, fields):
+    def code(self, enum, fields):
         return f"{enum}::{self.name}" + (f"({', '.join(fields)})" if fields else "")
-
-    def copy(self):
-        is_bytes = lambda field: self.holds_bytes and not self.is_one_byte and field not in self.numbers
-        copied = [f"plain(alloc, {it})?" if is_bytes(it) else f"*{it}" for it in self.fields]
-        return f"{self.of('Event', self.fields)} => {self.of('Event', copied)},"
 
     def made(self):
         places = [f"n[{at}]" for at in range(len(self.numbers))]
-        held = ["b.as_slice()[0]"] if self.is_one_byte else ["b"] if self.holds_bytes else []
-        return f"Kind::{self.name} => {self.of('Event', places + held)},"
+        held = {"hh": ["b.as_slice()[0]"], "b": ["b"]}.get(self.held, [])
+        return f"Kind::{self.name} => {self.code('Event', places + held)},"
 
     def taken(self):
-        numbers = [f"*{it}" for it in self.numbers]
-        counted = ["no_number", "one_number", "two_numbers", "three_numbers"]
-        if self.holds_bytes:
-            held = "array::from_ref(b)" if self.is_one_byte else "b.as_slice()"
-            made = f"with_bytes(Kind::{self.name}, &[{', '.join(numbers)}], {held})"
-        elif len(numbers) < len(counted):
-            made = f"{counted[len(numbers)]}({', '.join([f'Kind::{self.name}', *numbers])})"
-        else:
-            made = f"plain(Kind::{self.name}, &[{', '.join(numbers)}])"
-        return f"{self.of('Event', self.fields)} => {made},"
+        held = {"hh": "Some(array::from_ref(hh))", "b": "Some(b.as_slice())"}.get(self.held, "None")
+        numbers = ", ".join(f"*{it}" for it in self.numbers)
+        return f"{self.code('Event', self.fields)} => make_parts(Kind::{self.name}, &[{numbers}], {held}),"
 
-    def row(self):
-        held = str(self.holds_bytes).lower()
+    def form(self):
+        held = str(self.held is not None).lower()
         numbers = len(self.numbers)
         return f'CallForm {{ kind: Kind::{self.name}, name: b"{self.word}", numbers: {numbers}, bytes: {held} }},'
 
-    def defined(self):
+    def call_of(self):
         places = [f"(at n {at})" for at in range(len(self.numbers))]
-        held = ["(at b 0)"] if self.is_one_byte else ["(text b)"] if self.holds_bytes else []
+        held = {"hh": ["(at b 0)"], "b": ["(text b)"]}.get(self.held, [])
         return " ".join([f"call_of kind.{self.name} n b = event.{self.name}", *places, *held])
+
+    def parts_of(self):
+        given = f"(event.{' '.join([self.name, *self.fields])})" if self.fields else f"event.{self.name}"
+        numbers = " ∷ ".join([*self.numbers, "[]"])
+        numbers = f"({numbers})" if self.numbers else numbers
+        held = {"hh": "(Some (hh ∷ []))", "b": "(Some b.bytes)"}.get(self.held, "None")
+        return f"parts_of {given} = make_parts kind.{self.name} {numbers} {held}"
+
+    def name_of(self):
+        return f'name_of kind.{self.name} = codes "{self.word}"'
+
+    def row(self):
+        """Returns a row of the test of all words, for a call that has none."""
+        words = {"hh": "e0", "b": "6869"}
+        values = {"hh": "224", "b": ""}
+        numbers = [str(at + 1) for at in range(len(self.numbers))]
+        held = [] if self.held is None else [self.held]
+        text = " ".join([self.word, *numbers, *[words[it] for it in held]])
+        printed = ", ".join([*numbers, *[values[it] for it in held]])
+        printed = f"{self.name}({printed}" + ("" if self.held == "b" else ")") if self.fields else self.name
+        return f'(b"{text}", "{printed}"),'
 
 
 def calls():
-    """Returns the calls, in the order of their lines."""
-    body = WORDS.read_text().split("abbrev pub parts_of : Event → CallWordsView\n")[1].split("\n\n")[0]
-    lines = re.sub(r"\n +", " ", body).split("\n")
-    form = re.compile(r'parts_of (\(.*?\)|\S+) = (plain|with_bytes) \(codes "(\w+)"\) (\[\]|\(.*?\)) ?(.*)')
-    return [Call(*form.fullmatch(line).groups()) for line in lines]
+    """Returns the calls, in the order of their variants."""
+    body = EVENT.read_text().split("pub enum Event {\n")[1].split("\n}\n")[0]
+    variant = re.compile(r"    /// `([^`]+)`.*\n(?:    ///.*\n)*    (\w+)(?:\((.*)\))?,")
+    found = [Call(it[1], it[2], (it[3] or "").split(", ") if it[3] else []) for it in variant.finditer(body)]
+    variants = re.findall(r"^    (\w+)", body, re.M)
+    if [it.name for it in found] != variants:
+        sys.exit(f"variants without the words of a call: {[it for it in variants if it not in [c.name for c in found]]}")
+    return found
 
 
 def guesses(calls, file):
-    """Returns the lines of the table of guesses, by the sum that the file takes of a name; the first call of a place has it."""
+    """Returns the table of guesses by the sum of the file; the first call with an index has it."""
     text = file.read_text()
     sum = r"(\d+) \* first \+ (\d+) \* last \+ (\d+) \* fourth \+ (\d+) \* long"
     first, last, fourth, long = map(int, re.search(sum, text).groups())
@@ -85,31 +102,42 @@ def guesses(calls, file):
     return textwrap.wrap(" ".join(f"Kind::{name}," for name in places), 112)
 
 
+def all_words(calls, file):
+    """Returns the rows of the test of all words: those that it has, and one for each call that has none."""
+    body = file.read_text().split("const CALLS: &[(&[u8], &str)] = &[\n")[1].split("];\n")[0]
+    rows = {re.match(r'\(b"(\w+)', line.strip())[1]: line.strip() for line in body.splitlines()}
+    return [rows.get(it.word) or it.row() for it in calls]
+
+
 def lists(calls):
-    """Gives the file of each list, what stands before and after it, the blanks that its lines begin with, and its lines."""
-    events, journal = CRATES / "vt_events", CRATES / "vt_journal"
-    each = lambda told: [told(it) for it in calls]
-    yield events / "src/event.rt", "        Ok(match self {\n", "        })\n", 12, each(Call.copy)
-    yield journal / "src/kind.rt", "pub(crate) enum Kind {\n", "}\n", 4, [f"{it.name}," for it in calls]
+    """Yields for each list its file, the text before and after it, the indentation of its lines, and its lines."""
+    events = CRATES / "vt_events"
+    each = lambda line: [line(it) for it in calls]
+    kind, forms, guess = events / "src/kind.rt", events / "src/forms.rt", events / "src/kind_guess.rt"
+    yield kind, "pub enum Kind {\n", "}\n", 4, [f"{it.name}," for it in calls]
     call = "        ensures { result ≡ call_of self n.now b.bytes }\n    {\n        match self {\n"
-    yield journal / "src/kind.rt", call, "        }\n", 12, each(Call.made)
-    yield journal / "src/call_words.rt", "        match e {\n", "        }\n    }\n}\n", 12, each(Call.taken)
-    yield journal / "src/rows.rt", "static ROWS: [CallForm; KIND_COUNT] = [\n", "];\n", 4, each(Call.row)
-    yield journal / "src/rows.rt", "/// How many kinds there are.\n", BLANK_LINE, 0, [f"const KIND_COUNT: usize = {len(calls)};"]
-    defined = "abbrev pub call_of : Kind → List ℕ → List ℕ → Event\n"
-    yield journal / "specs/Kinds.antt", defined, BLANK_LINE, 0, each(Call.defined)
-    likely = journal / "src/kind_guess.rt"
-    yield likely, "static LIKELY: [Kind; GUESS_PLACES] = [\n", "];\n", 4, guesses(calls, likely)
-    each_kind = "pub each_kind : (k : Kind) → Contains kinds k\n"
+    yield kind, call, "        }\n", 12, each(Call.made)
+    yield events / "src/parts.rt", "        match e {\n", "        }\n    }\n", 12, each(Call.taken)
+    yield forms, "static FORMS: [CallForm; KIND_COUNT] = [\n", "];\n", 4, each(Call.form)
+    yield forms, "/// How many kinds there are.\n", BLANK_LINE, 0, [f"const KIND_COUNT: usize = {len(calls)};"]
+    yield guess, "static LIKELY: [Kind; GUESS_PLACES] = [\n", "];\n", 4, guesses(calls, guess)
+    parts = "abbrev pub parts_of : Event → PartsView\n"
+    yield events / "specs/Calls.antt", parts, BLANK_LINE, 0, each(Call.parts_of)
+    yield events / "specs/Kinds.antt", "abbrev pub name_of : Kind → List ℕ\n", BLANK_LINE, 0, each(Call.name_of)
+    made = "abbrev pub call_of : Kind → List ℕ → List ℕ → Event\n"
+    yield events / "specs/Kinds.antt", made, BLANK_LINE, 0, each(Call.call_of)
+    proofs = events / "proofs/Calls.antt"
     found = f"each_kind kind.{calls[0].name} = (0, ltb-true 0 {len(calls)} refl, refl)"
-    other = f"(position_or_len (is_named (name_of (blank k))) kinds, ltb-true _ {len(calls)} refl, refl)"
-    yield journal / "proofs/Calls.antt", each_kind, BLANK_LINE, 0, [found, "each_kind k =", f"    {other}"]
+    other = f"(position_or_len (is_named (name_of k)) kinds, ltb-true _ {len(calls)} refl, refl)"
+    yield proofs, "pub each_kind : (k : Kind) → Contains kinds k\n", BLANK_LINE, 0, [found, f"each_kind k = {other}"]
     kinds = textwrap.wrap(" ".join(f"kind.{it.name}+∷" for it in calls) + " []", 96)
-    yield journal / "proofs/Calls.antt", "kinds =\n", BLANK_LINE, 4, [line.replace("+", " ") for line in kinds]
+    yield proofs, "kinds =\n", BLANK_LINE, 4, [line.replace("+", " ") for line in kinds]
+    words = CRATES / "unit_tests/src/tests/journals/all_words.rt"
+    yield words, "const CALLS: &[(&[u8], &str)] = &[\n", "];\n", 4, all_words(calls, words)
 
 
 def bare(text):
-    """Returns the text without what `rt fmt` adds and takes away."""
+    """Returns the text without what `rt fmt` adds and removes."""
     return re.sub(r"[\s{},]", "", text)
 
 
@@ -125,7 +153,7 @@ def main(words):
         is_right = False
         if "--check" in words:
             place = f"{file.relative_to(CRATES.parent)}: the list after {before.splitlines()[-1].strip()!r}"
-            print(f"{place} isn't that of the words of calls")
+            print(f"{place} differs from the words of calls")
         else:
             file.write_text(text[:begin] + written + text[end:])
     return 0 if is_right or "--check" not in words else 1

@@ -6,7 +6,7 @@ use crate::spelling::put;
 use std::alloc::Global;
 use vt_base::NoMemory;
 
-/// Adds the line as it stands, and with it what comes of it.
+/// Adds the line unchanged, and its result if it has one.
 pub(crate) fn add_answer(
     alloc: Global,
     case: &mut Case,

@@ -1,4 +1,4 @@
-//! Calls of a console of the library, which no command makes one by one.
+//! Calls of a machine of the library, which no command makes one by one.
 use crate::spelling::{add_words, put, put_number};
 use session_text::{SError, read};
 use std::alloc::{AllocError, Global};
@@ -7,13 +7,13 @@ use vt_events::{Entry, Event};
 use vt_journal::{Tail, print, read_event};
 use vt_world::{World, spare_for};
 
-/// What the journal of one call ends with.
+/// The end of the journal of one call.
 const END: Tail = Tail::End {
     events: 0,
     bytes: 0,
 };
 
-/// The console that the session opens, where it is one.
+/// The machine that the session opens, if the text is a session.
 pub(crate) fn opened(alloc: Global, session: &[u8]) -> Result<Option<World>, NoMemory> {
     match read(alloc, session) {
         Ok(session) => {
@@ -25,7 +25,7 @@ pub(crate) fn opened(alloc: Global, session: &[u8]) -> Result<Option<World>, NoM
     }
 }
 
-/// Makes the call, and adds its answer as a journal tells it.
+/// Makes the call, and adds its answer as a journal spells it.
 pub(crate) fn add_reply(
     alloc: Global,
     world: &mut World,
@@ -54,7 +54,7 @@ fn put_caller(text: &mut Vec<u8>, p: u16) -> Result<(), AllocError> {
     put_number(text, u64::from(p))
 }
 
-// What stands in the journal of one call past its words.
+// The journal of one call after its words.
 fn reply_in<'a>(journal: &'a [u8], caller: &[u8], words: &[u8]) -> Option<&'a [u8]> {
     let entry = journal.strip_prefix(b"%journal 2\n")?;
     let call = entry.strip_prefix(caller)?.strip_prefix(b" 0 ")?;

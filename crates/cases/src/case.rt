@@ -11,12 +11,12 @@ const OUT_ROOM: usize = 10_000_000;
 /// Room that no line of err fills.
 const ERR_ROOM: usize = 1_000;
 
-/// What the lines of a case have said so far.
+/// The values of a case's lines so far.
 #[derive(Drop)]
 pub(crate) struct Case {
     pub words: Vec<String>,
     pub input: Vec<u8>,
-    /// Of each read of the source, whether it fails; the same of writes to out and to err.
+    /// For each read of the source, whether it fails; the same for writes to out and to err.
     pub reads: Vec<u8>,
     pub writes: Vec<u8>,
     pub says: Vec<u8>,
@@ -27,7 +27,7 @@ pub(crate) struct Case {
 }
 
 impl Case {
-    /// A case without words and input, where nothing fails.
+    /// A case without words and input, in which nothing fails.
     pub(crate) fn new(alloc: Global) -> Case {
         Case {
             words: Vec::new(alloc),
@@ -41,7 +41,7 @@ impl Case {
         }
     }
 
-    /// Takes a line that makes nothing happen.
+    /// Takes a line that runs nothing.
     pub(crate) fn take(&mut self, alloc: Global, line: Line<'_>) -> Result<(), NoMemory> {
         match line {
             Line::Case => *self = Case::new(alloc),
@@ -75,7 +75,7 @@ fn add_line(text: &str, input: &mut Vec<u8>) -> Result<(), NoMemory> {
     Ok(())
 }
 
-// A flag for each call, set where it fails, which stands as an `x`.
+// A flag for each call, set if it fails, which is spelled `x`.
 fn flags_of(alloc: Global, calls: &str) -> Result<Vec<u8>, NoMemory> {
     let mut flags = Vec::new(alloc);
     for call in calls.bytes() {

@@ -3,7 +3,7 @@ use vt_base::parse_decimal;
 /// The greatest number in a line.
 const GREATEST: u64 = 4_294_967_295;
 
-/// What a line says.
+/// The meaning of a line.
 #[derive(Clone, Copy)]
 pub(crate) enum Line<'a> {
     Remark,
@@ -28,9 +28,9 @@ pub(crate) enum Line<'a> {
     /// The room of err.
     ErrRoom(usize),
     Run,
-    /// A console of its own, opened by the session in the input.
+    /// A machine of its own, opened by the session in the input.
     World,
-    /// A call of that console: who makes it, and its words.
+    /// A call of that machine: its caller, and its words.
     Call(u16, &'a str),
     Unknown,
 }

@@ -1,5 +1,5 @@
-//! Runs worked cases: prints each line of its input with its result. The head of the file `stdin` beside `src/`
-//! describes the lines.
+//! Runs worked cases: prints each line of its input with its result. The head of the file `stdin` next to
+//! `src/` describes the lines.
 #![tactic(auto)]
 
 mod answers;

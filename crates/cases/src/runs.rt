@@ -6,7 +6,7 @@ use std::alloc::Global;
 use vt_base::NoMemory;
 use vt_tool::vt_command;
 
-/// Runs the case's command, once for each room of out, and adds what comes of it.
+/// Runs the case's command, once for each room of out, and adds the results.
 pub(crate) fn add_runs(alloc: Global, case: &Case, text: &mut Vec<u8>) -> Result<(), NoMemory> {
     let (first, last) = case.rooms;
     for room in first..=last {

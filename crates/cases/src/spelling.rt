@@ -1,9 +1,9 @@
-//! Bytes as a person can write and read them: `\n`, `\\`, and `\xHH` for what isn't printable ASCII.
+//! Bytes as a person can write and read them: `\n`, `\\`, and `\xHH` for bytes that aren't printable ASCII.
 use crate::line::times_of;
 use itoa::Buffer;
 use std::alloc::{AllocError, Global};
 
-/// From so many equal lines on, they are told as one.
+/// The number of equal lines from which on they are printed as one.
 const MANY: u64 = 10;
 
 /// How many pieces a block has.
@@ -56,7 +56,8 @@ fn put_times(bytes: &mut Vec<u8>, piece: &[u8], times: u64) -> Result<(), AllocE
     Ok(())
 }
 
-/// Adds the words of a call, where `*N TEXT` at their end stands for the bytes that TEXT spells, so many times.
+/// Adds the words of a call, in which `*N TEXT` at their end stands for the bytes that TEXT spells, so many
+/// times.
 pub(crate) fn add_words(alloc: Global, words: &str, bytes: &mut Vec<u8>) -> Result<(), AllocError> {
     if let Some((first, last)) = words.split_once('*') {
         if let Some((times, text)) = times_of(last) {
@@ -88,7 +89,7 @@ fn digit_of(byte: u8) -> u8 {
     }
 }
 
-/// Adds lines that tell the bytes: `|LINE` for a line of printable ASCII that ends in LF, `=` and its bytes,
+/// Adds lines that spell the bytes: `|LINE` for a line of printable ASCII that ends in LF, `=` and its bytes,
 /// spelled, for any other, and `*N` with its bytes, spelled, for many equal ones.
 pub(crate) fn add_lines(bytes: &[u8], text: &mut Vec<u8>) -> Result<(), AllocError> {
     let mut line: &[u8] = &[];
@@ -149,7 +150,7 @@ fn is_printable(byte: u8) -> bool {
     byte >= b' ' && byte <= b'~'
 }
 
-/// Adds the bytes as they stand.
+/// Adds the bytes unchanged.
 pub(crate) fn put(text: &mut Vec<u8>, bytes: &[u8]) -> Result<(), AllocError> {
     text.extend_from_slice(bytes)
 }

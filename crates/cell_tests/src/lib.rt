@@ -1,4 +1,5 @@
-//! Tests of the crates below the screen: what no clause of theirs says, and expected values from outside.
+//! Tests of the crates below the screen: behaviour that none of their clauses covers, and expected values from
+//! outside.
 #![tactic(auto)]
 
 #[cfg(test)]

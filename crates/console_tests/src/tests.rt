@@ -1,5 +1,5 @@
-//! What the tests share. Rows are texts and numbers alone, helpers have no clauses, and no `?` stands where a console or
-//! a session lives, since each would have to drop it: so a test is proved in seconds.
+//! Functions that the tests share. Rows are texts and numbers alone, helpers have no clauses, and no `?` stands
+//! after a machine or a session is made, since each would have to drop it: so a test is proved in seconds.
 mod deaths;
 mod marks;
 mod row;
@@ -20,13 +20,13 @@ use vt_events::{Entry, Event, Reply};
 use vt_journal::{Tail, print, read_event};
 use vt_world::World;
 
-// What the journal of one call ends with.
+// The end of the journal of one call.
 const END: Tail = Tail::End {
     events: 0,
     bytes: 0,
 };
 
-// The console that the session opens.
+// The machine that the session opens.
 fn open(alloc: Global, session: &str) -> Result<World, Fail> {
     let session = read(alloc, session.as_bytes())?;
     start(alloc, &session)
@@ -53,7 +53,7 @@ fn printed(alloc: Global, entry: &Entry) -> Result<Bytes, NoMemory> {
     Ok(text)
 }
 
-// Makes the call that the words spell, and gives its journal; nothing where there is no such call.
+// Makes the call that the words spell, and returns its journal; empty if there is no such call.
 fn made(alloc: Global, world: &mut World, p: u16, words: &[u8]) -> Result<Bytes, NoMemory> {
     let Some(caller) = CallerNo::new(p) else {
         return Ok(Bytes::new(alloc));
@@ -74,7 +74,7 @@ fn called(
     journal(alloc, caller, event, reply)
 }
 
-// Whether the journal of one call tells this answer.
+// Whether the journal of one call has this answer.
 fn answers(journal: &[u8], reply: &str) -> bool {
     match journal.strip_suffix(b"\n%end 0 0\n") {
         Some(entry) => match entry.strip_suffix(reply.as_bytes()) {
@@ -85,7 +85,7 @@ fn answers(journal: &[u8], reply: &str) -> bool {
     }
 }
 
-// Makes the call, and says whether it is answered so.
+// Makes the call, and returns whether it has this answer.
 fn is_answered(
     alloc: Global,
     world: &mut World,
@@ -120,7 +120,7 @@ fn check_all(by: &impl Abort, alloc: Global, world: &mut World, rows: &[Row]) ->
     Ok(())
 }
 
-// Makes the calls of these rows one after another, on a console that the session opens, and looks at what they tell.
+// Makes the calls of these rows one after another, on a machine that the session opens, and checks the facts.
 fn check(by: &impl Abort, alloc: Global, session: &str, rows: &[Row]) -> Result<(), Fail> {
     let mut world = open(alloc, session)?;
     check_all(by, alloc, &mut world, rows)

@@ -1,4 +1,4 @@
--- What is fresh after a byte more.
+-- The fresh bytes after one more byte.
 use Rattle.std.proofs.Common.{◌≡◌, ⊎_elim, ℕ, zero, suc, ◌<◌, ◌≤◌, Bool, true, false, cond, ◌||◌, List, [], ◌∷◌, ◌++◌, length, take, refl, sym, ap, ◌∙◌, arith, length-append}
 use Rattle.std.proofs.lemmas.Bool.{cases_Bool, cond-true, cond-false, false≢true, or_from}
 use Rattle.std.proofs.lemmas.List.{length-take, take_all, take-append-le}
@@ -39,7 +39,7 @@ module _ (p : ℕ → Bool) where
       cond-false _ _ _ (same ∙ none) ∙ ap (λ ys. ys ++ b ∷ []) (sym (cond-false _ _ _ none)))
       (cases_Bool (list_any p (x ∷ xs)))
 
-  -- what none of passes is all after its last one
+  -- if no byte of a list passes, all of them come after the last that passes
   none-pass : (xs : List ℕ) → list_any p xs ≡ false → after_last p xs ≡ xs
   none-pass [] none = refl
   none-pass (x ∷ xs) none = cond-false _ _ _ none
@@ -64,7 +64,7 @@ module _ (p : ℕ → Bool) where
       let both = or-parts (p x) (list_any p xs) none in
       or_from _ _ both.0 (none-in-front n xs both.1)
 
-  -- the first n after the last that passes, with a byte more
+  -- the first n bytes after the last that passes, with one more byte
   front-more : (n : ℕ) (xs : List ℕ) (b : ℕ)
       → take n (after_last p (xs ++ b ∷ [])) ≡ take n (after_last p (take n (after_last p xs) ++ b ∷ []))
   front-more n xs b = ⊎_elim
@@ -86,7 +86,7 @@ module _ (p : ℕ → Bool) where
       fits (suc n) [] b = refl
       fits (suc n) (x ∷ left) b = ap (λ ys. x ∷ ys) (fits n left b)
 
--- a byte more changes what is fresh as it does after the fresh bytes alone
+-- one more byte changes the fresh bytes as it does after the fresh bytes alone
 pub fresh_more : (t : Termios) (bytes : List ℕ) (b : ℕ)
     → fresh t (bytes ++ b ∷ []) ≡ fresh t (fresh t bytes ++ b ∷ [])
 fresh_more t bytes b = by_mode t.icanon
@@ -97,7 +97,7 @@ fresh_more t bytes b = by_mode t.icanon
     by_mode true = front-more (ends t) most bytes b
     by_mode false = refl
 
--- after an end nothing is
+-- after an end no byte is fresh
 pub fresh_ended : (t : Termios) (bytes : List ℕ) (b : ℕ) → ends_line (kind t b) ≡ true
     → fresh t (bytes ++ b ∷ []) ≡ []
 fresh_ended t bytes b is = by_mode t.icanon
@@ -106,7 +106,7 @@ fresh_ended t bytes b is = by_mode t.icanon
     by_mode true = ap (take most) (last-passes (ends t) bytes b is)
     by_mode false = refl
 
--- of fresh bytes, and a byte more that ends no line: it is added, where there is room
+-- fresh bytes, and one more byte that ends no line: it is added, if there is room
 module _ (t : Termios) (f : List ℕ) (b : ℕ) (canonical : t.icanon ≡ true) (stays : fresh t f ≡ f)
     (goes_on : ends_line (kind t b) ≡ false) where
   canonically : (bytes : List ℕ) → fresh t bytes ≡ take most (after_last (ends t) bytes)

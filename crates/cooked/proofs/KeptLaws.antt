@@ -1,4 +1,4 @@
--- What is kept after a byte more.
+-- The kept characters after one more byte.
 use Rattle.std.proofs.Common.{◌≡◌, ◌≢◌, ◌⊎◌, ⊎_elim, inl, inr, ℕ, zero, suc, ◌<◌, Bool, true, false, cond, ◌==◌, not, List, [], ◌∷◌, ◌++◌, refl, sym, ap, ◌∙◌, subst, append_assoc}
 use Rattle.std.proofs.lemmas.Bool.{cases_Bool, cases_eq, cond-true, cond-false, eq-eqb, ne_eqb}
 use Rattle.cooked.specs.Cooked.{ends_open}
@@ -9,7 +9,7 @@ use Rattle.vt_chars.specs.Characters.{AsciiCuts, ByteMore, characters, is_part, 
 abbrev pub kept_by : ℕ → List (List ℕ) → List (List ℕ)
 kept_by e cs = (read_all e cs).kept
 
--- readings, where the first has one erase more to its right than the second
+-- two readings, of which the first has one erase more to its right
 abbrev Less : Reading → Reading → Type 0
 Less r s =
     ((r.kept ≡ []) × (s.kept ≡ []) × (r.debt ≡ suc s.debt))
@@ -123,7 +123,7 @@ not_erase e [] b other = ne_eqb b e other
 not_erase e (a ∷ []) b other = refl
 not_erase e (a ∷ d ∷ c) b other = refl
 
--- a byte more goes on with the last character of two or more, or of one
+-- one more byte goes on with the last character of two or more, or of one
 with_last : (cs : List (List ℕ)) (c : List ℕ) (b : ℕ)
     → with_byte (cs ++ c ∷ []) b
     ≡ cond (is_part (c ++ b ∷ [])) (cs ++ (c ++ b ∷ []) ∷ []) ((cs ++ c ∷ []) ++ (b ∷ []) ∷ [])
@@ -190,7 +190,7 @@ after_data bytes e g x b stays other_byte =
     by_test c cs alone goes_on false =
         kept_more e (cs ++ c ∷ []) (b ∷ []) alone ∙ ap (λ xs. xs ++ (b ∷ []) ∷ []) goes_on
 
--- after an erase it stands alone
+-- after an erase the byte is a character of its own
 after_erase : (cuts : AsciiCuts) (bytes : ByteMore) (e : ℕ) (g : List ℕ) (b : ℕ) → e < 0x80 → b ≢ e
     → kept_by e (characters ((g ++ e ∷ []) ++ b ∷ [])) ≡ kept_by e (characters (g ++ e ∷ [])) ++ (b ∷ []) ∷ []
 after_erase cuts bytes e g b low other_byte =

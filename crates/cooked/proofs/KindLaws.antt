@@ -1,4 +1,4 @@
--- Which byte an erase is, and that data isn't it.
+-- The byte of an erase, which is no data.
 use Rattle.std.proofs.Common.{◌≡◌, ◌≢◌, ⊎_elim, ℕ, ◌<◌, Bool, true, false, cond, ◌==◌, ◌&&◌, not, refl, sym, ap, ◌∙◌, arith}
 use Rattle.std.proofs.lemmas.Bool.{and_parts, cases_Bool, cond-true, cond-false, eqb-true, eq-eqb, false≢true, not-false}
 use Rattle.std.proofs.lemmas.Bool.Decides.{nat_tests}
@@ -64,7 +64,7 @@ by_chain t b = refl
 mapped_byte_feed : (t : Termios) (b : ℕ) → (t.icrnl && b == 0x0D) ≡ true → (mapped_byte t b ≡ 0x0A) × (b ≡ 0x0D)
 mapped_byte_feed t b is = (cond-true _ _ _ is, eqb-true b 0x0D (and_parts t.icrnl (b == 0x0D) is).1)
 
--- an erase is the erase byte as it was typed
+-- an erase is the erase byte that was typed
 pub erase_is : (t : Termios) (b : ℕ) → IsValid t → kind t b ≡ Erase → b ≡ t.erase
 erase_is t b valid is =
     let e = erase_byte t valid in
@@ -76,7 +76,7 @@ erase_is t b valid is =
     (λ (other : (t.icrnl && b == 0x0D) ≡ false). sym (cond-false _ _ _ other) ∙ counts)
     (cases_Bool (t.icrnl && b == 0x0D))
 
--- data of a line isn't
+-- data of a line isn't the erase byte
 pub data_differs : (t : Termios) (b : ℕ) → IsValid t → t.icanon ≡ true → kind t b ≡ Data → b ≢ t.erase
 data_differs t b valid canonical is same =
     let e = erase_byte t valid in
@@ -96,7 +96,7 @@ canonical_in true q true k e f n is = absurd (let wrong : ⊥ = cc in wrong)
 canonical_in false true true k e f n is = absurd (let wrong : ⊥ = cc in wrong)
 canonical_in false false true k e f n is = absurd (let wrong : ⊥ = cc in wrong)
 
--- an erase is one where lines are edited
+-- an erase occurs only if lines are edited
 pub erase_canonical : (t : Termios) (b : ℕ) → kind t b ≡ Erase → t.icanon ≡ true
 erase_canonical t b is =
     not-false t.icanon

@@ -26,7 +26,7 @@ one_more t bytes b = record {
   echo = each_more (λ before b. echo_of t (fresh t before) b) [] bytes b;
 }
 
--- what stands after all the bytes
+-- the result of all the bytes
 abbrev stands_after : Termios → List ℕ → Pushed
 stands_after t bytes = record { fresh = fresh t bytes; items = all_items t bytes; echo = all_echo t bytes }
 
@@ -44,7 +44,7 @@ pushes_on t before (b ∷ more) =
     ∙ pushes_on t (before ++ b ∷ []) more
     ∙ ap (stands_after t) (append_assoc before (b ∷ []) more)
 
--- of no bytes none are fresh
+-- no bytes have no fresh bytes
 pub fresh_none : (t : Termios) → fresh t [] ≡ []
 fresh_none t = by_mode t.icanon
   where

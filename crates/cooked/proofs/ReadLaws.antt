@@ -1,4 +1,4 @@
--- What a console answers to reads and to writes.
+-- The machine's answers to reads and to writes.
 use Rattle.std.proofs.Common.{◌≡◌, ℕ, ◌≤◌, min, Bool, true, false, cond, ◌&&◌, List, [], ◌∷◌, ◌++◌, length, take, Some, None, refl, sym, ap, ◌∙◌, subst, arith, length-append}
 use Rattle.std.proofs.Math.Seq.{get_or-append_seam}
 use Rattle.std.proofs.lemmas.Bool.{and_parts, eqb-false, leb-true, not-false}
@@ -8,7 +8,8 @@ use Rattle.std.specs.Prelude.{Option, nat_le, slice_get}
 use Rattle.vt_base.specs.Bytes.{Text}
 use Rattle.vt_base.specs.declared.errno.Errno.{Errno}
 use Rattle.vt_base.specs.declared.errno.Errno.TheVariants.{Again}
-use Rattle.vt_events.specs.Plain.{plain_reply, text}
+use Rattle.vt_events.specs.Kinds.{text}
+use Rattle.vt_events.specs.Plain.{plain_reply}
 use Rattle.vt_events.specs.Waits.{is_wait}
 use Rattle.vt_events.specs.declared.entry.Entry.{Entry}
 use Rattle.vt_events.specs.declared.event.Event.{Event}
@@ -18,13 +19,13 @@ use Rattle.vt_events.specs.declared.reply.Reply.TheVariants as reply
 use Rattle.vt_world.specs.Heard.{without_marks}
 use Rattle.vt_world.specs.History.{IsLegal, replay}
 use Rattle.vt_world.specs.Inputs.{input_at}
-use Rattle.vt_world.specs.Refusals.{Refusal, common_refusals, first_refusal, is_empty, needs_open, needs_sense, own_refusals, refusal, target, transfer_limit}
-use Rattle.vt_world.specs.Rows.{row}
+use Rattle.vt_world.specs.Events.{own_refusals, row}
+use Rattle.vt_world.specs.Refusals.{Refusal, common_refusals, first_refusal, is_empty, needs_open, needs_sense, refusal, target, transfer_limit}
 use Rattle.vt_world.specs.State.{WorldState}
 use Rattle.vt_world.specs.Step.{outcome_of_row, row_result_after, row_result, step}
 use Rattle.cooked.specs.Turn.{ReadAnswer, WriteAnswer}
 
--- where nothing refuses, the first of some refusals doesn't
+-- if none refuses, the first of some refusals doesn't
 none_first : (r : Refusal) (more : List Refusal) → first_refusal (r ∷ more) ≡ None
     → (r.applies ≡ false) × (first_refusal more ≡ None)
 none_first r more none = by_test r.applies refl
@@ -33,7 +34,7 @@ none_first r more none = by_test r.applies refl
     by_test true is = absurd (let wrong : ⊥ = cc (sym (ap (λ t. cond t (Some r.with) (first_refusal more)) is) ∙ none) in wrong)
     by_test false is = (is, sym (ap (λ t. cond t (Some r.with) (first_refusal more)) is) ∙ none)
 
--- bytes from the front of a queue that has some
+-- bytes from the front of a queue that isn't empty
 front_answer : (most : ℕ) (queue : List ℕ) → 1 ≤ most → 1 ≤ length queue
     → ReadAnswer most (reply.Text (text (take (min most (length queue)) queue)))
 front_answer most queue some bytes =
@@ -76,7 +77,7 @@ write_answer w p fd b = by_common (first_refusal (common_refusals (without_marks
     by_common (Some errno) = tt
     by_common None = by_own (first_refusal (own_refusals (without_marks w) p (event.Write fd b)))
 
--- the last entry of a legal history has the answer of the console
+-- the last entry of a legal history has the machine's answer
 last_answer : (P : Reply → Type 0) (start : WorldState) (before : List Entry) (entry : Entry) (e : Event)
     → IsLegal start (before ++ entry ∷ []) → entry.event ≡ e
     → ((w : WorldState) (p : ℕ) → P (step w p e).reply) → P (plain_reply entry.reply)

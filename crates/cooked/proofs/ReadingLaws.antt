@@ -1,4 +1,4 @@
--- What turns read is what they pushed.
+-- The bytes that turns read are the bytes that they pushed.
 use Rattle.std.proofs.Common.{◌≡◌, ⊎_elim, ℕ, List, [], ◌∷◌, ◌++◌, refl, sym, ap, ◌∙◌, subst, append_assoc}
 use Rattle.std.proofs.lemmas.List.{append-nil}
 use Rattle.std.specs.Prelude.{Option}
@@ -82,12 +82,12 @@ untyped_none fd old new turn made untyped = ⊎_elim
     (λ met. met_none made turn.stop met)
     untyped.cause
 
--- what is so after bytes
+-- the state of the discipline after bytes
 pub record After (t : Termios) (bytes : List ℕ) (v : Typing) : Type 0 where
   pub termios : v.termios ≡ t
   pub fresh : v.fresh ≡ fresh t bytes
 
--- what a turn adds to bytes that were pushed before
+-- the effect of a turn after bytes that were pushed before
 pub record Adds (t : Termios) (before read : List ℕ) (after : Typing) (given_now : List Item) : Type 0 where
   pub now : After t (before ++ read) after
   pub items : all_items t (before ++ read) ≡ all_items t before ++ given_now
@@ -140,7 +140,7 @@ turn_adds start fd t before old new turn p q at turns = ⊎_elim
     (λ untyped. untyped_adds fd t before old new turn turns.made at untyped)
     turns.is
 
--- what turns come to, after bytes that were pushed before
+-- the results of turns, after bytes that were pushed before
 pub record CameOn (t : Termios) (before : List ℕ) (p q : PassView) (turns : List Made) (w : Typing) : Type 0 where
   pub made : List Entry
   pub mine : q.mine ≡ p.mine ++ made

@@ -79,7 +79,7 @@ but_last_of_more [] c = refl
 but_last_of_more (d ∷ []) c = refl
 but_last_of_more (d ∷ g ∷ cs) c = ap (λ xs. d ∷ xs) (but_last_of_more (g ∷ cs) c)
 
--- what the last size says of the sizes and the bytes
+-- the meaning of the last size for the sizes and the bytes
 module _ (sizes bytes : List ℕ) (size count : ℕ) (is : IsLastSize sizes size count)
     (whole : total sizes ≡ length bytes) where
   pub the_last : LastPart is.before size bytes

@@ -1,4 +1,4 @@
--- What is held stands for what is fresh, after a byte more.
+-- The bytes that are held stand for the fresh ones, after one more byte.
 use Rattle.std.proofs.Common.{◌≡◌, ℕ, ◌+◌, ◌<◌, ◌≤◌, Bool, true, false, cond, ◌&&◌, List, [], ◌∷◌, ◌++◌, length, refl, sym, ap, ◌∙◌, subst, arith, append_assoc, length-append}
 use Rattle.std.proofs.lemmas.Bool.{false≢true}
 use Rattle.std.proofs.lemmas.List.{append-nil}
@@ -84,7 +84,7 @@ but_last_count [] = omega arith
 but_last_count (c ∷ []) = omega arith
 but_last_count (c ∷ d ∷ cs) = omega (arith, but_last_count (d ∷ cs))
 
--- a byte more that is fresh, in a place that was left for it
+-- one more byte is fresh, in a place that was left for it
 module _ (t : Termios) (typed later : Text) (held : List (List ℕ)) (line : Text) (b : ℕ)
     (stands : Stands t typed held line) (canonical : t.icanon ≡ true)
     (goes_on : ends_line (kind t b) ≡ false) (bytes : later.bytes ≡ typed.bytes ++ b ∷ [])
@@ -97,7 +97,7 @@ module _ (t : Termios) (typed later : Text) (held : List (List ℕ)) (line : Tex
       fresh_added t typed.bytes b canonical stands.stays goes_on
       (omega (arith, stands.typed_room, room))
 
-  -- what is held stands for it, where it is what is kept
+  -- the held bytes stand for the fresh ones, if they are the kept ones
   later-stands : (now : List (List ℕ)) → now ≡ kept_characters t (typed.bytes ++ b ∷ [])
       → length (concat now) ≤ length typed.bytes + 1 → length now ≤ length typed.bytes + 1
       → Stands t later now line
@@ -136,7 +136,7 @@ module _ (t : Termios) (typed later : Text) (held : List (List ℕ)) (line : Tex
       (omega (arith, but_last_bytes held, stands.bytes))
       (omega (arith, but_last_count held, stands.characters))
 
--- another line in its room
+-- another line in place of the old one
 pub with_line : (t : Termios) (typed : Text) (held : List (List ℕ)) (line later : Text)
     → Stands t typed held line → length later.bytes + later.room ≡ 4096 → Stands t typed held later
 with_line t typed held line later stands room = record {
@@ -149,7 +149,7 @@ with_line t typed held line later stands room = record {
   line_room = room;
 }
 
--- a byte that ends what was typed, by its kind as it was found
+-- a byte that ends the fresh bytes, by its kind
 pub pushed_ended : (t : Termios) (f line : List ℕ) (v : Typing) (b h : ℕ) (k : Kind) → make_typing t f line ≡ v
     → h ≡ mapped_byte t b → k ≡ kind_of t h → ends_line k ≡ true → fresh v.termios (v.fresh ++ b ∷ []) ≡ []
 pushed_ended t f line v b h k view heard_as found ends =

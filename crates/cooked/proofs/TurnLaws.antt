@@ -6,7 +6,8 @@ use Rattle.std.specs.Prelude.{Option, Result, Ok, Err}
 use Rattle.turn_lock.specs.declared.seal.Seal.{Seal}
 use Rattle.vt_base.specs.Bytes.{Text}
 use Rattle.vt_base.specs.declared.errno.Errno.{Errno}
-use Rattle.vt_events.specs.Plain.{plain_event, plain_reply, text}
+use Rattle.vt_events.specs.Kinds.{text}
+use Rattle.vt_events.specs.Plain.{plain_event, plain_reply}
 use Rattle.vt_events.specs.Waits.{is_wait}
 use Rattle.vt_events.specs.declared.entry.Entry.{Entry}
 use Rattle.vt_events.specs.declared.event.Event.{Event}
@@ -36,7 +37,7 @@ last_waits : (known : Bool) (es : List Entry) (e : Entry) → waits_by known (es
 last_waits known [] e = refl
 last_waits known (x ∷ es) e = last_waits (is_wait x.reply) es e
 
--- the pass v, before the first call and after calls: what it made so far
+-- the pass v, before the first call and after calls: the entries that it made so far
 pub record Came (u v : PassView) (made : List Entry) : Type 0 where
   pub hub : v.hub ≡ u.hub
   pub number : v.number ≡ u.number

@@ -7,8 +7,8 @@ use Rattle.cooked.specs.KeptText.{kept_characters, kept_bytes}
 use Rattle.cooked.specs.Termios.{IsValid}
 use Rattle.cooked.specs.declared.termios.Termios.{Termios}
 
--- the settings, the fresh bytes, and the line that the last push gave. The kept bytes are those of the
--- fresh ones
+-- the settings, the fresh bytes, and the line that the last push gave; the kept bytes are those of the fresh
+-- ones
 pub record Typing : Type 0 where
   pub termios : Termios
   pub fresh : List ℕ
@@ -17,7 +17,7 @@ pub record Typing : Type 0 where
 abbrev pub make_typing : Termios → List ℕ → List ℕ → Typing
 make_typing t fresh line = record { termios = t; fresh = fresh; line = line }
 
--- what is held stands for the fresh bytes, and there is room for a full line
+-- the held characters stand for the fresh bytes, and there is room for a full line
 pub record Stands (t : Termios) (typed : Text) (held : List (List ℕ)) (line : Text) : Type 0 where
   pub valid : IsValid t
   pub stays : fresh t typed.bytes ≡ typed.bytes
@@ -27,13 +27,13 @@ pub record Stands (t : Termios) (typed : Text) (held : List (List ℕ)) (line : 
   pub typed_room : length typed.bytes + typed.room ≡ most
   pub line_room : length line.bytes + line.room ≡ 4096
 
--- the last byte is there, and isn't the erase byte: a byte after it may go on with it
+-- there is a last byte, and it isn't the erase byte: a byte after it may go on with it
 abbrev pub ends_open : ℕ → List ℕ → Bool
 ends_open erase [] = false
 ends_open erase (b ∷ []) = not (b == erase)
 ends_open erase (b ∷ c ∷ more) = ends_open erase (c ∷ more)
 
--- the line of a typing that ends: its kept bytes, and 0A where the end belongs to it
+-- the line at an end: the kept bytes, and 0A if the end belongs to the line
 abbrev pub ended_line : Typing → Bool → List ℕ
 ended_line v with_end =
     if with_end then kept_bytes v.termios v.fresh ++ 0x0A ∷ [] else kept_bytes v.termios v.fresh

@@ -1,4 +1,4 @@
--- What was typed since the last end.
+-- The fresh bytes: those typed since the last end.
 use Rattle.std.specs.Prelude.{ℕ, Bool, nat_le, List, [], ◌∷◌, length, take, if◌then◌else◌}
 use Rattle.std.specs.List.{list_any}
 use Rattle.cooked.specs.Kinds.{ends_line, kind}
@@ -8,7 +8,7 @@ use Rattle.cooked.specs.declared.termios.Termios.{Termios}
 abbrev pub most : ℕ
 most = 4095
 
--- what is after the last byte that passes: all, where none does
+-- the bytes after the last byte that passes: all, if none does
 abbrev pub after_last : (ℕ → Bool) → List ℕ → List ℕ
 after_last passes [] = []
 after_last passes (b ∷ more) =
@@ -18,8 +18,8 @@ after_last passes (b ∷ more) =
 abbrev pub ends : Termios → ℕ → Bool
 ends t b = ends_line (kind t b)
 
--- the fresh bytes of all that was typed: those after the last end, but no more than the first 4,095.
--- Without ICANON there are none
+-- the fresh bytes of all typed bytes: those after the last end, at most the first 4,095; without ICANON there
+-- are none
 abbrev pub fresh : Termios → List ℕ → List ℕ
 fresh t bytes = if t.icanon then take most (after_last (ends t) bytes) else []
 

@@ -1,4 +1,4 @@
--- What a byte gives.
+-- The items that a byte gives.
 use Rattle.std.specs.Prelude.{ℕ, List, [], ◌∷◌, ◌++◌, if◌then◌else◌}
 use Rattle.cooked.specs.KeptText.{kept_bytes}
 use Rattle.cooked.specs.Kinds.{kind}
@@ -22,8 +22,8 @@ interrupt = 2
 abbrev pub quit : ℕ
 quit = 3
 
--- what a byte that counts as b gives, by its kind and the fresh bytes before it: an end the kept bytes
--- and 0A, an eof the kept bytes, a kill nothing; data is given at once where ICANON is off
+-- the items that a byte that counts as b gives, by its kind and the fresh bytes before it: an end gives the
+-- kept bytes and 0A, an eof the kept bytes, a kill nothing; data is given at once if ICANON is off
 abbrev pub given_by : Termios → List ℕ → ℕ → Kind → List Item
 given_by t fresh b Interrupt = signal interrupt ∷ []
 given_by t fresh b Quit = signal quit ∷ []
@@ -33,18 +33,18 @@ given_by t fresh b Eof = line (kept_bytes t fresh) ∷ []
 given_by t fresh b End = line (kept_bytes t fresh ++ 0x0A ∷ []) ∷ []
 given_by t fresh b Data = if t.icanon then [] else byte b ∷ []
 
--- what a byte gives after these fresh bytes: one item or none
+-- the items that a byte gives after these fresh bytes: one or none
 abbrev pub items_after : Termios → List ℕ → ℕ → List Item
 items_after t fresh b = given_by t fresh (mapped_byte t b) (kind t b)
 
--- the items that an answer and the line beside it stand for
+-- the items that an answer and the last line stand for
 abbrev pub items_of : Given → List ℕ → List Item
 items_of answer.Nothing text = []
 items_of answer.Line text = line text ∷ []
 items_of (answer.Byte b) text = byte b ∷ []
 items_of (answer.Sig s) text = signal s ∷ []
 
--- the line among the items, of which there is at most one: empty, where there is none
+-- the line among the items, of which there is at most one: empty, if there is none
 abbrev pub line_in : List Item → List ℕ
 line_in [] = []
 line_in (line text ∷ more) = text

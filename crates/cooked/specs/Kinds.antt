@@ -1,11 +1,11 @@
--- What a byte is to the line discipline.
+-- The kinds that a byte can have for the line discipline.
 use Rattle.std.specs.Prelude.{ℕ, Bool, true, false, ◌==◌, ◌&&◌, not, if◌then◌else◌}
 use Rattle.cooked.specs.Termios.{mapped_byte}
 use Rattle.cooked.specs.declared.kind.Kind.{Kind}
 use Rattle.cooked.specs.declared.kind.Kind.TheVariants.{Interrupt, Quit, Kill, Erase, Eof, End, Data}
 use Rattle.cooked.specs.declared.termios.Termios.{Termios}
 
--- the kind of a byte that counts as b: signals where ISIG is on, then the others where ICANON is
+-- the kind of a byte that counts as b: signals if ISIG is on, then the others if ICANON is
 abbrev pub kind_of : Termios → ℕ → Kind
 kind_of t b =
     if t.isig && b == t.intr then Interrupt
@@ -21,7 +21,7 @@ kind_of t b =
 abbrev pub kind : Termios → ℕ → Kind
 kind t b = kind_of t (mapped_byte t b)
 
--- the byte ends what was typed: each kind does but an erase and data
+-- the byte ends the fresh bytes: each kind does except an erase and data
 abbrev pub ends_line : Kind → Bool
 ends_line Erase = false
 ends_line Data = false

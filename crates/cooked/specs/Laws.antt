@@ -7,7 +7,7 @@ use Rattle.cooked.specs.KeptText.{but_last, kept_characters}
 use Rattle.cooked.specs.Whole.{all_echo, all_items}
 use Rattle.cooked.specs.declared.termios.Termios.{Termios}
 
--- what a byte more at the end changes: one push, on the fresh bytes and the byte
+-- the changes that one more byte at the end makes: one push, on the fresh bytes and the byte
 pub record IsOneMore (t : Termios) (bytes : List ℕ) (b : ℕ) : Type 0 where
   pub left : fresh t (bytes ++ b ∷ []) ≡ fresh t (fresh t bytes ++ b ∷ [])
   pub items : all_items t (bytes ++ b ∷ []) ≡ all_items t bytes ++ items_after t (fresh t bytes) b
@@ -16,7 +16,7 @@ pub record IsOneMore (t : Termios) (bytes : List ℕ) (b : ℕ) : Type 0 where
 abbrev pub OneMore : Type 0
 OneMore = (t : Termios) (bytes : List ℕ) (b : ℕ) → IsOneMore t bytes b
 
--- what stands after pushes: the fresh bytes, and the items and the echo so far
+-- the state after pushes: the fresh bytes, and the items and the echo so far
 pub record Pushed : Type 0 where
   pub fresh : List ℕ
   pub items : List Item

@@ -1,4 +1,4 @@
--- Turns one after another, and what they read. This project's own.
+-- Turns one after another, and the bytes that they read. This project's own.
 use Rattle.std.specs.Prelude.{◌≡◌, ℕ, List, [], ◌∷◌, ◌++◌}
 use Rattle.cooked.specs.Cooked.{Typing, make_typing}
 use Rattle.cooked.specs.Fresh.{fresh}
@@ -15,7 +15,7 @@ use Rattle.vt_events.specs.declared.reply.Reply.{Reply}
 use Rattle.vt_hub.specs.Views.{PassView}
 use Rattle.vt_world.specs.State.{WorldState}
 
--- the bytes that a call read: those of its answer, where it is a read
+-- the bytes that a call read: those of its answer, if it is a read
 abbrev pub read_by : Event → Reply → List ℕ
 read_by (event.ReadIn fd most) r = text_of_reply r
 read_by e r = []
@@ -25,7 +25,7 @@ abbrev pub bytes_read : List Entry → List ℕ
 bytes_read [] = []
 bytes_read (entry ∷ entries) = read_by entry.event entry.reply ++ bytes_read entries
 
--- one turn of several: its descriptor, what it came to, and the discipline and the pass after it
+-- one turn of several: its descriptor, its result, and the discipline and the pass after it
 pub record Made : Type 0 where
   pub fd : ℕ
   pub turn : Turn
@@ -43,7 +43,7 @@ abbrev pub items_given : List Made → List Item
 items_given [] = []
 items_given (s ∷ more) = items_of s.turn.given s.after.line ++ items_given more
 
--- the entries that turns from the start made, by whose bytes all is as it is
+-- the entries that turns from the start made, whose bytes determine the result
 pub record CameTo (t : Termios) (p q : PassView) (turns : List Made) (w : Typing) : Type 0 where
   pub made : List Entry
   pub mine : q.mine ≡ p.mine ++ made

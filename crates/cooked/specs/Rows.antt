@@ -34,8 +34,8 @@ ErasesWide =
     []
     (0xE4 ∷ 0xB8 ∷ 0xAD ∷ 0x08 ∷ 0x20 ∷ 0x08 ∷ 0x08 ∷ 0x20 ∷ 0x08 ∷ [])
 
--- three bytes that would be a character, had the first two not been parted by one that is erased: each
--- is one of its own, and a second erase drops the last alone
+-- three bytes that would be a character if an erased byte didn't separate the first two: each is a character of
+-- its own, and a second erase drops the last alone
 abbrev pub KeepsParted : Type 0
 KeepsParted =
     Comes (0xE4 ∷ 0x61 ∷ 0x7F ∷ 0xB8 ∷ 0xAD ∷ 0x7F ∷ [])

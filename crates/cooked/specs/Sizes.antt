@@ -25,10 +25,10 @@ pub record IsLastSize (sizes : List ℕ) (size count : ℕ) : Type 0 where
   pub whole : sizes ≡ before ++ size ∷ []
   pub counted : count ≡ length before
 
--- the last character goes on with the byte
+-- the last character, with the byte added to it
 abbrev pub with_joined : List (List ℕ) → ℕ → List (List ℕ)
 with_joined cs b = but_last cs ++ (last_of cs ++ b ∷ []) ∷ []
 
--- the byte goes on with the last character, or is one of its own
+-- the byte is added to the last character, or is a character of its own
 abbrev pub with_put : Bool → List (List ℕ) → ℕ → List (List ℕ)
 with_put joins cs b = if joins then with_joined cs b else cs ++ (b ∷ []) ∷ []

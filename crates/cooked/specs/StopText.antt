@@ -1,4 +1,4 @@
--- What a stop says. This project's own.
+-- The text of a stop. This project's own.
 use Rattle.std.specs.Prelude.{ℕ, List, ◌++◌, codes, decimal}
 use Rattle.vt_base.specs.Errno.{number_of}
 use Rattle.cooked.specs.declared.stop.Stop.{Stop}

@@ -26,11 +26,11 @@ named_bytes t = t.intr ∷ t.quit ∷ t.erase ∷ t.kill ∷ t.eof ∷ []
 abbrev pub is_control : ℕ → Bool
 is_control b = nat_lt b 0x20 || b == 0x7F
 
--- a byte may have a name where it is a control character that ends no line
+-- a byte may have a name if it is a control character that ends no line
 abbrev pub may_be_named : ℕ → Bool
 may_be_named b = is_control b && not (b == 0x0A) && not (b == 0x0D)
 
--- no two of the bytes are one
+-- no two of the bytes are equal
 abbrev pub all_differ : List ℕ → Bool
 all_differ [] = true
 all_differ (b ∷ more) = not (list_any (λ c. c == b) more) && all_differ more
@@ -42,6 +42,6 @@ is_valid t = list_all may_be_named (named_bytes t) && all_differ (named_bytes t)
 abbrev pub IsValid : Termios → Type 0
 IsValid t = IsTrue (is_valid t)
 
--- what a byte counts as: ICRNL makes 0A of 0D
+-- the byte that a byte counts as: ICRNL makes 0A of 0D
 abbrev pub mapped_byte : Termios → ℕ → ℕ
 mapped_byte t b = if t.icrnl && b == 0x0D then 0x0A else b

@@ -1,7 +1,8 @@
--- A turn: one byte is read, and what it echoes is written. This project's own.
+-- A turn: one byte is read, and its echo is written. This project's own.
 use Rattle.std.specs.Prelude.{◌≡◌, ◌≤◌, ◌⊎◌, ⊤, ℕ, false, List, [], ◌∷◌, ◌++◌, length, Option, Some, None, Result, Ok, Err}
 use Rattle.turn_lock.specs.declared.seal.Seal.{Seal}
-use Rattle.vt_events.specs.Plain.{plain_event, plain_reply, text}
+use Rattle.vt_events.specs.Kinds.{text}
+use Rattle.vt_events.specs.Plain.{plain_event, plain_reply}
 use Rattle.vt_events.specs.declared.entry.Entry.{Entry}
 use Rattle.vt_events.specs.declared.event.Event.TheVariants as event
 use Rattle.vt_events.specs.declared.reply.Reply.{Reply}
@@ -25,7 +26,7 @@ use Rattle.cooked.specs.declared.turn.Turn.{Turn}
 abbrev pub ReadsOne : ℕ → Entry → Type 0
 ReadsOne fd entry = entry.event ≡ event.ReadIn fd 1
 
--- where an answer stops a turn: an error does
+-- the stop that an answer causes: an error stops a turn
 abbrev pub stop_of : Reply → Option Stop
 stop_of (reply.Err errno) = Some (stop.Err errno)
 stop_of r = None
@@ -43,7 +44,7 @@ pub record MetFull (made : List Entry) (stopped : Option Stop) : Type 0 where
   pub none : made ≡ []
   pub stop : stopped ≡ Some (stop.Full full)
 
--- what is echoed was written, unless it is nothing
+-- the echo was written, unless it is empty
 abbrev pub Echoes : ℕ → List ℕ → List Entry → Option Stop → Type 0
 Echoes fd [] made stopped = (made ≡ []) × (stopped ≡ None)
 Echoes fd (b ∷ more) made stopped =
@@ -81,7 +82,7 @@ pub record Untyped (fd : ℕ) (old new : Typing) (turn : Turn) (made : List Entr
 abbrev pub IsTurn : ℕ → Typing → Typing → Turn → List Entry → Type 0
 IsTurn fd old new turn made = Typed fd old new turn made ⊎ Untyped fd old new turn made
 
--- the pass has met a stop exactly where the turn was stopped by it
+-- the pass has met a stop exactly if the hub's stop stopped the turn
 abbrev pub Meets : Option Stop → Option (Seal Full) → Type 0
 Meets (Some (stop.Full full)) met = (by : ℕ) × (met ≡ Some (record { by = by; what = full }))
 Meets (Some (stop.Err errno)) met = met ≡ None
@@ -107,7 +108,7 @@ pub record Turns (start : WorldState) (fd : ℕ) (old new : Typing) (turn : Turn
   pub is : IsTurn fd old new turn made
   pub goes_on : GoesOn start v w made
   pub met : Meets turn.stop w.stop
-  -- so the next turn may be made
+  -- the next turn may be made
   pub free : w.stop ≡ None → awaits w.mine ≡ false
 
 -- a byte was read by one entry
@@ -140,8 +141,7 @@ pub record Writes (start : WorldState) (fd : ℕ) (bytes : List ℕ) (v w : Pass
   pub met : Meets stopped w.stop
   pub free : w.stop ≡ None → awaits w.mine ≡ false
 
--- what an answer to a read of so many bytes can be: bytes, at least one and no more than these, or an
--- error
+-- the possible answers to a read of so many bytes: bytes, at least one and no more than these, or an error
 abbrev pub ReadAnswer : ℕ → Reply → Type 0
 ReadAnswer most (reply.Text b) = (1 ≤ length b.bytes) × (length b.bytes ≤ most)
 ReadAnswer most (reply.Err errno) = ⊤
@@ -153,12 +153,12 @@ pub record Refuses (r : Reply) (stopped : Stop) : Type 0 where
   pub told : r ≡ reply.Err errno
   pub stop : stopped ≡ stop.Err errno
 
--- what an answer to a read of one comes to: its byte, or the stop
+-- the result of an answer to a read of one byte: the byte, or the stop
 abbrev pub ReadResult : Reply → Result ℕ Stop → Type 0
 ReadResult r (Ok byte) = plain_reply r ≡ reply.Text (text (byte ∷ []))
 ReadResult r (Err stopped) = Refuses r stopped
 
--- what an answer to a write can be: a number, or an error
+-- the possible answers to a write: a number, or an error
 abbrev pub WriteAnswer : Reply → Type 0
 WriteAnswer (reply.Num n) = ⊤
 WriteAnswer (reply.Err errno) = ⊤

@@ -108,7 +108,7 @@ impl Cooked {
         self.fresh.room() == 0
     }
 
-    // Echoes a byte that counts as `mapped_byte`.
+    // Echoes a byte, by the byte that it counts as.
     fn show(&self, heard: u8, kind: Kind, echo: &mut EchoBytes)
         requires { echo.old ≡ [] }
         ensures { echo.new ≡ if self.now.termios.echo
@@ -140,7 +140,7 @@ impl Cooked {
         }
     }
 
-    // A signal: what was typed is forgotten.
+    // A signal: the typed bytes are forgotten.
     fn signal(&mut self, s: Signal) -> Given
         ensures state { self.new ≡ make_typing self.old.termios [] [] }
         ensures given { result ≡ Sig s }
@@ -149,7 +149,7 @@ impl Cooked {
         Given::Sig(s)
     }
 
-    // A kill: what was typed is forgotten.
+    // A kill: the typed bytes are forgotten.
     fn kill(&mut self) -> Given
         ensures state { self.new ≡ make_typing self.old.termios [] [] }
         ensures given { result ≡ Nothing }
@@ -158,7 +158,7 @@ impl Cooked {
         Given::Nothing
     }
 
-    // Nothing is fresh any more, and no line was given.
+    // No byte is fresh any more, and no line was given.
     fn restart(&mut self)
         ensures { self.new ≡ make_typing self.old.termios [] [] }
     {
@@ -166,7 +166,7 @@ impl Cooked {
         self.line.truncate(0);
     }
 
-    // What is kept becomes the line, and nothing is fresh any more.
+    // The kept bytes become the line, and no byte is fresh any more.
     fn end(&mut self)
         ensures state { self.new
             ≡ make_typing self.old.termios [] (kept_bytes self.old.termios self.old.fresh) }
@@ -176,7 +176,7 @@ impl Cooked {
         self.fresh.truncate(0);
     }
 
-    // The end of a line, which gives what is kept, and 0A where that belongs to it.
+    // The end of a line, which gives the kept bytes, and 0A if that belongs to the line.
     fn finish(&mut self, with_end: bool) -> Given
         ensures state { self.new ≡ make_typing self.old.termios [] (ended_line self.old with_end) }
         ensures given { result ≡ Line }
@@ -205,7 +205,7 @@ impl Cooked {
         Given::Nothing
     }
 
-    // Data, which is given at once where lines aren't.
+    // Data, which is given at once if lines aren't edited.
     fn data(&mut self, b: u8, heard: u8) -> Given
         requires kind { kind self.old.termios b ≡ Data }
         ensures state { self.new ≡ make_typing self.old.termios
@@ -248,7 +248,7 @@ impl Cooked {
     }
 }
 
-// Whether there is a last byte, which isn't the erase byte.
+// Whether there is a last byte that isn't the erase byte.
 fn ends_open(erase: u8, fresh: &[u8]) -> bool
     ensures { result ≡ ends_open erase fresh.now }
 {

@@ -1,4 +1,4 @@
-//! What is echoed of a byte.
+//! The echo of a byte.
 ghost use Rattle.std.specs.Prelude.{◌≡◌, ◌≤◌, [], ◌++◌, length};
 ghost use Rattle.cooked.specs.Echo.{caret, columns_of, columns_shown, newline, data_echo, erase_echo};
 
@@ -7,7 +7,7 @@ use crate::termios::{Termios, is_control};
 use vt_cells::columns;
 use vt_chars::{Decoded, decode_all};
 
-/// BEL: nothing comes of the byte.
+/// BEL: the byte has no effect.
 pub(crate) const BELL: u8 = 0x07;
 
 pub(crate) fn newline(t: &Termios, echo: &mut EchoBytes)
@@ -29,7 +29,7 @@ pub(crate) fn caret(b: u8, echo: &mut EchoBytes)
     echo.push(b ^ 0x40);
 }
 
-/// Data as it is shown.
+/// The shown form of data.
 pub(crate) fn data_echo(t: &Termios, b: u8, echo: &mut EchoBytes)
     requires { echo.old ≡ [] }
     ensures { echo.new ≡ data_echo t.now b }

@@ -12,8 +12,8 @@ use vt_chars::{Decoded, decode};
 /// The bytes of a full line with its end.
 pub(crate) const LINE_BYTES: usize = 4_096;
 
-/// The characters that erases left: their bytes, and the size of each. An erase takes the last size,
-/// and so never cuts the bytes anew.
+/// The characters that erases left: their bytes, and the size of each. An erase takes the last size, and so
+/// never cuts the bytes into characters again.
 #[derive(Drop)]
 pub(crate) struct KeptText {
     bytes: Bytes,
@@ -48,7 +48,7 @@ impl KeptText {
         self.bytes.as_slice()
     }
 
-    /// The last character: no byte, where there is none.
+    /// The last character: no byte, if there is none.
     pub(crate) fn last(&self) -> &[u8]
         ensures { result.now ≡ last_of self.now }
     {
@@ -128,7 +128,7 @@ impl KeptText {
         self.bytes.truncate(0);
     }
 
-    /// Gives the bytes to `line`, in place of what it holds. Nothing is copied.
+    /// Gives the bytes to `line`, in place of its old ones. Nothing is copied.
     pub(crate) fn give(&mut self, line: &mut Bytes)
         requires { length line.old.bytes + line.old.room ≡ 4096 }
         ensures kept { self.new ≡ [] }

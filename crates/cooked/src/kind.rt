@@ -1,4 +1,4 @@
-/// What a byte is to the line discipline.
+/// The kind of a byte for the line discipline.
 #[derive(Clone, Copy, PartialEq, Eq)]
 pub(crate) enum Kind {
     Interrupt,

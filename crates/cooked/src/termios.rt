@@ -25,7 +25,7 @@ pub struct Termios {
     pub erase: u8,
     /// VKILL: drops the line.
     pub kill: u8,
-    /// VEOF: delivers the line as it stands.
+    /// VEOF: delivers the kept bytes without 0A.
     pub eof: u8,
 }
 
@@ -75,14 +75,14 @@ impl Termios {
         !intr && !quit && !erase && !kill
     }
 
-    /// What a byte counts as.
+    /// The byte that a byte counts as.
     pub(crate) fn heard(&self, b: u8) -> u8
         ensures { result ≡ mapped_byte self.now b }
     {
         if self.icrnl && b == 0x0D { 0x0A } else { b }
     }
 
-    /// What a byte that counts as `b` is.
+    /// The kind of a byte that counts as `b`.
     pub(crate) fn kind_of(&self, b: u8) -> Kind
         ensures { result ≡ kind_of self.now b }
     {

@@ -102,7 +102,7 @@ fn read_byte<J: Opening, R: Wait>(
     }
 }
 
-// The byte that a read of one was answered.
+// The byte in the answer to a read of one.
 fn byte_of(reply: Reply) -> Result<u8, Stop>
     requires { ReadAnswer 1 reply }
     ensures { ReadResult reply result }
@@ -114,7 +114,7 @@ fn byte_of(reply: Reply) -> Result<u8, Stop>
     }
 }
 
-// Writes the echo, unless it is empty, and says what stopped that.
+// Writes the echo, unless it is empty, and returns the stop, if there was one.
 fn write_echo<J: Opening, R: Wait>(
     seat: &Seat<J, R>,
     pass: &mut Pass<J>,

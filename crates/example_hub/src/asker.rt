@@ -8,7 +8,7 @@ use vt_base::{Bytes, NoMemory};
 use vt_events::Event;
 use vt_hub::{Opening, Pass, Seat};
 
-/// Its thread: it writes the text once its console has the display, and exits, also where memory is missing.
+/// Its thread: it writes the text once its console has the display, and exits, also if memory is missing.
 pub(crate) fn ask<J: Opening, R: Wait>(
     seat: &Seat<J, R>,
     pass: Pass<J>,

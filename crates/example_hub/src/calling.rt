@@ -9,7 +9,7 @@ use vt_events::Event;
 use vt_hub::{Answer, Opening, Pass, Seat};
 use vt_world::Spare;
 
-/// Makes the call. Where its answer is "wait", that of the call behind it is given, which tells how the wait ended.
+/// Makes the call. If its answer is "wait", returns the answer of the next call, which has the end of the wait.
 pub(crate) fn call<J: Opening, R: Wait>(
     seat: &Seat<J, R>,
     pass: &mut Pass<J>,

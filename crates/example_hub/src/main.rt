@@ -1,7 +1,7 @@
-//! An example of the library: one console for two processes, each in a thread of its own. Process 1 handles the switches
-//! of console 1, and process 2 asks for console 2 and writes the input there. Out come the calls of each with their
-//! answers, who has the display at the end, and what console 2 shows. Where the journal has room for each call, that is the
-//! same whatever turns the threads take.
+//! An example of the library: one machine for two processes, each in a thread of its own. Process 1 handles the
+//! switches of console 1, and process 2 requests console 2 and writes the input there. The output has the calls
+//! of each with their answers, the console that has the display at the end, and the screen of console 2. If the
+//! journal has room for each call, the output is the same in whatever order the threads run.
 #![tactic(auto)]
 
 mod asker;

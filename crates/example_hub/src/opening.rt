@@ -1,4 +1,4 @@
-//! The console at the start.
+//! The machine at the start.
 ghost use Rattle.std.specs.Prelude.{◌≡◌, ℕ, false, IfOk};
 ghost use Rattle.vt_world.specs.State.{is_waiting};
 

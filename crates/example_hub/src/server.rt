@@ -8,10 +8,10 @@ use vt_base::{NoMemory, SigSet, Signal};
 use vt_events::{Event, Reply};
 use vt_hub::{Answer, Opening, Pass, Seat};
 
-/// Signal 10 tells the process to let the display go, and 12 that it came back.
+/// Signal 10 asks the process to let the display go, and signal 12 reports that it came back.
 const BY_SIGNALS: Event = Event::SetMode(0, 1, 0, 10, 12, 0);
 
-/// What it does before anybody asks for another console.
+/// The calls of the process before anybody requests another console.
 pub(crate) fn take_switches<J: Opening, R: Wait>(
     seat: &Seat<J, R>,
     pass: &mut Pass<J>,
@@ -25,7 +25,7 @@ pub(crate) fn take_switches<J: Opening, R: Wait>(
     Ok(())
 }
 
-/// Its thread: it lets the display go once it is told to, and exits, also where memory is missing.
+/// Its thread: it lets the display go after it is asked to, and exits, also if memory is missing.
 pub(crate) fn serve<J: Opening, R: Wait>(
     seat: &Seat<J, R>,
     pass: Pass<J>,

@@ -19,13 +19,13 @@ use vt_hub::{Hub, Opening, Pass, Run, Seat, Steward};
 use vt_journal::Limits;
 use vt_world::World;
 
-/// The most entries of the journal, and what they may count for together.
+/// The most entries of the journal, and the most bytes that they may count for together.
 const LIMITS: Limits = Limits {
     events: 64,
     bytes: 65_536,
 };
 
-/// What both processes make of this console. It is the one that picks the name of the world for the proofs.
+/// The run of both processes on this machine. This function picks the name of the world for the proofs.
 pub(crate) fn shared<R: Threads + Wait + Sync>(
     rt: &R,
     alloc: Global,

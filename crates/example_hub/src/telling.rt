@@ -74,7 +74,7 @@ fn add_answer(alloc: Global, reply: &Reply, lines: &mut Bytes) -> Result<(), NoM
     }
 }
 
-// Where a call found no room, it and all later ones are missing.
+// If a call found no room, it and all later ones are missing.
 fn add_stop(alloc: Global, run: &Run, lines: &mut Bytes) -> Result<(), NoMemory> {
     match run.stop {
         Some(_) => add(alloc, b"the journal is full\n", lines),

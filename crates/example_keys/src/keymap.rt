@@ -6,7 +6,7 @@ use key_text::{Includes, KeyError, KeyFault, parse};
 use std::alloc::Global;
 use vt_base::NoMemory;
 
-/// What comes of a keymap text.
+/// The result of a keymap text.
 #[derive(Drop)]
 pub(crate) enum Keymap {
     Tables(KeyTables),
@@ -14,7 +14,7 @@ pub(crate) enum Keymap {
     Refused(KeyFault),
 }
 
-/// The tables of the text, or its first fault. No text is given to include.
+/// The tables of the text, or its first fault. There are no texts to include.
 pub(crate) fn compiled(alloc: Global, text: &[u8]) -> Result<Keymap, NoMemory> {
     match tables_of(alloc, text) {
         Ok(tables) => Ok(Keymap::Tables(tables)),

@@ -1,5 +1,5 @@
-//! An example of the library: a keymap compiled and typed on. The input is a keymap text; out come, for some keys, what
-//! goes to the console's input and what is asked for.
+//! An example of the library: a keymap compiled and typed on. The input is a keymap text; the output has, for
+//! some keys, the bytes for the console's input and the requests.
 #![tactic(auto)]
 
 mod keymap;

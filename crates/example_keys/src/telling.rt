@@ -29,7 +29,7 @@ pub(crate) fn add_line(
     add(alloc, lines, b"\n")
 }
 
-/// Adds where and why the keymap is refused.
+/// Adds the place and the kind of the keymap's fault.
 pub(crate) fn add_refusal(
     alloc: Global,
     fault: &KeyFault,

@@ -1,4 +1,4 @@
-//! What an input makes of a screen, as the text that draws it again.
+//! The screen that an input makes, as the text that draws it again.
 
 use std::alloc::Global;
 use vt_base::{Bytes, NoMemory, Size};
@@ -14,7 +14,7 @@ pub(crate) enum Drawing {
     Refused,
 }
 
-/// Runs the input on a screen of this size, and draws what it makes.
+/// Runs the input on a screen of this size, and draws the screen that it makes.
 pub(crate) fn drawn(alloc: Global, size: Size, input: &[u8]) -> Result<Drawing, NoMemory> {
     let mut emu = Emu::new(Grid::blank(alloc, size, BLANK)?);
     emu.write(input);

@@ -34,7 +34,7 @@ fn main(rt: HostRuntime) -> ExitCode {
     ExitCode::from(run(&rt))
 }
 
-// Reads, draws and writes, and answers the exit status.
+// Reads, draws and writes, and returns the exit status.
 fn run(rt: &HostRuntime) -> u8 {
     let Some(size) = size_of(rt) else {
         let _ = rt.eprintln("redraw: usage: redraw R C");

@@ -11,8 +11,7 @@ use vt_screen::{BLANK, Emu, any_cut};
 /// The screen that is drawn on.
 const SIZE: Size = Size { rows: 3, cols: 20 };
 
-/// For each line of the text a line for each thing that it says beside the screen, and then the rows that it
-/// changed.
+/// The lines for each line of the text: one for each of its side effects, and then the rows that it changed.
 pub(crate) fn drawn(alloc: Global, text: &[u8]) -> Result<Bytes, NoMemory> {
     let mut teller = Teller::new(alloc);
     let mut emu = Emu::new(Grid::blank(alloc, SIZE, BLANK)?);
@@ -21,8 +20,8 @@ pub(crate) fn drawn(alloc: Global, text: &[u8]) -> Result<Bytes, NoMemory> {
     teller.finish()
 }
 
-/// Runs the text on the screen, a line at once, and draws what each line changed. However it is cut, the screen is
-/// that of the whole text.
+/// Runs the text on the screen, a line at once, and draws the rows that each line changed. However the text is
+/// cut, the screen is that of the whole text.
 fn feed_all(
     alloc: Global,
     emu: &mut Emu,
@@ -43,7 +42,7 @@ fn feed_all(
     Ok(())
 }
 
-// Where the line that begins at this byte ends.
+// The end of the line that begins at this byte.
 fn line_end(text: &[u8], at: usize) -> usize
     requires { at < length text.now }
     ensures after { at < result }
@@ -57,7 +56,7 @@ fn line_end(text: &[u8], at: usize) -> usize
     text.len()
 }
 
-// Adds the rows that aren't shown as they are, and shows them.
+// Adds the rows that differ from the shown ones, and shows them.
 fn draw_changes(
     alloc: Global,
     grid: &Grid,
@@ -75,7 +74,7 @@ fn draw_changes(
     Ok(())
 }
 
-// Begins with a blank screen again where the size is another one.
+// Begins with a blank screen again if the size has changed.
 fn fit(alloc: Global, shown: &mut Grid, size: Size) -> Result<(), NoMemory>
     ensures rows { OnOk result (shown.new.rows ≡ size.rows) }
     ensures columns { OnOk result (shown.new.cols ≡ size.cols) }

@@ -1,5 +1,5 @@
-//! An example of the library: the escape machine alone. A text of any length goes in; line by line, what it says beside
-//! the screen comes out, and then the rows that it changed.
+//! An example of the library: the escape machine alone. The input is a text of any length; for each line of it,
+//! the output has the side effects, and then the rows that it changed.
 #![tactic(auto)]
 
 mod drawing;

@@ -1,4 +1,4 @@
-//! What a text says beside the screen, and rows of the screen, as lines.
+//! Side effects of a text, and rows of the screen, as lines.
 ghost use Rattle.std.specs.Prelude.{◌<◌};
 
 use itoa::Buffer;

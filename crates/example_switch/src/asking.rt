@@ -1,4 +1,4 @@
-//! What the processes do.
+//! The calls of the processes.
 use crate::calling::{asker, server};
 use crate::opening::opened;
 use crate::telling::{add, add_line};
@@ -7,7 +7,7 @@ use vt_base::{Bytes, NoMemory, SigSet, Signal};
 use vt_events::{Event, Reply};
 use vt_world::World;
 
-/// Process 2 asks for the console of each digit of the text, one after another. The lines of all calls.
+/// Process 2 requests the console of each digit of the text, one after another. Returns the lines of all calls.
 pub(crate) fn ask_for_each(alloc: Global, text: &[u8]) -> Result<Bytes, NoMemory> {
     let mut lines = Bytes::new(alloc);
     let mut world = opened(alloc)?;

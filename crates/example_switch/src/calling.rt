@@ -6,7 +6,7 @@ pub(crate) fn server() -> CallerNo {
     CallerNo::numbered(1)
 }
 
-/// The one that asks for consoles.
+/// The process that requests consoles.
 pub(crate) fn asker() -> CallerNo {
     CallerNo::numbered(2)
 }

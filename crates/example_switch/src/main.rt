@@ -1,5 +1,6 @@
-//! An example of the library: a console of two processes, of which one handles the switches of its own console. Each digit
-//! of the input is a console that the other one asks for; out come their calls, the answers, and who has the display.
+//! An example of the library: a machine with two processes, of which one handles the switches of its own
+//! console. Each digit of the input is a console that the other one requests; the output has their calls, the
+//! answers, and the console that has the display.
 #![tactic(auto)]
 
 mod asking;

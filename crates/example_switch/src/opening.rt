@@ -1,4 +1,4 @@
-//! The console at the start, with what both processes do first.
+//! The machine at the start, and the first calls of both processes.
 use crate::calling::{asker, server};
 use key_tables::KeyTables;
 use std::alloc::Global;
@@ -10,10 +10,10 @@ use vt_world::World;
 /// Consoles 1 and 2: bit n is console n.
 const CONSOLES: u64 = 0b110;
 
-/// Signal 10 tells process 1 to let the display go, and 12 that it came back.
+/// Signal 10 asks process 1 to let the display go, and signal 12 reports that it came back.
 const BY_SIGNALS: Event = Event::SetMode(0, 1, 0, 10, 12, 0);
 
-/// A console on which each process has its own console open as descriptor 0.
+/// A machine on which each process has its own console open as descriptor 0.
 pub(crate) fn opened(alloc: Global) -> Result<World, NoMemory> {
     let mut world = started(alloc)?;
     world.call(alloc, server(), &Event::OpenCon(1))?;

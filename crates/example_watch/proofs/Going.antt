@@ -1,4 +1,4 @@
--- Lists that are gone over, and what is made of them, element by element.
+-- Lists that a loop goes over, and the results of it, element by element.
 use Rattle.std.proofs.Common.{◌≡◌, ℕ, ◌+◌, ◌<◌, ◌≤◌, zero, suc, List, [], ◌∷◌, ◌++◌, Option, Some, None, drop, map, length, get_or, refl, sym, ap, ◌∙◌, append_assoc, add-one, drop-cons, arith}
 use Rattle.std.proofs.lemmas.List.{append-nil}
 use Rattle.std.specs.List.{cons_option, filter_map, flat_map}
@@ -14,7 +14,7 @@ pub next_drop : {A : Type 0} (xs : List A) (i : ℕ) (x : A) → i < length xs �
 next_drop xs i x within is =
     drop-cons xs i x within ∙ (λ j. sym is j ∷ drop (sym (add-one i) j) xs)
 
--- a list with a piece more, whose rest has it no more, is the same whole
+-- a list with one more piece, whose rest no longer has it, is the same whole
 pub piece_more : {A : Type 0} (old piece rest all new whole : List A) → new ≡ old ++ piece → all ≡ piece ++ rest
     → old ++ all ≡ whole → new ++ rest ≡ whole
 piece_more old piece rest all new whole added parts so_far =
@@ -23,7 +23,7 @@ piece_more old piece rest all new whole added parts so_far =
     ∙ ap (λ (text : List _). old ++ text) (sym parts)
     ∙ so_far
 
--- the text of one more
+-- the text of one more element
 pub text_more : {A : Type 0} (f : A → List ℕ) (xs : List A) (i : ℕ) (x : A) (old new whole : List ℕ)
     → i < length xs → x ≡ get_or xs i x → new ≡ old ++ f x → old ++ flat_map f (drop i xs) ≡ whole
     → new ++ flat_map f (drop (i + 1) xs) ≡ whole
@@ -31,7 +31,7 @@ text_more f xs i x old new whole within is added so_far =
     piece_more old (f x) (flat_map f (drop (i + 1) xs)) (flat_map f (drop i xs)) new whole added
     (ap (flat_map f) (next_drop xs i x within is)) so_far
 
--- the value of one more
+-- the value of one more element
 pub value_more : {A B : Type 0} (f : A → B) (xs : List A) (i : ℕ) (x : A) (old new whole : List B)
     → i < length xs → x ≡ get_or xs i x → new ≡ old ++ f x ∷ [] → old ++ map f (drop i xs) ≡ whole
     → new ++ map f (drop (i + 1) xs) ≡ whole
@@ -43,7 +43,7 @@ in_front : {B : Type 0} (y : Option B) (ys : List B) → cons_option y ys ≡ op
 in_front None ys = refl
 in_front (Some y) ys = refl
 
--- the value of one more, if it has one
+-- the value of one more element, if it has one
 pub some_more : {A B : Type 0} (h : A → Option B) (xs : List A) (i : ℕ) (x : A) (old new whole : List B)
     → i < length xs → x ≡ get_or xs i x → new ≡ old ++ option_to_list (h x) → old ++ filter_map h (drop i xs) ≡ whole
     → new ++ filter_map h (drop (i + 1) xs) ≡ whole
@@ -51,7 +51,7 @@ some_more h xs i x old new whole within is added so_far =
     piece_more old (option_to_list (h x)) (filter_map h (drop (i + 1) xs)) (filter_map h (drop i xs)) new whole added
     (ap (filter_map h) (next_drop xs i x within is) ∙ in_front (h x) (filter_map h (drop (i + 1) xs))) so_far
 
--- what one more mark of a trace is
+-- the fact of one more mark of a trace
 pub mark_more : (caller : ℕ) (cert : List HopWhy) (count : ℕ) (marks : List Mark) (i : ℕ) (m : Mark)
     (old new whole : List Fact)
     → i < length marks → m ≡ get_or marks i m → new ≡ old ++ option_to_list (mark_fact caller cert count m)
@@ -63,14 +63,14 @@ mark_more caller cert count marks i m old new whole within is added so_far =
     (trace_facts caller cert count (drop i marks)) new whole added
     (ap (trace_facts caller cert count) (next_drop marks i m within is)) so_far
 
--- behind the end nothing is left
+-- past the end no element is left
 pub past_end : {A : Type 0} (xs : List A) (i : ℕ) → length xs ≤ i → drop i xs ≡ []
 past_end [] zero over = refl
 past_end [] (suc i) over = refl
 past_end (x ∷ xs) zero over = absurd (omega (arith, over))
 past_end (x ∷ xs) (suc i) over = past_end xs i (omega (arith, over))
 
--- so all values are there
+-- at the end all values are there
 pub all_some : {A B : Type 0} (h : A → Option B) (xs : List A) (i : ℕ) (made whole : List B) → length xs ≤ i
     → made ++ filter_map h (drop i xs) ≡ whole → made ≡ whole
 all_some h xs i made whole over so_far =

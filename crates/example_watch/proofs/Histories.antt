@@ -1,4 +1,4 @@
--- The text and the console of a history, entry by entry.
+-- The text and the machine of a history, entry by entry.
 use Rattle.std.proofs.Common.{◌≡◌, ℕ, ◌+◌, ◌<◌, ◌≤◌, List, ◌++◌, drop, length, get_or, sym, ap, ◌∙◌, append_assoc}
 use Rattle.std.proofs.lemmas.List.{append-nil}
 use Rattle.example_watch.proofs.Going.{next_drop, past_end, piece_more}
@@ -25,14 +25,14 @@ sights_more f cert i since w entries entry old new whole within is added so_far 
     (sights_text f cert i since w (drop i entries)) new whole added
     (ap (sights_text f cert i since w) (next_drop entries i entry within is)) so_far
 
--- the console after one entry more
+-- the machine after one entry more
 pub replay_more : (i : ℕ) (w : WorldState) (entries : List Entry) (entry : Entry) (whole : WorldState)
     → i < length entries → entry ≡ get_or entries i entry → replay w (drop i entries) ≡ whole
     → replay (world_after w entry) (drop (i + 1) entries) ≡ whole
 replay_more i w entries entry whole within is so_far =
     ap (replay w) (sym (next_drop entries i entry within is)) ∙ so_far
 
--- the text of all entries, and what is added after them
+-- the text of all entries, and the text that is added after them
 pub whole_text : (f : Form) (cert : List HopWhy) (start : WorldState) (entries : List Entry) (i since : ℕ)
     (w : WorldState) (t0 t1 : List ℕ)
     → length entries ≤ i

@@ -1,4 +1,4 @@
--- What an entry did, and the state after it. This project's own.
+-- The facts of an entry, and the state after it. This project's own.
 use Rattle.std.specs.Prelude.{ℕ, ◌+◌, min, List, [], ◌∷◌, ◌++◌, Option, Some, None, map, option_map, option_to_list, slice_get, slice_index_or}
 use Rattle.std.specs.List.{filter_map, range_with_len}
 use Rattle.example_watch.specs.Sights.{Sight}
@@ -19,34 +19,34 @@ use Rattle.vt_switch.specs.declared.mark.Mark.{Mark}
 use Rattle.vt_switch.specs.declared.mark.Mark.TheVariants as mark
 use Rattle.vt_world.specs.State.{WorldState}
 
--- switches are counted up to the greatest number, as the console counts them
+-- switches are counted up to the greatest number, as the machine counts them
 abbrev pub count_after : Mark → ℕ → ℕ
 count_after (mark.Hopped hop) count = min 18446744073709551615 (count + 1)
 count_after m count = count
 
--- what a mark of the trace is, after so many switches of the history: the switch is the item of the certificate
--- at that place
+-- the fact of a mark of the trace, after so many switches of the history: the switch is the item of the
+-- certificate at that place
 abbrev pub mark_fact : ℕ → List HopWhy → ℕ → Mark → Option Fact
 mark_fact caller cert count (mark.Asked n) = Some (fact.Request caller n)
 mark_fact caller cert count (mark.Raised p signal) = Some (fact.Signal signal p)
 mark_fact caller cert count (mark.Hopped hop) = option_map fact.Switch (slice_get cert count)
 mark_fact caller cert count (mark.Ended p) = Some (fact.End p)
 
--- what the trace of an entry has
+-- the facts of an entry's trace
 abbrev pub trace_facts : ℕ → List HopWhy → ℕ → List Mark → List Fact
 trace_facts caller cert count [] = []
 trace_facts caller cert count (m ∷ marks) =
     option_to_list (mark_fact caller cert count m)
     ++ trace_facts caller cert (count_after m count) marks
 
--- what stands of each caller's wait
+-- the state of each caller's wait
 abbrev pub wait_of : WorldState → ℕ → Waiting
 wait_of w p = (caller_at w.callers p).waiting
 
 abbrev pub waits_of : WorldState → List Waiting
 waits_of w = map (wait_of w) (range_with_len 0 callers)
 
--- how a wait ended, from what stood of it and what stands of it now
+-- how a wait ended, from its state before and after the entry
 abbrev pub wait_end : Waiting → Waiting → Option WaitEnd
 wait_end waiting.Nothing waiting.Done = Some how.Done
 wait_end waiting.Nothing waiting.Broken = Some how.Interrupted
@@ -63,7 +63,7 @@ wait_fact before after p =
 abbrev pub wait_facts : List Waiting → WorldState → List Fact
 wait_facts before after = filter_map (wait_fact before after) (range_with_len 0 callers)
 
--- what an entry did, and the waits that ended
+-- the facts of an entry, and the waits that ended
 abbrev pub facts_of : List HopWhy → Sight → List Fact
 facts_of cert s =
     trace_facts s.entry.caller cert s.before.trace.hops s.after.trace.marks

@@ -1,4 +1,4 @@
--- What is printed for tools: objects of JSON, one a line (RFC 8259). This project's own.
+-- The text for tools: objects of JSON, one a line (RFC 8259). This project's own.
 use Rattle.std.specs.Prelude.{ℕ, ◌==◌, nat_lt, List, [], ◌∷◌, ◌++◌, Option, Some, None, codes, decimal, if◌then◌else◌}
 use Rattle.std.specs.List.{flat_map}
 use Rattle.example_watch.specs.Facts.{facts_of, owners_of, waiters_of}
@@ -59,7 +59,7 @@ wait_object p how =
     codes "{\"what\":\"wait\",\"caller\":"
     ++ (quoted (caller_text p) ++ (codes ",\"how\":\"" ++ (wait_end_name how ++ codes "\"}")))
 
--- what an entry did
+-- a fact of an entry
 abbrev pub fact_object : Fact → List ℕ
 fact_object (fact.Request caller console) = request_object caller console
 fact_object (fact.Signal signal to) = signal_object signal to
@@ -113,7 +113,7 @@ entry_members place entry =
     ++ (quoted (words_text (reply_words entry.reply))
     ++ (codes ",\"error\":" ++ error_value entry.reply))))))))))
 
--- the members of what it did
+-- the members of an entry's facts
 unfoldable pub did_member : List Fact → List ℕ
 did_member facts = codes ",\"did\":[" ++ (listed [] (codes ",") fact_object facts ++ codes "]")
 
@@ -129,7 +129,7 @@ state_members w since =
     ++ (codes ",\"waits\":["
     ++ (listed [] (codes ",") waiter_object (waiters_of w) ++ codes "]")))))))
 
--- an entry: its members, what it did, and the state after it
+-- an entry: its members, its facts, and the state after it
 unfoldable pub entry_object : ℕ → Entry → List Fact → List ℕ → List ℕ
 entry_object place entry facts state =
     entry_members place entry ++ (did_member facts ++ (state ++ codes "}\n"))

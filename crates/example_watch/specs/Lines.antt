@@ -1,4 +1,4 @@
--- What is printed for a person. This project's own.
+-- The text for a person. This project's own.
 use Rattle.std.specs.Prelude.{ℕ, List, [], ◌++◌, Option, Some, None, codes, decimal, if◌then◌else◌}
 use Rattle.std.specs.List.{flat_map}
 use Rattle.std.specs.Str.{bytes_eq}
@@ -51,7 +51,7 @@ end_words p = caller_text p ++ codes " ends"
 unfoldable pub wait_words : ℕ → WaitEnd → List ℕ
 wait_words p how = codes "wait of " ++ (caller_text p ++ (codes ": " ++ wait_end_name how))
 
--- what an entry did
+-- a fact of an entry
 abbrev pub fact_words : Fact → List ℕ
 fact_words (fact.Request caller console) = request_words caller console
 fact_words (fact.Signal signal to) = signal_words signal to
@@ -96,7 +96,8 @@ abbrev pub pending_words : Option ℕ → ℕ → List ℕ
 pending_words None since = codes "none"
 pending_words (Some n) since = pending_console_words n since
 
--- who is in front, who owns which console, what is pending since which entry, and who waits for what
+-- the console in front, the owner of each console, the pending console and the entry since which it is pending,
+-- and each wait
 unfoldable pub state_words : WorldState → ℕ → List ℕ
 state_words w since =
     codes "now: front "
@@ -112,7 +113,7 @@ state_words w since =
 abbrev pub change_line : List ℕ → List ℕ → List ℕ
 change_line before after = if bytes_eq before after then [] else lower_line after
 
--- an entry: its line of the journal, the error, what it did, and the state, if it changed it
+-- an entry: its line of the journal, the error, its facts, and the state, if it changed that
 unfoldable pub entry_lines : Entry → List Fact → List ℕ → List ℕ → List ℕ
 entry_lines entry facts before after =
     line_text (entry_words 2 entry)

@@ -1,11 +1,11 @@
--- What is seen of each entry of a history. This project's own.
+-- The parts of a history that are shown for each entry. This project's own.
 use Rattle.std.specs.Prelude.{ℕ, ◌+◌, ◌==◌, Bool, true, false, List, [], ◌∷◌, Option, Some, None, if◌then◌else◌}
 use Rattle.vt_events.specs.declared.entry.Entry.{Entry}
 use Rattle.vt_world.specs.State.{WorldState}
 use Rattle.vt_world.specs.Step.{step}
 
--- the number of an entry, the entry, the console before and after it, and since which entry what is pending
--- has been the same, before and after it
+-- the number of an entry, the entry, the machine before and after it, and the entry since which the pending
+-- console has been the same, before and after it
 pub record Sight : Type 0 where
   pub place : ℕ
   pub entry : Entry
@@ -20,11 +20,11 @@ is_same None (Some n) = false
 is_same (Some m) None = false
 is_same (Some m) (Some n) = m == n
 
--- the console after an entry
+-- the machine after an entry
 abbrev pub world_after : WorldState → Entry → WorldState
 world_after w entry = (step w entry.caller entry.event).world
 
--- since this entry, if it changed what is pending
+-- this entry, if it changed the pending console; otherwise the one before
 abbrev pub since_after : ℕ → ℕ → WorldState → WorldState → ℕ
 since_after place since before after =
     if is_same before.display.pending after.display.pending then since else place
@@ -39,7 +39,7 @@ sight_of place since w entry = record {
   since = since_after place since w (world_after w entry);
 }
 
--- the sights of entries from a place and a console on
+-- the sights of entries from a place and a machine on
 abbrev pub sights : ℕ → ℕ → WorldState → List Entry → List Sight
 sights place since w [] = []
 sights place since w (entry ∷ entries) =

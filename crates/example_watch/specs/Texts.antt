@@ -1,4 +1,4 @@
--- What is printed of a history. This project's own.
+-- The text of a history. This project's own.
 use Rattle.std.specs.Prelude.{ℕ, List, [], ◌++◌, length}
 use Rattle.std.specs.List.{flat_map}
 use Rattle.example_watch.specs.Json.{end_line, sight_object}
@@ -17,7 +17,7 @@ abbrev pub sight_text : Form → List HopWhy → Sight → List ℕ
 sight_text form.Lines cert s = sight_lines cert s
 sight_text form.Json cert s = sight_object cert s
 
--- the texts of entries from a place and a console on
+-- the texts of entries from a place and a machine on
 abbrev pub sights_text : Form → List HopWhy → ℕ → ℕ → WorldState → List Entry → List ℕ
 sights_text f cert place since w entries = flat_map (sight_text f cert) (sights place since w entries)
 

@@ -1,4 +1,4 @@
--- What is made of a journal. This project's own.
+-- The result of watching a journal. This project's own.
 use Rattle.std.specs.Prelude.{◌≡◌, ⊤, ℕ, List}
 use Rattle.example_watch.specs.Texts.{watch_text}
 use Rattle.example_watch.specs.declared.form.Form.{Form}
@@ -18,7 +18,7 @@ pub record IsWatched (f : Form) (start : WorldState) (entries : List Entry) (tex
   pub good : IsCertificate (moments start entries) cert
   pub text_is : text ≡ watch_text f cert start entries
 
--- the verdict on the journal, and what holds of the text where it is legal
+-- the verdict on the journal; and a property of the text, if the journal is legal
 abbrev pub verdict_of : Watched → Verdict
 verdict_of (watched.Text text) = verdict.Legal
 verdict_of (watched.Illegal index why) = verdict.Illegal index why

@@ -1,4 +1,4 @@
--- The words of what is printed. This project's own.
+-- The words of the text. This project's own.
 use Rattle.std.specs.Prelude.{ℕ, List, [], ◌∷◌, ◌++◌, codes, drop}
 use Rattle.std.specs.List.{flat_map}
 use Rattle.example_watch.specs.declared.wait_end.WaitEnd.{WaitEnd}

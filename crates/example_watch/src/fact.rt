@@ -2,7 +2,7 @@ use crate::wait_end::WaitEnd;
 use vt_base::{CallerNo, ConsoleNo, Signal};
 use vt_explain::HopWhy;
 
-/// What an entry did.
+/// A fact of an entry.
 #[derive(Clone, Copy, Debug)]
 pub enum Fact {
     /// Its caller requested the console, which is allocated.

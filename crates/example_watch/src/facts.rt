@@ -1,4 +1,4 @@
-//! What an entry did.
+//! The facts of an entry.
 ghost use Rattle.std.specs.Prelude.{◌≡◌, ◌++◌, IfOk, OnOk, option_map, option_to_list, slice_get, slice_index_or};
 ghost use Rattle.example_watch.specs.Facts.{count_after, mark_fact, trace_facts, wait_end, wait_fact, wait_facts, waits_of};
 ghost use Rattle.example_watch.specs.declared.fact.Fact.TheVariants as fact_is;
@@ -12,7 +12,7 @@ use vt_explain::HopWhy;
 use vt_procs::Waiting;
 use vt_world::{Mark, World};
 
-/// What stands of each caller's wait.
+/// The state of each caller's wait.
 pub fn waits_of(alloc: Global, world: &World) -> Result<Vec<Waiting>, NoMemory>
     ensures { IfOk result (λ waits. waits.items ≡ waits_of world.now) }
 {
@@ -25,7 +25,7 @@ pub fn waits_of(alloc: Global, world: &World) -> Result<Vec<Waiting>, NoMemory>
     Ok(waits)
 }
 
-/// What the trace of an entry has, before which the history had so many switches.
+/// The facts of an entry's trace, if the history had so many switches before it.
 pub fn trace_facts(
     alloc: Global,
     caller: CallerNo,
@@ -44,7 +44,7 @@ pub fn trace_facts(
     Ok(facts)
 }
 
-// What a mark of the trace is, after so many switches of the history.
+// The fact of a mark of the trace, after so many switches of the history.
 fn mark_fact(caller: CallerNo, cert: &[HopWhy], count: u64, mark: &Mark) -> Option<Fact>
     ensures { result ≡ mark_fact caller cert.now count mark.now }
 {
@@ -62,7 +62,7 @@ fn mark_fact(caller: CallerNo, cert: &[HopWhy], count: u64, mark: &Mark) -> Opti
     }
 }
 
-// The switch after so many.
+// The switch of this number, counted from 0.
 fn switch_fact(cert: &[HopWhy], count: u64) -> Option<Fact>
     ensures { result ≡ option_map fact_is.Switch (slice_get cert.now count) }
 {
@@ -123,7 +123,7 @@ fn waiting_at(waits: &[Waiting], p: CallerNo) -> Waiting
     }
 }
 
-// How a wait ended, from what stood of it and what stands of it now.
+// How a wait ended, from its state before and after the entry.
 fn wait_end(before: &Waiting, after: &Waiting) -> Option<WaitEnd>
     ensures { result ≡ wait_end before.now after.now }
 {

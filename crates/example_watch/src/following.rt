@@ -1,4 +1,4 @@
-//! A console that follows a history, entry by entry.
+//! A machine that follows a history, entry by entry.
 ghost use Rattle.std.specs.Prelude.{◌≡◌, ◌++◌, IfOk, OnOk, if◌then◌else◌};
 ghost use Rattle.example_watch.specs.Facts.{facts_of};
 ghost use Rattle.example_watch.specs.Lines.{change_line, entry_lines, state_words};
@@ -22,7 +22,7 @@ use vt_events::Entry;
 use vt_explain::HopWhy;
 use vt_world::World;
 
-/// The console after the entries so far, and since which entry what is pending has been the same.
+/// The machine after the entries so far, and the entry since which the pending console has been the same.
 #[derive(Drop)]
 pub struct Following {
     pub world: World,
@@ -54,7 +54,7 @@ impl Following {
         }
     }
 
-    // Adds the lines of the entry that did these things, in a state that had these words.
+    // Adds the lines of an entry with these facts, before which the state had these words.
     fn add_lines(
         &self,
         alloc: Global,
@@ -73,7 +73,7 @@ impl Following {
         Ok(())
     }
 
-    // Adds the object of the entry at this place that did these things.
+    // Adds the object of the entry at this place with these facts.
     fn add_object(
         &self,
         alloc: Global,
@@ -92,7 +92,7 @@ impl Following {
         Ok(())
     }
 
-    // Makes the call of the entry at this place. What it did.
+    // Makes the call of the entry at this place, and returns its facts.
     fn call(
         &mut self,
         alloc: Global,
@@ -129,7 +129,7 @@ impl Following {
     }
 }
 
-// Since which entry what is pending has been the same, after the entry at this place.
+// The entry since which the pending console has been the same, after the entry at this place.
 fn since_after(place: u32, since: u32, before: Option<ConsoleNo>, after: Option<ConsoleNo>) -> u32
     ensures { result ≡ (if is_same before after then since else place) }
 {

@@ -1,4 +1,4 @@
-//! What the input is: a session, and a journal after it or none.
+//! The input: a session, and a journal after it or none.
 use crate::ending::Ending;
 use crate::form::Form;
 use crate::watched::Watched;
@@ -9,7 +9,7 @@ use std::alloc::Global;
 use vt_base::{Bytes, NoMemory};
 use vt_journal::{JError, Journal, parse, print, version_of};
 
-/// What is printed for the input.
+/// The text for the input.
 pub fn text_for(alloc: Global, form: Form, input: &[u8]) -> Result<Bytes, Ending> {
     let (text, after) = cut(input);
     let session = session_of(alloc, text)?;

@@ -59,7 +59,7 @@ fn main(rt: HostRuntime) -> ExitCode {
     ExitCode::from(ending.number())
 }
 
-// What is printed for the input.
+// The text for the input.
 fn output(rt: &HostRuntime, alloc: Global, form: Form) -> Result<Bytes, Ending> {
     let mut input = Vec::new(alloc);
     if rt.reader().read_to_end(&mut input).is_err() {

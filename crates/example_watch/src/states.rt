@@ -1,4 +1,4 @@
-//! Who owns which console, and who waits.
+//! The owner of each console, and the callers that wait.
 ghost use Rattle.std.specs.Prelude.{◌≡◌, ◌++◌, IfOk, OnOk, option_to_list};
 ghost use Rattle.example_watch.specs.Facts.{open_ticket, owner_at, owners_of, waiter_at, waiters_of};
 

@@ -1,7 +1,7 @@
 /// How a wait ended.
 #[derive(Clone, Copy, Debug)]
 pub enum WaitEnd {
-    /// What it waited for came.
+    /// The event that it waited for came.
     Done,
     /// A signal came, or the idle rule ended it.
     Interrupted,

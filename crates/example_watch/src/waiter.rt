@@ -1,7 +1,7 @@
 use vt_base::CallerNo;
 use vt_procs::Ticket;
 
-/// A caller whose wait is open, with what it waits for.
+/// A caller whose wait is open, and the event that it waits for.
 #[derive(Clone, Copy, Debug)]
 pub struct Waiter {
     pub caller: CallerNo,

@@ -1,13 +1,13 @@
 use vt_base::Bytes;
 
-/// What is made of a journal of a session.
+/// The result of watching a journal of a session.
 #[derive(Drop)]
 pub enum Watched {
-    /// The journal is legal: what each of its entries did.
+    /// The journal is legal: the text with the facts of each entry.
     Text(Bytes),
-    /// It isn't.
+    /// The journal isn't legal.
     Illegal {
-        /// The first entry that fails, as the verdict has it.
+        /// The first entry that fails, as in the verdict.
         index: u32,
         /// The number of the first reason there.
         why: u8,

@@ -22,7 +22,7 @@ use vt_explain::{Explained, HopWhy, explain};
 use vt_journal::{Journal, Log};
 use vt_world::World;
 
-/// What each entry of the journal did, if it is a legal one of the session (docs/WATCH.md).
+/// The text with the facts of each entry of the journal, if it is a legal one of the session (docs/WATCH.md).
 pub fn watch_text(alloc: Global, form: Form, s: &Session, j: &Journal) -> Result<Watched, NoMemory>
     ensures judges { IfOk result
         (λ x. Judges (setup_of s.now) j.now.entries j.now.tail (verdict_of x)) }
@@ -39,7 +39,7 @@ pub fn watch_text(alloc: Global, form: Form, s: &Session, j: &Journal) -> Result
     }
 }
 
-// The text of the entries from this console on.
+// The text of the entries from this machine on.
 fn history_text(
     alloc: Global,
     form: Form,
@@ -73,7 +73,7 @@ fn head_text(alloc: Global, form: Form, world: &World) -> Result<Bytes, NoMemory
     }
 }
 
-// Adds the text after the last entry, which leaves this console.
+// Adds the text after the last entry, with this machine after it.
 fn add_end_text(
     alloc: Global,
     form: Form,
@@ -93,7 +93,7 @@ fn add_end_text(
     }
 }
 
-// The final text of the console.
+// The final text of the machine.
 fn last_text(alloc: Global, world: World) -> Result<Bytes, NoMemory>
     ensures { IfOk result (λ text. text.bytes ≡ final_text world) }
 {

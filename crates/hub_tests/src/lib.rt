@@ -1,4 +1,4 @@
-//! Tests of the shared console, and of cooked lines above it.
+//! Tests of the shared machine, and of cooked lines above it.
 #![tactic(auto)]
 
 #[cfg(test)]

@@ -1,4 +1,5 @@
-//! Tests of the crates of keymaps, keys and scan bytes: what no clause of theirs says, and expected values from outside.
+//! Tests of the crates of keymaps, keys and scan bytes: behaviour that no clause covers, and expected values
+//! from outside.
 #![tactic(auto)]
 
 #[cfg(test)]

@@ -1,4 +1,5 @@
-//! Tests of cooked lines, of what a race of a session asks of its hooks, and of the text that several threads print.
+//! Tests of cooked lines, of the calls that a race of a session makes of its hooks, and of the text that
+//! several threads print.
 #![tactic(auto)]
 
 #[cfg(test)]

@@ -1,4 +1,4 @@
-//! Tests of the screen: what no clause of its crate says, and expected values from outside.
+//! Tests of the screen: behaviour that no clause of its crate covers, and expected values from outside.
 #![tactic(auto)]
 
 #[cfg(test)]

@@ -1,5 +1,5 @@
-//! Rows of the effect table. The expected rows are those of console_codes(4) and of this project's
-//! own rules, reckoned by hand.
+//! Rows of the effect table. The expected rows are those of console_codes(4) and of this project's own rules,
+//! computed by hand.
 mod cells;
 mod checks;
 mod columns;
@@ -51,7 +51,7 @@ fn cell_at(grid: &Grid, y: u8, x: u8) -> Cell {
     }
 }
 
-// Whether a row holds these characters, and blanks behind them, all in the start colours.
+// Whether a row holds these characters, and blanks after them, all in the start colours.
 fn has_row(grid: &Grid, y: u8, text: &str) -> bool {
     let mut characters = text.chars();
     for x in 0..grid.size().cols {
@@ -92,14 +92,14 @@ fn has_cursor(emu: &Emu, x: u8, y: u8, wrap: bool) -> bool {
     state.x == x && state.y == y && state.wrap == wrap
 }
 
-// How the parts of a text are fed: as they are, or plainly, byte by byte.
+// How the parts of a text are fed: by `feed`, or plainly, byte by byte.
 #[derive(Clone, Copy)]
 enum Way {
     Quickly,
     Plainly,
 }
 
-// Feeds a text of at most 64 bytes, and tells how many things it said.
+// Feeds a text of at most 64 bytes, and returns the number of its side effects.
 fn fed(emu: &mut Emu, way: Way, text: &[u8]) -> usize {
     let mut outs = Outs::new();
     if text.len() <= 64 {
@@ -111,7 +111,7 @@ fn fed(emu: &mut Emu, way: Way, text: &[u8]) -> usize {
     outs.as_slice().len()
 }
 
-// A text of at most 64 bytes, the rows that it makes but for blank ones at the end, and how often it rings.
+// A text of at most 64 bytes, the rows that it makes except blank ones at the end, and how often it rings.
 type Case = (&'static [u8], &'static [&'static str], usize);
 
 const CASES: &[Case] = &[
@@ -147,7 +147,8 @@ const CASES: &[Case] = &[
     (b"\x1B[3Cx\x1B]Ry\x1B]P0123456z", &["   xyz"], 0),
 ];
 
-// Whether the text, fed in two parts, makes these rows, and says so much: in these texts bells alone.
+// Whether the text, fed in two parts, makes these rows, and has so many side effects: in these texts BELs
+// alone.
 fn is_drawn(
     alloc: Global,
     way: Way,

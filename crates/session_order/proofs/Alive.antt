@@ -1,4 +1,4 @@
--- A program is over behind a call that ends it, and behind no other.
+-- A program is over after a call that ends it, and after no other call.
 use Rattle.std.proofs.Common.{◌≡◌, ℕ, true, false, List, [], ◌∷◌, ◌++◌, Option, Some, None, refl, sym, ap, ◌∙◌, subst}
 use Rattle.std.proofs.lemmas.Option.{none-some, same_Some}
 use Rattle.std.specs.Prelude.{⊤}
@@ -13,7 +13,7 @@ use Rattle.vt_events.specs.declared.event.Event.{Event}
 use Rattle.vt_events.specs.declared.event.Event.TheVariants as event
 use Rattle.vt_events.specs.declared.reply.Reply.{Reply}
 
--- each of these calls was the next one behind those before it
+-- each of these calls was the next one after those before it
 abbrev pub Walked : (List Call → Option Event) → List Call → Type 0
 Walked f [] = ⊤
 Walked f (c ∷ made) = (f [] ≡ Some c.event) × Walked (λ more. f (c ∷ more)) made
@@ -24,7 +24,7 @@ walked_more f [] e r walked is = (is, tt)
 walked_more f (c ∷ made) e r walked is =
     (walked.0, walked_more (λ more. f (c ∷ more)) made e r walked.1 is)
 
--- the calls ahead go on until one ends them
+-- the next calls go on until one ends them
 pub record Alive (f : List Call → Option Event) : Type 0 where
   pub starts : f [] ≡ None → ⊥
   pub goes :

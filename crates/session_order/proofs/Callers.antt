@@ -1,4 +1,4 @@
--- The callers after a step of the console.
+-- The callers after a step of the machine.
 use Rattle.std.proofs.Common.{◌≡◌, ◌⊎◌, ℕ, Bool, true, false, cond, ⊎_elim, inl, inr, length, get_or, set, Option, Some, None, refl, sym, ap, ◌∙◌, subst}
 use Rattle.std.proofs.lemmas.Bool.{and_right, both_ways, cases_Bool, cases_lt, false_from_ne_true, false≢true, true≢false}
 use Rattle.std.proofs.lemmas.List.{get_or-set_other, get_or-set_same, get_or_past, set_past}
@@ -27,12 +27,13 @@ use Rattle.vt_switch.specs.Acts.{hop_of}
 use Rattle.vt_switch.specs.declared.mark.Mark.TheVariants as mark
 use Rattle.vt_world.specs.Deeds.{apply_deeds}
 use Rattle.vt_world.specs.Heard.{without_marks, apply_mark, apply_marks}
-use Rattle.vt_world.specs.Rows.{EventRow, row}
+use Rattle.vt_world.specs.Events.{row}
+use Rattle.vt_world.specs.Rows.{EventRow}
 use Rattle.vt_world.specs.State.{WorldState, core}
 use Rattle.vt_world.specs.Step.{Outcome, step}
 use Rattle.vt_world.specs.Refusals.{ends_wait, may_make}
 
--- who holds a ticket lives
+-- each caller with a ticket lives
 abbrev pub Sound : Callers → Type 0
 Sound c = (q : ℕ) → holds (caller_at c q).waiting ≡ true → is_live c q ≡ true
 
@@ -40,7 +41,7 @@ Sound c = (q : ℕ) → holds (caller_at c q).waiting ≡ true → is_live c q �
 abbrev pub Awake : Callers → Type 0
 Awake c = (list_any can_go c.list ≡ true) ⊎ ((q : ℕ) → is_open (caller_at c q).waiting ≡ false)
 
--- what a step of p keeps of the callers
+-- the facts about the callers that a step of p keeps
 pub record Stepped (p : ℕ) (c : Callers) (waits : Bool) (d : Callers) : Type 0 where
   pub live : (q : ℕ) → is_live d q ≡ true → is_live c q ≡ true
   pub sound : Sound c → Sound d
@@ -79,7 +80,7 @@ aged p c d waits ages awake = record {
   awake = awake;
 }
 
--- p, which lives, begins to wait, and the idle rule comes
+-- p, which lives, begins to wait, and the idle rule is applied
 begins : (p : ℕ) (c : Callers) (ticket : Ticket) → is_live c p ≡ true
     → Stepped p c true (after_idle_rule (waits p ticket c))
 begins p c ticket alive =
@@ -157,7 +158,7 @@ exit_does w p o (RefusedByAll with is) alive free =
 exit_does w p o (RefusedByOwn with none is) alive free = absurd (none-some with is)
 exit_does w p o (Accepted none is) alive free = end_kills w p
 
--- an exit of who lives and holds no ticket ends it
+-- the exit of a live caller without a ticket ends that caller
 pub exit_kills : (w : WorldState) (p : ℕ) (e : Event) → is_exit e ≡ true → is_live w.callers p ≡ true
     → holds (caller_at w.callers p).waiting ≡ false → is_live (step w p e).world.callers p ≡ false
 exit_kills w p event.Exit is = exit_does w p (step w p event.Exit) (step_does w p event.Exit)
@@ -173,7 +174,7 @@ abbrev waitend_tested : Bool → Bool → Option Errno
 waitend_tested held shut =
     if not held then Some errno.Inval else (if shut then Some errno.Again else None)
 
--- nothing refuses waitend where a ticket is held that isn't open
+-- nothing refuses waitend if the caller has a ticket that isn't open
 own_tested : (held shut : Bool) → held ≡ true → shut ≡ false
     → waitend_tested held shut ≡ None
 own_tested held shut is isnt = λ i. waitend_tested (is i) (isnt i)
@@ -196,7 +197,7 @@ collect_does w p o (Accepted none is) alive process held shut =
     false_from_ne_true (holds (caller_at (after_idle_rule d) p).waiting)
     (λ h. both_ways (holds (caller_at d p).waiting) free ((after_idle_rule_age d p).held h))
 
--- waitend of who lives takes its ticket, where that isn't open
+-- waitend of a live caller takes its ticket, if that isn't open
 pub waitend_collects : (w : WorldState) (p : ℕ) (e : Event) → ends_wait e ≡ true
     → is_live w.callers p ≡ true → is_keyboard p ≡ false
     → holds (caller_at w.callers p).waiting ≡ true

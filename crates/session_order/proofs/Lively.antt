@@ -1,5 +1,5 @@
--- What every play from a start keeps of its callers: whose program is over is dead, who holds a ticket
--- has waitend next, and where somebody waits, somebody else can go on.
+-- The facts about callers that every play from a start keeps: a caller whose program is over is dead, a caller
+-- with a ticket has waitend as its next call, and if a caller waits, another caller can go on.
 use Rattle.std.proofs.Common.{◌≡◌, ℕ, ◌<◌, true, false, cond, ⊎_elim, List, [], ◌∷◌, ◌++◌, map, filter, Option, Some, None, refl, sym, ap, ◌∙◌, subst}
 use Rattle.std.proofs.lemmas.Bool.{and_parts, both_ways, cases_Bool, cases_eq, eq-eqb, false_from_ne_true, false≢true, ne_eqb, not-true, or_cases, or_from, and_right}
 use Rattle.std.proofs.lemmas.List.{append-nil, map-append}
@@ -45,7 +45,7 @@ pub record IsLively (programs : List Program) (h : List Entry) (c : Callers) : T
       (q : ℕ) (program : Program) → program_of programs q ≡ Some program
       → Walked (next program) (calls_by q h)
 
--- the calls of p behind an entry of its own, and of another
+-- the calls of p after an entry of its own, and after one of another caller
 calls_mine : (h : List Entry) (entry : Entry) (p : ℕ) → (entry.caller == p) ≡ true
     → calls_by p (h ++ entry ∷ []) ≡ calls_by p h ++ call_of entry ∷ []
 calls_mine h entry p mine =
@@ -76,7 +76,7 @@ pub record Now (programs : List Program) (h : List Entry) (w : WorldState) (p : 
   pub next : next_by programs p h ≡ Some e
   pub shut : is_open (caller_at w.callers p).waiting ≡ false
 
--- who makes a call that ends its program is dead then
+-- a caller whose call ends its program is dead after it
 ending_dies : (programs : List Program) (h : List Entry) (w : WorldState) (p : ℕ) (e : Event)
     → IsLively programs h w.callers → Now programs h w p e
     → ends e (step w p e).reply ≡ true → is_live (step w p e).world.callers p ≡ false
@@ -102,7 +102,7 @@ ending_dies programs h w p e lively now last =
     stays_dead (gone_dead w p e (not-true (is_kill e) parts.0) parts.1))
     (or_cases (is_exit e) (not (is_kill e) && is_gone (step w p e).reply) last)
 
--- who holds no ticket before and isn't answered wait, or collects it, holds none behind
+-- a caller without a ticket that isn't answered wait, or that takes its ticket, has none afterwards
 holds_wait : (programs : List Program) (h : List Entry) (w : WorldState) (p : ℕ) (e : Event)
     → IsLively programs h w.callers → Now programs h w p e
     → holds (caller_at (step w p e).world.callers p).waiting ≡ true
@@ -128,7 +128,7 @@ wait_goes_on w p e wait =
     or_from (is_exit e) (not (is_kill e) && is_gone (step w p e).reply) exit
     (and_right (not (is_kill e)) (is_gone (step w p e).reply) (wait_not_gone (step w p e).reply wait))
 
--- what holds of p and of the others holds of all
+-- a fact about p and about the others is a fact about all
 of_each : (Holds : ℕ → Type 0) (p : ℕ) → Holds p → ((q : ℕ) → (q ≡ p → ⊥) → Holds q)
     → (q : ℕ) → Holds q
 of_each Holds p own others q =

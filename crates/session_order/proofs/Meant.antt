@@ -1,11 +1,12 @@
--- Histories and their entries as they are meant.
+-- Histories and their entries without spare room in their bytes.
 use Rattle.std.proofs.Common.{◌≡◌, ℕ, ◌+◌, ◌≤◌, true, false, cond, List, [], ◌∷◌, filter, map, take, Some, None, option_map, refl, sym, ap, ◌∙◌, subst}
 use Rattle.std.proofs.lemmas.List.{length-map, take-map}
 use Rattle.std.proofs.lemmas.List.Folds.{fold-map}
 use Rattle.std.proofs.lemmas.Option.{slice_get-map}
 use Rattle.std.specs.List.{list_all, range_with_len, sum_by}
 use Rattle.std.specs.Prelude.{◌==◌, ◌&&◌, count_by, nat_le, nat_lt, slice_get}
-use Rattle.session_order.proofs.Programs.{next_fine, plain_twice}
+use Rattle.session_order.proofs.Programs.{next_fine}
+use Rattle.vt_events.proofs.Meant.{charge-meant, plain-twice}
 use Rattle.session_order.specs.Calls.{call_of, calls_by, is_none, next_by, next_of}
 use Rattle.session_order.specs.Ends.{Setup}
 use Rattle.vt_journal.specs.Room.{IsWithin, has_room}
@@ -38,27 +39,11 @@ reply_twice (reply.Text b) = refl
 reply_twice r = refl
 
 pub step_meant : (w : WorldState) (p : ℕ) (e : Event) → step w p (plain_event e) ≡ step w p e
-step_meant w p (event.Write fd b) = refl
-step_meant w p (event.SetFunc fd i b) = refl
-step_meant w p (event.SetDia fd b) = refl
-step_meant w p (event.SetMap fd b) = refl
-step_meant w p (event.SetPal fd b) = refl
+step_meant w p event.Exit = refl
 step_meant w p e = refl
 
-charge_meant : (e : Event) → charge_of (plain_event e) ≡ charge_of e
-charge_meant (event.Write fd b) = refl
-charge_meant (event.SetFunc fd i b) = refl
-charge_meant (event.SetDia fd b) = refl
-charge_meant (event.SetMap fd b) = refl
-charge_meant (event.SetPal fd b) = refl
-charge_meant e = refl
-
 wait_meant : (e : Event) → ends_wait (plain_event e) ≡ ends_wait e
-wait_meant (event.Write fd b) = refl
-wait_meant (event.SetFunc fd i b) = refl
-wait_meant (event.SetDia fd b) = refl
-wait_meant (event.SetMap fd b) = refl
-wait_meant (event.SetPal fd b) = refl
+wait_meant event.Exit = refl
 wait_meant e = refl
 
 pub replay_meant : ReplayIsMeant
@@ -70,12 +55,12 @@ replay_meant start (entry ∷ entries) =
 pub charges_meant : (entries : List Entry) → charge_of_all (plain_history entries) ≡ charge_of_all entries
 charges_meant entries =
     fold-map (λ n (x : Entry). n + charge_of x.event) plain_entry 0 entries
-    ∙ (λ i. sum_by (λ (x : Entry). charge_meant x.event i) entries)
+    ∙ (λ i. sum_by (λ (x : Entry). charge-meant x.event i) entries)
 
 call_meant : (entry : Entry) → call_of (plain_entry entry) ≡ call_of entry
-call_meant entry = λ i. call (plain_twice entry.event i) (reply_twice entry.reply i)
+call_meant entry = λ i. call (plain-twice entry.event i) (reply_twice entry.reply i)
 
--- the calls of p
+-- the calls of p in a history without spare room
 pub calls_meant : (p : ℕ) (entries : List Entry) → calls_by p (plain_history entries) ≡ calls_by p entries
 calls_meant p [] = refl
 calls_meant p (entry ∷ entries) =
@@ -95,7 +80,7 @@ waiting_meant : (start : WorldState) (p : ℕ) (entries : List Entry)
     → is_waiting (replay start (plain_history entries)) p ≡ is_waiting (replay start entries) p
 waiting_meant start p entries = ap (λ w. is_waiting w p) (replay_meant start entries)
 
--- an entry of a history as it is meant, right behind those before it
+-- an entry of a history without spare room, directly after those before it
 at_meant : (P : List Entry → Entry → Type 0) (entries : List Entry) (k : ℕ) (entry : Entry)
     → slice_get entries k ≡ Some entry
     → ((entry : Entry) → slice_get (plain_history entries) k ≡ Some entry → P (take k (plain_history entries)) entry)
@@ -125,7 +110,7 @@ follows_meant start programs entries follows k entry here =
     let next : IsNextCall start programs (plain_history before) (plain_entry entry) =
     at_meant (IsNextCall start programs) entries k entry here (follows k) in
     record {
-      next = sym (next_meant programs entry.caller before) ∙ next.next ∙ ap Some (plain_twice entry.event);
+      next = sym (next_meant programs entry.caller before) ∙ next.next ∙ ap Some (plain-twice entry.event);
       ended = λ waitend. sym (waiting_meant start entry.caller before) ∙ next.ended (wait_meant entry.event ∙ waitend);
     }
 

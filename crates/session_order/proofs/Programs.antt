@@ -1,4 +1,4 @@
--- The next call of a program: what it doesn't depend on, and where there is one.
+-- The next call of a program: the parts of answers that it doesn't depend on, and when there is one.
 use Rattle.std.proofs.Common.{◌≡◌, ℕ, Bool, true, false, List, [], ◌∷◌, ◌++◌, map, Option, Some, None, refl, ap, ◌∙◌, subst}
 use Rattle.std.proofs.lemmas.Option.{none-some, same_Some}
 use Rattle.std.specs.List.{range_with_len, cons_option}
@@ -14,30 +14,15 @@ use Rattle.vt_events.specs.Plain.{plain_event, plain_reply}
 use Rattle.vt_events.specs.declared.event.Event.{Event}
 use Rattle.vt_events.specs.declared.event.Event.TheVariants as event
 use Rattle.vt_events.specs.declared.reply.Reply.{Reply}
+use Rattle.vt_events.proofs.Meant.{plain-twice}
 use Rattle.vt_events.specs.declared.reply.Reply.TheVariants as reply
 
-pub plain_twice : (e : Event) → plain_event (plain_event e) ≡ plain_event e
-plain_twice (event.Write fd b) = refl
-plain_twice (event.SetFunc fd i b) = refl
-plain_twice (event.SetDia fd b) = refl
-plain_twice (event.SetMap fd b) = refl
-plain_twice (event.SetPal fd b) = refl
-plain_twice e = refl
-
 pub exit_plain : (e : Event) → is_exit (plain_event e) ≡ is_exit e
-exit_plain (event.Write fd b) = refl
-exit_plain (event.SetFunc fd i b) = refl
-exit_plain (event.SetDia fd b) = refl
-exit_plain (event.SetMap fd b) = refl
-exit_plain (event.SetPal fd b) = refl
+exit_plain event.Exit = refl
 exit_plain e = refl
 
 kill_plain : (e : Event) → is_kill (plain_event e) ≡ is_kill e
-kill_plain (event.Write fd b) = refl
-kill_plain (event.SetFunc fd i b) = refl
-kill_plain (event.SetDia fd b) = refl
-kill_plain (event.SetMap fd b) = refl
-kill_plain (event.SetPal fd b) = refl
+kill_plain event.Exit = refl
 kill_plain e = refl
 
 pub gone_plain : (r : Reply) → is_gone (plain_reply r) ≡ is_gone r
@@ -56,13 +41,12 @@ ends_plain : (c : Call) → ends (as_meant c).event (as_meant c).reply ≡ ends 
 ends_plain c = λ i.
     exit_plain c.event i || (not (kill_plain c.event i) && gone_plain c.reply i)
 
--- what a list of calls does to what follows it, after its first call: nothing follows, or waitend and
--- the rest, or the rest
+-- the calls that follow the first call of a list: none, or waitend and the rest, or the rest
 abbrev pub behind_first : Bool → Bool → (List Call → Option Event) → List Call → Option Event
 behind_first over waits behind more =
     if over then None else (if waits then calls event.WaitEnd behind more else behind more)
 
--- how the calls ahead depend on those that were made: as they are meant, and by waits
+-- how the next calls depend on those that were made: without spare room, and through waits
 pub record Fine (f : List Call → Option Event) : Type 0 where
   pub same : (made : List Call) → f (map as_meant made) ≡ f made
   pub plain : (made : List Call) (e : Event) → f made ≡ Some e → plain_event e ≡ e
@@ -121,7 +105,7 @@ calls_fine e behind is fine = record {
   waits = waits_calls e behind fine;
 }
 
--- each of these calls is as it is meant
+-- each of these calls has no spare room
 abbrev ArePlain : List Event → Type 0
 ArePlain [] = ⊤
 ArePlain (e ∷ events) = (plain_event e ≡ e) × ArePlain events
@@ -148,7 +132,7 @@ from_plain : (table : List Act) (set s : ℕ) → ArePlain (calls_from table set
 unfolding calls_from
 from_plain table set s = acts_plain table set (range_with_len s (65 - s))
 
--- what follows once the signals of a set are taken
+-- the calls after the signals of a set were taken
 abbrev pub taken : List Act → (List Call → Option Event) → ℕ → List Call → Option Event
 taken table behind set = calls event.TakeSignals (all_calls (calls_from table set 1) behind)
 
@@ -195,7 +179,7 @@ exits_fine = calls_fine event.Exit nothing refl nothing_fine
 script_fine : (table : List Act) (items : List Event) → Fine (script table items)
 script_fine table [] = exits_fine
 script_fine table (item ∷ items) =
-    calls_fine (plain_event item) (takes table (script table items)) (plain_twice item)
+    calls_fine (plain_event item) (takes table (script table items)) (plain-twice item)
     (takes_fine table (script table items) (script_fine table items))
 
 scans_fine : (bytes : List ℕ) → Fine (scans bytes)

@@ -51,7 +51,7 @@ starting_free keyboards q false true start = refl
 starting_free keyboards q false false None = refl
 starting_free keyboards q false false (Some start) = refl
 
--- who lives at the start has a program
+-- each caller that lives at the start has a program
 starting_lives : (keyboards : ℕ) (starts : List ProcStart) (programs : List Program) (q : ℕ)
     (first further : Bool) (start : Option ProcStart) → ArePrograms (length starts) keyboards programs
     → (q == 0) ≡ first → nat_lt 64 q ≡ further → slice_get starts (q - 1) ≡ start
@@ -74,7 +74,7 @@ start_free keyboards starts q = ⊎_elim
     ∙ starting_free keyboards q (q == 0) (nat_lt 64 q) (slice_get starts (q - 1)))
     (λ none. ap (λ (a : Process). a.waiting) none) (start_at keyboards starts q)
 
--- who lives at the start is a caller, and has a program
+-- each number that lives at the start is a caller's, and has a program
 start_known : (keyboards : ℕ) (starts : List ProcStart) (programs : List Program) (q : ℕ)
     → ArePrograms (length starts) keyboards programs → is_live (callers_of keyboards starts) q ≡ true
     → (q < every_caller) × (is_some (program_of programs q) ≡ true)
@@ -190,7 +190,7 @@ some_next : (next : Option Event) → is_none next ≡ false → (e : Event) × 
 some_next None some = absurd (true≢false some)
 some_next (Some e) some = (e, refl)
 
--- who lives has a next call
+-- each live caller has a next call
 living_next : (programs : List Program) (h : List Entry) (c : Callers) (q : ℕ) → IsLively programs h c
     → is_live c q ≡ true → is_none (next_by programs q h) ≡ false
 living_next programs h c q lively live =
@@ -275,7 +275,7 @@ above a q low apart = omega (arith, low, apart)
 within : (a n q : ℕ) → q < a + suc n → q < a + 1 + n
 within a n q high = omega (arith, high)
 
--- what stands still yet
+-- a play that makes no entry
 abbrev still : List Entry → Played
 still h = record { history = h; stop = None }
 
@@ -289,7 +289,7 @@ turn_then o h q e callers a t now (inr skips) others =
     λ same. none-some e (sym (subst (λ k. call_now o h k ≡ None) same skips.0) ∙ now) in
     subst (λ x. Moved h (turns o callers x)) (sym skips.1) (others apart)
 
--- so do turns in which somebody has a call
+-- a round in which some caller has a call moves the play
 range_moves : (o : Setup) (h : List Entry) (q : ℕ) (e : Event) → call_now o h q ≡ Some e
     → (a n : ℕ) → a ≤ q → q < a + n → Moved h (turns o (range_with_len a n) (still h))
 range_moves o h q e now a zero low high = absurd (let no : ⊥ = omega (arith, low, high) in no)

@@ -17,7 +17,7 @@ use Rattle.vt_events.specs.declared.entry.Entry.{Entry}
 use Rattle.vt_journal.specs.Room.{full_at, has_room, tail_at}
 use Rattle.vt_journal.specs.declared.full.Full.{Full}
 
--- an element that passes a test stands among those that pass, behind the ones before it
+-- an element that passes a test is among those that pass, after the ones before it
 record Passes {A : Type 0} (test : A → Bool) (xs : List A) (k : ℕ) (x : A) : Type 0 where
   pub place : ℕ
   pub there : slice_get (filter test xs) place ≡ Some x
@@ -63,7 +63,7 @@ pub runs_grow : RunsGrow
 runs_grow program made entry run is =
     each_more (λ before e. next program (map call_of before) ≡ Some (plain_event e.event)) made entry run is
 
--- a program that isn't none is one
+-- a program that isn't None is some program
 found_or : (program : Option Program) → (program ≡ None → ⊥) → (found : Program) × (program ≡ Some found)
 found_or None some = absurd (some refl)
 found_or (Some found) some = (found, refl)
@@ -95,7 +95,7 @@ follows o history stop caller closed ended k entry is =
       ended = λ _. closed.free k entry is;
     }
 
--- every program is over where each of these is
+-- if each of these programs is over, all are
 over_from : (test : ℕ → Bool) (a n : ℕ) → ((p : ℕ) → p < a + n → test p ≡ true)
     → list_all test (range_with_len a n) ≡ true
 over_from test a zero each = refl

@@ -20,7 +20,7 @@ pub is_none_none : (o : Option Event) → is_none o ≡ true → o ≡ None
 is_none_none None is = refl
 is_none_none (Some e) is = absurd (both_ways false refl is)
 
--- where every program is over, nobody has a next call
+-- if every program is over, no caller has a next call
 pub none_next : (programs : List Program) (history : List Entry) (p : ℕ) → p < every_caller
     → all_over programs history ≡ true → next_by programs p history ≡ None
 none_next programs history p within over =
@@ -37,7 +37,7 @@ none_next programs history p within over =
     (list_all_at test (range_with_len 0 n) p 0 inside (ap test here ∙ isnt)) over))
     (cases_Bool (test p))
 
--- who has no next call is skipped
+-- a caller without a next call is skipped
 skipped : (o : Setup) (p : ℕ) (history : List Entry) → next_by o.programs p history ≡ None
     → calls o p (call_now o history p) history ≡ record { history = history; stop = None }
 skipped o p history none =

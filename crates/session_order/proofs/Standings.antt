@@ -18,16 +18,8 @@ use Rattle.vt_base.specs.Limits.{callers}
 use Rattle.vt_events.specs.Plain.{plain_event, plain_reply}
 use Rattle.vt_events.specs.declared.entry.Entry.{Entry}
 use Rattle.vt_events.specs.declared.event.Event.{Event}
-use Rattle.vt_events.specs.declared.event.Event.TheVariants as event
 use Rattle.vt_events.specs.declared.reply.Reply.{Reply}
-
-pub event_twice : (e : Event) → plain_event (plain_event e) ≡ plain_event e
-event_twice (event.Write fd b) = refl
-event_twice (event.SetFunc fd i b) = refl
-event_twice (event.SetDia fd b) = refl
-event_twice (event.SetMap fd b) = refl
-event_twice (event.SetPal fd b) = refl
-event_twice e = refl
+use Rattle.vt_events.proofs.Meant.{plain-twice}
 
 -- an entry of p is one more call of it, and none of another
 calls_mine : (h : List Entry) (entry : Entry) (q : ℕ) → entry.caller ≡ q
@@ -49,14 +41,14 @@ calls_others h entry q apart =
 abbrev is_by : ℕ → Entry → Bool
 is_by q entry = entry.caller == q
 
--- one entry more counts for its caller alone
+-- one more entry is counted for its caller alone
 count_more : (q : ℕ) (h : List Entry) (entry : Entry)
     → count_by (is_by q) (h ++ entry ∷ []) ≡ count_by (is_by q) h + cond (is_by q entry) 1 0
 count_more q h entry =
     let added = sum_by-append (λ (e : Entry). cond (is_by q e) 1 0) h (entry ∷ []) in
     omega (arith, added)
 
--- the counts, where that of the entry's caller has risen
+-- the counts after one more entry of a caller
 counted : (counts : List ℕ) (h : List Entry) (entry : Entry) (q : ℕ) → q ≤ 67 → entry.caller ≤ 67
     → length counts ≡ 68 → length h ≤ 1_000_000
     → ((q : ℕ) → q ≤ 67 → get_or counts q 0 ≡ count_by (is_by q) h)
@@ -82,13 +74,13 @@ counted counts h entry q within known places few old =
     ∙ omega (arith, none, count_more q h entry))
     (eqb_tells entry.caller q)
 
--- what a walk says of the calls that it stands for, when one more was made
+-- the facts about a walk after one more call was made
 pub record Walks (program : Program) (walk moved : Place) (r : Reply) : Type 0 where
   pub took :
       (made : List Call) (e : Event) → Stands program walk made → next program made ≡ Some e
       → Stands program moved (made ++ call e r ∷ [])
 
--- the walk stands where one call more was made
+-- the walk stands after one more call
 pub stands_more : NextIsMeant → (program : Program) (walk moved : Place) (made : List Call) (e : Event) (r : Reply)
     → IsWalkAfter program walk made → Walks program walk moved r → next program made ≡ Some e
     → IsWalkAfter program moved (made ++ as_meant (call e r) ∷ [])
@@ -101,7 +93,7 @@ stands_more is_meant program walk moved made e r after walks next_is =
       meant = map-append as_meant after.calls (call e r ∷ []) ∙ ap (λ m. m ++ as_meant (call e r) ∷ []) after.meant;
     }
 
--- what it has next is the next call of its program
+-- its next call is the next call of its program
 pub next_after : NextIsMeant → (program : Program) (walk : Place) (made : List Call) (e : Option Event)
     → IsWalkAfter program walk made
     → ((calls : List Call) → Stands program walk calls → e ≡ next program calls)
@@ -111,7 +103,7 @@ next_after is_meant program walk made e after gives =
     ∙ sym (is_meant program after.calls)
     ∙ ap (next program) after.meant
 
--- that of its caller
+-- the next call of the walk of an entry's caller
 pub next-by : NextIsMeant → (programs : List Program) (h : List Entry) (p : ℕ) (program : Program) (walk : Place) (e : Option Event)
     → program_of programs p ≡ Some program → IsWalkAfter program walk (calls_by p h)
     → ((calls : List Call) → Stands program walk calls → e ≡ next program calls)
@@ -120,7 +112,7 @@ next-by is_meant programs h p program walk e is after gives =
     next_after is_meant program walk (calls_by p h) e after gives
     ∙ ap (λ found. next_of found (calls_by p h)) (sym is)
 
--- what a call of p changes
+-- the changes that a call of p makes
 pub record Took (p : ℕ) (program : Program) (r : Reply) (before after : SessionProgressView) : Type 0 where
   pub walk : Place
   pub moved : Place
@@ -141,7 +133,7 @@ taken is_meant programs h entry p program r before after took is at few by follo
     let next_is : next program (calls_by p h) ≡ Some e =
     ap (λ found. next_of found (calls_by p h)) (sym is) ∙ follows in
     let call_is : as_meant (call e r) ≡ call_of entry =
-    λ i. call (event_twice entry.event i) (sym answer i) in
+    λ i. call (plain-twice entry.event i) (sym answer i) in
     let within : p < length before.walks = omega (arith, took.known, at.walks) in
     let stands : IsWalkAfter program took.moved (calls_by p h ++ as_meant (call e r) ∷ []) =
     stands_more is_meant program took.walk took.moved (calls_by p h) e r

@@ -1,4 +1,4 @@
--- What a step of the console does: it refuses the event, or accepts it.
+-- A step of the machine refuses the event or accepts it.
 use Rattle.std.proofs.Common.{◌≡◌, ℕ, Bool, true, false, List, [], ◌∷◌, Option, Some, None, refl, sym, subst}
 use Rattle.std.proofs.lemmas.Bool.{and_parts, both_ways, false≢true, not-true, true≢false}
 use Rattle.std.proofs.lemmas.Option.{none-some, same_Some}
@@ -19,10 +19,11 @@ use Rattle.vt_procs.specs.declared.waiting.Waiting.{Waiting}
 use Rattle.vt_procs.specs.declared.waiting.Waiting.TheVariants.{Nothing, Open, Done, Broken}
 use Rattle.vt_world.specs.Deeds.{apply_deeds}
 use Rattle.vt_world.specs.Heard.{without_marks}
-use Rattle.vt_world.specs.Rows.{EventRow, ended_reply, row, waits_unless}
+use Rattle.vt_world.specs.Events.{own_refusals, row}
+use Rattle.vt_world.specs.Rows.{EventRow, ended_reply, waits_unless}
 use Rattle.vt_world.specs.State.{WorldState}
 use Rattle.vt_world.specs.Step.{Outcome, outcome_of_row, row_result_after, row_result, step, with_idle_rule}
-use Rattle.vt_world.specs.Refusals.{Refusal, caller, common_refusals, ends_wait, first_refusal, holds_ticket, is_empty, may_make, own_refusals, target}
+use Rattle.vt_world.specs.Refusals.{Refusal, caller, common_refusals, ends_wait, first_refusal, holds_ticket, is_empty, may_make, target}
 
 -- the first of the tests of every event that fails, and of those of this one
 abbrev pub common : WorldState → ℕ → Event → Option Errno
@@ -55,7 +56,7 @@ all_does w p e (Some with) is = RefusedByAll with is
 pub step_does : (w : WorldState) (p : ℕ) (e : Event) → StepDoes w p e (step w p e)
 step_does w p e = all_does w p e (common w p e) refl
 
--- the tests of every event, by what they test
+-- the tests of every event, by their results
 abbrev pub tested : Bool → Bool → Bool → Option Errno
 tested live may held =
     if not live then Some errno.Srch
@@ -77,13 +78,13 @@ pub none_common : (w : WorldState) (p : ℕ) (e : Event) → is_live w.callers p
     → common w p e ≡ None
 none_common w p e live may held = λ i. tested (live i) (may i) (held i)
 
--- another error is no ESRCH
+-- an error other than ESRCH isn't ESRCH
 other : {A : Type 0} (known with : Errno) → is_srch known ≡ false → Some known ≡ Some with
     → is_srch with ≡ true → A
 other known with isnt same is =
     absurd (both_ways (is_srch with) (subst (λ e. is_srch e ≡ false) (same_Some known with same) isnt) is)
 
--- that every event can get ESRCH comes of the dead alone
+-- among the tests of every event, only the one for dead callers gives ESRCH
 tested_srch : (live may held : Bool) (with : Errno) → tested live may held ≡ Some with
     → is_srch with ≡ true → live ≡ false
 tested_srch true true true with same is = other errno.Inval with refl same is
@@ -138,7 +139,7 @@ gone_does w p e o (RefusedByOwn with none is) kill gone =
 gone_does w p e o (Accepted none is) kill gone =
     absurd (both_ways (is_gone (row (without_marks w) p e).reply) (row_replies (without_marks w) p e) gone)
 
--- who gets ESRCH, but by a kill, is dead
+-- a caller that gets ESRCH for a call other than kill is dead
 pub gone_dead : (w : WorldState) (p : ℕ) (e : Event) → is_kill e ≡ false
     → is_gone (step w p e).reply ≡ true → is_live w.callers p ≡ false
 gone_dead w p e = gone_does w p e (step w p e) (step_does w p e)

@@ -1,5 +1,5 @@
--- What a play keeps: its history is legal and follows the programs, within the limits, and stops where
--- a call finds no room.
+-- The facts that a play keeps: its history is legal, follows the programs, is within the limits, and stops at a
+-- call that finds no room.
 use Rattle.std.proofs.Common.{◌≡◌, ◌⊎◌, ℕ, ◌+◌, ◌<◌, zero, suc, Bool, true, false, ⊎_elim, inl, inr, arith, List, [], ◌∷◌, ◌++◌, length, get_or, take, Option, Some, None, refl, sym, ap, ◌∙◌, subst, length-append}
 use Rattle.std.proofs.Math.ListN.{get_or-append}
 use Rattle.std.proofs.Math.Seq.{get_or-append_seam, take-append_seam}
@@ -33,12 +33,13 @@ use Rattle.vt_procs.specs.declared.waiting.Waiting.TheVariants.{Nothing, Open, D
 use Rattle.session_order.proofs.Steps.{Accepted, RefusedByAll, RefusedByOwn, StepDoes, step_does}
 use Rattle.vt_world.specs.Heard.{without_marks}
 use Rattle.vt_world.specs.History.{IsLegal, IsNext, replay}
-use Rattle.vt_world.specs.Rows.{ended_reply, row, waits_unless}
+use Rattle.vt_world.specs.Events.{row}
+use Rattle.vt_world.specs.Rows.{ended_reply, waits_unless}
 use Rattle.vt_world.specs.State.{WorldState}
 use Rattle.vt_world.specs.Step.{Outcome, step}
 use Rattle.vt_world.specs.Refusals.{caller, is_empty, target}
 
--- the console's answers are as they are meant
+-- the machine's answers have no spare room
 waits_plain : (there : Bool) (p : ℕ) (ticket : Ticket)
     → plain_reply (waits_unless there p ticket).reply ≡ (waits_unless there p ticket).reply
 waits_plain true p ticket = refl
@@ -67,7 +68,7 @@ pub reply_plain : (w : WorldState) (p : ℕ) (e : Event)
     → plain_reply (step w p e).reply ≡ (step w p e).reply
 reply_plain w p e = step_plain w p e (step w p e) (step_does w p e)
 
--- a program's next call is as it is meant
+-- a program's next call has no spare room
 next_plain : (program : Option Program) (made : List _) (e : Event) → next_of program made ≡ Some e
     → plain_event e ≡ e
 next_plain None made e is = absurd (none-some e is)
@@ -78,7 +79,7 @@ pub event_plain : (programs : List Program) (p : ℕ) (history : List Entry) (e 
 event_plain programs p history e is =
     next_plain (program_of programs p) (calls_by p history) e is
 
--- what stands in a list with one more element: an element of the list, or that one behind it
+-- an element of a list with one more: an element of the list, or the last one
 at_either : {A : Type 0} (xs : List A) (x : A) (k : ℕ) (y : A) → slice_get (xs ++ x ∷ []) k ≡ Some y
     → (slice_get xs k ≡ Some y) ⊎ ((k ≡ length xs) × (x ≡ y))
 at_either xs x k y is =
@@ -95,7 +96,7 @@ at_either xs x k y is =
     inr (last, sym here ∙ read))
     (cases_lt k (length xs))
 
--- each element is right behind those before it
+-- each element is directly after those before it
 abbrev pub EachIs : (List Entry → Entry → Type 0) → List Entry → Type 0
 EachIs P entries =
     (k : ℕ) (entry : Entry) → slice_get entries k ≡ Some entry → P (take k entries) entry
@@ -116,7 +117,7 @@ each_more P entries entry old next k found is = ⊎_elim
 pub each_none : (P : List Entry → Entry → Type 0) → EachIs P []
 each_none P k entry is = absurd (none-some entry is)
 
--- what the turn of p makes of a history
+-- the result of the turn of p on a history
 pub data TurnDoes (o : Setup) (p : ℕ) (h : List Entry) : Played → Type 0 where
   Skips : call_now o h p ≡ None → TurnDoes o p h (record { history = h; stop = None })
   Enters : (e : Event) → is_waiting (replay o.start h) p ≡ false → next_by o.programs p h ≡ Some e → has_room o.limits h (charge_of e) ≡ true → TurnDoes o p h (record { history = h ++ entry_at o.start h p e ∷ []; stop = None })

@@ -9,7 +9,7 @@ use Rattle.vt_events.specs.Plain.{plain_event, plain_reply}
 use Rattle.vt_events.specs.declared.entry.Entry.{Entry}
 use Rattle.vt_events.specs.declared.event.Event.{Event}
 
--- a call with its answer, as they are meant: the room that their bytes have is nothing of theirs
+-- a call with its answer, without the spare room of their bytes
 abbrev pub as_meant : Call → Call
 as_meant c = call (plain_event c.event) (plain_reply c.reply)
 
@@ -25,12 +25,12 @@ made_by p history = filter (λ entry. entry.caller == p) history
 abbrev pub calls_by : ℕ → List Entry → List Call
 calls_by p history = map call_of (made_by p history)
 
--- the next call behind those that were made; where there is no program there is none
+-- the next call after those that were made; no program has none
 abbrev pub next_of : Option Program → List Call → Option Event
 next_of None made = None
 next_of (Some program) made = next program made
 
--- the next call of caller p after a history, None where its program is over
+-- the next call of caller p after a history, None if its program is over
 abbrev pub next_by : List Program → ℕ → List Entry → Option Event
 next_by programs p history = next_of (program_of programs p) (calls_by p history)
 

@@ -15,14 +15,14 @@ use Rattle.vt_journal.specs.declared.tail.Tail.TheVariants as tail
 use Rattle.vt_world.specs.History.{replay}
 use Rattle.vt_world.specs.State.{WorldState}
 
--- where a session begins: the console at the start, the programs of its callers, and the limits of its
+-- the beginning of a session: the machine at the start, the programs of its callers, and the limits of its
 -- journal
 pub record Setup : Type 0 where
   pub start : WorldState
   pub programs : List Program
   pub limits : Limits
 
--- some caller doesn't wait, and its next call finds no room: that is where the history stops
+-- the history stops here: the next call of some caller that doesn't wait finds no room
 pub record Stops (o : Setup) (history : List Entry) (full : Full) : Type 0 where
   pub caller : ℕ
   pub call : Event

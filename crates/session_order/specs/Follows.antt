@@ -15,7 +15,7 @@ use Rattle.vt_world.specs.Refusals.{ends_wait}
 abbrev pub is_waiting : WorldState → ℕ → Bool
 is_waiting w p = is_open (caller_at w.callers p).waiting
 
--- the entry right behind these is its caller's next call, and no waitend of a wait that goes on
+-- the entry directly after these is its caller's next call, and no waitend of a wait that goes on
 pub record IsNextCall (start : WorldState) (programs : List Program) (before : List Entry) (entry : Entry) : Type 0 where
   pub next : next_by programs entry.caller before ≡ Some (plain_event entry.event)
   pub ended :

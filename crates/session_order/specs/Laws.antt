@@ -9,7 +9,7 @@ use Rattle.vt_procs.specs.declared.proc_start.ProcStart.{ProcStart}
 use Rattle.vt_world.specs.History.{IsLegal}
 use Rattle.vt_world.specs.Start.{start_world}
 
--- a session begins at a start of the console, with a program for each keyboard and each process
+-- a session begins at a start of the machine, with a program for each keyboard and each process
 pub record IsFromStart (o : Setup) : Type 0 where
   pub rows : ℕ
   pub cols : ℕ
@@ -36,7 +36,7 @@ abbrev pub SerialIsOne : Type 0
 SerialIsOne =
     (o : Setup) (first : List ℕ) (a b : Played) → IsSerial o first a → IsSerial o first b → a ≡ b
 
--- it is legal, follows the programs and ends
+-- the play's history is legal, follows the programs and ends
 pub record IsRight (o : Setup) (t : Played) : Type 0 where
   pub legal : IsLegal o.start t.history
   pub follows : Follows o.start o.programs t.history
@@ -46,7 +46,7 @@ abbrev pub SerialIsRight : Type 0
 SerialIsRight =
     (o : Setup) (first : List ℕ) (t : Played) → IsSerial o first t → IsRight o t
 
--- progress: where a play from an opening isn't finished, a round makes an entry or stops it
+-- progress: if a play from a start isn't finished, a round makes an entry or stops it
 abbrev pub RoundsGoOn : Type 0
 RoundsGoOn =
     (o : Setup) (first : List ℕ) (n : ℕ) → IsFromStart o
@@ -54,7 +54,7 @@ RoundsGoOn =
     is_finished o t ≡ false
     → (length t.history < length (round o t).history) ⊎ (is_some (round o t).stop ≡ true)
 
--- so it is finished after one round more than the limits allow entries
+-- so the play is finished after one round more than the limits allow entries
 abbrev pub SerialEnds : Type 0
 SerialEnds =
     (o : Setup) (first : List ℕ) → IsFromStart o

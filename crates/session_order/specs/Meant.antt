@@ -1,4 +1,4 @@
--- Histories as they are meant: the room that the bytes of calls and answers have changes nothing.
+-- Histories without spare room: the room of the bytes of calls and answers changes nothing.
 use Rattle.std.specs.Prelude.{◌≡◌, List, map, Some, Option}
 use Rattle.session_order.specs.Calls.{as_meant}
 use Rattle.session_order.specs.Ends.{Ends, Setup}
@@ -13,11 +13,11 @@ use Rattle.vt_journal.specs.declared.full.Full.{Full}
 use Rattle.vt_world.specs.History.{IsLegal, replay}
 use Rattle.vt_world.specs.State.{WorldState}
 
--- the entries as they are meant
+-- the entries without the spare room of their bytes
 abbrev pub plain_history : List Entry → List Entry
 plain_history entries = map plain_entry entries
 
--- the next call goes by the calls as they are meant, and is one itself
+-- the next call depends on the calls without their spare room, and has no spare room itself
 abbrev pub NextIsMeant : Type 0
 NextIsMeant =
     (p : Program) (made : List Call) → next p (map as_meant made) ≡ next p made
@@ -26,7 +26,7 @@ abbrev pub NextIsPlain : Type 0
 NextIsPlain =
     (p : Program) (made : List Call) (e : Event) → next p made ≡ Some e → plain_event e ≡ e
 
--- so do replay, and what makes a history right
+-- replay, and whether a history is right, don't depend on spare room either
 abbrev pub ReplayIsMeant : Type 0
 ReplayIsMeant =
     (start : WorldState) (entries : List Entry) → replay start (plain_history entries) ≡ replay start entries

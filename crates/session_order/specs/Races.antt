@@ -1,5 +1,5 @@
--- What is known of a race of all callers once each of them has ended, and that it makes the history
--- right. This project's own.
+-- The facts about a race of all callers after each of them has ended; they make the history right. This
+-- project's own.
 use Rattle.std.specs.Prelude.{◌≡◌, ℕ, true, false, List, [], ◌∷◌, ◌++◌, is_some, map, take, Option, Some, None, slice_get}
 use Rattle.session_order.specs.Calls.{call_of, made_by}
 use Rattle.session_order.specs.Ends.{Ends, Setup}
@@ -40,27 +40,27 @@ pub record HasNext (program : Program) (made : List Entry) (charge : ℕ) : Type
   pub next : next program (map call_of made) ≡ Some call
   pub charge_is : charge_of call ≡ charge
 
--- the history stops where a call of this caller finds no room
+-- the history stops because a call of this caller finds no room
 pub record StopsAt (o : Setup) (history : List Entry) (full : Full) (caller : ℕ) : Type 0 where
   pub known : is_some (program_of o.programs caller) ≡ true
   pub goes : is_waiting (replay o.start history) caller ≡ false
   pub no_room : has_room o.limits history full.charge ≡ false
   pub numbers : full ≡ full_at history full.charge
 
--- what the one history of all callers is once they have ended: where it stopped, by this caller's call
+-- the one history of all callers after they have ended, and the caller whose call stopped it, if one did
 pub record IsClosed (o : Setup) (history : List Entry) (stop : Option Full) (caller : ℕ) : Type 0 where
   pub within : IsWithin o.limits history
   pub free : IsFree o.start history
   pub known : (p : ℕ) → program_of o.programs p ≡ None → made_by p history ≡ []
   pub stops : (full : Full) → stop ≡ Some full → StopsAt o history full caller
 
--- what one caller has done by then: it ran its program, to the end or to the call that found no room
+-- one caller after it has ended: it ran its program to the end, or to the call that found no room
 pub record HasEnded (program : Program) (made : List Entry) (stop : Option Full) (is_named : Type 0) : Type 0 where
   pub run : IsRun program made
   pub over : stop ≡ None → next program (map call_of made) ≡ None
   pub left : (full : Full) → stop ≡ Some full → is_named → HasNext program made full.charge
 
--- then the history follows the programs and ends
+-- after all callers have ended, the history follows the programs and ends
 abbrev pub RaceIsRight : Type 0
 RaceIsRight =
     (o : Setup) (history : List Entry) (stop : Option Full) (caller : ℕ)

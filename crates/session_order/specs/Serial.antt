@@ -16,7 +16,7 @@ use Rattle.vt_world.specs.History.{replay}
 use Rattle.vt_world.specs.State.{WorldState}
 use Rattle.vt_world.specs.Step.{step}
 
--- a play on its way: the history so far, and where it stopped, if a call found no room
+-- a play on its way: the history so far, and the call that found no room, if it has stopped
 pub record Played : Type 0 where
   pub history : List Entry
   pub stop : Option Full
@@ -24,7 +24,7 @@ pub record Played : Type 0 where
 abbrev pub nothing_played : Played
 nothing_played = record { history = []; stop = None }
 
--- the entry of p's call e right behind a history, with the console's answer
+-- the entry of p's call e directly after a history, with the machine's answer
 abbrev pub entry_at : WorldState → List Entry → ℕ → Event → Entry
 entry_at start history p e = record {
   caller = p;
@@ -38,7 +38,7 @@ abbrev pub call_now : Setup → List Entry → ℕ → Option Event
 call_now o history p =
     if is_waiting (replay o.start history) p then None else next_by o.programs p history
 
--- p makes its call, or the play stops where that finds no room; who has no call is skipped
+-- p makes its call, or the play stops because that finds no room; a caller without a call is skipped
 abbrev pub calls : Setup → ℕ → Option Event → List Entry → Played
 calls o p None history = record { history = history; stop = None }
 calls o p (Some e) history =
@@ -46,7 +46,7 @@ calls o p (Some e) history =
     then record { history = history ++ entry_at o.start history p e ∷ []; stop = None }
     else record { history = history; stop = Some (full_at history (charge_of e)) }
 
--- the turn of p: nothing is called any more where the play has stopped
+-- the turn of p: if the play has stopped, nothing is called any more
 abbrev pub turn : Setup → ℕ → Played → Played
 turn o p t = if is_some t.stop then t else calls o p (call_now o t.history p) t.history
 
@@ -55,7 +55,7 @@ abbrev pub turns : Setup → List ℕ → Played → Played
 turns o [] t = t
 turns o (p ∷ callers) t = turns o callers (turn o p t)
 
--- a round: a turn of each caller, rising; who has no program is skipped
+-- a round: a turn of each caller, rising; a caller without a program is skipped
 abbrev pub round : Setup → Played → Played
 round o t = turns o (range_with_len 0 every_caller) t
 
@@ -67,7 +67,7 @@ rounds o (suc n) t = rounds o n (round o t)
 abbrev pub is_finished : Setup → Played → Bool
 is_finished o t = is_some t.stop || all_over o.programs t.history
 
--- what the schedule plays: the turns that are given first, and then as many rounds as it takes
+-- the play of the schedule: the turns that are given come first, and then as many rounds as it takes
 pub record IsSerial (o : Setup) (first : List ℕ) (t : Played) : Type 0 where
   pub count : ℕ
   pub played : t ≡ rounds o count (turns o first nothing_played)

@@ -1,4 +1,4 @@
--- Where a session begins, and what every right history of it keeps to. This project's own.
+-- The beginning of a session, and the facts about every right history of it. This project's own.
 use Rattle.std.specs.Prelude.{◌≡◌, ℕ, ◌<◌, true, List, is_some, length, option_map}
 use Rattle.session_order.specs.Ends.{Ends, Setup}
 use Rattle.session_order.specs.Follows.{Follows}
@@ -16,31 +16,31 @@ use Rattle.vt_world.specs.State.{WorldState, core}
 use Rattle.vt_world.specs.Tapes.{screen_of, tape_of}
 use Rattle.vt_world.specs.Terminals.{machine_of, terminal_at}
 
--- the console that a session begins with
+-- the machine that a session begins with
 abbrev pub start_of : SessionView → WorldState
 start_of s =
     start_world s.config.size.rows s.config.size.cols s.config.consoles s.config.front s.config.keyboards
     s.config.procs s.tables
 
--- with its programs and limits
+-- the beginning of a session: its machine, programs and limits
 abbrev pub setup_of : SessionView → Setup
 setup_of s = record { start = start_of s; programs = s.programs; limits = s.limits }
 
--- in this console, after this history, each screen with the rest of its text is its console's tape,
--- run from the start screen
+-- in this machine, after this history, each screen with the rest of its text is the run of its console's tape
+-- from the start screen
 abbrev pub ShowsTapes : SessionView → WorldState → List Entry → Type 0
 ShowsTapes s world history =
     (c : ℕ) → c < 64
     → machine_of (terminal_at world.terminals c)
     ≡ option_map (screen_of s.config.size.rows s.config.size.cols) (tape_of c (start_of s) history)
 
--- nobody but a caller has a program
+-- only callers have programs
 abbrev pub AreOfCallers : List Program → Type 0
 AreOfCallers programs = (p : ℕ) → is_some (program_of programs p) ≡ true → p < callers
 
--- a history of the session, the console that it leaves, and how it ends: it is legal, follows the
--- programs and ends so; each hop of the display was allowed, and what waits for it was asked for; and
--- each screen is its console's tape
+-- a history of the session, the machine after it, and its end: the history is legal, follows the programs and
+-- ends so; each switch of the display was allowed, and the pending console was requested; and each screen is
+-- the run of its console's tape
 pub record IsRightHistory (s : SessionView) (console : WorldState) (history : List Entry) (end : Tail) : Type 0 where
   pub world : console ≡ replay (start_of s) history
   pub legal : IsLegal (start_of s) history

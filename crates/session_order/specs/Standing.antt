@@ -7,19 +7,19 @@ use Rattle.session_text.specs.declared.program.Program.{Program}
 use Rattle.vt_base.specs.Limits.{callers, greatest_caller}
 use Rattle.vt_events.specs.declared.entry.Entry.{Entry}
 
--- what contracts see of `Standing`, by the callers' numbers: where each caller's walk stands, and how
--- many calls each made
+-- the view that contracts have of `SessionProgress`, by the callers' numbers: the place of each caller's walk,
+-- and how many calls each made
 pub record SessionProgressView : Type 0 where
   pub walks : List Place
   pub counts : List ℕ
 
--- the walk stands where these calls, as they are meant, were made
+-- the walk stands after these calls, without their spare room
 pub record IsWalkAfter (program : Program) (walk : Place) (made : List Call) : Type 0 where
   pub calls : List Call
   pub stands : Stands program walk calls
   pub meant : map as_meant calls ≡ made
 
--- this is how far the callers of these programs are after a history
+-- the places of the callers of these programs after a history
 pub record AreAfter (programs : List Program) (history : List Entry) (s : SessionProgressView) : Type 0 where
   pub walks : length s.walks ≡ callers
   pub stand :

@@ -37,7 +37,7 @@ impl Counts {
         self.places[usize::from(caller.get())]
     }
 
-    /// The caller made one call more. The greatest count stands still.
+    /// Counts one more call of the caller. The greatest count doesn't rise.
     pub(crate) fn add(&mut self, caller: CallerNo)
         ensures { self.new ≡ slice_set self.old caller
             (min (slice_index self.old caller + 1) (2 ^ 32 - 1)) }

@@ -3,8 +3,8 @@ ghost use Rattle.session_order.specs.Laws.{FinishedStays, RoundsAddUp, RoundsGoO
 ghost use Rattle.session_order.specs.Meant.{EndsIsMeant, FollowsIsMeant, LegalIsMeant, NextIsMeant, NextIsPlain, ReplayIsMeant};
 ghost use Rattle.session_order.specs.Races.{RaceIsRight, RunsGrow};
 
-/// The schedule plays one history, which is legal, follows the programs and ends. From a start of the
-/// console there is such a play: each round makes an entry or stops, until it is finished.
+/// The schedule plays one history, which is legal, follows the programs and ends. From a start of the machine
+/// there is such a play: each round makes an entry or stops, until it is finished.
 pub fn serial_laws()
     ensures stays { FinishedStays }
     ensures sum { RoundsAddUp }
@@ -14,7 +14,7 @@ pub fn serial_laws()
     ensures ends { SerialEnds }
 {}
 
-/// What a history is goes by its calls and answers as they are meant.
+/// A history's meaning depends on its calls and answers without the spare room of their bytes.
 pub fn meant_laws()
     ensures next { NextIsMeant }
     ensures plain { NextIsPlain }
@@ -24,8 +24,8 @@ pub fn meant_laws()
     ensures ends { EndsIsMeant }
 {}
 
-/// How a caller's run of its program grows, and that a race whose callers have all ended follows the
-/// programs and ends.
+/// A caller's run of its program grows by the program's next call. A race whose callers have all ended follows
+/// the programs and ends.
 pub fn race_laws()
     ensures grows { RunsGrow }
     ensures right { RaceIsRight }

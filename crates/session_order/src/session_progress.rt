@@ -17,7 +17,7 @@ use std::marker::Model;
 use vt_base::{CALLERS, CallerNo, NoMemory};
 use vt_events::Reply;
 
-/// How far the callers of a session are: where each one's walk through its program stands, and how many
+/// The progress of the callers of a session: the place of each one's walk through its program, and how many
 /// calls it made.
 #[derive(Drop)]
 pub struct SessionProgress {
@@ -48,7 +48,7 @@ impl SessionProgress {
         })
     }
 
-    /// The caller's walk. What it has next is the next call of the caller's program.
+    /// The caller's walk. Its next call is the next call of the caller's program.
     pub fn walk(&self, p: CallerNo) -> &Walk
         ensures stands { (programs : List Program) (h : List Entry) (program : Program)
             → program_of programs p ≡ Some program → AreAfter programs h self.now
@@ -72,7 +72,7 @@ impl SessionProgress {
         self.counts.of(p)
     }
 
-    /// The caller made the next call of its program, and got this answer.
+    /// Records that the caller made the next call of its program and got this answer.
     pub fn took(&mut self, p: CallerNo, program: &Program, r: &Reply)
         ensures { (programs : List Program) (h : List Entry) (entry : Entry)
             → program_of programs p ≡ Some program.now → AreAfter programs h self.old

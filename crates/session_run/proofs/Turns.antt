@@ -15,10 +15,10 @@ use Rattle.session_run.specs.Playing.{IsAt, PlayerView}
 use Rattle.session_text.specs.Programs.{program_of}
 use Rattle.session_text.specs.declared.program.Program.{Program}
 use Rattle.vt_events.specs.Charge.{charge_of}
-use Rattle.vt_events.specs.Plain.{plain_entry, plain_event}
+use Rattle.vt_events.specs.Plain.{plain_entry}
 use Rattle.vt_events.specs.declared.entry.Entry.{Entry}
 use Rattle.vt_events.specs.declared.event.Event.{Event}
-use Rattle.vt_events.specs.declared.event.Event.TheVariants as event
+use Rattle.vt_events.proofs.Meant.{charge-meant}
 use Rattle.vt_journal.specs.Log.{HasRoom, charge_of_all}
 use Rattle.vt_journal.specs.declared.full.Full.{Full}
 use Rattle.vt_journal.specs.declared.limits.Limits.{Limits}
@@ -86,20 +86,12 @@ pub lengths : (o : Setup) (t : Played) (view : PlayerView) → IsAt o t view
     → length view.log.entries ≡ length t.history
 lengths o t view at = sym (length-map view.log.entries plain_entry) ∙ ap length at.history
 
-charge_meant : (e : Event) → charge_of (plain_event e) ≡ charge_of e
-charge_meant (event.Write fd b) = refl
-charge_meant (event.SetFunc fd i b) = refl
-charge_meant (event.SetDia fd b) = refl
-charge_meant (event.SetMap fd b) = refl
-charge_meant (event.SetPal fd b) = refl
-charge_meant e = refl
-
 charges : (o : Setup) (t : Played) (view : PlayerView) → IsAt o t view
     → charge_of_all view.log.entries ≡ charge_of_all t.history
 charges o t view at =
     sym
     (fold-map (λ n (x : Entry). n + charge_of x.event) plain_entry 0 view.log.entries
-    ∙ (λ i. sum_by (λ (x : Entry). charge_meant x.event i) view.log.entries))
+    ∙ (λ i. sum_by (λ (x : Entry). charge-meant x.event i) view.log.entries))
     ∙ ap charge_of_all at.history
 
 -- room in the log is room in the play

@@ -12,7 +12,7 @@ use Rattle.sig_hooks.specs.Hooks.{with_act}
 use Rattle.sig_hooks.specs.declared.act.Act.{Act}
 use Rattle.sig_hooks.specs.declared.act.Act.TheVariants as act
 use Rattle.table_fields.specs.Fields.{keymap_of}
-use Rattle.vt_events.specs.Plain.{text}
+use Rattle.vt_events.specs.Kinds.{text}
 use Rattle.vt_events.specs.declared.event.Event.{Event}
 use Rattle.vt_events.specs.declared.event.Event.TheVariants as event
 

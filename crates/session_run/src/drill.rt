@@ -6,7 +6,7 @@ ghost use Rattle.session_text.specs.ItemTexts.{is_item};
 ghost use Rattle.session_text.specs.Scripts.{make_listed};
 ghost use Rattle.session_text.specs.Sessions.{ArePrograms, IsScriptProgram};
 ghost use Rattle.session_text.specs.declared.program.Program.TheVariants as programs;
-ghost use Rattle.vt_events.specs.Plain.{text};
+ghost use Rattle.vt_events.specs.Kinds.{text};
 
 use crate::drill_draws::Draws;
 use crate::drill_items::item;

@@ -2,7 +2,7 @@
 ghost use Rattle.std.specs.Prelude.{◌≡◌, ◌<◌, ◌≤◌, ℕ, ◌∷◌, ◌++◌, true, decimal, IfOk, OnOk};
 ghost use Rattle.session_run.specs.Drill.{wait_item, colour_item, each, item, item_of, letter, cursor_item, print_item, activate_item};
 ghost use Rattle.session_text.specs.ItemTexts.{is_item};
-ghost use Rattle.vt_events.specs.Plain.{text};
+ghost use Rattle.vt_events.specs.Kinds.{text};
 ghost use Rattle.vt_events.specs.declared.event.Event.TheVariants as event;
 
 use crate::drill_draws::Draws;

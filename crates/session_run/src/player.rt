@@ -71,7 +71,7 @@ impl Player {
     {
         let charge = charge(&event);
         if self.log.room(charge) {
-            self.enter(alloc, program, p, event)?;
+            self.enter(alloc, program, p, event, charge)?;
             return Ok(());
         }
         self.stop = Some(Full {
@@ -97,15 +97,17 @@ impl Player {
         Run { world, log, stop }
     }
 
-    // Makes p's call, and enters it with its answer.
+    // Makes p's call, which has that charge, and enters it with its answer.
     fn enter(
         &mut self,
         alloc: Global,
         program: &Program,
         p: CallerNo,
         event: Event,
+        charge: u32,
     ) -> Result<(), NoMemory>
-        requires { HasRoom self.old.log (charge_of event) }
+        requires charge { charge ≡ charge_of event }
+        requires room { HasRoom self.old.log charge }
         ensures { OnOk result ((o : Setup) (t : Played)
             → program_of o.programs p ≡ Some program.now → t.stop ≡ None
             → call_now o t.history p ≡ Some event → IsAt o t self.old
@@ -118,12 +120,13 @@ impl Player {
         let reply = self.world.call(alloc, p, &event)?;
         let seq = self.standing.count(p);
         self.standing.took(p, program, &reply);
-        self.log.push(Entry {
+        let entry = Entry {
             caller: p,
             seq,
             event,
             reply,
-        });
+        };
+        self.log.push_counted(entry, charge);
         Ok(())
     }
 }

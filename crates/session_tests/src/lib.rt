@@ -1,4 +1,5 @@
-//! Tests of what stands on sessions: certificates, reviews, and the top call over threads, what `race` prints and how it ends.
+//! Tests of the crates above sessions: certificates, reviews, and the top call over threads, the text of `race`
+//! and its status.
 #![tactic(auto)]
 
 #[cfg(test)]

@@ -1,5 +1,5 @@
-//! What the tests share. Rows are texts and numbers alone. What is told of single journals is among the worked cases of
-//! `cases`.
+//! Functions that the tests share. Rows are texts and numbers alone. Single journals are tested by the worked
+//! cases of `cases`.
 mod asking;
 mod certificate;
 mod ends;

@@ -29,7 +29,7 @@ calls_from_end table set s high =
     let none : 65 - s ≡ 0 = omega arith in
     ap (λ n. filter_map (λ i. act_call (act_at table set i)) (range_with_len s n)) none
 
--- where the set has none of the signals up to one, the calls from there on are all
+-- if the set has no signal in a range, the calls from the range's start on are those from its end on
 calls_from_until : (k : ℕ) (table : List Act) (set s : ℕ) → s + k ≤ 65
     → ((t : ℕ) → s ≤ t → t < s + k → has_signal set t ≡ false)
     → calls_from table set (s + k) ≡ calls_from table set s
@@ -46,7 +46,7 @@ calls_from_until (suc k) table set s within none =
     (λ t low high. none t (omega (arith, low)) (omega (arith, high)))
     ∙ sym one)
 
--- the calls from one on are that at the set's first signal, if there is one, and those behind it
+-- the calls from one on are that at the set's first signal, if there is one, and those after it
 pub calls_from_first : (table : List Act) (set n s : ℕ) (act : Act) → IsFirstFrom set n s → s ≤ 64
     → act ≡ act_of table s
     → calls_from table set n ≡ option_to_list (act_call act) ++ calls_from table set (s + 1)
@@ -60,7 +60,7 @@ calls_from_first table set n s act first within is =
     ∙ (calls_from_next table set s within
     ∙ ap (λ a. option_to_list (act_call a) ++ calls_from table set (s + 1)) asked))
 
--- behind the last signal of the set nothing is called
+-- after the last signal of the set nothing is called
 pub calls_from_none : (table : List Act) (set n : ℕ) → n ≤ 64 → HasNoneFrom set n
     → calls_from table set n ≡ []
 calls_from_none table set n within none =
@@ -68,7 +68,7 @@ calls_from_none table set n within none =
     (λ t low high. none t low (omega (arith, high, within))))
     ∙ calls_from_end table set (n + (65 - n)) (omega (arith, within))
 
--- where the first signal brings no call, the calls from one on are those behind it
+-- if the first signal brings no call, the calls from one on are those after it
 pub calls_from_past : (table : List Act) (set n s : ℕ) (act : Act) → IsFirstFrom set n s → s ≤ 64
     → act ≡ act_of table s → is_none (act_call act) ≡ true
     → calls_from table set (s + 1) ≡ calls_from table set n

@@ -1,4 +1,4 @@
--- What is collected on the way through a list, one item more.
+-- The results of a walk through a list, with one item more.
 use Rattle.std.proofs.Common.{◌≡◌, ℕ, ◌+◌, ◌<◌, List, [], ◌∷◌, ◌++◌, Result, Ok, Err, drop, get_or, length, map, refl, sym, ap, ◌∙◌}
 use Rattle.std.proofs.lemmas.List.{at_drop_more, map-append}
 use Rattle.table_fields.specs.Checked.{collect, ◌>>=◌}
@@ -11,7 +11,7 @@ put_before : {B : Type 0} (y : B) (r : Result (List B) TableFault)
 put_before y (Ok ys) = refl
 put_before y (Err e) = refl
 
--- one item more, behind those that were found
+-- one item more, after those that were found
 pub collected_more : {X Y A B : Type 0} (f : ℕ → A → Result B TableFault) (g : X → A) (h : Y → B) (xs : List X)
     (d : X) (i : ℕ) (found more : List Y) (y : Y) (whole : Result (List B) TableFault) → i < length xs
     → f (i + 1) (g (get_or xs i d)) ≡ Ok (h y) → more ≡ found ++ y ∷ []

@@ -7,7 +7,7 @@ use Rattle.std.specs.List.{range_with_len}
 use Rattle.vt_base.specs.ConsoleSet.{is_among}
 use Rattle.session_text.specs.Openings.{lowest_from}
 
--- another console is no console 0
+-- adding a console from 1 on doesn't change whether console 0 is in the set
 pub with_console_zero : (set n : ℕ) → 1 ≤ n → is_among (bit_or set (2 ^ n)) 0 ≡ is_among set 0
 with_console_zero set n some =
     let apart : 0 ≢ n = λ same. absurd (omega (arith, same, some)) in

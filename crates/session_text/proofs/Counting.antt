@@ -9,7 +9,7 @@ use Rattle.table_fields.specs.Checked.{check, collect, fault, ◌>>=◌}
 use Rattle.table_fields.specs.declared.fault.TableFault.{TableFault}
 use Rattle.toml.specs.Data.{Data, Items, as_array, as_str}
 use Rattle.vt_base.specs.Bytes.{Text}
-use Rattle.vt_events.specs.Plain.{text}
+use Rattle.vt_events.specs.Kinds.{text}
 use Rattle.session_text.specs.Keyboards.{further_items_of, further_of, keyboards_of}
 
 one_more : {B : Type 0} (r : Result B TableFault) (more : Result (List B) TableFault) (n : ℕ) (ys : List B)
@@ -38,7 +38,7 @@ array_count as_kind part key (Some d) xs is = in_array (as_array d) is
     in_array (Some items) is =
         length-collect (λ n d. ok_or (as_kind d) (fault WRONG_KIND part key)) 1 (values_of items) xs is
 
--- few texts were read, of as many items as there are texts
+-- at most three texts were read, with as many lists of items as there are texts
 checked_items : (texts : List (List ℕ)) (few : Bool) (items : List (List (List ℕ))) → nat_le (length texts) 3 ≡ few
     → (check few (fault OUT_OF_RANGE 0 12) >>= (λ _. collect (λ k text. few_items_of 0 12 text) 1 texts)) ≡ Ok items
     → (length items ≡ length texts) × (length texts ≤ 3)
@@ -65,7 +65,7 @@ further_items d (Ok items) further read is =
     (length-collect (bytes_of FURTHER_SCAN_BYTE) 1 items further is ∙ counted.0, counted.1)
 further_items d (Err e) further read is = cc
 
--- there are as many keyboards as the first and the further ones that were read
+-- there are as many keyboards as the first one and the further ones that were read
 pub further_count : (d : Option Data) (further : List (List ℕ)) (read : List Text) → further_of d ≡ Ok further
     → read ≡ map text further → keyboards_of d ≡ length read + 1
 further_count d further read is are =

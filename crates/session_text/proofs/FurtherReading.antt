@@ -10,10 +10,10 @@ use Rattle.table_fields.specs.declared.fault.TableError.{TableError}
 use Rattle.table_fields.specs.declared.fault.TableError.TheVariants as errors
 use Rattle.toml.specs.Data.{Data, as_str}
 use Rattle.vt_base.specs.Bytes.{Text}
-use Rattle.vt_events.specs.Plain.{text}
+use Rattle.vt_events.specs.Kinds.{text}
 use Rattle.session_text.specs.Keyboards.{further_of}
 
--- texts with no room are those of their bytes
+-- texts without spare room are equal to the texts of their bytes
 texts_are : (list : List Text) → All (λ (keys : Text). keys.room ≡ 0) list
     → list ≡ map text (map (λ (keys : Text). keys.bytes) list)
 texts_are [] none = refl

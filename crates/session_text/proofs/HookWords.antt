@@ -11,7 +11,7 @@ use Rattle.vt_base.specs.Signals.{has_signal}
 use Rattle.session_text.specs.HookTexts.{IsHook, hook_says, hooks_say, place, words_of}
 use Rattle.session_text.specs.declared.hooked.Hooked.{Hooked}
 
--- words are a hook for one signal
+-- the words of a hook name one signal
 pub one_signal : (words : List (List ℕ)) (s t : ℕ) (a b : Act) → IsHook words s a → IsHook words t b
     → s ≡ t
 one_signal [] s t a b h k = absurd h
@@ -20,7 +20,7 @@ one_signal (word ∷ words) s t a b h k =
     let top = k.0.high in
     decimal_injective s t (omega arith) (omega arith) (h.0.is ∙ sym k.0.is)
 
--- the next text is a hook, and so are the others
+-- if the next text is a hook, the others are read after it
 pub hooks_more : (p i item : ℕ) (hooked after : Hooked) (texts : List (Bor (List ℕ))) (d : Bor (List ℕ))
     → i < length texts → item ≡ place (i + 1)
     → hook_says p item hooked (get_or texts i d).now (Ok after)
@@ -34,7 +34,7 @@ hooks_more p i item hooked after texts d within is first said others =
     subst (λ ts. hooks_say p (i + 1) hooked ts said) (sym (at_drop_more (map now) texts i d within))
     (Ok after, first', others)
 
--- the next text isn't one
+-- the next text isn't a hook
 pub hooks_fault : (p i item : ℕ) (hooked : Hooked) (texts : List (Bor (List ℕ))) (d : Bor (List ℕ))
     → i < length texts → item ≡ place (i + 1) → (f : TableFault)
     → hook_says p item hooked (get_or texts i d).now (Err f)
@@ -46,7 +46,7 @@ hooks_fault p i item hooked texts d within is f first =
     subst (λ ts. hooks_say p (i + 1) hooked ts (Err f)) (sym (at_drop_more (map now) texts i d within))
     (Err f, first', refl)
 
--- a hook for a signal that has one already
+-- the next text is a hook for a signal that has one already
 pub hook_fault : (p item : ℕ) (hooked : Hooked) (text : List ℕ) (words : List (List ℕ)) (s t : ℕ)
     (act : Act) → words ≡ words_of text → IsHook words s act → s ≡ t
     → has_signal hooked.signals t ≡ true → hook_says p item hooked text (Err (fault HOOK p item))
@@ -58,7 +58,7 @@ hook_fault p item hooked text words s t act are hook same taken = (
   refl,
 )
 
--- a number of a range is itself
+-- a number within a range is read as itself
 pub in_range_same : (low high n m : ℕ) → in_range low high n ≡ Some m → n ≡ m
 in_range_same low high n m is = by_test (nat_lt n low || nat_lt high n) is
   where

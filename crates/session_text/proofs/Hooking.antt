@@ -1,4 +1,4 @@
--- A process that has a fault in its hooks.
+-- A process whose hooks have a fault.
 use Rattle.std.proofs.Common.{◌≡◌, ℕ, List, Option, Ok, Err, codes, refl, sym, ap, ◌∙◌}
 use Rattle.table_fields.specs.Arrays.{array_of}
 use Rattle.table_fields.specs.declared.fault.TableFault.{TableFault}

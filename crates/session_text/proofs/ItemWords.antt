@@ -33,12 +33,12 @@ say_words (a ∷ b ∷ x ∷ more) d fd many name number fits = record {
 pub text_of_words : (text : List ℕ) → joined_by_blanks (words_of text) ≡ text
 text_of_words text = join_with_byte-slice_split 0x20 text
 
--- the words of a say begin its text
+-- the words of a `say` begin its text
 pub say_text : (text : List ℕ) (fd : ℕ) (say : AreSay (words_of text) fd)
     → text ≡ 115 ∷ 97 ∷ 121 ∷ 32 ∷ (decimal fd ++ 32 ∷ joined_by_blanks (say.first ∷ say.more))
 say_text text fd say = sym (text_of_words text) ∙ ap joined_by_blanks say.are
 
--- where the text of a say starts
+-- the place at which the text of a `say` starts
 pub say_start : (text : List ℕ) (said : Said) (s : IsSaid (words_of text) said)
     → (said.start ≤ length text) × (drop said.start text ≡ joined_by_blanks (s.say.first ∷ s.say.more))
 say_start text said s =
@@ -54,7 +54,7 @@ say_start text said s =
       (λ i. drop (sym long i) (is i)) ∙ drop-append_seam front tail,
     )
 
--- a text that is no say and spells no call of a script is no item
+-- a text that is no `say` and spells no call of a script is no item
 pub no_item : (text : List ℕ) (r : Result (Option Event) NoMemory)
     → ((e : Event) → IsSay text e → ⊥)
     → IfOk r (λ found. IfNone found ((e : Event) → Spells text e → is_item e ≡ false))

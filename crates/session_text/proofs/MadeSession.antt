@@ -1,9 +1,9 @@
--- A session made of parts is the one of their value.
+-- A session that is made of parts is the session of their value.
 use Rattle.std.proofs.Common.{◌≡◌, ℕ, ◌+◌, List, [], ◌∷◌, ◌++◌, length, map, refl, subst, sym, ap, ◌∙◌}
 use Rattle.std.proofs.lemmas.List.{length-map}
 use Rattle.key_compile.specs.Compiled.{AreTablesOf}
 use Rattle.vt_base.specs.Bytes.{Text}
-use Rattle.vt_events.specs.Plain.{text}
+use Rattle.vt_events.specs.Kinds.{text}
 use Rattle.session_text.specs.Parts.{AreOf, IsMadeOf}
 use Rattle.session_text.specs.Sessions.{IsSessionOf, SessionValue, SessionView, keys_of, script_of}
 use Rattle.session_text.specs.declared.opening.SessionHeader.{SessionHeader}
@@ -12,7 +12,7 @@ use Rattle.session_text.specs.declared.process.Process.{Process}
 use Rattle.session_text.specs.declared.program.Program.{Program}
 use Rattle.session_text.specs.declared.program.Program.TheVariants as programs
 
--- the programs of keyboards that have these bytes
+-- the programs of keyboards with these scan bytes
 keys_programs : (further : List (List ℕ)) → map (λ keys. programs.Keys keys) (map text further) ≡ map keys_of further
 keys_programs [] = refl
 keys_programs (keys ∷ further) = ap (λ ps. keys_of keys ∷ ps) (keys_programs further)

@@ -1,4 +1,4 @@
--- The text of a hook says one thing only.
+-- The text of a hook has one meaning.
 use Rattle.std.proofs.Common.{◌≡◌, ℕ, ◌+◌, ◌<◌, ◌^◌, Some, List, [], ◌∷◌, decimal, Ok, Err, refl, ap, sym, ◌∙◌, true≢false, arith}
 use Rattle.std.proofs.lemmas.Fmt.{decimal_injective}
 use Rattle.sig_hooks.specs.declared.act.Act.{Act}
@@ -11,7 +11,7 @@ use Rattle.session_text.proofs.OneResult.{IsOne, bind_one}
 same_number : (n m : ℕ) → n < 2 ^ 16 → m < 2 ^ 16 → decimal n ≡ decimal m → n ≡ m
 same_number n m low lower same = decimal_injective n m (omega arith) (omega arith) same
 
--- words are one act
+-- words spell one act at most
 one_act : (words : List (List ℕ)) (a b : Act) → IsAct words a → IsAct words b → a ≡ b
 one_act words acts.Nothing acts.Nothing this other = refl
 one_act words acts.Nothing (acts.Disp fd arg) this other = let are = other.0 in cc

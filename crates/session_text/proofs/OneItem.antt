@@ -1,11 +1,13 @@
--- The text of a script item says one thing only.
+-- The text of a script item has one meaning.
 use Rattle.std.proofs.Common.{◌≡◌, ℕ, Bool, false, eqb, refl, true≢false, List, ◌∷◌, codes, decimal, Ok, Err, inl, inr, ap, sym, ◌∙◌, arith}
 use lib.Pointwise.{pointwise}
 use Rattle.std.proofs.lemmas.Fmt.{decimal_injective}
-use Rattle.vt_events.specs.Plain.{text as bytes_of}
+use Rattle.vt_events.specs.Calls.{kind_of}
+use Rattle.vt_events.specs.Kinds.{name_of, text as bytes_of}
 use Rattle.vt_events.specs.declared.event.Event.{Event}
 use Rattle.vt_events.specs.declared.event.Event.TheVariants as event
-use Rattle.vt_journal.specs.Calls.{name_of}
+use Rattle.vt_events.specs.declared.kind.Kind.{Kind}
+use Rattle.vt_events.specs.declared.kind.Kind.TheVariants as kind
 use Rattle.vt_journal.specs.Words.{CallsAreCut, OneCall, Spells, joined_by_blanks}
 use Rattle.session_text.specs.ItemTexts.{IsItem, IsSay, item_says}
 use Rattle.session_text.proofs.OneResult.{IsOne}
@@ -13,20 +15,20 @@ use Rattle.session_text.proofs.OneResult.{IsOne}
 abbrev is_say : List ℕ → Bool
 is_say name = pointwise eqb name (codes "say")
 
--- no call is named so
-other_name : (e : Event) → is_say (name_of e) ≡ false
-other_name (event.Scan b) = refl
-other_name e = refl
+-- no kind of calls has the name `say`
+other_name : (k : Kind) → is_say (name_of k) ≡ false
+other_name kind.Exit = refl
+other_name k = refl
 
--- a say spells no call
+-- the text of a `say` spells no call
 say_spells : CallsAreCut → (text : List ℕ) (d e : Event) → Spells text d → IsSay text e → ⊥
 say_spells cut text d e call say =
     let is = cut text d call in
     let are = say.say.are in
-    let name : name_of d ≡ codes "say" = cc in
-    true≢false (sym (ap is_say name) ∙ other_name d)
+    let name : name_of (kind_of d) ≡ codes "say" = cc in
+    true≢false (sym (ap is_say name) ∙ other_name (kind_of d))
 
--- a say is one write
+-- the text of a `say` is one write
 one_say : (text : List ℕ) (d e : Event) → IsSay text d → IsSay text e → d ≡ e
 one_say text d e this other =
     let is = this.say.are in

@@ -1,9 +1,9 @@
--- What says one thing only.
+-- Relations that give one result at most.
 use Rattle.std.proofs.Common.{◌≡◌, ℕ, ◌+◌, List, [], ◌∷◌, Result, Ok, Err, inl, inr, subst, sym, ap, ◌∙◌}
 use Rattle.table_fields.specs.declared.fault.TableFault.{TableFault}
 use Rattle.session_text.specs.Says.{◌>>=◌, each_says, follows, is}
 
--- it says one result at most
+-- the relation has one result at most
 abbrev pub IsOne : {A : Type 0} → (Result A TableFault → Type 0) → Type 0
 IsOne {A = A} says = (a b : Result A TableFault) → says a → says b → a ≡ b
 
@@ -25,7 +25,7 @@ bind_one first more one_first one_more a b this other =
 ok≢err : {A : Type 0} {x : A} {e : TableFault} → Ok x ≡ Err e → ⊥
 ok≢err same = cc
 
--- a list that says its values has no fault
+-- a list with values has no fault
 ok_or_err : {A B : Type 0} (says : ℕ → A → Result B TableFault → Type 0)
     → ((n : ℕ) (x : A) → IsOne (says n x)) → (n : ℕ) (x : A) (xs : List A) (y : B) (ys : List B)
     (e : TableFault) → IsOne (each_says says (n + 1) xs)

@@ -1,4 +1,4 @@
--- A session text says one thing only.
+-- A session text has one meaning.
 use Rattle.std.proofs.Common.{ℕ, codes}
 use Rattle.table_fields.specs.Arrays.{array_of}
 use Rattle.table_fields.specs.Fields.{document_of}

@@ -1,4 +1,4 @@
--- What a list says, one after another.
+-- The meaning of a list, item by item.
 use Rattle.std.proofs.Common.{◌≡◌, ℕ, ◌+◌, ◌<◌, ◌≤◌, length, get_or, map, drop, subst, List, [], ◌∷◌, ◌++◌, Result, Ok, Err, inl, inr, refl, sym, ap}
 use Rattle.std.proofs.lemmas.List.{append_assoc, append-nil, at_drop_more, drop_all}
 use Rattle.table_fields.specs.Collecting.{found_before}
@@ -30,7 +30,7 @@ pub reads_err : {X Y : Type 0} (e : TableError)
 reads_err (errors.Fault f) part whole step says = step f says
 reads_err errors.NoMemory part whole step says = tt
 
--- what was found so far stands in front of what the rest of the list says
+-- the values that were found so far come before those of the rest of the list
 abbrev pub SoFar : {X A B : Type 0} → (ℕ → A → Result B TableFault → Type 0) → (X → A) → List X → ℕ → List B → Type 0
 SoFar {B = B} says g xs i found =
     (said : Result (List B) TableFault) → each_says says (i + 1) (map g (drop i xs)) said

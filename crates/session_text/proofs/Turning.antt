@@ -8,7 +8,7 @@ use Rattle.table_fields.specs.declared.fault.TableFault.{TableFault}
 use Rattle.session_text.specs.Collected.{TurnsSoFar}
 use Rattle.session_text.specs.Turns.{is_there}
 
--- of few processes, and four keyboards at most, no turn is past 67
+-- with few processes, and four keyboards at most, no turn is past 67
 pub turn_low : (processes keyboards n : ℕ) → keyboards ≤ 4 → is_there processes keyboards n ≡ true
     → processes ≤ 64 → n ≤ 67
 turn_low processes keyboards n some there few = ⊎_elim
@@ -16,7 +16,7 @@ turn_low processes keyboards n some there few = ⊎_elim
     (λ both. omega (arith, ltb-true n (64 + keyboards) (and_parts (nat_lt 64 n) (nat_lt n (64 + keyboards)) both).1, some))
     (or_cases (nat_le n processes) (nat_lt 64 n && nat_lt n (64 + keyboards)) there)
 
--- a turn that is kept is one of somebody who is there
+-- the byte of a turn that is kept is the number of a caller that is there
 pub turn_there : (processes keyboards n : ℕ) → keyboards ≤ 4 → is_there processes keyboards n ≡ true
     → is_there processes keyboards (min n 67) ≡ true
 turn_there processes keyboards n some there = ⊎_elim
@@ -34,7 +34,7 @@ turn_there processes keyboards n some there = ⊎_elim
     ap (is_there processes keyboards) same ∙ there)
     (cases_lt 67 n)
 
--- behind those that were found and one more
+-- the turns that were found, one more, and those after it
 behind_one : (found : List ℕ) (n : ℕ) (more : Result (List ℕ) TableFault)
     → found_before (found ++ n ∷ []) more ≡ found_before found (more >>= (λ ns. Ok (n ∷ ns)))
 behind_one found n (Ok ns) = ap Ok (append_assoc found (n ∷ []) ns)

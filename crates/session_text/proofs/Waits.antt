@@ -1,4 +1,4 @@
--- Behind a call that was answered wait, a program has only waitend.
+-- After a call with the answer `wait`, a program has only `waitend`.
 use Rattle.std.proofs.Common.{◌≡◌, ℕ, Bool, true, false, List, [], ◌∷◌, ◌++◌, Option, Some, None, sym}
 use Rattle.std.proofs.lemmas.Option.{none-some, same_Some}
 use Rattle.std.specs.Prelude.{if◌then◌else◌}
@@ -10,13 +10,13 @@ use Rattle.vt_events.specs.Waits.{is_wait}
 use Rattle.vt_events.specs.declared.event.Event.{Event}
 use Rattle.vt_events.specs.declared.event.Event.TheVariants as event
 
--- what these calls have behind one that was answered wait
+-- the next call after a call with the answer `wait`
 abbrev Ended : (List Call → Option Event) → Type 0
 Ended f =
     (made : List Call) (c : Call) (e : Event) → is_wait c.reply ≡ true
     → f (made ++ c ∷ []) ≡ Some e → e ≡ event.WaitEnd
 
--- what follows a call: nothing, its waitend and the rest, or the rest
+-- the calls that follow a call: none, its waitend and the rest, or the rest
 abbrev following : Bool → Bool → (List Call → Option Event) → List Call → Option Event
 following over waits behind more =
     if over then None else (if waits then calls event.WaitEnd behind more else behind more)

@@ -1,4 +1,4 @@
--- What a walk that stands for calls has left.
+-- The calls that are left after a walk through a program.
 use Rattle.std.proofs.Common.{◌≡◌, ℕ, Bool, true, false, List, [], ◌∷◌, ◌++◌, Option, Some, None, drop, cond, lit≤, Result, Ok, Err, IfOk, true≢false, refl, sym, ap, subst, ◌∙◌, ◌+◌}
 use Rattle.std.proofs.lemmas.List.{append-nil, append_assoc}
 use Rattle.vt_base.specs.Bytes.{Text}
@@ -55,11 +55,7 @@ moves_stands p w moved r made e m s is = record {
 }
 
 ends_plain : (e : Event) (r : Reply) → ends e r ≡ ends (plain_event e) r
-ends_plain (event.Write fd b) r = refl
-ends_plain (event.SetFunc fd i b) r = refl
-ends_plain (event.SetDia fd b) r = refl
-ends_plain (event.SetMap fd b) r = refl
-ends_plain (event.SetPal fd b) r = refl
+ends_plain event.Exit r = refl
 ends_plain e r = refl
 
 turn : (e : Event) (r : Reply) (more : List Call) (behind after : List Call → Option Event) (over waiting : Bool)
@@ -75,7 +71,7 @@ turn e r more behind after false false over_is waiting_is same =
     (λ i. cond (sym over_is i) None
     (cond (sym waiting_is i) (calls event.WaitEnd (same refl i) more) (same refl i more)))
 
--- a walk moves where a call is left first, and it moves to what is behind that
+-- a walk moves if its first call is made, and moves to the calls after that one
 pub moves_by : (p : Program) (w moved : Place) (r : Reply) (e : Event) (behind : List Call → Option Event)
     → rest_of_calls p w [] ≡ Some e
     → ((f : Event) (more : List Call) → rest_of_calls p w (call f r ∷ more) ≡ calls e behind (call f r ∷ more))
@@ -89,12 +85,12 @@ moves_by p w moved r e behind first then over waiting same = record {
       ∙ turn e r more behind (ahead p moved) moved.over moved.waiting over waiting same;
 }
 
--- what is left where neither the program is over nor its wait is to end
+-- the calls that are left if the program isn't over and no wait has to end
 pub left_ahead : (p : Program) (w : Place) → w.over ≡ false → w.waiting ≡ false → rest_of_calls p w ≡ ahead p w
 left_ahead p w over waiting =
     (λ i. cond (over i) nothing (cond (waiting i) (calls event.WaitEnd (ahead p w)) (ahead p w)))
 
--- a walk moves where what is left is a call and what is behind it
+-- a walk moves if the calls that are left are one call and those after it
 pub moves_along : (p : Program) (w moved : Place) (r : Reply) (e : Event) (behind : List Call → Option Event)
     → w.over ≡ false → w.waiting ≡ false → ahead p w ≡ calls e behind
     → moved.over ≡ ends e r → moved.waiting ≡ is_wait r → (moved.over ≡ false → behind ≡ ahead p moved)
@@ -109,7 +105,7 @@ ahead_same : (p : Program) (w : Place) (waiting over : Bool)
 ahead_same (program.Keys bytes) w waiting over = refl
 ahead_same (program.Script items table) w waiting over = refl
 
--- its wait ended, or didn't
+-- the wait of the walk ended, or didn't
 pub wait_moves : (p : Program) (w moved : Place) (r : Reply) → w.over ≡ false → w.waiting ≡ true
     → moved ≡ record w { waiting = is_wait r; over = is_gone r } → Moves p w r moved
 wait_moves p w moved r over waiting is =
@@ -130,7 +126,7 @@ scan_moves bytes w moved r b over waiting next_is is =
     (moves_along (program.Keys bytes) w _ r (event.Scan b) (scans (drop (w.item + 1) bytes.bytes))
     over waiting (ap scans next_is) refl refl (λ _. refl))
 
--- exit was called behind the last scan byte
+-- exit was called after the last scan byte
 pub scan_exit_moves : (bytes : Text) (w moved : Place) (r : Reply)
     → w.over ≡ false → w.waiting ≡ false → drop w.item bytes.bytes ≡ []
     → moved ≡ record w { waiting = is_wait r; over = true } → Moves (program.Keys bytes) w r moved
@@ -139,7 +135,7 @@ scan_exit_moves bytes w moved r over waiting next_is is =
     (moves_along (program.Keys bytes) w _ r event.Exit nothing
     over waiting (ap scans next_is) refl refl (λ t. absurd (true≢false t)))
 
--- what is left of a script whose acts are to be made
+-- the calls that are left of a script with acts to make
 script_acting : (table : List Act) (items : Listed) (w : Place) (left : List Event) → w.taking ≡ false
     → calls_from table w.given w.signal ≡ left
     → ahead (program.Script items table) w
@@ -182,7 +178,7 @@ starts (program.Script items table) given none = record {
       (sym (calls_from_end table given 65 (lit≤ tt)));
 }
 
--- what is ahead is the next call
+-- the first call that is ahead is the next call
 pub ahead_next : (p q : Program) (w : Place) (result : Result (Option Event) NoMemory)
     → w.over ≡ false → w.waiting ≡ false → p ≡ q
     → IfOk result (λ e. e ≡ ahead q w [])

@@ -1,4 +1,4 @@
--- Whose program is which of a session's programs.
+-- The program of each caller among a session's programs.
 use Rattle.std.proofs.Common.{◌≡◌, ℕ, ◌+◌, ◌-◌, ◌<◌, ◌≤◌, zero, suc, Bool, true, false, ◌&&◌, nat_le, nat_lt, cond, ⊎_elim, List, [], ◌∷◌, ◌++◌, filter, length, Some, None, refl, sym, ap, ◌∙◌, arith}
 use Rattle.std.proofs.lemmas.Bool.{and_parts, both_ways, cases_Bool, cases_eq, false_from_ne_true, le-leb, leb-true, lt-ltb, ltb-true, ne_eqb, or_cases, or_left, or_right}
 use Rattle.std.proofs.lemmas.List.Elements.{All-head, All-tail, filter-append}
@@ -27,7 +27,7 @@ are_keys : (p : Program) → IsKeysProgram p → is_keys p ≡ true
 are_keys (program.Keys bytes) is = refl
 are_keys (program.Script items table) is = absurd is
 
--- no script is among scan bytes
+-- the programs of keyboards contain no script
 no_scripts : (keys : List Program) (k : ℕ) → All IsKeysProgram keys → script_in (slice_get keys k) ≡ None
 no_scripts [] k are = refl
 no_scripts (p ∷ keys) zero are = no_script p (All-head IsKeysProgram p keys are)
@@ -83,14 +83,14 @@ some_within list k = ⊎_elim
     (λ low. absurd (let no : ⊥ = omega (arith, ltb-true k (length list) low, past.0) in no))))
     (slice_get_cases list k).1
 
--- two tests that tell the same are the same
+-- two tests that imply each other are equal
 same_test : (a b : Bool) → (a ≡ true → b ≡ true) → (b ≡ true → a ≡ true) → a ≡ b
 same_test true true there back = refl
 same_test true false there back = sym (there refl)
 same_test false true there back = back refl
 same_test false false there back = refl
 
--- among the keyboards
+-- a caller above 64 is there if it is one of the keyboards
 there_above : (processes keyboards p : ℕ) → processes ≤ 64 → 64 < p
     → nat_lt (p - 64) keyboards ≡ is_there processes keyboards p
 there_above processes keyboards p few high =
@@ -108,7 +108,7 @@ there_above processes keyboards p few high =
     lt-ltb (p - 64) keyboards less)
     (or_cases (nat_le p processes) (nat_lt 64 p && nat_lt p (64 + keyboards)) there))
 
--- among the processes
+-- a caller from 1 to 64 is there if it is one of the processes
 there_below : (processes keyboards p : ℕ) → (p ≡ 0 → ⊥) → nat_lt 64 p ≡ false
     → nat_lt (p - 1) processes ≡ is_there processes keyboards p
 there_below processes keyboards p apart low =
@@ -135,7 +135,7 @@ pub some_first : (processes keyboards : ℕ) (list : List Program) → AreProgra
 some_first processes keyboards list a =
     ap (λ ps. is_some (slice_get ps 0)) (keys_in processes keyboards list a)
 
--- a further keyboard has one where it is there
+-- a further keyboard that is there has a program
 pub some_keyboard : (processes keyboards : ℕ) (list : List Program) → ArePrograms processes keyboards list
     → (p : ℕ) → nat_lt 64 p ≡ true → is_some (program_of list p) ≡ nat_lt (p - 64) keyboards
 some_keyboard processes keyboards list a p high =
@@ -147,7 +147,7 @@ some_keyboard processes keyboards list a p high =
     ∙ some_within (a.first ∷ a.further) (p - 64)
     ∙ ap (nat_lt (p - 64)) many
 
--- so does a process
+-- a process that is there has a program
 pub some_process : (processes keyboards : ℕ) (list : List Program) → ArePrograms processes keyboards list
     → (p : ℕ) → (p ≡ 0 → ⊥) → nat_lt 64 p ≡ false
     → is_some (program_of list p) ≡ nat_lt (p - 1) processes

@@ -36,7 +36,7 @@ IsAct words (acts.Put fd byte) =
     × (lower_byte_of digits ≡ Some byte)
 IsAct words acts.Leave = words ≡ codes "leave" ∷ []
 
--- a word is a signal that can have a hook: from 1 to 64, but 9 (SIGKILL)
+-- a word is a signal that can have a hook: 1 to 64 except 9 (SIGKILL)
 pub record IsHooked (word : List ℕ) (signal : ℕ) : Type 0 where
   pub is : decimal signal ≡ word
   pub low : 1 ≤ signal
@@ -48,7 +48,7 @@ abbrev pub IsHook : List (List ℕ) → ℕ → Act → Type 0
 IsHook [] signal act = ⊥
 IsHook (word ∷ words) signal act = IsHooked word signal × IsAct words act
 
--- a place in a fault stands still at the greatest number of 32 bits
+-- a place in a fault doesn't rise above the greatest number of 32 bits
 abbrev pub place : ℕ → ℕ
 place n = min n (2 ^ 32 - 1)
 
@@ -62,7 +62,7 @@ with_hook signal act hooked = record {
   signals = with_signal hooked.signals signal;
 }
 
--- a text is a hook for a signal that has none yet; else 26 at its place
+-- a text is a hook for a signal that has none yet; otherwise the fault is 26 at its place
 abbrev pub hook_says : ℕ → ℕ → Hooked → List ℕ → Result Hooked TableFault → Type 0
 hook_says p item hooked text (Ok after) =
     (signal : ℕ) × (act : Act) × IsHook (words_of text) signal act
@@ -72,7 +72,7 @@ hook_says p item hooked text (Err e) =
     → has_signal hooked.signals signal ≡ true)
     × (e ≡ fault HOOK p item)
 
--- the texts of process p are hooks behind those that there are, counted from n
+-- the texts of process p are hooks in addition to those that there are, counted from n
 abbrev pub hooks_say : ℕ → ℕ → Hooked → List (List ℕ) → Result Hooked TableFault → Type 0
 hooks_say p n hooked [] said = said ≡ Ok hooked
 hooks_say p n hooked (text ∷ texts) said =

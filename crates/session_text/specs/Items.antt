@@ -1,4 +1,4 @@
--- What contracts see of `Items`.
+-- The view that contracts have of `Items`.
 use Rattle.std.specs.Prelude.{ℕ, List}
 use Rattle.vt_events.specs.declared.event.Event.{Event}
 

@@ -1,4 +1,4 @@
--- What a session begins with: the numbers at the top of its table. This project's own.
+-- The numbers at the top of a session's table. This project's own.
 use Rattle.std.specs.Int.RustNames.{bit_or}
 use Rattle.std.specs.List.{range_with_len}
 use Rattle.std.specs.Prelude.{ℕ, ℤ, ◌-◌, ◌^◌, ◌≤◌, not, Option, Some, None, Result, Ok, Err, List, [], ◌∷◌, codes, find, ok_or}
@@ -11,7 +11,7 @@ use Rattle.toml.specs.Data.{Data, Members, as_integer, get_member}
 use Rattle.vt_base.specs.ConsoleSet.{IsFitSet, is_among}
 use Rattle.session_text.specs.declared.opening.SessionHeader.{SessionHeader}
 
--- the consoles of a list beside those of a set: each from 1 to 63, and none twice
+-- the consoles of a list in addition to those of a set: each from 1 to 63, and none twice
 abbrev pub consoles_in : ℕ → List ℤ → Result ℕ TableFault
 consoles_in set [] = Ok set
 consoles_in set (z ∷ zs) = do
@@ -19,12 +19,12 @@ consoles_in set (z ∷ zs) = do
   new ← check (not (is_among set n)) (fault OUT_OF_RANGE 0 3)
   consoles_in (bit_or set (2 ^ n)) zs
 
--- there is at least one
+-- a list of consoles has at least one
 abbrev pub some_consoles : List ℤ → Result ℕ TableFault
 some_consoles [] = Err (fault OUT_OF_RANGE 0 3)
 some_consoles (z ∷ zs) = consoles_in 0 (z ∷ zs)
 
--- the consoles at a key, without one console 1
+-- the consoles at a key (default: console 1)
 abbrev pub consoles_of : Option Data → Result ℕ TableFault
 consoles_of None = Ok 2
 consoles_of (Some d) = array_of as_integer 0 3 (Some d) >>= some_consoles
@@ -33,7 +33,7 @@ consoles_of (Some d) = array_of as_integer 0 3 (Some d) >>= some_consoles
 unfoldable pub lowest_from : ℕ → ℕ → Option ℕ
 lowest_from set n = find (is_among set) (range_with_len n (64 - n))
 
--- the console in front, without one the lowest of the set: one of them
+-- the console in front, which is one of the set (default: the lowest of the set)
 abbrev pub front_of : ℕ → Option Data → Result ℕ TableFault
 front_of set None = ok_or (lowest_from set 1) (fault OUT_OF_RANGE 0 4)
 front_of set (Some d) = do
@@ -59,7 +59,7 @@ opening_of members = do
     bytes = bytes;
   })
 
--- what an opening keeps to
+-- the bounds that every opening keeps
 pub record IsOpening (o : SessionHeader) : Type 0 where
   pub rows : (1 ≤ o.rows) × (o.rows ≤ 255)
   pub cols : (1 ≤ o.cols) × (o.cols ≤ 255)

@@ -8,7 +8,7 @@ use Rattle.toml.specs.View.{table_view}
 use Rattle.toml.specs.declared.value.Value.{Value}
 use Rattle.table_fields.specs.Fields.{most_scan_bytes}
 use Rattle.vt_base.specs.Bytes.{Text}
-use Rattle.vt_events.specs.Plain.{text}
+use Rattle.vt_events.specs.Kinds.{text}
 use Rattle.session_text.specs.Keyboards.{IsKeyboardOf}
 use Rattle.session_text.specs.Openings.{IsOpening}
 use Rattle.session_text.specs.Scripts.{IsScript}
@@ -36,7 +36,7 @@ pub record AreFit (parts : SessionParts) : Type 0 where
   pub scripts : All (λ (process : Process). IsScript process.items) parts.processes.items
   pub further : IsFitFurther parts.further.items
 
--- a session's table that was read, but for its processes
+-- the keys of a session's table except its processes, as code reads them
 pub record IsTop (code : CodeTop) (top : Top) : Type 0 where
   pub opening : code.opening ≡ top.opening
   pub keyboard : IsKeyboardOf code.keyboard top.typed
@@ -44,7 +44,7 @@ pub record IsTop (code : CodeTop) (top : Top) : Type 0 where
   pub tables : map (λ (table : Bor (BTreeMap (String Global) Value)). table_view table.now) code.tables.items ≡ top.tables
   pub further : code.further.items ≡ map text top.further
 
--- what is kept of it
+-- the bounds that the code's values of these keys keep
 pub record IsFitTop (code : CodeTop) : Type 0 where
   pub opening : IsOpening code.opening
   pub keys : length code.keyboard.keys.bytes ≤ most_scan_bytes

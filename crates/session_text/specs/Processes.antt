@@ -20,7 +20,7 @@ is_process_key key =
 abbrev pub most_items : ℕ
 most_items = 10240
 
--- what a process has at the start, and the texts of its script
+-- the start of a process, and the texts of its script
 pub record Head : Type 0 where
   pub start : ProcStart
   pub script : List (List ℕ)

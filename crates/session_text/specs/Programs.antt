@@ -9,7 +9,8 @@ use Rattle.vt_base.specs.Keyboards.{keyboard_of}
 use Rattle.vt_base.specs.Signals.{has_signal}
 use Rattle.vt_base.specs.declared.errno.Errno.{Errno}
 use Rattle.vt_base.specs.declared.errno.Errno.TheVariants as errno
-use Rattle.vt_events.specs.Plain.{plain_event, text}
+use Rattle.vt_events.specs.Kinds.{text}
+use Rattle.vt_events.specs.Plain.{plain_event}
 use Rattle.vt_events.specs.Waits.{is_wait}
 use Rattle.vt_events.specs.declared.event.Event.{Event}
 use Rattle.vt_events.specs.declared.event.Event.TheVariants as event
@@ -38,24 +39,24 @@ abbrev pub is_srch : Errno → Bool
 is_srch errno.Srch = true
 is_srch e = false
 
--- the answer ESRCH, which a caller gets that isn't alive
+-- the answer ESRCH, which a caller that isn't alive gets
 abbrev pub is_gone : Reply → Bool
 is_gone (reply.Err e) = is_srch e
 is_gone r = false
 
--- a call that ends its program: exit, and one other than kill that is answered ESRCH; what a kill is
--- answered doesn't tell a dead target from a dead caller
+-- a call that ends its program: exit, and any call except kill with the answer ESRCH; the answer of a kill
+-- doesn't distinguish a dead target from a dead caller
 abbrev pub ends : Event → Reply → Bool
 ends e r = is_exit e || (not (is_kill e) && is_gone r)
 
--- the call e, and what comes behind it; between them waitend as often as the answer is wait
+-- the call e, and the calls after it; between them waitend as often as the answer is wait
 abbrev pub calls : Event → (List Call → Option Event) → List Call → Option Event
 calls e behind [] = Some e
 calls e behind (c ∷ made) =
     if ends c.event c.reply then None
     else (if is_wait c.reply then calls event.WaitEnd behind made else behind made)
 
--- each of these calls, and what comes behind them
+-- each of these calls, and the calls after them
 abbrev pub all_calls : List Event → (List Call → Option Event) → List Call → Option Event
 all_calls [] behind = behind
 all_calls (e ∷ events) behind = calls e (all_calls events behind)
@@ -66,14 +67,14 @@ nothing made = None
 abbrev pub exits : List Call → Option Event
 exits = calls event.Exit nothing
 
--- the call that an act is, None where it is nothing
+-- the call that an act makes, None if the act is nothing
 abbrev pub act_call : Act → Option Event
 act_call acts.Nothing = None
 act_call (acts.Disp fd arg) = Some (event.RelDisp fd arg)
 act_call (acts.Put fd byte) = Some (event.Write fd (text (byte ∷ [])))
 act_call acts.Leave = Some event.Exit
 
--- the act at signal s, nothing where the set has no s
+-- the act at signal s, nothing if the set doesn't contain s
 abbrev pub act_at : List Act → ℕ → ℕ → Act
 act_at table set s = if has_signal set s then act_of table s else acts.Nothing
 
@@ -87,13 +88,13 @@ abbrev pub signals_in : Reply → ℕ
 signals_in (reply.Sigs set) = set
 signals_in r = 0
 
--- the signals are taken; the acts at those that were given follow, and what comes behind them
+-- the signals are taken; the acts at the signals of the answer follow, and the calls after them
 abbrev pub takes : List Act → (List Call → Option Event) → List Call → Option Event
 takes table behind [] = Some event.TakeSignals
 takes table behind (c ∷ made) =
     calls event.TakeSignals (all_calls (calls_from table (signals_in c.reply) 1) behind) (c ∷ made)
 
--- each item, with the signals taken behind it; then exit
+-- each item, after which the signals are taken; then exit
 abbrev pub script : List Act → List Event → List Call → Option Event
 script table [] = exits
 script table (item ∷ items) = calls (plain_event item) (takes table (script table items))
@@ -103,7 +104,7 @@ abbrev pub scans : List ℕ → List Call → Option Event
 scans [] = exits
 scans (b ∷ bytes) = calls (event.Scan b) (scans bytes)
 
--- the next call of a program, None where it is over
+-- the next call of a program, None if it is over
 abbrev pub next : Program → List Call → Option Event
 next (program.Keys bytes) = scans bytes.bytes
 next (program.Script items table) = script table items.events
@@ -112,7 +113,7 @@ abbrev pub is_keys : Program → Bool
 is_keys (program.Keys bytes) = true
 is_keys (program.Script items table) = false
 
--- what stands there, where it is a script
+-- the program, if it is a script
 abbrev pub script_in : Option Program → Option Program
 script_in None = None
 script_in (Some (program.Keys bytes)) = None
@@ -127,11 +128,11 @@ program_by programs p (Some k) = slice_get (filter is_keys programs) k
 abbrev pub program_of : List Program → ℕ → Option Program
 program_of programs p = program_by programs p (keyboard_of p)
 
--- a program that was walked so has no next call
+-- a program has no next call after these calls
 abbrev pub IsOver : Program → List Call → Type 0
 IsOver p made = next p made ≡ None
 
--- behind a call that was answered wait, a program has waitend, or nothing
+-- after a call with the answer wait, a program has waitend or no call
 abbrev pub WaitsAreEnded : Type 0
 WaitsAreEnded =
     (p : Program) (made : List Call) (c : Call) (e : Event) → is_wait c.reply ≡ true

@@ -25,7 +25,7 @@ process_says p members = do
   hooked ← hooks_say p 1 no_hooks texts
   is (Ok (record { start = head.start; items = make_listed items; hooks = hooked.acts }))
 
--- a script has at most so many items, all of which it may have
+-- a script has at most the greatest number of items, each of which a script may have
 pub record IsScript (items : Listed) : Type 0 where
   pub few : length items.events ≤ most_items
   pub all : All (λ e. is_item e ≡ true) items.events

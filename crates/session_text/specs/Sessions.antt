@@ -1,4 +1,5 @@
--- Sessions: what the callers of a console have and do, and the text that says it. This project's own.
+-- Sessions: the start of a machine, the programs of its callers, and the text that defines them. This project's
+-- own.
 use Rattle.std.specs.Prelude.{◌≡◌, ℕ, ◌+◌, ◌≤◌, true, Option, Some, None, Result, Ok, List, [], ◌∷◌, ◌++◌, is_some, length, map, slice_get}
 use Rattle.std.specs.List.{All}
 use Rattle.key_compile.specs.Compiled.{AreTablesOf}
@@ -8,7 +9,7 @@ use Rattle.table_fields.specs.Fields.{document_of, most_scan_bytes}
 use Rattle.table_fields.specs.declared.fault.TableFault.{TableFault}
 use Rattle.toml.specs.Data.{Members}
 use Rattle.vt_base.specs.ConsoleSet.{IsFitSet}
-use Rattle.vt_events.specs.Plain.{text}
+use Rattle.vt_events.specs.Kinds.{text}
 use Rattle.vt_journal.specs.declared.limits.Limits.{Limits}
 use Rattle.vt_procs.specs.Callers.{IsFitCount}
 use Rattle.vt_procs.specs.declared.config.Config.{Config}
@@ -23,7 +24,7 @@ use Rattle.session_text.specs.declared.process.Process.{Process}
 use Rattle.session_text.specs.declared.program.Program.{Program}
 use Rattle.session_text.specs.declared.program.Program.TheVariants as programs
 
--- what contracts see of `Session`
+-- the view that contracts have of `Session`
 pub record SessionView : Type 0 where
   pub config : Config
   pub tables : Tables
@@ -39,8 +40,8 @@ abbrev pub IsKeysProgram : Program → Type 0
 IsKeysProgram (programs.Keys bytes) = length bytes.bytes ≤ most_scan_bytes
 IsKeysProgram (programs.Script items acts) = ⊥
 
--- the first keyboard's scan bytes, then a script for each of so many processes, and then the scan bytes
--- of the further ones of so many keyboards
+-- the first keyboard's scan bytes, then a script for each of so many processes, and then the scan bytes of the
+-- further ones of so many keyboards
 pub record ArePrograms (processes keyboards : ℕ) (list : List Program) : Type 0 where
   pub first : Program
   pub scripts : List Program
@@ -51,13 +52,13 @@ pub record ArePrograms (processes keyboards : ℕ) (list : List Program) : Type 
   pub each_script : All IsScriptProgram scripts
   pub each_keys : All IsKeysProgram (first ∷ further)
 
--- who is there has a program, and nobody else
+-- exactly the callers that are there have a program
 abbrev pub CallersHavePrograms : Type 0
 CallersHavePrograms =
     (processes keyboards : ℕ) (list : List Program) → processes ≤ 64 → ArePrograms processes keyboards list
     → (p : ℕ) → is_some (program_of list p) ≡ is_there processes keyboards p
 
--- what a session keeps to
+-- the facts that hold of every session
 pub record IsSession (s : SessionView) : Type 0 where
   pub fit : IsFitSet s.config.consoles s.config.front
   pub keyboards : IsFitCount s.config.keyboards
@@ -76,7 +77,7 @@ acts_in (Some (programs.Script items acts)) = acts
 abbrev pub acts_of : SessionView → ℕ → List Act
 acts_of s p = acts_in (slice_get s.programs p)
 
--- what a session's table says
+-- the values of a session's table
 pub record SessionValue : Type 0 where
   pub opening : SessionHeader
   pub typed : Typed
@@ -84,7 +85,7 @@ pub record SessionValue : Type 0 where
   pub processes : List Process
   pub further : List (List ℕ)
 
--- a session's table: all but its processes, and then these, in the order of the checks
+-- a session's table: all keys except its processes, and then these, in the order of the checks
 abbrev pub session_at : Members → Result SessionValue TableFault → Type 0
 session_at members = do
   top ← is (top_of members)
@@ -97,13 +98,13 @@ session_at members = do
     further = top.further;
   }))
 
--- what a session text says: its session, or its first fault
+-- the meaning of a session text: its session, or its first fault
 abbrev pub session_says : List ℕ → Result SessionValue TableFault → Type 0
 session_says input = do
   members ← is (document_of input)
   session_at members
 
--- a text says one thing only
+-- a text has one meaning
 abbrev pub OneSession : Type 0
 OneSession =
     (text : List ℕ) (a b : Result SessionValue TableFault)

@@ -1,4 +1,4 @@
--- A session's table but for its processes. This project's own.
+-- A session's table except its processes. This project's own.
 use Rattle.std.specs.Prelude.{ℕ, Bool, ◌||◌, nat_le, Result, Ok, List, length, codes}
 use lib.Pointwise.{pointwise}
 use lib.Dec.{eqb}
@@ -27,7 +27,7 @@ is_top_key key =
     || pointwise eqb key (codes "turns")) || pointwise eqb key (codes "process"))
     || pointwise eqb key (codes "more_keys")
 
--- what a session's table says, with the tables of its processes as they stand
+-- the values of a session's table, and the tables of its processes, which aren't read yet
 pub record Top : Type 0 where
   pub opening : SessionHeader
   pub typed : Typed

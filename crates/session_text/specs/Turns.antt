@@ -20,7 +20,7 @@ abbrev pub turn_in : ℕ → ℕ → TableFault → ℤ → Result ℕ TableFaul
 turn_in processes keyboards bad (pos n) = if is_there processes keyboards n then Ok n else Err bad
 turn_in processes keyboards bad (negsuc n) = Err bad
 
--- the turns at a key: 28 at the first that isn't the number of a caller that is there
+-- the turns at a key: fault 28 at the first that isn't the number of a caller that is there
 abbrev pub turns_of : ℕ → ℕ → Option Data → Result (List ℕ) TableFault
 turns_of processes keyboards d = do
   turns ← array_of as_integer 0 10 d

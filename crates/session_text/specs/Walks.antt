@@ -1,4 +1,4 @@
--- Where a walk through a program stands.
+-- The place of a walk through a program.
 use Rattle.std.specs.Prelude.{◌≡◌, ℕ, Bool, Option, Some, List, [], ◌∷◌, ◌++◌, drop, if◌then◌else◌}
 use Rattle.sig_hooks.specs.declared.act.Act.{Act}
 use Rattle.vt_events.specs.declared.event.Event.{Event}
@@ -8,7 +8,7 @@ use Rattle.session_text.specs.Programs.{Call, all_calls, call, calls, calls_from
 use Rattle.session_text.specs.declared.program.Program.{Program}
 use Rattle.session_text.specs.declared.program.Program.TheVariants as program
 
--- what contracts see of `Walk`
+-- the view that contracts have of `Walk`
 pub record Place : Type 0 where
   -- how many items or scan bytes were called
   pub item : ℕ
@@ -22,25 +22,25 @@ pub record Place : Type 0 where
   -- nothing is called any more
   pub over : Bool
 
--- what is called from there on, but for waitend
+-- the calls from there on, except waitend
 abbrev pub ahead : Program → Place → List Call → Option Event
 ahead (program.Keys bytes) w = scans (drop w.item bytes.bytes)
 ahead (program.Script items table) w =
     (if w.taking then takes table else all_calls (calls_from table w.given w.signal))
     (script table (drop w.item items.events))
 
--- what is called from there on
+-- the calls from there on
 abbrev pub rest_of_calls : Program → Place → List Call → Option Event
 rest_of_calls p w =
     if w.over then nothing
     else (if w.waiting then calls event.WaitEnd (ahead p w) else ahead p w)
 
--- the walk stands where these calls of the program were made: whatever follows them, what is left is
--- called
+-- the walk stands after these calls of the program: whatever follows them, the calls that are left are the next
+-- ones
 pub record Stands (p : Program) (w : Place) (made : List Call) : Type 0 where
   pub same : (more : List Call) → next p (made ++ more) ≡ rest_of_calls p w more
 
--- the call that is left first is made, and the walk moves behind it
+-- the first call that is left is made, and the walk moves past it
 pub record Moves (p : Program) (w : Place) (r : Reply) (moved : Place) : Type 0 where
   pub same :
       (e : Event) (more : List Call) → rest_of_calls p w [] ≡ Some e

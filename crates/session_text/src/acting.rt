@@ -15,7 +15,7 @@ pub(crate) struct Found {
     pub act: Act,
 }
 
-/// The call that the act is, where it isn't nothing.
+/// The call that the act makes, unless it is nothing.
 pub(crate) fn act_call(alloc: Global, act: Act) -> Result<Option<Event>, NoMemory>
     ensures { IfOk result (λ e. e ≡ act_call act) }
 {
@@ -27,7 +27,7 @@ pub(crate) fn act_call(alloc: Global, act: Act) -> Result<Option<Event>, NoMemor
     })
 }
 
-/// The first act that isn't nothing, of the signals of the set from one on.
+/// The first act that isn't nothing, among the signals of the set from one on.
 pub(crate) fn first_act<H: Asks>(hooks: &H, given: SigSet, from: u16) -> Option<Found>
     requires { 1 ≤ from }
     ensures found { IfSome result (λ found. calls_from (H.acts hooks.now) given from

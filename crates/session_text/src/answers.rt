@@ -1,4 +1,4 @@
-//! What answers mean for a program.
+//! The meaning of answers for a program.
 ghost use Rattle.std.specs.Prelude.{◌≡◌};
 ghost use Rattle.session_text.specs.Programs.{ends, is_gone, signals_in};
 

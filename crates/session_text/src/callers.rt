@@ -15,7 +15,7 @@ pub fn program_of(programs: &[Program], p: CallerNo) -> Option<&Program>
     }
 }
 
-// The program at a place, where it is a script.
+// The program at a place, if it is a script.
 fn script_at(programs: &[Program], place: usize) -> Option<&Program>
     ensures { option_map (λ program. program.now) result ≡ script_in (slice_get programs.now place) }
 {

@@ -4,7 +4,7 @@ ghost use Rattle.std.specs.List.{All};
 ghost use Rattle.table_fields.specs.Checked.{Gives, GivesBy, collect};
 ghost use Rattle.table_fields.specs.Fields.{bytes_of, few_items_of, most_scan_bytes};
 ghost use Rattle.toml.specs.View.{view};
-ghost use Rattle.vt_events.specs.Plain.{text};
+ghost use Rattle.vt_events.specs.Kinds.{text};
 ghost use Rattle.session_text.specs.Keyboards.{further_of, keyboards_of};
 ghost use Rattle.session_text.specs.Parts.{IsFitFurther};
 
@@ -14,7 +14,7 @@ use table_fields::{TableError, count, item_bytes, refused, scan_items, strings};
 use toml::Value;
 use vt_base::Bytes;
 
-/// The most keyboards beside the first.
+/// The most keyboards in addition to the first.
 const MOST_FURTHER: usize = 3;
 
 /// How many keyboards there are, with the first one.
@@ -55,7 +55,7 @@ fn all_items<'a>(alloc: Global, texts: &[&'a str]) -> Result<Vec<Vec<&'a str>>, 
     Ok(found)
 }
 
-// The bytes of each text, of keyboard 1 and the ones behind it.
+// The bytes of each text, of keyboard 1 and the keyboards after it.
 fn all_bytes(alloc: Global, texts: &[Vec<&str>]) -> Result<Vec<Bytes>, TableError>
     requires many { length texts.now ≤ 3 }
     requires few { All (λ items. length items.items ≤ most_scan_bytes) texts.now }

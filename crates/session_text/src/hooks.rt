@@ -10,10 +10,10 @@ use std::alloc::{AllocError, Global};
 use table_fields::{TableError, refused};
 use vt_base::{SigSet, Signal};
 
-/// A text that is no hook, or one for a signal that has a hook already.
+/// The fault of a text that is no hook, or is one for a signal that has a hook already.
 const HOOK: u16 = 26;
 
-/// The hooks of process `part`: 26 at the first text that is none, or whose signal has one already.
+/// The hooks of process `part`: fault 26 at the first text that is no hook, or whose signal has one already.
 pub(crate) fn hooks(alloc: Global, part: u32, texts: &[&str]) -> Result<Hooked, TableError>
     ensures { Reads (λ hooked. hooked) result
         (hooks_say part 1 no_hooks (map (λ text. text.now) texts.now)) }

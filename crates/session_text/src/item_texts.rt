@@ -11,7 +11,7 @@ use vt_base::{Bytes, NoMemory};
 use vt_events::Event;
 use vt_journal::read_event;
 
-// What a say begins with: its descriptor, and where its text starts.
+// The beginning of a `say`: its descriptor, and the place at which its text starts.
 #[derive(Clone, Copy)]
 struct Said {
     fd: u16,
@@ -29,7 +29,7 @@ pub(crate) fn item(alloc: Global, text: &str) -> Result<Option<Event>, NoMemory>
     }
 }
 
-// The call that the text spells, where a script may have it.
+// The call that the text spells, if a script may have it.
 fn call(alloc: Global, text: &str) -> Result<Option<Event>, NoMemory>
     ensures found { IfOk result
         (λ found. IfSome found (λ e. Spells text.now e × (is_item e ≡ true))) }
@@ -56,12 +56,12 @@ fn is_item(e: &Event) -> bool
     )
 }
 
-// A write of the text behind the second blank.
+// A write of the text after the second blank.
 fn say(alloc: Global, text: &str) -> Result<Option<Event>, NoMemory>
     ensures found { IfOk result (λ found. IfSome found (IsSay text.now)) }
     ensures none { IfOk result (λ found. IfNone found ((e : Event) → ¬ IsSay text.now e)) }
 {
-    // Most items are no say, and needn't be cut here to be seen as none.
+    // Most items are no `say`, and needn't be cut into words to see that.
     if !text.as_bytes().starts_with(b"say ") {
         return Ok(None);
     }
@@ -83,7 +83,7 @@ fn bytes_from(text: &str, start: usize) -> &[u8]
     &text.as_bytes()[start..]
 }
 
-// The descriptor of a say, and where its text starts.
+// The descriptor of a `say`, and the place at which its text starts.
 fn read_say(words: &[&str]) -> Option<Said>
     ensures found { IfSome result (IsSaid (map (λ word. word.now) words.now)) }
     ensures none { IfNone result

@@ -12,10 +12,10 @@ use table_fields::{Numbers, TableError, at, integers, number, refused, within};
 use toml::{Table, Value};
 use vt_base::{ConsoleNo, is_among};
 
-/// A wrong kind of value.
+/// The fault of a value of another kind.
 const KIND: u16 = 22;
 
-/// A number out of its range.
+/// The fault of a number out of its range.
 const RANGE: u16 = 23;
 
 /// The rows of a screen.
@@ -39,7 +39,7 @@ const EVENTS: Numbers = Numbers {
     high: 1_000_000,
 };
 
-/// The most bytes that they may count for. This project's own.
+/// The most bytes that the entries may count for. This project's own.
 const BYTES: Numbers = Numbers {
     default: 67_108_864,
     low: 64,
@@ -67,7 +67,7 @@ pub(crate) fn opening(alloc: Global, table: &Table) -> Result<SessionHeader, Tab
     })
 }
 
-// The set of the consoles, without any console 1.
+// The set of the consoles (default: console 1).
 fn consoles(alloc: Global, value: Option<&Value>) -> Result<u64, TableError>
     ensures set { Gives (λ set. set) result
         (consoles_of (option_map (λ v. view v.now) value.entry)) }
@@ -121,7 +121,7 @@ fn bit(n: u64) -> u64
     1 << n
 }
 
-// The console in front, without one the lowest.
+// The console in front (default: the lowest one).
 fn front(consoles: u64, value: Option<&Value>) -> Result<ConsoleNo, TableError>
     ensures front { Gives (λ n. n) result
         (front_of consoles (option_map (λ v. view v.now) value.entry)) }

@@ -17,10 +17,10 @@ use table_fields::{Numbers, TableError, at, flag, number, refused, strings};
 use toml::Table;
 use vt_procs::ProcStart;
 
-/// A key that isn't known.
+/// The fault of a key that isn't known.
 const UNKNOWN_KEY: u16 = 21;
 
-/// More items than there may be.
+/// The fault of more items than there may be.
 const TOO_MANY: u16 = 29;
 
 /// The most items of a script. This project's own.
@@ -33,7 +33,7 @@ const HOMES: Numbers = Numbers {
     high: 63,
 };
 
-// What a process has at the start, and the texts of its script.
+// The start of a process, and the texts of its script.
 #[derive(Drop)]
 struct ProcessTable<'a> {
     start: ProcStart,

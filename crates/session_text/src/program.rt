@@ -2,7 +2,7 @@ use crate::Items;
 use sig_hooks::HookTable;
 use vt_base::Bytes;
 
-/// A program of a caller: its calls, one after another.
+/// A program of a caller: the calls that it makes, in order.
 #[derive(Drop)]
 pub enum Program {
     /// A keyboard's scan bytes, and then exit.

@@ -11,10 +11,10 @@ use std::alloc::Global;
 use table_fields::{TableError, refused};
 use vt_events::Event;
 
-/// A text that is no script item.
+/// The fault of a text that is no script item.
 const ITEM: u16 = 25;
 
-/// The items of process `part`: 25 at the first text that is none.
+/// The items of process `part`: fault 25 at the first text that is no item.
 pub(crate) fn items(alloc: Global, part: u32, texts: &[&str]) -> Result<Items, TableError>
     requires { length texts.now ≤ most_items }
     ensures says { Reads (λ items. items.events) result

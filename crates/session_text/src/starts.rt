@@ -1,4 +1,4 @@
-//! What processes begin with, and their programs.
+//! The starts of processes, and their programs.
 ghost use Rattle.std.specs.Prelude.{◌≡◌, ◌≤◌, ◌∷◌, ◌++◌, length, map, IfOk};
 ghost use Rattle.session_text.specs.Sessions.{script_of};
 ghost use Rattle.session_text.specs.declared.program.Program.TheVariants as programs;
@@ -9,7 +9,7 @@ use std::alloc::Global;
 use vt_base::{Bytes, NoMemory};
 use vt_procs::ProcList;
 
-/// What the processes have at the start.
+/// The starts of the processes.
 pub(crate) fn starts(processes: &[Process]) -> ProcList
     requires { length processes.now ≤ 64 }
     ensures { result ≡ map (λ process. process.start) processes.now }

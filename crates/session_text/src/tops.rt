@@ -1,4 +1,4 @@
-//! A session's table but for its processes.
+//! A session's table except its processes.
 ghost use Rattle.std.specs.Prelude.{◌≡◌, IfOk, string_bytes};
 ghost use Rattle.std.specs.List.{list_all};
 ghost use Rattle.std.specs.Map.{keys_of};
@@ -19,16 +19,16 @@ use table_fields::{TableError, at, count, refused, tables};
 use toml::Table;
 use vt_base::Bytes;
 
-/// A key that isn't known.
+/// The fault of a key that isn't known.
 const UNKNOWN_KEY: u16 = 21;
 
-/// A number out of its range.
+/// The fault of a number out of its range.
 const RANGE: u16 = 23;
 
 /// The most processes. This project's own.
 const PROCESSES: usize = 64;
 
-/// What a session's table says, with the tables of its processes.
+/// The values of a session's table, and the tables of its processes.
 #[derive(Drop)]
 pub(crate) struct SessionTable<'a> {
     pub opening: SessionHeader,

@@ -13,10 +13,10 @@ use vt_base::Bytes;
 /// The most turns. This project's own.
 const MOST_TURNS: usize = 1_000_000;
 
-/// A turn of nobody who is there.
+/// The fault of a turn that isn't the number of a caller that is there.
 const TURN: u16 = 28;
 
-/// More turns than there may be.
+/// The fault of more turns than there may be.
 const TOO_MANY: u16 = 29;
 
 /// The turns, each the number of one of so many processes or keyboards.
@@ -38,7 +38,7 @@ pub(crate) fn turns(
     turn_bytes(alloc, processes as u64, keyboards, numbers.as_slice())
 }
 
-// A turn past 67 stands for a fault that is found later: there are too many processes.
+// A turn past 67 is stored as 67: it needs too many processes, a fault that is found later.
 fn turn_bytes(
     alloc: Global,
     processes: u64,
@@ -59,7 +59,7 @@ fn turn_bytes(
     Ok(bytes)
 }
 
-// The turn that a number is.
+// The turn with this number.
 fn turn(number: i64, processes: u64, keyboards: u8, item: u32) -> Result<u64, TableError>
     ensures turn { Gives (λ t. t) result (turn_in processes keyboards (fault 28 0 item) number) }
     ensures there { IfOk result (λ t. is_there processes keyboards t ≡ true) }

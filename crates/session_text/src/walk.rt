@@ -130,7 +130,7 @@ impl Walk {
         }
     }
 
-    // What comes next of a script, by asking for the acts.
+    // The next call of a script, by asking for the acts.
     fn call_ahead<H: Asks>(
         &self,
         alloc: Global,
@@ -160,7 +160,7 @@ impl Walk {
         }
     }
 
-    // A scan byte was called, or exit.
+    // Records that a scan byte was called, or exit.
     fn took_scan(&mut self, bytes: &Bytes, r: &Reply)
         requires over { self.old.over ≡ false }
         requires waiting { self.old.waiting ≡ false }
@@ -174,7 +174,7 @@ impl Walk {
         self.answered(is_gone(r), r);
     }
 
-    // A call of a script was made.
+    // Records that a call of a script was made.
     fn took_call(&mut self, items: &Items, hooks: &HookTable, r: &Reply)
         requires over { self.old.over ≡ false }
         requires waiting { self.old.waiting ≡ false }
@@ -193,7 +193,7 @@ impl Walk {
         }
     }
 
-    // The signals were taken.
+    // Records that the signals were taken.
     fn took_signals(&mut self, r: &Reply)
         ensures { self.new ≡ record self.old {
           taking = false;
@@ -209,7 +209,7 @@ impl Walk {
         self.answered(is_gone(r), r);
     }
 
-    // An item was called, or exit.
+    // Records that an item was called, or exit.
     fn took_item(&mut self, items: &Items, r: &Reply)
         requires over { self.old.over ≡ false }
         requires waiting { self.old.waiting ≡ false }
@@ -229,7 +229,7 @@ impl Walk {
         self.answered(ends, r);
     }
 
-    // The answer of a call that ends the program or doesn't.
+    // Records the answer of a call, which ends the program or doesn't.
     fn answered(&mut self, ends: bool, r: &Reply)
         ensures { self.new ≡ record self.old { waiting = is_wait r.now; over = ends } }
     {

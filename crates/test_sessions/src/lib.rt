@@ -1,7 +1,8 @@
 //! The texts of sessions that tests of several crates use.
 #![tactic(auto)]
 
-/// Process 1 handles switches by signals, and lets the display go at signal 10; process 2 asks for its own console, 2.
+/// Process 1 handles switches by signals, and lets the display go at signal 10; process 2 requests its own
+/// console, 2.
 pub const HANDOVER: &str = "rows = 2
 cols = 5
 consoles = [1, 2]
@@ -14,7 +15,7 @@ home = 2
 script = ['open 2', 'activate 0 2']
 ";
 
-/// The same, but process 1 never lets the display go, and exits.
+/// Process 1 handles switches and never lets the display go, and exits; process 2 requests its own console, 2.
 pub const ABANDONED: &str = "rows = 2
 cols = 5
 consoles = [1, 2]

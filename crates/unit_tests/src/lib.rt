@@ -1,4 +1,4 @@
-//! Tests of single crates below the console: what no clause of theirs says, and expected values from outside.
+//! Tests of single crates below the machine: behaviour that no clause covers, and expected values from outside.
 #![tactic(auto)]
 
 #[cfg(test)]

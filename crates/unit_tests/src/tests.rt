@@ -3,6 +3,7 @@ mod charges;
 mod checks;
 mod hooks;
 mod journals;
+mod parts;
 mod pieces;
 mod processes;
 mod queues;

@@ -32,8 +32,8 @@ fn main(rt: HostRuntime) -> ExitCode {
     ExitCode::from(status.number())
 }
 
-// The words after the program's name. One that isn't UTF-8, or is longer than any form's, counts
-// as the empty word.
+// The words after the program's name. A word that isn't UTF-8, or is longer than any form's, counts as the
+// empty word.
 fn words_of(alloc: Global, env: &impl Env) -> Result<Vec<String>, NoMemory> {
     let mut words = Vec::new(alloc);
     let mut buffer = [0; WORD_BYTES];

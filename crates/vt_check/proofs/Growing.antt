@@ -1,4 +1,4 @@
--- A judge that takes one entry more, and what it lends to a witness then.
+-- A judge that takes one more entry, and then shows it to a witness.
 use Rattle.std.proofs.Common.{◌≡◌, ℕ, ◌+◌, ◌<◌, arith, List, [], ◌∷◌, ◌++◌, length, take, sym, ap, ◌∙◌}
 use Rattle.std.proofs.lemmas.List.{length-take, length_push}
 use Rattle.std.proofs.lemmas.List.Sums.{sum_by-append}
@@ -12,7 +12,7 @@ use Rattle.vt_check.specs.Watching.{IsNextEntry}
 use Rattle.vt_world.specs.History.{ReplayGrows}
 use Rattle.vt_world.specs.Step.{step}
 
--- what an entry that passes changes
+-- the changes that an entry that passes makes
 pub record Takes (entry : Entry) (before after : Judge) : Type 0 where
   pub stepped : (step before.world entry.caller entry.event).world ≡ after.world
   pub events : after.events ≡ before.events + 1

@@ -1,4 +1,4 @@
--- How a judge tells the end of a journal.
+-- How a judge finds the end of a journal.
 use Rattle.std.proofs.Common.{◌≡◌, ◌↔◌, ℕ, ◌+◌, ◌<◌, Bool, true, false, List, length, get_or, Option, Some, None, is_some, Result, Ok, Err, refl, sym, ap, subst, ◌∙◌, arith}
 use Rattle.std.specs.List.{range_with_len}
 use Rattle.std.specs.Bool.{OnFalse, OnTrue}
@@ -27,7 +27,7 @@ use Rattle.vt_journal.specs.Room.{has_room}
 use Rattle.vt_journal.specs.declared.full.Full.{Full}
 use Rattle.vt_world.specs.History.{replay}
 
--- all programs are over where none has a next call
+-- all programs are over if none has a next call
 pub all_are_over : (programs : List Program) (h : List Entry)
     → ((p : ℕ) → p < callers → next_by programs p h ≡ None) → all_over programs h ≡ true
 all_are_over programs h over =
@@ -42,7 +42,7 @@ all_are_over programs h over =
     plus : (i : ℕ) → 0 + i ≡ i
     plus i = omega arith
 
--- and not where one has
+-- if a program has a next call, they aren't all over
 not_none : (found : Option Event) → is_some found ≡ true → is_none found ≡ false
 not_none (Some e) is = refl
 not_none None is = absurd (false≢true is)
@@ -110,7 +110,7 @@ over_calls o h p wanted none = (
   λ has. absurd (none-some has.call (none ∙ has.next)),
 )
 
--- whether the history stops, where the numbers are right and there is no room
+-- whether the history stops, if the numbers are right and there is no room
 pub stop_tested : (o : Setup) (h : List Entry) (view : Judge) (full : Full) (programs : List Program) (is : Bool)
     → AreOfCallers programs → IsAfter o h view → o.programs ≡ programs → (full.events ≡ view.events) × (full.bytes ≡ view.bytes)
     → has_room o.limits h full.charge ≡ false
@@ -134,7 +134,7 @@ pub ok_both : {E : Type 0} {P Q R : Bool → Type 0} (r : Result Bool E) → ((b
 ok_both (Ok b) more p q = more b p q
 ok_both (Err e) more p q = tt
 
--- what follows on either answer
+-- one of two facts, by the answer
 pub on_true : {P Q : Type 0} (b : Bool) → (P → Q) → OnTrue b P → OnTrue b Q
 on_true true more p = more p
 on_true false more p = tt

@@ -1,4 +1,4 @@
--- Where the verdict is legal, the history is right.
+-- If the verdict is legal, the history is right.
 use Rattle.std.proofs.Common.{◌≡◌, List}
 use Rattle.session_order.specs.Sessions.{IsRightHistory, LegalAreRight, setup_of, start_of}
 use Rattle.session_text.specs.Sessions.{SessionView}

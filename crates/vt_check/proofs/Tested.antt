@@ -1,9 +1,9 @@
--- What a judge's tests say.
+-- The meaning of a judge's tests.
 use Rattle.std.proofs.Common.{◌≡◌, ◌↔◌, ℕ, Bool, true, false, ◌&&◌, List, Option, Some, None, refl, sym, ap, ◌∙◌}
 use Rattle.std.specs.Prelude.{◌==◌, IsTrue, count_by, is_some, option_map}
 use Rattle.std.proofs.lemmas.Bool.{and_from, both_ways, false_from_ne_true, false≢true}
 use Rattle.std.proofs.lemmas.Option.{none-some, same_Some}
-use Rattle.session_order.proofs.Standings.{event_twice}
+use Rattle.vt_events.proofs.Meant.{plain-twice}
 use Rattle.session_order.specs.Calls.{next_by}
 use Rattle.session_order.specs.Ends.{Setup}
 use Rattle.session_order.specs.Follows.{IsNextCall, is_waiting}
@@ -23,7 +23,7 @@ use Rattle.vt_world.specs.State.{WorldState}
 use Rattle.vt_world.specs.Step.{Outcome, step}
 use Rattle.vt_world.specs.Refusals.{ends_wait}
 
--- the answer was compared with the console's
+-- the answer was compared with the machine's
 pub answered_is : (o : Setup) (h : List Entry) (view : Judge) (entry : Entry) (after : WorldState) (reply : Reply) (same : Bool)
     → IsAfter o h view
     → step view.world entry.caller entry.event ≡ record { world = after; reply = plain_reply reply }
@@ -77,7 +77,7 @@ next_is is_plain o h view entry goes same call program at going test is found co
       λ next.
           let call_is : call ≡ plain_event entry.event =
           same_Some call (plain_event entry.event) (found ∙ next.next) in
-          compared.1 (ap plain_event call_is ∙ event_twice entry.event),
+          compared.1 (ap plain_event call_is ∙ plain-twice entry.event),
     )
 
 -- a program that is over has no next call
@@ -115,6 +115,6 @@ counted_is {A = A} read o h entry programs found number same finds =
     some_map (Some x) = refl
     some_map None = refl
 
--- what a test that failed says
+-- a test that failed refutes its statement
 pub fails : {P : Type 0} (b : Bool) → (IsTrue b ↔ P) → b ≡ false → ¬ P
 fails b test is holds = both_ways b is (test.1 holds)

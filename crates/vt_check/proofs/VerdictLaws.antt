@@ -1,4 +1,4 @@
--- There is one verdict, and it is legal exactly where the journal is right.
+-- There is one verdict, and it is legal exactly if the journal is right.
 use Rattle.std.proofs.Common.{◌≡◌, ◌↔◌, ℕ, ◌+◌, ◌<◌, ◌≤◌, ⊎_elim, true, zero, suc, List, [], ◌∷◌, ◌++◌, length, take, get_or, Option, Some, None, refl, sym, ap, subst, ◌∙◌, arith, true≢false}
 use Rattle.std.specs.Prelude.{is_some, slice_get}
 use Rattle.std.proofs.lemmas.Bool.{cases_lt, cases_order}
@@ -53,7 +53,7 @@ fails_once o before entry m n (NoRoom counted next answered a) (NoAnswer counted
 fails_once o before entry m n (NoRoom counted next answered a) (NoRoom counted_b next_b answered_b b) =
     refl
 
--- and so does the end
+-- the end passes, or it fails for one reason
 not_both_end : (o : Setup) (h : List Entry) (end : Tail) (why : ℕ) → EndsBy o h end
     → EndFails o h end why → ⊥
 not_both_end o h end why is (NotOver events bytes fails) = true≢false (sym is.over ∙ fails)
@@ -129,7 +129,7 @@ one_verdict o entries end a b (AtEnd n pass fails) (EntryFails i why entry befor
 one_verdict o entries end a b (AtEnd m pass fails) (AtEnd n pass_b fails_b) =
     ap (λ why. verdict.Illegal (length entries) why) (end_fails_once o entries end m n fails fails_b)
 
--- a history is within the limits where each entry of it passes
+-- a history is within the limits if each of its entries passes
 pub next_take : (entries : List Entry) (k : ℕ) (entry : Entry) → slice_get entries k ≡ Some entry
     → take (k + 1) entries ≡ take k entries ++ entry ∷ []
 next_take entries k entry is =
@@ -148,7 +148,7 @@ all_within o (first ∷ entries) pass =
     sym (next_take all k last is) ∙ take_all (k + 1) all (omega arith) in
     subst (IsWithin o.limits) whole (pass k last is).within
 
--- and only there
+-- each prefix of a history within the limits is within them
 front_within : (limits : Limits) (entries : List Entry) (n : ℕ) → IsWithin limits entries
     → IsWithin limits (take n entries)
 front_within limits entries n is =

@@ -11,7 +11,7 @@ use Rattle.vt_events.specs.declared.event.Event.{Event}
 use Rattle.vt_journal.specs.Log.{charge_of_all}
 use Rattle.vt_world.specs.History.{replay}
 
--- the judge is behind this history
+-- the judge has taken this history
 pub record IsAfter (o : Setup) (h : List Entry) (j : Judge) : Type 0 where
   pub replayed : j.world ≡ replay o.start h
   pub standing : AreAfter o.programs h j.standing

@@ -1,4 +1,4 @@
--- What a journal of a session is: right, or where it fails first and why. This project's own.
+-- The verdict on a journal of a session: right, or the first place where it fails and why. This project's own.
 use Rattle.std.specs.Prelude.{◌≡◌, ◌↔◌, ℕ, ◌==◌, true, false, List, [], ◌∷◌, ◌++◌, count_by, is_some, length, take, Some, slice_get}
 use Rattle.session_order.specs.Calls.{all_over}
 use Rattle.session_order.specs.Ends.{Ends, EndsBy, Setup}
@@ -15,33 +15,34 @@ use Rattle.vt_journal.specs.declared.tail.Tail.TheVariants as tail
 use Rattle.vt_world.specs.History.{IsLegal, replay}
 use Rattle.vt_world.specs.Step.{step}
 
--- the entry's caller is one of the session's, so it has a program, and its number counts the caller's
--- calls before
+-- the entry's caller is one of the session's, so it has a program, and its number counts the calls that its
+-- caller made before
 pub record IsCounted (o : Setup) (before : List Entry) (entry : Entry) : Type 0 where
   pub caller : is_some (program_of o.programs entry.caller) ≡ true
   pub number : entry.seq ≡ count_by (λ earlier. earlier.caller == entry.caller) before
 
--- its answer is the console's
+-- its answer is the machine's
 abbrev pub IsAnswered : Setup → List Entry → Entry → Type 0
 IsAnswered o before entry =
     plain_reply entry.reply ≡ (step (replay o.start before) entry.caller entry.event).reply
 
--- an entry right behind these passes: its call is the next of its program as well, and with it the
--- history is within the limits
+-- an entry directly after these passes: its call is the next of its program as well, and with it the history is
+-- within the limits
 pub record Passes (o : Setup) (before : List Entry) (entry : Entry) : Type 0 where
   pub counted : IsCounted o before entry
   pub next : IsNextCall o.start o.programs before entry
   pub answered : IsAnswered o before entry
   pub within : IsWithin o.limits (before ++ entry ∷ [])
 
--- the first of the four that fails there, by its number
+-- the number of the first of the four reasons for which the entry fails
 pub data FailsAt (o : Setup) (before : List Entry) (entry : Entry) : ℕ → Type 0 where
   NoCaller : ¬ IsCounted o before entry → FailsAt o before entry 1
   NoCall : IsCounted o before entry → ¬ IsNextCall o.start o.programs before entry → FailsAt o before entry 2
   NoAnswer : IsCounted o before entry → IsNextCall o.start o.programs before entry → ¬ IsAnswered o before entry → FailsAt o before entry 3
   NoRoom : IsCounted o before entry → IsNextCall o.start o.programs before entry → IsAnswered o before entry → ¬ IsWithin o.limits (before ++ entry ∷ []) → FailsAt o before entry 5
 
--- the first that fails at the end: a program isn't over, or the last line isn't as the history ends
+-- the number of the first reason for which the end fails: a program isn't over, or the last line isn't the end
+-- of the history
 pub data EndFails (o : Setup) (history : List Entry) : Tail → ℕ → Type 0 where
   NotOver : (events bytes : ℕ) → all_over o.programs history ≡ false → EndFails o history (tail.End events bytes) 4
   Differs : (events bytes : ℕ) → all_over o.programs history ≡ true → ¬ EndsBy o history (tail.End events bytes) → EndFails o history (tail.End events bytes) 5
@@ -52,8 +53,8 @@ abbrev pub AllPass : Setup → List Entry → Type 0
 AllPass o entries =
     (k : ℕ) (entry : Entry) → slice_get entries k ≡ Some entry → Passes o (take k entries) entry
 
--- the verdict: the first entry that fails, counted from 0, and the first reason there; else the end, with
--- the number of entries; else the journal is legal
+-- the verdict: the first entry that fails, counted from 0, and the first reason there; otherwise the end, with
+-- the number of entries; otherwise the journal is legal
 pub data Judges (o : Setup) (entries : List Entry) (end : Tail) : Verdict → Type 0 where
   Right : AllPass o entries → EndsBy o entries end → Judges o entries end verdict.Legal
   EntryFails : (index why : ℕ) (entry : Entry) → AllPass o (take index entries) → slice_get entries index ≡ Some entry → FailsAt o (take index entries) entry why → Judges o entries end (verdict.Illegal index why)
@@ -71,13 +72,13 @@ pub record IsRightJournal (o : Setup) (entries : List Entry) (end : Tail) : Type
   pub follows : Follows o.start o.programs entries
   pub ends : Ends o entries end
 
--- it is legal exactly where it is right
+-- a journal is legal exactly if it is right
 abbrev pub LegalIsRight : Type 0
 LegalIsRight =
     (o : Setup) (entries : List Entry) (end : Tail)
     → Judges o entries end verdict.Legal ↔ IsRightJournal o entries end
 
--- and a verdict is legal exactly there
+-- a verdict is legal exactly if the journal is right
 abbrev pub VerdictIsRight : Type 0
 VerdictIsRight =
     (o : Setup) (entries : List Entry) (end : Tail) (v : Verdict) → Judges o entries end v

@@ -1,4 +1,4 @@
--- What a judge lends to a witness: each entry that passes, and the console that it leaves. This project's
+-- The entries that a judge shows to a witness: each entry that passes, and the machine after it. This project's
 -- own.
 use Rattle.std.specs.Prelude.{◌≡◌, ℕ, List, length}
 use Rattle.vt_events.specs.declared.entry.Entry.{Entry}
@@ -6,12 +6,12 @@ use Rattle.vt_world.specs.History.{replay}
 use Rattle.vt_world.specs.State.{WorldState}
 use Rattle.vt_world.specs.Step.{step}
 
--- the entry at this place stands right behind these, and leaves this console
+-- the entry at this place is directly after these, and this is the machine after it
 pub record IsNextEntry (start : WorldState) (before : List Entry) (place : ℕ) (entry : Entry) (after : WorldState) : Type 0 where
   pub place_is : place ≡ length before
   pub after_is : after ≡ (step (replay start before) entry.caller entry.event).world
 
--- a witness that has seen some entries, from some console on, may see this one, which is the next
+-- a witness that has seen some entries, from some machine on, may see this one, which is the next
 pub record MaySee {W : Type 0} (saw : W → WorldState → List Entry → W → Type 0) (now : W) (place : ℕ) (entry : Entry) (after : WorldState) : Type 0 where
   pub first : W
   pub start : WorldState

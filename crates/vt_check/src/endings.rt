@@ -1,4 +1,4 @@
-//! How a journal ends, judged.
+//! The verdict on the end of a journal.
 ghost use Rattle.std.specs.Prelude.{◌≡◌, ◌≤◌, ◌<◌, ◌↔◌, ℕ, List, IfOk, IfSome, IfNone, IsTrue};
 ghost use Rattle.std.specs.Bool.{OnFalse, OnTrue};
 ghost use Rattle.session_order.specs.Calls.{all_over, next_by};
@@ -20,7 +20,7 @@ use vt_journal::{Full, Limits, Tail};
 /// The number of the reason that a program isn't over.
 const NOT_OVER: u8 = 4;
 
-/// That the last line isn't as the history ends.
+/// The number of the reason that the last line isn't the end of the history.
 const ENDS_OTHERWISE: u8 = 5;
 
 impl Judge {
@@ -157,7 +157,7 @@ impl Judge {
         }
     }
 
-    // The next call of the caller, where it has a program that isn't over.
+    // The next call of the caller, if it has a program that isn't over.
     fn next(
         &self,
         alloc: Global,

@@ -13,23 +13,23 @@ use session_order::{SessionProgress, meant_laws, start_of};
 use session_text::{Program, Session, program_of};
 use std::alloc::Global;
 use vt_base::NoMemory;
-use vt_events::{Entry, Event, charge};
-use vt_journal::{Limits, same_event, same_reply};
+use vt_events::{Entry, Event, charge, same_event, same_reply};
+use vt_journal::Limits;
 use vt_world::{World, legal_grows};
 
 /// The number of the reason that the caller isn't one of the session, or the number isn't its next.
 const NOT_COUNTED: u8 = 1;
 
-/// That the call isn't the next of its program, or ends a wait that goes on.
+/// The number of the reason that the call isn't the next of its program, or ends a wait that goes on.
 const NOT_NEXT: u8 = 2;
 
-/// That the answer isn't the console's.
+/// The number of the reason that the answer isn't the machine's.
 const NOT_ANSWERED: u8 = 3;
 
-/// That the journal's limits are passed.
+/// The number of the reason that the journal's limits are passed.
 const PAST_LIMITS: u8 = 5;
 
-/// A console, how far each caller is, how many entries there were and what they count for.
+/// A machine, the progress of each caller, how many entries there were and how many bytes they count for.
 #[derive(Drop)]
 pub(crate) struct Judge {
     pub(crate) world: World,
@@ -55,7 +55,7 @@ impl Judge {
         })
     }
 
-    /// The number of the first reason why the entry fails. Where it passes, the judge is behind it.
+    /// The number of the first reason for which the entry fails. If it passes, the judge takes it.
     pub(crate) fn judge(
         &mut self,
         alloc: Global,
@@ -92,7 +92,7 @@ impl Judge {
         Ok(None)
     }
 
-    // The program of the entry's caller, where it has one and the number counts its calls.
+    // The program of the entry's caller, if it has one and the number counts its calls.
     fn counted<'a>(&self, programs: &'a [Program], entry: &Entry) -> Option<&'a Program>
         ensures counted { (o : Setup) (h : List Entry) → o.programs ≡ programs.now
             → IsAfter o h self.now → IsTrue (is_some result) ↔ IsCounted o h entry.now }
@@ -129,7 +129,7 @@ impl Judge {
         matches!(entry.event, Event::WaitEnd) && self.world.waiting(entry.caller)
     }
 
-    // Whether the answer is the console's. Where it is, and the call was the next, the judge is behind it.
+    // Whether the answer is the machine's. If it is, and the call was the next, the judge takes the entry.
     fn is_answered(
         &mut self,
         alloc: Global,

@@ -1,26 +1,23 @@
--- What a call counts for in a journal. This project's own.
+-- The charge of a call in a journal, in bytes. This project's own.
 use Rattle.std.specs.Prelude.{ℕ, ◌+◌, ◌-◌, ◌*◌, ◌^◌, ◌==◌, min, List, [], length, if◌then◌else◌}
+use Rattle.vt_events.specs.Calls.{bytes_of}
 use Rattle.vt_events.specs.declared.event.Event.{Event}
 use Rattle.vt_events.specs.declared.event.Event.TheVariants as event
 use Rattle.vt_events.specs.declared.reply.Reply.{Reply}
 use Rattle.vt_events.specs.declared.reply.Reply.TheVariants as reply
 
--- the bytes that a call holds
+-- the bytes that count in the charge of a call: the byte of a scan doesn't
 abbrev pub text_of_event : Event → List ℕ
-text_of_event (event.Write fd b) = b.bytes
-text_of_event (event.SetFunc fd i b) = b.bytes
-text_of_event (event.SetDia fd b) = b.bytes
-text_of_event (event.SetMap fd b) = b.bytes
-text_of_event (event.SetPal fd b) = b.bytes
-text_of_event e = []
+text_of_event (event.Scan b) = []
+text_of_event e = bytes_of e
 
 -- the bytes that an answer holds
 abbrev pub text_of_reply : Reply → List ℕ
 text_of_reply (reply.Text b) = b.bytes
 text_of_reply r = []
 
--- the most bytes of a dump, by its kind: a screen has at most 255 rows and columns; a cell is a
--- byte, two bytes behind four of size and place, or four bytes; another kind has none
+-- the most bytes of a dump of a kind, for 255 rows and columns: kind 0 has a byte for each cell, kind 1 four bytes of
+-- size and place and two for each cell, kind 2 four for each cell, and any other kind none
 abbrev pub greatest_dump : ℕ → ℕ
 greatest_dump kind =
     if kind == 0 then 255 * 255

@@ -1,3 +1,5 @@
+pub mod Calls
 pub mod Charge
+pub mod Kinds
 pub mod Plain
 pub mod Waits

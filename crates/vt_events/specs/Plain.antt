@@ -1,25 +1,15 @@
--- Calls, answers and entries as they are meant: the room that their bytes happen to have is nothing
--- of theirs, and counts as none.
-use Rattle.std.specs.Prelude.{List, ℕ}
-use Rattle.vt_base.specs.Bytes.{Text}
+-- Calls, answers and entries as data: with the same kind, numbers and bytes, and with no spare room. The room of bytes
+-- is not part of a call or an answer.
+use Rattle.vt_events.specs.Calls.{bytes_of, kind_of, numbers_of}
+use Rattle.vt_events.specs.Kinds.{call_of, text}
 use Rattle.vt_events.specs.declared.entry.Entry.{Entry}
 use Rattle.vt_events.specs.declared.event.Event.{Event}
-use Rattle.vt_events.specs.declared.event.Event.TheVariants as event
 use Rattle.vt_events.specs.declared.reply.Reply.{Reply}
 use Rattle.vt_events.specs.declared.reply.Reply.TheVariants as reply
 
--- these bytes with no room
-abbrev pub text : List ℕ → Text
-text bytes = record { bytes = bytes; room = 0 }
-
 -- a call
 abbrev pub plain_event : Event → Event
-plain_event (event.Write fd b) = event.Write fd (text b.bytes)
-plain_event (event.SetFunc fd i b) = event.SetFunc fd i (text b.bytes)
-plain_event (event.SetDia fd b) = event.SetDia fd (text b.bytes)
-plain_event (event.SetMap fd b) = event.SetMap fd (text b.bytes)
-plain_event (event.SetPal fd b) = event.SetPal fd (text b.bytes)
-plain_event e = e
+plain_event e = call_of (kind_of e) (numbers_of e) (bytes_of e)
 
 -- an answer
 abbrev pub plain_reply : Reply → Reply

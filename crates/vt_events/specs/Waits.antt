@@ -3,7 +3,7 @@ use Rattle.std.specs.Prelude.{Bool, true, false}
 use Rattle.vt_events.specs.declared.reply.Reply.{Reply}
 use Rattle.vt_events.specs.declared.reply.Reply.TheVariants as reply
 
--- the caller waits, and `waitend` tells how that ended
+-- the caller waits; `waitend` returns how the wait ended
 abbrev pub is_wait : Reply → Bool
 is_wait reply.Wait = true
 is_wait r = false

@@ -1,7 +1,7 @@
 ghost use Rattle.std.specs.Prelude.{◌≡◌, ◌≤◌, length};
 ghost use Rattle.vt_events.specs.Charge.{charge_of, greatest_dump, greatest_reply, text_of_event};
 
-use crate::Event;
+use crate::{Event, Parts};
 
 /// The part of the charge that every entry of a journal has. This project's own.
 const ENTRY_BYTES: usize = 64;
@@ -15,17 +15,16 @@ pub fn charge(e: &Event) -> u32
     u32::try_from(sum).unwrap_or(u32::MAX)
 }
 
-// How many bytes the call holds.
+// How many bytes the call holds; none if it is a scan.
 fn held_bytes(e: &Event) -> usize
     ensures { result ≡ length (text_of_event e.now) }
 {
     match e {
-        Event::Write(_, b)
-        | Event::SetFunc(_, _, b)
-        | Event::SetDia(_, b)
-        | Event::SetMap(_, b)
-        | Event::SetPal(_, b) => b.as_slice().len(),
-        _ => 0,
+        Event::Scan(_) => 0,
+        _ => match Parts::of(e).held() {
+            Some(bytes) => bytes.len(),
+            None => 0,
+        },
     }
 }
 

@@ -1,12 +1,14 @@
 ghost use Rattle.std.specs.Prelude.{◌≡◌, IfOk};
-ghost use Rattle.vt_events.specs.Plain.{plain_event, text};
+ghost use Rattle.vt_events.specs.Plain.{plain_event};
 
+use crate::Parts;
 use std::alloc::Global;
 use vt_base::{Bytes, NoMemory};
 
-/// A call of a caller: each variant has the words after its name, in order. HH is a byte, B is
-/// bytes, and every other word is a number. FD is one of the caller's descriptors; it names the
-/// console that it was opened on.
+/// A call of a caller. The doc comment of a variant begins with the words of the call in a journal: the name, then a
+/// word for each field. HH is a byte, B is bytes, and every other word is a number. FD is one of the caller's
+/// descriptors; it names the console that it was opened on. `tools/call_lists.py` writes each list of calls from these
+/// words.
 #[derive(Debug, Drop)]
 pub enum Event {
     /// `scan HH`: a byte of the keyboard.
@@ -118,67 +120,15 @@ pub enum Event {
 
 impl Event {
     /// A copy of the call, whose bytes have no spare room.
+    #[tactic(auto, using(crate::proofs::Calls::of_kind))]
     pub fn copy(&self, alloc: Global) -> Result<Event, NoMemory>
         ensures { IfOk result (λ copy. copy ≡ plain_event self.now) }
     {
-        Ok(match self {
-            Event::Scan(b) => Event::Scan(*b),
-            Event::Exit => Event::Exit,
-            Event::OpenCon(n) => Event::OpenCon(*n),
-            Event::CloseFd(fd) => Event::CloseFd(*fd),
-            Event::Write(fd, b) => Event::Write(*fd, plain(alloc, b)?),
-            Event::ReadIn(fd, most) => Event::ReadIn(*fd, *most),
-            Event::WaitInput(fd) => Event::WaitInput(*fd),
-            Event::WaitActive(fd, n) => Event::WaitActive(*fd, *n),
-            Event::WaitSignal => Event::WaitSignal,
-            Event::WaitEnd => Event::WaitEnd,
-            Event::Activate(fd, n) => Event::Activate(*fd, *n),
-            Event::Disallocate(fd, n) => Event::Disallocate(*fd, *n),
-            Event::OpenQry(fd) => Event::OpenQry(*fd),
-            Event::GetState(fd) => Event::GetState(*fd),
-            Event::Resize(fd, rows, cols) => Event::Resize(*fd, *rows, *cols),
-            Event::LockSwitch(fd) => Event::LockSwitch(*fd),
-            Event::UnlockSwitch(fd) => Event::UnlockSwitch(*fd),
-            Event::SetKd(fd, mode) => Event::SetKd(*fd, *mode),
-            Event::GetKd(fd) => Event::GetKd(*fd),
-            Event::SetMode(fd, mode, waitv, relsig, acqsig, frsig) => {
-                Event::SetMode(*fd, *mode, *waitv, *relsig, *acqsig, *frsig)
-            }
-            Event::GetMode(fd) => Event::GetMode(*fd),
-            Event::RelDisp(fd, arg) => Event::RelDisp(*fd, *arg),
-            Event::SetKb(fd, mode) => Event::SetKb(*fd, *mode),
-            Event::GetKb(fd) => Event::GetKb(*fd),
-            Event::SetMeta(fd, meta) => Event::SetMeta(*fd, *meta),
-            Event::GetMeta(fd) => Event::GetMeta(*fd),
-            Event::SetLed(fd, lights) => Event::SetLed(*fd, *lights),
-            Event::GetLed(fd) => Event::GetLed(*fd),
-            Event::SetFlags(fd, flags) => Event::SetFlags(*fd, *flags),
-            Event::GetFlags(fd) => Event::GetFlags(*fd),
-            Event::SetEntry(fd, table, code, kind, value) => {
-                Event::SetEntry(*fd, *table, *code, *kind, *value)
-            }
-            Event::GetEntry(fd, table, code) => Event::GetEntry(*fd, *table, *code),
-            Event::SetFunc(fd, i, b) => Event::SetFunc(*fd, *i, plain(alloc, b)?),
-            Event::GetFunc(fd, i) => Event::GetFunc(*fd, *i),
-            Event::SetDia(fd, b) => Event::SetDia(*fd, plain(alloc, b)?),
-            Event::GetDia(fd) => Event::GetDia(*fd),
-            Event::SetCode(fd, scan, code) => Event::SetCode(*fd, *scan, *code),
-            Event::GetCode(fd, scan) => Event::GetCode(*fd, *scan),
-            Event::Accept(fd, signal) => Event::Accept(*fd, *signal),
-            Event::SetMap(fd, b) => Event::SetMap(*fd, plain(alloc, b)?),
-            Event::GetMap(fd) => Event::GetMap(*fd),
-            Event::SetPal(fd, b) => Event::SetPal(*fd, plain(alloc, b)?),
-            Event::GetPal(fd) => Event::GetPal(*fd),
-            Event::Dump(kind, n) => Event::Dump(*kind, *n),
-            Event::TakeSignals => Event::TakeSignals,
-            Event::Kill(caller, signal) => Event::Kill(*caller, *signal),
-        })
+        let parts = Parts::of(self);
+        let held = match parts.held() {
+            Some(bytes) => Bytes::from_slice(alloc, bytes)?,
+            None => Bytes::new(alloc),
+        };
+        Ok(parts.kind().call(parts.numbers(), held))
     }
-}
-
-// A copy of the bytes, with no room.
-fn plain(alloc: Global, b: &Bytes) -> Result<Bytes, NoMemory>
-    ensures { IfOk result (λ copy. copy ≡ text b.now.bytes) }
-{
-    Bytes::from_slice(alloc, b.as_slice())
 }

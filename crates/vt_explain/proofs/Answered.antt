@@ -50,7 +50,7 @@ one_acceptance law o entries end c (judged.Illegal index why) (judged.No j) is a
 one_acceptance law o entries end c (judged.Illegal i why) (judged.Illegal j other) is also =
     ap as_judged (law o entries end (verdict.Illegal i why) (verdict.Illegal j other) is also)
 
--- each good item stands in the certificate
+-- each good item is in the certificate
 stands : OneNewsIsTold → (h : List Moment) (made : List HopWhy) → IsCertificate h made
     → (k : ℕ) (w : HopWhy) → Good h k w → slice_get made k ≡ Some w
 stands law h made cert k w good =
@@ -73,7 +73,7 @@ first_bad law h made c index cert differs = record {
       (cases_lt index (length made));
 }
 
--- what is made is compared
+-- the list that is made is compared
 pub compared : OneNewsIsTold → (o : Setup) (entries : List Entry) (end : Tail) (made c : List HopWhy) (j : Judged)
     → Judges o entries end verdict.Legal → IsCertificate (moments o.start entries) made
     → Compares made c j → Accepts o entries end c j

@@ -1,4 +1,4 @@
--- The cause of a hop is what was asked last.
+-- The cause of a switch is the last request to its owner.
 use Rattle.std.proofs.Common.{◌≡◌, inl, inr, ⊎_elim, ℕ, List, [], ◌∷◌, ◌++◌, length, map, Option, Some, None, refl, sym, ap, subst, ◌∙◌, append-nil}
 use Rattle.std.specs.Prelude.{IfSome, option_to_list, slice_get}
 use Rattle.std.proofs.lemmas.Option.{none-some}
@@ -21,7 +21,7 @@ use Rattle.vt_switch.specs.declared.mark.Mark.{Mark}
 abbrev ask_in : ℕ → ℕ → Option LastAsk
 ask_in entry signal = Some (record { entry = entry; signal = signal })
 
--- who was asked, with all quiet since, was asked last
+-- an owner that was asked, with all quiet since, was asked last
 last_is : (i a p n asked signal : ℕ) (h : List Moment)
     → Since (Quiet a n) (AsksAt i a p n asked signal) h → (known_after h).last ≡ ask_in asked signal
 last_is i a p n asked signal [] since = elim since [ ]
@@ -51,7 +51,7 @@ cause_is h (cause.Released p) (why.Died owner asked signal) is = absurd is
 cause_is h (cause.Died p) why.Free is = absurd is
 cause_is h (cause.Died p) (why.Released owner asked signal) is = absurd is
 
--- the cause that is found is that of the hop
+-- the cause that is found is that of the switch
 abbrev pub HasCause : TimedHop → Type 0
 HasCause h = IsCause h h.hop.cause (cause_of h.hop.cause (known_after h.earlier).last)
 
@@ -98,7 +98,7 @@ allowed_cause earlier m hop (cause.Died p) because =
     (sym (last_is m.entry hop.from p hop.to found.asked found.signal earlier found.since))
     (refl, found.since)
 
--- the hops of a history, of which the last act made one or none
+-- the switches of a history, of which the last act made one or none
 abbrev with_hop : List Moment → Moment → List Hop → List TimedHop
 with_hop earlier m list = timed_hops earlier ++ map (at_time earlier m) list
 
@@ -117,7 +117,7 @@ allowed_hop m earlier (Some hop) allowed before k h is = ⊎_elim
     (allowed_cause earlier m hop hop.cause allowed.0.because))
     (at_either (timed_hops earlier) (at_time earlier m hop) k h is)
 
--- in a lawful history each hop has its cause
+-- in a lawful history each switch has its cause
 pub causes : OneHopIsTold → (history : List Moment) → IsLawful history → (k : ℕ) (h : TimedHop)
     → slice_get (timed_hops history) k ≡ Some h → HasCause h
 causes law [] lawful k h is = absurd (none-some h is)
@@ -127,7 +127,7 @@ causes law (m ∷ earlier) lawful k h is =
     (subst (EachAllowed earlier m) one lawful.0) (causes law earlier lawful.1) k h
     (subst (λ (list : List Hop). slice_get (with_hop earlier m list) k ≡ Some h) one is)
 
--- each hop has some cause
+-- each switch has some cause
 abbrev pub SomeCause : TimedHop → Type 0
 SomeCause h = (w : HopCause) × IsCause h h.hop.cause w
 
@@ -165,7 +165,7 @@ explained_hop m earlier (Some hop) due some =
     (get_last (timed_hops earlier) (at_time earlier m hop)) in
     (record { from = due.from; because = because earlier m hop hop.cause has.0 due.because has.1 }, tt)
 
--- where each hop has some cause, the history is lawful
+-- if each switch has some cause, the history is lawful
 pub lawful : HopsAreDue → OneHopIsTold → (history : List Moment)
     → ((k : ℕ) (h : TimedHop) → slice_get (timed_hops history) k ≡ Some h → SomeCause h)
     → IsLawful history

@@ -1,4 +1,4 @@
--- Certificates: each history that is lawful has one, which is found; and what has one is lawful.
+-- Certificates: each lawful history has one, which is found; and a history that has one is lawful.
 use Rattle.std.proofs.Common.{◌≡◌, ◌<◌, ⊎_elim, ℕ, List, length, take, Some, refl, sym, ap, subst, ◌∙◌, arith}
 use Rattle.std.specs.Prelude.{slice_get}
 use Rattle.std.proofs.lemmas.Option.{same_Some, slice_get_within}
@@ -40,7 +40,7 @@ pub one_certificate : OneNewsIsTold → OneCertificate
 one_certificate law h c d is_c is_d =
     certificate_is law h c is_c ∙ sym (certificate_is law h d is_d)
 
--- of a lawful history the items that are found are a certificate
+-- the items that are found for a lawful history are a certificate
 found_good : OneNewsIsTold → OneHopIsTold → (h : List Moment) → IsLawful h → (k : ℕ) (w : HopWhy)
     → slice_get (known_after h).items k ≡ Some w → Good h k w
 found_good law one h is_lawful k w is =

@@ -1,4 +1,4 @@
--- A text says one thing as a certificate.
+-- The meaning of a text as a certificate is one.
 use Rattle.std.proofs.Common.{◌≡◌, ◌≢◌, ℕ, ◌+◌, ◌≤◌, List, [], ◌∷◌, ◌++◌, Result, Ok, Err, length, map, refl, sym, ap, subst, ◌∙◌, append_assoc, arith}
 use Rattle.std.specs.List.{All, flat_map}
 use Rattle.std.proofs.lemmas.List.{append-nil, map-append}
@@ -34,7 +34,7 @@ same_front (w ∷ c) (x ∷ d) u v fit_c fit_d none_u none_v same =
     same_front c d u v (All-tail IsFit w c fit_c) (All-tail IsFit x d fit_d) none_u none_v first.1 in
     (λ j. first.0 j ∷ others.0 j, others.1)
 
--- what follows the items, where no item does
+-- the result after the items, if no item follows them
 data Follows (count : ℕ) (c : List HopWhy) (u : List ℕ) : Result (List HopWhy) ℕ → Type 0 where
   Ends : u ≡ [] → count ≡ length c → Follows count c u (Ok c)
   Fails : u ≢ [] → Follows count c u (Err (line_number (length c + 2)))
@@ -52,7 +52,7 @@ follows_once count c u a b (Differs none isnt) (Ends other is) = absurd (isnt is
 follows_once count c u a b (Differs none isnt) (Fails some) = absurd (some none)
 follows_once count c u a b (Differs none isnt) (Differs other also) = refl
 
--- what a text says, in two cases
+-- the meaning of a text, in two cases
 data Said (text : List ℕ) : Result (List HopWhy) ℕ → Type 0 where
   Lacks : IsNoHead text → Said text (Err 1)
   Has : (count : ℕ) (c : List HopWhy) (u : List ℕ) (said : Result (List HopWhy) ℕ) → Begins text count c u → IsNoItem u → Follows count c u said → Said text said
@@ -141,7 +141,7 @@ begun whole text count c rest head is so_far = record {
   parts = is ∙ ap (λ more. line_text (head_words count) ++ more) so_far.parts;
 }
 
--- a fault is told
+-- a fault is reported
 pub reads_fault : (e : CertError) (line : ℕ)
     (says : Result (List HopWhy) ℕ → Type 0) → IsFaultAt line e → says (Err (line_number line))
     → IsSaid e says

@@ -24,11 +24,11 @@ joined_by_blanks-cons word [] = sym (append-nil word)
 joined_by_blanks-cons word (next ∷ words) =
     ap (λ text. word ++ (0x20 ∷ text)) (joined_by_blanks-cons next words)
 
--- each byte is above that of a blank
+-- each byte is above a blank's
 abbrev pub is_clear : List ℕ → Bool
 is_clear word = list_all (λ b. ltb 0x20 b) word
 
--- each of these words is so
+-- each of these words is clear
 abbrev pub are_clear : List (List ℕ) → Bool
 are_clear words = list_all is_clear words
 
@@ -40,13 +40,13 @@ all_above word is =
 other : (b n : ℕ) → n < b → b ≡ n → ⊥
 other b n above same = omega (arith, above, same)
 
--- no blank at any place
+-- a clear word has no blank
 no_blank : (word : List ℕ) → is_clear word ≡ true → All (λ b. eqb b 0x20 ≡ false) word
 no_blank word is =
     All-weaker (λ b. 0x20 < b) (λ b. eqb b 0x20 ≡ false)
     (λ b above. ne_eqb b 0x20 (other b 0x20 above)) word (all_above word is)
 
--- and no line end
+-- a clear word has no line end
 line_of_word : (word : List ℕ) → is_clear word ≡ true → IsLine word
 line_of_word word is =
     All-weaker (λ b. 0x20 < b) (λ b. b ≢ 0x0A)
@@ -120,7 +120,7 @@ line_once (x ∷ a) (y ∷ b) u v line_a line_b same =
     (λ k d within. line_b (suc k) d (omega arith)) others in
     (λ j. first j ∷ both.0 j, both.1)
 
--- a line of words and what follows it
+-- a line of words and the text after it
 pub line_parts : (words : List (List ℕ)) (u : List ℕ)
     → line_text words ++ u ≡ joined_by_blanks words ++ 0x0A ∷ u
 line_parts words u = append_assoc (joined_by_blanks words) (0x0A ∷ []) u
@@ -131,7 +131,7 @@ lines_once p q u v line_p line_q same =
     line_once (joined_by_blanks p) (joined_by_blanks q) u v line_p line_q
     (sym (line_parts p u) ∙ same ∙ line_parts q v)
 
--- a line isn't nothing
+-- a line isn't empty
 pub some_line : (words : List (List ℕ)) (u : List ℕ) → line_text words ++ u ≢ []
 some_line words u same = some (joined_by_blanks words) (sym (line_parts words u) ∙ same)
   where

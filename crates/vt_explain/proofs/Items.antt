@@ -1,4 +1,4 @@
--- A line says one item.
+-- A line has the meaning of one item.
 use Rattle.std.proofs.Common.{◌≡◌, ℕ, ◌<◌, ◌≤◌, ◌^◌, Bool, true, false, true≢false, ◌&&◌, append-nil, List, [], ◌∷◌, ◌++◌, codes, decimal, refl, sym, ap, ◌∙◌, arith}
 use Rattle.std.specs.Prelude.{◌==◌}
 use Rattle.std.proofs.lemmas.Fmt.{decimal_injective}
@@ -57,7 +57,7 @@ cut_head n fit = words_of_text-joined_by_blanks (codes "%explain") (decimal n �
 pub line_head : (n : ℕ) → n ≤ 4294967295 → IsLine (joined_by_blanks (head_words n))
 line_head n fit = line_joined_by_blanks (codes "%explain") (decimal n ∷ []) (clear_head n fit)
 
--- words are one ask and what follows it
+-- words are one ask and the words after it, in one way
 record SameAsk (p a s q b t : ℕ) (u v : List (List ℕ)) : Type 0 where
   owner : p ≡ q
   asked : a ≡ b
@@ -82,7 +82,7 @@ abbrev begins_with : ℕ → List ℕ → Bool
 begins_with b [] = false
 begins_with b (first ∷ word) = first == b
 
--- words are one cause and what follows it
+-- words are one cause and the words after it, in one way
 cause_once : (c d : HopCause) (u v : List (List ℕ)) → IsFitCause c → IsFitCause d
     → cause_words c ++ u ≡ cause_words d ++ v → (c ≡ d) × (u ≡ v)
 cause_once why.Free why.Free u v fit_c fit_d same =
@@ -115,7 +115,7 @@ cause_once (why.Died p a s) (why.Released q b t) u v fit_c fit_d same =
     let names : codes "died" ≡ codes "released" = cc in
     absurd (true≢false (ap (begins_with 100) names))
 
--- words are one item and what follows it
+-- words are one item and the words after it, in one way
 pub item_once : (w x : HopWhy) (u v : List (List ℕ)) → IsFit w → IsFit x
     → item_words w ++ u ≡ item_words x ++ v → (w ≡ x) × (u ≡ v)
 item_once w x u v fit_w fit_x same =
@@ -135,7 +135,7 @@ item_once w x u v fit_w fit_x same =
       cause.1,
     )
 
--- a text has one first line that is an item's, and one that is a first line of a certificate
+-- the first line of a text that is an item's is one, and so is that of a certificate
 pub item_line_once : (w x : HopWhy) (u v : List ℕ) → IsFit w → IsFit x
     → line_text (item_words w) ++ u ≡ line_text (item_words x) ++ v → (w ≡ x) × (u ≡ v)
 item_line_once w x u v fit_w fit_x same =
@@ -166,12 +166,12 @@ head_cut line n fit is = ap words_of_text (sym is) ∙ cut_head n fit ∙ sym (a
 pub head_rest : (m n : ℕ) (u v : List (List ℕ)) → head_words m ++ u ≡ head_words n ++ v → u ≡ v
 head_rest m n u v same = cc
 
--- what is left after the first words
+-- the words that are left after the first words
 pub after_three : (w0 w1 w2 w3 : List (List ℕ)) (a b c d e f : List ℕ) (u : List (List ℕ))
     → w0 ≡ a ∷ w1 → w1 ≡ b ∷ w2 → w2 ≡ c ∷ w3 → w0 ≡ d ∷ e ∷ f ∷ u → w3 ≡ u
 after_three w0 w1 w2 w3 a b c d e f u first second third same = cc
 
--- no number from 1 on is spelled as 0 is
+-- no number from 1 on has the spelling of 0
 pub not_zero : (m n : ℕ) (u v w : List (List ℕ)) → m ≡ 0 → 1 ≤ n → n < 2 ^ 64
     → w ≡ decimal m ∷ u → w ≡ decimal n ∷ v → ⊥
 not_zero m n u v w zero low fits found is =

@@ -1,4 +1,4 @@
--- What is known after a history: an item for each hop.
+-- The items that are known after a history: one for each switch.
 use Rattle.std.proofs.Common.{◌≡◌, ◌≤◌, ⊎_elim, ℕ, ◌+◌, cond, List, [], ◌∷◌, ◌++◌, length, take, map, flat_map, Some, refl, sym, ap, subst, ◌∙◌, arith, append-nil, length-append}
 use Rattle.std.specs.Prelude.{◌==◌, count_by, slice_get}
 use Rattle.vt_explain.proofs.Places.{at_either, count_more, get_last, get_left, take_left, take_seam}
@@ -11,7 +11,7 @@ use Rattle.vt_switch.specs.declared.hop.Hop.{Hop}
 use Rattle.vt_switch.specs.declared.mark.Mark.{Mark}
 use Rattle.vt_switch.specs.declared.mark.Mark.TheVariants as mark
 
--- the hops of what is told
+-- the switches among some news
 abbrev pub going : News → List Hop
 going (Asking ask) = []
 going (Going hop) = hop ∷ []
@@ -32,12 +32,12 @@ hops_of_news (mark.Hopped hop ∷ told) =
     ap (λ (list : List Hop). hop ∷ list) (hops_of_news told)
 hops_of_news (mark.Ended p ∷ told) = hops_of_news told
 
--- the item of a hop after these
+-- the item of a switch after these
 abbrev pub item : List TimedHop → TimedHop → HopWhy
 item before h =
     item_of h.moment.entry (count_by (is_in h.moment.entry) before) h.hop (known_after h.earlier).last
 
--- these are the items of these hops
+-- these are the items of these switches
 pub record Finds (timed : List TimedHop) (items : List HopWhy) : Type 0 where
   pub many : length items ≡ length timed
   pub counted : (n : ℕ) → count_by (is_at n) items ≡ count_by (is_in n) timed
@@ -87,7 +87,7 @@ finds_told m earlier (Going hop ∷ []) few finds =
 finds_told m earlier (one ∷ (other ∷ told)) few finds =
     absurd (let no : ⊥ = omega (arith, few) in no)
 
--- of every history the items of its hops are known
+-- after every history the items of its switches are known
 pub finds_all : OneNewsIsTold → (h : List Moment) → Finds (timed_hops h) (known_after h).items
 finds_all law [] = record {
   many = refl;

@@ -45,7 +45,7 @@ next_known tells grow start before entry k is =
     ∙ sym (acts_heard (length before) (core w) acts (moments start before))
     ∙ ap known_after (sym (grow start before entry))
 
--- what is told in an entry has no items of another
+-- the news of an entry have no items of another entry
 none_else : (at j : ℕ) → at ≢ j → (told : List News) (k : Known)
     → count_by (is_at j) (hear_all at told k).items ≡ count_by (is_at j) k.items
 none_else at j other [] k = refl
@@ -63,7 +63,7 @@ pub still_none : (at j : ℕ) (told : List News) (k : Known) → at + 1 ≤ j
 still_none at j told k above none =
     none_else at j (λ same. omega (arith, above, same)) told k ∙ none
 
--- what was read of the entries before, and of the next one
+-- the items of the entries before, and of the next one
 pub next_read : TracesTellNews → MomentsGrow → (start : WorldState) (before : List Entry) (place : ℕ)
     (entry : Entry) (after : WorldState) (told : List Mark) (old new : Known) → HasRead start before old
     → IsNextEntry start before place entry after → told ≡ after.trace.marks

@@ -1,4 +1,4 @@
--- The text of a certificate, and what a text says as one. This project's own.
+-- The text of a certificate, and the meaning of a text as a certificate. This project's own.
 use Rattle.std.specs.Prelude.{◌≡◌, ◌≢◌, ◌≤◌, ⊤, ℕ, ◌+◌, List, [], ◌∷◌, ◌++◌, Result, Ok, Err, codes, decimal, length, map, min}
 use Rattle.std.specs.List.{All, flat_map}
 use Rattle.vt_explain.specs.declared.hop_cause.HopCause.{HopCause}
@@ -17,7 +17,7 @@ cause_words (why.Released owner asked signal) =
     codes "released" ∷ asked_words owner asked signal
 cause_words (why.Died owner asked signal) = codes "died" ∷ asked_words owner asked signal
 
--- the words of an item: the entry, how many hops it made before, the two ends, and the cause
+-- the words of an item: the entry, how many switches it made before, the two consoles, and the cause
 abbrev pub item_words : HopWhy → List (List ℕ)
 item_words w = decimal w.at ∷ decimal w.nth ∷ decimal w.from ∷ decimal w.to ∷ cause_words w.cause
 
@@ -58,12 +58,12 @@ pub record Begins (text : List ℕ) (count : ℕ) (c : List HopWhy) (rest : List
   pub fit : All IsFit c
   pub parts : text ≡ line_text (head_words count) ++ (item_lines c ++ rest)
 
--- no first line stands at the front
+-- the text doesn't begin with a first line
 abbrev pub IsNoHead : List ℕ → Type 0
 IsNoHead text =
     (count : ℕ) (rest : List ℕ) → count ≤ 4294967295 → text ≢ line_text (head_words count) ++ rest
 
--- no line of an item
+-- the text doesn't begin with an item's line
 abbrev pub IsNoItem : List ℕ → Type 0
 IsNoItem text = (w : HopWhy) (rest : List ℕ) → IsFit w → text ≢ line_text (item_words w) ++ rest
 
@@ -71,19 +71,19 @@ IsNoItem text = (w : HopWhy) (rest : List ℕ) → IsFit w → text ≢ line_tex
 abbrev pub line_number : ℕ → ℕ
 line_number line = min line 4294967295
 
--- what the text says: the items, where it is their text; else the number of the first line that isn't of
--- the form, or of the last line, where lines are missing or too many
+-- the meaning of the text: the items, if it is their text; otherwise the number of the first line that isn't
+-- well formed, or of the last line if lines are missing or too many
 pub data CertSays (text : List ℕ) : Result (List HopWhy) ℕ → Type 0 where
   Whole : (c : List HopWhy) → Begins text (length c) c [] → CertSays text (Ok c)
   BadHead : IsNoHead text → CertSays text (Err 1)
   BadLine : (count : ℕ) (c : List HopWhy) (rest : List ℕ) → Begins text count c rest → rest ≢ [] → IsNoItem rest → CertSays text (Err (line_number (length c + 2)))
   OtherCount : (count : ℕ) (c : List HopWhy) → Begins text count c [] → count ≢ length c → CertSays text (Err (line_number (length c + 1)))
 
--- a text says one thing only
+-- a text has one meaning
 abbrev pub OneCert : Type 0
 OneCert = (text : List ℕ) (a b : Result (List HopWhy) ℕ) → CertSays text a → CertSays text b → a ≡ b
 
--- the text of items that are fit says these items, and no other text does
+-- the text of items that are fit has these items as its meaning, and no other text does
 abbrev pub PrintedIsRead : Type 0
 PrintedIsRead =
     (c : List HopWhy) → All IsFit c → length c ≤ 4294967295 → CertSays (cert_text c) (Ok c)

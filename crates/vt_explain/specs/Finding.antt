@@ -1,5 +1,5 @@
--- How the items of hops are found, entry by entry: each takes its cause from what was asked last. This
--- project's own.
+-- How the items of switches are found, entry by entry: each takes its cause from the last request to an owner.
+-- This project's own.
 use Rattle.std.specs.Prelude.{◌≡◌, ◌≤◌, ℕ, ◌==◌, Bool, List, [], ◌∷◌, ◌++◌, count_by, length, Option, Some, None}
 use Rattle.vt_events.specs.declared.entry.Entry.{Entry}
 use Rattle.vt_explain.specs.declared.hop_cause.HopCause.{HopCause}
@@ -16,12 +16,12 @@ use Rattle.vt_switch.specs.declared.mark.Mark.TheVariants as mark
 use Rattle.vt_world.specs.Laws.{moments}
 use Rattle.vt_world.specs.State.{WorldState}
 
--- the items so far, and who was asked last
+-- the items so far, and the owner that was asked last
 pub record Known : Type 0 where
   pub items : List HopWhy
   pub last : Option LastAsk
 
--- where nobody was asked, only a free console lets the display go
+-- if no owner was asked, only a free console lets the display go
 abbrev pub cause_of : Cause → Option LastAsk → HopCause
 cause_of (cause.Released p) (Some ask) = why.Released p ask.entry ask.signal
 cause_of (cause.Died p) (Some ask) = why.Died p ask.entry ask.signal
@@ -39,7 +39,7 @@ item_of at nth hop last = record {
 abbrev pub is_at : ℕ → HopWhy → Bool
 is_at at w = w.at == at
 
--- something is told in an entry
+-- the items after one more piece of news in an entry
 abbrev pub hear : ℕ → News → Known → Known
 hear at (Asking ask) k = record k { last = Some (record { entry = at; signal = ask.signal }) }
 hear at (Going hop) k = record k {
@@ -50,8 +50,8 @@ abbrev pub hear_all : ℕ → List News → Known → Known
 hear_all at [] k = k
 hear_all at (one ∷ told) k = hear_all at told (hear at one k)
 
--- the same, mark by mark: the console that a mark requests; a signal that is raised, where the mark
--- before it requested a console or none; and what is told, with that mark
+-- the items after a trace, mark by mark: the console that a mark requests; a signal that is raised, with the
+-- console that the mark before it requested, if any; and the news of that mark
 abbrev pub asked_by : Mark → Option ℕ
 asked_by (mark.Asked n) = Some n
 asked_by m = None
@@ -64,12 +64,12 @@ abbrev pub news_after : Option ℕ → List Mark → List News
 news_after None told = news told
 news_after (Some n) told = news (mark.Asked n ∷ told)
 
--- what is known after a history
+-- the items and the last request after a history
 abbrev pub known_after : List Moment → Known
 known_after [] = record { items = []; last = None }
 known_after (m ∷ earlier) = hear_all m.entry (news (trace m)) (known_after earlier)
 
--- what is known is what these entries tell, from this console on; no item is of a later entry
+-- these are the items of these entries, from this machine on; no item is of a later entry
 pub record HasRead (start : WorldState) (entries : List Entry) (k : Known) : Type 0 where
   pub known_is : k ≡ known_after (moments start entries)
   pub fresh : (j : ℕ) → length entries ≤ j → count_by (is_at j) k.items ≡ 0

@@ -10,7 +10,7 @@ use vt_base::NoMemory;
 /// The greatest place that an answer can name.
 const GREATEST_PLACE: usize = 4_294_967_295;
 
-/// Whether the items are those that were made, and else where they differ first.
+/// Whether the items are those that were made; otherwise the first place at which they differ.
 pub(crate) fn compare(made: &[HopWhy], c: &[HopWhy]) -> Result<Judged, NoMemory>
     ensures { IfOk result (Compares made.now c.now) }
 {
@@ -37,7 +37,7 @@ fn is_same(made: &[HopWhy], c: &[HopWhy], k: usize) -> bool
     made[k] == c[k]
 }
 
-// No, at this place. A place past the numbers of a journal's items is never reached.
+// No, at this place. No journal has so many items that the place is past the greatest number.
 fn no(k: usize) -> Result<Judged, NoMemory>
     ensures { IfOk result (λ r. r ≡ judged.No k) }
 {

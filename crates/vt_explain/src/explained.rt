@@ -3,7 +3,7 @@ use crate::HopWhy;
 /// Why the display changed hands in a journal (docs/EXPLAIN.md). This project's own.
 #[derive(Drop)]
 pub enum Explained {
-    /// The journal is legal: the certificate of its hops.
+    /// The journal is legal: the certificate of its switches.
     Cert(Vec<HopWhy>),
     /// The journal is not legal.
     Illegal {

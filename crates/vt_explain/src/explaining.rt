@@ -23,7 +23,7 @@ use vt_check::{Verdict, one_verdict, watch};
 use vt_journal::Journal;
 use vt_switch::acts_tell_one_thing;
 
-/// The certificate of the journal's hops if the journal is legal, or its verdict.
+/// The certificate of the journal's switches if the journal is legal, or its verdict.
 pub fn explain(alloc: Global, s: &Session, j: &Journal) -> Result<Explained, NoMemory>
     ensures judges { IfOk result
         (λ x. Judges (setup_of s.now) j.now.entries j.now.tail (verdict_of x)) }

@@ -1,6 +1,6 @@
 use vt_base::{CallerNo, Signal};
 
-/// The cause of a hop in a certificate.
+/// The cause of a switch in a certificate.
 #[derive(Clone, Copy, Debug, PartialEq, Eq)]
 pub enum HopCause {
     /// The console that had the display handles its switches itself.

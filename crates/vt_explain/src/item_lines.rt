@@ -10,7 +10,7 @@ use crate::{HopCause, HopWhy};
 use vt_base::{CallerNo, Signal};
 use vt_journal::{Words, take_word};
 
-/// The number of items that the first line of a certificate tells.
+/// The number of items in the first line of a certificate.
 pub(crate) fn read_count(line: &[u8]) -> Option<u32>
     ensures found { IfSome result (λ n. joined_by_blanks (head_words n) ≡ line.now) }
     ensures none { IfNone result
@@ -91,7 +91,7 @@ fn take_cause(words: &mut Words) -> Option<HopCause>
     None
 }
 
-// What stands after `released`.
+// The cause in the words after `released`.
 fn take_release(words: &mut Words) -> Option<HopCause>
     ensures found { IfSome result
         (λ c. codes "released" ∷ words.old ≡ cause_words c ++ words.new) }
@@ -111,7 +111,7 @@ fn take_release(words: &mut Words) -> Option<HopCause>
     })
 }
 
-// What stands after `died`.
+// The cause in the words after `died`.
 fn take_death(words: &mut Words) -> Option<HopCause>
     ensures found { IfSome result (λ c. codes "died" ∷ words.old ≡ cause_words c ++ words.new) }
     ensures fit { IfSome result IsFitCause }
@@ -130,7 +130,7 @@ fn take_death(words: &mut Words) -> Option<HopCause>
     })
 }
 
-// Who was asked, in which entry, by which signal.
+// The owner that was asked, the entry that asked it, and the signal.
 #[derive(Clone, Copy)]
 struct Ask {
     owner: CallerNo,

@@ -1,6 +1,6 @@
 use vt_base::Signal;
 
-/// Who was asked last to let the display go: in which entry, and by which signal.
+/// The owner that was asked last to let the display go, the entry that asked it, and the signal.
 #[derive(Clone, Copy, Debug)]
 pub(crate) struct LastAsk {
     pub(crate) entry: u32,

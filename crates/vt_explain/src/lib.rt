@@ -1,5 +1,5 @@
-//! Certificates: why the display changed hands in a journal, hop by hop. Finding, judging, printing and reading
-//! them.
+//! Certificates: why the display changed hands in a journal, switch by switch. Finding, judging, printing and
+//! reading them.
 #![tactic(auto)]
 
 mod cert_error;

@@ -35,7 +35,7 @@ fn read_text(alloc: Global, text: &[u8]) -> Result<Vec<HopWhy>, CertError>
     }
 }
 
-// The number that the first line tells, and what is after the line.
+// The number in the first line, and the text after the line.
 #[derive(Clone, Copy)]
 struct CertHeader<'a> {
     count: u32,
@@ -55,7 +55,7 @@ fn read_head(text: &[u8]) -> Option<CertHeader<'_>>
     })
 }
 
-// The item of the first line, and what is after the line.
+// The item of the first line, and the text after the line.
 #[derive(Clone, Copy)]
 struct ParsedItem<'a> {
     item: HopWhy,
@@ -76,7 +76,7 @@ fn read_line(text: &[u8]) -> Option<ParsedItem<'_>>
     })
 }
 
-// The items of the lines after the first one, which tells their number.
+// The items of the lines after the first one, which has their number.
 fn read_items(alloc: Global, count: u32, text: &[u8]) -> Result<Vec<HopWhy>, CertError>
     ensures { (whole : List ℕ) → whole ≡ line_text (head_words count) ++ text.now
         → Reads result (CertSays whole) }
@@ -103,7 +103,7 @@ fn push(items: &mut Vec<HopWhy>, item: HopWhy) -> Result<(), NoMemory>
     Ok(())
 }
 
-// A fault in that line. Of a line past the greatest number it names that number.
+// A fault in that line. A line past the greatest number is named by that number.
 fn fault_at(line: usize) -> CertError
     ensures { IsFaultAt line result }
 {

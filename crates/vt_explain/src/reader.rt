@@ -1,4 +1,4 @@
-//! What one trace after another tells of the hops.
+//! The items of switches, read from one trace after another.
 ghost use Rattle.std.specs.Prelude.{◌≡◌, ◌≤◌, [], Some, None, count_by, length, OnOk};
 ghost use Rattle.vt_explain.specs.Finding.{asked_by, cause_of, hear, hear_all, is_at, item_of, with_last_signal};
 ghost use Rattle.vt_switch.specs.News.{news};
@@ -14,7 +14,7 @@ use vt_events::Entry;
 use vt_switch::{Cause, Hop, Mark};
 use vt_world::{World, traces_tell_news};
 
-/// The items of the hops that were read, and who was asked last to let the display go.
+/// The items of the switches that were read, and the owner that was asked last to let the display go.
 #[derive(Drop)]
 pub(crate) struct Reader {
     made: Vec<HopWhy>,
@@ -40,7 +40,7 @@ impl Reader {
         }
     }
 
-    /// The items, in the order of the hops.
+    /// The items, in the order of the switches.
     pub(crate) fn into_items(self) -> Vec<HopWhy>
         ensures { result.items ≡ self.items }
     {
@@ -69,7 +69,8 @@ impl Reader {
         Ok(())
     }
 
-    // A signal is raised: where a request stands right before it, its owner is asked by it.
+    // Reads a signal that is raised: if the mark right before it is a request, the signal asks the owner to let
+    // go.
     fn raised(&mut self, at: u32, asked: &Option<ConsoleNo>, signal: Signal)
         ensures { self.new ≡ with_last_signal at asked.now signal self.old }
     {
@@ -78,7 +79,7 @@ impl Reader {
         }
     }
 
-    // The display goes: its item is added.
+    // Reads a switch: its item is added.
     fn hopped(&mut self, at: u32, nth: u32, hop: &Hop) -> Result<(), NoMemory>
         requires { nth ≡ count_by (is_at at) self.old.items }
         ensures { OnOk result (self.new ≡ hear at (Going hop.now) self.old) }
@@ -117,7 +118,7 @@ fn asked_by(mark: &Mark) -> Option<ConsoleNo>
     }
 }
 
-// The item of a hop, by who was asked last.
+// The item of a switch, by the last request to an owner.
 fn item_of(at: u32, nth: u32, hop: &Hop, last: &Option<LastAsk>) -> HopWhy
     ensures { result ≡ item_of at nth hop.now last.now }
 {
@@ -130,7 +131,7 @@ fn item_of(at: u32, nth: u32, hop: &Hop, last: &Option<LastAsk>) -> HopWhy
     }
 }
 
-// The cause of a hop, by who was asked last.
+// The cause of a switch, by the last request to an owner.
 fn cause_of(cause: Cause, last: &Option<LastAsk>) -> HopCause
     ensures { result ≡ cause_of cause last.now }
 {

@@ -23,8 +23,9 @@ use Rattle.vt_procs.specs.declared.waiting.Waiting.{Waiting}
 use Rattle.vt_procs.specs.declared.waiting.Waiting.TheVariants as waiting
 use Rattle.vt_world.specs.Heard.{without_marks}
 use Rattle.vt_world.specs.History.{IsLegal, IsNext, replay}
-use Rattle.vt_world.specs.Refusals.{caller, common_refusals, first_refusal, own_refusals}
-use Rattle.vt_world.specs.Rows.{ended_reply, row}
+use Rattle.vt_world.specs.Events.{own_refusals, row}
+use Rattle.vt_world.specs.Refusals.{caller, common_refusals, first_refusal}
+use Rattle.vt_world.specs.Rows.{ended_reply}
 use Rattle.vt_world.specs.State.{WorldState}
 use Rattle.vt_world.specs.Step.{outcome_of_row, row_result_after, row_result, step}
 

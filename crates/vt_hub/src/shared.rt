@@ -106,16 +106,17 @@ impl<J: Opening> Shared<J> {
             });
             return Turn::Full(full);
         }
-        self.enter(caller, seq, event, spare)
+        self.enter(caller, seq, event, charge, spare)
     }
 
-    // Enters the call.
-    fn enter(&mut self, caller: CallerNo, seq: u32, event: Event, spare: Spare) -> Turn
+    // Enters the call, which has that charge.
+    fn enter(&mut self, caller: CallerNo, seq: u32, event: Event, charge: u32, spare: Spare) -> Turn
         requires fits { Fits J.start.rows J.start.cols event spare }
         requires number { seq ≡ length (made_by caller self.old.log.entries) }
         requires open { self.old.stop ≡ None }
         requires free { is_waiting self.old.world caller ≡ false }
-        requires room { HasRoom self.old.log (charge_of event) }
+        requires charge { charge ≡ charge_of event }
+        requires room { HasRoom self.old.log charge }
         ensures { ComesTo caller seq event self.old self.new result }
     {
         legal_grows();
@@ -135,7 +136,7 @@ impl<J: Opening> Shared<J> {
             event,
             reply: reply.copy_into(unused),
         };
-        state.log.push(entry);
+        state.log.push_counted(entry, charge);
         Turn::Done { at, reply }
     }
 

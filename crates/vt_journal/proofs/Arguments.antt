@@ -1,11 +1,10 @@
 -- Words that are numbers.
-use Rattle.std.proofs.Common.{◌≡◌, ◌≢◌, ℕ, suc, ◌+◌, ◌<◌, ◌≤◌, ◌^◌, ⊎_elim, List, [], ◌∷◌, ◌++◌, get_or, length, map, decimal, sym, ap, subst, ◌∙◌, arith}
-use Rattle.std.proofs.lemmas.Bool.{cases_lt}
-use Rattle.std.proofs.lemmas.List.{get_or_append_left, get_or_push, length-map}
+use Rattle.std.proofs.Common.{◌≡◌, ◌≢◌, ℕ, suc, ◌<◌, ◌≤◌, ◌^◌, List, [], ◌∷◌, ◌++◌, get_or, length, map, decimal, ap, ◌∙◌, arith}
+use Rattle.std.proofs.lemmas.List.{length-map}
 use Rattle.std.specs.List.{All}
 use Rattle.vt_journal.specs.Replies.{Within}
 
--- behind the first words stands the number in their place
+-- after the first words comes the number at their place
 number_at : (front words rest : List (List ℕ)) (ns : List ℕ) → length front < length ns
     → All (λ n. n < 2 ^ 16) ns → front ++ words ≡ map decimal ns ++ rest
     → (n : ℕ) × (more : List (List ℕ)) × (n < 2 ^ 16) × (words ≡ decimal n ∷ more)
@@ -16,7 +15,7 @@ number_at (word ∷ front) words rest (n ∷ ns) short fit same =
     let others : front ++ words ≡ map decimal ns ++ rest = cc in
     number_at front words rest ns (omega arith) (λ k d inside. fit (suc k) d (omega arith)) others
 
--- so words with no number in that place are no such numbers
+-- words with no number at that place are not these numbers
 pub no_number : (found : List ℕ) (words rest : List (List ℕ)) (ns : List ℕ)
     → length found < length ns → All (λ n. n < 2 ^ 16) ns
     → map decimal found ++ words ≡ map decimal ns ++ rest
@@ -37,7 +36,7 @@ number_within (word ∷ front) words rest (n ∷ ns) short same =
     let others : front ++ words ≡ map decimal ns ++ rest = cc in
     number_within front words rest ns (omega arith) others
 
--- so words with no such number in that place are no such numbers
+-- words with no such number at that place are not these numbers
 pub none_within : (most found : List ℕ) (words rest : List (List ℕ)) (ns : List ℕ) (i : ℕ)
     → length found ≡ i → i < length most → Within most ns
     → map decimal found ++ words ≡ map decimal ns ++ rest

@@ -92,7 +92,7 @@ no_keyboard high n digits None is all some few same =
     (λ more. omega (arith, numbers, above, all, within, more))
     (keyboards p other)
 
--- the bytes of a caller's word are digits or letters, and no last line begins so
+-- the bytes of a caller's word are digits or letters, and no last line begins with one
 abbrev pub is_high : List ℕ → Bool
 is_high word = list_all (λ b. ltb 0x2F b) word
 

@@ -1,4 +1,4 @@
--- Words are clear of blanks and of line ends, so they are found again in their text.
+-- Words have no blanks and no line ends, so they are found again in their text.
 use Rattle.std.proofs.Common.{◌≡◌, ◌≢◌, ℕ, ◌+◌, ◌/◌, ◌%◌, ◌<◌, ◌^◌, Bool, true, false, ◌&&◌, eqb, ltb, cond, Option, Some, None, List, [], ◌∷◌, ◌++◌, map, suc, decimal, refl, ap, ◌∙◌, arith}
 use Rattle.std.specs.List.{All, list_all, flat_map}
 use Rattle.std.proofs.lemmas.Bool.{and_parts, lt-ltb, ltb-true, ne_eqb}
@@ -7,24 +7,23 @@ use Rattle.std.proofs.lemmas.List.Elements.{All-append, All-cons, All-nil, All-w
 use Rattle.std.proofs.lemmas.List.Folds.{list_all-append}
 use Rattle.std.proofs.lemmas.List.Splits.{slice_split_at, slice_split_none}
 use Rattle.std.proofs.lemmas.List.Sums.{AllPass-from_list_all}
+use Rattle.vt_events.specs.Calls.{held_of, kind_of, numbers_of}
+use Rattle.vt_events.specs.Kinds.{name_of}
 use Rattle.vt_events.specs.declared.event.Event.{Event}
-use Rattle.vt_events.specs.declared.event.Event.TheVariants as event
-use Rattle.vt_journal.specs.Calls.{held_of, name_of, numbers_of}
+use Rattle.vt_events.specs.declared.kind.Kind.{Kind}
+use Rattle.vt_events.specs.declared.kind.Kind.TheVariants as calls
 use Rattle.vt_journal.specs.Cut.{words_of_text}
 use Rattle.vt_journal.specs.Hex.{hex_byte, hex_digit}
 use Rattle.vt_journal.specs.Lines.{IsLine}
-use Rattle.vt_journal.specs.Replies.{reply_name}
 use Rattle.vt_journal.specs.Text.{blank_before_each}
 use Rattle.vt_journal.specs.Words.{IsFit, event_words, held_words, joined_by_blanks}
-use Rattle.vt_journal.specs.declared.reply_kind.ReplyKind.{ReplyKind}
-use Rattle.vt_journal.specs.declared.reply_kind.ReplyKind.TheVariants as kind
 use Rattle.vt_journal.proofs.Lines.{joined_by_blanks-cons}
 
 -- each byte is above that of a blank
 abbrev pub is_clear : List ℕ → Bool
 is_clear word = list_all (λ b. ltb 0x20 b) word
 
--- each of these words is so
+-- each of these words is clear
 abbrev pub are_clear : List (List ℕ) → Bool
 are_clear words = list_all is_clear words
 
@@ -74,15 +73,15 @@ words_of_text-joined_by_blanks word (next ∷ words) first others =
     slice_split_at (λ b. eqb b 0x20) word 0x20 (joined_by_blanks (next ∷ words)) (no_blank word first) refl
     ∙ ap (λ rest. word ∷ rest) (words_of_text-joined_by_blanks next words both.0 both.1)
 
--- words one behind the other
+-- words after words
 pub are_clear-append : (u v : List (List ℕ)) → are_clear u ≡ true → are_clear v ≡ true
     → are_clear (u ++ v) ≡ true
 are_clear-append u v first others = list_all-append is_clear u v ∙ (λ j. first j && others j)
 
 -- names are clear
-pub is_clear_name : (e : Event) → is_clear (name_of e) ≡ true
-is_clear_name (event.Scan b) = refl
-is_clear_name e = refl
+pub is_clear_name : (k : Kind) → is_clear (name_of k) ≡ true
+is_clear_name calls.Exit = refl
+is_clear_name k = refl
 
 -- numbers are clear
 pub is_clear-decimal : (n : ℕ) → n < 2 ^ 64 → is_clear (decimal n) ≡ true
@@ -95,7 +94,7 @@ is_clear-decimal =
     digit_word : (n : ℕ) → is_clear ((48 + n) ∷ []) ≡ true
     digit_word n = ap (λ b. b && true) (lt-ltb 0x20 (48 + n) (omega arith))
 
--- so are lists of numbers
+-- lists of numbers are clear
 pub are_clear_decimals : (ns : List ℕ) → All (λ n. n < 2 ^ 64) ns
     → are_clear (map decimal ns) ≡ true
 are_clear_decimals [] fit = refl
@@ -123,7 +122,7 @@ are_clear_held None = refl
 are_clear_held (Some []) = refl
 are_clear_held (Some (b ∷ bytes)) = ap (λ r. r && true) (is_clear_pairs (b ∷ bytes))
 
--- so are all words of a call
+-- all words of a call are clear
 below_wide : (n : ℕ) → n < 2 ^ 16 → n < 2 ^ 64
 below_wide n below = omega (arith, below)
 
@@ -133,4 +132,4 @@ are_clear-event e fit =
     let others =
     are_clear-append (map decimal (numbers_of e)) (held_words (held_of e))
     (are_clear_decimals (numbers_of e) numbers) (are_clear_held (held_of e)) in
-    λ j. is_clear_name e j && others j
+    λ j. is_clear_name (kind_of e) j && others j

@@ -41,7 +41,7 @@ pub cut_none : (text : List ℕ) → None ≡ position (λ b. eqb b 0x20) text �
 cut_none text none =
     none_from text 0 (none ∙ position_from-zero (λ b. eqb b 0x20) text)
 
--- what is left behind the first n
+-- the text after the first n
 pub rest_is : (text : List ℕ) (n : ℕ) → take (length text - n) (drop n text) ≡ drop n text
 rest_is text n =
     ap (λ m. take m (drop n text)) (sym (length-drop n text)) ∙ take-length (drop n text)

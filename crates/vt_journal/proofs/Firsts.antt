@@ -42,7 +42,7 @@ two version known =
     ⊎_elim (λ below. inl (omega (arith, known.0, below))) (λ above. inr (omega (arith, known.1, above)))
     (cases_lt version 2)
 
--- a first line, its digit told
+-- a first line by its digit
 pub first_is : (version : ℕ) → version < 10
     → line_text (first_words version) ≡ codes "%journal " ++ (48 + version) ∷ 0x0A ∷ []
 first_is version few = ap (λ digits. codes "%journal " ++ (digits ++ 0x0A ∷ [])) (decimal_digit version few)

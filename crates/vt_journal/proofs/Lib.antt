@@ -1,8 +1,6 @@
 pub mod Arguments
 pub mod CallerWords
-pub mod Calls
 pub mod Clear
-pub mod Comparing
 pub mod Cuts
 pub mod Digits
 pub mod Firsts

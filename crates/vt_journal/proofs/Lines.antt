@@ -14,7 +14,7 @@ use Rattle.vt_journal.specs.Says.{IsFitEntry}
 use Rattle.vt_journal.specs.Text.{blank_before_each}
 use Rattle.vt_journal.specs.Words.{joined_by_blanks}
 
--- words with blanks between are the first word, and the others each behind a blank
+-- words with blanks between are the first word, and the others with a blank before each
 pub joined_by_blanks-cons : (word : List ℕ) (words : List (List ℕ))
     → joined_by_blanks (word ∷ words) ≡ word ++ blank_before_each words
 joined_by_blanks-cons word [] = sym (append-nil word)
@@ -48,7 +48,7 @@ numbered_line name ns i t0 t1 all is =
     is ∙ ap (λ ms. (t0 ++ name) ++ blank_before_each (map decimal ms)) all in
     rw (joined_by_blanks-cons name (map decimal ns)) (simp (whole, append_assoc))
 
--- a name and numbers, each behind a blank, from their pieces
+-- a name and numbers, with a blank before each, from their pieces
 pub named_numbers : (name ns : List ℕ) (i : ℕ) (t0 t1 : List ℕ) → take i ns ≡ ns
     → t1 ≡ (t0 ++ 0x20 ∷ name) ++ blank_before_each (map decimal (take i ns))
     → t1 ≡ t0 ++ blank_before_each (name ∷ map decimal ns)
@@ -57,7 +57,7 @@ named_numbers name ns i t0 t1 all is =
     ∙ ap (λ ms. (t0 ++ 0x20 ∷ name) ++ blank_before_each (map decimal ms)) all
     ∙ append_assoc t0 (0x20 ∷ name) (blank_before_each (map decimal ns))
 
--- one more number behind a blank, after the first ones
+-- one more number with a blank before it, after the first ones
 pub numbers_more : (ns : List ℕ) (i : ℕ) (front text more : List ℕ) → i < length ns
     → text ≡ front ++ blank_before_each (map decimal (take i ns)) → more ≡ text ++ 0x20 ∷ decimal (get_or ns i 0)
     → more ≡ front ++ blank_before_each (map decimal (take (i + 1) ns))

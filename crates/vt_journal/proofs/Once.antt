@@ -34,7 +34,7 @@ pub same_long : (m n : ℕ) → m ≤ 18446744073709551615 → n ≤ 18446744073
     → decimal m ≡ decimal n → m ≡ n
 same_long m n fit_m fit_n = decimal_injective m n (large m fit_m) (large n fit_n)
 
--- what follows the call of an entry, behind a call that was read
+-- the words after the call of an entry are those after a call that was read
 pub behind_call : (version : ℕ) (d : Event) (u : List (List ℕ)) (e : Entry) (rest : List (List ℕ)) → IsFit d
     → plain_event d ≡ d → IsFitEntry version e
     → event_words d ++ u ≡ (event_words e.event ++ codes "=" ∷ reply_words e.reply) ++ rest
@@ -43,7 +43,7 @@ behind_call version d u e rest fit plain fit_e same =
     event_once d e.event u (codes "=" ∷ (reply_words e.reply ++ rest)) fit fit_e.call plain fit_e.plain
     (same ∙ append_assoc (event_words e.event) (codes "=" ∷ reply_words e.reply) rest)
 
--- words are one entry and what follows it
+-- words are one entry and the words after it
 pub entry_once : (version : ℕ) (d e : Entry) (u v : List (List ℕ)) → IsFitEntry version d → IsFitEntry version e
     → entry_words version d ++ u ≡ entry_words version e ++ v → (d ≡ e) × (u ≡ v)
 entry_once version d e u v fit_d fit_e same =
@@ -65,7 +65,7 @@ entry_once version d e u v fit_d fit_e same =
       answer.1,
     )
 
--- words are one end and what follows it
+-- words are one end and the words after it
 pub tail_once : (d e : Tail) (u v : List (List ℕ)) → IsFitTail d → IsFitTail e
     → tail_words d ++ u ≡ tail_words e ++ v → (d ≡ e) × (u ≡ v)
 tail_once (tail.End m b) (tail.End n c) u v fit_d fit_e same =
@@ -177,7 +177,7 @@ line_once (x ∷ a) (y ∷ b) u v line_a line_b same =
     (λ k d within. line_b (suc k) d (omega arith)) others in
     (λ j. first j ∷ both.0 j, both.1)
 
--- a line of words and what follows it
+-- a line of words and the text after it
 pub line_parts : (words : List (List ℕ)) (u : List ℕ)
     → line_text words ++ u ≡ joined_by_blanks words ++ 0x0A ∷ u
 line_parts words u = append_assoc (joined_by_blanks words) (0x0A ∷ []) u
@@ -220,13 +220,13 @@ some_line words u same = some (joined_by_blanks words) (sym (line_parts words u)
     some [] same = cc
     some (b ∷ text) same = cc
 
--- what is left of an entry behind its caller
+-- the words of an entry after its caller
 pub behind_word : (version : ℕ) (w0 w1 : List (List ℕ)) (p : ℕ) (e : Entry) (rest : List (List ℕ))
     → w0 ≡ caller_word version p ∷ w1 → w0 ≡ entry_words version e ++ rest
     → w1 ≡ decimal e.seq ∷ ((event_words e.event ++ codes "=" ∷ reply_words e.reply) ++ rest)
 behind_word version w0 w1 p e rest is0 is = cc
 
--- what is left of an entry behind its call
+-- the words of an entry after its call
 pub behind_caller : (version : ℕ) (w0 w1 w2 w3 : List (List ℕ)) (p s : ℕ) (d : Event) (e : Entry)
     (rest : List (List ℕ)) → IsFit d → plain_event d ≡ d → IsFitEntry version e → w0 ≡ caller_word version p ∷ w1
     → w1 ≡ decimal s ∷ w2 → w2 ≡ event_words d ++ w3 → w0 ≡ entry_words version e ++ rest
@@ -269,7 +269,7 @@ pub tail_cut : (line : List ℕ) (d : Tail) → IsFitTail d → joined_by_blanks
 tail_cut line d fit is =
     ap words_of_text (sym is) ∙ cut_tail d fit ∙ sym (append-nil (tail_words d))
 
--- a text that begins with a line of these words is cut behind them
+-- a text that begins with a line of these words is cut after them
 pub cut_is : (text line behind : List ℕ) (words : List (List ℕ)) (rest : List ℕ)
     → IsCutAt text line behind → IsLine (joined_by_blanks words) → text ≡ line_text words ++ rest
     → joined_by_blanks words ≡ line

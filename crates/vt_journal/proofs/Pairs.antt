@@ -34,7 +34,7 @@ hex_at (b ∷ bytes) (suc i) within =
       ap (λ n. get_or (flat_map hex_byte (b ∷ bytes)) n 0) low ∙ others.1,
     )
 
--- so a word with no byte's digits at a place spells no bytes
+-- a word with no byte's digits at a place spells no bytes
 pub no_hex : (word bytes : List ℕ) (i : ℕ) → i < length word / 2 → All (λ x. x < 2 ^ 8) bytes
     → flat_map hex_byte bytes ≡ word
     → ((b : ℕ) → b < 2 ^ 8
@@ -68,7 +68,7 @@ hex_more word bytes i b within so_far is =
     ∙ (λ j. so_far j ++ is j)
     ∙ sym longer
 
--- all bytes so far are bytes
+-- the bytes that were read have 8 bits
 pub All_more : (bytes : List ℕ) (b : ℕ) → b < 2 ^ 8 → All (λ x. x < 2 ^ 8) bytes
     → All (λ x. x < 2 ^ 8) (bytes ++ b ∷ [])
 All_more [] b fit all = All-cons (λ x. x < 2 ^ 8) b [] fit all
@@ -76,14 +76,14 @@ All_more (x ∷ bytes) b fit all =
     All-cons (λ x. x < 2 ^ 8) x (bytes ++ b ∷ []) (all 0 0 (omega arith))
     (All_more bytes b fit (λ k d inside. all (suc k) d (omega arith)))
 
--- where nothing was found, what follows from there being none
+-- if nothing was found, the fact of that case holds
 pub none_then : {X E P Q : Type 0} (r : Result (Option X) E) → (P → Q)
     → IfOk r (λ found. IfNone found P) → IfOk r (λ found. IfNone found Q)
 none_then (Ok None) more none = more none
 none_then (Ok (Some x)) more none = tt
 none_then (Err e) more none = tt
 
--- what compares otherwise than the dash is no dash
+-- a word that compares as different from the dash is not the dash
 pub no_dash : (word dash : List ℕ) → dash ≡ codes "-" → false ≡ pointwise eqb word dash
     → word ≢ codes "-"
 no_dash word dash is apart same =

@@ -1,7 +1,7 @@
--- What the words of an answer are.
-use Rattle.std.proofs.Common.{◌≡◌, ℕ, ◌<◌, ◌≤◌, ◌^◌, Bool, true, false, ◌&&◌, cond, eqb, ltb, Option, Some, None, Result, Ok, Err, List, [], ◌∷◌, ◌++◌, find, get_or, length, map, decimal, refl, sym, ap, subst, ◌∙◌, append_assoc, arith}
+-- The words of an answer, and the answer of words.
+use Rattle.std.proofs.Common.{◌≡◌, ℕ, ◌<◌, ◌≤◌, ◌^◌, Bool, true, ◌&&◌, cond, eqb, ltb, Option, Some, None, Result, Ok, Err, List, [], ◌∷◌, ◌++◌, find, get_or, length, map, decimal, refl, sym, ap, subst, ◌∙◌, append_assoc, arith}
 use Rattle.std.specs.List.{All, list_all}
-use Rattle.std.specs.Prelude.{IfNone, IfSome, OnOk, unwrap_or}
+use Rattle.std.specs.Prelude.{IfNone, OnOk, unwrap_or}
 use Rattle.std.proofs.lemmas.List.{get_or-replicate}
 use Rattle.vt_base.specs.Bytes.{Text}
 use Rattle.vt_base.specs.declared.vt_mode.VtMode.{VtMode}
@@ -13,14 +13,15 @@ use Rattle.std.proofs.lemmas.Option.{same_Some}
 use Rattle.vt_base.specs.Errno.{number_of}
 use Rattle.vt_base.specs.declared.errno.Errno.{Errno}
 use Rattle.vt_base.specs.declared.errno.Errno.TheVariants as errno
-use Rattle.vt_events.specs.Plain.{plain_reply, text}
+use Rattle.vt_events.specs.Kinds.{text}
+use Rattle.vt_events.specs.Plain.{plain_reply}
 use Rattle.vt_events.specs.declared.reply.Reply.{Reply}
 use Rattle.vt_events.specs.declared.reply.Reply.TheVariants as reply
-use Rattle.vt_journal.specs.Replies.{IsAnswer, IsFitReply, Within, kind_of, mosts, reply_held, reply_holds, reply_name, reply_numbers}
+use Rattle.vt_journal.specs.Replies.{IsFitReply, Within, kind_of, mosts, reply_held, reply_holds, reply_name, reply_numbers}
 use Rattle.vt_journal.specs.Words.{held_words, reply_words}
 use Rattle.vt_journal.specs.declared.reply_kind.ReplyKind.{ReplyKind}
 use Rattle.vt_journal.specs.declared.reply_kind.ReplyKind.TheVariants as kind
-use Rattle.vt_journal.proofs.Calls.{held_if}
+use Rattle.vt_events.proofs.Calls.{held_if}
 use Rattle.vt_journal.proofs.Clear.{are_clear, are_clear-append, are_clear_decimals, are_clear_held, is_clear}
 use Rattle.vt_journal.proofs.Spellings.{decimals_injective, fit_bytes, held_injective, split_numbers}
 
@@ -31,7 +32,7 @@ pub reply_parts : (r : Reply)
 reply_parts (reply.Text b) = refl
 reply_parts r = refl
 
--- the bytes that an answer holds, where it holds any
+-- the bytes that an answer holds, if it holds any
 abbrev pub reply_bytes : Reply → List ℕ
 reply_bytes r = unwrap_or (reply_held r) []
 
@@ -92,7 +93,7 @@ remade_parts (reply.Text b) = refl
 remade_parts (reply.Err e) = ap reply.Err (error_of_number e)
 remade_parts r = refl
 
--- so answers with the same ones are the same
+-- answers with the same kind, numbers and bytes are the same
 pub same_reply_of : (r s : Reply) → plain_reply r ≡ r → plain_reply s ≡ s → kind_of r ≡ kind_of s
     → reply_numbers r ≡ reply_numbers s → reply_held r ≡ reply_held s → r ≡ s
 same_reply_of r s plain_r plain_s kinds numbers held =
@@ -136,7 +137,7 @@ are_clear-reply r fit =
     (are_clear_held (reply_held r)) in
     ap are_clear (reply_parts r) ∙ (λ j. is_clear-reply_name (kind_of r) j && others j)
 
--- what stands behind the name of a kind
+-- the words after the name of a kind
 pub record ReplyIs (k : ReplyKind) (u : List (List ℕ)) (r : Reply) (rest : List (List ℕ)) : Type 0 where
   pub kind : kind_of r ≡ k
   pub words : u ≡ map decimal (reply_numbers r) ++ (held_words (reply_held r) ++ rest)
@@ -156,7 +157,7 @@ reply_is words u k r rest is named =
           others ∙ append_assoc (map decimal (reply_numbers r)) (held_words (reply_held r)) rest;
     }
 
--- behind the numbers that were read stand the bytes
+-- after the numbers that were read come the bytes
 pub record NumbersAre (ns : List ℕ) (v : List (List ℕ)) (r : Reply) (rest : List (List ℕ)) : Type 0 where
   pub numbers : ns ≡ reply_numbers r
   pub words : v ≡ held_words (reply_held r) ++ rest
@@ -176,7 +177,7 @@ numbers_are k ns u v r rest is fit within numbers =
       words = both.1;
     }
 
--- the word of the bytes, where the kind holds any
+-- the word of the bytes, if the kind holds any
 pub held_are : (k : ReplyKind) (u v : List (List ℕ)) (r : Reply) (rest : List (List ℕ)) (held : Bool)
     → kind_of r ≡ k → held ≡ reply_holds k → v ≡ held_words (reply_held r) ++ rest
     → v ≡ held_words (held_if held (reply_bytes r)) ++ rest
@@ -185,7 +186,7 @@ held_are k u v r rest held is same words =
     ∙ ap (λ held. held_words held ++ rest)
     (reply-held r ∙ ap (λ h. held_if h (reply_bytes r)) (ap reply_holds is ∙ sym same))
 
--- words are one answer and what follows it
+-- words are one answer and the words after it
 pub reply_once : (r s : Reply) (u v : List (List ℕ)) → IsFitReply r → IsFitReply s
     → reply_words r ++ u ≡ reply_words s ++ v → (r ≡ s) × (u ≡ v)
 reply_once r s u v fit_r fit_s same =
@@ -209,7 +210,7 @@ reply_once r s u v fit_r fit_s same =
       held.1,
     )
 
--- the answer made of what was read has these words
+-- the answer made of the kind, numbers and bytes that were read has these words
 pub record IsReplyRead (words : List (List ℕ)) (r : Reply) (rest : List (List ℕ)) : Type 0 where
   pub parts : words ≡ reply_words r ++ rest
   pub fit : IsFitReply r
@@ -222,12 +223,12 @@ named_reply r rest = (
   ap (λ words. words ++ rest) (reply_parts r),
 )
 
--- where there is none, what follows from that
+-- if there is none, the fact of that case holds
 pub none_more : {X P Q : Type 0} (o : Option X) → (P → Q) → IfNone o P → IfNone o Q
 none_more None more none = more none
 none_more (Some x) more none = tt
 
--- what holds however a call ended holds where it is done
+-- a fact that holds for every result of a call holds after Ok
 pub always : {T E P : Type 0} (r : Result T E) → P → OnOk r P
 always (Ok x) holds = holds
 always (Err e) holds = tt

@@ -1,4 +1,4 @@
--- A text says one thing as a journal.
+-- A text has one meaning as a journal.
 use Rattle.std.proofs.Common.{◌≡◌, ◌≢◌, ℕ, ◌+◌, ◌≤◌, ◌⊎◌, inl, inr, List, [], ◌∷◌, ◌++◌, Result, Ok, codes, decimal, length, map, refl, sym, ap, subst, ◌∙◌, append_assoc, arith}
 use Rattle.std.specs.List.{All, flat_map}
 use Rattle.std.proofs.lemmas.List.{append-nil, append_cancel_left, length-map, map-append}
@@ -30,7 +30,7 @@ next_line : (version : ℕ) (d : Entry) (a : List Entry) (u : List ℕ)
 next_line version d a u =
     append_assoc (line_text (entry_words version d)) (flat_map line_text (map (entry_words version) a)) u
 
--- behind the entries there is no other, so they are all
+-- after the entries there is no other, so they are all
 same_front : (version : ℕ) (a b : List Entry) (u v : List ℕ) → All (IsFitEntry version) a → All (IsFitEntry version) b → IsNoEntry version u
     → IsNoEntry version v → body version a u ≡ body version b v → (a ≡ b) × (u ≡ v)
 same_front version [] [] u v fit_a fit_b none_u none_v same = (refl, same)
@@ -62,7 +62,7 @@ no_longer version (d ∷ a) (e ∷ b) u v fit_a fit_b none_u same =
           first.1,
     )
 
--- what follows the entries, where no entry does
+-- the text after the entries, if no entry follows
 data Follows (version : ℕ) (entries : List Entry) (u : List ℕ) : Result Journal JFault → Type 0 where
   Ends : (end : Tail) → IsFitTail end → u ≡ line_text (tail_words end) ++ [] → Follows version entries u (Ok (record { version = version; entries = entries; tail = end }))
   Fails : u ≢ [] → IsNoTail u → Follows version entries u (fault 41 (length entries + 2))
@@ -98,13 +98,13 @@ follows_once version entries u a b (Goes d rest fit_d is_d some) (Stops none) =
     absurd (some_line (tail_words d) rest (sym is_d ∙ none))
 follows_once version entries u a b (Goes d rest fit_d is_d some) (Goes e others fit_e is_e more) = refl
 
--- what a text says, in three cases
+-- the meaning of a text, in three cases
 data Said (text : List ℕ) : Result Journal JFault → Type 0 where
   Lacks : IsNoFirst text → Said text (fault 40 0)
   Many : (version : ℕ) (entries : List Entry) (rest : List ℕ) → Begins version text entries rest → length entries ≡ most_entries + 1 → Said text (fault 44 (length entries + 1))
   Has : (version : ℕ) (entries : List Entry) (u : List ℕ) (said : Result Journal JFault) → Begins version text entries u → IsNoEntry version u → length entries ≤ most_entries → Follows version entries u said → Said text said
 
--- the text of a journal, behind its entries
+-- the text of a journal after its entries
 pub parts_of : (version : ℕ) (entries : List Entry) (end : Tail)
     → journal_text version entries end
     ≡ line_text (first_words version) ++ body version entries (line_text (tail_words end) ++ [])
@@ -135,7 +135,7 @@ said text a (More version entries end rest begins few fit_e some) =
     (no_entry_end version end rest fit_e) few (Goes end rest fit_e refl some)
 said text a (TooMany version entries rest begins many) = Many version entries rest begins many
 
--- a text begins as one version
+-- a text has the first line of at most one version
 one_version : (v w : ℕ) (text : List ℕ) (a b : List Entry) (u t : List ℕ) → Begins v text a u
     → Begins w text b t → v ≡ w
 one_version v w text a b u t one other =
@@ -205,9 +205,9 @@ pub one_journal : (text : List ℕ) (a b : Result Journal JFault) → JournalSay
     → JournalSays text b → a ≡ b
 one_journal text a b says_a says_b = said_once text a b (said text a says_a) (said text b says_b)
 
--- the room of bytes is none of what is printed
+-- the room of bytes is not printed
 plain_words : (e : Event) → event_words (plain_event e) ≡ event_words e
-plain_words (event.Scan b) = refl
+plain_words event.Exit = refl
 plain_words e = refl
 
 plain_answer : (r : Reply) → reply_words (plain_reply r) ≡ reply_words r
@@ -234,7 +234,7 @@ printed_is_read version entries end known fit fit_e few =
     (ap (λ lines. line_text (first_words version) ++ flat_map line_text (lines ++ tail_words end ∷ []))
     (sym (plain_entries version entries)))
 
--- so far these entries were read, and the rest is left
+-- these entries were read, and the rest is left
 pub record IsSoFar (version : ℕ) (text : List ℕ) (entries : List Entry) (rest : List ℕ) : Type 0 where
   pub fit : All (IsFitEntry version) entries
   pub parts : text ≡ body version entries rest
@@ -273,7 +273,7 @@ whole_is version whole text entries rest end known is so_far fit next few =
     ∙ ap (λ text. line_text (first_words version) ++ text) (so_far.parts ∙ ap (body version entries) next)
     ∙ sym (parts_of version entries end))
 
--- something is behind the last line
+-- a text follows the last line
 pub more_is : (version : ℕ) (whole text : List ℕ) (entries : List Entry) (rest : List ℕ) (end : Tail) (behind : List ℕ)
     → IsVersion version → whole ≡ line_text (first_words version) ++ text → IsSoFar version text entries rest → IsFitTail end
     → rest ≡ line_text (tail_words end) ++ behind → length entries ≤ most_entries → behind ≢ []
@@ -284,7 +284,7 @@ more_is version whole text entries rest end behind known is so_far fit next few 
     (subst (IsSoFar version text entries) next so_far))
     few fit some
 
--- a text is nothing, or it isn't
+-- a text is empty, or it isn't
 pub nothing_or_some : (text : List ℕ) → (text ≡ []) ⊎ (text ≢ [])
 nothing_or_some [] = inl refl
 nothing_or_some (b ∷ text) = inr (λ same. cc)

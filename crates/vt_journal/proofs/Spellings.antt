@@ -1,4 +1,4 @@
--- What the words of a call are.
+-- The words of a call, and the call of words.
 use Rattle.std.proofs.Common.{◌≡◌, ℕ, ◌<◌, ◌^◌, Bool, true, false, suc, Option, Some, None, is_some, List, [], ◌∷◌, ◌++◌, length, map, decimal, refl, sym, ap, subst, ◌∙◌, append_assoc, arith}
 use Rattle.std.specs.Borrow.{Bor}
 use Rattle.std.specs.List.{All}
@@ -6,15 +6,15 @@ use Rattle.std.specs.Option.{MatchOption}
 use Rattle.std.specs.Prelude.{IfSome, unwrap_or}
 use Rattle.std.proofs.lemmas.Fmt.{decimal_injective}
 use Rattle.std.proofs.lemmas.List.Elements.{All-weaker}
+use Rattle.vt_events.specs.Calls.{PartsView, bytes_of, held_of, kind_of, numbers_of}
+use Rattle.vt_events.specs.Kinds.{blank, call_of, name_of, takes}
 use Rattle.vt_events.specs.Plain.{plain_event}
 use Rattle.vt_events.specs.declared.event.Event.{Event}
-use Rattle.vt_journal.specs.Calls.{held_of, name_of, numbers_of}
+use Rattle.vt_events.specs.declared.kind.Kind.{Kind}
+use Rattle.vt_events.proofs.Calls.{IsOfKind, held-if, held_if, holds, is_made, kind_once, of_kind, parts-plain, same_call, takes_held}
 use Rattle.vt_journal.specs.Cut.{words_of_text}
 use Rattle.vt_journal.specs.Hex.{hex_text}
-use Rattle.vt_journal.specs.Kinds.{blank, call_of, takes}
 use Rattle.vt_journal.specs.Words.{IsFit, Spells, event_words, held_words}
-use Rattle.vt_journal.specs.declared.kind.Kind.{Kind}
-use Rattle.vt_journal.proofs.Calls.{IsOfKind, bytes_of, held-if, held_if, holds, kind_named, made, of_kind, same_call, same_name, takes_held}
 use Rattle.vt_journal.proofs.Clear.{are_clear, are_clear-append, are_clear_decimals, are_clear_held, is_clear_name, words_of_text-joined_by_blanks}
 use Rattle.vt_journal.proofs.Pairs.{hex_injective}
 
@@ -33,34 +33,32 @@ cut_parts text e s =
     are_clear-append (map decimal (numbers_of e)) (held_words (held_of e))
     (are_clear_decimals (numbers_of e) (wide (numbers_of e) s.fit.numbers))
     (are_clear_held (held_of e)) in
-    ap words_of_text (sym s.spelled) ∙ words_of_text-joined_by_blanks (name_of e) others (is_clear_name e) are
+    ap words_of_text (sym s.spelled) ∙ words_of_text-joined_by_blanks (name_of (kind_of e)) others (is_clear_name (kind_of e)) are
 
 -- the first of them is the name of a kind
 pub named_kind : (e : Event) (rest : List (List ℕ))
-    → (k : Kind) × (more : List (List ℕ)) × (event_words e ++ rest ≡ name_of (blank k) ∷ more)
+    → (k : Kind) × (more : List (List ℕ)) × (event_words e ++ rest ≡ name_of k ∷ more)
 named_kind e rest =
-    let named = kind_named e in
-    let others : List (List ℕ) = (map decimal (numbers_of e) ++ held_words (held_of e)) ++ rest in
-    (named.0, others, ap (λ name. name ∷ others) (sym named.1))
+    (kind_of e, (map decimal (numbers_of e) ++ held_words (held_of e)) ++ rest, refl)
 
--- what stands behind the name of a kind
+-- the words after the name of a kind
 pub record KindIs (k : Kind) (u : List (List ℕ)) (e : Event) (rest : List (List ℕ)) : Type 0 where
   pub words : u ≡ map decimal (numbers_of e) ++ (held_words (held_of e) ++ rest)
   pub kind : IsOfKind k e
 
 pub kind_is : (words u : List (List ℕ)) (k : Kind) (e : Event) (rest : List (List ℕ))
-    → words ≡ event_words e ++ rest → words ≡ name_of (blank k) ∷ u → KindIs k u e rest
+    → words ≡ event_words e ++ rest → words ≡ name_of k ∷ u → KindIs k u e rest
 kind_is words u k e rest is named =
-    let both : name_of (blank k) ∷ u
-    ≡ name_of e ∷ ((map decimal (numbers_of e) ++ held_words (held_of e)) ++ rest) = sym named ∙ is in
-    let name : name_of e ≡ name_of (blank k) = cc in
+    let both : name_of k ∷ u
+    ≡ name_of (kind_of e) ∷ ((map decimal (numbers_of e) ++ held_words (held_of e)) ++ rest) = sym named ∙ is in
+    let name : name_of (kind_of e) ≡ name_of k = cc in
     let others : u ≡ (map decimal (numbers_of e) ++ held_words (held_of e)) ++ rest = cc in
     record {
       words = others ∙ append_assoc (map decimal (numbers_of e)) (held_words (held_of e)) rest;
-      kind = of_kind e k name;
+      kind = subst (λ k. IsOfKind k e) (kind_once (kind_of e) k name) (of_kind e);
     }
 
--- as many numbers, and then what follows them
+-- as many numbers, and the words after them
 pub split_numbers : (ms ns : List ℕ) (u v : List (List ℕ)) → length ms ≡ length ns
     → map decimal ms ++ u ≡ map decimal ns ++ v → (map decimal ms ≡ map decimal ns) × (u ≡ v)
 split_numbers [] [] u v many same = (refl, same)
@@ -72,9 +70,9 @@ split_numbers (m ∷ ms) (n ∷ ns) u v many same =
     let both = split_numbers ms ns u v (omega arith) others in
     (λ j. first j ∷ both.0 j, both.1)
 
--- behind its name and as many numbers stand a call's bytes
+-- after its name and as many numbers come a call's bytes
 pub bytes_are : (words u v : List (List ℕ)) (k : Kind) (ns : List ℕ) (held : Bool) (e : Event)
-    (rest : List (List ℕ)) → words ≡ event_words e ++ rest → words ≡ name_of (blank k) ∷ u
+    (rest : List (List ℕ)) → words ≡ event_words e ++ rest → words ≡ name_of k ∷ u
     → u ≡ map decimal ns ++ v → length ns ≡ length (numbers_of (blank k)) → held ≡ holds (blank k)
     → v ≡ held_words (held_if held (bytes_of e)) ++ rest
 bytes_are words u v k ns held e rest is named numbers many same =
@@ -105,7 +103,7 @@ decimals_injective (m ∷ ms) (n ∷ ns) fit_m fit_n same =
     (λ k d within. fit_n (suc k) d (omega arith)) others in
     λ j. head j ∷ tail j
 
--- bytes are read back from their word, and so is what follows them
+-- bytes are read back from their word, and so are the words after them
 pub held_injective : (held : Bool) (a b : List ℕ) (u v : List (List ℕ)) → All (λ x. x < 2 ^ 8) a
     → All (λ x. x < 2 ^ 8) b → held_words (held_if held a) ++ u ≡ held_words (held_if held b) ++ v
     → (held_if held a ≡ held_if held b) × (u ≡ v)
@@ -117,7 +115,7 @@ held_injective false a b u v fit_a fit_b same = (refl, same)
 
 -- a call has as many bytes as its kind takes, however they are read
 pub takes_all : (words u v w : List (List ℕ)) (k : Kind) (ns b : List ℕ) (held : Bool) (e : Event)
-    (rest : List (List ℕ)) → words ≡ event_words e ++ rest → words ≡ name_of (blank k) ∷ u
+    (rest : List (List ℕ)) → words ≡ event_words e ++ rest → words ≡ name_of k ∷ u
     → u ≡ map decimal ns ++ v → v ≡ held_words (held_if held b) ++ w
     → length ns ≡ length (numbers_of (blank k)) → held ≡ holds (blank k)
     → All (λ x. x < 2 ^ 8) b → IsFit e → takes k (length b) ≡ true
@@ -134,16 +132,18 @@ takes_all words u v w k ns b held e rest is named numbers bytes many same fit_b 
     ∙ takes_held k (bytes_of e)
     ∙ (kind_is words u k e rest is named).kind.takes
 
--- words are one call and what follows it
+-- words are one call and the words after it
 pub event_once : (d e : Event) (u v : List (List ℕ)) → IsFit d → IsFit e → plain_event d ≡ d
     → plain_event e ≡ e → event_words d ++ u ≡ event_words e ++ v → (d ≡ e) × (u ≡ v)
 event_once d e u v fit_d fit_e plain_d plain_e same =
-    let name : name_of d ≡ name_of e = cc in
-    let like = same_name d e name in
+    let name : name_of (kind_of d) ≡ name_of (kind_of e) = cc in
+    let kind = kind_once (kind_of d) (kind_of e) name in
+    let like = subst (λ k. IsOfKind k d) kind (of_kind d) in
+    let other = of_kind e in
     let others : (map decimal (numbers_of d) ++ held_words (held_of d)) ++ u
     ≡ (map decimal (numbers_of e) ++ held_words (held_of e)) ++ v = cc in
     let both =
-    split_numbers (numbers_of d) (numbers_of e) _ _ like.0
+    split_numbers (numbers_of d) (numbers_of e) _ _ (like.many ∙ sym other.many)
     (sym (append_assoc (map decimal (numbers_of d)) (held_words (held_of d)) u)
     ∙ others
     ∙ append_assoc (map decimal (numbers_of e)) (held_words (held_of e)) v) in
@@ -151,14 +151,14 @@ event_once d e u v fit_d fit_e plain_d plain_e same =
     decimals_injective (numbers_of d) (numbers_of e) (wide (numbers_of d) fit_d.numbers)
     (wide (numbers_of e) fit_e.numbers) both.0 in
     let here : held_of d ≡ held_if (holds e) (bytes_of d) =
-    held-if d ∙ ap (λ h. held_if h (bytes_of d)) like.1 in
+    held-if d ∙ ap (λ h. held_if h (bytes_of d)) (like.holds ∙ sym other.holds) in
     let held =
     held_injective (holds e) (bytes_of d) (bytes_of e) u v (fit_bytes (held_of d) fit_d.bytes)
     (fit_bytes (held_of e) fit_e.bytes)
     (ap (λ held. held_words held ++ u) (sym here)
     ∙ both.1
     ∙ ap (λ held. held_words held ++ v) (held-if e)) in
-    (same_call d e plain_d plain_e name numbers (here ∙ held.0 ∙ sym (held-if e)), held.1)
+    (same_call d e plain_d plain_e kind numbers (here ∙ held.0 ∙ sym (held-if e)), held.1)
 
 -- one text spells one call
 pub spelled_once : (text : List ℕ) (d e : Event) → Spells text d → Spells text e → d ≡ e
@@ -166,27 +166,27 @@ spelled_once text d e sd se =
     (event_once d e [] [] sd.fit se.fit sd.plain se.plain
     (ap (λ words. words ++ []) (sym (cut_parts text d sd) ∙ cut_parts text e se))).0
 
--- the call made of what was read has these words
+-- the call made of the kind, numbers and bytes that were read has these words
 pub record IsRead (words : List (List ℕ)) (e : Event) (rest : List (List ℕ)) : Type 0 where
   pub parts : words ≡ event_words e ++ rest
   pub fit : IsFit e
   pub plain : plain_event e ≡ e
 
 pub call_is : (words u v w : List (List ℕ)) (k : Kind) (ns b : List ℕ) (held : Bool)
-    → words ≡ name_of (blank k) ∷ u → u ≡ map decimal ns ++ v
+    → words ≡ name_of k ∷ u → u ≡ map decimal ns ++ v
     → v ≡ held_words (held_if held b) ++ w → length ns ≡ length (numbers_of (blank k))
     → held ≡ holds (blank k) → takes k (length b) ≡ true → All (λ n. n < 2 ^ 16) ns
     → All (λ x. x < 2 ^ 8) b → IsRead words (call_of k ns b) w
 call_is words u v w k ns b held name numbers bytes many same few fit_n fit_b =
     let e = call_of k ns b in
-    let is = made k ns b many few in
+    let is = is_made k ns b many few in
     let here : held_of e ≡ held_if held b = is.held ∙ ap (λ h. held_if h b) (sym same) in
     record {
       parts =
           name
-          ∙ ap (λ rest. name_of (blank k) ∷ rest) (numbers ∙ ap (λ rest. map decimal ns ++ rest) bytes)
-          ∙ sym (ap (λ rest. name_of (blank k) ∷ rest) (append_assoc (map decimal ns) (held_words (held_if held b)) w))
-          ∙ sym (λ j. is.name j ∷ ((map decimal (is.numbers j) ++ held_words (here j)) ++ w));
+          ∙ ap (λ rest. name_of k ∷ rest) (numbers ∙ ap (λ rest. map decimal ns ++ rest) bytes)
+          ∙ sym (ap (λ rest. name_of k ∷ rest) (append_assoc (map decimal ns) (held_words (held_if held b)) w))
+          ∙ sym (λ j. name_of (is.kind j) ∷ ((map decimal (is.numbers j) ++ held_words (here j)) ++ w));
       fit = record {
         numbers = subst (All (λ n. n < 2 ^ 16)) (sym is.numbers) fit_n;
         bytes =
@@ -201,7 +201,20 @@ call_is words u v w k ns b held name numbers bytes many same few fit_n fit_b =
     fit_if true b fit = fit
     fit_if false b fit = tt
 
--- where there is a next word some are left, and else none
+-- a call without room is fit if its numbers and its bytes are
+pub fit_meant : (e : Event) → All (λ n. n < 2 ^ 16) (numbers_of e)
+    → IfSome (held_of e) (λ bytes. All (λ b. b < 2 ^ 8) bytes) → IsFit (plain_event e)
+fit_meant e numbers held =
+    let same = parts-plain e in
+    record {
+      numbers =
+          subst (All (λ n. n < 2 ^ 16)) (sym (ap (λ (p : PartsView). p.numbers) same)) numbers;
+      bytes =
+          subst (λ held. IfSome held (λ bytes. All (λ b. b < 2 ^ 8) bytes))
+          (sym (ap (λ (p : PartsView). p.held) same)) held;
+    }
+
+-- if there is a next word some are left, and otherwise none
 pub some_next : (r : Option (Bor (List ℕ))) (old new : List (List ℕ))
     → MatchOption r ((old ≡ []) × (new ≡ [])) (λ word. old ≡ word.now ∷ new)
     → is_some r ≡ true → old ≡ [] → ⊥

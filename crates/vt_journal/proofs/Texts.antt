@@ -5,7 +5,7 @@ use Rattle.std.proofs.Math.Seq.{take-append_seam}
 use Rattle.std.proofs.lemmas.List.{append-nil, take-take, length-take}
 use Rattle.vt_journal.specs.Text.{Begins}
 
--- a text with more behind it
+-- a text with more bytes after it
 pub begins_more : (a b more : List ℕ) → b ≡ a ++ more → Begins a b
 begins_more a b more is = record { front = ap (take (length a)) is ∙ take-append_seam a more }
 
@@ -13,7 +13,7 @@ begins_more a b more is = record { front = ap (take (length a)) is ∙ take-appe
 pub begins_same : (a b : List ℕ) → b ≡ a → Begins a b
 begins_same a b is = begins_more a b [] (is ∙ sym (append-nil a))
 
--- a text begins with what its beginning began with
+-- if a text begins with a second one, and that with a third, the first begins with the third
 pub begins_after : (a b c : List ℕ) → Begins a b → Begins b c → Begins a c
 begins_after a b c first then =
     let short : length a ≤ length b =
@@ -25,7 +25,7 @@ begins_after a b c first then =
           ∙ first.front;
     }
 
--- a text begins with what it was, however a call ended that adds a piece or leaves it
+-- after a call that adds a piece or leaves the text unchanged, the text begins with the earlier one
 pub begins_either : {T E : Type 0} (r : Result T E) (a b more : List ℕ) → OnOk r (b ≡ a ++ more)
     → OnErr r (b ≡ a) → Begins a b
 begins_either (Ok x) a b more ok err = begins_more a b more ok

@@ -7,7 +7,7 @@ use Rattle.std.specs.List.{slice_split}
 abbrev pub words_of_text : List ℕ → List (List ℕ)
 words_of_text text = slice_split (λ b. b == 0x20) text
 
--- the words of a text where there is one
+-- the words of a text, if there is one
 abbrev pub cut_of : Option (Bor (List ℕ)) → List (List ℕ)
 cut_of None = []
 cut_of (Some text) = words_of_text text.now

@@ -1,4 +1,4 @@
--- The errors as texts: a fault's number, its line, and column 1 of it, or 0:0 where there is no line.
+-- The errors as texts: a fault's number, its line, and column 1 of it, or 0:0 if there is no line.
 use Rattle.std.specs.Prelude.{ℕ, List, ◌++◌, codes, decimal, min}
 use Rattle.vt_journal.specs.declared.j_fault.JFault.{JFault}
 use Rattle.vt_journal.specs.declared.j_error.JError.{JError}

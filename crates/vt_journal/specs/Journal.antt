@@ -1,4 +1,4 @@
--- The journal text of a version: the one spelling of entries and how they end. This project's own.
+-- The journal text of a version: the one spelling of entries and their end. This project's own.
 use Rattle.std.specs.Prelude.{ℕ, List, [], ◌∷◌, ◌++◌, codes, decimal, map}
 use Rattle.std.specs.List.{flat_map}
 use Rattle.vt_events.specs.declared.entry.Entry.{Entry}
@@ -7,13 +7,13 @@ use Rattle.vt_journal.specs.declared.tail.Tail.{Tail}
 use Rattle.vt_journal.specs.declared.tail.Tail.TheVariants as tail
 use Rattle.vt_journal.specs.Words.{event_words, reply_words, joined_by_blanks}
 
--- the caller, its count of earlier calls, the call, and the answer behind an equals sign
+-- the caller, its count of earlier calls, the call, and the answer after an equals sign
 abbrev pub entry_words : ℕ → Entry → List (List ℕ)
 entry_words version entry =
     caller_word version entry.caller ∷ decimal entry.seq
     ∷ event_words entry.event ++ codes "=" ∷ reply_words entry.reply
 
--- the numbers of entries and of their bytes; where no room was found, the charge that found none
+-- the number of entries and the sum of their charges; if a call found no room, its charge too
 abbrev pub tail_words : Tail → List (List ℕ)
 tail_words (tail.End events bytes) = codes "%end" ∷ decimal events ∷ decimal bytes ∷ []
 tail_words (tail.Full full) =

@@ -1,10 +1,8 @@
 pub mod Callers
-pub mod Calls
 pub mod Cut
 pub mod ErrorText
 pub mod Hex
 pub mod Journal
-pub mod Kinds
 pub mod Lines
 pub mod Log
 pub mod Replies

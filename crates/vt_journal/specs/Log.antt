@@ -5,12 +5,12 @@ use Rattle.vt_events.specs.Charge.{charge_of}
 use Rattle.vt_events.specs.declared.entry.Entry.{Entry}
 use Rattle.vt_journal.specs.declared.limits.Limits.{Limits}
 
--- what contracts see of `Log`: its entries in order, and its limits
+-- the model of `Log`: its entries in order, and its limits
 pub record Logged : Type 0 where
   pub entries : List Entry
   pub limits : Limits
 
--- what entries count for together
+-- the sum of the charges of entries
 abbrev pub charge_of_all : List Entry → ℕ
 charge_of_all entries = sum_by (λ entry. charge_of entry.event) entries
 
@@ -19,7 +19,7 @@ pub record HasRoom (log : Logged) (charge : ℕ) : Type 0 where
   pub entries : length log.entries < log.limits.events
   pub bytes : charge_of_all log.entries + charge ≤ log.limits.bytes
 
--- a log's entries are within its limits, which have room, and their sum is kept
+-- a log's entries are within its limits, for which there is room, and the sum of their charges is kept
 pub record IsLog (log : Logged) (capacity kept : ℕ) : Type 0 where
   pub sum : kept ≡ charge_of_all log.entries
   pub room : log.limits.events ≤ capacity

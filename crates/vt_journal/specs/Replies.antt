@@ -1,4 +1,4 @@
--- Answers by their kinds: the name, the numbers and the bytes that their words say. This project's own.
+-- Answers by their kinds: the name, the numbers and the bytes of their words. This project's own.
 use Rattle.std.specs.Prelude.{◌≡◌, ℕ, ◌<◌, ◌≤◌, ◌^◌, Bool, true, false, List, [], ◌∷◌, Option, Some, None, IfSome, codes, length, if◌then◌else◌}
 use Rattle.std.specs.List.{All, slice_index}
 use Rattle.vt_base.specs.Errno.{number_of}
@@ -46,7 +46,7 @@ reply_name kind.Wait = codes "wait"
 reply_name kind.Sigs = codes "sigs"
 reply_name kind.Err = codes "err"
 
--- the most that each of its numbers can be
+-- the greatest value of each of its numbers
 abbrev pub mosts : ReplyKind → List ℕ
 mosts kind.Done = []
 mosts kind.Num = 4294967295 ∷ []
@@ -63,7 +63,7 @@ abbrev pub reply_holds : ReplyKind → Bool
 reply_holds kind.Text = true
 reply_holds k = false
 
--- as many numbers, none above the most in its place
+-- as many numbers as greatest values, each at most its own
 pub record Within (most numbers : List ℕ) : Type 0 where
   pub many : length numbers ≡ length most
   pub each : (i : ℕ) → i < length numbers → slice_index numbers i ≤ slice_index most i
@@ -74,7 +74,7 @@ pub record IsFitReply (r : Reply) : Type 0 where
   pub bytes : IfSome (reply_held r) (λ bytes. All (λ b. b < 2 ^ 8) bytes)
   pub plain : plain_reply r ≡ r
 
--- an answer of this kind, these numbers, and these bytes where its kind holds any
+-- an answer of this kind, these numbers, and these bytes if its kind holds any
 pub record IsAnswer (k : ReplyKind) (n b : List ℕ) (r : Reply) : Type 0 where
   pub kind : kind_of r ≡ k
   pub numbers : reply_numbers r ≡ n

@@ -1,4 +1,4 @@
--- What fits into a journal, and how the journal ends. This project's own.
+-- The room of a journal within its limits, and its end. This project's own.
 use Rattle.std.specs.Prelude.{ℕ, ◌+◌, ◌≤◌, ◌&&◌, nat_le, nat_lt, Bool, List, length, Option, Some, None}
 use Rattle.vt_events.specs.declared.entry.Entry.{Entry}
 use Rattle.vt_journal.specs.Log.{charge_of_all}
@@ -17,12 +17,12 @@ pub record IsWithin (limits : Limits) (history : List Entry) : Type 0 where
   pub events : length history ≤ limits.events
   pub bytes : charge_of_all history ≤ limits.bytes
 
--- where a call of that charge finds no room
+-- the journal with this history, which has no room for a call of that charge
 abbrev pub full_at : List Entry → ℕ → Full
 full_at history charge =
     record { events = length history; bytes = charge_of_all history; charge = charge }
 
--- the end of a journal with this history, which stopped there, or where all calls stand
+-- the end of a journal with this history: at the call that found no room, or after every call
 abbrev pub tail_at : List Entry → Option Full → Tail
 tail_at history None = tail.End (length history) (charge_of_all history)
 tail_at history (Some full) = tail.Full full

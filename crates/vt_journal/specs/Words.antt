@@ -3,22 +3,23 @@
 use Rattle.std.specs.Prelude.{◌≡◌, ℕ, ◌<◌, ◌^◌, List, [], ◌∷◌, ◌++◌, Option, Some, None, IfSome, codes, decimal, map}
 use Rattle.std.specs.List.{All, join_with_byte}
 use Rattle.vt_base.specs.Errno.{number_of}
+use Rattle.vt_events.specs.Calls.{held_of, kind_of, numbers_of}
+use Rattle.vt_events.specs.Kinds.{name_of}
 use Rattle.vt_events.specs.Plain.{plain_event}
 use Rattle.vt_events.specs.declared.event.Event.{Event}
 use Rattle.vt_events.specs.declared.reply.Reply.{Reply}
 use Rattle.vt_events.specs.declared.reply.Reply.TheVariants as reply
-use Rattle.vt_journal.specs.Calls.{held_of, name_of, numbers_of}
 use Rattle.vt_journal.specs.Cut.{words_of_text}
 use Rattle.vt_journal.specs.Hex.{hex_text}
 
--- the word of the bytes that a call holds, where it holds any
+-- the word of the bytes that a call holds, if it holds any
 abbrev pub held_words : Option (List ℕ) → List (List ℕ)
 held_words None = []
 held_words (Some bytes) = hex_text bytes ∷ []
 
 -- the words of a call: its name, its numbers, and the bytes that it holds
 abbrev pub event_words : Event → List (List ℕ)
-event_words e = name_of e ∷ (map decimal (numbers_of e) ++ held_words (held_of e))
+event_words e = name_of (kind_of e) ∷ (map decimal (numbers_of e) ++ held_words (held_of e))
 
 -- an answer's name and its numbers
 abbrev name_and_numbers : List ℕ → List ℕ → List (List ℕ)

@@ -9,10 +9,10 @@ use itoa::Buffer;
 use std::alloc::Global;
 use vt_base::{Bytes, NoMemory};
 
-/// How many bytes there is room for at least, once room is made.
+/// The least number of bytes that memory is taken for.
 const ROOM_BYTES: usize = 4_096;
 
-/// Makes room for so many more bytes, and where it takes memory also for some of those after them.
+/// Makes room for `n` more bytes. If that takes memory, it makes room for some later bytes too.
 #[inline(always)]
 pub(crate) fn make_room(alloc: Global, text: &mut Bytes, n: usize) -> Result<(), NoMemory>
     ensures bytes { text.new.bytes ≡ text.old.bytes }
@@ -25,7 +25,7 @@ pub(crate) fn make_room(alloc: Global, text: &mut Bytes, n: usize) -> Result<(),
     take_room(alloc, text, n)
 }
 
-// Takes memory for so many more bytes, and for some of those after them.
+// Takes memory for `n` more bytes and for some later ones.
 #[inline(never)]
 fn take_room(alloc: Global, text: &mut Bytes, n: usize) -> Result<(), NoMemory>
     ensures bytes { text.new.bytes ≡ text.old.bytes }
@@ -106,7 +106,7 @@ pub fn add_next(alloc: Global, text: &mut Bytes, n: u64) -> Result<(), NoMemory>
     add_long(alloc, text, n)
 }
 
-// Adds a blank and the number, whatever it is.
+// Adds a blank and a number of any length.
 #[inline(never)]
 fn add_long(alloc: Global, text: &mut Bytes, n: u64) -> Result<(), NoMemory>
     ensures ok { OnOk result (text.new.bytes ≡ text.old.bytes ++ 0x20 ∷ decimal n) }
@@ -117,7 +117,7 @@ fn add_long(alloc: Global, text: &mut Bytes, n: u64) -> Result<(), NoMemory>
     add_word(alloc, text, buffer.format(n).as_bytes())
 }
 
-/// Adds the name and the numbers, each behind a blank.
+/// Adds the name and the numbers, with a blank before each.
 pub(crate) fn add_named(
     alloc: Global,
     text: &mut Bytes,
@@ -136,7 +136,7 @@ pub(crate) fn add_named(
     Ok(())
 }
 
-/// Adds the bytes in hexadecimal behind a blank.
+/// Adds a blank and the bytes in hexadecimal.
 pub(crate) fn add_bytes(alloc: Global, text: &mut Bytes, b: &[u8]) -> Result<(), NoMemory>
     ensures ok { OnOk result (text.new.bytes ≡ text.old.bytes ++ 0x20 ∷ hex_text b.now) }
     ensures kept { Begins text.old.bytes text.new.bytes }

@@ -12,10 +12,10 @@ use std::alloc::Global;
 use vt_base::{Bytes, CallerNo, NoMemory, parse_decimal};
 use vt_events::Entry;
 
-/// The most that a process's number can be.
+/// The greatest number of a process.
 const PROCESSES: u16 = 64;
 
-/// The most that a keyboard's number can be.
+/// The greatest number of a keyboard.
 const LAST_KEYBOARD: u64 = 3;
 
 /// Whether version 1 has a word for the caller of each entry: no caller is a keyboard after the first.
@@ -31,7 +31,7 @@ pub fn are_numbered(entries: &[Entry]) -> bool
     true
 }
 
-/// Adds the word of the caller, in that version.
+/// Adds the word of the caller in that version.
 pub fn add_caller(
     alloc: Global,
     text: &mut Bytes,
@@ -72,7 +72,7 @@ fn add_lettered(alloc: Global, text: &mut Bytes, letter: u8, n: u16) -> Result<(
     add_lettered_long(alloc, text, letter, n)
 }
 
-// Adds the letter and the number, whatever it is.
+// Adds the letter and a number of any length.
 #[inline(never)]
 fn add_lettered_long(alloc: Global, text: &mut Bytes, letter: u8, n: u16) -> Result<(), NoMemory>
     ensures ok { OnOk result (text.new.bytes ≡ text.old.bytes ++ letter ∷ decimal n) }
@@ -87,7 +87,7 @@ fn add_lettered_long(alloc: Global, text: &mut Bytes, letter: u8, n: u16) -> Res
     Ok(())
 }
 
-/// The next word as that of a caller.
+/// The caller that the next word names.
 pub(crate) fn take_caller(words: &mut Words, version: u8) -> Option<CallerNo>
     ensures found { IfSome result (λ p. words.old ≡ caller_word version p ∷ words.new) }
     ensures fit { IfSome result (λ p. HasWord version p) }

@@ -22,7 +22,7 @@ pub fn cut_line(text: &[u8]) -> Option<CutLine<'_>>
     })
 }
 
-// Where the first LF is.
+// The index of the first LF.
 fn first_end(text: &[u8]) -> Option<usize>
     ensures within { IfSome result (λ i. i < length text.now) }
     ensures here { IfSome result (λ i. slice_index text.now i ≡ 0x0A) }

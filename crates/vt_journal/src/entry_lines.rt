@@ -32,7 +32,7 @@ pub(crate) fn read_entry(alloc: Global, line: &[u8], version: u8) -> Result<Opti
     Ok(Some(entry))
 }
 
-// The entry that the next words are.
+// The entry that the next words spell.
 fn take_entry(alloc: Global, words: &mut Words, version: u8) -> Result<Option<Entry>, NoMemory>
     ensures found { IfOk result
         (λ found. IfSome found (λ e. words.old ≡ entry_words version e ++ words.new)) }

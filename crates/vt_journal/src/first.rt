@@ -24,7 +24,7 @@ pub fn version_of(text: &[u8]) -> Option<u8>
     }
 }
 
-/// The first line of the text, where it is one of a journal.
+/// The first line of the text, if it is one of a journal.
 pub(crate) fn read_first(text: &[u8]) -> Option<First<'_>>
     ensures version { IfSome result (λ first. IsVersion first.version) }
     ensures found { IfSome result
@@ -40,7 +40,7 @@ pub(crate) fn read_first(text: &[u8]) -> Option<First<'_>>
     }
 }
 
-// What is behind the line at the front of the text.
+// The text after this line, if the text begins with it.
 fn behind_line<'a>(text: &'a [u8], line: &[u8]) -> Option<&'a [u8]>
     ensures { MatchOption result ((rest : List ℕ) → text.now ≢ line.now ++ rest)
         (λ rest. text.now ≡ line.now ++ rest.now) }

@@ -1,7 +1,7 @@
 use crate::Tail;
 use vt_events::Entry;
 
-/// What the first line of a text is, and what is behind it.
+/// The first line of a text, and the text after it.
 #[derive(Drop)]
 pub(crate) enum FirstLine<'a> {
     /// The line of an entry.

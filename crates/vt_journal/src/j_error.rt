@@ -5,7 +5,7 @@ use crate::JFault;
 use std::alloc::AllocFailed;
 use vt_base::NoMemory;
 
-/// Why a journal wasn't read.
+/// The error of reading a journal.
 #[derive(Clone, Copy, Debug, PartialEq, Eq)]
 pub enum JError {
     /// The text is not a journal.

@@ -3,7 +3,6 @@
 #![tactic(auto)]
 
 mod adding;
-mod call_words;
 mod callers;
 mod cut;
 mod entries;
@@ -17,8 +16,6 @@ mod hex;
 mod j_error;
 mod j_fault;
 mod journal;
-mod kind;
-mod kind_guess;
 mod laws;
 mod limits;
 mod log;
@@ -28,8 +25,6 @@ mod printing;
 mod reading;
 mod replies;
 mod reply_kind;
-mod rows;
-mod same;
 mod tail;
 mod tail_lines;
 mod words;
@@ -51,6 +46,5 @@ pub use numbers::take_number;
 pub use parsing::parse;
 pub use printing::{add_event, add_reply, print};
 pub use reading::read_event;
-pub use same::{same_event, same_reply};
 pub use tail::Tail;
 pub use words::{Words, take_word};

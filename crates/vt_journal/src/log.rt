@@ -60,7 +60,17 @@ impl Log {
         requires { HasRoom self.old (charge_of e.event) }
         ensures { self.new ≡ record self.old { entries = self.old.entries ++ e ∷ [] } }
     {
-        self.bytes += u64::from(charge(&e.event));
+        let charge = charge(&e.event);
+        self.push_counted(e, charge);
+    }
+
+    /// Adds an entry whose charge is already computed. There must be room for it.
+    pub fn push_counted(&mut self, e: Entry, charge: u32)
+        requires charge { charge ≡ charge_of e.event }
+        requires room { HasRoom self.old charge }
+        ensures { self.new ≡ record self.old { entries = self.old.entries ++ e ∷ [] } }
+    {
+        self.bytes += u64::from(charge);
         let added = self.entries.push(e);
         prove!(added.is_ok());
         let _ = added;

@@ -3,15 +3,15 @@ ghost use Rattle.std.specs.Prelude.{◌≡◌, ◌≢◌, ℕ, ◌<◌, ◌≤�
 ghost use Rattle.std.specs.List.{All};
 ghost use Rattle.vt_journal.specs.Replies.{Within};
 
-use crate::kind::NUMBERS;
 use crate::words::Words;
 use arrayvec::ArrayVec;
 use vt_base::parse_decimal;
+use vt_events::NUMBERS;
 
 /// The most numbers of an answer.
 pub(crate) const ANSWER_NUMBERS: usize = 5;
 
-/// The next words as so many numbers of 16 bits.
+/// The next `count` words as numbers of 16 bits.
 pub(crate) fn read_numbers(words: &mut Words, count: usize) -> Option<ArrayVec<u16, NUMBERS>>
     requires { count ≤ NUMBERS }
     ensures found { IfSome result (λ ns. words.old ≡ map decimal ns.items ++ words.new) }
@@ -37,7 +37,7 @@ fn read_number(words: &mut Words) -> Option<u16>
     Some(n as u16)
 }
 
-/// The next words as numbers, as many as these and none above the one in its place.
+/// The next words as numbers, one for each of `mosts` and at most that.
 pub(crate) fn take_numbers(
     words: &mut Words,
     mosts: &[u64],
@@ -71,7 +71,7 @@ pub fn take_number(words: &mut Words, most: u64) -> Option<u64>
     parse_decimal(word, most)
 }
 
-// The number of a word that is one digit, or two; none of any other word.
+// The number of a word of one digit or two; `None` for any other word.
 #[inline(always)]
 fn short_number(word: &[u8]) -> Option<u64>
     ensures { IfSome result (λ n. decimal n ≡ word.now) }
@@ -96,7 +96,7 @@ fn one_digit(ones: u8) -> Option<u64>
     Some(u64::from(ones - b'0'))
 }
 
-// The number of two digits, of which the first is no zero.
+// The number of two digits, the first of which isn't 0.
 #[inline(always)]
 fn two_digits(tens: u8, ones: u8) -> Option<u64>
     ensures { IfSome result (λ n. decimal n ≡ tens ∷ ones ∷ []) }

@@ -44,7 +44,7 @@ fn read_journal(alloc: Global, text: &[u8]) -> Result<Journal, JError>
     }
 }
 
-// The lines of entries behind the first line, and the last line.
+// The lines of entries after the first line, and the last line.
 fn read_lines(alloc: Global, version: u8, text: &[u8]) -> Result<Journal, JError>
     requires { IsVersion version }
     ensures { (whole : List ℕ) → whole ≡ line_text (first_words version) ++ text.now
@@ -68,7 +68,7 @@ fn read_lines(alloc: Global, version: u8, text: &[u8]) -> Result<Journal, JError
     Err(refused(TOO_MANY, MOST_ENTRIES + 2))
 }
 
-// The journal of these, where nothing is behind its last line.
+// The journal of these, if the text ends with its last line.
 fn journal(version: u8, entries: Vec<Entry>, end: Tail, behind: &[u8]) -> Result<Journal, JError>
     requires { vec_len entries ≤ MOST_ENTRIES }
     ensures whole { behind.now ≡ []
@@ -86,7 +86,7 @@ fn journal(version: u8, entries: Vec<Entry>, end: Tail, behind: &[u8]) -> Result
     })
 }
 
-// What the first line is.
+// The first line of the text.
 fn read_line(alloc: Global, version: u8, text: &[u8]) -> Result<FirstLine<'_>, NoMemory>
     ensures { IfOk result (NextIs version text.now) }
 {

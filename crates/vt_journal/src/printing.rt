@@ -11,15 +11,14 @@ ghost use Rattle.vt_journal.specs.Text.{Begins, blank_before_each};
 ghost use Rattle.vt_journal.specs.Words.{IsFit, event_words, held_words, reply_words};
 
 use crate::adding::{add, add_bytes, add_end, add_named, add_next, make_room};
-use crate::call_words::CallWords;
 use crate::callers::add_caller;
 use crate::{Full, Tail};
 use std::alloc::Global;
 use vt_base::{Bytes, NoMemory};
-use vt_events::{Entry, Event, Reply};
+use vt_events::{Entry, Event, Parts, Reply};
 
-/// Adds the journal text of the entries and of how they end, in this version. The text can be read again. It is
-/// made as a text of its own first, so that `text` and its room are unchanged if memory runs out.
+/// Adds the journal text of the entries and their end, in this version. The text can be read again. It is made as a
+/// text of its own first, so that `rest` and its room are unchanged if memory runs out.
 pub fn print(
     alloc: Global,
     entries: &[Entry],
@@ -38,7 +37,7 @@ pub fn print(
     let mut text = Bytes::new(alloc);
     add_lines(alloc, entries, version, end, &mut text)?;
     if rest.as_slice().is_empty() {
-        // It holds nothing that would have to be copied.
+        // There is nothing to copy.
         *rest = text;
         return Ok(());
     }
@@ -77,7 +76,7 @@ fn add_first(alloc: Global, text: &mut Bytes, version: u8) -> Result<(), NoMemor
     add_numbered(alloc, text, b"%journal", &[u64::from(version)])
 }
 
-// A line of a name and of numbers, each behind a blank.
+// Adds a line of a name and numbers, with a blank before each number.
 fn add_numbered(
     alloc: Global,
     text: &mut Bytes,
@@ -133,19 +132,19 @@ fn add_tail(alloc: Global, text: &mut Bytes, end: &Tail) -> Result<(), NoMemory>
     }
 }
 
-/// Adds the words of a call, each behind a blank. What is added is fit to be read again.
+/// Adds the words of a call, with a blank before each. They can be read again.
 pub fn add_event(alloc: Global, text: &mut Bytes, e: &Event) -> Result<(), NoMemory>
     ensures ok { OnOk result (text.new.bytes ≡ text.old.bytes ++ blank_before_each (event_words e.now)) }
     ensures kept { Begins text.old.bytes text.new.bytes }
     ensures fit { OnOk result (IsFit (plain_event e.now)) }
 {
-    let parts = CallWords::of(e);
-    add_named(alloc, text, parts.kind.name(), parts.numbers.as_slice())?;
-    add_held(alloc, text, parts.held)?;
+    let parts = Parts::of(e);
+    add_named(alloc, text, parts.kind().name(), parts.numbers())?;
+    add_held(alloc, text, parts.held())?;
     Ok(())
 }
 
-// The bytes that a call holds behind a blank, where it holds any.
+// Adds a blank and the bytes that a call holds, if it holds any.
 fn add_held(alloc: Global, text: &mut Bytes, held: Option<&[u8]>) -> Result<(), NoMemory>
     ensures ok { OnOk result
         (text.new.bytes ≡ text.old.bytes ++ blank_before_each (held_words (option_copied held.entry))) }
@@ -158,7 +157,7 @@ fn add_held(alloc: Global, text: &mut Bytes, held: Option<&[u8]>) -> Result<(), 
     }
 }
 
-/// Adds the words of an answer, each behind a blank. What is added is fit to be read again.
+/// Adds the words of an answer, with a blank before each. They can be read again.
 pub fn add_reply(alloc: Global, text: &mut Bytes, r: &Reply) -> Result<(), NoMemory>
     ensures ok { OnOk result (text.new.bytes ≡ text.old.bytes ++ blank_before_each (reply_words r.now)) }
     ensures kept { Begins text.old.bytes text.new.bytes }

@@ -1,20 +1,18 @@
 //! Calls read from their words.
 ghost use Rattle.std.specs.Prelude.{◌≡◌, ◌≢◌, ℕ, ◌<◌, ◌^◌, List, ◌∷◌, ◌++◌, Some, None, if◌then◌else◌, IfOk, IfSome, IfNone};
 ghost use Rattle.std.specs.List.{All};
+ghost use Rattle.vt_events.specs.Kinds.{name_of};
 ghost use Rattle.vt_events.specs.Plain.{plain_event};
 ghost use Rattle.vt_events.specs.declared.event.Event.{Event};
-ghost use Rattle.vt_journal.specs.Calls.{name_of};
-ghost use Rattle.vt_journal.specs.Kinds.{blank};
-ghost use Rattle.vt_journal.specs.declared.kind.Kind.{Kind};
+ghost use Rattle.vt_events.specs.declared.kind.Kind.{Kind};
 ghost use Rattle.vt_journal.specs.Words.{IsFit, Spells, event_words, held_words};
 
 use crate::hex::parse_hex;
-use crate::kind::Kind;
 use crate::numbers::read_numbers;
 use crate::words::Words;
 use std::alloc::Global;
 use vt_base::{Bytes, NoMemory};
-use vt_events::Event;
+use vt_events::{Event, Kind};
 
 /// The call of these words, if they are one.
 pub fn read_event(alloc: Global, words: &[u8]) -> Result<Option<Event>, NoMemory>
@@ -33,7 +31,7 @@ pub fn read_event(alloc: Global, words: &[u8]) -> Result<Option<Event>, NoMemory
     Ok(Some(event))
 }
 
-/// The call that the next words are.
+/// The call that the next words spell.
 pub(crate) fn take_event(alloc: Global, words: &mut Words) -> Result<Option<Event>, NoMemory>
     ensures found { IfOk result
         (λ found. IfSome found (λ e. words.old ≡ event_words e ++ words.new)) }
@@ -59,16 +57,16 @@ pub(crate) fn take_event(alloc: Global, words: &mut Words) -> Result<Option<Even
 
 // The next word as the name of a kind.
 fn read_kind(words: &mut Words) -> Option<Kind>
-    ensures found { IfSome result (λ kind. words.old ≡ name_of (blank kind) ∷ words.new) }
+    ensures found { IfSome result (λ kind. words.old ≡ name_of kind ∷ words.new) }
     ensures none { IfNone result
-        ((kind : Kind) (rest : List (List ℕ)) → words.old ≢ name_of (blank kind) ∷ rest) }
+        ((kind : Kind) (rest : List (List ℕ)) → words.old ≢ name_of kind ∷ rest) }
 {
     let name = words.next()?;
     Kind::named(name)
 }
 
-/// The next word as bytes in hexadecimal, where the call or the answer holds any; else none, and no
-/// word.
+/// Takes the next word as bytes in hexadecimal if the call or the answer holds bytes; otherwise takes no word and
+/// returns no bytes.
 pub(crate) fn read_bytes(
     alloc: Global,
     words: &mut Words,

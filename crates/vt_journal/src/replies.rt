@@ -13,7 +13,7 @@ use std::alloc::Global;
 use vt_base::NoMemory;
 use vt_events::Reply;
 
-/// The answer that the next words are.
+/// The answer that the next words spell.
 pub(crate) fn take_reply(alloc: Global, words: &mut Words) -> Result<Option<Reply>, NoMemory>
     ensures found { IfOk result
         (λ found. IfSome found (λ r. words.old ≡ reply_words r ++ words.new)) }

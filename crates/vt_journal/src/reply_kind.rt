@@ -12,7 +12,7 @@ const MOST_WORD: u64 = 65_535;
 
 const MOST_LONG: u64 = 4_294_967_295;
 
-/// Which answer it is, as its [`Reply`] is named.
+/// The kind of an answer, named as its variant of [`Reply`].
 #[derive(Clone, Copy, PartialEq, Eq)]
 pub(crate) enum ReplyKind {
     Done,
@@ -62,7 +62,7 @@ impl ReplyKind {
         None
     }
 
-    /// The most that each of its numbers can be.
+    /// The greatest value of each of its numbers.
     pub(crate) fn mosts(self) -> &'static [u64]
         ensures { result.now ≡ mosts self }
     {
@@ -77,7 +77,7 @@ impl ReplyKind {
         }
     }
 
-    /// Whether bytes follow them.
+    /// Whether bytes follow the numbers.
     pub(crate) fn holds_bytes(self) -> bool
         ensures { result ≡ reply_holds self }
     {
@@ -87,8 +87,8 @@ impl ReplyKind {
         }
     }
 
-    /// The answer of these numbers, which holds these bytes where it holds any; none where the number
-    /// is that of no error.
+    /// The answer of this kind with these numbers and, if it holds bytes, these bytes; `None` if the number of a
+    /// refusal is not that of an error.
     pub(crate) fn answer(self, n: &[u64], b: Bytes) -> Option<Reply>
         requires numbers { Within (mosts self) n.now }
         requires room { b.room ≡ 0 }
@@ -122,7 +122,7 @@ impl ReplyKind {
     }
 }
 
-// The refusal of this number, where it is that of an error.
+// The refusal of this number, if it is that of an error.
 fn error_of(n: &[u64]) -> Option<Reply>
     requires { Within (mosts ReplyKind.Err) n.now }
     ensures found { IfSome result (λ r. (kind_of r ≡ ReplyKind.Err) × (reply_numbers r ≡ n.now)) }

@@ -1,6 +1,6 @@
 use crate::Full;
 
-/// How a journal ends.
+/// The end of a journal.
 #[derive(Clone, Copy, Debug, PartialEq, Eq)]
 pub enum Tail {
     /// Every call was entered.

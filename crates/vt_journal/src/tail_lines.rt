@@ -11,7 +11,7 @@ use crate::{Full, Tail};
 
 const LONG: u64 = 4_294_967_295;
 
-/// How a journal ends whose last line this is.
+/// The end of a journal, from its last line.
 pub(crate) fn read_tail(line: &[u8]) -> Option<Tail>
     ensures found { IfSome result (λ end. joined_by_blanks (tail_words end) ≡ line.now) }
     ensures fit { IfSome result IsFitTail }
@@ -26,7 +26,7 @@ pub(crate) fn read_tail(line: &[u8]) -> Option<Tail>
     Some(end)
 }
 
-// The end that the next words are.
+// The end that the next words spell.
 fn take_tail(words: &mut Words) -> Option<Tail>
     ensures found { IfSome result (λ end. words.old ≡ tail_words end ++ words.new) }
     ensures fit { IfSome result IsFitTail }
@@ -43,7 +43,7 @@ fn take_tail(words: &mut Words) -> Option<Tail>
     None
 }
 
-// The numbers behind `%end`.
+// The end with the numbers after `%end`.
 fn take_end(words: &mut Words) -> Option<Tail>
     ensures found { IfSome result (λ end. codes "%end" ∷ words.old ≡ tail_words end ++ words.new) }
     ensures fit { IfSome result IsFitTail }
@@ -58,7 +58,7 @@ fn take_end(words: &mut Words) -> Option<Tail>
     })
 }
 
-// The numbers behind `%full`.
+// The end with the numbers after `%full`.
 fn take_full(words: &mut Words) -> Option<Tail>
     ensures found { IfSome result (λ end. codes "%full" ∷ words.old ≡ tail_words end ++ words.new) }
     ensures fit { IfSome result IsFitTail }

@@ -46,7 +46,7 @@ impl<'a> Words<'a> {
     }
 }
 
-/// Whether the next word is this one.
+/// Takes the next word. Returns whether it is this one.
 pub fn take_word(words: &mut Words, word: &[u8]) -> bool
     ensures found { OnTrue result (words.old ≡ word.now ∷ words.new) }
     ensures none { OnFalse result ((rest : List (List ℕ)) → words.old ≢ word.now ∷ rest) }
@@ -57,7 +57,7 @@ pub fn take_word(words: &mut Words, word: &[u8]) -> bool
     }
 }
 
-// Where the first blank is.
+// The index of the first blank.
 fn first_blank(text: &[u8]) -> Option<usize>
     ensures { result ≡ position (λ b. b == 0x20) text.now }
 {

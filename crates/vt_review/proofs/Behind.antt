@@ -9,7 +9,7 @@ use Rattle.vt_world.specs.History.{ReplayGrows, replay}
 use Rattle.vt_world.specs.State.{WorldState}
 use Rattle.vt_world.specs.Step.{step}
 
--- the text of one entry more has its lines behind
+-- the text of one more entry has that entry's lines at its end
 text_more : (tables : List EarTable) (e : ℕ) (w : WorldState) (before : List Entry) (entry : Entry)
     → review_text tables e w (before ++ entry ∷ [])
     ≡ review_text tables e w before
@@ -28,7 +28,7 @@ text_more tables e w (first ∷ before) entry =
     ∙ ap (λ (n : ℕ). (front ++ review_text tables (e + 1) v before) ++ entry_lines tables n (replay v before) last)
     (let same : e + 1 + length before ≡ e + suc (length before) = omega arith in same)
 
--- the console that an entry leaves, of one that is behind
+-- the machine after an entry, for a reviewer that is one entry back
 pub is_left : (start behind after : WorldState) (before : List Entry) (place : ℕ) (entry : Entry)
     → behind ≡ replay start before → IsNextEntry start before place entry after
     → after ≡ left_by behind entry
@@ -57,7 +57,7 @@ reviewed_more grow tables start before place entry behind after moved old new wa
           ∙ sym (text_more tables 0 start before entry);
     }
 
--- the console behind is moved on
+-- the reviewer's machine makes the entry's call
 pub moves : (w v : WorldState) (entry : Entry) → (step w entry.caller entry.event).world ≡ v → v ≡ left_by w entry
 unfolding left_by
 moves w v entry is = sym is

@@ -1,4 +1,4 @@
--- Of all consoles, one alone may pass a test.
+-- At most one of all consoles passes a test.
 use Rattle.std.proofs.Common.{◌≡◌, ◌≢◌, ℕ, zero, suc, ◌+◌, ◌<◌, ◌≤◌, Bool, false, cond, List, [], ◌∷◌, filter, refl, sym, ap, ◌∙◌, ⊎_elim, arith}
 use Rattle.std.specs.List.{range_with_len}
 use Rattle.std.proofs.lemmas.Bool.{cases_eq}
@@ -14,7 +14,7 @@ filter_none p start (suc len) fails =
     (fails start (omega arith) (omega arith))
     ∙ filter_none p (start + 1) len (λ n low high. fails n (omega arith) (omega arith))
 
--- the number c alone may pass
+-- only the number c can pass
 filter_one : (p : ℕ → Bool) (c start len : ℕ) → start ≤ c → c < start + len
     → ((n : ℕ) → start ≤ n → n < start + len → n ≢ c → p n ≡ false)
     → filter p (range_with_len start len) ≡ cond (p c) (c ∷ []) []

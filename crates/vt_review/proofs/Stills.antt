@@ -1,5 +1,5 @@
--- A console whose terminal an entry leaves as it was, or takes away: its bell doesn't ring, and none
--- of its rows is new.
+-- A console whose terminal an entry leaves unchanged, or takes away: its bell doesn't ring, and none of its
+-- rows is new.
 use Rattle.std.proofs.Common.{◌≡◌, ℕ, zero, suc, ◌+◌, Bool, true, false, cond, ltb, List, [], ◌∷◌, ◌++◌, drop, Option, Some, refl, ap, ◌∙◌, inl, inr, add-one, arith}
 use Rattle.std.specs.Prelude.{slice_get}
 use Rattle.std.proofs.lemmas.Bool.{le-ltb}
@@ -22,7 +22,7 @@ pub is_still : (w v : WorldState) (n : ℕ)
     → IsLeft (terminal_at w.terminals n) (terminal_at v.terminals n) → has_rung w v n ≡ false
 is_still w v n left = still_by (terminal_at w.terminals n) (terminal_at v.terminals n) left
 
--- what stands at a place, and what is behind it
+-- the element of a list at a place, and those after it
 at_place : (rows : List (List ℕ)) (y : ℕ) (row : List ℕ) (more : List (List ℕ))
     → drop y rows ≡ row ∷ more → (slice_get rows y ≡ Some row) × (drop (suc y) rows ≡ more)
 at_place [] zero row more are = absurd (cc)

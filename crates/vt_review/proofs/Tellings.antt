@@ -13,7 +13,7 @@ use Rattle.vt_world.specs.State.{WorldState}
 use Rattle.vt_world.specs.StepLaws.{TerminalsStay, touches}
 use Rattle.vt_world.specs.Terminals.{terminal_at}
 
--- three parts, told one after another
+-- three parts, one after another
 in_parts : (f : Told → List ℕ) (switches bells rows : List Told) (old a b d : List ℕ)
     → a ≡ old ++ flat_map f switches → b ≡ a ++ flat_map f bells → d ≡ b ++ flat_map f rows
     → d ≡ old ++ flat_map f (switches ++ (bells ++ rows))
@@ -27,7 +27,7 @@ in_parts f switches bells rows old a b d first second third =
     (sym (flat_map-append f switches (bells ++ rows)
     ∙ ap (λ (text : List ℕ). flat_map f switches ++ text) (flat_map-append f bells rows)))
 
--- nothing more is told
+-- no more notices
 nothing_more : (f : Told → List ℕ) (told : List Told) (text : List ℕ) → told ≡ []
     → text ≡ text ++ flat_map f told
 nothing_more f told text none =
@@ -55,7 +55,7 @@ told_at tables e w v c old a b d low high left first second third =
     (rows_told w v v.display.front) old a b d first
     (second ∙ ap (λ (ts : List Told). a ++ flat_map f ts) (sym bells)) third
 
--- the same, where another console has the display then
+-- an entry that touches console c at most, after which another console has the display
 pub told_aside : (tables : List EarTable) (e : ℕ) (w v : WorldState) (c : ℕ) (old a b : List ℕ)
     → 1 ≤ c → c ≤ 63 → OthersAreLeft c w v
     → 1 ≤ v.display.front → v.display.front ≤ 63 → v.display.front ≢ c
@@ -84,7 +84,7 @@ told_elsewhere tables e w v old a left from to first =
     (nothing_more f (rows_told w v v.display.front) a
     (is_shown w v v.display.front (left v.display.front from to)))
 
--- what an entry leaves of a console that it doesn't touch
+-- an entry leaves the consoles that it doesn't touch unchanged
 pub left_alone : TerminalsStay → (w v : WorldState) (entry : Entry) (n : ℕ)
     → v ≡ left_by w entry → touches w entry.caller entry.event n ≡ false
     → IsLeft (terminal_at w.terminals n) (terminal_at v.terminals n)

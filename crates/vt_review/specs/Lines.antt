@@ -5,7 +5,7 @@ use Rattle.vt_review.specs.Ears.{says}
 use Rattle.vt_review.specs.declared.ear_table.EarTable.{EarTable}
 use Rattle.vt_review.specs.declared.notice.Notice.{Notice}
 
--- what is told: a notice, and how its line ends behind the console's number
+-- a notice, and the end of its line after the console's number
 pub record Told : Type 0 where
   pub notice : Notice
   pub end : List ℕ
@@ -26,7 +26,7 @@ ear_line a e t =
     decimal a
     ++ (blank_before_each (decimal e ∷ kind_word t.notice.kind ∷ decimal t.notice.console ∷ []) ++ t.end)
 
--- of the ears from place a on, whose tables are these, each that hears the notice has a line
+-- the lines of a notice: one for each ear from place a on, whose tables are these, that hears it
 abbrev pub ear_lines : ℕ → ℕ → List EarTable → Told → List ℕ
 ear_lines a e [] t = []
 ear_lines a e (table ∷ tables) t =

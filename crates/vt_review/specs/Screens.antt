@@ -1,4 +1,4 @@
--- The texts of a screen's rows, where there is one. No public clause names this.
+-- The texts of a screen's rows, if there is one. No public clause names this.
 use Rattle.std.specs.Prelude.{ℕ, List, [], map, Option, Some, None}
 use Rattle.vt_dump.specs.Rows.{row_text}
 use Rattle.vt_grid.specs.Grid.{GridView}

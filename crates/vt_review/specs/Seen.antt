@@ -1,13 +1,13 @@
--- What an entry leaves of a console. No public clause names this.
+-- The changes that an entry makes to the consoles. No public clause names this.
 use Rattle.std.specs.Prelude.{◌≡◌, ◌≢◌, ◌⊎◌, ◌≤◌, ℕ, Option, None}
 use Rattle.vt_world.specs.State.{WorldState}
 use Rattle.vt_world.specs.Terminals.{TerminalState, terminal_at}
 
--- the terminal is the one before, or is gone
+-- the terminal is unchanged, or is gone
 abbrev pub IsLeft : Option TerminalState → Option TerminalState → Type 0
 IsLeft before after = (after ≡ before) ⊎ (after ≡ None)
 
--- all consoles but c are left so
+-- all consoles except c are left so
 abbrev pub OthersAreLeft : ℕ → WorldState → WorldState → Type 0
 OthersAreLeft c w v =
     (n : ℕ) → 1 ≤ n → n ≤ 63 → n ≢ c

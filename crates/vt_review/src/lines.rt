@@ -8,8 +8,8 @@ use std::alloc::Global;
 use vt_base::{Bytes, ConsoleNo, NoMemory};
 use vt_journal::{add, add_next};
 
-/// Asks each ear whether it hears the notice of entry `e`, and adds the line of each that does. The
-/// line has these bytes behind the console's number.
+/// Asks each ear whether it hears the notice of entry `e`, and adds the line of each that does. The line has
+/// these bytes after the console's number.
 pub(crate) fn add_lines<F: Listener>(
     alloc: Global,
     text: &mut Bytes,

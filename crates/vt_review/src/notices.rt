@@ -1,4 +1,4 @@
-//! What an entry tells of switches, and of one console's bell and rows.
+//! The lines of an entry for switches, and for one console's bell and rows.
 ghost use Rattle.std.specs.Prelude.{◌≡◌, [], ◌∷◌, ◌++◌, OnOk, map, nat_lt, if◌then◌else◌};
 ghost use Rattle.std.specs.List.{flat_map};
 ghost use Rattle.vt_review.specs.Announcements.{bell_told, display_told, row_told};
@@ -15,13 +15,13 @@ use vt_world::Mark;
 /// The kind of a notice that the display came to a console.
 const DISPLAY: u8 = 0;
 
-/// That a bell rang.
+/// The kind of a notice that a bell rang.
 const BELL: u8 = 1;
 
-/// That a row is new.
+/// The kind of a notice that a row is new.
 const ROW: u8 = 2;
 
-/// Tells each switch of a trace.
+/// Adds the lines for each switch of a trace.
 pub(crate) fn tell_hops<F: Listener>(
     alloc: Global,
     text: &mut Bytes,
@@ -40,7 +40,7 @@ pub(crate) fn tell_hops<F: Listener>(
     Ok(())
 }
 
-/// Tells that the console's bell rang, if its count rose.
+/// Adds the lines for the console's bell, if its count rose.
 pub(crate) fn tell_bell<F: Listener>(
     alloc: Global,
     text: &mut Bytes,
@@ -61,7 +61,7 @@ pub(crate) fn tell_bell<F: Listener>(
     Ok(())
 }
 
-/// Tells a row of the console, from its text.
+/// Adds the lines for a row of the console, from its text.
 pub(crate) fn tell_row<F: Listener>(
     alloc: Global,
     text: &mut Bytes,

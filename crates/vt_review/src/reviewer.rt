@@ -1,4 +1,4 @@
-//! What ears are told of a history, entry by entry.
+//! The lines of ears for a history, entry by entry.
 ghost use Rattle.std.specs.Prelude.{◌≡◌, ◌≤◌, ◌++◌, [], ℕ, OnOk};
 ghost use Rattle.std.specs.List.{flat_map};
 ghost use Rattle.vt_review.specs.Announcements.{entry_lines, left_by, rows_told};
@@ -16,7 +16,7 @@ use vt_check::Witness;
 use vt_events::Entry;
 use vt_world::{World, legal_grows, terminals_stay};
 
-/// What the ears were told so far, and the console as it was before the entry that comes next.
+/// The lines so far, and the machine before the entry that comes next.
 #[derive(Drop)]
 pub(crate) struct Reviewer<'a, F: Listener> {
     behind: World,
@@ -25,7 +25,7 @@ pub(crate) struct Reviewer<'a, F: Listener> {
 }
 
 impl<'a, F: Listener> Reviewer<'a, F> {
-    /// Nothing was told yet, from this console on.
+    /// No lines yet, from this machine on.
     pub(crate) fn new(alloc: Global, behind: World, ears: &'a [Ear<F>]) -> Reviewer<'a, F>
         ensures behind { result.behind ≡ behind }
         ensures text { result.text.bytes ≡ [] }
@@ -38,7 +38,7 @@ impl<'a, F: Listener> Reviewer<'a, F> {
         }
     }
 
-    /// What the ears were told.
+    /// The lines of the ears.
     pub(crate) fn into_text(self) -> Bytes
         ensures { result ≡ self.entry.text }
     {
@@ -75,7 +75,7 @@ impl<F: Listener> Witness for Reviewer<'_, F> {
     }
 }
 
-// Adds the lines of entry `e`, with the console before and after it.
+// Adds the lines of entry `e`, with the machine before and after it.
 fn tell_entry<F: Listener>(
     alloc: Global,
     text: &mut Bytes,

@@ -14,7 +14,7 @@ use vt_base::{Bytes, ConsoleNo, NoMemory};
 use vt_dump::text_row;
 use vt_grid::Grid;
 
-/// Tells the rows of the console's screen that are new since it was as before.
+/// Adds the lines for the rows of the console's screen that aren't rows of the screen `before`.
 pub(crate) fn tell_rows<F: Listener>(
     alloc: Global,
     text: &mut Bytes,
@@ -57,7 +57,7 @@ fn new_row(
     }
 }
 
-// The text of the row at `y`, if it isn't that of the row there before.
+// The text of the row at `y`, if it differs from that of the row there before.
 fn changed_row(alloc: Global, before: &Grid, after: &Grid, y: u8) -> Result<Option<Bytes>, NoMemory>
     requires was { y < before.now.rows }
     requires is { y < after.now.rows }

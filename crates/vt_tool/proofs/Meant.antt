@@ -12,6 +12,7 @@ use Rattle.vt_events.specs.declared.event.Event.{Event}
 use Rattle.vt_events.specs.declared.event.Event.TheVariants as event
 use Rattle.vt_events.specs.declared.reply.Reply.{Reply}
 use Rattle.vt_events.specs.declared.reply.Reply.TheVariants as reply
+use Rattle.vt_events.proofs.Meant.{charge-meant}
 use Rattle.vt_journal.specs.Callers.{caller_word}
 use Rattle.vt_journal.specs.Journal.{entry_words, first_words, journal_text, line_text, tail_words}
 use Rattle.vt_journal.specs.Log.{charge_of_all}
@@ -25,24 +26,12 @@ use Rattle.vt_world.specs.History.{replay}
 use Rattle.vt_world.specs.State.{WorldState}
 
 call_words : (e : Event) → event_words (plain_event e) ≡ event_words e
-call_words (event.Write fd b) = refl
-call_words (event.SetFunc fd i b) = refl
-call_words (event.SetDia fd b) = refl
-call_words (event.SetMap fd b) = refl
-call_words (event.SetPal fd b) = refl
+call_words event.Exit = refl
 call_words e = refl
 
 answer_words : (r : Reply) → reply_words (plain_reply r) ≡ reply_words r
 answer_words (reply.Text b) = refl
 answer_words r = refl
-
-charge_meant : (e : Event) → charge_of (plain_event e) ≡ charge_of e
-charge_meant (event.Write fd b) = refl
-charge_meant (event.SetFunc fd i b) = refl
-charge_meant (event.SetDia fd b) = refl
-charge_meant (event.SetMap fd b) = refl
-charge_meant (event.SetPal fd b) = refl
-charge_meant e = refl
 
 words_meant : (version : ℕ) (entries : List Entry)
     → map (entry_words version) (plain_history entries) ≡ map (entry_words version) entries
@@ -61,7 +50,7 @@ journal_meant version entries end =
 charges_meant : (entries : List Entry) → charge_of_all (plain_history entries) ≡ charge_of_all entries
 charges_meant entries =
     fold-map (λ n (x : Entry). n + charge_of x.event) plain_entry 0 entries
-    ∙ (λ i. sum_by (λ (x : Entry). charge_meant x.event i) entries)
+    ∙ (λ i. sum_by (λ (x : Entry). charge-meant x.event i) entries)
 
 pub tail_meant : (entries : List Entry) (stop : Option Full)
     → tail_at (plain_history entries) stop ≡ tail_at entries stop

@@ -1,5 +1,5 @@
--- What callers keep while things happen to them: nobody comes to life, nobody gets a ticket but by a
--- wait of its own, no ticket opens again, and who holds one lives on.
+-- Callers after an event: none comes to life, each gets a ticket only by a wait of its own, no ended
+-- ticket opens again, and a caller that holds a ticket stays alive.
 use Rattle.std.proofs.Common.{◌≡◌, ℕ, ◌<◌, zero, suc, Bool, true, false, cond, ⊎_elim, List, [], ◌∷◌, length, get_or, set, map, refl, sym, subst}
 use Rattle.std.proofs.lemmas.Bool.{cases_eq, cases_lt, false≢true}
 use Rattle.std.proofs.lemmas.List.{get_or-set_other, get_or-set_same, set_past}
@@ -12,7 +12,7 @@ use Rattle.vt_procs.specs.declared.waiting.Waiting.{Waiting}
 use Rattle.vt_procs.specs.declared.waiting.Waiting.TheVariants.{Nothing, Open, Done, Broken}
 use Rattle.vt_world.specs.Refusals.{has_ticket}
 
--- it is a ticket, open or not
+-- there is a ticket, open or ended
 abbrev pub holds : Waiting → Bool
 holds waiting = has_ticket (waited_of waiting)
 

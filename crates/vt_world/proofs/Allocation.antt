@@ -1,4 +1,4 @@
--- The consoles that have a terminal are those that are allocated, after every event.
+-- After every event the consoles that have a terminal are those that are allocated.
 use Rattle.std.proofs.Common.{◌≡◌, ℕ, zero, suc, Bool, true, false, cond, List, [], ◌∷◌, filter, flat_map, get_or, set, map, Option, Some, None, Result, Ok, Err, refl, sym, ap, subst, ◌∙◌}
 use Rattle.std.proofs.Math.Seq.{map-set_same}
 use Rattle.std.proofs.lemmas.List.{map-set}
@@ -36,12 +36,13 @@ use Rattle.vt_world.specs.Deeds.{Deed, Asks, By, Clears, Own, OwnDeed, Alters, R
 use Rattle.vt_world.specs.Heard.{without_marks, apply_mark, apply_marks}
 use Rattle.vt_world.specs.History.{replay}
 use Rattle.vt_world.specs.Laws.{IsStart, TerminalsAreAllocated}
-use Rattle.vt_world.specs.Rows.{free_deeds, out_deeds, row}
+use Rattle.vt_world.specs.Events.{own_refusals, row}
+use Rattle.vt_world.specs.Rows.{free_deeds, out_deeds}
 use Rattle.vt_world.specs.Start.{start_world}
 use Rattle.vt_world.specs.State.{WorldState, HasTerminals, core}
 use Rattle.vt_world.specs.Step.{Outcome, step}
 use Rattle.vt_world.specs.Terminals.{altered_by, new_terminal, or_new, said_of, terminal_at, written_on}
-use Rattle.vt_world.specs.Refusals.{Refusal, first_refusal, is_empty, is_in_use, mode_of, console_by_number, needs_console_or_0, needs_open, needs_right, own_refusals, refusal, target}
+use Rattle.vt_world.specs.Refusals.{Refusal, first_refusal, is_empty, is_in_use, mode_of, console_by_number, needs_console_or_0, needs_open, needs_right, refusal, target}
 use Rattle.vt_world.specs.Wanted.{wanted_in}
 use Rattle.key_tables.specs.Tables.{Tables}
 

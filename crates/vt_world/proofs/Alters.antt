@@ -1,4 +1,4 @@
--- What calls change of a screen leaves the consoles that have one.
+-- Calls that change a screen leave which consoles have one.
 use Rattle.std.proofs.Common.{◌≡◌, ℕ, List, map, Option, None}
 use Rattle.std.proofs.Math.Seq.{map-set_same}
 use Rattle.std.specs.Prelude.{is_some, option_map}

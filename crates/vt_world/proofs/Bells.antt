@@ -1,5 +1,5 @@
--- The bells of a text, counted piece by piece.
-use Rattle.std.proofs.Common.{◌≡◌, ◌≤◌, ℕ, ◌+◌, min, List, [], ◌++◌, sym, ap, ◌∙◌, cond, arith}
+-- The BELs of a text, counted piece by piece.
+use Rattle.std.proofs.Common.{◌≡◌, ℕ, ◌+◌, min, List, ◌++◌, sym, ap, ◌∙◌, cond, arith}
 use Rattle.std.specs.Prelude.{count_by}
 use Rattle.std.proofs.lemmas.List.Sums.{sum_by-append}
 use Rattle.vt_screen.specs.Run.{AnyCut, after, outs_of_run}

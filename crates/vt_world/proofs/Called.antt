@@ -14,15 +14,16 @@ use Rattle.vt_world.specs.Acts.{all_acts, request_of}
 use Rattle.vt_world.specs.Deeds.{Deed, Asks, By, Clears, Own, Writes, apply_deed}
 use Rattle.vt_world.specs.Heard.{without_marks}
 use Rattle.vt_world.specs.Laws.{ActsAreCalls, AllCalled, IsCalled}
-use Rattle.vt_world.specs.Rows.{free_deeds, out_deeds, row}
+use Rattle.vt_world.specs.Events.{row}
+use Rattle.vt_world.specs.Rows.{free_deeds, out_deeds}
 use Rattle.vt_world.specs.State.{WorldState}
 use Rattle.vt_world.specs.Step.{Outcome}
 use Rattle.vt_world.specs.Terminals.{said_of, terminal_at}
 use Rattle.vt_world.specs.Refusals.{is_empty, is_in_use, target}
 use Rattle.vt_world.specs.Wanted.{wanted_in}
 
--- the deeds of a list stand for calls where these are releases or set modes; w, p and e say of which
--- event, and v is the console that the deeds meet
+-- the deeds of a list are calls if they are releases or set modes: calls of the event e of p in w;
+-- v is the machine before the deeds
 quiet_called : (w : WorldState) (p : ℕ) (e : Event) (act : SwitchAct) → is_quiet_act act ≡ true
     → IsCalled w p e act
 quiet_called w p e (Release c q arg) quiet = differ quiet

@@ -1,4 +1,4 @@
--- What deeds leave of the display and of who lives: what their acts leave.
+-- Deeds leave the display and which callers are alive as their acts leave them.
 use Rattle.std.proofs.Common.{◌≡◌, ℕ, Bool, true, false, cond, List, [], ◌∷◌, ◌++◌, map, set, Option, Some, None, refl, sym, ap, ◌∙◌}
 use Rattle.std.proofs.Math.Seq.{map-set_same}
 use Rattle.std.proofs.lemmas.List.{map-set}
@@ -26,20 +26,20 @@ use Rattle.vt_world.specs.Inputs.{comes, input_at}
 use Rattle.vt_world.specs.State.{WorldState, core}
 use Rattle.vt_world.specs.Wanted.{wanted_in}
 
--- who lives
+-- which callers are alive
 abbrev pub lives : Callers → List Bool
 lives callers = map (λ (caller : Process). caller.live) callers.list
 
 abbrev core_of : Display → List Bool → Core
 core_of display live = record { display = display; live = live }
 
--- another at the place of p, who lives if p did
+-- another process at the place of p, alive if p was
 pub with_kept : (callers : Callers) (p : ℕ) (new : Process) → new.live ≡ (caller_at callers p).live
     → lives (with_caller callers p new) ≡ lives callers
 with_kept callers p new same =
     map-set_same (λ (caller : Process). caller.live) callers.list p new no_caller same
 
--- each with another ticket
+-- each process with another ticket
 abbrev all_waiting : (Waiting → Waiting) → List Process → List Process
 all_waiting ends list = map (λ (process : Process). with_waiting process (ends process.waiting)) list
 
@@ -61,11 +61,11 @@ settled_if : (b : Bool) (callers : Callers)
 settled_if true callers = refl
 settled_if false callers = waiting_kept after_signal callers.list
 
--- the idle rule keeps who lives
+-- the idle rule leaves which callers are alive
 pub settled_kept : (callers : Callers) → lives (after_idle_rule callers) ≡ lives callers
 settled_kept callers = settled_if (list_any can_go callers.list) callers
 
--- who lives after a mark is heard, and after several
+-- which callers are alive after a mark, and after several
 abbrev lives_after : Mark → List Bool → List Bool
 lives_after (mark.Asked n) live = live
 lives_after (mark.Raised p signal) live = live
@@ -91,7 +91,7 @@ tells w (m ∷ told) =
     tells (apply_mark w m) told
     ∙ ap (λ (live : List Bool). core_of w.display (all_lives_after told live)) (hears m w.callers)
 
--- only an end ends a life
+-- only an end makes a caller dead
 lives_append : (a b : List Mark) (live : List Bool)
     → all_lives_after (a ++ b) live ≡ all_lives_after b (all_lives_after a live)
 lives_append [] b live = refl
@@ -165,7 +165,7 @@ raises_core b w p signal =
     tells w (cond b (mark.Raised p signal ∷ []) [])
     ∙ ap (core_of w.display) (raised_if b p signal (lives w.callers))
 
--- a deed of its own keeps the core
+-- a deed that is no act keeps the core
 pub own_core : (w : WorldState) (deed : OwnDeed) → core (apply_own_deed w deed) ≡ core w
 own_core w (Starts n) = refl
 own_core w (Clears n) = refl

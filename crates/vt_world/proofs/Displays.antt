@@ -15,7 +15,7 @@ use Rattle.vt_world.specs.Deeds.{Deed, apply_deeds}
 use Rattle.vt_world.specs.Heard.{without_marks}
 use Rattle.vt_world.specs.History.{replay}
 use Rattle.vt_world.specs.Laws.{ActsMakeCores, DisplaysAreLawful, DisplaysAreLawfulFrom, IsStart, OwnersAreLive, TargetsAreExplained, moments}
-use Rattle.vt_world.specs.Rows.{row}
+use Rattle.vt_world.specs.Events.{row}
 use Rattle.vt_world.specs.State.{WorldState, core}
 use Rattle.vt_world.specs.Step.{Outcome, step}
 

@@ -30,7 +30,7 @@ held_kept false d n k other =
     ap (λ (o : Option Console). (k == d.front || names k d.pending) || is_some (owner_of (or_fresh o).handling))
     (get_or-set_other d.consoles n k None None other)
 
--- whether another console is in use isn't changed
+-- another console stays in use, or out of use
 in_use_kept : (w : WorldState) (n k : ℕ) → k ≢ n
     → is_in_use (apply_deeds w (free_deeds n)) k ≡ is_in_use w k
 in_use_kept w n k other =
@@ -51,7 +51,7 @@ either_frees : (b : Bool) (n : ℕ) (ns : List ℕ) (u v : WorldState)
 either_frees true n ns u v is = ap (λ (x : WorldState). apply_deeds x (flat_map free_deeds ns)) is
 either_frees false n ns u v is = ap (λ (x : WorldState). apply_deeds x (flat_map free_deeds ns)) is
 
--- one console more is freed, if it isn't in use
+-- one more console is freed, if it isn't in use
 pub frees_next : (w u v : WorldState) (n : ℕ) → n < 64 → is_in_use u n ≡ is_in_use w n
     → v ≡ cond (is_in_use u n) u (apply_deeds u (free_deeds n))
     → apply_deeds v (flat_map free_deeds (unused_from w (n + 1)))
@@ -66,7 +66,7 @@ either_kept : (b : Bool) (u v : WorldState) (n k : ℕ) → k ≢ n
 either_kept true u v n k other is = ap (λ (x : WorldState). is_in_use x k) is
 either_kept false u v n k other is = ap (λ (x : WorldState). is_in_use x k) is ∙ in_use_kept u n k other
 
--- and leaves whether those above are in use
+-- and the consoles above stay in use, or out of use
 pub rest_kept : (w u v : WorldState) (n : ℕ)
     → ((k : ℕ) → n ≤ k → is_in_use u k ≡ is_in_use w k)
     → v ≡ cond (is_in_use u n) u (apply_deeds u (free_deeds n))

@@ -19,7 +19,7 @@ replay_grows start [] entry = refl
 replay_grows start (first ∷ entries) entry =
     replay_grows (step start first.caller first.event).world entries entry
 
--- what stands in a list with one more element: an element of the list, or that one behind it
+-- an element of a list with one more at its end is one of the list, or that one
 at_either : {A : Type 0} (xs : List A) (x : A) (k : ℕ) (y : A)
     → slice_get (xs ++ x ∷ []) k ≡ Some y
     → (slice_get xs k ≡ Some y) ⊎ ((k ≡ length xs) × (x ≡ y))

@@ -1,6 +1,7 @@
 pub mod Ages
 mod Allocation
 mod Alters
+mod Answered
 mod Bells
 mod Called
 mod Cores

@@ -1,4 +1,4 @@
--- Who lives after a mark, and what a hop tells.
+-- Which callers are alive after a mark, and the marks of a hop.
 use Rattle.std.proofs.Common.{◌≡◌, ℕ, List, [], ◌∷◌, map, Option, Some, refl, sym, ap, ◌∙◌}
 use Rattle.std.proofs.lemmas.List.{map-set}
 use Rattle.std.specs.Prelude.{Bool, false, slice_set}
@@ -21,7 +21,7 @@ use Rattle.vt_world.specs.State.{WorldState, core}
 abbrev pub lives : List Process → List Bool
 lives list = map (λ (caller : Process). caller.live) list
 
--- a hop ends tickets, and leaves who lives
+-- a hop ends tickets, and leaves which callers are alive
 lives-after_display_of : (c : ℕ) (accepter : Option (ℕ × ℕ)) (list : List Process)
     → lives (after_display_of c (record { list = list; accepter = accepter })).list ≡ lives list
 lives-after_display_of c accepter [] = refl
@@ -32,7 +32,7 @@ pub core_hop : (w : WorldState) (hop : Hop) → core (apply_mark w (mark.Hopped 
 core_hop w hop =
     λ i. record { display = w.display; live = lives-after_display_of hop.to w.callers.accepter w.callers.list i }
 
--- who ended is dead
+-- a caller that ended is dead
 pub core_end : (w : WorldState) (p : ℕ)
     → core (apply_mark w (mark.Ended p)) ≡ record (core w) { live = slice_set (core w).live p false }
 core_end w p = λ i. record {
@@ -40,7 +40,7 @@ core_end w p = λ i. record {
   live = map-set (λ (caller : Process). caller.live) w.callers.list p (dead_process (caller_at w.callers p)) i;
 }
 
--- an end is told, and the hop that it makes
+-- the marks of an end, and of the hop that it makes
 pub end_told : (w v : WorldState) (p : ℕ) (hop : Option Hop)
     → v ≡ apply_mark (record w { display = after_process_end w.display p }) (mark.Ended p)
     → hop ≡ ended_hop w.display p
@@ -52,7 +52,7 @@ end_told w v p hop heard_it is =
     ∙ ap (λ (k : Core). apply_marks after (hop_marks k hop)) (core_end dead_process p)
     ∙ ap (λ (h : Option Hop). apply_marks after (hop_marks (core_after (core w) (End p)) h)) is
 
--- a hop and the acquire signal behind it are what a hop tells
+-- the marks of a hop are the hop and the acquire signal after it
 pub hop_told : (w v : WorldState) (hop : Hop) (handshake : Handshake)
     → v ≡ apply_mark w (mark.Hopped hop)
     → (console w.display hop.to).handling ≡ HandledBy handshake

@@ -1,4 +1,4 @@
--- Whose ticket a step opens, and that none is open at a start.
+-- A step opens only the ticket of its caller, and none is open at a start.
 use Rattle.std.proofs.Common.{◌≡◌, ◌⊎◌, ℕ, zero, suc, ◌-◌, Bool, true, false, cond, inl, inr, List, [], ◌∷◌, get_or, map, Option, Some, None, refl, sym, subst}
 use Rattle.std.specs.List.{range_with_len}
 use Rattle.std.specs.Prelude.{◌==◌, nat_lt, slice_get}
@@ -14,12 +14,13 @@ use Rattle.vt_world.proofs.Steps.{by_step, outcome}
 use Rattle.vt_world.proofs.Waits.{NoWait, OneWait, RowDoes, apply_deeds_age, row_does}
 use Rattle.vt_world.specs.Deeds.{Deed, apply_deeds}
 use Rattle.vt_world.specs.Heard.{without_marks}
-use Rattle.vt_world.specs.Rows.{EventRow, row}
+use Rattle.vt_world.specs.Events.{row}
+use Rattle.vt_world.specs.Rows.{EventRow}
 use Rattle.vt_world.specs.State.{WorldState, is_waiting}
 use Rattle.vt_world.specs.Step.{Outcome}
 use Rattle.vt_world.specs.StepLaws.{NobodyWaitsAtStart, TicketsAreCalled}
 
--- who has an open ticket had it before, or is p, which was answered "wait"
+-- a caller with an open ticket had it before, or is p and was answered "wait"
 abbrev IsCalled : WorldState → ℕ → Outcome → Type 0
 IsCalled w p after =
     (q : ℕ) → is_waiting after.world q ≡ true

@@ -1,4 +1,4 @@
--- In no event a request comes before a release, an end or a signal that is raised by itself.
+-- In no event a request comes before a release, an end or a signal that is raised without an act.
 use Rattle.std.proofs.Common.{◌≡◌, ℕ, Bool, true, false, cond, List, [], ◌∷◌, ◌++◌, filter, flat_map, Option, Some, None, refl}
 use Rattle.std.specs.List.{range_with_len}
 use Rattle.std.specs.Prelude.{unwrap_or, ◌&&◌, ◌||◌, ◌==◌, not}
@@ -19,7 +19,8 @@ use Rattle.vt_world.proofs.Truths.{both_of, left_of, right_of}
 use Rattle.vt_world.specs.Acts.{all_acts, request_of}
 use Rattle.vt_world.specs.Deeds.{Deed, Asks, By, Own, Puts, Raises, apply_deed}
 use Rattle.vt_world.specs.Inputs.{input_at}
-use Rattle.vt_world.specs.Rows.{free_deeds, out_deeds, row, waits_unless}
+use Rattle.vt_world.specs.Events.{row}
+use Rattle.vt_world.specs.Rows.{free_deeds, out_deeds, waits_unless}
 use Rattle.vt_world.specs.State.{WorldState}
 use Rattle.vt_world.specs.Terminals.{said_of, terminal_at}
 use Rattle.vt_world.specs.Refusals.{is_empty, is_in_use, target}

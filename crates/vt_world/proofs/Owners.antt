@@ -1,4 +1,4 @@
--- Whoever handles the switches of a console lives, also after a change of the world.
+-- Each process that handles the switches of a console is alive, also after a change of the machine.
 use Rattle.std.proofs.Common.{◌≡◌, ℕ, zero, suc, Bool, true, false, true≢false, cond, List, [], ◌∷◌, get_or, map, set, Option, Some, None, refl, sym, ap, subst, ◌∙◌}
 use Rattle.std.proofs.Math.ListN.{get_or-map}
 use Rattle.std.proofs.lemmas.List.{map-set}
@@ -24,7 +24,7 @@ pub after_act : OwnersStayLive → (k l : Core) (act : SwitchAct) → core_after
     → OwnersLive k → OwnersLive l
 after_act law k l act is owners = subst OwnersLive is (law k ((act ∷ []) ∷ []) owners)
 
--- an act that leaves which consoles are allocated, and who lives
+-- an act that leaves which consoles are allocated, and which callers are alive
 pub still_world : OwnersStayLive → (terminals : List (Option TerminalState)) (d e : Display)
     (callers : Callers) (act : SwitchAct) → stays act ≡ true
     → core_after (core_of d callers) act ≡ core_of (after d act) callers
@@ -36,12 +36,12 @@ still_world law terminals d e callers act it same is w = record {
       (same ∙ ap (λ (x : Display). core_of x callers) (sym is)) w.owners;
 }
 
--- other terminals, alike
+-- other terminals, of the same consoles
 pub alike_world : (old new : List (Option TerminalState)) (d : Display) (callers : Callers)
     → map is_some new ≡ map is_some old → IsWorld old d callers → IsWorld new d callers
 alike_world old new d callers same w = record { alike = same ∙ w.alike; owners = w.owners }
 
--- other callers, of whom the same live
+-- other callers, of which the same are alive
 pub same_live : (terminals : List (Option TerminalState)) (d : Display) (old new : Callers)
     → lives new ≡ lives old → IsWorld terminals d old → IsWorld terminals d new
 same_live terminals d old new same w = record {
@@ -49,7 +49,7 @@ same_live terminals d old new same w = record {
   owners = subst (λ (live : List Bool). OwnersLive (record { display = d; live = live })) (sym same) w.owners;
 }
 
--- who lives in the list of callers is who lives in the core
+-- the callers that are alive in the list are those of the core
 live_in : (callers : Callers) (p : ℕ) → get_or (lives callers) p false ≡ is_live callers p
 live_in callers p = get_or-map (λ (caller : Process). caller.live) callers.list p no_caller
 
@@ -65,14 +65,14 @@ set_mode d callers c p m it =
     mode_if (get_or (lives callers) p false) (core_of d callers) (after d (SetMode c p m))
     (live_in callers p ∙ it)
 
--- who ended is dead
+-- a caller that ended is dead
 pub end_core : (d : Display) (callers : Callers) (p : ℕ)
     → core_after (core_of d callers) (End p) ≡ core_of (after d (End p)) (after_exit p callers)
 end_core d callers p =
     ap (λ (live : List Bool). record { display = after d (End p); live = live })
     (sym (map-set (λ (caller : Process). caller.live) callers.list p (dead_process (caller_at callers p))))
 
--- who lives once a caller is dead lived before
+-- a caller that is alive after the death of another one was alive before
 lived : (live : List Bool) (p q : ℕ) → get_or (set live p false) q false ≡ true
     → get_or live q false ≡ true
 lived [] p q it = it
@@ -81,7 +81,7 @@ lived (b ∷ live) zero (suc q) it = it
 lived (b ∷ live) (suc p) zero it = it
 lived (b ∷ live) (suc p) (suc q) it = lived live p q it
 
--- the consoles of a caller are given back before it dies
+-- the consoles of a caller lose their owner before it dies
 pub given_back : OwnersStayLive → (terminals : List (Option TerminalState)) (d e : Display)
     (callers : Callers) (p : ℕ) → e ≡ after d (End p)
     → IsWorld terminals d callers → IsWorld terminals e callers

@@ -1,4 +1,4 @@
--- Consoles and terminals are alike, and stay so.
+-- The consoles that have a terminal stay those that are allocated.
 use Rattle.std.proofs.Common.{◌≡◌, ℕ, zero, suc, ◌+◌, Bool, true, false, true≢false, cond, arith, List, [], ◌∷◌, ◌++◌, get_or, set, map, Option, Some, None, refl, sym, ap, ◌∙◌}
 use Rattle.std.proofs.lemmas.List.{map-set, set-get_or}
 use Rattle.std.proofs.lemmas.List.FromFn.{map-range_with_len_more}
@@ -16,7 +16,7 @@ use Rattle.vt_world.specs.Terminals.{TerminalState, with_start, or_new, terminal
 use Rattle.vt_switch.specs.declared.console.Console.{Console}
 use Rattle.vt_switch.specs.declared.handling.Handling.{Handling}
 
--- whether a place is taken isn't changed by changing what it has
+-- a place stays taken if its contents change
 pub kept : {A : Type 0} (f : A → A) (o : Option A) → is_some (option_map f o) ≡ is_some o
 kept f None = refl
 kept f (Some a) = refl
@@ -107,12 +107,12 @@ taken_among consoles a at zero = refl
 taken_among consoles a at (suc n) =
     λ i. taken_if (is_among consoles at) a i ∷ taken_among consoles a (at + 1) n i
 
--- the places of a set are taken alike, whatever they have
+-- two lists have the same places taken if both are of one set
 pub each_alike : {A B : Type 0} (consoles : ℕ) (a : A) (b : B)
     → map is_some (at_each consoles a) ≡ map is_some (at_each consoles b)
 each_alike consoles a b = taken_among consoles a 0 64 ∙ sym (taken_among consoles b 0 64)
 
--- one place more of a set
+-- one more place of a set
 pub places_more : {A : Type 0} (consoles n : ℕ) (a : A) (old new : List (Option A)) (o : Option A)
     → old ≡ map (λ k. if is_among consoles k then Some a else None) (range_with_len 0 n)
     → new ≡ old ++ o ∷ [] → o ≡ (if is_among consoles n then Some a else None)

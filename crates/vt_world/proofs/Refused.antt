@@ -1,13 +1,14 @@
--- An event that is refused has no other effect. The row stays as it is: it may speak of all consoles.
+-- A refused event has no other effect. The proof keeps the row as a variable: it may be about all
+-- consoles.
 use Rattle.std.proofs.Common.{◌≡◌, ℕ, Option, Some, Err, ap, sym, ◌∙◌}
 use Rattle.std.specs.Prelude.{Result}
 use Rattle.vt_base.specs.declared.errno.Errno.{Errno}
 use Rattle.vt_events.specs.declared.event.Event.{Event}
 use Rattle.vt_events.specs.declared.reply.Reply.{Reply}
-use Rattle.vt_world.specs.Rows.{row}
+use Rattle.vt_world.specs.Events.{own_refusals, row}
 use Rattle.vt_world.specs.State.{WorldState}
 use Rattle.vt_world.specs.Step.{RowResult, HasRowResult, row_result, own_row_result, plain_answer}
-use Rattle.vt_world.specs.Refusals.{first_refusal, own_refusals}
+use Rattle.vt_world.specs.Refusals.{first_refusal}
 
 abbrev unchanged : WorldState → Result Reply Errno → RowResult
 unchanged w answer = record { world = w; answer = answer }

@@ -25,7 +25,7 @@ found_here p n ns c is some = by_test (p n) is
     by_test true is' = is'
     by_test false is' = absurd (true≢false (sym some ∙ ap is_some is'))
 
--- and where it doesn't pass, one behind it is
+-- and if it doesn't pass, a later one is found
 pub found_later : (p : ℕ → Bool) (n : ℕ) (ns : List ℕ) (c : Option ℕ)
     → c ≡ cond (p n) (Some n) None → is_some c ≡ false → find p (n ∷ ns) ≡ find p ns
 found_later p n ns c is none = by_test (p n) is
@@ -34,12 +34,12 @@ found_later p n ns c is none = by_test (p n) is
     by_test true is' = absurd (true≢false (sym (ap is_some is') ∙ none))
     by_test false is' = refl
 
--- what is found in the first of two lists is found in both
+-- a number that is found in the first of two lists is found in both
 pub found_first : (p : ℕ → Bool) (ns ms : List ℕ) (n : ℕ) → find p ns ≡ Some n
     → Some n ≡ find p (ns ++ ms)
 found_first p ns ms n is = sym (find-append p ns ms ∙ ap (λ o. option_or o (find p ms)) is)
 
--- where nothing is, it is found in the second
+-- if none is found in the first, it is found in the second
 pub found_second : (p : ℕ → Bool) (ns ms : List ℕ) (c : Option ℕ) → find p ns ≡ None
     → c ≡ find p ms → c ≡ find p (ns ++ ms)
 found_second p ns ms c none is =

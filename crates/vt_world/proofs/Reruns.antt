@@ -1,4 +1,4 @@
--- What was said before a tape is run changes nothing of its screen.
+-- Earlier side effects change nothing of the screen that a tape gives.
 use Rattle.std.proofs.Common.{◌≡◌, ℕ, Bool, true, false, cond, List, [], ◌∷◌, ◌++◌, map, refl, sym, ap, ◌∙◌}
 use Rattle.vt_screen.specs.Run.{ScreenAndOuts, after, screen_effects, with_outs, start}
 use Rattle.vt_screen.specs.Screen.{Screen, mode_of}
@@ -19,7 +19,7 @@ saying outs s = record { screen = s; outs = outs }
 abbrev seen : Reached ScreenAndOuts → Reached Screen
 seen at = make_reached at.state.screen at.rest
 
--- the effect of what a byte comes to, with its tests as variables
+-- the effect of a byte's outcome, with its tests as variables
 effect_alike : (got : then.Then) (bad : Bool) (s : Screen) (a b : List Out)
     → (effect_of screen_effects got (cond bad (screen_effects.on_unit (units.Unit.Char 0xFFFD) (saying a s)) (saying a s))).screen
     ≡ (effect_of screen_effects got (cond bad (screen_effects.on_unit (units.Unit.Char 0xFFFD) (saying b s)) (saying b s))).screen
@@ -47,7 +47,7 @@ runs_alike (byte n ∷ items) s rest a b =
     ∙ ap (λ (screen : Screen). seen (run_tape items (make_reached (saying other.outs screen) left)))
     (effect_alike read.got read.bad s a b)
 
--- bytes behind a tape are run on its screen
+-- bytes after a tape are run on its screen
 pub tape_writes : StretchesRun → AnyTapeCut → (rows cols : ℕ) (tape : List Taped) (bytes : List ℕ)
     → after (screen_of rows cols tape) bytes ≡ screen_of rows cols (tape ++ map byte bytes)
 tape_writes stretches cuts rows cols tape bytes =

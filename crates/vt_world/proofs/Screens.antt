@@ -26,7 +26,7 @@ use Rattle.vt_world.specs.Deeds.{Deed, By, Asks, Own, OwnDeed, Starts, Clears, W
 use Rattle.vt_world.specs.Heard.{without_marks, apply_mark, apply_marks}
 use Rattle.vt_world.specs.History.{replay}
 use Rattle.vt_world.specs.Laws.{IsStart, ScreensAreTapes}
-use Rattle.vt_world.specs.Rows.{row}
+use Rattle.vt_world.specs.Events.{row}
 use Rattle.vt_world.specs.Start.{start_world}
 use Rattle.vt_world.specs.State.{WorldState, HasTerminals, core}
 use Rattle.vt_world.specs.Step.{Outcome, step}
@@ -34,7 +34,7 @@ use Rattle.vt_world.specs.Tapes.{accepted_items, items_of, screen_of, tape_after
 use Rattle.vt_world.specs.Terminals.{TerminalState, altered_by, machine_of, new_terminal, or_new, terminal_at, written_on}
 use Rattle.vt_world.specs.Wanted.{wanted_in}
 
--- the laws of runs that the proof stands on
+-- the laws of runs that the proof uses
 record RunLaws : Type 0 where
   stretches : StretchesRun
   cuts : AnyTapeCut
@@ -65,7 +65,7 @@ no_machine : {X : Type 0} (a : Reached Screen) → None ≡ Some a → X
 no_machine a same =
     absurd (true≢false (sym (ap (λ (m : Option (Reached Screen)). is_some m) same)))
 
--- what each change of a terminal and of its tape keeps
+-- the invariant that each change of a terminal and of its tape keeps
 abbrev Keeps : ℕ → ℕ → (Option TerminalState → Option TerminalState) → (Tape → Tape) → Type 0
 Keeps rows cols alter add =
     (terminal : Option TerminalState) (tape : Tape) → Shows rows cols terminal tape
@@ -190,7 +190,7 @@ deeds_show laws rows cols c w tape (Own deed ∷ deeds) shown =
     deeds_show laws rows cols c (apply_own_deed w deed) (tape_by c tape deed) deeds
     (own_shows laws rows cols c w tape deed shown)
 
--- a tape is there where the console is allocated
+-- there is a tape if the console is allocated
 machine_there : (terminal : Option TerminalState) → is_some (machine_of terminal) ≡ is_some terminal
 machine_there None = refl
 machine_there (Some t) = refl

@@ -1,4 +1,4 @@
--- Which consoles are allocated is left by all acts but an allocate and a free.
+-- All acts except an allocate and a free leave which consoles are allocated.
 use Rattle.std.proofs.Common.{◌≡◌, ℕ, Bool, true, false, true≢false, List, [], ◌∷◌, get_or, map, Option, Some, None, refl, sym, ap, ◌∙◌}
 use Rattle.std.proofs.Math.Seq.{map-set_same}
 use Rattle.std.specs.Prelude.{◌==◌, Result, Ok, Err, is_some, option_map}

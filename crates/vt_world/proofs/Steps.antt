@@ -1,4 +1,4 @@
--- A step, by its cases: the event is refused, or nothing refuses it.
+-- A step, by its cases: the event is refused, or it isn't.
 use Rattle.std.proofs.Common.{◌≡◌, ℕ, List, [], Option, Some, None, refl}
 use Rattle.vt_base.specs.declared.errno.Errno.{Errno}
 use Rattle.vt_events.specs.declared.event.Event.{Event}
@@ -6,15 +6,16 @@ use Rattle.vt_events.specs.declared.reply.Reply.TheVariants as reply
 use Rattle.vt_world.specs.Acts.{deeds_after, deeds_unless, event_deeds}
 use Rattle.vt_world.specs.Deeds.{Deed, apply_deeds}
 use Rattle.vt_world.specs.Heard.{without_marks}
-use Rattle.vt_world.specs.Rows.{EventRow, row}
+use Rattle.vt_world.specs.Events.{own_refusals, row}
+use Rattle.vt_world.specs.Rows.{EventRow}
 use Rattle.vt_world.specs.State.{WorldState}
 use Rattle.vt_world.specs.Step.{Outcome, outcome_of_row, row_result_after, row_result, step, with_idle_rule}
-use Rattle.vt_world.specs.Refusals.{common_refusals, first_refusal, own_refusals}
+use Rattle.vt_world.specs.Refusals.{common_refusals, first_refusal}
 
 abbrev refusal : WorldState → Errno → Outcome
 refusal w errno = record { world = w; reply = reply.Err errno }
 
--- what a row leaves and answers
+-- the machine and the answer of a row
 abbrev pub outcome : WorldState → EventRow → Outcome
 outcome w r = record { world = with_idle_rule (apply_deeds w r.deeds); reply = r.reply }
 
@@ -33,7 +34,8 @@ by_common P w p e (Some errno) nothing all = nothing errno
 by_common P w p e None nothing all =
     by_answer P w (row w p e) (first_refusal (own_refusals w p e)) nothing all
 
--- what holds where an event is refused, and where the deeds of its row are done, holds of a step
+-- a fact that holds if an event is refused, and if the deeds of its row are carried out, holds of a
+-- step
 pub by_step : (P : List Deed → Outcome → Type 0) (w : WorldState) (p : ℕ) (e : Event)
     → ((errno : Errno) → P [] (refusal (without_marks w) errno))
     → (first_refusal (own_refusals (without_marks w) p e) ≡ None

@@ -1,4 +1,4 @@
--- The tape of a console by deeds, and what it has after an event: what the event adds to it.
+-- The tape of a console by deeds: after an event it has the items that the event adds.
 use Rattle.std.proofs.Common.{◌≡◌, ℕ, ◌⊎◌, inl, inr, Bool, true, false, cond, List, [], ◌∷◌, ◌++◌, filter, flat_map, map, Option, Some, None, is_some, refl, sym, ap, subst, ◌∙◌, append-nil}
 use Rattle.std.specs.List.{range_with_len}
 use Rattle.std.specs.Prelude.{◌==◌, not, option_map, unwrap_or}
@@ -14,7 +14,8 @@ use Rattle.vt_screen.specs.declared.out.Out.{Out}
 use Rattle.vt_world.proofs.Quiet.{are_quiet, is_quiet_act, is_quiet_own, outs_quiet, scan_quiet, sent_quiet, wait_quiet}
 use Rattle.vt_world.proofs.Truths.{differ, left_of, right_of}
 use Rattle.vt_world.specs.Deeds.{Deed, Alters, Asks, By, Clears, Own, OwnDeed, Starts, Writes}
-use Rattle.vt_world.specs.Rows.{free_deeds, out_deeds, row}
+use Rattle.vt_world.specs.Events.{row}
+use Rattle.vt_world.specs.Rows.{free_deeds, out_deeds}
 use Rattle.vt_world.specs.State.{WorldState}
 use Rattle.vt_world.specs.Tapes.{items_of, tape_after, unless_refused}
 use Rattle.vt_world.specs.Terminals.{said_of, terminal_at}
@@ -23,15 +24,15 @@ use Rattle.vt_world.specs.Refusals.{is_empty, is_in_use, console_by_number, targ
 abbrev pub Tape : Type 0
 Tape = Option (List Taped)
 
--- these items stand behind the others, where there is a tape
+-- these items come after the others, if there is a tape
 abbrev pub taped : List Taped → Tape → Tape
 taped items tape = option_map (λ (old : List Taped). old ++ items) tape
 
 abbrev pub begun : Tape → Tape
 begun tape = Some (unwrap_or tape [])
 
--- a console that gets a terminal begins a tape, one that loses it has none, and what is written to
--- it or changed there is added
+-- a console that gets a terminal begins a tape, one that loses it has none, and writes and changes
+-- are added
 abbrev pub tape_by : ℕ → Tape → OwnDeed → Tape
 tape_by c tape (Starts n) = cond (n == c) (begun tape) tape
 tape_by c tape (Clears n) = cond (n == c) None tape
@@ -64,7 +65,7 @@ leaves c tape (Own deed ∷ deeds) quiet =
     leaves c (tape_by c tape deed) deeds (right_of (is_quiet_own deed) (are_quiet deeds) quiet)
     ∙ quiet_own c tape deed (left_of (is_quiet_own deed) (are_quiet deeds) quiet)
 
--- the new tape is none, or the old one with these items behind it
+-- the new tape is none, or the old one with these items at its end
 abbrev Grows : List Taped → Tape → Tape → Type 0
 Grows items tape new = (new ≡ None) ⊎ (new ≡ Some (unwrap_or tape [] ++ items))
 
@@ -151,8 +152,8 @@ row_accepts c w p (event.SetMap fd b) = refl
 row_accepts c w p (event.SetPal fd b) = refl
 row_accepts c w p e = nothing_added (row w p e).reply
 
--- a tape that is none, or has these items more, is the one after an event, where it is there if its
--- console is allocated
+-- a tape that is none, or has these items more, is the one after an event, if it exists exactly if
+-- its console is allocated
 is_after : (allocated : Bool) (items : List Taped) (tape new : Tape) → is_some new ≡ allocated
     → Grows items tape new → new ≡ tape_after allocated items tape
 is_after true items tape new there (inl none) =
@@ -162,7 +163,7 @@ is_after false items tape new there (inl none) = none
 is_after false items tape new there (inr more) =
     differ (sym there ∙ ap (λ (t : Tape). is_some t) more)
 
--- the tape after the deeds of an event that nothing refuses, and of one that is refused
+-- the tape after the deeds of an event that isn't refused, and of a refused one
 pub accepted_tape : (c : ℕ) (tape : Tape) (w : WorldState) (p : ℕ) (e : Event) (allocated : Bool)
     → is_some (tape_of_deeds c tape (row w p e).deeds) ≡ allocated
     → tape_of_deeds c tape (row w p e).deeds

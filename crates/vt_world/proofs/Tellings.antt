@@ -1,4 +1,4 @@
--- What an event tells of the display is what its acts tell, one after another.
+-- The marks of an event about the display are those of its acts, one after another.
 use Rattle.std.proofs.Common.{◌≡◌, ℕ, Bool, true, false, cond, List, [], ◌∷◌, ◌++◌, Option, Some, None, refl, sym, ap, ◌∙◌}
 use Rattle.std.specs.Prelude.{◌&&◌, ◌||◌, not}
 use Rattle.vt_events.specs.declared.event.Event.{Event}
@@ -20,7 +20,7 @@ use Rattle.vt_world.specs.Acts.{all_acts, request_of}
 use Rattle.vt_world.specs.Deeds.{Deed, By, Asks, Own, OwnDeed, Raises, after_switch_act, apply_deed, apply_own_deed, after_request}
 use Rattle.vt_world.specs.Heard.{without_marks}
 use Rattle.vt_world.specs.Laws.{TracesTellNews, all_marks, marks_by, marks_of_request}
-use Rattle.vt_world.specs.Rows.{row}
+use Rattle.vt_world.specs.Events.{row}
 use Rattle.vt_world.specs.State.{WorldState, core}
 use Rattle.vt_world.specs.Step.{Outcome}
 use Rattle.vt_world.specs.Wanted.{wanted_in}

@@ -1,4 +1,4 @@
--- What an event tells: what its acts tell, and signals that were raised beside them.
+-- The marks of an event: those of its acts, and signals that were raised without an act.
 use Rattle.std.proofs.Common.{◌≡◌, ℕ, Bool, true, false, cond, List, [], ◌∷◌, ◌++◌, Option, Some, None, refl, sym, ap, subst, subst₂, ◌∙◌, append_assoc, append-nil}
 use Rattle.std.specs.List.{list_all}
 use Rattle.vt_switch.specs.Acts.{SwitchAct, Request}
@@ -13,7 +13,7 @@ use Rattle.vt_world.specs.Acts.{all_acts, event_acts, request_of}
 use Rattle.vt_world.specs.Deeds.{Deed, By, Asks, Own, OwnDeed, Raises, after_switch_act, apply_deeds, apply_deed, apply_own_deed, after_request}
 use Rattle.vt_world.specs.Heard.{without_marks, apply_mark, apply_marks}
 use Rattle.vt_world.specs.Laws.{TellsActs, TracesTellActs, TracesTellDeeds, TracesTellHops, all_marks, hops_of, is_raise, marks_by, marks_of_request}
-use Rattle.vt_world.specs.Rows.{row}
+use Rattle.vt_world.specs.Events.{row}
 use Rattle.vt_world.specs.State.{WorldState, core}
 use Rattle.vt_world.specs.Step.{Outcome, step}
 use Rattle.vt_world.specs.Wanted.{wanted_in}

@@ -1,4 +1,4 @@
--- All keyboards have one translation.
+-- All keyboards have the same keycodes.
 use Rattle.std.proofs.Common.{◌≡◌, ℕ, zero, suc, Bool, true, false, List, [], ◌∷◌, ◌++◌, flat_map, map, filter, Option, Some, None, refl, sym, ap, ◌∙◌, subst}
 use Rattle.std.proofs.lemmas.Bool.{and_from, and_parts, false≢true}
 use Rattle.std.proofs.lemmas.List.Folds.{list_all-append}
@@ -24,8 +24,9 @@ use Rattle.vt_world.specs.Deeds.{Deed, Asks, By, Coded, Own, OwnDeed, Puts, Rais
 use Rattle.vt_world.specs.Heard.{without_marks, apply_mark, apply_marks}
 use Rattle.vt_world.specs.History.{replay}
 use Rattle.vt_world.specs.Inputs.{input_at}
+use Rattle.vt_world.specs.Events.{row}
 use Rattle.vt_world.specs.Refusals.{is_empty, is_in_use, target}
-use Rattle.vt_world.specs.Rows.{disallocate_deeds, free_deeds, out_deeds, row, waits_unless}
+use Rattle.vt_world.specs.Rows.{disallocate_deeds, free_deeds, out_deeds, waits_unless}
 use Rattle.vt_world.specs.State.{WorldState, core}
 use Rattle.vt_world.specs.Step.{Outcome, step}
 use Rattle.vt_world.specs.StepLaws.{IsOneTranslation, OneTranslation, translations}
@@ -153,7 +154,7 @@ scans : (raw : Bool) (w : WorldState) (k n b : ℕ)
 scans true w k n b = reads w (apply_deed w (Own (Puts n (b ∷ [])))) k n b refl
 scans false w k n b = reads w w k n b refl
 
--- one translation stays one
+-- keyboards with the same keycodes keep them the same
 alike : (w v : WorldState) → translations v ≡ translations w → IsOneTranslation w → IsOneTranslation v
 alike w v same one = (one.0, same ∙ one.1)
 

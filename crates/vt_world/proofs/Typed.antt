@@ -1,4 +1,4 @@
--- What a key does hangs on none of what was done with its byte before.
+-- The result of a key doesn't depend on what is done with its byte before.
 use Rattle.std.proofs.Common.{◌≡◌, ℕ, zero, suc, Bool, true, false, cond, List, [], ◌∷◌, Option, Some, None, refl, sym, ap, ◌∙◌}
 use Rattle.std.specs.Prelude.{◌==◌, ◌&&◌, ◌||◌, filter, slice_set}
 use Rattle.std.specs.List.{range_with_len}
@@ -45,11 +45,11 @@ key_out_alike v w n said.Attention alike =
     (filter_alike (uses v n) (uses w n) (range_with_len 1 64) alike.users)
 key_out_alike v w n said.Nothing alike = refl
 
--- a caller but for its ticket
+-- a caller without its ticket
 abbrev without_ticket : Process → Process
 without_ticket process = record process { waiting = Nothing }
 
--- bytes that come end tickets alone
+-- bytes that enter a queue only end tickets
 same_after_input_on : (c p : ℕ) (accepter : Option (ℕ × ℕ)) (list : List Process)
     → without_ticket (caller_at (after_input_on c (record { list = list; accepter = accepter })) p)
     ≡ without_ticket (caller_at (record { list = list; accepter = accepter }) p)
@@ -104,7 +104,7 @@ read_alike w k n piece b =
     ap (λ (deeds : List Deed). Own (Scanned k (read_by scanner b)) ∷ deeds)
     (key_alike w k n piece (event_after scanner.codes scanner.bytes b))
 
--- a key is typed: the keyboard and the key state are left by it, and what it says is done
+-- a key is typed: it leaves the keyboard and the key state, and its result is carried out
 pub typed_told : (w v : WorldState) (k n : ℕ) (e : KeyEvent) (m : KeyModes) (before : State)
     (keys : Keys) (state : State) (out : KeyOut) (inputs : List Input)
     → m ≡ key_modes_of (terminal_at w.terminals n) → before ≡ (input_at w.inputs n).keys
@@ -136,7 +136,7 @@ with_read w k b = record w.board {
   scanners = slice_set w.board.scanners k (read_by (scanner_of w.board.scanners k) b);
 }
 
--- a byte is read that ends a key
+-- a byte is read that completes a key
 pub read_told : (w v : WorldState) (k n b : ℕ) (e : KeyEvent) (board : KeyboardSet)
     → event_after (scanner_of w.board.scanners k).codes (scanner_of w.board.scanners k).bytes b ≡ Some e
     → board ≡ with_read w k b

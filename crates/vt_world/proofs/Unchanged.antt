@@ -1,4 +1,4 @@
--- A refused call is as one that was never made.
+-- A refused call has no effect.
 use Rattle.std.proofs.Common.{◌≡◌, ℕ, zero, suc, Bool, true, false, cond, List, [], ◌∷◌, get_or, set, Some, None, refl, sym, ap, ◌∙◌}
 use Rattle.std.specs.List.{list_any}
 use Rattle.std.specs.Prelude.{◌==◌, ◌&&◌, ◌||◌, not}
@@ -22,8 +22,9 @@ use Rattle.vt_world.specs.Deeds.{Deed, Collects, Own}
 use Rattle.vt_world.specs.Heard.{without_marks}
 use Rattle.vt_world.specs.History.{replay}
 use Rattle.vt_world.specs.RefusalLaws.{BrokenWaitsAreTaken, IsSameWithout, LaterAnswersStay, RefusalsCanGo, RefusalsChangeNothing, accepted_entries, calls, exchanges, is_refusal}
+use Rattle.vt_world.specs.Events.{row}
 use Rattle.vt_world.specs.Refusals.{caller, has_ticket, holds_ticket, is_empty, target}
-use Rattle.vt_world.specs.Rows.{ended_reply, row, row_of, waits_unless}
+use Rattle.vt_world.specs.Rows.{ended_reply, row_of, waits_unless}
 use Rattle.vt_world.specs.State.{WorldState}
 use Rattle.vt_world.specs.Step.{Outcome, outcome_of_row, row_result_after, row_result, step}
 
@@ -60,7 +61,7 @@ refusals_change_nothing w p e =
     w p e (λ errno refused. refl)
     (λ passed refused. differ (sym (row_accepts (without_marks w) p e) ∙ refused))
 
--- what is told of an event before makes no difference
+-- the trace of an earlier event makes no difference
 untold : (w : WorldState) (entries : List Entry)
     → exchanges (without_marks w) entries ≡ exchanges w entries
 untold w [] = refl
@@ -162,7 +163,7 @@ abbrev tells_signal : Reply → Bool
 tells_signal (reply.Err Intr) = true
 tells_signal answer = false
 
--- how a wait ended, told to a live process
+-- a live process learns how its wait ended
 own_end : (v : WorldState) (p : ℕ) (ended : Waiting) → is_live v.callers p ≡ true
     → (caller v p).waiting ≡ ended
     → (outcome_of_row

@@ -1,4 +1,4 @@
--- What an event leaves of a console that it doesn't touch.
+-- An event leaves a console that it doesn't touch.
 use Rattle.std.proofs.Common.{◌≡◌, ◌⊎◌, inl, inr, ℕ, zero, suc, Bool, true, false, cond, List, [], ◌∷◌, get_or, set, flat_map, filter, Option, Some, None, refl, sym, ap, ◌∙◌}
 use Rattle.std.proofs.lemmas.List.{get_or-set_other}
 use Rattle.std.specs.List.{list_all, range_with_len}
@@ -15,8 +15,9 @@ use Rattle.vt_world.proofs.Steps.{by_step}
 use Rattle.vt_world.proofs.Truths.{both_of, differ, left_of, right_of, unequal}
 use Rattle.vt_world.specs.Deeds.{Deed, By, Asks, Own, OwnDeed, Starts, Clears, Writes, Alters, Raises, after_switch_act, apply_deeds, apply_deed, apply_own_deed, after_request}
 use Rattle.vt_world.specs.Heard.{without_marks, apply_mark, apply_marks}
+use Rattle.vt_world.specs.Events.{row}
 use Rattle.vt_world.specs.Refusals.{is_empty, is_in_use, console_by_number, target}
-use Rattle.vt_world.specs.Rows.{free_deeds, out_deeds, row}
+use Rattle.vt_world.specs.Rows.{free_deeds, out_deeds}
 use Rattle.vt_world.specs.State.{WorldState, core}
 use Rattle.vt_world.specs.Step.{Outcome}
 use Rattle.vt_world.specs.StepLaws.{TerminalsStay, touches}

@@ -11,7 +11,7 @@ use Rattle.vt_world.specs.State.{WorldState}
 use Rattle.vt_world.specs.Typing.{ends_of}
 use Rattle.vt_world.proofs.Requests.{range_first}
 
--- one flag more
+-- one more flag
 pub flags_more : (f : ℕ → Bool) (flags : List Bool) (n : ℕ) (b : Bool) → n < length flags → b ≡ f n
     → ((k : ℕ) → k < n → get_or flags k false ≡ f k)
     → (k : ℕ) → k < n + 1 → get_or (set flags n b) k false ≡ f k

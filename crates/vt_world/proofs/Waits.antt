@@ -1,4 +1,4 @@
--- What an event does to the callers.
+-- The effect of an event on the callers.
 use Rattle.std.proofs.Common.{◌≡◌, ℕ, Bool, true, false, cond, List, [], ◌∷◌, ◌++◌, filter, Option, Some, None, refl, ◌∙◌}
 use Rattle.std.proofs.lemmas.Bool.{and_parts, and_from, false≢true}
 use Rattle.std.proofs.lemmas.List.Folds.{list_all-append}
@@ -25,7 +25,8 @@ use Rattle.vt_switch.specs.declared.mark.Mark.TheVariants as mark
 use Rattle.vt_world.specs.Deeds.{Deed, By, Asks, Own, OwnDeed, Puts, Opens, Shuts, Waits, Collects, Receives, Accepts, Raises, after_switch_act, apply_deeds, apply_deed, apply_own_deed, after_request}
 use Rattle.vt_world.specs.Heard.{apply_mark, apply_marks}
 use Rattle.vt_world.specs.Inputs.{comes, input_at}
-use Rattle.vt_world.specs.Rows.{EventRow, disallocate_deeds, free_deeds, out_deeds, row, waits_unless}
+use Rattle.vt_world.specs.Events.{row}
+use Rattle.vt_world.specs.Rows.{EventRow, disallocate_deeds, free_deeds, out_deeds, waits_unless}
 use Rattle.vt_world.specs.State.{WorldState, core}
 use Rattle.vt_world.specs.Terminals.{said_of, terminal_at}
 use Rattle.vt_world.specs.Refusals.{is_empty, is_in_use, target}

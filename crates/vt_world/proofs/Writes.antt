@@ -5,7 +5,7 @@ use Rattle.std.proofs.lemmas.List.Sums.{sum_by-append, sum_by-take-le}
 use Rattle.std.specs.List.{flat_map}
 use Rattle.std.specs.Prelude.{Ok, option_map}
 use Rattle.vt_screen.specs.Asking.{RequestsAreFew, asks, requests}
-use Rattle.vt_screen.specs.Run.{AnyCut, outs_of_run}
+use Rattle.vt_screen.specs.Run.{AnyCut}
 use Rattle.vt_screen.specs.declared.out.Out.{Out}
 use Rattle.vt_screen.specs.declared.out.Out.TheVariants as outs
 use Rattle.vt_world.specs.Rows.{out_deeds, write_deeds}
@@ -31,7 +31,7 @@ pub apply_deeds-append : (w : WorldState) (xs ys : List Deed)
 apply_deeds-append w [] ys = refl
 apply_deeds-append w (x ∷ xs) ys = apply_deeds-append (apply_deed w x) xs ys
 
--- what is said, one behind another
+-- side effects, one after another
 abbrev pub heard : ℕ → List Out → WorldState → WorldState
 heard c said w = apply_deeds w (flat_map (out_deeds c) said)
 
@@ -41,14 +41,14 @@ heard-append c xs ys w =
     sym (apply_deeds-append w (flat_map (out_deeds c) xs) (flat_map (out_deeds c) ys))
     ∙ ap (apply_deeds w) (sym (flat_map-append (out_deeds c) xs ys))
 
--- one thing more is said
+-- one more side effect
 pub heard_more : (c : ℕ) (xs : List Out) (x : Out) (w : WorldState)
     → apply_deeds (heard c xs w) (out_deeds c x) ≡ heard c (xs ++ x ∷ []) w
 heard_more c xs x w =
     ap (apply_deeds (heard c xs w)) (sym (append-nil (out_deeds c x)))
     ∙ heard-append c xs (x ∷ []) w
 
--- what is told draws nothing
+-- marks draw nothing
 apply_marks_terminals : (w : WorldState) (marks : List Mark) → (apply_marks w marks).terminals ≡ w.terminals
 apply_marks_terminals w [] = refl
 apply_marks_terminals w (m ∷ marks) = apply_marks_terminals (heard_mark w m) marks
@@ -72,7 +72,7 @@ after_request_writes c bytes w (Some n) =
     apply_marks_writes c bytes (record w { display = (core_after (core w) (Request n)).display })
     (marks (core w) (Request n))
 
--- what is said draws nothing
+-- side effects draw nothing
 heard_terminals : (c : ℕ) (said : List Out) (w : WorldState)
     → (heard c said w).terminals ≡ w.terminals
 heard_terminals c [] w = refl
@@ -102,7 +102,7 @@ heard_writes c bytes (outs.Lights lights ∷ more) w =
     heard_writes c bytes more (apply_deed w (Own (Lights c lights)))
 heard_writes c bytes (outs.Bell ∷ more) w = heard_writes c bytes more w
 
--- what a place has after it changes
+-- the contents of a place after a change
 at_changed : (n : ℕ) (f : TerminalState → TerminalState) (ts : List (Option TerminalState))
     → get_or (set ts n (option_map f (get_or ts n None))) n None ≡ option_map f (get_or ts n None)
 at_changed n f [] = refl
@@ -122,7 +122,7 @@ both_written : AnyCut → (a b : List ℕ) (o : Option TerminalState)
 both_written law a b None = refl
 both_written law a b (Some t) = ap Some (written_more law t a b _ _ _ refl refl refl)
 
--- two pieces draw what the whole draws
+-- two pieces draw the same as the whole
 after_write-append : AnyCut → (c : ℕ) (a b : List ℕ) (ts : List (Option TerminalState))
     → after_write c b (after_write c a ts) ≡ after_write c (a ++ b) ts
 after_write-append law c a b ts =
@@ -136,7 +136,7 @@ both_said : AnyCut → (a b : List ℕ) (o : Option TerminalState)
 both_said law a b None = refl
 both_said law a b (Some t) = sym (law t.machine a b).1
 
--- and say what the whole says
+-- and have the same side effects as the whole
 outs_of_run-append : AnyCut → (c : ℕ) (a b : List ℕ) (ts : List (Option TerminalState))
     → said_of (terminal_at ts c) a ++ said_of (terminal_at (after_write c a ts) c) b
     ≡ said_of (terminal_at ts c) (a ++ b)
@@ -161,11 +161,11 @@ ran-append law w c a b =
     ∙ (λ i. heard c (outs_of_run-append law c a b w.terminals i)
     (record w { terminals = after_write-append law c a b w.terminals i }))
 
--- what two texts ask for, and no more, is asked for by both together
+-- both texts together request what each of them requests, and no more
 requests-append : (xs ys : List Out) → requests (xs ++ ys) ≡ requests xs + requests ys
 requests-append xs ys = sum_by-append (λ (o : Out). cond (asks o) 1 0) xs ys
 
--- what a text asks for behind another one, the whole asks for
+-- the whole requests what a text requests after another one
 pub ran-asks : AnyCut → (w : WorldState) (c : ℕ) (a b : List ℕ)
     → requests (said_of (terminal_at w.terminals c) a)
     + requests (said_of (terminal_at (ran w c a).terminals c) b)
@@ -178,17 +178,17 @@ ran-asks law w c a b =
     ∙ sym (requests-append said_a (said_of (terminal_at drawn.terminals c) b))
     ∙ ap requests (outs_of_run-append law c a b w.terminals)
 
--- a text asks for few consoles, where it is written to one that has a terminal or to one that hasn't
+-- a text requests few consoles, with and without a terminal to which it is written
 pub asks_few : RequestsAreFew → (o : Option TerminalState) (bytes : List ℕ)
     → 4 * requests (said_of o bytes) ≤ length bytes + 3
 asks_few law None bytes = omega arith
 asks_few law (Some t) bytes = law t.machine bytes
 
--- the first of several things that are said ask for no more than all
+-- the first of several side effects request no more than all
 pub front_asks : (i : ℕ) (all : List Out) → requests (take i all) ≤ requests all
 front_asks i all = sum_by-take-le (λ (o : Out). cond (asks o) 1 0) all i
 
--- one thing more is said
+-- one more side effect
 pub one_more_asks : (xs : List Out) (x : Out)
     → requests (xs ++ x ∷ []) ≡ requests xs + requests (x ∷ [])
 one_more_asks xs x = requests-append xs (x ∷ [])

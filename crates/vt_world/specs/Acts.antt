@@ -1,4 +1,4 @@
--- What an event does to the display: a list of acts of the switch.
+-- The acts of the switch that an event makes.
 use Rattle.std.specs.Prelude.{ℕ, ◌++◌, List, [], ◌∷◌, Option, Some, None}
 use Rattle.vt_base.specs.declared.errno.Errno.{Errno}
 use Rattle.vt_events.specs.declared.entry.Entry.{Entry}
@@ -6,10 +6,10 @@ use Rattle.vt_events.specs.declared.event.Event.{Event}
 use Rattle.vt_switch.specs.Acts.{SwitchAct, Request}
 use Rattle.vt_world.specs.Deeds.{Deed, Asks, By, Own, apply_deed}
 use Rattle.vt_world.specs.Heard.{without_marks}
-use Rattle.vt_world.specs.Rows.{row}
+use Rattle.vt_world.specs.Events.{own_refusals, row}
 use Rattle.vt_world.specs.State.{WorldState}
 use Rattle.vt_world.specs.Step.{step}
-use Rattle.vt_world.specs.Refusals.{common_refusals, first_refusal, own_refusals}
+use Rattle.vt_world.specs.Refusals.{common_refusals, first_refusal}
 use Rattle.vt_world.specs.Wanted.{wanted_in}
 
 abbrev pub request_of : Option ℕ → List SwitchAct
@@ -27,7 +27,7 @@ abbrev pub all_acts : WorldState → List Deed → List SwitchAct
 all_acts w [] = []
 all_acts w (deed ∷ deeds) = acts_of w deed ++ all_acts (apply_deed w deed) deeds
 
--- the deeds of an event that nothing refuses
+-- the deeds of an event that isn't refused
 abbrev pub deeds_unless : Option Errno → List Deed → List Deed
 deeds_unless None deeds = deeds
 deeds_unless (Some errno) deeds = []
@@ -36,7 +36,7 @@ abbrev pub deeds_after : WorldState → ℕ → Event → Option Errno → List 
 deeds_after w p e None = deeds_unless (first_refusal (own_refusals w p e)) (row w p e).deeds
 deeds_after w p e (Some errno) = []
 
--- what an event of a caller does, from the console on which nothing is told yet
+-- the deeds of an event of a caller, from a machine with an empty trace
 abbrev pub event_deeds : WorldState → ℕ → Event → List Deed
 event_deeds w p e = deeds_after w p e (first_refusal (common_refusals w p e))
 

@@ -1,4 +1,4 @@
--- What an event can do to the console.
+-- Deeds: the possible effects of an event on the machine.
 use Rattle.std.specs.Prelude.{ℕ, List, [], ◌∷◌, map, slice_set, Option, Some, None, if◌then◌else◌}
 use Rattle.key_machine.specs.Keys.{Keys, State, after_unplug}
 use Rattle.key_tables.specs.Tables.{Tables}
@@ -17,19 +17,19 @@ use Rattle.vt_world.specs.Terminals.{after_screen_change, with_start, without_te
 use Rattle.vt_world.specs.Wanted.{wanted_in}
 use Rattle.vt_world.specs.declared.wanted.Wanted.{Wanted}
 
--- what leaves the display and who lives alone. Of terminals: console n has one, loses it, is written
--- to, or its screen is changed by a call
+-- deeds that change neither the display nor which callers are alive. Of terminals: console n gets
+-- one, loses it, is written to, or a call changes its screen
 pub data OwnDeed : Type 0 where
   Starts : ℕ → OwnDeed
   Clears : ℕ → OwnDeed
   Writes : ℕ → List ℕ → OwnDeed
   Alters : ℕ → Change → OwnDeed
-  -- of queues: a piece goes into console n's, or so many bytes are taken from it
+  -- of queues: console n's gets a piece, or loses its first bytes, this many
   Puts : ℕ → List ℕ → OwnDeed
   Takes : ℕ → ℕ → OwnDeed
-  -- of keyboards: console n has these lights or this key state, the scanner of keyboard k is this, a
-  -- scan number has this keycode on all of them, the key tables are these, a key leaves the keys down
-  -- and the key state of console n like this, and p's keys go, if it is a keyboard
+  -- of keyboards: console n gets these lights or this key state, keyboard k this scanner, a scan
+  -- number this keycode on all keyboards, the machine these key tables; a key leaves these keys
+  -- down and console n with this key state; and if p is a keyboard, its keys are released
   Lights : ℕ → ℕ → OwnDeed
   Keyed : ℕ → State → OwnDeed
   Scanned : ℕ → Scan → OwnDeed
@@ -37,8 +37,8 @@ pub data OwnDeed : Type 0 where
   Mapped : Tables → OwnDeed
   Types : ℕ → Keys → State → OwnDeed
   Unplugs : ℕ → OwnDeed
-  -- of callers: p opens console c, shuts a descriptor, begins a wait, is told of its ticket, takes
-  -- its signals, accepts the key signal, or gets a signal
+  -- of callers: p opens console c, closes a descriptor, begins a wait, collects its ended wait,
+  -- takes its signals, accepts the key signal, or gets a signal
   Opens : ℕ → ℕ → OwnDeed
   Shuts : ℕ → ℕ → OwnDeed
   Waits : ℕ → Ticket → OwnDeed
@@ -47,14 +47,14 @@ pub data OwnDeed : Type 0 where
   Accepts : ℕ → ℕ → OwnDeed
   Raises : ℕ → ℕ → OwnDeed
 
--- what an event does, one thing after another: an act of the switch, a request for a console that is
--- wanted, or a deed of its own
+-- a deed: an act of the switch, a request for a wanted console, or one of the deeds above
 pub data Deed : Type 0 where
   By : SwitchAct → Deed
   Asks : Wanted → Deed
   Own : OwnDeed → Deed
 
--- bytes that come to console n end the waits for them; none come where the queue has no room
+-- bytes that enter console n's queue end the waits for its input; none enter if the queue has no
+-- room
 abbrev pub with_input : ℕ → List ℕ → WorldState → WorldState
 with_input n piece w = record w {
   inputs = with_queued n piece w.inputs;
@@ -62,7 +62,7 @@ with_input n piece w = record w {
       if comes (input_at w.inputs n).queue piece then after_input_on n w.callers else w.callers;
 }
 
--- the keys down when a caller is gone
+-- the keys that are down after the end of a caller
 abbrev pub keys_without : Option ℕ → Keys → Keys
 keys_without None keys = keys
 keys_without (Some k) keys = after_unplug k keys
@@ -100,7 +100,7 @@ apply_own_deed w (Receives p) = record w { callers = after_taking_signals p w.ca
 apply_own_deed w (Accepts p signal) = record w { callers = with_accepter p signal w.callers }
 apply_own_deed w (Raises p signal) = apply_marks w (raise (core w) p signal)
 
--- an act of the switch is done, and told
+-- an act of the switch is carried out, and the trace gets its marks
 abbrev pub after_switch_act : WorldState → SwitchAct → WorldState
 after_switch_act w act =
     apply_marks (record w { display = (core_after (core w) act).display }) (marks (core w) act)

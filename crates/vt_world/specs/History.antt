@@ -1,29 +1,29 @@
--- Histories of the console: lists of entries.
+-- Histories of a machine: lists of entries.
 use Rattle.std.specs.Prelude.{◌≡◌, ℕ, ◌==◌, List, [], ◌∷◌, ◌++◌, take, count_by, Some, slice_get}
 use Rattle.vt_events.specs.Plain.{plain_reply}
 use Rattle.vt_events.specs.declared.entry.Entry.{Entry}
 use Rattle.vt_world.specs.State.{WorldState}
 use Rattle.vt_world.specs.Step.{step}
 
--- replay: the console after the events of the entries, one after another
+-- replay: the machine after the events of the entries, one after another
 abbrev pub replay : WorldState → List Entry → WorldState
 replay w [] = w
 replay w (entry ∷ entries) = replay (step w entry.caller entry.event).world entries
 
--- the entry is right behind these: its answer is the console's, and its number counts its caller's
--- calls
+-- the entry may follow these: its answer is the machine's, and its number is how many calls its
+-- caller made before
 pub record IsNext (start : WorldState) (before : List Entry) (entry : Entry) : Type 0 where
   pub answer :
       plain_reply entry.reply ≡ (step (replay start before) entry.caller entry.event).reply
   pub number : entry.seq ≡ count_by (λ earlier. earlier.caller == entry.caller) before
 
--- legal: each entry is right at its place
+-- legal: each entry may follow the entries before it
 abbrev pub IsLegal : WorldState → List Entry → Type 0
 IsLegal start entries =
     (k : ℕ) (entry : Entry) → slice_get entries k ≡ Some entry
     → IsNext start (take k entries) entry
 
--- a history without entries is legal, and so is a legal one with the next entry behind it
+-- a history without entries is legal, and so is a legal one with an entry that may follow it
 abbrev pub LegalGrows : Type 0
 LegalGrows =
     (start : WorldState) (entries : List Entry) (entry : Entry) → IsLegal start entries

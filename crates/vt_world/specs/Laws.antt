@@ -1,5 +1,5 @@
--- The laws of every history from a start: why each hop was allowed, and what each screen shows. This
--- project's own.
+-- The laws of every history from a start: the cause of each switch of the display, and the contents
+-- of each screen. They are this project's own.
 use Rattle.std.specs.Prelude.{◌≡◌, ◌<◌, ⊤, ℕ, Bool, true, false, List, [], ◌∷◌, ◌++◌, length, Option, Some, None, option_map}
 use Rattle.std.specs.List.{list_all}
 use Rattle.key_tables.specs.Tables.{Tables}
@@ -28,7 +28,7 @@ use Rattle.vt_world.specs.Terminals.{machine_of, terminal_at}
 use Rattle.vt_world.specs.Refusals.{target}
 use Rattle.vt_world.specs.Wanted.{wanted_in}
 
--- the console at a start
+-- the machine at a start
 pub record IsStart (w : WorldState) : Type 0 where
   pub rows : ℕ
   pub cols : ℕ
@@ -44,7 +44,7 @@ pub record IsStart (w : WorldState) : Type 0 where
 abbrev pub moments : WorldState → List Entry → List Moment
 moments w entries = history 0 (core w) (history_acts w entries) []
 
--- one entry more is the moments of its acts, at the console that the earlier ones leave
+-- one entry more adds the moments of its acts, at the machine that the earlier entries leave
 abbrev pub MomentsGrow : Type 0
 MomentsGrow =
     (w : WorldState) (entries : List Entry) (entry : Entry)
@@ -52,28 +52,29 @@ MomentsGrow =
     ≡ with_acts (length entries) (core (replay w entries))
     (event_acts (replay w entries) entry.caller entry.event) (moments w entries)
 
--- the display law: in every history from a start each hop was allowed
+-- the display law: in every history from a start each switch of the display was allowed
 abbrev pub DisplaysAreLawful : Type 0
 DisplaysAreLawful =
     (w : WorldState) (entries : List Entry) → IsStart w → IsLawful (moments w entries)
 
--- and so in every history from this console, if nothing waits for the display there
+-- the same of every history from this machine, if no console waits for the display in it
 abbrev pub DisplaysAreLawfulFrom : WorldState → Type 0
 DisplaysAreLawfulFrom w =
     w.display.pending ≡ None → (entries : List Entry) → IsLawful (moments w entries)
 
--- what waits for the display after a history from a start was asked for in it
+-- a console that waits for the display after a history from a start was requested in that history
 abbrev pub TargetsAreExplained : Type 0
 TargetsAreExplained =
     (w : WorldState) (entries : List Entry) → IsStart w
     → IsExplained (length entries) (core (replay w entries)) (moments w entries)
 
--- after every history from a start, whoever handles the switches of a console lives
+-- after every history from a start, each process that handles the switches of a console is alive
 abbrev pub OwnersAreLive : Type 0
 OwnersAreLive =
     (w : WorldState) (entries : List Entry) → IsStart w → OwnersLive (core (replay w entries))
 
--- the display, and who lives, change by acts alone: after an event they are what its acts leave
+-- acts alone change the display and which callers are alive: an event leaves both as its acts leave
+-- them
 abbrev pub ActsMakeCores : Type 0
 ActsMakeCores =
     (w : WorldState) (p : ℕ) (e : Event)
@@ -93,7 +94,7 @@ pub record TellsFirst (own : List Mark) (IsRest : List Mark → Type 0) (trace :
   pub parts : trace ≡ signals ++ (own ++ more)
   pub rest : IsRest more
 
--- a trace tells what these acts tell, in order, and beside that only raised signals
+-- a trace has the marks of these acts, in order, and in addition only raised signals
 abbrev pub TellsActs : Core → List SwitchAct → List Mark → Type 0
 TellsActs k [] trace = list_all is_raise trace ≡ true
 TellsActs k (act ∷ acts) trace =
@@ -104,7 +105,7 @@ TracesTellActs =
     (w : WorldState) (p : ℕ) (e : Event)
     → TellsActs (core w) (event_acts w p e) (step w p e).world.trace.marks
 
--- what a deed tells: what its acts tell, or the signal that it raises beside them
+-- the marks of a deed: those of its acts, or of the signal that it raises without an act
 abbrev pub marks_of_request : WorldState → Option ℕ → List Mark
 marks_of_request w None = []
 marks_of_request w (Some n) = marks (core w) (Request n)
@@ -119,25 +120,25 @@ abbrev pub all_marks : WorldState → List Deed → List Mark
 all_marks w [] = []
 all_marks w (deed ∷ deeds) = marks_by w deed ++ all_marks (apply_deed w deed) deeds
 
--- the trace of an event is what its deeds tell
+-- the trace of an event has the marks of its deeds
 abbrev pub TracesTellDeeds : Type 0
 TracesTellDeeds =
     (w : WorldState) (p : ℕ) (e : Event)
     → (step w p e).world.trace.marks ≡ all_marks (without_marks w) (event_deeds (without_marks w) p e)
 
--- the hops of acts, one after another
+-- the switches that acts make, in order
 abbrev pub hops_of : Core → List SwitchAct → List Hop
 hops_of k [] = []
 hops_of k (act ∷ acts) = hops (marks k act) ++ hops_of (core_after k act) acts
 
--- what an event tells has the hops of its acts, in order, and no other
+-- the switches in an event's trace are those of its acts, in order
 abbrev pub TracesTellHops : Type 0
 TracesTellHops =
     (w : WorldState) (p : ℕ) (e : Event)
     → hops (step w p e).world.trace.marks ≡ hops_of (core w) (event_acts w p e)
 
--- what an event tells of the display, who is asked and where it goes, is what its acts tell: no
--- signal that is raised beside them stands right after a request
+-- the marks of an event about the display, which owner is asked and which console gets it, are
+-- those of its acts: no other signal stands right after a request
 abbrev pub TracesTellNews : Type 0
 TracesTellNews =
     (w : WorldState) (p : ℕ) (e : Event)
@@ -155,7 +156,7 @@ pub record CallsSetMode (w : WorldState) (p : ℕ) (e : Event) (c : ℕ) (m : Vt
   pub call : e ≡ event.SetMode fd m.mode m.waitv m.relsig m.acqsig m.frsig
   pub console : c ≡ target w p fd
 
--- an act that is a release or a set mode is the caller's, who called for it
+-- an act that is a release or a set mode is of the caller, whose call asked for it
 abbrev pub IsCalled : WorldState → ℕ → Event → SwitchAct → Type 0
 IsCalled w p e (Release c q arg) = (q ≡ p) × CallsRelease w p e c arg
 IsCalled w p e (SetMode c q m) = (q ≡ p) × CallsSetMode w p e c m
@@ -175,7 +176,7 @@ TerminalsAreAllocated =
     (w : WorldState) (entries : List Entry) → IsStart w → HasTerminals (replay w entries)
 
 -- the screen law: after every history from a start the screen of each console, with the rest of its
--- text, is its tape, run from the start screen; where it isn't allocated there is neither
+-- text, is its tape, run from the start screen; a console that isn't allocated has neither
 abbrev pub ScreensAreTapes : Type 0
 ScreensAreTapes =
     (w : WorldState) (entries : List Entry) (start : IsStart w) (c : ℕ) → c < 64

@@ -1,5 +1,6 @@
 pub mod Acts
 pub mod Deeds
+pub mod Events
 pub mod Heard
 pub mod History
 pub mod Inputs

@@ -1,29 +1,22 @@
--- What refuses each event, in order (ioctl_console(2)). The order of refusals is this project's own.
+-- The tests that may refuse an event, each with its error (ioctl_console(2)).
 use Rattle.std.specs.Prelude.{ℕ, ◌==◌, ◌&&◌, ◌||◌, ◌%◌, Bool, true, not, nat_le, nat_lt, List, [], ◌∷◌, length, Option, Some, None, Result, Ok, Err, false, is_some, unwrap_or, if◌then◌else◌}
-use Rattle.call_bytes.specs.Colours.{colours_in}
-use Rattle.call_bytes.specs.Pairs.{pairs_in}
-use Rattle.call_bytes.specs.Words.{words_in}
-use Rattle.key_syms.specs.Act.{is_action}
-use Rattle.key_tables.specs.Tables.{exists_in}
-use Rattle.scan_codes.specs.Groups.{is_scan}
 use Rattle.vt_base.specs.Keyboards.{is_keyboard}
 use Rattle.vt_base.specs.declared.errno.Errno.{Errno}
-use Rattle.vt_base.specs.declared.errno.Errno.TheVariants.{Srch, Intr, Nxio, Badf, Again, Busy, Inval, Notty, Perm}
+use Rattle.vt_base.specs.declared.errno.Errno.TheVariants.{Srch, Intr, Nxio, Badf, Inval, Notty, Perm}
 use Rattle.vt_base.specs.declared.vt_mode.VtMode.{VtMode}
 use Rattle.vt_events.specs.declared.event.Event.{Event}
 use Rattle.vt_events.specs.declared.event.Event.TheVariants as event
-use Rattle.vt_procs.specs.Callers.{caller_at, console_of, free_fd, has_open, is_live, is_opened}
-use Rattle.vt_procs.specs.Tickets.{is_open, waited_of}
+use Rattle.vt_procs.specs.Callers.{caller_at, console_of, has_open, is_live, is_opened}
+use Rattle.vt_procs.specs.Tickets.{waited_of}
 use Rattle.vt_procs.specs.declared.process.Process.{Process}
 use Rattle.vt_procs.specs.declared.waited.Waited.{Waited}
 use Rattle.vt_procs.specs.declared.waited.Waited.TheVariants as waited
-use Rattle.vt_switch.specs.Calls.{handling_of, is_held, release_result}
-use Rattle.vt_switch.specs.Display.{is_allocated}
+use Rattle.vt_switch.specs.Calls.{is_held}
 use Rattle.vt_world.specs.Inputs.{input_at}
-use Rattle.vt_world.specs.Spare.{is_console, is_extent}
+use Rattle.vt_world.specs.Spare.{is_console}
 use Rattle.vt_world.specs.State.{WorldState}
 
--- what refuses an event with an error, where it applies
+-- a test: if it applies, it refuses the event with an error
 pub record Refusal : Type 0 where
   pub applies : Bool
   pub with : Errno
@@ -31,12 +24,12 @@ pub record Refusal : Type 0 where
 abbrev pub refusal : Bool → Errno → Refusal
 refusal applies with = record { applies = applies; with = with }
 
--- the error of the first that applies
+-- the error of the first test that applies
 abbrev pub first_refusal : List Refusal → Option Errno
 first_refusal [] = None
 first_refusal (r ∷ refusals) = if r.applies then Some r.with else first_refusal refusals
 
--- the error of a refusal, None where nothing is refused
+-- the error of a refused event, None if it isn't refused
 abbrev pub error_of : {T : Type 0} → Result T Errno → Option Errno
 error_of (Ok value) = None
 error_of (Err errno) = Some errno
@@ -45,11 +38,12 @@ error_of (Err errno) = Some errno
 abbrev pub caller : WorldState → ℕ → Process
 caller w p = caller_at w.callers p
 
--- the console of p's descriptor; 0 where that isn't open, and every event that asks is refused
+-- the console of p's descriptor; 0 if the descriptor isn't open, and then every event that names it
+-- is refused
 abbrev pub target : WorldState → ℕ → ℕ → ℕ
 target w p fd = unwrap_or (console_of w.callers p fd) 0
 
--- the console that a number names: 0 is the one in front
+-- the console that a number names: 0 names the one in front
 abbrev pub console_by_number : WorldState → ℕ → ℕ
 console_by_number w n = if n == 0 then w.display.front else n
 
@@ -81,11 +75,12 @@ needs_sight w p c = refusal (not (sees w p c)) Perm
 abbrev pub needs_console : ℕ → Refusal
 needs_console n = refusal (not (is_console n)) Nxio
 
--- ENXIO: no console has the number, and it isn't 0 either, which stands for the front or for all
+-- ENXIO: the number is neither that of a console nor 0, which stands for the console in front or
+-- for all
 abbrev pub needs_console_or_0 : ℕ → Refusal
 needs_console_or_0 n = refusal (nat_lt 63 n) Nxio
 
--- EINVAL: what the event asks for makes no sense
+-- EINVAL: the request makes no sense
 abbrev pub needs_sense : Bool → Refusal
 needs_sense makes_sense = refusal (not makes_sense) Inval
 
@@ -104,20 +99,20 @@ mode_of m w r a f = record { mode = m; waitv = w; relsig = r; acqsig = a; frsig 
 abbrev pub transfer_limit : ℕ
 transfer_limit = 4096
 
--- no bytes are left in the queue of console c
+-- the queue of console c is empty
 abbrev pub is_empty : WorldState → ℕ → Bool
 is_empty w c = length (input_at w.inputs c).queue.bytes == 0
 
--- console n isn't to be freed: it is console 1, it is in front or waits for the display, a process
--- handles its switches, or somebody has it open
+-- console n can't be freed: it is console 1, it is in front or waits for the display, a process
+-- handles its switches, or a process has it open
 abbrev pub is_in_use : WorldState → ℕ → Bool
 is_in_use w n = n == 1 || is_held w.display n || is_opened w.callers n
 
--- a number that a signal has
+-- the number of a signal
 abbrev pub is_signal : ℕ → Bool
 is_signal s = nat_le 1 s && nat_le s 64
 
--- a number that a process has
+-- the number of a process
 abbrev pub is_process : ℕ → Bool
 is_process q = nat_le 1 q && nat_le q 64
 
@@ -125,11 +120,11 @@ is_process q = nat_le 1 q && nat_le q 64
 abbrev pub is_flags : ℕ → Bool
 is_flags v = nat_lt v 128 && nat_lt (v % 16) 8
 
--- a keycode that a table has an entry for
+-- a keycode that key tables have an entry for
 abbrev pub is_keycode : ℕ → Bool
 is_keycode code = nat_le 1 code && nat_le code 255
 
--- p has a ticket, which may be open
+-- p has a wait, open or ended
 abbrev pub has_ticket : Waited → Bool
 has_ticket waited.None = false
 has_ticket waited.Still = true
@@ -139,93 +134,26 @@ has_ticket waited.Broken = true
 abbrev pub holds_ticket : WorldState → ℕ → Bool
 holds_ticket w p = has_ticket (waited_of (caller w p).waiting)
 
--- what refuses a call that sets something of the descriptor's console
+-- the tests of a call that sets something of the descriptor's console
 abbrev pub sets : WorldState → ℕ → ℕ → Bool → List Refusal
 sets w p fd makes_sense = needs_open w p fd ∷ needs_right w p fd ∷ needs_sense makes_sense ∷ []
 
--- and of one that tells something of it
+-- the tests of a call that needs no right to it
 abbrev pub gets : WorldState → ℕ → ℕ → Bool → List Refusal
 gets w p fd makes_sense = needs_open w p fd ∷ needs_sense makes_sense ∷ []
 
--- what refuses an event, in order
-abbrev pub own_refusals : WorldState → ℕ → Event → List Refusal
-own_refusals w p (event.Scan b) = []
-own_refusals w p event.Exit = []
-own_refusals w p (event.OpenCon n) =
-    needs_console_or_0 n ∷ refusal (not (is_some (free_fd w.callers p))) Busy ∷ []
-own_refusals w p (event.CloseFd fd) = needs_open w p fd ∷ []
-own_refusals w p (event.Write fd b) = gets w p fd (nat_le (length b.bytes) transfer_limit)
-own_refusals w p (event.ReadIn fd most) =
-    needs_open w p fd ∷ needs_sense (nat_le 1 most && nat_le most transfer_limit)
-    ∷ refusal (is_empty w (target w p fd)) Again ∷ []
-own_refusals w p (event.WaitInput fd) =
-    needs_open w p fd ∷ needs_no_signal w p (is_empty w (target w p fd)) ∷ []
-own_refusals w p (event.WaitActive fd n) =
-    needs_open w p fd ∷ needs_right w p fd ∷ needs_console n
-    ∷ needs_no_signal w p (not (n == w.display.front)) ∷ []
-own_refusals w p event.WaitSignal = needs_no_signal w p true ∷ []
-own_refusals w p event.WaitEnd =
-    needs_sense (holds_ticket w p) ∷ refusal (is_open (caller w p).waiting) Again ∷ []
-own_refusals w p (event.Activate fd n) =
-    needs_open w p fd ∷ needs_right w p fd ∷ needs_console n ∷ refusal w.display.locked Busy ∷ []
-own_refusals w p (event.Disallocate fd n) =
-    needs_open w p fd ∷ needs_right w p fd ∷ needs_console_or_0 n
-    ∷ refusal (not (n == 0) && is_in_use w n) Busy ∷ []
-own_refusals w p (event.OpenQry fd) = needs_open w p fd ∷ []
-own_refusals w p (event.GetState fd) = needs_open w p fd ∷ []
-own_refusals w p (event.Resize fd rows cols) = sets w p fd (is_extent rows cols)
-own_refusals w p (event.LockSwitch fd) = needs_open w p fd ∷ needs_privilege w p ∷ []
-own_refusals w p (event.UnlockSwitch fd) = needs_open w p fd ∷ needs_privilege w p ∷ []
-own_refusals w p (event.SetKd fd m) = sets w p fd (nat_le m 1)
-own_refusals w p (event.GetKd fd) = needs_open w p fd ∷ []
-own_refusals w p (event.SetMode fd m wait r a f) =
-    sets w p fd (is_some (handling_of p (mode_of m wait r a f)))
-own_refusals w p (event.GetMode fd) = needs_open w p fd ∷ []
-own_refusals w p (event.RelDisp fd arg) =
-    sets w p fd (is_taken (release_result w.display (target w p fd) p arg))
-own_refusals w p (event.SetKb fd m) = sets w p fd (nat_le m 4)
-own_refusals w p (event.GetKb fd) = needs_open w p fd ∷ []
-own_refusals w p (event.SetMeta fd m) = sets w p fd (m == 3 || m == 4)
-own_refusals w p (event.GetMeta fd) = needs_open w p fd ∷ []
-own_refusals w p (event.SetLed fd v) = needs_open w p fd ∷ needs_right w p fd ∷ []
-own_refusals w p (event.GetLed fd) = needs_open w p fd ∷ []
-own_refusals w p (event.SetFlags fd v) = sets w p fd (is_flags v)
-own_refusals w p (event.GetFlags fd) = needs_open w p fd ∷ []
-own_refusals w p (event.SetEntry fd t code k v) =
-    sets w p fd (exists_in w.board.tables t && (is_keycode code && is_action k v))
-own_refusals w p (event.GetEntry fd t code) = gets w p fd (nat_le t 255 && is_keycode code)
-own_refusals w p (event.SetFunc fd i b) = sets w p fd (nat_le i 255 && nat_le (length b.bytes) 255)
-own_refusals w p (event.GetFunc fd i) = gets w p fd (nat_le i 255)
-own_refusals w p (event.SetDia fd b) = sets w p fd (is_some (pairs_in b.bytes))
-own_refusals w p (event.GetDia fd) = needs_open w p fd ∷ []
-own_refusals w p (event.SetCode fd scan code) = sets w p fd (is_scan scan && nat_le code 255)
-own_refusals w p (event.GetCode fd scan) = gets w p fd (is_scan scan)
-own_refusals w p (event.Accept fd s) = sets w p fd (is_signal s && not (s == 9))
-own_refusals w p (event.SetMap fd b) = sets w p fd (is_some (words_in b.bytes))
-own_refusals w p (event.GetMap fd) = needs_open w p fd ∷ []
-own_refusals w p (event.SetPal fd b) = sets w p fd (is_some (colours_in b.bytes))
-own_refusals w p (event.GetPal fd) = needs_open w p fd ∷ []
-own_refusals w p (event.Dump kind n) =
-    needs_sight w p (console_by_number w n) ∷ needs_console_or_0 n
-    ∷ needs_sense (nat_le kind 2 && is_allocated w.display (console_by_number w n)) ∷ []
-own_refusals w p event.TakeSignals = []
-own_refusals w p (event.Kill q s) =
-    refusal (not ((caller w p).privileged || q == p)) Perm
-    ∷ refusal (not (is_process q)) Nxio ∷ needs_sense (is_signal s)
-    ∷ refusal (not (is_live w.callers q)) Srch ∷ []
-
--- a keyboard makes scans, and processes all others; both may end
+-- keyboards make scans, processes make all other events, and both may exit
 abbrev pub may_make : ℕ → Event → Bool
 may_make p (event.Scan b) = is_keyboard p
 may_make p event.Exit = true
 may_make p e = not (is_keyboard p)
 
--- a caller with a ticket may but ask how that ended
+-- the only event that a caller with a wait may make: it asks how the wait ended
 abbrev pub ends_wait : Event → Bool
 ends_wait event.WaitEnd = true
 ends_wait e = false
 
--- what refuses any event of a caller: it isn't live, it can't make such an event, or it has a ticket
+-- the tests of every event: the caller isn't alive, it can't make such an event, or it has a wait
 abbrev pub common_refusals : WorldState → ℕ → Event → List Refusal
 common_refusals w p e =
     refusal (not (is_live w.callers p)) Srch ∷ refusal (not (may_make p e)) Notty

@@ -1,5 +1,5 @@
--- What an event needs beside the world, taken before.
-use Rattle.std.specs.Prelude.{◌≡◌, ◌≤◌, ⊤, ℕ, Bool, true, false, ◌&&◌, nat_le, Option, Some, None, [], if◌then◌else◌}
+-- The memory that an event may need, allocated before it.
+use Rattle.std.specs.Prelude.{◌≡◌, ◌≤◌, ⊤, ℕ, Bool, ◌&&◌, nat_le, Option, Some, None, [], if◌then◌else◌}
 use Rattle.vt_base.specs.Bytes.{Text}
 use Rattle.vt_base.specs.declared.size.Size.{Size}
 use Rattle.vt_events.specs.Charge.{greatest_reply}
@@ -17,7 +17,7 @@ pub record SpareView : Type 0 where
 abbrev pub empty_with : ℕ → Text
 empty_with n = record { bytes = []; room = n }
 
--- nothing
+-- no grid, and no room
 abbrev pub no_spare : SpareView
 no_spare = record { grid = None; reply = empty_with 0; unused = empty_with 0 }
 
@@ -25,7 +25,7 @@ no_spare = record { grid = None; reply = empty_with 0; unused = empty_with 0 }
 abbrev pub is_console : ℕ → Bool
 is_console n = nat_le 1 n && nat_le n 63
 
--- rows and columns, or a size that a screen can't have
+-- rows and columns, also a size that no screen can have
 pub record Extent : Type 0 where
   pub rows : ℕ
   pub cols : ℕ
@@ -36,12 +36,12 @@ extent rows cols = record { rows = rows; cols = cols }
 abbrev pub extent_of : Size → Extent
 extent_of size = extent size.rows size.cols
 
--- a screen can have so many rows and columns
+-- a screen can have this many rows and columns
 abbrev pub is_extent : ℕ → ℕ → Bool
 is_extent rows cols = (nat_le 1 rows && nat_le rows 255) && (nat_le 1 cols && nat_le cols 255)
 
--- the size of the grid that an event may need, in a world of this size: the world's where a console
--- may be allocated, and the new one where a screen is resized
+-- the size of the grid that an event may need, in a machine of this size: the machine's if a
+-- console may be allocated, and the new one if a screen is resized
 abbrev pub needed_grid : Extent → Event → Option Extent
 needed_grid size (event.OpenCon n) = if is_console n then Some size else None
 needed_grid size (event.Activate fd n) = if is_console n then Some size else None
@@ -49,30 +49,17 @@ needed_grid size (event.Resize fd rows cols) =
     if is_extent rows cols then Some (extent rows cols) else None
 needed_grid size e = None
 
--- the event may use the grid, or the buffer for its answer
-abbrev pub takes_spare : Event → Bool
-takes_spare (event.OpenCon n) = true
-takes_spare (event.ReadIn fd most) = true
-takes_spare (event.Activate fd n) = true
-takes_spare (event.Resize fd rows cols) = true
-takes_spare (event.GetFunc fd i) = true
-takes_spare (event.GetDia fd) = true
-takes_spare (event.GetMap fd) = true
-takes_spare (event.GetPal fd) = true
-takes_spare (event.Dump kind n) = true
-takes_spare e = false
-
--- a grid of this size is there
+-- there is a grid, and it has this size
 abbrev pub HasSize : Extent → Option GridView → Type 0
 HasSize size None = ⊥
 HasSize size (Some grid) = (grid.rows ≡ size.rows) × (grid.cols ≡ size.cols)
 
--- the grid that is needed is there
+-- there is a grid of the size that is needed, if one is needed
 abbrev pub HasGrid : Option Extent → Option GridView → Type 0
 HasGrid None grid = ⊤
 HasGrid (Some size) grid = HasSize size grid
 
--- the spare is enough for the event, in a world of this size
+-- the spare is enough for the event, in a machine of this size
 pub record Fits (rows cols : ℕ) (e : Event) (spare : SpareView) : Type 0 where
   pub grid : HasGrid (needed_grid (extent rows cols) e) spare.grid
   pub reply : greatest_reply e ≤ spare.reply.room

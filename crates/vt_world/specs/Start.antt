@@ -1,4 +1,4 @@
--- The console at the start. This project's own.
+-- The machine at the start. This project's own.
 use Rattle.std.specs.Prelude.{ℕ, List, [], replicate}
 use Rattle.key_machine.specs.Keys.{start_keys}
 use Rattle.key_tables.specs.Tables.{Tables}
@@ -11,7 +11,8 @@ use Rattle.vt_world.specs.State.{WorldState}
 use Rattle.vt_world.specs.Terminals.{new_terminal}
 use Rattle.vt_procs.specs.declared.proc_start.ProcStart.{ProcStart}
 
--- every place for a console is new, so many keyboards live, no key is down, and the key tables are these
+-- every console's input is new, this many keyboards are alive, no key is down, and the key tables
+-- are these
 abbrev pub start_world : ℕ → ℕ → ℕ → ℕ → ℕ → List ProcStart → Tables → WorldState
 start_world rows cols consoles front keyboards starts tables = record {
   rows = rows;

@@ -1,4 +1,4 @@
--- The console as a whole.
+-- The machine as a whole.
 use Rattle.std.specs.Prelude.{◌≡◌, ℕ, Bool, List, Option, is_some, map}
 use Rattle.vt_procs.specs.Callers.{Callers, caller_at}
 use Rattle.vt_procs.specs.Tickets.{is_open}
@@ -10,14 +10,15 @@ use Rattle.vt_world.specs.Terminals.{TerminalState}
 use Rattle.vt_world.specs.declared.keyboard_set.KeyboardSet.{KeyboardSet}
 use Rattle.vt_world.specs.declared.input.Input.{Input}
 
--- what the last event told of what it did to the display and to the callers, in order, and how often
--- the display switched since the start
+-- the marks of the last event, that is its effects on the display and on the callers, in order; and
+-- the number of switches of the display since the start
 pub record Trace : Type 0 where
   pub marks : List Mark
   pub hops : ℕ
 
--- the rows and columns of every new screen, the display with its consoles, the callers, the terminal
--- of each console, what the keyboards put into each, the keyboards with their tables, and the trace
+-- the rows and columns of every new screen, the display with its consoles, the callers, the
+-- terminal of each console, the input of each console, the keyboards with their tables, and the
+-- trace
 pub record WorldState : Type 0 where
   pub rows : ℕ
   pub cols : ℕ
@@ -28,14 +29,14 @@ pub record WorldState : Type 0 where
   pub board : KeyboardSet
   pub trace : Trace
 
--- the display, and which callers live
+-- the display, and which callers are alive
 abbrev pub core_of : Display → Callers → Core
 core_of d callers = record { display = d; live = map (λ caller. caller.live) callers.list }
 
 abbrev pub core : WorldState → Core
 core w = core_of w.display w.callers
 
--- p has a ticket that is open
+-- p waits
 abbrev pub is_waiting : WorldState → ℕ → Bool
 is_waiting w p = is_open (caller_at w.callers p).waiting
 
@@ -46,8 +47,8 @@ AreAllocated terminals d = map is_some terminals ≡ map is_some d.consoles
 abbrev pub HasTerminals : WorldState → Type 0
 HasTerminals w = AreAllocated w.terminals w.display
 
--- what holds of a world at every time: the consoles that have a terminal are those that are
--- allocated, and whoever handles the switches of a console lives
+-- the invariant of a machine: the consoles that have a terminal are those that are allocated, and
+-- each process that handles the switches of a console is alive
 pub record IsWorld (terminals : List (Option TerminalState)) (d : Display) (callers : Callers) : Type 0 where
   pub alike : AreAllocated terminals d
   pub owners : OwnersLive (core_of d callers)

@@ -1,5 +1,5 @@
 -- The tape of a console: the bytes of the accepted writes since it was allocated, and between them
--- what accepted calls changed of its screen.
+-- the changes that accepted calls made to its screen.
 use Rattle.std.specs.Prelude.{ℕ, ◌==◌, ◌++◌, Bool, List, [], ◌∷◌, map, Option, Some, None, unwrap_or, if◌then◌else◌}
 use Rattle.call_bytes.specs.Colours.{colours_in}
 use Rattle.call_bytes.specs.Words.{words_in}
@@ -21,8 +21,8 @@ use Rattle.vt_world.specs.Refusals.{target}
 abbrev pub if_same : ℕ → ℕ → List Taped → List Taped
 if_same n c items = if n == c then items else []
 
--- what an accepted event of p adds to the tape of console c: the bytes that it writes there, or a
--- change that it makes there
+-- the items that an accepted event of p adds to the tape of console c: the bytes that it writes
+-- there, or the change that it makes there
 abbrev pub items_of : WorldState → ℕ → ℕ → Event → List Taped
 items_of w p c (event.Write fd b) = if_same (target w p fd) c (map byte b.bytes)
 items_of w p c (event.Resize fd rows cols) =
@@ -41,12 +41,12 @@ unless_refused answer items = items
 abbrev pub accepted_items : WorldState → ℕ → ℕ → Event → List Taped
 accepted_items w p c e = unless_refused (step w p e).reply (items_of w p c e)
 
--- a tape after an event: a console that isn't allocated has none, and one that wasn't before begins
--- an empty one
+-- a tape after an event: a console that isn't allocated has none, and a newly allocated one begins
+-- with an empty one
 abbrev pub tape_after : Bool → List Taped → Option (List Taped) → Option (List Taped)
 tape_after allocated items tape = if allocated then Some (unwrap_or tape [] ++ items) else None
 
--- the tape of console c after these entries, where it was this one before
+-- the tape of console c after these entries, if it was this one before them
 abbrev pub tape_from : ℕ → Option (List Taped) → WorldState → List Entry → Option (List Taped)
 tape_from c tape w [] = tape
 tape_from c tape w (entry ∷ entries) =

@@ -1,4 +1,4 @@
--- What the consoles show, in a list by number: None where a console isn't allocated.
+-- The screen of each console, in a list by the console's number: None if it isn't allocated.
 use Rattle.std.specs.Prelude.{ℕ, Bool, true, false, ◌+◌, min, count_by, List, [], Option, Some, None, option_map, slice_index_or, slice_set}
 use Rattle.key_machine.specs.declared.key_modes.KeyModes.{KeyModes}
 use Rattle.vt_screen.specs.Run.{after, outs_of_run, start}
@@ -8,12 +8,12 @@ use Rattle.vt_screen.specs.declared.out.Out.{Out}
 use Rattle.vt_screen.specs.declared.out.Out.TheVariants as outs
 use Rattle.vt_units.specs.Run.{Reached}
 
--- a console's screen with the rest of its text, and how often its bell rang
+-- a console's screen with the rest of its text, and its count of BELs
 pub record TerminalState : Type 0 where
   pub machine : Reached Screen
   pub bells : ℕ
 
--- a new console: the start screen, and a bell that never rang
+-- a new console: the start screen, and no BEL
 abbrev pub new_terminal : ℕ → ℕ → TerminalState
 new_terminal rows cols = record { machine = start rows cols; bells = 0 }
 
@@ -21,11 +21,12 @@ abbrev pub is_bell : Out → Bool
 is_bell outs.Bell = true
 is_bell out = false
 
--- the count after these were said: each bell adds one, up to the greatest number of 32 bits
+-- the count of BELs after these side effects: each BEL adds one, up to the greatest number of 32
+-- bits
 abbrev pub bell_count_after : ℕ → List Out → ℕ
 bell_count_after bells said = min 4294967295 (bells + count_by is_bell said)
 
--- bytes are run on the screen, and its bells are counted
+-- bytes are run on the screen, and their BELs are counted
 abbrev pub written_on : List ℕ → TerminalState → TerminalState
 written_on bytes t = record {
   machine = after t.machine bytes;
@@ -35,8 +36,7 @@ written_on bytes t = record {
 abbrev pub terminal_at : List (Option TerminalState) → ℕ → Option TerminalState
 terminal_at terminals n = slice_index_or terminals n None
 
--- the screen of console n with the rest of its text, and how often its bell rang: never, where it
--- isn't allocated
+-- the screen of a console with the rest of its text, and its count of BELs: 0 if it isn't allocated
 abbrev pub machine_of : Option TerminalState → Option (Reached Screen)
 machine_of terminal = option_map (λ t. t.machine) terminal
 
@@ -48,17 +48,17 @@ abbrev pub or_new : ℕ → ℕ → Option TerminalState → TerminalState
 or_new rows cols None = new_terminal rows cols
 or_new rows cols (Some t) = t
 
--- console n has a terminal: a new one, where it had none
+-- console n has a terminal: a new one if it had none
 abbrev pub with_start : ℕ → ℕ → ℕ → List (Option TerminalState) → List (Option TerminalState)
 with_start n rows cols terminals =
     slice_set terminals n (Some (or_new rows cols (terminal_at terminals n)))
 
--- what these bytes say when they are written to console n, beside what they draw
+-- the side effects of these bytes, written to a console
 abbrev pub said_of : Option TerminalState → List ℕ → List Out
 said_of None bytes = []
 said_of (Some t) bytes = outs_of_run t.machine bytes
 
--- the modes of a screen that keys depend on; those of a start screen where there is none
+-- the modes of a screen that keys depend on; those of a start screen if there is none
 abbrev pub key_modes_of : Option TerminalState → KeyModes
 key_modes_of None = record { cursor = false; keypad = false; repeat = true; newline = false }
 key_modes_of (Some t) = record {

@@ -1,4 +1,4 @@
--- What a scan byte does. What the rules leave open is this project's own.
+-- The deeds of a scan byte. Rules that the manual pages leave open are this project's own.
 use Rattle.std.specs.Prelude.{ℕ, ◌==◌, ◌&&◌, ◌||◌, Bool, false, List, [], ◌∷◌, filter, slice_index_or, Option, Some, None, if◌then◌else◌}
 use Rattle.std.specs.List.{range_with_len}
 use Rattle.key_machine.specs.Step.{Step, key_step}
@@ -19,30 +19,30 @@ use Rattle.vt_world.specs.declared.wanted.Wanted.TheVariants.{Above, Below, Last
 abbrev pub signal_deed : ℕ → ℕ → Deed
 signal_deed p signal = if signal == 9 then By (End p) else Own (Raises p signal)
 
--- the key signal goes to who accepts it
+-- the key signal goes to the process that accepts it
 abbrev pub spawn_deeds : Option (ℕ × ℕ) → List Deed
 spawn_deeds None = []
 spawn_deeds (Some accepter) = signal_deed accepter.0 accepter.1 ∷ []
 
--- p lives, and handles the switches of console n or has it open
+-- p is alive, and handles the switches of console n or has it open
 abbrev pub uses : WorldState → ℕ → ℕ → Bool
 uses w n p =
     is_live w.callers p && (owns w.display p n || has_open (caller_at w.callers p).opens n)
 
--- the processes that use console n, rising
+-- the processes that use console n, in ascending order
 abbrev pub users : WorldState → ℕ → List ℕ
 users w n = filter (uses w n) (range_with_len 1 64)
 
--- each of them ends, and then
+-- each of them ends, and then come these deeds
 abbrev pub ends_of : List ℕ → List Deed → List Deed
 ends_of [] deeds = deeds
 ends_of (p ∷ processes) deeds = By (End p) ∷ ends_of processes deeds
 
--- the attention key: every process that uses the console in front ends, and that shows text
+-- the attention key: every process that uses the console in front ends, and the console shows text
 abbrev pub attention_deeds : WorldState → ℕ → List Deed
 attention_deeds w n = ends_of (users w n) (By (SetKd n false) ∷ [])
 
--- what is done where a key says something; n is the console that was in front
+-- the deeds for the result of a key; n is the console that was in front
 abbrev pub key_out_deeds : WorldState → ℕ → KeyOut → List Deed
 key_out_deeds w n (key_out.Bytes bytes) = Own (Puts n bytes) ∷ []
 key_out_deeds w n (key_out.Switch m) = Asks (Number m) ∷ []
@@ -59,7 +59,7 @@ key_on w k n e =
     key_step w.board.tables (key_modes_of (terminal_at w.terminals n)) k e w.board.keyboard
     (input_at w.inputs n).keys
 
--- the key is typed, and then what it says is done
+-- the key is typed, and then come the deeds for its result
 abbrev pub typed_deeds : WorldState → ℕ → Step → List Deed
 typed_deeds w n s = Own (Types n s.keys s.state) ∷ key_out_deeds w n s.out
 
@@ -75,15 +75,15 @@ scanner_of scanners k = slice_index_or scanners k start_scan
 abbrev pub read_by : Scan → ℕ → Scan
 read_by scanner b = record scanner { bytes = bytes_after scanner.bytes b }
 
--- the byte is read, and the key that it ends is typed
+-- the byte is read, and the key that it completes is typed
 abbrev pub read_deeds : WorldState → ℕ → ℕ → ℕ → List Deed
 read_deeds w k n b =
     let scanner = scanner_of w.board.scanners k in
     Own (Scanned k (read_by scanner b))
     ∷ key_deeds w k n (event_after scanner.codes scanner.bytes b)
 
--- a scan byte of keyboard k, with console n in front: where its keyboard mode is K_RAW, the byte goes
--- into its queue first
+-- a scan byte of keyboard k, with console n in front: if the keyboard mode of n is K_RAW, the byte
+-- goes into the queue of n first
 abbrev pub scan_deeds : WorldState → ℕ → ℕ → ℕ → List Deed
 scan_deeds w k n b =
     if (input_at w.inputs n).keys.mode == 0 then Own (Puts n (b ∷ [])) ∷ read_deeds w k n b

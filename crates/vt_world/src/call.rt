@@ -12,8 +12,8 @@ use vt_grid::Grid;
 use vt_screen::BLANK;
 
 impl World {
-    /// Takes a call of the caller and returns the answer: a step whose memory is taken here. A grid that
-    /// it takes and doesn't use is kept for a later call.
+    /// Takes a call of the caller and returns the answer: a step whose memory is allocated here. A
+    /// grid that it allocates and doesn't use is kept for a later call.
     pub fn call(
         &mut self,
         alloc: Global,

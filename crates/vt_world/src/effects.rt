@@ -1,4 +1,4 @@
-//! What calls, keys and texts do to the console.
+//! The effects of calls, keys and texts on the machine.
 
 mod acts;
 mod allocating;

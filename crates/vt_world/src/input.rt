@@ -1,7 +1,7 @@
 use in_queue::InQueue;
 use key_machine::KbState;
 
-/// What the keyboard puts into a console: its queue, and its key state.
+/// The input of a console: its queue, and its key state.
 #[derive(Drop)]
 pub(crate) struct Input {
     pub(crate) queue: InQueue,

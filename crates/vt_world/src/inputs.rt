@@ -8,10 +8,10 @@ use std::alloc::Global;
 use std::marker::Model;
 use vt_base::{Bytes, CONSOLES, ConsoleNo, NoMemory};
 
-/// The places for consoles by their numbers, of which 0 stays free.
+/// The number of places for consoles, by their numbers. Place 0 stays unused.
 const CONSOLE_PLACES: usize = CONSOLES + 1;
 
-/// What the keyboard puts into each console, by its number.
+/// The input of each console, by its number.
 #[derive(Drop)]
 pub(crate) struct Inputs {
     places: Vec<Input>,
@@ -29,7 +29,7 @@ impl Model for Inputs {
 }
 
 impl Inputs {
-    /// A new place for each console.
+    /// New input for each console.
     pub(crate) fn start(alloc: Global) -> Result<Inputs, NoMemory>
         ensures { IfOk result (λ inputs. inputs ≡ replicate 64 new_input) }
     {
@@ -57,7 +57,7 @@ impl Inputs {
         self.places[usize::from(c.get())].keys
     }
 
-    /// Puts the bytes into the console's queue, whole or not at all, and tells whether some came.
+    /// Puts the bytes into the console's queue, all or none. Returns whether some entered.
     pub(crate) fn put(&mut self, c: ConsoleNo, piece: &[u8]) -> bool
         ensures queues { self.new ≡ with_queued c piece.now self.old }
         ensures some { result ≡ comes (input_at self.old c).queue piece.now }
@@ -66,7 +66,8 @@ impl Inputs {
         put_whole(&mut input.queue, piece)
     }
 
-    /// Takes the first bytes of the console's queue, so many or all, and adds them to `out`.
+    /// Takes the first `max` bytes of the console's queue, or all if there are fewer, and appends them to
+    /// `out`.
     pub(crate) fn take(&mut self, c: ConsoleNo, out: &mut Bytes, max: usize)
         requires { max ≤ out.old.room }
         ensures queues { let count = min max (length (input_at self.old c).queue.bytes) in
@@ -78,7 +79,7 @@ impl Inputs {
         let _count = input.queue.take(out, max);
     }
 
-    /// The place of the console is a new one's.
+    /// Makes the console's input that of a new console.
     pub(crate) fn clear(&mut self, c: ConsoleNo)
         ensures { self.new ≡ with_new_input c self.old }
     {
@@ -105,7 +106,7 @@ impl Inputs {
     }
 }
 
-// Puts the bytes into the queue, whole or not at all, and tells whether some came.
+// Puts the bytes into the queue, all or none. Returns whether some entered.
 fn put_whole(queue: &mut InQueue, piece: &[u8]) -> bool
     ensures queue { queue.new ≡ with_bytes queue.old piece.now }
     ensures some { result ≡ comes queue.old piece.now }

@@ -11,17 +11,17 @@ use key_tables::KeyTables;
 use scan_codes::{KeyEvent, Scanner};
 use vt_base::{CallerNo, KEYBOARDS};
 
-/// The keyboards: the bytes of each are read, and their keys are typed, by what the tables say.
+/// The keyboards: a scanner for each, the keys that are down, and the key tables.
 #[derive(Drop)]
 pub(crate) struct KeyboardSet {
-    // By the keyboards' numbers. All have one translation.
+    // By the keyboards' numbers. All have the same keycodes.
     pub(crate) scanners: [Scanner; KEYBOARDS],
     pub(crate) keyboard: Keyboard,
     pub(crate) tables: KeyTables,
 }
 
 impl KeyboardSet {
-    /// Nothing is read, and no key is down.
+    /// The start: no byte is read, and no key is down.
     pub(crate) fn start(tables: KeyTables) -> KeyboardSet
         ensures scanners { result.scanners ≡ replicate 4 start_scan }
         ensures keyboard { result.keyboard ≡ start_keys }
@@ -39,7 +39,7 @@ impl KeyboardSet {
         }
     }
 
-    /// A byte of keyboard `k` is read. The event is that of the group that it ends.
+    /// Reads a byte of keyboard `k`. Returns the key event of the group that the byte completes.
     pub(crate) fn read(&mut self, k: u8, b: u8) -> Option<KeyEvent>
         requires { k < 4 }
         ensures event { let scanner = scanner_of self.old.scanners k in
@@ -65,7 +65,7 @@ impl KeyboardSet {
         set(&mut self.scanners[3], scan, code);
     }
 
-    /// The caller is gone: if it is a keyboard, its keys are down no longer.
+    /// Releases the keys of a caller that ended, if it is a keyboard. No bytes are sent.
     pub(crate) fn unplug(&mut self, p: CallerNo)
         ensures { self.new ≡ record self.old {
           keyboard = keys_without (keyboard_of p) self.old.keyboard;
@@ -77,7 +77,7 @@ impl KeyboardSet {
     }
 }
 
-// Gives a scan number another keycode, as a scanner takes it.
+// Gives a scan number another keycode in one scanner.
 fn set(scanner: &mut Scanner, scan: u16, code: u16)
     requires scan { IsTrue (is_scan scan) }
     requires code { code ≤ 255 }

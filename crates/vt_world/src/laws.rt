@@ -15,7 +15,8 @@ pub fn legal_grows()
     ensures replay { ReplayGrows }
 {}
 
-/// Why the display changed hands in every history from a start, and the marks of the traces.
+/// The cause of each switch of the display in every history from a start, and the marks of the
+/// traces.
 pub fn displays_are_lawful()
     ensures lawful { DisplaysAreLawful }
     ensures waiting { TargetsAreExplained }
@@ -30,8 +31,8 @@ pub fn displays_are_lawful()
     each_target_was_asked_for();
 }
 
-/// Why the display changed hands in every history from any machine in which no console waits for the
-/// display.
+/// The cause of each switch of the display in every history from any machine in which no console
+/// waits for the display.
 pub fn displays_are_lawful_from(w: &World)
     ensures { DisplaysAreLawfulFrom w.now }
 {
@@ -51,7 +52,8 @@ pub fn sizes_stay()
     ensures { SizesStay }
 {}
 
-/// An event leaves the screen and the bells of a console that it doesn't touch, or frees it.
+/// An event leaves the screen and the count of BELs of a console that it doesn't touch, or frees
+/// it.
 pub fn terminals_stay()
     ensures { TerminalsStay }
 {}

@@ -1,4 +1,4 @@
-//! The table of events: one method for each, which refuses it or does it.
+//! The table of events: a method for each event, which refuses it or carries it out.
 
 mod answers;
 mod descriptors;

@@ -9,7 +9,8 @@ use vt_events::{Event, reply_bytes};
 use vt_grid::Grid;
 use vt_screen::BLANK;
 
-/// The memory that a call may need. It is taken before the call, so that the call takes none.
+/// The memory that a call may need. It is allocated before the call, so that the call allocates
+/// none.
 #[derive(Drop)]
 pub struct Spare {
     pub(crate) grid: Option<Grid>,
@@ -76,7 +77,7 @@ pub(crate) fn needed_grid(e: &Event, size: Size) -> Option<Size>
     }
 }
 
-// A size of so many rows and columns, if a screen can have it.
+// The size with this many rows and columns, if a screen can have it.
 fn size_from(rows: u16, cols: u16) -> Option<Size>
     ensures { option_map extent_of result
         ≡ (if is_extent rows cols then Some (extent rows cols) else None) }

@@ -3,7 +3,7 @@ ghost use Rattle.vt_events.specs.Charge.{greatest_reply, text_of_reply};
 ghost use Rattle.vt_procs.specs.Callers.{caller_at, is_live};
 ghost use Rattle.vt_procs.specs.Tickets.{waited_of};
 ghost use Rattle.vt_procs.specs.declared.waited.Waited.{Waited};
-ghost use Rattle.vt_world.specs.Spare.{Fits, HasGrid, extent, needed_grid, takes_spare};
+ghost use Rattle.vt_world.specs.Spare.{Fits, HasGrid, extent, needed_grid};
 ghost use Rattle.vt_world.specs.Step.{HasOutcome, HasRowResult, row_result_after, outcome_of_result, own_row_result, plain_answer, step, text_of_answer};
 ghost use Rattle.vt_world.specs.Refusals.{common_refusals, ends_wait, error_of, first_refusal, may_make};
 
@@ -15,8 +15,8 @@ use vt_grid::Grid;
 use vt_procs::Waited;
 
 impl World {
-    /// Takes a call of the caller and returns the answer, and the spare's second buffer, which it doesn't
-    /// use. It always returns, and takes no memory.
+    /// Takes a call of the caller and returns the answer, and the spare's second buffer, which it
+    /// doesn't use. It always returns, and allocates no memory.
     pub fn step(&mut self, caller: CallerNo, event: &Event, spare: Spare) -> (Reply, Bytes)
         requires fits { Fits self.old.rows self.old.cols event.now spare }
         ensures step { HasOutcome (step self.old caller event.now) self.new result.0 }
@@ -33,8 +33,8 @@ impl World {
         (answer, unused)
     }
 
-    /// The same step with a grid that is lent. It stays where the event doesn't use it; where a screen
-    /// is resized onto it, that screen's old grid stands in its place.
+    /// The same step with a grid that is lent. The grid stays if the event doesn't use it; if a
+    /// screen is resized onto it, the screen's old grid takes its place.
     pub(crate) fn step_on(
         &mut self,
         caller: CallerNo,
@@ -52,7 +52,7 @@ impl World {
         self.finish(caller, answer)
     }
 
-    // A refusal is answered by its error. After any other event comes the idle rule.
+    // Answers a refused event by its error. Applies the idle rule after any other event.
     fn finish(&mut self, p: CallerNo, answer: Result<Reply, Errno>) -> Reply
         ensures step { HasOutcome (outcome_of_result self.old (plain_answer answer)) self.new result }
         ensures bytes { text_of_reply result ≡ text_of_answer answer }
@@ -66,7 +66,7 @@ impl World {
         }
     }
 
-    // What refuses every event comes before what refuses this one.
+    // The tests of every event come before the event's own.
     fn take(
         &mut self,
         p: CallerNo,
@@ -85,7 +85,7 @@ impl World {
         self.carry_out(p, event, grid, reply)
     }
 
-    // What refuses any event of the caller.
+    // The tests of every event.
     fn may_take(&self, caller: CallerNo, event: &Event) -> Result<(), Errno>
         ensures first { error_of result ≡ first_refusal (common_refusals self.now caller event.now) }
         ensures live { IfOk result (λ passed. is_live self.now.callers caller ≡ true) }
@@ -104,7 +104,7 @@ impl World {
         Ok(())
     }
 
-    // Carries out an event that the caller may make now.
+    // Carries out an event that the caller may make. Each arm is a rule of the table of events.
     fn carry_out(
         &mut self,
         p: CallerNo,
@@ -122,40 +122,21 @@ impl World {
         ensures bytes { length (text_of_answer result) ≤ greatest_reply event.now }
     {
         match event {
-            Event::OpenCon(n) => self.open(p, *n, grid),
-            Event::ReadIn(fd, most) => self.read_in(p, *fd, *most, reply),
-            Event::Activate(fd, n) => self.activate(p, *fd, *n, grid),
-            Event::Resize(fd, rows, cols) => self.resize(p, *fd, *rows, *cols, grid),
-            Event::GetFunc(fd, i) => self.get_func(p, *fd, *i, reply),
-            Event::GetDia(fd) => self.get_pairs(p, *fd, reply),
-            Event::GetMap(fd) => self.get_map(p, *fd, reply),
-            Event::GetPal(fd) => self.get_palette(p, *fd, reply),
-            Event::Dump(kind, n) => self.dump(p, *kind, *n, reply),
-            _ => self.carry_out_alone(p, event),
-        }
-    }
-
-    // Carries out an event that needs nothing beside the world.
-    fn carry_out_alone(&mut self, p: CallerNo, event: &Event) -> Result<Reply, Errno>
-        requires alone { takes_spare event.now ≡ false }
-        requires clear { self.old.trace.marks ≡ [] }
-        requires live { is_live self.old.callers p ≡ true }
-        requires free { ends_wait event.now ≡ false
-            → waited_of (caller_at self.old.callers p).waiting ≡ Waited.None }
-        ensures { HasRowResult (own_row_result self.old p event.now) self.new result }
-    {
-        match event {
             Event::Scan(b) => self.scan(p, *b),
             Event::Exit => self.exit(p),
+            Event::OpenCon(n) => self.open(p, *n, grid),
             Event::CloseFd(fd) => self.close(p, *fd),
             Event::Write(fd, b) => self.write(p, *fd, b),
+            Event::ReadIn(fd, most) => self.read_in(p, *fd, *most, reply),
             Event::WaitInput(fd) => self.wait_input(p, *fd),
             Event::WaitActive(fd, n) => self.wait_active(p, *fd, *n),
             Event::WaitSignal => self.wait_signal(p),
             Event::WaitEnd => self.wait_end(p),
+            Event::Activate(fd, n) => self.activate(p, *fd, *n, grid),
             Event::Disallocate(fd, n) => self.disallocate(p, *fd, *n),
             Event::OpenQry(fd) => self.open_query(p, *fd),
             Event::GetState(fd) => self.get_state(p, *fd),
+            Event::Resize(fd, rows, cols) => self.resize(p, *fd, *rows, *cols, grid),
             Event::LockSwitch(fd) => self.lock_switch(p, *fd),
             Event::UnlockSwitch(fd) => self.unlock_switch(p, *fd),
             Event::SetKd(fd, mode) => self.set_kd(p, *fd, *mode),
@@ -185,29 +166,25 @@ impl World {
             }
             Event::GetEntry(fd, table, code) => self.get_entry(p, *fd, *table, *code),
             Event::SetFunc(fd, i, b) => self.set_func(p, *fd, *i, b),
+            Event::GetFunc(fd, i) => self.get_func(p, *fd, *i, reply),
             Event::SetDia(fd, b) => self.set_pairs(p, *fd, b),
+            Event::GetDia(fd) => self.get_pairs(p, *fd, reply),
             Event::SetCode(fd, scan, code) => self.set_code(p, *fd, *scan, *code),
             Event::GetCode(fd, scan) => self.get_code(p, *fd, *scan),
             Event::Accept(fd, signal) => self.accept(p, *fd, *signal),
             Event::SetMap(fd, b) => self.set_map(p, *fd, b),
+            Event::GetMap(fd) => self.get_map(p, *fd, reply),
             Event::SetPal(fd, b) => self.set_palette(p, *fd, b),
+            Event::GetPal(fd) => self.get_palette(p, *fd, reply),
+            Event::Dump(kind, n) => self.dump(p, *kind, *n, reply),
             Event::TakeSignals => self.take_signals(p),
             Event::Kill(q, signal) => self.kill(p, *q, *signal),
-            Event::OpenCon(_)
-            | Event::ReadIn(_, _)
-            | Event::Activate(_, _)
-            | Event::Resize(_, _, _)
-            | Event::GetFunc(_, _)
-            | Event::GetDia(_)
-            | Event::GetMap(_)
-            | Event::GetPal(_)
-            | Event::Dump(_, _) => unreachable!(),
         }
     }
 }
 
-// Whether the caller can make such an event: a keyboard makes scans, and processes all others; both
-// may end.
+// Whether the caller can make such an event: keyboards make scans, processes make all others, and
+// both may exit.
 fn may_make(caller: CallerNo, event: &Event) -> bool
     ensures { result ≡ may_make caller event.now }
 {
@@ -218,7 +195,7 @@ fn may_make(caller: CallerNo, event: &Event) -> bool
     }
 }
 
-// Whether a caller with a ticket may make the event: it may but ask how that ended.
+// Whether a caller with a wait may make the event: it may only ask how the wait ended.
 fn ends_wait(event: &Event) -> bool
     ensures { result ≡ ends_wait event.now }
 {

@@ -8,7 +8,7 @@ use vt_cells::Palette;
 use vt_grid::Grid;
 use vt_screen::{Emu, Out, Outs};
 
-/// What a console shows: its screen, and how often its bell rang.
+/// The terminal of a console: its screen, and its count of BELs.
 #[derive(Drop)]
 pub(crate) struct Terminal {
     emu: Emu,
@@ -27,7 +27,7 @@ impl Model for Terminal {
 }
 
 impl Terminal {
-    /// The start screen on this grid, and a bell that never rang.
+    /// The start screen on this grid, and no BEL.
     pub(crate) fn new(grid: Grid) -> Terminal
         ensures { result ≡ new_terminal grid.rows grid.cols }
     {
@@ -44,14 +44,15 @@ impl Terminal {
         &self.emu
     }
 
-    /// How often the bell rang, up to the greatest number.
+    /// The count of BELs, at most the greatest u32.
     pub(crate) fn bells(&self) -> u32
         ensures { result ≡ self.now.bells }
     {
         self.bells
     }
 
-    /// Runs at most 64 bytes on the screen, and counts their bells. All that they say is in `outs`.
+    /// Runs at most 64 bytes on the screen, and counts their BELs. All their side effects are in
+    /// `outs`.
     pub(crate) fn feed(&mut self, b: &[u8], outs: &mut Outs)
         requires short { length b.now ≤ 64 }
         requires empty { outs.old ≡ [] }
@@ -63,21 +64,21 @@ impl Terminal {
         self.bells = bell_count_after(self.bells, outs.as_slice());
     }
 
-    /// Gives the screen the size of this grid, and gives the old grid back.
+    /// Resizes the screen onto this grid. Returns the old grid.
     pub(crate) fn resize(&mut self, grid: Grid) -> Grid
         ensures { self.new ≡ altered_by (resize grid.rows grid.cols) self.old }
     {
         self.emu.resize(grid)
     }
 
-    /// Gives the screen this user's table.
+    /// Sets the screen's user's table.
     pub(crate) fn set_user(&mut self, words: &[u16; 256])
         ensures { self.new ≡ altered_by (user_map words.now) self.old }
     {
         self.emu.set_user(words);
     }
 
-    /// Gives the screen this palette.
+    /// Sets the screen's palette.
     pub(crate) fn set_palette(&mut self, colours: Palette)
         ensures { self.new ≡ altered_by (palette colours) self.old }
     {
@@ -85,7 +86,7 @@ impl Terminal {
     }
 }
 
-// The count after these were said.
+// The count of BELs after these side effects.
 fn bell_count_after(bells: u32, said: &[Out]) -> u32
     ensures { result ≡ bell_count_after bells said.now }
 {

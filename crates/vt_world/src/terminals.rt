@@ -11,10 +11,10 @@ use vt_cells::Palette;
 use vt_grid::Grid;
 use vt_screen::{BLANK, Outs};
 
-/// The places for consoles by their numbers, of which 0 stays free.
+/// The number of places for consoles, by their numbers. Place 0 stays unused.
 const CONSOLE_PLACES: usize = CONSOLES + 1;
 
-/// What the consoles show, by their numbers, of which 0 stays free.
+/// The terminals of the consoles, by their numbers. Place 0 stays unused.
 #[derive(Drop)]
 pub(crate) struct Terminals {
     places: Vec<Option<Terminal>>,
@@ -44,7 +44,7 @@ impl Terminals {
         Ok(Terminals { places })
     }
 
-    /// The terminal of the console, where it has one.
+    /// The terminal of the console, if it has one.
     pub(crate) fn at(&self, c: ConsoleNo) -> Option<&Terminal>
         ensures terminal { option_copied result ≡ terminal_at self.now c }
         ensures taken { is_some result ≡ is_some (terminal_at self.now c) }
@@ -52,7 +52,7 @@ impl Terminals {
         self.places[usize::from(c.get())].as_ref()
     }
 
-    /// Gives the console a new terminal on this grid, where it has none.
+    /// Gives the console a new terminal on this grid, if it has none.
     pub(crate) fn begin(&mut self, c: ConsoleNo, grid: Grid)
         ensures { self.new ≡ with_start c grid.rows grid.cols self.old }
     {
@@ -62,14 +62,15 @@ impl Terminals {
         }
     }
 
-    /// The console has no terminal any more.
+    /// Removes the console's terminal.
     pub(crate) fn end(&mut self, c: ConsoleNo)
         ensures { self.new ≡ without_terminal c self.old }
     {
         self.places[usize::from(c.get())] = None;
     }
 
-    /// Writes at most 64 bytes to the console, where it has a terminal. What they say is in `outs`.
+    /// Writes at most 64 bytes to the console, if it has a terminal. Their side effects are in
+    /// `outs`.
     pub(crate) fn write(&mut self, c: ConsoleNo, b: &[u8], outs: &mut Outs)
         requires short { length b.now ≤ 64 }
         requires empty { outs.old ≡ [] }
@@ -82,8 +83,8 @@ impl Terminals {
         }
     }
 
-    /// Gives the console's screen, if it has one, the size of this grid. The grid that it no longer
-    /// needs is given back.
+    /// Resizes the console's screen, if it has one, onto this grid. Returns the grid that is no
+    /// longer needed.
     pub(crate) fn resize(&mut self, c: ConsoleNo, grid: Grid) -> Grid
         ensures { self.new ≡ after_screen_change c (resize grid.rows grid.cols) self.old }
     {
@@ -93,7 +94,7 @@ impl Terminals {
         }
     }
 
-    /// Gives the console's screen, if it has one, this user's table.
+    /// Sets the user's table of the console's screen, if it has one.
     pub(crate) fn set_user(&mut self, c: ConsoleNo, words: &[u16; 256])
         ensures { self.new ≡ after_screen_change c (user_map words.now) self.old }
     {
@@ -102,7 +103,7 @@ impl Terminals {
         }
     }
 
-    /// Gives the console's screen, if it has one, this palette.
+    /// Sets the palette of the console's screen, if it has one.
     pub(crate) fn set_palette(&mut self, c: ConsoleNo, colours: Palette)
         ensures { self.new ≡ after_screen_change c (palette colours) self.old }
     {
@@ -112,7 +113,7 @@ impl Terminals {
     }
 }
 
-// A new terminal, where there is to be one.
+// A new terminal, if there is to be one.
 fn first_terminal(alloc: Global, size: Size, has_one: bool) -> Result<Option<Terminal>, NoMemory>
     ensures { IfOk result (λ terminal. terminal
         ≡ (if has_one then Some (new_terminal size.rows size.cols) else None)) }

@@ -6,14 +6,14 @@ use std::marker::Model;
 use vt_base::NoMemory;
 use vt_switch::Mark;
 
-/// The room for marks that is taken at the start.
+/// The room for marks that is allocated at the start.
 const TRACE_ROOM: usize = 4_096;
 
-/// The most marks of one event: a write asks for at most 1,024 consoles, once in four bytes, and a
-/// request makes at most three marks.
+/// The most marks of one event: a write makes at most 1,024 requests, one for every four bytes, and
+/// a request makes at most three marks.
 pub(crate) const MOST_MARKS: usize = 3_072;
 
-/// What the last event told, and how often the display switched since the start.
+/// The marks of the last event, and the number of switches of the display since the start.
 #[derive(Drop)]
 pub(crate) struct Trace {
     marks: Vec<Mark>,
@@ -32,7 +32,7 @@ impl Model for Trace {
 }
 
 impl Trace {
-    /// Nothing is told. All room is taken here.
+    /// An empty trace. All room is allocated here.
     pub(crate) fn start(alloc: Global) -> Result<Trace, NoMemory>
         ensures marks { IfOk result (λ trace. trace.marks ≡ []) }
         ensures hops { IfOk result (λ trace. trace.hops ≡ 0) }
@@ -41,7 +41,7 @@ impl Trace {
         Ok(Trace { marks, hops: 0 })
     }
 
-    /// Nothing is told of the next event yet.
+    /// Removes the marks.
     pub(crate) fn clear(&mut self)
         ensures marks { self.new.marks ≡ [] }
         ensures hops { self.new.hops ≡ self.old.hops }
@@ -49,7 +49,7 @@ impl Trace {
         self.marks.clear();
     }
 
-    /// Tells a mark.
+    /// Appends a mark.
     pub(crate) fn push(&mut self, m: &Mark)
         requires { length self.old.marks < MOST_MARKS }
         ensures { self.new ≡ with_mark m.now self.old }
@@ -67,7 +67,7 @@ impl Trace {
         self.marks.as_slice()
     }
 
-    /// How often the display switched, up to the greatest number.
+    /// The number of switches of the display, at most the greatest u64.
     pub(crate) fn hops(&self) -> u64
         ensures { result ≡ self.now.hops }
     {
@@ -75,7 +75,7 @@ impl Trace {
     }
 }
 
-// How often the display switched, with the mark.
+// The number of switches of the display after the mark.
 fn hops_after(m: &Mark, hops: u64) -> u64
     ensures { result ≡ hops_after m.now hops }
 {

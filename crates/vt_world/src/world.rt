@@ -33,7 +33,7 @@ pub struct World {
     pub(crate) inputs: Inputs,
     pub(crate) board: KeyboardSet,
     pub(crate) trace: Trace,
-    // A grid that a call took and left, for the next one. Contracts don't see it.
+    // A grid that a call allocated and didn't use, for a later call. Contracts don't see it.
     pub(crate) kept: Option<Grid>,
 }
 
@@ -59,9 +59,9 @@ impl Model for World {
 }
 
 impl World {
-    /// The start: all consoles of the set are new, every keyboard and every process is alive and has
-    /// nothing open, no key is down, and the key tables are these. All memory for typed input is taken
-    /// here.
+    /// The start: all consoles of the set are new, every keyboard and every process is alive and
+    /// has nothing open, no key is down, and the key tables are these. All memory for typed input
+    /// is allocated here.
     pub fn start(alloc: Global, c: &Config, t: &KeyTables) -> Result<World, NoMemory>
         requires consoles { IsFitSet c.now.consoles c.now.front }
         requires keyboards { IsFitCount c.now.keyboards }
@@ -110,7 +110,7 @@ impl World {
         }
     }
 
-    /// How often the console's bell rang: 0 if the console isn't allocated.
+    /// The console's count of BELs: 0 if the console isn't allocated.
     pub fn bells(&self, c: ConsoleNo) -> u32
         ensures { result ≡ bells_of (terminal_at self.now.terminals c) }
     {
@@ -135,8 +135,8 @@ impl World {
         self.size
     }
 
-    /// The marks of the last event, in order: what it did to the display and to the callers. There are
-    /// none before the first event, and none if the event was refused.
+    /// The marks of the last event, in order: its effects on the display and on the callers. There
+    /// are none before the first event, and none if the event was refused.
     pub fn trace(&self) -> &[Mark]
         ensures marks { result.now ≡ self.now.trace.marks }
         ensures few { length result.now ≤ 3072 }
@@ -144,7 +144,7 @@ impl World {
         self.trace.marks()
     }
 
-    /// How often the display changed hands since the start, at most the greatest u64.
+    /// The number of switches of the display since the start, at most the greatest u64.
     pub fn hops(&self) -> u64
         ensures { result ≡ self.now.trace.hops }
     {

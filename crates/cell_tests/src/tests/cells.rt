@@ -5,8 +5,8 @@ use vt_cells::{
     rgb_of, swapped,
 };
 
-// A foreground and a ground, the intensity, whether italic, underline, blink and reverse are on, and
-// the byte that shows them (console_codes(4)).
+// A foreground and a background, the intensity, whether italic, underline, blink and reverse are on, and the
+// byte that shows them (console_codes(4)).
 type Shown = (u8, u8, Intensity, [bool; 4], u8);
 
 const SHOWN: &[Shown] = &[
@@ -36,7 +36,7 @@ const SHOWN: &[Shown] = &[
     (7, 0, Bold, [false, false, true, true], 0xF8),
 ];
 
-/// The attributes of these colours, with italic, underline, blink and reverse as they are told.
+/// The attributes with these colours, and with italic, underline, blink and reverse on or off.
 pub(crate) fn attr_of(fg: u8, bg: u8, intensity: Intensity, on: [bool; 4]) -> Attr {
     Attr {
         fg: fg.min(15),
@@ -175,7 +175,7 @@ const TAKEN: &[(u32, u8)] = &[
     (0xFFFF_FFFF, 1),
 ];
 
-// Whether the code takes so many columns, and is called plain only where it takes one.
+// Whether the code takes so many columns, and is called plain only if it takes one.
 fn takes(code: u32, width: u8) -> bool {
     columns(code) == width && (width == 1 || !is_plain(code))
 }

@@ -5,8 +5,8 @@ use vt_chars::{
     CharMap, Decoded, Got, Utf8, decode, decode_four, decode_one, decode_three, decode_two,
 };
 
-// A text, and what its bytes are answered, one after another. A byte that is answered BadThen is
-// pushed once more, and its second answer stands behind the first.
+// A text, and the answers to its bytes, one after another. A byte with the answer BadThen is pushed once more,
+// and its second answer comes after the first.
 type Case = (&'static [u8], &'static [Got]);
 
 fn is_read(case: &Case) -> bool {
@@ -65,7 +65,7 @@ const SUBPARTS: &[Case] = &[
     (&[0xC3, 0x28], &[More, BadThen, Char(0x28)]),
 ];
 
-// The first and last sequence of each row of Table 3-7, and the bytes beside them.
+// The first and last sequence of each row of Table 3-7, and the bytes next to them.
 const RANGES: &[Case] = &[
     (&[0x00, 0x7F, 0x80, 0xBF], &[Char(0), Char(0x7F), Bad, Bad]),
     (&[0xC1, 0xC2, 0x80], &[Bad, More, Char(0x80)]),
@@ -136,7 +136,7 @@ const MAPPED: &[Mapped] = &[
     (0, b'q', 0x71),
     // a horizontal line
     (1, b'q', 0x2500),
-    // outside the graphics, and behind them
+    // outside the graphics, and after them
     (1, b'A', 0x41),
     (1, 0x7F, 0x7F),
     // the null mapping
@@ -145,7 +145,7 @@ const MAPPED: &[Mapped] = &[
     (3, 0xFF, 0xF0FF),
 ];
 
-// The same where the user's table has one character for every byte.
+// The same tables, if the user's table has one character for every byte.
 const MAPPED_BY_USER: &[Mapped] = &[(3, 0xFF, 0x263A), (2, 0xFF, 0xF0FF)];
 
 fn is_mapped(map: &CharMap, case: &Mapped) -> bool {

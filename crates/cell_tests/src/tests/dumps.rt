@@ -51,7 +51,7 @@ fn dump_of(alloc: Global, grid: &Grid, form: Form) -> Result<Bytes, NoMemory> {
     Ok(out)
 }
 
-// Whether the grid is dumped so in this form. Where memory ran out it isn't.
+// Whether the grid has this dump in this form. If memory ran out, it hasn't.
 fn has_dump(alloc: Global, grid: &Grid, form: Form, wanted: &[u8]) -> bool {
     match dump_of(alloc, grid, form) {
         Ok(out) => out.as_slice() == wanted,
@@ -116,14 +116,14 @@ fn are_so(bytes: &[u8], byte: u8, text: &[u8]) -> bool {
     }
 }
 
-// The character, and the row behind it.
+// The character, and then the row.
 fn with_row(alloc: Global, grid: &Grid) -> Result<Bytes, NoMemory> {
     let mut out = dump_of(alloc, grid, Form::Characters)?;
     add_rows(alloc, &mut out, grid)?;
     Ok(out)
 }
 
-// Whether the character's byte is this one, and the row behind it this text.
+// Whether the first byte is this one, and the rest this text.
 fn begins(alloc: Global, grid: &Grid, byte: u8, text: &[u8]) -> bool {
     match with_row(alloc, grid) {
         Ok(out) => are_so(out.as_slice(), byte, text),

@@ -41,8 +41,8 @@ const CONTROLS: &[Control] = &[
     (b"\x1B[?1;5;25h", true, b'h', 10, &[1, 5, 25]),
 ];
 
-// A text, and the escape sequence that is read of it at once: its intermediate byte or 0, its last
-// byte, and how many bytes it has.
+// A text, and the escape sequence that is read of it at once: its intermediate byte or 0, its last byte, and
+// how many bytes it has.
 type Escape = (&'static [u8], u8, u8, usize);
 
 const ESCAPES: &[Escape] = &[(b"\x1B(0q", b'(', b'0', 3), (b"\x1BMq", 0, b'M', 2)];
@@ -111,7 +111,7 @@ fn takes_whole_sequences(rt: HostRuntime) {
     check_all(&rt, BYTES);
 }
 
-// Whether this is read at once of a sequence whose last byte stands at this place.
+// Whether this is read at once of a sequence whose last byte is at this place.
 fn is_taken_of_zeros(place: usize, ahead: WholeSequence, numbers: &[u16]) -> bool {
     let mut text = [b'0'; 257];
     text[0] = 0x1B;

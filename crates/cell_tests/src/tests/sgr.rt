@@ -70,11 +70,11 @@ const FOLDED: &[Case] = &[
     // Index 196, and more than 255 in a part.
     (&[38, 5, 196], (1, 0), Bold, OFF),
     (&[38, 2, 999, 0, 0], (1, 0), Bold, OFF),
-    // The intensity is the colour's, and a ground has none.
+    // The intensity is the colour's, and a background has none.
     (&[1, 38, 5, 244], (7, 0), Normal, OFF),
     (&[38, 5, 8], (0, 0), Bold, OFF),
     (&[48, 5, 12], (7, 4), Normal, OFF),
-    // What follows a whole form acts, also where the form does nothing.
+    // The parameters after a whole form have an effect, also if the form has none.
     (&[48, 2, 128, 0, 127, 4], (7, 1), Normal, UNDERLINED),
     (&[38, 5, 1, 48, 5, 2], (1, 2), Normal, OFF),
     (&[38, 5, 256, 4], (7, 0), Normal, UNDERLINED),

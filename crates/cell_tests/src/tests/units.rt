@@ -5,7 +5,7 @@ use Told::{
 };
 use vt_units::{Codes, Mode, Pending, Then, Unit};
 
-// What a byte came to. A control sequence is told by its parameters and its last byte.
+// The result of a byte. A control sequence is given by its parameters and its last byte.
 #[derive(Clone, Copy)]
 enum Told {
     Bad,
@@ -22,7 +22,7 @@ enum Told {
     Dropped,
 }
 
-// How a text is read, the text, and what its bytes come to, but for those that come to nothing yet.
+// How a text is read, the text, and the results of its bytes, except those that have none yet.
 type Case = (Mode, &'static [u8], &'static [Told]);
 
 const BYTES: Mode = Mode {
@@ -77,7 +77,7 @@ fn is_told(then: &Then, told: &Told) -> bool {
     }
 }
 
-// Whether what the byte comes to is wanted next.
+// Whether the result of the byte is the next one that is wanted.
 fn is_next(then: &Then, wanted: Option<&Told>) -> bool {
     match wanted {
         Some(told) => is_told(then, told),
@@ -172,12 +172,12 @@ fn reads_sequences(rt: HostRuntime) {
     }
 }
 
-// Whether the byte comes to this.
+// Whether the byte has this result.
 fn comes_to(pending: &mut Pending, b: u8, told: Told) -> bool {
     is_told(&pending.take(UTF8, b).got, &told)
 }
 
-// How many of these bytes come to nothing yet, behind ESC and one byte more.
+// How many of these bytes have no result yet, after ESC and one byte more.
 fn swallowed(pending: &mut Pending, opening: u8, b: u8, count: u32) -> u32 {
     let _ = pending.take(UTF8, 0x1B);
     let _ = pending.take(UTF8, opening);
@@ -190,7 +190,8 @@ fn swallowed(pending: &mut Pending, opening: u8, b: u8, count: u32) -> u32 {
     quiet
 }
 
-// A byte behind ESC, a byte that comes so many times behind it and to nothing yet, and then bytes and what they come to.
+// A byte after ESC, a byte that comes so many times after it and has no result yet, and then bytes and their
+// results.
 type Long = (u8, u8, u32, &'static [(u8, Told)]);
 
 const LONG: &[Long] = &[

@@ -11,7 +11,7 @@ use vt_world::World;
 // Two processes, each at home at a console of its own.
 const SESSION: &str = "rows = 2\ncols = 5\nconsoles = [1, 2]\nprocess = [{home = 1}, {home = 2}]\n";
 
-// A handover: the first handles the switches of console 1 and lets the display go; the second asks for it.
+// A handover: the first handles the switches of console 1 and lets the display go; the second requests it.
 const HANDOVER: &[Row] = &[
     Call(0, "exit", "ok"),
     Call(1, "open 1", "num 0"),
@@ -30,8 +30,8 @@ const HANDOVER: &[Row] = &[
     Call(1, "exit", "ok"),
 ];
 
-// After so many of these calls, what the first process's exit is answered, and which console is in front then. After
-// the twelfth it has a ticket that has ended and isn't collected; after the last it is dead.
+// After so many of these calls, the answer to the first process's exit, and the console that is in front then.
+// After the twelfth the process has a ticket that has ended and isn't collected; after the last it is dead.
 const ENDS: &[(usize, &str, u16)] = &[
     (0, "ok", 1),
     (1, "ok", 1),

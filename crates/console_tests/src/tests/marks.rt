@@ -1,4 +1,4 @@
-//! Switches, waits and deaths, as the console's marks and counts tell them. Expected marks were computed by hand from
+//! Switches, waits and deaths in the machine's marks and counts. Expected marks were computed by hand from
 //! docs/SWITCHING.md and ioctl_console(2).
 use super::row::Row;
 use super::row::Row::{Call, Drawn, Front, Hops, Marks, Sized, Waits};
@@ -31,7 +31,7 @@ keymap = 'keymaps 0'
 process = [{home = 1}, {}]
 ";
 
-// Calls, each list of them on consoles of its own.
+// Calls, each list of them on a machine of its own.
 const CALLS: &[(&str, &[Row])] = &[
     (THREE, ACTIVATION),
     (THREE, GRAPHICS),
@@ -77,7 +77,7 @@ const GRAPHICS: &[Row] = &[
     Hops(0),
 ];
 
-// The attention key ends who uses the front.
+// The attention key ends the processes that use the front.
 const ATTENTION: &[Row] = &[
     Call(1, "open 1", "num 0"),
     Call(3, "open 1", "num 0"),
@@ -93,7 +93,7 @@ const ATTENTION: &[Row] = &[
     Call(2, "signals", "sigs 0"),
 ];
 
-// A console is there once it is allocated.
+// A console has a screen after it is allocated.
 const ALLOCATION: &[Row] = &[
     Call(1, "open 1", "num 0"),
     Call(1, "activate 0 63", "ok"),

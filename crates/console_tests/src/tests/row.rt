@@ -1,7 +1,7 @@
-/// What is done to a console, or seen of it.
+/// A call of a machine, or a fact to be seen of it.
 #[derive(Clone, Copy)]
 pub(crate) enum Row {
-    /// A caller makes this call, and is answered so.
+    /// A caller makes this call, and gets this answer.
     Call(u16, &'static str, &'static str),
     /// The keyboard makes this call, and then this console is in front.
     Keyed(&'static str, u16),
@@ -9,13 +9,13 @@ pub(crate) enum Row {
     Marks(&'static [u16]),
     /// The console in front.
     Front(u16),
-    /// The hops since the start.
+    /// The switches since the start.
     Hops(u64),
     /// Whether a caller waits.
     Waits(u16, bool),
     /// A console's queue: its bytes, and how many pieces it dropped.
     Queue(u16, &'static [u8], u32),
-    /// The same, by the number of its bytes.
+    /// A console's queue: the number of its bytes, and how many pieces it dropped.
     Queued(u16, usize, u32),
     /// Whether a console has a screen.
     Drawn(u16, bool),
@@ -24,7 +24,7 @@ pub(crate) enum Row {
 }
 
 impl Row {
-    /// What a message calls the row: the words of a call, or what is seen.
+    /// The name of the row in a message: the words of a call, or the fact.
     pub(crate) fn words(self) -> &'static str {
         match self {
             Row::Call(_, words, _) | Row::Keyed(words, _) => words,

@@ -1,9 +1,9 @@
-//! What is seen of a console between its calls.
+//! Facts to be seen of a machine between its calls.
 use super::row::Row;
 use vt_base::{CallerNo, ConsoleNo};
 use vt_world::{Mark, World};
 
-/// Whether this is seen of the console; nothing is seen of a call.
+/// Whether this fact is seen of the machine; a call is no fact.
 pub(crate) fn is_seen(world: &World, row: Row) -> bool {
     match row {
         Row::Call(..) | Row::Keyed(..) => false,

@@ -1,4 +1,4 @@
-//! A session as it is read. What is expected comes from docs/SESSIONS.md.
+//! A session after it is read. Expected values come from docs/SESSIONS.md.
 use session_text::{Session, read};
 use std::process::Abort;
 use std::test::Fail;

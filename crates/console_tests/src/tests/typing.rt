@@ -1,4 +1,5 @@
-//! Scan bytes and what texts say. Expected queues and displays were computed by hand from docs/SWITCHING.md.
+//! Scan bytes, and side effects of texts. Expected queues and displays were computed by hand from
+//! docs/SWITCHING.md.
 use super::row::Row;
 use super::row::Row::{Call, Front, Keyed, Queue, Queued};
 use super::{check, check_all, check_row, made, open};
@@ -32,7 +33,8 @@ fn types_into_the_console_in_front(rt: HostRuntime) -> Result<(), Fail> {
     Ok(())
 }
 
-// Scan bytes, and the console in front after each; last that no process scans, and the keyboard scans alone.
+// Scan bytes, and the console in front after each; the last rows are that no process may scan, and that the
+// keyboard scans alone.
 const SCANS: &[Row] = &[
     Keyed("scan 1e", 2),
     Keyed("scan 02", 3),
@@ -52,8 +54,8 @@ const SCANS: &[Row] = &[
     Call(0, "open 1", "err 25"),
 ];
 
-// ESC [ 6 n, ESC [ 12 ; 3 ], ESC [ 15 ] and ESC [ 12 ; 4 ]: the report goes to the text's own console, and the display
-// to 3 and back, since 4 isn't there. The key then asks for the console before.
+// ESC [ 6 n, ESC [ 12 ; 3 ], ESC [ 15 ] and ESC [ 12 ; 4 ]: the report goes to the text's own console, and the
+// display to 3 and back, since 4 isn't allocated. The key then requests the previous console.
 const TEXT: &[Row] = &[
     Call(1, "open 1", "num 0"),
     Call(
@@ -94,7 +96,7 @@ const FRONT: &[Row] = &[
     Call(1, "write 0 1b5b31323b315d", "num 7"),
 ];
 
-// Types a letter so many times, and asks for one report more.
+// Types a letter so many times, and requests one report more.
 fn type_and_report(
     by: &impl Abort,
     alloc: Global,

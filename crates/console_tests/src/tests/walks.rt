@@ -1,4 +1,5 @@
-//! Walks through programs. What is expected comes from docs/SESSIONS.md, and from the worked run of an ordinary session.
+//! Walks through programs. Expected values come from docs/SESSIONS.md, and from the worked run of an ordinary
+//! session.
 ghost use Rattle.session_text.specs.Walks.{HasActs};
 
 use super::journal;
@@ -53,7 +54,7 @@ fn twelve() -> SigSet {
     }
 }
 
-// The journal of the call, answered; nothing where there is none.
+// The journal of the call with its answer; empty if there is no call.
 fn spelled(alloc: Global, next: Option<Event>) -> Result<Bytes, NoMemory> {
     match next {
         Some(event) => spelled_call(alloc, event),
@@ -72,7 +73,7 @@ fn next_of(alloc: Global, walk: &Walk, program: &Program) -> Result<Bytes, NoMem
     spelled(alloc, walk.next(alloc, program)?)
 }
 
-// The same by asking a hook with this handler.
+// The next call, by asking a hook with this handler.
 fn next_by<H: Handler>(
     alloc: Global,
     walk: &Walk,
@@ -87,7 +88,7 @@ fn next_by<H: Handler>(
     spelled(alloc, walk.next_by(alloc, program, &hook)?)
 }
 
-// The same by a handler that counts how often it is asked.
+// The next call, by a handler that counts how often it is asked.
 fn next_by_hook(
     alloc: Global,
     walk: &Walk,
@@ -110,7 +111,7 @@ fn next_by_hook(
     )
 }
 
-// Whether the journal is that of this call, or empty where there is none.
+// Whether the journal is that of this call, or empty if there is none.
 fn is_call(journal: &[u8], words: &str) -> bool {
     match journal.strip_prefix(b"%journal 2\np2 0 ") {
         Some(entry) => match entry.strip_suffix(b" = ok\n%end 0 0\n") {
@@ -163,7 +164,7 @@ fn check_walk(
     Ok(asked.get())
 }
 
-// The same of one of these programs.
+// Walks through one of these programs.
 fn check_nth(
     by: &impl Abort,
     alloc: Global,

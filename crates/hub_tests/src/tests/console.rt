@@ -1,4 +1,4 @@
-//! The shared console of a test.
+//! The shared machine of a test.
 ghost use Rattle.std.specs.Prelude.{◌≡◌, ℕ, false, IfOk};
 ghost use Rattle.vt_world.specs.State.{is_waiting};
 
@@ -9,13 +9,13 @@ use vt_hub::{Hub, Opening, Run, Steward};
 use vt_journal::Limits;
 use vt_world::{World, nobody_waits_at_start};
 
-/// The most entries of the journal, and what they may count for together.
+/// The most entries of the journal, and the most bytes that they may count for together.
 pub(crate) const LIMITS: Limits = Limits {
     events: 65_536,
     bytes: 67_108_864,
 };
 
-/// The console of the session that the text says.
+/// The machine of the session that the text defines.
 pub(crate) fn started(alloc: Global, text: &str) -> Result<World, Fail>
     ensures { IfOk result (λ world. (p : ℕ) → is_waiting world p ≡ false) }
 {
@@ -25,7 +25,7 @@ pub(crate) fn started(alloc: Global, text: &str) -> Result<World, Fail>
     Ok(world)
 }
 
-/// The run, once every pass was taken in.
+/// The run, after every pass has come back.
 pub(crate) fn closed<J: Opening>(hub: Hub<J>, steward: Steward<J>) -> Result<Run, Fail>
     requires { steward.hub ≡ hub }
 {

@@ -1,5 +1,5 @@
-//! A hub over the console of two processes: another thread makes their calls in the order of the serial
-//! play, while this one reads the display.
+//! A hub over a machine with two processes: another thread makes their calls in the order of the serial play,
+//! while this one reads the display.
 ghost use Rattle.std.specs.Prelude.{◌≡◌, ℕ, false, IfOk};
 ghost use Rattle.vt_hub.specs.Ready.{IsReady};
 ghost use Rattle.vt_world.specs.Refusals.{ends_wait};
@@ -20,7 +20,7 @@ use vt_hub::{Answer, Hub, Opening, Pass, Run, Seat, Steward};
 use vt_journal::{print, read_event};
 use vt_world::{Spare, World};
 
-// Whose calls they are, in the order of the serial play, behind the keyboard's.
+// The caller of each call, in the order of the serial play, after the keyboard's.
 const CALLS: &[(u16, &str)] = &[
     (1, "open 1"),
     (2, "open 2"),
@@ -63,7 +63,7 @@ fn ends(event: &Event) -> bool
     matches!(event, Event::WaitEnd)
 }
 
-// Makes the call that the words spell, and says whether it was entered.
+// Makes the call that the words spell, and returns whether it was entered.
 fn make<J: Opening, R: Wait>(
     seat: &Seat<J, R>,
     pass: &mut Pass<J>,
@@ -186,7 +186,7 @@ struct Outcome {
     run: Run,
 }
 
-// The run, once both are through.
+// The run, after both have ended.
 fn joined<J: Opening>(
     hub: Hub<J>,
     steward: Steward<J>,
@@ -208,7 +208,7 @@ fn joined<J: Opening>(
     Ok(Outcome { made, turned, run })
 }
 
-// The calls of callers 1 and 2 behind the keyboard's, whose pass is the reader's then.
+// The calls of callers 1 and 2 after the keyboard's, whose pass is the reader's then.
 fn share<J: Opening + Send + Sync, R: Threads + Wait + Sync>(
     rt: &R,
     alloc: Global,

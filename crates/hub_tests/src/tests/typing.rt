@@ -1,4 +1,4 @@
-//! A shared console: one thread types on its keyboard, and a process in another reads a line by turns.
+//! A shared machine: one thread types on its keyboard, and a process in another reads a line by turns.
 ghost use Rattle.std.specs.Prelude.{◌≡◌, ℕ, false, IfOk};
 ghost use Rattle.vt_hub.specs.Ready.{IsReady};
 ghost use Rattle.vt_world.specs.Refusals.{ends_wait};
@@ -36,7 +36,7 @@ script = []
 // `a`, `b`, an erase and Return, each pressed and released.
 const SCANS: [u8; 8] = [0x1E, 0x9E, 0x30, 0xB0, 0x0E, 0x8E, 0x1C, 0x9C];
 
-// Makes a call that isn't WaitEnd, and says whether it was answered "wait".
+// Makes a call that isn't WaitEnd, and returns whether its answer was "wait".
 fn make<J: Opening, R: Wait>(
     seat: &Seat<J, R>,
     pass: &mut Pass<J>,
@@ -72,7 +72,7 @@ struct Reader<J: Opening> {
     found: bool,
 }
 
-// Nothing stopped the turn but that nothing was typed.
+// Whether the turn goes on after this stop: it does if nothing was typed.
 fn may_go_on(stop: Option<Stop>) -> bool {
     match stop {
         None => true,
@@ -151,7 +151,7 @@ fn both<J: Opening + Send + Sync, R: Threads + Wait + Sync>(
     Ok((keyboard, reader))
 }
 
-// The run, once both are through.
+// The run, after both have ended.
 fn joined<J: Opening>(
     hub: Hub<J>,
     steward: Steward<J>,

@@ -1,4 +1,4 @@
-//! The dumps of tables, and what is read from them again.
+//! The dumps of tables, and the tables that are read from them again.
 use super::checks::{check, check_made};
 use super::compiled::{is_listed, tables_of};
 use key_dump::{dump, dumpable};
@@ -22,7 +22,7 @@ const DUMPS: &[(&[u8], &[u8])] = &[
     ),
 ];
 
-// The dump; none where there is no dump, or memory ran out.
+// The dump; none if there is no dump, or memory ran out.
 fn dump_of(alloc: Global, tables: &KeyTables) -> Option<Bytes> {
     if !dumpable(tables) {
         return None;
@@ -54,7 +54,7 @@ fn tables_have_their_dumps(rt: HostRuntime) {
     }
 }
 
-// Keymap texts whose tables have the listing of what is read from their dump.
+// Keymap texts whose tables have the same listing as those read from their dump.
 const AGAIN: &[&[u8]] = &[
     b"keymaps 0-2,4-5,8,12\nalt_is_meta\nkeycode 30 = a\nkeycode 48 = b\nkeycode 56 = Alt\n\
             keycode 65 = F7\nalt keycode 65 = Console_7\nstrings as usual\ncompose as usual",

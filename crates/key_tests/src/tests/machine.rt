@@ -1,4 +1,4 @@
-//! What the tests of keys share.
+//! Functions that the tests of keys share.
 mod actions;
 mod sent;
 mod sessions;
@@ -11,7 +11,7 @@ use scan_codes::KeyEvent;
 use std::alloc::Global;
 use vt_base::NoMemory;
 
-// What a key event came to.
+// The result of a key event.
 #[derive(Clone, Copy)]
 enum Wanted {
     Bytes(&'static [u8]),
@@ -50,7 +50,7 @@ fn start(mode: u8) -> KbState {
     s
 }
 
-// Whether the event of the first keyboard comes to this.
+// Whether the event of the first keyboard has this result.
 fn says(
     keys: &mut Keyboard,
     s: &mut KbState,

@@ -3,7 +3,8 @@ use super::checks::check;
 use scan_codes::{KeyEvent, Scanner};
 use vt_base::Inval;
 
-// The bytes of a group, and the key that the last of them names, with whether that goes down; the others name none.
+// The bytes of a group, and the key that the last of them names, with whether that goes down; the others name
+// no key.
 const GROUPS: &[(&[u8], Option<(u8, bool)>, &str)] = &[
     (b"\x1E", Some((30, true)), "a key goes down"),
     (b"\x1E", Some((30, true)), "and repeats"),

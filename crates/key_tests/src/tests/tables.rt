@@ -4,7 +4,7 @@ use std::alloc::Global;
 use std::test::Fail;
 use vt_base::NoMemory;
 
-/// The second one is never found, since the first one stands before it.
+/// The second one is never found, since the first one comes before it.
 const PAIRS: [Pair; 2] = [
     Pair {
         accent: 96,
@@ -77,7 +77,7 @@ fn has_texts(tables: &KeyTables) -> bool {
         && tables.pairs().len() == 2
 }
 
-// Whether all else was answered, and the listing is this text.
+// Whether all other calls had their answers, and the listing is this text.
 fn is_listed(
     alloc: Global,
     tables: &KeyTables,

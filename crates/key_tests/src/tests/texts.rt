@@ -19,7 +19,7 @@ const FAULTS: &[Row] = &[
     (b"keymaps 0,x", 1, 1, 9),
     (b"keycode 08 = a", 1, 1, 9),
     (b"keycode 30 =\\\r\nfoo", 1, 1, 12),
-    // Names and numbers that are none, or not in their range.
+    // Words that aren't names or numbers, or numbers out of their range.
     (b"keycode 30 = foo", 2, 1, 14),
     (b"keycode 30 = a 256", 2, 1, 16),
     (b"string Shift = \"a\"", 2, 1, 8),
@@ -45,7 +45,7 @@ const FAULTS: &[Row] = &[
     (b"keycode 30 = ab\xE2\x82", 6, 1, 16),
     (b"include 'no' x", 6, 1, 9),
     (b"include \"bad\" \xFF", 6, 1, 15),
-    // Texts that are included, and what is left of a line.
+    // Texts that are included, and the rest of a line.
     (b"include \"no\" # text", 7, 1, 9),
     (b"\n  include \"again\"", 8, 2, 3),
     (b"include \"again\" x", 9, 1, 17),
@@ -89,7 +89,7 @@ fn add_all(
     Ok(())
 }
 
-// The texts to include; none where memory ran out, so that the rows fail.
+// The texts to include; none if memory ran out, so that the rows fail.
 fn included(alloc: Global, texts: &[(&[u8], &[u8])]) -> Includes {
     let mut includes = Includes::none(alloc);
     match add_all(alloc, &mut includes, texts) {

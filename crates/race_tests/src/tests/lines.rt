@@ -1,4 +1,4 @@
-//! What the last of some bytes gives and echoes, and what is then kept.
+//! The items and the echo of the last of some bytes, and the bytes that are kept then.
 use cooked::{Cooked, EchoBytes, Given, Termios};
 use std::alloc::Global;
 use std::process::Abort;
@@ -12,8 +12,7 @@ enum Gives {
     Signal(u16),
 }
 
-// Bytes that are typed, and what stands after the last of them: what it gives, the line, the rest, and
-// its echo.
+// Bytes that are typed, and the results of the last of them: its item, the line, the rest, and its echo.
 type Case = (
     &'static [u8],
     Gives,
@@ -35,7 +34,7 @@ fn is_signal(number: u16, wanted: Gives) -> bool {
     matches!(wanted, Gives::Signal(n) if n == number)
 }
 
-// Which of the four isn't what the case says; empty where all are.
+// The first of the four that differs from the case; empty if none does.
 fn wrong(cooked: &Cooked, given: Given, echo: &[u8], case: &Case) -> &'static str {
     let (_, gives, line, rest, shown) = *case;
     if !is_given(given, gives) {
@@ -51,7 +50,7 @@ fn wrong(cooked: &Cooked, given: Given, echo: &[u8], case: &Case) -> &'static st
     }
 }
 
-// Types the bytes of the case, and says what is wrong then.
+// Types the bytes of the case, and returns the result that is wrong then.
 fn wrong_after(cooked: &mut Cooked, case: &Case) -> &'static str {
     let mut echo = EchoBytes::new();
     let mut given = Given::Nothing;
@@ -213,7 +212,7 @@ fn settings_are_valid(rt: HostRuntime) {
     }
 }
 
-// Types the byte so many times, and says whether the last is echoed so.
+// Types the byte so many times, and returns whether the last has this echo.
 fn echoes(cooked: &mut Cooked, b: u8, times: u16, shown: &[u8]) -> bool {
     let mut echo = EchoBytes::new();
     for _ in 0..times {
@@ -234,7 +233,7 @@ fn gives_all(cooked: &mut Cooked, len: usize) -> bool {
     given == Given::Line && cooked.line().len() == len && cooked.rest().is_empty()
 }
 
-// A line is full with 4,095 bytes: an erase counts for nothing, and the end gives them and 0A.
+// A line is full with 4,095 bytes: an erase has no effect, and the end gives them and 0A.
 #[test]
 fn a_full_line_takes_its_end_alone(rt: HostRuntime) -> Result<(), Fail> {
     let mut cooked = started(rt.alloc(), Termios::usual())?;

@@ -1,4 +1,4 @@
-//! The final text by a parallel map, beside that of one thread.
+//! The final text by a parallel map, compared with that of one thread.
 use session_run::{Run, drill_session, final_text, final_text_map, play};
 use session_text::Session;
 use std::alloc::Global;

@@ -1,5 +1,5 @@
-//! A race whose hooks count their calls, behind a gate that makes sure of one signal. What a race prints and how it ends
-//! is in `session_tests`.
+//! A race whose hooks count their calls, with a gate that makes sure of one signal. The text of a race and its
+//! status are tested in `session_tests`.
 ghost use Rattle.std.specs.Prelude.{◌≡◌, ℕ, ◌<◌, [], length, slice_index_or, vec_len};
 ghost use Rattle.session_run.specs.Runs.{HasHooks};
 
@@ -21,8 +21,8 @@ use vt_io::Gate;
 // How often a caller that is held looks again.
 const TURNS: u32 = 1_000_000;
 
-// Holds caller 2's call 2, which asks for the display, until it was asked for caller 1's call 3: then caller 1 handles
-// its switches, by its call 2.
+// Holds caller 2's call 2, which requests the display, until it was asked for caller 1's call 3: then caller 1
+// handles its switches, by its call 2.
 #[derive(Drop)]
 struct SetFirst {
     is_set: AtomicBool,

@@ -1,4 +1,4 @@
-//! What each row of the table makes of the cells. The cells are reckoned by hand.
+//! The effect of each row of the table on the cells. The cells are computed by hand.
 use super::checks::check_made;
 use super::{has_attributes, has_rows, written};
 use std::alloc::Global;
@@ -14,7 +14,7 @@ const MIDDLE: &str = "klmnopqrst";
 
 const BOTTOM: &str = "uvwxyzABCD";
 
-// A text behind the full screen, and the rows after it.
+// A text after the full screen, and the rows after it.
 type Case = (&'static [u8], [&'static str; 3]);
 
 const CASES: &[Case] = &[

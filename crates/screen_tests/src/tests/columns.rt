@@ -1,4 +1,4 @@
-//! Characters of two columns and of none. The cells are reckoned by hand.
+//! Characters of two columns and of none. The cells are computed by hand.
 use super::checks::check_made;
 use super::{Way, cell_at, fed, has_cursor, resize, start, written};
 use std::alloc::Global;

@@ -1,4 +1,4 @@
-//! Where each row of the table leaves the cursor. The places are reckoned by hand.
+//! The cursor's place after each row of the table. The places are computed by hand.
 use super::checks::check_made;
 use super::{has_cursor, written};
 use std::alloc::Global;
@@ -72,7 +72,7 @@ const CASES: &[Case] = &[
     (b"\x1B[1;9H\x1B[g\r\t", 9, 0, false),
     (b"\x1B[1;9H\x1B[2g\r\t", 8, 0, false),
     (b"\x1B[3g\t", 9, 0, false),
-    // What is saved.
+    // Saved cursors.
     (b"\x1B[2;5H\x1B7\x1B[H\x1B8", 4, 1, false),
     (b"\x1B[2;5H\x1B[s\x1B[H\x1B[u", 4, 1, false),
     (b"\x1B[2;5H\x1B8", 0, 0, false),

@@ -1,4 +1,4 @@
-//! Short sequences that are cut at each of their bytes, beside the same text read byte by byte.
+//! Short sequences that are cut at each of their bytes, compared with the same text read byte by byte.
 use super::checks::check_made;
 use super::{SIZE, Way, cell_at, fed, has_cursor, start};
 use std::alloc::Global;
@@ -38,7 +38,7 @@ const TEXTS: &[&[u8]] = &[
     b"\x1B[?5hx\x1B[?5lx",
     b"\x1B[?6hx\x1B[?2;3Hx\x1B[?0007l1234567890x",
     b"\x1B[?1;5;25lx\x1B[?25h\x1B[?;7h",
-    // what ends no sequence of this kind
+    // bytes that end no sequence of this kind
     b"x\x1B[5[Ay",
     b"x\x1B[[Ay\x1B[5;6[By",
     b"x\x1B[5 qy\x1B[5;6$ry",
@@ -74,7 +74,7 @@ fn are_alike(grid: &Grid, other: &Grid) -> bool {
     true
 }
 
-// Whether the same shows of both: the cells, the cursor and the region.
+// Whether both show the same cells, cursor and region.
 fn shows_alike(emu: &Emu, other: &Emu) -> bool {
     let state = other.state();
     let region = emu.state();
@@ -84,14 +84,14 @@ fn shows_alike(emu: &Emu, other: &Emu) -> bool {
         && region.bottom == state.bottom
 }
 
-// Whether the two parts, fed as they are, draw what the plain screen shows, and say so much.
+// Whether the two parts draw the plain screen, and have so many side effects.
 fn draws_alike(emu: &mut Emu, plain: &Emu, said: usize, parts: (&[u8], &[u8])) -> bool {
     let first = fed(emu, Way::Quickly, parts.0);
     let second = fed(emu, Way::Quickly, parts.1);
     shows_alike(emu, plain) && first.saturating_add(second) == said
 }
 
-// The same on a screen of its own. Where memory ran out it isn't so.
+// The same on a screen of its own. If memory ran out, it isn't so.
 fn is_alike(alloc: Global, plain: &Emu, said: usize, parts: (&[u8], &[u8])) -> bool {
     match start(alloc, SIZE) {
         Ok(emu) => {
@@ -102,7 +102,7 @@ fn is_alike(alloc: Global, plain: &Emu, said: usize, parts: (&[u8], &[u8])) -> b
     }
 }
 
-// Whether each cut draws what the bytes of the text draw one by one.
+// Whether the text cut at each place draws the same as its bytes one by one.
 fn are_alike_cut(alloc: Global, plain: &mut Emu, text: &[u8]) -> bool {
     let said = fed(plain, Way::Plainly, text);
     for cut in 0..text.len() {

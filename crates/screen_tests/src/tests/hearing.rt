@@ -1,4 +1,4 @@
-//! What a listener hears of a text of any length.
+//! The side effects that a listener hears of a text of any length.
 use super::checks::check_made;
 use super::sayings::{Said, is_said};
 use super::start;
@@ -8,7 +8,7 @@ use vt_screen::{Listener, Out};
 
 const SIZE: Size = Size { rows: 3, cols: 10 };
 
-// A text, and what it says, in order.
+// A text, and its side effects, in order.
 type Case = (&'static [u8], &'static [Said]);
 
 const CASES: &[Case] = &[
@@ -27,7 +27,7 @@ const CASES: &[Case] = &[
     ),
 ];
 
-// What is wanted, how much of it was heard, and whether it all was right so far.
+// The side effects that are wanted, how many of them were heard, and whether all were right so far.
 #[derive(Drop)]
 struct Expecting {
     wanted: &'static [Said],

@@ -1,4 +1,4 @@
-//! What each row of the table says beside the screen, and what it sets. The answers are those of
+//! The side effects of each row of the table, and the modes that it sets. The answers are those of
 //! console_codes(4) and of this project's own rules.
 use super::checks::check_made;
 use super::{start, written};
@@ -18,7 +18,7 @@ pub(crate) enum Said {
     Bell,
 }
 
-// A text of at most 64 bytes, and what it says.
+// A text of at most 64 bytes, and its side effect.
 type Case = (&'static [u8], Said);
 
 const CASES: &[Case] = &[
@@ -108,7 +108,7 @@ pub(crate) fn is_said(out: Option<&Out>, said: Said) -> bool {
     }
 }
 
-// Whether the text says this, and nothing more.
+// Whether the text has this side effect, and no other.
 fn says(alloc: Global, case: &Case) -> Result<bool, NoMemory> {
     let (text, said) = *case;
     let mut emu = start(alloc, SIZE)?;
@@ -153,7 +153,7 @@ fn texts_set(rt: HostRuntime) {
     }
 }
 
-// Whether tab stops stand in these columns, and in none of the others.
+// Whether there are tab stops in these columns, and in none of the others.
 fn has_stops(state: &ScreenState, columns: &[u8], others: &[u8]) -> bool {
     for x in columns {
         if !state.stops.has(*x) {
@@ -168,8 +168,8 @@ fn has_stops(state: &ScreenState, columns: &[u8], others: &[u8]) -> bool {
     true
 }
 
-// A text behind those above it, and then columns that have tab stops and columns that have none, the
-// tables that are G0 and G1 and which of them is in use, and the second colour of the palette.
+// A text after those above it, and then columns that have tab stops and columns that have none, the tables that
+// are G0 and G1 and which of them is in use, and the second colour of the palette.
 type Kept = (
     &'static [u8],
     &'static [u8],

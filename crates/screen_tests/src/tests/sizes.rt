@@ -1,4 +1,4 @@
-//! Screens of other sizes, and a screen that gets another size. The cells are reckoned by hand.
+//! Screens of other sizes, and a screen that gets another size. The cells are computed by hand.
 use super::checks::check_made;
 use super::{has_attributes, has_cursor, has_row, has_rows, resize, start, written};
 use std::alloc::Global;
@@ -102,7 +102,7 @@ fn a_screen_gets_another_size(rt: HostRuntime) {
     }
 }
 
-// Whether what is pending stays, so that the sequence goes on.
+// Whether the pending bytes stay, so that the sequence goes on.
 fn goes_on(alloc: Global) -> Result<bool, NoMemory> {
     let mut emu = resized(alloc, b"\x1B[44m\x1B[2;2r\x1B[1;1H\x1B[3", 2, 9)?;
     emu.write(b"Cx");

@@ -1,5 +1,5 @@
-//! How often ears are asked: of each notice each of them once, whatever it says. The journal is the one that
-//! docs/SESSIONS.md gives this session; the lines are docs/REVIEW.md's, by hand.
+//! How often ears are asked: each of them once about each notice, whatever it answers. The journal is the one
+//! that docs/SESSIONS.md gives this session; the lines are docs/REVIEW.md's, by hand.
 use session_text::{Session, read};
 use std::alloc::Global;
 use std::cell::Cell;
@@ -32,7 +32,7 @@ const NOTHING: EarTable = EarTable {
     consoles: 0,
 };
 
-// What these ears are told of the journal.
+// The lines of these ears for the journal.
 fn told<F: Listener>(alloc: Global, ears: &[Ear<F>]) -> Result<Reviewed, Fail> {
     let session = read(alloc, SESSION.as_bytes())?;
     told_of(alloc, &session, ears)
@@ -47,7 +47,7 @@ fn told_of<F: Listener>(
     Ok(review(alloc, session, &journal, ears)?)
 }
 
-// What two ears over these listeners are told.
+// The lines of two ears over these listeners.
 fn told_by_two<F: Listener>(
     alloc: Global,
     first: F,
@@ -85,7 +85,7 @@ impl Counts {
     }
 }
 
-// What they are told, counted. Both listeners are closures of one type, which a closure makes.
+// The lines of both ears, counted. Both listeners are closures of one type, which a closure makes.
 fn told_counting(
     alloc: Global,
     counts: &Counts,

@@ -1,4 +1,4 @@
-//! Sessions that were raced: the journal is one of many, and has a certificate all the same.
+//! Sessions that were raced: the journal is one of many, and still has a certificate.
 use session_run::race_tables;
 use session_text::{Session, read};
 use std::alloc::Global;
@@ -18,8 +18,9 @@ use vt_journal::{Journal, Tail, parse, print};
 // How often a caller that is held looks again.
 const TURNS: u32 = 1_000_000;
 
-// Holds caller 2's call 2, which asks for the display, until caller 1 handles its switches, by its call 2; and caller
-// 1's call 4, by which it lets the display go at the earliest, or exits, until caller 2's call 2 is made.
+// Holds caller 2's call 2, which requests the display, until caller 1 handles its switches, by its call 2; and
+// caller 1's call 4, by which it lets the display go at the earliest, or exits, until caller 2's call 2 is
+// made.
 #[derive(Drop)]
 struct InOrder {
     is_set: AtomicBool,
@@ -79,7 +80,7 @@ fn parsed(alloc: Global, text: &[u8]) -> Result<Journal, Fail> {
     }
 }
 
-// What the text of these entries says.
+// The journal of these entries.
 fn journal(alloc: Global, entries: &[Entry], end: &Tail) -> Result<Journal, Fail> {
     match printed(alloc, entries, end) {
         Ok(text) => parsed(alloc, text.as_slice()),
@@ -125,7 +126,7 @@ fn was_asked(entries: &[Entry], owner: CallerNo, asked: u32, signal: Signal) -> 
     is_activate && owner.get() == 1 && signal.get() == 10
 }
 
-// Whether the one item is a release, or a death where it should be one.
+// Whether the one item is a release, or a death if it should be one.
 fn has_cause(c: &[HopWhy], entries: &[Entry], is_death: bool) -> bool {
     let [why] = c else {
         return false;
@@ -154,7 +155,7 @@ fn is_explained(alloc: Global, s: &Session, j: &Journal, is_death: bool) -> Resu
     }
 }
 
-// Whether the display leaves console 1 so in a race of the session behind the gate.
+// Whether the display leaves console 1 so in a race of the session with the gate.
 fn leaves<R: Threads + Wait + Sync>(
     rt: &R,
     alloc: Global,

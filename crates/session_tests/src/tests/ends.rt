@@ -1,4 +1,4 @@
-//! How races end: by their status, the end of the journal and the line on err (docs/PROGRAM.md).
+//! How races end: their status, the end of the journal and the line on err (docs/PROGRAM.md).
 use super::printed::{Printed, in_order, race_text};
 use std::alloc::Global;
 use std::sync::Wait;
@@ -8,7 +8,7 @@ use test_sessions::{HANDOVER, ORDINARY};
 use vt_base::NoMemory;
 use vt_io::OpenGate;
 
-// Whether it ended with this status, and the journal and what is said are so.
+// Whether it ended with this status, and the journal and the line on err are these.
 fn ended(printed: &Printed, status: u8, end: &str, said: &str) -> bool {
     printed.status == status
         && in_order(printed.out.held(), &[end])
@@ -28,7 +28,7 @@ fn ends<R: Threads + Wait + Sync>(
     Ok(ended(&printed, status, end, said))
 }
 
-// The same of a session whose journal holds three calls.
+// The same for a session whose journal holds three calls.
 fn ends_full<R: Threads + Wait + Sync>(rt: &R, alloc: Global) -> Result<bool, NoMemory> {
     let text = format!(in alloc; "events = 3\n{HANDOVER}")?;
     let said = "vt: journal full 3 192 64\n";

@@ -1,5 +1,5 @@
-//! That a race asks its gate before each call on the hub: of each caller 0, 1, 2 and so on, each once, as many as it
-//! makes.
+//! A race asks its gate before each call on the hub: for each caller 0, 1, 2 and so on, each once, as many as
+//! it makes.
 use session_run::{Run, race_tables};
 use session_text::{Session, read};
 use std::alloc::Global;
@@ -38,7 +38,7 @@ impl Notes {
         }
     }
 
-    // Whether it was asked for each call of these entries, and, where the journal was full, for one more of each
+    // Whether it was asked for each call of these entries, and, if the journal was full, for one more of each
     // caller whose program isn't over.
     fn are_of(&self, entries: &[Entry], is_full: bool) -> bool {
         !self.failed.load(SeqCst)
@@ -94,7 +94,7 @@ fn asks<R: Threads + Wait + Sync>(
     Ok(run.stop.is_some() == is_full && notes.are_of(run.log.entries(), is_full))
 }
 
-// The same of a session whose journal holds so many calls.
+// The same for a session whose journal holds so many calls.
 fn asks_full<R: Threads + Wait + Sync>(rt: &R, alloc: Global, count: u32) -> Result<bool, Fail> {
     let text = format!(in alloc; "events = {count}\n{HANDOVER}")?;
     asks(rt, alloc, text.as_str(), true)

@@ -1,4 +1,4 @@
-//! A race of two keyboards is judged legal, whatever turns their threads took.
+//! A race of two keyboards is judged legal, in whatever order their threads ran.
 use super::printed::{race_text, run_text};
 use std::alloc::Global;
 use std::test::Fail;
@@ -18,7 +18,7 @@ keycode 42 = Shift
 '''
 ";
 
-// The session, and the journal that stands before the console.
+// The session, and the journal before the consoles.
 fn with_journal(alloc: Global, text: &str) -> Result<String, NoMemory> {
     match text.split_once("%display") {
         Some((journal, _)) => Ok(format!(in alloc; "{SESSION}{journal}")?),

@@ -31,7 +31,7 @@ impl Source for Pieces {
     }
 }
 
-// Draws so many bytes that come in pieces of this size, into what is printed.
+// Draws so many bytes that come in pieces of this size, and prints the result.
 fn draw(alloc: Global, words: &[String], bytes: usize, piece: usize, printed: &mut Printed) {
     let mut src = Pieces {
         left: bytes,

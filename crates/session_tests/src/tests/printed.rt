@@ -1,4 +1,4 @@
-//! What a command prints.
+//! The output of a command.
 use std::alloc::Global;
 use std::sync::Wait;
 use std::thread::Threads;
@@ -8,7 +8,7 @@ use vt_tool::vt_run;
 
 const ROOM: usize = 100_000;
 
-/// What a command prints, and how it ends.
+/// The output of a command, and its status.
 #[derive(Drop)]
 pub(crate) struct Printed {
     pub status: u8,
@@ -30,7 +30,7 @@ fn sink(alloc: Global) -> Result<MemSink, NoMemory> {
     Ok(MemSink::new(room, Bytes::new(alloc)))
 }
 
-/// Nothing is printed yet, and there is room for what will be.
+/// Nothing is printed yet, and there is room for the output.
 pub(crate) fn blank(alloc: Global) -> Result<Printed, NoMemory> {
     let out = sink(alloc)?;
     with_out(alloc, out)
@@ -81,7 +81,7 @@ fn run_words<G: Gate + Sync, R: Threads + Wait + Sync>(
     run_from(rt, alloc, words, &mut src, gate)
 }
 
-/// Runs the command of these words on what the source gives.
+/// Runs the command of these words on the bytes that the source gives.
 pub(crate) fn run_from<G: Gate + Sync, R: Threads + Wait + Sync>(
     rt: &R,
     alloc: Global,
@@ -94,7 +94,7 @@ pub(crate) fn run_from<G: Gate + Sync, R: Threads + Wait + Sync>(
     Ok(printed)
 }
 
-// The one call of the command, in a body that makes nothing that has to be dropped.
+// The one call of the command, in a body that makes no value that has to be dropped.
 fn run<G: Gate + Sync, R: Threads + Wait + Sync>(
     rt: &R,
     alloc: Global,

@@ -11,7 +11,7 @@ use vt_io::{MemSource, OpenGate};
 // Line feeds that no single read takes whole.
 const FILL: usize = 70_000;
 
-// A session behind the line feeds.
+// A session after the line feeds.
 fn text(alloc: Global) -> Result<Vec<u8>, NoMemory> {
     let mut text = Vec::new(alloc);
     for _ in 0..FILL {
@@ -38,7 +38,7 @@ fn raced<R: Threads + Wait + Sync>(
     run_from(rt, alloc, words.as_slice(), src, &OpenGate)
 }
 
-// Whether nothing is printed, and err says that the read failed.
+// Whether nothing is printed, and the line on err is that of a failed read.
 fn ends_in_fault(printed: &Printed) -> bool {
     printed.status == 2
         && printed.out.held().is_empty()

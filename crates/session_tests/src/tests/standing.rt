@@ -1,4 +1,4 @@
-//! How far callers are after the answers to their calls, by hand from docs/SESSIONS.md.
+//! The progress of callers after the answers to their calls, by hand from docs/SESSIONS.md.
 use session_order::SessionProgress;
 use session_text::{Program, Session, program_of, read};
 use std::alloc::Global;
@@ -13,7 +13,7 @@ const SESSION: &str = "rows = 1\ncols = 4\nconsoles = [1]\n[[process]]\nhome = 1
 
 const CALLS: u32 = 5;
 
-// What its call `n` is answered.
+// The answer to its call `n`.
 fn answer(n: u32) -> Reply {
     match n {
         0 => Reply::Num(0),

@@ -86,7 +86,7 @@ fn hexadecimal_digits_are_read(rt: HostRuntime) {
     }
 }
 
-// A number, and the first signal from it on in the set of 1 and 64; 0 where there is none.
+// A number, and the first signal from it on in the set of 1 and 64; 0 if there is none.
 const FIRSTS: &[(u16, u16)] = &[(1, 1), (2, 64), (64, 64), (65, 0)];
 
 fn first_from(set: SigSet, n: u16) -> u16 {

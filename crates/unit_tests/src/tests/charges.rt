@@ -1,4 +1,4 @@
-//! What calls count for: 64, the bytes that they hold, and the most bytes of their answers.
+//! The charges of calls: 64, the bytes that they hold, and the most bytes of their answers.
 use super::checks::check_made;
 use std::alloc::Global;
 use std::process::Abort;
@@ -26,7 +26,7 @@ const ANSWERED: &[(&[u8], u32)] = &[
     (b"signals", 64),
 ];
 
-// The same of calls that hold 24 bytes.
+// The charges of calls that hold 24 bytes.
 const HELD: &[(&[u8], u32)] = &[
     (
         b"write 3 3234206279746573206172652074776f2070616972732e2e",
@@ -106,7 +106,7 @@ fn is_text(reply: &Reply) -> bool {
     }
 }
 
-// The copy of an answer into a text that held something else.
+// The copy of an answer into a text that held other bytes.
 fn copies_into(b: Bytes, room: Bytes) -> bool {
     b.as_slice().len() <= room.room() && is_text(&Reply::Text(b).copy_into(room))
 }

@@ -36,7 +36,7 @@ fn a_table_changes_one_signal(rt: HostRuntime) {
     }
 }
 
-// Whether a hook over the handler answers this act, and its table says the same.
+// Whether a hook over the handler answers this act, and its table has the same.
 fn answers<H: Handler>(handler: H, table: HookTable, s: Signal, act: Act) -> bool
     requires { H.answers handler table }
 {
@@ -44,7 +44,7 @@ fn answers<H: Handler>(handler: H, table: HookTable, s: Signal, act: Act) -> boo
     hook.ask(s) == act && hook.table().act(s) == act
 }
 
-// The same, by a closure that counts how often it is called.
+// Whether a hook over a closure that counts how often it is called answers this act.
 fn answers_counted(calls: &Cell<u32>, table: HookTable, s: Signal, act: Act) -> bool {
     answers(
         |s: Signal| {
@@ -74,7 +74,7 @@ fn is_asked(table: HookTable, n: u16, act: Act) -> bool {
 // A signal, and the act of a table with one act.
 const ASKED: &[(u16, Act)] = &[(1, Act::Nothing), (12, Act::Leave), (64, Act::Nothing)];
 
-// No clause says that a hook asks its closure: a body that reads the table in its place is proved too.
+// No clause states that a hook asks its closure: a body that reads the table in its place is proved too.
 #[test]
 fn a_hook_asks_its_closure(rt: HostRuntime) {
     let mut table = HookTable::empty();

@@ -116,17 +116,22 @@ const CASES: &[Case] = &[
     ),
 ];
 
-// Adds the entry, and gives 0; where there is no room, gives what it counts for.
+// Adds the entry, the first by `push` and the others with their charge, and returns 0; if there is no room, returns the
+// entry's charge.
 fn add(log: &mut Log, entry: Entry) -> u32 {
     let charge = charge(&entry.event);
-    if log.room(charge) {
-        log.push(entry);
-        return 0;
+    if !log.room(charge) {
+        return charge;
     }
-    charge
+    if log.entries().is_empty() {
+        log.push(entry);
+    } else {
+        log.push_counted(entry, charge);
+    }
+    0
 }
 
-// The first rows, as many as the log's limits allow; what the next one counts for, or 0.
+// The first rows, as many as the log's limits allow; and the charge of the next one, or 0.
 fn fill(alloc: Global, log: &mut Log, rows: &[Row]) -> Result<u32, NoMemory> {
     for row in rows {
         let left = match entry(alloc, row)? {

@@ -37,7 +37,7 @@ fn are_pairs(bytes: &[u8], pairs: &[Pair]) -> bool {
     }
 }
 
-// Whether a pair is read of zeros but for a 1 at this place.
+// Whether a pair is read from bytes that are zero except a 1 at this place.
 fn is_read(place: usize) -> bool {
     let mut bytes = [0; 12];
     bytes[place.min(11)] = 1;

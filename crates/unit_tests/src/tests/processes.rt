@@ -1,5 +1,5 @@
-//! Callers through opens, signals, waits and deaths. Expected answers were reckoned by hand from the
-//! rules of signals and waits.
+//! Callers through opens, signals, waits and deaths. Expected answers were computed by hand from the rules of
+//! signals and waits.
 use super::checks::check;
 use Waited::{Broken, Done, Still};
 use vt_base::{CallerNo, ConsoleNo, Fd, Signal};
@@ -87,7 +87,8 @@ fn end_caller(procs: &mut Procs, n: u16) {
     }
 }
 
-// What happens while a process waits: 0, the console gets the display; 1, bytes come; 2, a signal comes; 3, the others die.
+// An event while a process waits: 0, the console gets the display; 1, bytes come; 2, a signal comes; 3, the
+// others die.
 fn happen(procs: &mut Procs, p: CallerNo, c: ConsoleNo, what: u16) {
     match what {
         0 => procs.shown(c),
@@ -109,7 +110,7 @@ fn ticket_of(word: u16, c: ConsoleNo) -> Ticket {
     }
 }
 
-// Process 1 waits by this ticket for console 3: whether it is told this after what happens.
+// Process 1 waits by this ticket for console 3: whether its wait ends so after this event.
 fn is_told(word: u16, what: u16, told: Waited) -> bool {
     let p = CallerNo::numbered(1);
     let c = ConsoleNo::numbered(3);
@@ -122,7 +123,8 @@ fn is_told(word: u16, what: u16, told: Waited) -> bool {
     none && open && procs.ticket(p) == told && procs.signalled(p) == (what == 2)
 }
 
-// What the process is told then: a row for each ticket, and in it the answer after each of what may happen.
+// The answer that the process gets then: a row for each ticket, and in it the answer after each of the four
+// events.
 const WAITS: [[Waited; 4]; 3] = [
     [Done, Still, Broken, Broken],
     [Still, Done, Broken, Broken],
@@ -146,7 +148,7 @@ fn is_live(procs: &Procs, n: u16) -> bool {
     }
 }
 
-// Keyboards, and what the process is told once each is gone too.
+// Keyboards, and the answer that the process gets after each has exited too.
 const KEYBOARDS: &[(u16, Waited)] = &[(0, Still), (65, Still), (66, Still), (67, Broken)];
 
 fn goes(procs: &mut Procs, p: CallerNo, keyboard: u16, told: Waited) -> bool {
@@ -183,7 +185,7 @@ fn every_keyboard_keeps_the_others_waiting(rt: HostRuntime) {
     check(&rt, two_live(), "two keyboards");
 }
 
-// The signals that the process takes, as a set; 0 where it is dead.
+// The signals that the process takes, as a set; 0 if it is dead.
 fn taken(procs: &mut Procs, p: CallerNo) -> u64 {
     if procs.live(p) {
         procs.take_signals(p).bits()

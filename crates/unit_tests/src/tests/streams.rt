@@ -1,4 +1,4 @@
-//! The adapters over std's streams, which no proof ties to what a real stream does.
+//! The adapters over std's streams, which no proof connects with a real stream.
 use super::checks::{check, check_made};
 use std::alloc::Global;
 use std::io;
@@ -6,8 +6,8 @@ use std::io::{ErrorKind, Read, Write};
 use vt_base::{CallerNo, NoMemory};
 use vt_io::{Failed, Gate, OpenGate, Sink, Source, StdSink, StdSource};
 
-// A stream that is interrupted so often. Then it gives or takes one byte a call, or none where it
-// is full, or fails where it is broken. It keeps the last byte that it took.
+// A stream that is interrupted so often. Then it gives or takes one byte a call, or none if it is full, or
+// fails if it is broken. It keeps the last byte that it took.
 #[derive(Clone, Copy)]
 struct Stream {
     interruptions: u16,
@@ -31,7 +31,7 @@ impl Stream {
 
 impl Read for Stream {
     fn read(&mut self, buf: &mut [u8]) -> io::Result<usize> {
-        // It leaves what it likes in the buffer, also where it fails.
+        // It writes into the buffer, also if it fails.
         buf.fill(b'x');
         Ok(self.next()?.min(buf.len()))
     }
@@ -51,7 +51,7 @@ impl Write for Stream {
     }
 }
 
-// How often the stream is interrupted, whether it is broken and full, and what a read gives and a write takes.
+// How often the stream is interrupted, whether it is broken and full, and the results of a read and of a write.
 type Row = (
     u16,
     bool,

@@ -1,4 +1,4 @@
-//! Handshakes over the display. Expected answers were reckoned by hand from the rules of switching.
+//! Handshakes over the display. Expected answers were computed by hand from the rules of switching.
 use super::checks::check;
 use vt_base::{CallerNo, ConsoleNo, VtMode};
 use vt_switch::{Asked, Switch};
@@ -61,7 +61,7 @@ fn is_owned(switch: &Switch, n: &Names, owned: bool, relsig: u16) -> bool {
         && switch.mode(n.one).relsig == relsig
 }
 
-// A way to end a handshake, whether it hops, whether console 1 is still owned, and its signal of release.
+// A way to end a handshake, whether it switches, whether console 1 still has an owner, and its release signal.
 const ENDS: &[(u32, bool, bool, u16)] = &[
     (0, true, true, 10),
     (1, true, false, 0),

@@ -1,4 +1,4 @@
-//! The acts of the switch on a world: each is done, and told.
+//! The acts of the switch on a machine: each is carried out, and the trace gets its marks.
 ghost use Rattle.std.specs.Prelude.{◌≡◌, ◌+◌, ◌≤◌, true, length};
 ghost use Rattle.vt_procs.specs.Callers.{is_live};
 ghost use Rattle.vt_switch.specs.Acts.{End, Lock, Release, Request, SetKd, SetMode};
@@ -15,7 +15,7 @@ use vt_base::{CallerNo, ConsoleNo, VtMode};
 use vt_switch::{Asked, Hop, each_target_was_asked_for};
 
 impl World {
-    /// Requests the display for the console, if that is allocated.
+    /// Requests the display for the console, if it is allocated.
     pub(crate) fn request(&mut self, n: ConsoleNo)
         requires { length self.old.trace.marks + 3 ≤ MOST_MARKS }
         ensures state { self.new ≡ apply_deed self.old (By (Request n)) }
@@ -35,7 +35,7 @@ impl World {
         }
     }
 
-    /// The answer of `p` for the console, and whether it makes sense.
+    /// Carries out a release call of `p` for the console. Returns whether it made sense.
     pub(crate) fn release_console(&mut self, c: ConsoleNo, p: CallerNo, arg: u16) -> bool
         requires { length self.old.trace.marks + 2 ≤ MOST_MARKS }
         ensures accepted { result ≡ is_taken (release_result self.old.display c p arg) }
@@ -51,8 +51,8 @@ impl World {
         }
     }
 
-    /// Sets who handles the switches of the console, as a live caller asks for, and whether that
-    /// makes sense.
+    /// Sets how the switches of the console are handled, as a live caller asks. Returns whether
+    /// that made sense.
     pub(crate) fn handle(&mut self, c: ConsoleNo, p: CallerNo, m: VtMode) -> bool
         requires { is_live self.old.callers p ≡ true }
         ensures accepted { result ≡ is_taken (mode_answer (handling_of p m)) }
@@ -62,7 +62,7 @@ impl World {
         self.switch.set_mode(c, p, m).is_ok()
     }
 
-    /// The console shows graphics, or text.
+    /// Lets the console show graphics, or text.
     pub(crate) fn show(&mut self, c: ConsoleNo, graphics: bool)
         ensures { self.new ≡ apply_deed self.old (By (SetKd c graphics)) }
     {
@@ -70,7 +70,7 @@ impl World {
         self.switch.set_kd(c, graphics);
     }
 
-    /// Whether no request is taken from here on.
+    /// Locks switching, or unlocks it. Requests are ignored while it is locked.
     pub(crate) fn lock(&mut self, on: bool)
         ensures { self.new ≡ apply_deed self.old (By (Lock on)) }
     {
@@ -78,7 +78,7 @@ impl World {
         self.switch.set_lock(on);
     }
 
-    /// The end of a caller.
+    /// Ends a caller.
     pub(crate) fn end(&mut self, p: CallerNo)
         requires { length self.old.trace.marks + 3 ≤ MOST_MARKS }
         ensures state { self.new ≡ apply_deed self.old (By (End p)) }
@@ -90,7 +90,7 @@ impl World {
         self.hopped_if(&hop);
     }
 
-    // The display changed hands, if it did.
+    // Records the switch of the display, if there was one.
     fn hopped_if(&mut self, hop: &Option<Hop>)
         requires { length self.old.trace.marks + 2 ≤ MOST_MARKS }
         ensures state { self.new ≡ apply_marks self.old (hop_marks (core self.old) hop.now) }

@@ -1,4 +1,4 @@
-//! How a console gets allocated, and freed.
+//! Consoles are allocated, and freed.
 ghost use Rattle.std.specs.Prelude.{◌≡◌, ◌≤◌, [], false, length, if◌then◌else◌};
 ghost use Rattle.vt_switch.specs.Calls.{is_held, names};
 ghost use Rattle.vt_switch.specs.Display.{is_allocated};
@@ -13,7 +13,7 @@ use vt_grid::Grid;
 use vt_switch::each_target_was_asked_for;
 
 impl World {
-    /// Allocates the console, if it isn't yet, with a start screen on this grid.
+    /// Allocates the console, if it isn't allocated, with a start screen on this grid.
     pub(crate) fn allocate(&mut self, c: ConsoleNo, grid: &mut Option<Grid>)
         requires { is_allocated self.old.display c ≡ false
             → HasSize (extent self.old.rows self.old.cols) grid.old }
@@ -51,7 +51,7 @@ impl World {
         }
     }
 
-    /// Console `c` is allocated no longer, and nothing is left of what it had.
+    /// Frees console `c`, with its screen, its queue and its key state.
     pub(crate) fn free(&mut self, c: ConsoleNo)
         requires { is_held self.old.display c ≡ false }
         ensures { self.new ≡ apply_deeds self.old (free_deeds c) }
@@ -62,7 +62,7 @@ impl World {
         self.inputs.clear(c);
     }
 
-    /// Whether the console isn't to be freed. It looks at every descriptor.
+    /// Whether the console can't be freed. It looks at every descriptor.
     pub(crate) fn in_use(&self, c: ConsoleNo) -> bool
         ensures used { result ≡ is_in_use self.now c }
         ensures held { result ≡ false → is_held self.now.display c ≡ false }
@@ -70,14 +70,14 @@ impl World {
         c.get() == 1 || self.held(c) || self.procs.opened(c)
     }
 
-    // Whether it is in front or waits for the display, or a process handles its switches.
+    // Whether the console is in front or waits for the display, or a process handles its switches.
     fn held(&self, c: ConsoleNo) -> bool
         ensures { result ≡ is_held self.now.display c }
     {
         c == self.switch.front() || self.pending(c) || self.switch.owner(c).is_some()
     }
 
-    // Whether it waits for the display.
+    // Whether the console waits for the display.
     fn pending(&self, c: ConsoleNo) -> bool
         ensures { result ≡ names c self.now.display.pending }
     {

@@ -11,7 +11,7 @@ use crate::wanted::Wanted;
 use vt_base::ConsoleNo;
 
 impl World {
-    /// Requests the console that is wanted, if it is one.
+    /// Requests the wanted console, if there is one.
     pub(crate) fn ask(&mut self, wanted: Wanted)
         requires { length self.old.trace.marks + 3 ≤ MOST_MARKS }
         ensures state { self.new ≡ apply_deed self.old (Asks wanted) }
@@ -22,7 +22,7 @@ impl World {
         }
     }
 
-    // The console that is wanted.
+    // The wanted console, if there is one.
     fn wanted(&self, wanted: Wanted) -> Option<ConsoleNo>
         ensures { result ≡ wanted_in self.now.display wanted }
     {
@@ -34,7 +34,7 @@ impl World {
         }
     }
 
-    // The nearest allocated console above the one in front, round the end.
+    // The nearest allocated console above the one in front; 1 follows 63.
     fn above(&self) -> Option<ConsoleNo>
         ensures { result ≡ find (is_allocated self.now.display) (upwards self.now.display.front) }
     {
@@ -45,7 +45,7 @@ impl World {
         }
     }
 
-    // The nearest allocated console below the one in front, round the end.
+    // The nearest allocated console below the one in front; 63 follows 1.
     fn below(&self) -> Option<ConsoleNo>
         ensures { result ≡ find (is_allocated self.now.display) (downwards self.now.display.front) }
     {
@@ -56,7 +56,7 @@ impl World {
         }
     }
 
-    // The lowest of so many consoles that is allocated.
+    // The lowest allocated console of `len` consoles from `low` on.
     fn lowest(&self, low: u16, len: u16) -> Option<ConsoleNo>
         requires low { 1 ≤ low }
         requires high { low + len ≤ 64 }
@@ -71,7 +71,7 @@ impl World {
         None
     }
 
-    // The highest of so many consoles that is allocated.
+    // The highest allocated console of `len` consoles from `high` down.
     fn highest(&self, high: u16, len: u16) -> Option<ConsoleNo>
         requires low { len ≤ high }
         requires high { high ≤ 63 }
@@ -86,7 +86,7 @@ impl World {
         None
     }
 
-    // The console of a number, where it is allocated.
+    // The console with the number, if it is allocated.
     fn allocated_at(&self, n: u16) -> Option<ConsoleNo>
         requires low { 1 ≤ n }
         requires high { n ≤ 63 }

@@ -15,7 +15,7 @@ pub(crate) const SIGKILL: u16 = 9;
 const PROCESS_PLACES: usize = PROCESSES + 1;
 
 impl World {
-    /// A signal is sent.
+    /// Sends a signal.
     pub(crate) fn send(&mut self, p: CallerNo, signal: Signal)
         requires { length self.old.trace.marks + 3 ≤ MOST_MARKS }
         ensures state { self.new ≡ apply_deed self.old (signal_deed p signal) }
@@ -27,7 +27,7 @@ impl World {
         }
     }
 
-    /// The key signal goes to who accepts it.
+    /// Sends the key signal to the process that accepts it.
     pub(crate) fn send_key_signal(&mut self)
         requires { length self.old.trace.marks + 3 ≤ MOST_MARKS }
         ensures { self.new ≡ apply_deeds self.old (spawn_deeds self.old.callers.accepter) }
@@ -37,7 +37,7 @@ impl World {
         }
     }
 
-    /// The attention key: every process that uses the console ends, and that shows text.
+    /// The attention key: ends every process that uses the console, and lets the console show text.
     pub(crate) fn secure_attention(&mut self, n: ConsoleNo)
         requires { self.old.trace.marks ≡ [] }
         ensures { self.new ≡ apply_deeds self.old (attention_deeds self.old n) }
@@ -49,7 +49,7 @@ impl World {
         self.show(n, false);
     }
 
-    // The end of the caller of a number, if it uses the console.
+    // Ends the caller with the number, if it uses the console.
     fn end_user(&mut self, p: usize, uses: bool)
         requires number { p ≤ 64 }
         requires room { length self.old.trace.marks + 3 ≤ MOST_MARKS }
@@ -62,7 +62,7 @@ impl World {
         }
     }
 
-    // Which processes use the console, by their numbers. The keyboard has the first place.
+    // Whether each process uses the console, by its number. The first place is a keyboard's.
     fn users(&self, n: ConsoleNo) -> [bool; PROCESS_PLACES]
         ensures { (p : ℕ) → p < 65 → slice_index_or result p false ≡ uses self.now n p }
     {
@@ -73,7 +73,8 @@ impl World {
         users
     }
 
-    // Whether the caller of a number lives, and handles the switches of the console or has it open.
+    // Whether the caller with the number is alive, and handles the switches of the console or has
+    // it open.
     fn uses(&self, p: usize, n: ConsoleNo) -> bool
         requires { p ≤ 64 }
         ensures { result ≡ uses self.now n p }

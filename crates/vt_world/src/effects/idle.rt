@@ -9,8 +9,8 @@ use vt_base::CallerNo;
 use vt_procs::Waited;
 
 impl World {
-    /// The idle rule after an event of `p`. It goes over the callers only where `p` itself can't go
-    /// on.
+    /// Applies the idle rule after an event of `p`. It looks at all callers only if `p` itself
+    /// can't go on.
     pub(crate) fn apply_idle_rule(&mut self, p: CallerNo)
         ensures { self.new ≡ with_idle_rule self.old }
     {
@@ -19,7 +19,7 @@ impl World {
         }
     }
 
-    // Whether `p` lives and has no open ticket.
+    // Whether `p` is alive and doesn't wait.
     fn can_go(&self, p: CallerNo) -> bool
         ensures { result ≡ can_go (caller_at self.now.callers p) }
     {

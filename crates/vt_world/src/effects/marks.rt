@@ -1,5 +1,4 @@
-//! Marks: what the callers learn of what happens to the display and to each other, and how it is
-//! told.
+//! Marks: the trace gets them, and the callers learn of them.
 ghost use Rattle.std.specs.Prelude.{◌≡◌, ◌+◌, ◌<◌, ◌≤◌, length, Some};
 ghost use Rattle.vt_switch.specs.Law.{OwnersLive};
 ghost use Rattle.vt_switch.specs.Moments.{hop_marks, raise};
@@ -13,7 +12,7 @@ use vt_base::{CallerNo, ConsoleNo, Signal};
 use vt_switch::{Handling, Hop, Mark};
 
 impl World {
-    /// The display was requested for the console.
+    /// Records a request of the display for the console.
     pub(crate) fn hear_asked(&mut self, n: ConsoleNo)
         requires { length self.old.trace.marks < MOST_MARKS }
         ensures { self.new ≡ apply_mark self.old (Mark.Asked n) }
@@ -21,7 +20,7 @@ impl World {
         self.trace.push(&Mark::Asked(n));
     }
 
-    /// The caller died, which handles the switches of no console.
+    /// Records the end of a caller that handles the switches of no console.
     pub(crate) fn hear_end(&mut self, p: CallerNo)
         requires room { length self.old.trace.marks < MOST_MARKS }
         requires owners { OwnersLive (core (apply_mark self.old (Mark.Ended p))) }
@@ -31,7 +30,7 @@ impl World {
         self.trace.push(&Mark::Ended(p));
     }
 
-    /// The display changed hands.
+    /// Records a switch of the display.
     fn hear_hop(&mut self, hop: &Hop)
         requires { length self.old.trace.marks < MOST_MARKS }
         ensures { self.new ≡ apply_mark self.old (Mark.Hopped hop.now) }
@@ -40,7 +39,7 @@ impl World {
         self.trace.push(&Mark::Hopped(*hop));
     }
 
-    /// A signal is raised to a caller, if it lives.
+    /// Raises a signal to a caller, if it is alive.
     pub(crate) fn raise(&mut self, p: CallerNo, signal: Signal)
         requires { length self.old.trace.marks < MOST_MARKS }
         ensures state { self.new ≡ apply_marks self.old (raise (core self.old) p signal) }
@@ -52,7 +51,8 @@ impl World {
         }
     }
 
-    /// The display changed hands, and the process that handles the new front is told by its signal.
+    /// Records a switch of the display, and raises the signal of the process that handles the
+    /// switches of the new front.
     pub(crate) fn hopped(&mut self, hop: &Hop)
         requires { length self.old.trace.marks + 2 ≤ MOST_MARKS }
         ensures state { self.new ≡ apply_marks self.old (hop_marks (core self.old) (Some hop.now)) }

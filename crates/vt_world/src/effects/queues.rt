@@ -1,4 +1,4 @@
-//! What comes into the queues of consoles.
+//! Bytes that enter the queues of consoles.
 ghost use Rattle.std.specs.Prelude.{◌≡◌};
 ghost use Rattle.vt_world.specs.Deeds.{Lights, Own, Puts, apply_deed};
 
@@ -6,8 +6,7 @@ use crate::World;
 use vt_base::ConsoleNo;
 
 impl World {
-    /// A piece goes into the console's queue, whole or not at all. Where bytes come, the waits for
-    /// them end.
+    /// Puts a piece into the console's queue, all or none. If bytes enter, the waits for them end.
     pub(crate) fn put(&mut self, c: ConsoleNo, piece: &[u8])
         ensures { self.new ≡ apply_deed self.old (Own (Puts c piece.now)) }
     {

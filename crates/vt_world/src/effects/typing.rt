@@ -1,4 +1,4 @@
-//! What a scan byte does.
+//! Scan bytes, and the keys that they complete.
 ghost use Rattle.std.specs.Prelude.{◌≡◌, ◌<◌, []};
 ghost use Rattle.vt_world.specs.Deeds.{apply_deeds};
 ghost use Rattle.vt_world.specs.Terminals.{key_modes_of, terminal_at};
@@ -19,7 +19,7 @@ const START_MODES: KeyModes = KeyModes {
 };
 
 impl World {
-    /// A byte of keyboard `k`, with console `n` in front.
+    /// Takes a scan byte of keyboard `k`, with console `n` in front.
     pub(crate) fn scan_on(&mut self, k: u8, n: ConsoleNo, b: u8)
         requires clear { self.old.trace.marks ≡ [] }
         requires keyboard { k < 4 }
@@ -32,7 +32,7 @@ impl World {
         self.read(k, n, b);
     }
 
-    // The byte is read, and the key that it ends is typed.
+    // Reads the byte, and types the key that it completes.
     fn read(&mut self, k: u8, n: ConsoleNo, b: u8)
         requires clear { self.old.trace.marks ≡ [] }
         requires keyboard { k < 4 }
@@ -43,7 +43,7 @@ impl World {
         }
     }
 
-    // A key of keyboard `k` goes down or up, with console `n` in front.
+    // Presses or releases a key of keyboard `k`, with console `n` in front.
     fn type_key(&mut self, k: u8, n: ConsoleNo, e: KeyEvent)
         requires clear { self.old.trace.marks ≡ [] }
         requires keyboard { k < 4 }
@@ -75,7 +75,7 @@ impl World {
         }
     }
 
-    // What a key says; `n` is the console that was in front.
+    // Carries out the result of a key; `n` is the console that was in front.
     fn take_key(&mut self, n: ConsoleNo, out: &KeyOut)
         requires { self.old.trace.marks ≡ [] }
         ensures { self.new ≡ apply_deeds self.old (key_out_deeds self.old n out.now) }

@@ -1,4 +1,4 @@
-//! What a text does that is written to a console.
+//! Texts that are written to a console.
 ghost use Rattle.std.specs.Prelude.{◌≡◌, ◌≤◌, ◌+◌, ◌*◌, [], ◌∷◌, length};
 ghost use Rattle.std.specs.List.{flat_map};
 ghost use Rattle.vt_screen.specs.Asking.{requests};
@@ -13,7 +13,7 @@ use vt_base::ConsoleNo;
 use vt_screen::{FEED_BYTES, Out, Outs, any_cut, requests_are_few};
 
 impl World {
-    /// Runs a text on a console, and does what it says.
+    /// Runs a text on a console, and carries out its side effects.
     pub(crate) fn run(&mut self, c: ConsoleNo, b: &[u8])
         requires clear { self.old.trace.marks ≡ [] }
         requires short { length b.now ≤ 4096 }
@@ -31,7 +31,8 @@ impl World {
         }
     }
 
-    // Runs at most 64 bytes on a console, and does what they say. What stands in `outs` is forgotten.
+    // Runs at most 64 bytes on a console, and carries out their side effects. The old contents of
+    // `outs` are dropped.
     fn run_piece(&mut self, c: ConsoleNo, b: &[u8], outs: &mut Outs)
         requires short { length b.now ≤ 64 }
         requires room { length self.old.trace.marks
@@ -45,7 +46,7 @@ impl World {
         self.take_outs(c, outs.as_slice());
     }
 
-    // What a text says on a console, in order.
+    // Carries out the side effects of a text on a console, in order.
     fn take_outs(&mut self, c: ConsoleNo, outs: &[Out])
         requires { length self.old.trace.marks + 3 * requests outs.now ≤ MOST_MARKS }
         ensures state { self.new ≡ apply_deeds self.old (flat_map (out_deeds c) outs.now) }

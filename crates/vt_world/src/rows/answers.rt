@@ -1,7 +1,8 @@
-//! Answers that have bytes.
+//! Answers with bytes.
 ghost use Rattle.std.specs.Prelude.{◌≡◌, ◌≤◌, [], length};
 ghost use Rattle.vt_events.specs.Charge.{text_of_reply};
-ghost use Rattle.vt_events.specs.Plain.{plain_reply, text};
+ghost use Rattle.vt_events.specs.Kinds.{text};
+ghost use Rattle.vt_events.specs.Plain.{plain_reply};
 ghost use Rattle.vt_events.specs.declared.reply.Reply.TheVariants as reply;
 
 use vt_base::Bytes;
@@ -17,7 +18,7 @@ pub(crate) fn emptied(room: Bytes) -> Bytes
     room
 }
 
-/// The answer of these bytes, in the room that is given.
+/// The answer with these bytes, in the given room.
 pub(crate) fn text_reply(b: &[u8], room: Bytes) -> Reply
     requires { length b.now ≤ room.room }
     ensures reply { plain_reply result ≡ reply.Text (text b.now) }

@@ -1,4 +1,4 @@
-//! Descriptors: they are opened and shut, written to and read from.
+//! Descriptors: they are opened, closed, written to and read from.
 ghost use Rattle.std.specs.Prelude.{◌≡◌, ◌≤◌, [], length, min};
 ghost use Rattle.vt_events.specs.declared.event.Event.TheVariants as event;
 ghost use Rattle.vt_world.specs.Spare.{HasGrid, extent, needed_grid};
@@ -11,7 +11,7 @@ use vt_events::Reply;
 use vt_grid::Grid;
 
 impl World {
-    /// Opens console `n`, or the one in front where `n` is 0, at the lowest free descriptor.
+    /// Opens console `n`, or the one in front if `n` is 0, at the lowest free descriptor.
     pub(crate) fn open(
         &mut self,
         p: CallerNo,
@@ -27,7 +27,7 @@ impl World {
         Ok(Reply::Num(u32::from(fd.get())))
     }
 
-    /// The descriptor is given back (close(2)).
+    /// Closes the descriptor (close(2)).
     pub(crate) fn close(&mut self, p: CallerNo, fd: u16) -> Result<Reply, Errno>
         ensures { HasRowResult (own_row_result self.old p (event.CloseFd fd)) self.new result }
     {
@@ -47,7 +47,7 @@ impl World {
         Ok(Reply::Num(text.len() as u32))
     }
 
-    /// The first bytes of the input of the descriptor's console (read(2)).
+    /// Reads the first bytes of the input of the descriptor's console (read(2)).
     pub(crate) fn read_in(
         &mut self,
         p: CallerNo,

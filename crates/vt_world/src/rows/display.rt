@@ -1,4 +1,4 @@
-//! The display: which consoles there are, who gets it, and who handles its switches.
+//! The display: allocated consoles, requests, and the handling of switches.
 ghost use Rattle.std.specs.Prelude.{◌≡◌, ◌≤◌, ◌+◌, ◌^◌, ◌==◌, [], true, false, not, nat_lt, find, Some, None, IfSome, IsTrue, if◌then◌else◌};
 ghost use Rattle.std.specs.List.{range_with_len};
 ghost use Rattle.vt_events.specs.declared.event.Event.TheVariants as event;
@@ -37,7 +37,7 @@ impl World {
         Ok(Reply::Done)
     }
 
-    /// Frees console `n`, or all that are not in use where `n` is 0 (ioctl_console(2),
+    /// Frees console `n`, or all that are not in use if `n` is 0 (ioctl_console(2),
     /// VT_DISALLOCATE).
     pub(crate) fn disallocate(&mut self, p: CallerNo, fd: u16, n: u16) -> Result<Reply, Errno>
         ensures { HasRowResult (own_row_result self.old p (event.Disallocate fd n)) self.new result }
@@ -55,7 +55,7 @@ impl World {
         Ok(Reply::Done)
     }
 
-    /// The lowest console that nobody has open, 0 where there is none (ioctl_console(2),
+    /// The lowest console that no process has open, 0 if there is none (ioctl_console(2),
     /// VT_OPENQRY).
     pub(crate) fn open_query(&mut self, p: CallerNo, fd: u16) -> Result<Reply, Errno>
         ensures { HasRowResult (own_row_result self.old p (event.OpenQry fd)) self.new result }
@@ -74,7 +74,7 @@ impl World {
         Ok(Reply::State { front, mask })
     }
 
-    /// No more switches (ioctl_console(2), VT_LOCKSWITCH).
+    /// Locks switching (ioctl_console(2), VT_LOCKSWITCH).
     pub(crate) fn lock_switch(&mut self, p: CallerNo, fd: u16) -> Result<Reply, Errno>
         ensures { HasRowResult (own_row_result self.old p (event.LockSwitch fd)) self.new result }
     {
@@ -83,7 +83,7 @@ impl World {
         Ok(Reply::Done)
     }
 
-    /// Switches again (ioctl_console(2), VT_UNLOCKSWITCH).
+    /// Unlocks switching (ioctl_console(2), VT_UNLOCKSWITCH).
     pub(crate) fn unlock_switch(&mut self, p: CallerNo, fd: u16) -> Result<Reply, Errno>
         ensures { HasRowResult (own_row_result self.old p (event.UnlockSwitch fd)) self.new result }
     {
@@ -92,7 +92,7 @@ impl World {
         Ok(Reply::Done)
     }
 
-    /// The console shows text, or graphics (ioctl_console(2), KDSETMODE).
+    /// Lets the descriptor's console show text, or graphics (ioctl_console(2), KDSETMODE).
     pub(crate) fn set_kd(&mut self, p: CallerNo, fd: u16, m: u16) -> Result<Reply, Errno>
         ensures { HasRowResult (own_row_result self.old p (event.SetKd fd m)) self.new result }
     {
@@ -101,7 +101,7 @@ impl World {
         Ok(Reply::Done)
     }
 
-    /// Which of the two it is (ioctl_console(2), KDGETMODE).
+    /// Whether the descriptor's console shows text, or graphics (ioctl_console(2), KDGETMODE).
     pub(crate) fn get_kd(&mut self, p: CallerNo, fd: u16) -> Result<Reply, Errno>
         ensures { HasRowResult (own_row_result self.old p (event.GetKd fd)) self.new result }
     {
@@ -109,7 +109,8 @@ impl World {
         Ok(Reply::Num(u32::from(self.switch.kd(c))))
     }
 
-    /// Sets who handles the switches of the descriptor's console (ioctl_console(2), VT_SETMODE).
+    /// Sets how the switches of the descriptor's console are handled (ioctl_console(2),
+    /// VT_SETMODE).
     pub(crate) fn set_mode(&mut self, p: CallerNo, fd: u16, m: VtMode) -> Result<Reply, Errno>
         requires { is_live self.old.callers p ≡ true }
         ensures { HasRowResult (own_row_result self.old p
@@ -122,7 +123,7 @@ impl World {
         Ok(Reply::Done)
     }
 
-    /// Those words (ioctl_console(2), VT_GETMODE).
+    /// How the switches of the descriptor's console are handled (ioctl_console(2), VT_GETMODE).
     pub(crate) fn get_mode(&mut self, p: CallerNo, fd: u16) -> Result<Reply, Errno>
         ensures { HasRowResult (own_row_result self.old p (event.GetMode fd)) self.new result }
     {
@@ -143,7 +144,7 @@ impl World {
         Ok(Reply::Done)
     }
 
-    /// The console that a number names: the one in front where it is 0.
+    /// The console that a number names: the one in front if it is 0.
     pub(crate) fn named(&self, n: u16) -> Option<ConsoleNo>
         ensures console { result ≡ (if nat_lt 63 n then None else Some (console_by_number self.now n)) }
         ensures new { IfSome result (λ c. is_allocated self.now.display c ≡ false
@@ -161,7 +162,7 @@ impl World {
         self.first_unopened(1, CONSOLES as u16).unwrap_or(0)
     }
 
-    // The lowest of so many consoles that nobody has open.
+    // The lowest console that no process has open, of `len` consoles from `low` on.
     fn first_unopened(&self, low: u16, len: u16) -> Option<u16>
         requires low { 1 ≤ low }
         requires high { low + len ≤ 64 }
@@ -194,7 +195,7 @@ impl World {
         mask
     }
 
-    // The bit of a console, where it is allocated.
+    // The bit of a console, 0 if it isn't allocated.
     fn allocated_bit(&self, n: u16) -> u64
         requires low { 1 ≤ n }
         requires high { n ≤ 63 }

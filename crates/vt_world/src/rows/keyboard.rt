@@ -16,10 +16,10 @@ use key_syms::Action;
 use vt_base::{Bytes, CallerNo, ConsoleNo, Errno};
 use vt_events::Reply;
 
-/// The greatest number that is lights.
+/// The greatest number that sets lights.
 const MOST_LIGHTS: u16 = 7;
 
-/// What is told of a key in a table that isn't there (ioctl_console(2), KDGKBENT).
+/// The answer for a key of a table that doesn't exist (ioctl_console(2), KDGKBENT).
 const NO_TABLE: Reply = Reply::Act { kind: 14, value: 0 };
 
 /// The greatest number of a table, of a function key and of a keycode.
@@ -29,7 +29,7 @@ const GREATEST_NUMBER: u16 = 255;
 const MOST_BYTES: usize = 255;
 
 impl World {
-    /// A byte of a keyboard.
+    /// Takes a scan byte of a keyboard.
     pub(crate) fn scan(&mut self, p: CallerNo, b: u8) -> Result<Reply, Errno>
         requires clear { self.old.trace.marks ≡ [] }
         ensures { HasRowResult (own_row_result self.old p (event.Scan b)) self.new result }
@@ -58,7 +58,7 @@ impl World {
         Ok(Reply::Num(u32::from(self.inputs.keys(c).mode)))
     }
 
-    /// Sets what Meta does on the descriptor's console (ioctl_console(2), KDSKBMETA).
+    /// Sets the effect of Meta on the descriptor's console (ioctl_console(2), KDSKBMETA).
     pub(crate) fn set_meta(&mut self, p: CallerNo, fd: u16, m: u16) -> Result<Reply, Errno>
         ensures { HasRowResult (own_row_result self.old p (event.SetMeta fd m)) self.new result }
     {
@@ -70,7 +70,7 @@ impl World {
         Ok(Reply::Done)
     }
 
-    /// What Meta does on the descriptor's console (ioctl_console(2), KDGKBMETA).
+    /// The effect of Meta on the descriptor's console (ioctl_console(2), KDGKBMETA).
     pub(crate) fn get_meta(&mut self, p: CallerNo, fd: u16) -> Result<Reply, Errno>
         ensures { HasRowResult (own_row_result self.old p (event.GetMeta fd)) self.new result }
     {
@@ -129,7 +129,7 @@ impl World {
         self.inputs.set_keys(c, keys);
     }
 
-    /// Sets what a keycode does in a key table (ioctl_console(2), KDSKBENT).
+    /// Sets the action of a keycode in a key table (ioctl_console(2), KDSKBENT).
     pub(crate) fn set_entry(
         &mut self,
         p: CallerNo,
@@ -156,7 +156,7 @@ impl World {
         t <= GREATEST_NUMBER && exists
     }
 
-    /// What a keycode does in a key table (ioctl_console(2), KDGKBENT).
+    /// The action of a keycode in a key table (ioctl_console(2), KDGKBENT).
     pub(crate) fn get_entry(
         &mut self,
         p: CallerNo,
@@ -260,7 +260,7 @@ impl World {
     }
 }
 
-// Which keyboard this is: 0 for a process, whose bytes are refused before.
+// The keyboard's number: 0 for a process, whose scan bytes are refused earlier.
 fn number_of(p: CallerNo) -> u8
     ensures number { result ≡ unwrap_or (keyboard_of p) 0 }
     ensures high { result < 4 }
@@ -271,21 +271,21 @@ fn number_of(p: CallerNo) -> u8
     }
 }
 
-// The lights that are set.
+// The lights that the number sets.
 fn lights_of(v: u16) -> Option<u8>
     ensures { result ≡ lights_of v }
 {
     if v > MOST_LIGHTS { None } else { Some(v as u8) }
 }
 
-// Whether these are three flags, and three of a reset.
+// Whether the number is three flags, and three flags of a reset.
 fn is_flags(v: u16) -> bool
     ensures { result ≡ is_flags v }
 {
     v < 128 && v % 16 < 8
 }
 
-// Whether a key table has an entry for the code.
+// Whether key tables have an entry for the keycode.
 fn is_keycode(code: u16) -> bool
     ensures { result ≡ is_keycode code }
 {

@@ -1,4 +1,4 @@
-//! What refuses an event, where several rows share it.
+//! The tests that several events share.
 ghost use Rattle.std.specs.Prelude.{◌≡◌, [], ◌∷◌, IfOk, Some, true};
 ghost use Rattle.vt_procs.specs.Callers.{console_of};
 ghost use Rattle.vt_world.specs.Refusals.{error_of, first_refusal, gets, may_handle, needs_open, needs_privilege, needs_right, needs_sense, sets};
@@ -15,7 +15,7 @@ impl World {
         self.procs.console_of(p, fd).ok_or(Errno::Badf)
     }
 
-    /// The descriptor's console, where `p` may handle it.
+    /// The descriptor's console, if `p` has the right to handle it.
     pub(crate) fn owned_console(&self, p: CallerNo, fd: u16) -> Result<ConsoleNo, Errno>
         ensures open { IfOk result (λ c. console_of self.now.callers p fd ≡ Some c) }
         ensures refused { error_of result
@@ -28,7 +28,7 @@ impl World {
         Ok(c)
     }
 
-    /// The descriptor's console, where `p` may set something of it that makes sense.
+    /// The descriptor's console, if `p` has the right to handle it and the request makes sense.
     pub(crate) fn console_to_set(
         &self,
         p: CallerNo,
@@ -44,7 +44,7 @@ impl World {
         Ok(c)
     }
 
-    /// The descriptor's console, where what `p` asks of it makes sense.
+    /// The descriptor's console, if the request makes sense.
     pub(crate) fn console_to_read(
         &self,
         p: CallerNo,
@@ -60,7 +60,7 @@ impl World {
         Ok(c)
     }
 
-    /// Whether `p` may lock switching, and unlock it.
+    /// Refuses a process that may not lock and unlock switching.
     pub(crate) fn check_lock_right(&self, p: CallerNo, fd: u16) -> Result<(), Errno>
         ensures { error_of result
             ≡ first_refusal (needs_open self.now p fd ∷ needs_privilege self.now p ∷ []) }
@@ -80,7 +80,7 @@ impl World {
     }
 }
 
-// What the event asks for has to make sense.
+// Refuses a request that makes no sense.
 fn check_sense(makes_sense: bool) -> Result<(), Errno>
     ensures sense { IfOk result (λ sensible. makes_sense ≡ true) }
     ensures refused { error_of result ≡ first_refusal (needs_sense makes_sense ∷ []) }

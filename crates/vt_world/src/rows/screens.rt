@@ -89,7 +89,7 @@ impl World {
         Ok(Reply::Text(reply))
     }
 
-    /// The screen of console `n`, or of the one in front where `n` is 0 (vcs(4)).
+    /// The screen of console `n`, or of the one in front if `n` is 0 (vcs(4)).
     pub(crate) fn dump(
         &mut self,
         p: CallerNo,
@@ -196,7 +196,7 @@ fn stays_in_range(grid: &Grid)
     let _size = grid.size();
 }
 
-// Whether a screen can have so many rows and columns.
+// Whether a screen can have this many rows and columns.
 fn is_extent(rows: u16, cols: u16) -> bool
     ensures { result ≡ is_extent rows cols }
 {

@@ -11,7 +11,7 @@ use vt_base::{CallerNo, Errno, PROCESSES, Signal};
 use vt_events::Reply;
 
 impl World {
-    /// The signal comes to `p` at the key for it (ioctl_console(2), KDSIGACCEPT).
+    /// From now on the key signal is this signal to `p` (ioctl_console(2), KDSIGACCEPT).
     pub(crate) fn accept(&mut self, p: CallerNo, fd: u16, s: u16) -> Result<Reply, Errno>
         requires { is_live self.old.callers p ≡ true }
         ensures { HasRowResult (own_row_result self.old p (event.Accept fd s)) self.new result }
@@ -22,7 +22,7 @@ impl World {
         Ok(Reply::Done)
     }
 
-    /// The pending signals of `p`, which are pending no more. This project's own.
+    /// Takes the pending signals of `p`. This project's own.
     pub(crate) fn take_signals(&mut self, p: CallerNo) -> Result<Reply, Errno>
         requires { is_live self.old.callers p ≡ true }
         ensures { HasRowResult (own_row_result self.old p event.TakeSignals) self.new result }
@@ -30,7 +30,7 @@ impl World {
         Ok(Reply::Sigs(self.procs.take_signals(p)))
     }
 
-    /// Signal `s` to process `q` (kill(2)).
+    /// Sends signal `s` to process `q` (kill(2)).
     pub(crate) fn kill(&mut self, p: CallerNo, q: u16, s: u16) -> Result<Reply, Errno>
         requires { self.old.trace.marks ≡ [] }
         ensures { HasRowResult (own_row_result self.old p (event.Kill q s)) self.new result }
@@ -47,7 +47,7 @@ impl World {
         Ok(Reply::Done)
     }
 
-    /// The end of the caller (exit(2)). The keys of a keyboard go with it.
+    /// Ends the caller (exit(2)). The keys of a keyboard are released, and no bytes are sent.
     pub(crate) fn exit(&mut self, p: CallerNo) -> Result<Reply, Errno>
         requires { self.old.trace.marks ≡ [] }
         ensures { HasRowResult (own_row_result self.old p event.Exit) self.new result }
@@ -58,7 +58,7 @@ impl World {
     }
 }
 
-// The process of a number, if it is one: keyboards aren't.
+// The process with the number, if there is one: keyboards are no processes.
 fn process_of(q: u16) -> Option<CallerNo>
     ensures { result ≡ in_range 1 64 q }
 {

@@ -1,4 +1,4 @@
-//! Waits: each is a ticket, until the process asks how it ended.
+//! Waits: a process has one until it asks how the wait ended.
 ghost use Rattle.std.specs.Prelude.{◌≡◌, ◌==◌, [], ◌∷◌, not, Some, None, true, if◌then◌else◌};
 ghost use Rattle.vt_base.specs.declared.errno.Errno.TheVariants.{Intr};
 ghost use Rattle.vt_events.specs.declared.event.Event.TheVariants as event;
@@ -17,7 +17,7 @@ use vt_events::Reply;
 use vt_procs::{Ticket, Waited};
 
 impl World {
-    /// Waits until the descriptor's console has input. This project's own.
+    /// Begins a wait for input of the descriptor's console. This project's own.
     pub(crate) fn wait_input(&mut self, p: CallerNo, fd: u16) -> Result<Reply, Errno>
         requires live { is_live self.old.callers p ≡ true }
         requires free { waited_of (caller self.old p).waiting ≡ Waited.None }
@@ -30,7 +30,7 @@ impl World {
         Ok(Reply::Done)
     }
 
-    /// Waits until console `n` is in front (ioctl_console(2), VT_WAITACTIVE).
+    /// Begins a wait for console `n` to be in front (ioctl_console(2), VT_WAITACTIVE).
     pub(crate) fn wait_active(&mut self, p: CallerNo, fd: u16, n: u16) -> Result<Reply, Errno>
         requires live { is_live self.old.callers p ≡ true }
         requires free { waited_of (caller self.old p).waiting ≡ Waited.None }
@@ -44,7 +44,7 @@ impl World {
         Ok(Reply::Done)
     }
 
-    /// Waits for a signal (pause(2)).
+    /// Begins a wait for a signal (pause(2)).
     pub(crate) fn wait_signal(&mut self, p: CallerNo) -> Result<Reply, Errno>
         requires live { is_live self.old.callers p ≡ true }
         requires free { waited_of (caller self.old p).waiting ≡ Waited.None }
@@ -53,7 +53,7 @@ impl World {
         self.wait(p, Ticket::AnySignal)
     }
 
-    /// How the wait of `p` ended. This project's own.
+    /// How the wait of `p` ended, which `p` then no longer has. This project's own.
     pub(crate) fn wait_end(&mut self, p: CallerNo) -> Result<Reply, Errno>
         requires { is_live self.old.callers p ≡ true }
         ensures { HasRowResult (own_row_result self.old p event.WaitEnd) self.new result }
@@ -68,7 +68,7 @@ impl World {
         Ok(reply)
     }
 
-    // A wait begins, unless a signal is pending.
+    // Begins a wait, unless a signal is pending.
     fn wait(&mut self, p: CallerNo, t: Ticket) -> Result<Reply, Errno>
         requires live { is_live self.old.callers p ≡ true }
         requires free { waited_of (caller self.old p).waiting ≡ Waited.None }

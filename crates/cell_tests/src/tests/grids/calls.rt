@@ -1,11 +1,11 @@
-//! The calls of a grid, each made only where it stays in the grid.
+//! The calls of a grid, each made only if it stays in the grid.
 use super::edit::Edit;
 use super::letter;
 use vt_base::Size;
 use vt_cells::Cell;
 use vt_grid::Grid;
 
-/// The cell in row `y` and column `x`, where there is one.
+/// The cell in row `y` and column `x`, if there is one.
 pub(crate) fn cell(grid: &Grid, y: u8, x: u8) -> Option<Cell> {
     let Size { rows, cols } = grid.size();
     if y < rows && x < cols {
@@ -23,7 +23,7 @@ pub(crate) fn code(grid: &Grid, y: u8, x: u8) -> Option<u32> {
     }
 }
 
-/// Makes the edit, and tells whether it stays in the grid: one that doesn't isn't made.
+/// Makes the edit, and returns whether it stays in the grid: an edit that doesn't isn't made.
 pub(crate) fn make(grid: &mut Grid, edit: Edit) -> bool {
     let Size { rows, cols } = grid.size();
     let most = usize::from(cols);

@@ -6,8 +6,8 @@ use std::alloc::Global;
 use vt_base::NoMemory;
 use vt_grid::Grid;
 
-// The first and last row of a region, by how much it scrolls, then the first column, and which rows are the
-// same as before.
+// The first and last row of a region, by how much it scrolls, then the first column, and which rows are
+// unchanged.
 type Change = (u8, u8, u16, [u8; 4], [bool; 4]);
 
 const CHANGES: &[Change] = &[

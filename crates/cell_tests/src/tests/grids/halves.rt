@@ -23,7 +23,7 @@ fn row(alloc: Global) -> Result<Grid, NoMemory> {
     Ok(grid)
 }
 
-// Whether the first row is printed so. Where memory ran out it isn't.
+// Whether the first row is printed so. If memory ran out, it isn't.
 fn shows(alloc: Global, grid: &Grid, wanted: &str) -> bool {
     let _ = grid.size();
     match text_row(alloc, grid, 0) {
@@ -32,7 +32,7 @@ fn shows(alloc: Global, grid: &Grid, wanted: &str) -> bool {
     }
 }
 
-// The columns at which the row is parted, one after another, and the row after each.
+// The columns at which the row is split, one after another, and the row after each.
 const PARTED: &[(u8, &str)] = &[
     (0, "|\u{4E2D}a |\n"),
     (2, "|\u{4E2D}a |\n"),
@@ -45,7 +45,7 @@ fn is_edited(alloc: Global, grid: &mut Grid, edit: Edit, wanted: &str) -> bool {
     calls::make(grid, edit) && shows(alloc, grid, wanted)
 }
 
-// Whether the halves have their colours still when all is done.
+// Whether the halves still have their colours after all edits.
 fn is_parted(alloc: Global, grid: &mut Grid) -> bool {
     for (x, wanted) in PARTED {
         if !is_edited(alloc, grid, Edit::Part(0, *x), wanted) {
@@ -84,8 +84,7 @@ fn draws_over_a_half(rt: HostRuntime) {
     }
 }
 
-// What is done to a row after a Han character is drawn in it, on a grid that had no half, and the row
-// then.
+// The edits of a row after a Han character is drawn in it, on a grid that had no half, and the row after them.
 const DRAWN_FIRST: &[(Edit, &str)] = &[
     (Edit::Part(0, 1), "|    |\n"),
     (Edit::Bytes(0, 1, b"x"), "| x  |\n"),

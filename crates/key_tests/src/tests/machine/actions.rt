@@ -1,4 +1,4 @@
-//! What each action does in each mode.
+//! The effect of each action in each mode.
 use super::Wanted::{Attention, Bytes, Last, Next, Nothing, Prev, Spawn, Switch};
 use super::{DOWN, MODES, Wanted, says, start, tables};
 use key_machine::{KbState, KeyModes, Keyboard, mode};
@@ -22,8 +22,8 @@ const UP: KeyEvent = KeyEvent {
 // The flags, the locked and the sticky modifiers.
 type After = (u8, u8, u8);
 
-// An action of keycode 30, where a modifier of weight 2 is sticky: its kind and value, what its press and its
-// repeat say, in K_XLATE as in K_UNICODE, and what is on then.
+// An action of keycode 30, if a modifier of weight 2 is sticky: its kind and value, the results of its press
+// and its repeat, in K_XLATE as in K_UNICODE, and the flags and modifiers that are on then.
 type Row = (u16, u16, Wanted, Wanted, After);
 
 const ROWS: &[Row] = &[
@@ -61,7 +61,7 @@ const ROWS: &[Row] = &[
     (13, 0, Nothing, Nothing, (0, 0, 0)),
 ];
 
-// The same of K_XLATE, and of K_UNICODE, where they differ.
+// The same of K_XLATE, and of K_UNICODE, if they differ.
 const XLATE: &[Row] = &[
     (1, 0xE9, Bytes(b"\xE9"), Bytes(b"\xE9"), (0, 0, 0)),
     (2, 0x20AC, Nothing, Nothing, (0, 0, 0)),
@@ -82,7 +82,8 @@ fn is_after(s: &KbState, after: After) -> bool {
     (s.flags, s.locks, s.sticky) == after
 }
 
-// What a mode makes of a press, a press that is held, a repeat, and a release, and what is on then.
+// The results of a press, a press that is held, a repeat, and a release in a mode, and the flags and modifiers
+// after each.
 #[derive(Clone, Copy)]
 struct Acts {
     press: Wanted,
@@ -103,7 +104,7 @@ fn acts_of(row: &Row) -> Acts {
     }
 }
 
-// In the modes in which no key acts but SAK, K_MEDIUMRAW says the keycode.
+// In the modes in which no key acts except SAK, K_MEDIUMRAW sends the keycode.
 fn idle_acts(row: &Row, raw: bool) -> Acts {
     let (kind, value, ..) = *row;
     let idle = if raw { Bytes(b"\x1E") } else { Nothing };

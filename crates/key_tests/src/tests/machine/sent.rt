@@ -1,4 +1,4 @@
-//! What the modes of the screen and the flags change of what keys send, with Meta as K_METABIT.
+//! The effect of the modes of the screen and of the flags on the bytes that keys send, with Meta as K_METABIT.
 use super::Wanted::Bytes;
 use super::{DOWN, MODES, is_wanted, start, tables};
 use crate::tests::checks::{check, check_made};
@@ -19,7 +19,7 @@ const CURSOR: KeyModes = KeyModes {
     ..MODES
 };
 
-// What an action of keycode 30 sends: its kind and its value, the modes, the flags, and the bytes.
+// The bytes that an action of keycode 30 sends: its kind and its value, the modes, the flags, and the bytes.
 type Sent = (&'static str, (u16, u16), KeyModes, u8, &'static [u8]);
 
 const SENT: &[Sent] = &[

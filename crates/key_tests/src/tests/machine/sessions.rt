@@ -1,4 +1,4 @@
-//! Scan bytes, and what their keys say.
+//! Scan bytes, and the results of their keys.
 use super::Wanted::{Bytes, Nothing};
 use super::{Entry, MODES, Wanted, is_wanted, start, tables};
 use crate::tests::checks::check_made;
@@ -9,7 +9,7 @@ use scan_codes::Scanner;
 use std::alloc::Global;
 use vt_base::NoMemory;
 
-// Scan bytes, one after another, and what each of them says in this mode; no byte is nothing.
+// Scan bytes, one after another, and the result of each of them in this mode; an empty text is `Nothing`.
 type Session = (&'static str, u8, &'static [u8], &'static [&'static [u8]]);
 
 const SESSIONS: &[Session] = &[
@@ -157,7 +157,7 @@ fn types(typing: &mut Typing, t: &KeyTables, from: u8, b: u8, wanted: Wanted) ->
     }
 }
 
-// What these bytes are as an answer.
+// The answer that these bytes stand for.
 fn wanted_of(bytes: &'static [u8]) -> Wanted {
     if bytes.is_empty() {
         Nothing
@@ -206,7 +206,7 @@ const SHIFTED: &[Entry] = &[
     (1, 30, 2, 0x41),
 ];
 
-// Keys of two keyboards: which keyboard, its scan byte, and what it says.
+// Keys of two keyboards: the keyboard, its scan byte, and the result.
 const TYPED: &[(u8, u8, Wanted)] = &[
     (1, 0x2A, Nothing),
     (0, 0x1E, Bytes(b"A")),
@@ -230,7 +230,7 @@ fn types_all(typing: &mut Typing, t: &KeyTables) -> bool {
     true
 }
 
-// Once the second keyboard is gone, its Shift is too.
+// After the second keyboard has exited, its Shift is released too.
 fn types_alone(typing: &mut Typing, t: &KeyTables) -> bool {
     typing.keys.unplug(1);
     types(typing, t, 0, 0x1E, Bytes(b"a"))

@@ -5,7 +5,7 @@ use Rattle.session_run.specs.Drill.{keys, script}
 use Rattle.session_text.specs.Sessions.{IsScriptProgram}
 use Rattle.session_text.specs.declared.program.Program.{Program}
 use Rattle.session_text.specs.declared.program.Program.TheVariants as programs
-use Rattle.vt_events.specs.Plain.{text}
+use Rattle.vt_events.specs.Kinds.{text}
 use Rattle.session_run.proofs.drill.programs.Goals as goal
 
 pub loop-i-init : goal.loop-i-init

@@ -2,7 +2,7 @@ use Rattle.std.proofs.Common.{◌∷◌, []}
 use Rattle.session_run.proofs.Drilling.{HasDrawn, HaveScripts}
 use Rattle.session_run.specs.Drill.{keys, script}
 use Rattle.session_text.specs.declared.program.Program.TheVariants as programs
-use Rattle.vt_events.specs.Plain.{text}
+use Rattle.vt_events.specs.Kinds.{text}
 use Rattle.session_run.proofs.drill.programs.Given as goal
 
 abbrev pub invariant-loop-i : goal.invariant-loop-i

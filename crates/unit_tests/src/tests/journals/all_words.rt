@@ -62,7 +62,7 @@ const END: Tail = Tail::End {
     bytes: 2,
 };
 
-// What a journal of one call says before its last line, behind the call's words and "=".
+// The answer in a journal of one call: the text after the call's words and "=", and before the last line.
 fn answer_in<'a>(journal: &'a [u8], call: &[u8]) -> Option<&'a [u8]> {
     journal
         .strip_prefix(b"%journal 2\np1 0 ")?
@@ -108,7 +108,7 @@ fn begins(text: &str, start: &str) -> bool {
     text.as_bytes().starts_with(start.as_bytes())
 }
 
-// Whether the event is printed so for debugging. Where memory ran out it isn't.
+// Whether the event is printed so for debugging. If memory ran out, it isn't.
 fn is_shown(alloc: Global, event: &Event, start: &str) -> bool {
     match shown(alloc, event) {
         Ok(text) => begins(text.as_str(), start),

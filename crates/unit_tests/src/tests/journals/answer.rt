@@ -25,7 +25,7 @@ impl Answer {
         }
     }
 
-    // The answer itself, where it has no bytes.
+    // The answer itself, if it has no bytes.
     fn plain(self) -> Reply {
         match self {
             Answer::Done | Answer::Text(_) => Reply::Done,

@@ -4,7 +4,7 @@ use std::alloc::Global;
 use vt_base::NoMemory;
 use vt_journal::{JError, parse, version_of};
 
-// A text, and the kind and the line of its fault; 0 and the number of its entries, where it has none.
+// A text, and the kind and the line of its fault; 0 and the number of its entries, if it has none.
 type Row = (&'static [u8], u16, u32);
 
 const JOURNALS: &[Row] = &[
@@ -59,7 +59,7 @@ const JOURNALS: &[Row] = &[
     (b"%journal 2\nk4 0 exit = ok\n%end 1 64\n", 41, 2),
     (b"%journal 2\nk 0 exit = ok\n%end 1 64\n", 41, 2),
     (b"%journal 2\nK0 0 exit = ok\n%end 1 64\n", 41, 2),
-    // Ends that are missing, and what stands behind an end.
+    // Ends that are missing, and texts after an end.
     (b"%journal 2\n", 42, 1),
     (b"%journal 2\np1 0 exit = ok\n%end 1 64\n%end 1 64\n", 43, 3),
     (b"%journal 1\n", 42, 1),
@@ -146,8 +146,8 @@ const HANDOVERS: &[&[u8]] = &[
 // The length of a first line.
 const FIRST: usize = 11;
 
-// The kind and the line of the fault of a text that is cut: of its first line, of a line that has no LF, or of the last
-// line, behind which there is none.
+// The kind and the line of the fault of a text that is cut: of its first line, of a line that has no LF, or of
+// the last line, after which there is none.
 fn fault_of_cut(text: &[u8]) -> (u16, u32) {
     if text.len() < FIRST {
         return (40, 0);

@@ -1,4 +1,4 @@
-use Rattle.std.proofs.Common.{◌≡◌, ◌++◌, OnOk, subst}
+use Rattle.std.proofs.Common.{◌≡◌, OnOk, subst}
 use Rattle.std.proofs.lemmas.List.{take_all}
 use Rattle.vt_journal.proofs.Lines.{numbered_line, numbers_more}
 use Rattle.vt_journal.proofs.Texts.{begins_after, begins_more}

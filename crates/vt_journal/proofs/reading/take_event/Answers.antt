@@ -1,8 +1,8 @@
 use Rattle.std.proofs.Common.{ℕ, List, length, sym, ap, ◌∙◌, subst, true≢false}
+use Rattle.vt_events.specs.Calls.{held_of}
+use Rattle.vt_events.specs.Kinds.{call_of, takes}
 use Rattle.vt_events.specs.declared.event.Event.{Event}
-use Rattle.vt_journal.specs.Kinds.{call_of, takes}
 use Rattle.vt_journal.proofs.Spellings.{IsRead, bytes_are, call_is, fit_bytes, kind_is, named_kind, takes_all}
-use Rattle.vt_journal.specs.Calls.{held_of}
 use Rattle.vt_journal.proofs.reading.take_event.Goals as goal
 
 pub returns-in_default-clause-none : goal.returns-in_default-clause-none

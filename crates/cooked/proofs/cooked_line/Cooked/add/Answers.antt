@@ -11,7 +11,7 @@ use Rattle.cooked.specs.Kinds.{ends_line, kind}
 use Rattle.cooked.specs.declared.kind.Kind.TheVariants.{Data}
 use Rattle.cooked.specs.declared.termios.Termios.{Termios}
 
--- a byte goes on with what is kept
+-- a byte goes on with the kept characters
 abbrev goes_on : ℕ → Typing → Bool
 goes_on b v = ends_open v.termios.erase v.fresh && is_part (last_of (kept_characters v.termios v.fresh) ++ b ∷ [])
 

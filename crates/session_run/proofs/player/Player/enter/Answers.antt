@@ -13,7 +13,7 @@ returns c = λ o t is going now at.
     } in
     let after : PlayerView = record {
       world = c.call.new.self;
-      log = c.push.new.self;
+      log = c.push_counted.new.self;
       standing = c.took.new.self;
       stop = c.self.inside.stop;
     } in
@@ -22,7 +22,7 @@ returns c = λ o t is going now at.
       reply = c.in_ok-reply.reply;
       few = omega (arith, ap length c.entries-entries.ensures.same, c.entries-entries.ensures.most);
       stepped = c.in_ok-reply.ensures.ok;
-      logged = c.push.ensures;
+      logged = c.push_counted.ensures;
       numbered = c.count-seq.ensures;
       took = c.took.ensures;
       stop = refl;

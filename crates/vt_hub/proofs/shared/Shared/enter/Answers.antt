@@ -15,7 +15,7 @@ invariant_of-self g c =
     let given : c.deref_mut-state.result.now ≡ c.self.inside.state.value = c.deref_mut-state.ensures.value in
     let w : SharedView = record {
       world = c.step-reply.new.self;
-      log = c.push.new.self;
+      log = c.push_counted.new.self;
       stop = c.deref_mut-state.result.now.stop;
     } in
     let entry : Entry = record {
@@ -35,8 +35,8 @@ invariant_of-self g c =
     (ap (λ (x : SharedView). is_waiting x.world c.args.caller) c.self.view_is ∙ c.requires.free)
     (c.requires.number
     ∙ ap (λ (x : SharedView). length (made_by c.args.caller x.log.entries)) (sym c.self.view_is))
-    (ap (λ l. l.entries) c.push.ensures ∙ ap (λ (s : State). s.log.entries ++ entry ∷ []) given)
-    (ap (λ l. l.limits) c.push.ensures ∙ ap (λ (s : State). s.log.limits) given)
+    (ap (λ l. l.entries) c.push_counted.ensures ∙ ap (λ (s : State). s.log.entries ++ entry ∷ []) given)
+    (ap (λ l. l.limits) c.push_counted.ensures ∙ ap (λ (s : State). s.log.limits) given)
     (ap (λ (s : State). s.stop) given ∙ (ap (λ (x : SharedView). x.stop) c.self.view_is ∙ c.requires.open))
     (omega (arith, c.get-front.ensures.low, c.get-front.ensures.same, c.display.ensures))
     (omega (arith, c.get-front.ensures.high, c.get-front.ensures.same, c.display.ensures))

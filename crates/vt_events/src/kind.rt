@@ -1,20 +1,19 @@
 ghost use Rattle.std.specs.Prelude.{◌≡◌, ◌≢◌, ◌≤◌, true, length, is_some, IfSome, IfNone};
-ghost use Rattle.vt_events.specs.Plain.{plain_event};
-ghost use Rattle.vt_journal.specs.Calls.{held_of, name_of, numbers_of};
-ghost use Rattle.vt_journal.specs.Kinds.{blank, call_of, takes};
-ghost use Rattle.vt_journal.specs.declared.kind.Kind.{Kind};
+ghost use Rattle.vt_events.specs.Calls.{held_of, numbers_of};
+ghost use Rattle.vt_events.specs.Kinds.{blank, call_of, name_of, takes};
+ghost use Rattle.vt_events.specs.declared.kind.Kind.{Kind};
 
+use crate::Event;
+use crate::forms::{form_of, forms};
 use crate::kind_guess::guess_kind;
-use crate::rows::{row_of, rows};
 use vt_base::Bytes;
-use vt_events::Event;
 
 /// The most numbers of a call.
-pub(crate) const NUMBERS: usize = 6;
+pub const NUMBERS: usize = 6;
 
-/// Which call it is, as its [`Event`] is named.
+/// The kind of a call, named as its variant of [`Event`]. This project's own.
 #[derive(Clone, Copy, PartialEq, Eq)]
-pub(crate) enum Kind {
+pub enum Kind {
     Scan,
     Exit,
     OpenCon,
@@ -64,10 +63,10 @@ pub(crate) enum Kind {
 }
 
 impl Kind {
-    /// The kind of the calls of this name.
-    pub(crate) fn named(name: &[u8]) -> Option<Kind>
-        ensures found { IfSome result (λ kind. name_of (blank kind) ≡ name.now) }
-        ensures none { IfNone result ((kind : Kind) → name_of (blank kind) ≢ name.now) }
+    /// The kind of the calls of this name, if there is one.
+    pub fn named(name: &[u8]) -> Option<Kind>
+        ensures found { IfSome result (λ kind. name_of kind ≡ name.now) }
+        ensures none { IfNone result ((kind : Kind) → name_of kind ≢ name.now) }
     {
         let kind = guess_kind(name);
         if kind.name().len() == name.len() && kind.name() == name {
@@ -76,43 +75,43 @@ impl Kind {
         Kind::looked_up(name)
     }
 
-    // The kind of the calls of this name, looked for in every row.
+    // The kind of the calls of this name, looked for in every form.
     fn looked_up(name: &[u8]) -> Option<Kind>
-        ensures found { IfSome result (λ kind. name_of (blank kind) ≡ name.now) }
-        ensures none { IfNone result ((kind : Kind) → name_of (blank kind) ≢ name.now) }
+        ensures found { IfSome result (λ kind. name_of kind ≡ name.now) }
+        ensures none { IfNone result ((kind : Kind) → name_of kind ≢ name.now) }
     {
-        for row in rows() {
-            if row.name.len() == name.len() && row.name == name {
-                return Some(row.kind);
+        for form in forms() {
+            if form.name.len() == name.len() && form.name == name {
+                return Some(form.kind);
             }
         }
         None
     }
 
     /// The name of its calls.
-    pub(crate) fn name(self) -> &'static [u8]
-        ensures { result.now ≡ name_of (blank self) }
+    pub fn name(self) -> &'static [u8]
+        ensures { result.now ≡ name_of self }
     {
-        row_of(self).name
+        form_of(self).name
     }
 
     /// How many numbers follow the name.
-    pub(crate) fn count(self) -> usize
+    pub fn count(self) -> usize
         ensures same { result ≡ length (numbers_of (blank self)) }
         ensures most { result ≤ NUMBERS }
     {
-        row_of(self).numbers
+        form_of(self).numbers
     }
 
-    /// Whether bytes follow them.
-    pub(crate) fn holds_bytes(self) -> bool
+    /// Whether bytes follow the numbers.
+    pub fn holds_bytes(self) -> bool
         ensures { result ≡ is_some (held_of (blank self)) }
     {
-        row_of(self).bytes
+        form_of(self).bytes
     }
 
-    /// Whether there may be so many bytes.
-    pub(crate) fn takes(self, bytes: usize) -> bool
+    /// Whether a call of this kind may hold that many bytes. A scan holds one.
+    pub fn takes(self, bytes: usize) -> bool
         ensures { result ≡ takes self bytes }
     {
         match self {
@@ -121,8 +120,9 @@ impl Kind {
         }
     }
 
-    /// The call of these numbers, which holds these bytes where it holds any.
-    pub(crate) fn call(self, n: &[u16], b: Bytes) -> Event
+    /// The call of this kind with these numbers and, if it holds bytes, these bytes, which have no spare room.
+    #[inline(always)]
+    pub fn call(self, n: &[u16], b: Bytes) -> Event
         requires many { length n.now ≡ length (numbers_of (blank self)) }
         requires few { takes self (length b.bytes) ≡ true }
         requires room { b.room ≡ 0 }

@@ -2,8 +2,8 @@
 
 use crate::kind::Kind;
 
-/// The kind that has the name, where a kind has it. A wrong guess costs time alone: who asks compares the
-/// names. The place is that of the name's first, last and fourth bytes and its length.
+/// A kind that probably has the name. The caller compares the names, so a wrong guess costs time alone. The index
+/// follows from the name's first, last and fourth byte and its length.
 #[inline(always)]
 pub(crate) fn guess_kind(name: &[u8]) -> Kind {
     let long = name.len();
@@ -16,10 +16,10 @@ pub(crate) fn guess_kind(name: &[u8]) -> Kind {
     LIKELY[(12 * first + 19 * last + 13 * fourth + 9 * long) % GUESS_PLACES]
 }
 
-/// How many places there are.
+/// The length of the table of guesses.
 const GUESS_PLACES: usize = 96;
 
-// The kind whose name has the place; `scan` where no name has it. `tools/call_lists.py` writes this list.
+// For each index the kind whose name has it; `scan` if no name has it. `tools/call_lists.py` writes this list.
 #[rattlefmt::skip]
 static LIKELY: [Kind; GUESS_PLACES] = [
     Kind::Scan, Kind::Scan, Kind::Resize, Kind::WaitEnd, Kind::Write, Kind::Scan, Kind::Scan, Kind::GetEntry,

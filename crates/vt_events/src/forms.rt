@@ -1,44 +1,44 @@
 ghost use Rattle.std.specs.Prelude.{◌≡◌, Contains, length, map, is_some};
 ghost use Rattle.std.specs.List.{All};
-ghost use Rattle.vt_journal.specs.Calls.{held_of, name_of, numbers_of};
-ghost use Rattle.vt_journal.specs.Kinds.{blank};
-ghost use Rattle.vt_journal.specs.declared.kind.Kind.{Kind};
+ghost use Rattle.vt_events.specs.Calls.{held_of, numbers_of};
+ghost use Rattle.vt_events.specs.Kinds.{blank, name_of};
+ghost use Rattle.vt_events.specs.declared.kind.Kind.{Kind};
 
 use crate::kind::Kind;
 
-/// What the words of a kind of calls are.
+/// The form of the words of the calls of a kind.
 pub(crate) struct CallForm {
     pub kind: Kind,
     pub name: &'static [u8],
     /// How many numbers follow the name.
     pub numbers: usize,
-    /// Whether bytes follow them.
+    /// Whether bytes follow the numbers.
     pub bytes: bool,
 }
 
 /// How many kinds there are.
 const KIND_COUNT: usize = 46;
 
-/// All rows.
-pub(crate) fn rows() -> &'static [CallForm]
-    ensures each { (kind : Kind) → Contains (map (λ row. row.kind) result.now) kind }
-    ensures names { All (λ row. row.name.now ≡ name_of (blank row.kind)) result.now }
+/// The forms of all kinds.
+pub(crate) fn forms() -> &'static [CallForm]
+    ensures each { (kind : Kind) → Contains (map (λ form. form.kind) result.now) kind }
+    ensures names { All (λ form. form.name.now ≡ name_of form.kind) result.now }
 {
-    &ROWS
+    &FORMS
 }
 
-/// The row of the kind.
-pub(crate) fn row_of(kind: Kind) -> &'static CallForm
-    ensures name { result.now.name.now ≡ name_of (blank kind) }
+/// The form of the kind.
+pub(crate) fn form_of(kind: Kind) -> &'static CallForm
+    ensures name { result.now.name.now ≡ name_of kind }
     ensures numbers { result.now.numbers ≡ length (numbers_of (blank kind)) }
     ensures bytes { result.now.bytes ≡ is_some (held_of (blank kind)) }
 {
-    &ROWS[kind as usize]
+    &FORMS[kind as usize]
 }
 
-// A row for each kind, in their order.
+// A form for each kind, in the order of the kinds. `tools/call_lists.py` writes this list.
 #[rattlefmt::skip]
-static ROWS: [CallForm; KIND_COUNT] = [
+static FORMS: [CallForm; KIND_COUNT] = [
     CallForm { kind: Kind::Scan, name: b"scan", numbers: 0, bytes: true },
     CallForm { kind: Kind::Exit, name: b"exit", numbers: 0, bytes: false },
     CallForm { kind: Kind::OpenCon, name: b"open", numbers: 1, bytes: false },

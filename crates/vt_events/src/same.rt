@@ -1,35 +1,25 @@
 //! Calls and answers compared.
 ghost use Rattle.std.specs.Prelude.{◌≡◌, ◌↔◌, IsTrue, option_copied};
 ghost use Rattle.vt_events.specs.Plain.{plain_event, plain_reply};
-ghost use Rattle.vt_journal.specs.declared.kind.Kind.{Kind};
 
-use crate::call_words::CallWords;
-use crate::kind::Kind;
-use vt_events::{Event, Reply};
+use crate::parts::Parts;
+use crate::{Event, Reply};
 
 /// Whether the calls are the same. The spare room of their bytes does not count.
 pub fn same_event(d: &Event, e: &Event) -> bool
     ensures { IsTrue result ↔ (plain_event d.now ≡ plain_event e.now) }
 {
-    let one = CallWords::of(d);
-    let other = CallWords::of(e);
-    if !same_kind(one.kind, other.kind) {
-        return false;
-    }
-    if one.numbers.as_slice() != other.numbers.as_slice() {
-        return false;
-    }
-    same_held(one.held, other.held)
+    same_parts(&Parts::of(d), &Parts::of(e))
 }
 
-// Whether the kinds are the same.
-fn same_kind(j: Kind, k: Kind) -> bool
-    ensures { IsTrue result ↔ (j ≡ k) }
+// Whether the parts are the same.
+fn same_parts(p: &Parts, q: &Parts) -> bool
+    ensures { IsTrue result ↔ (p.now ≡ q.now) }
 {
-    j == k
+    p.kind() == q.kind() && p.numbers() == q.numbers() && same_held(p.held(), q.held())
 }
 
-// Whether they are the same bytes, or neither is any.
+// Whether both are the same bytes, or neither is any.
 fn same_held(a: Option<&[u8]>, b: Option<&[u8]>) -> bool
     ensures { IsTrue result ↔ (option_copied a.entry ≡ option_copied b.entry) }
 {

@@ -1,14 +1,66 @@
--- The kinds of calls, by which calls are made of their words.
-use Rattle.std.specs.Prelude.{ℕ, ◌==◌, Bool, true, List, [], Option}
+-- The kinds of calls: the name of each, and the call of a kind, of numbers and of bytes. This project's own.
+use Rattle.std.specs.Prelude.{ℕ, ◌==◌, Bool, true, List, [], codes}
 use Rattle.std.specs.List.{slice_index}
-use Rattle.vt_events.specs.Plain.{text}
+use Rattle.vt_base.specs.Bytes.{Text}
 use Rattle.vt_events.specs.declared.event.Event.{Event}
 use Rattle.vt_events.specs.declared.event.Event.TheVariants as event
-use Rattle.vt_journal.specs.Calls.{CallWordsView, name_of}
-use Rattle.vt_journal.specs.declared.kind.Kind.{Kind}
-use Rattle.vt_journal.specs.declared.kind.Kind.TheVariants as kind
+use Rattle.vt_events.specs.declared.kind.Kind.{Kind}
+use Rattle.vt_events.specs.declared.kind.Kind.TheVariants as kind
 
--- the one at a place, from 0
+-- these bytes with no room
+abbrev pub text : List ℕ → Text
+text bytes = record { bytes = bytes; room = 0 }
+
+-- the name of the calls of a kind
+abbrev pub name_of : Kind → List ℕ
+name_of kind.Scan = codes "scan"
+name_of kind.Exit = codes "exit"
+name_of kind.OpenCon = codes "open"
+name_of kind.CloseFd = codes "close"
+name_of kind.Write = codes "write"
+name_of kind.ReadIn = codes "read"
+name_of kind.WaitInput = codes "waitinput"
+name_of kind.WaitActive = codes "waitactive"
+name_of kind.WaitSignal = codes "waitsignal"
+name_of kind.WaitEnd = codes "waitend"
+name_of kind.Activate = codes "activate"
+name_of kind.Disallocate = codes "disallocate"
+name_of kind.OpenQry = codes "openqry"
+name_of kind.GetState = codes "getstate"
+name_of kind.Resize = codes "resize"
+name_of kind.LockSwitch = codes "lock"
+name_of kind.UnlockSwitch = codes "unlock"
+name_of kind.SetKd = codes "setkd"
+name_of kind.GetKd = codes "getkd"
+name_of kind.SetMode = codes "setmode"
+name_of kind.GetMode = codes "getmode"
+name_of kind.RelDisp = codes "reldisp"
+name_of kind.SetKb = codes "setkb"
+name_of kind.GetKb = codes "getkb"
+name_of kind.SetMeta = codes "setmeta"
+name_of kind.GetMeta = codes "getmeta"
+name_of kind.SetLed = codes "setled"
+name_of kind.GetLed = codes "getled"
+name_of kind.SetFlags = codes "setflags"
+name_of kind.GetFlags = codes "getflags"
+name_of kind.SetEntry = codes "setent"
+name_of kind.GetEntry = codes "getent"
+name_of kind.SetFunc = codes "setfunc"
+name_of kind.GetFunc = codes "getfunc"
+name_of kind.SetDia = codes "setdia"
+name_of kind.GetDia = codes "getdia"
+name_of kind.SetCode = codes "setcode"
+name_of kind.GetCode = codes "getcode"
+name_of kind.Accept = codes "accept"
+name_of kind.SetMap = codes "setmap"
+name_of kind.GetMap = codes "getmap"
+name_of kind.SetPal = codes "setpal"
+name_of kind.GetPal = codes "getpal"
+name_of kind.Dump = codes "dump"
+name_of kind.TakeSignals = codes "signals"
+name_of kind.Kill = codes "kill"
+
+-- the element at an index, from 0
 abbrev at : List ℕ → ℕ → ℕ
 at list i = slice_index list i
 
@@ -61,15 +113,11 @@ call_of kind.Dump n b = event.Dump (at n 0) (at n 1)
 call_of kind.TakeSignals n b = event.TakeSignals
 call_of kind.Kill n b = event.Kill (at n 0) (at n 1)
 
--- the call of a kind whose numbers are 0 and whose bytes are none
+-- the call of a kind with the number 0 for each number, and with no bytes or the byte 0
 abbrev pub blank : Kind → Event
 blank k = call_of k [] []
 
--- whether its bytes may be so many: a scan has one, other bytes are as many as they are
+-- whether a call of a kind may hold that many bytes: a scan holds one, and no other kind has a limit
 abbrev pub takes : Kind → ℕ → Bool
 takes kind.Scan n = n == 1
 takes k n = true
-
--- what the words of a call of this kind say
-abbrev pub call_words : Kind → List ℕ → Option (List ℕ) → CallWordsView
-call_words kind numbers held = record { name = name_of (blank kind); numbers = numbers; held = held }
