@@ -1,5 +1,5 @@
 -- The facts about every session: it begins at a start of the machine, and only callers have programs.
-use Rattle.std.proofs.Common.{◌≡◌, ⊎_elim, ℕ, ◌+◌, ◌<◌, ◌≤◌, ◌&&◌, nat_le, nat_lt, List, length, refl, sym, ◌∙◌, arith}
+use Rattle.std.proofs.Common.{◌≡◌, ⊎_elim, ℕ, ◌+◌, ◌≤◌, ◌&&◌, nat_le, nat_lt, List, length, refl, sym, ◌∙◌, arith}
 use Rattle.std.proofs.lemmas.Bool.{and_parts, leb-true, ltb-true, or_cases}
 use Rattle.key_tables.specs.Tables.{Tables}
 use Rattle.session_order.specs.Laws.{IsFromStart}

@@ -1,4 +1,4 @@
-use Rattle.std.proofs.Common.{◌≡◌, ℕ, ◌≤◌, length, refl, ap, ◌∙◌, subst, arith}
+use Rattle.std.proofs.Common.{◌≡◌, ◌≤◌, length, refl, ap, ◌∙◌, subst, arith}
 use Rattle.session_order.proofs.Starts.{from_start, is_start, of_callers}
 use Rattle.session_order.specs.Sessions.{start_of}
 use Rattle.session_text.specs.Sessions.{ArePrograms, SessionView}
